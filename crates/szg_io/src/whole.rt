@@ -1,0 +1,96 @@
+//! Whole pieces over any device: what is interrupted is tried again, and short pieces are joined.
+ghost use Rattle.std.specs.Prelude.{◌≡◌, ℕ, ◌+◌, ◌≤◌, ◌<◌, List, length, take, IfOk, OnOk, OnErr, MatchOption, IfErr, IfSome, IfNone, IsSome};
+ghost use Rattle.std.specs.Io.KnownBytes.{ReadConsumes, Keeps, Appends, IsAtEnd};
+ghost use Rattle.szg_io.specs.Device.{moved_after, HasFailed, Takes, Gives};
+
+use crate::device::{Input, IoFault, Output};
+
+/// A device failed, or a thousand and one `Interrupted` came in a row.
+#[derive(Clone, Copy, Debug, PartialEq, Eq, Drop)]
+pub struct DeviceFault;
+
+/// How many `Interrupted` in a row are retried.
+const RETRIES: u32 = 1000;
+
+/// Takes bytes into the piece until it is full or none is to come, and tells how many.
+pub fn take_whole<R: Input>(input: &mut R, piece: &mut [u8]) -> Result<usize, DeviceFault>
+    ensures within { IfOk result (λ n. n ≤ length piece.new) }
+    ensures ok { IfOk result (λ n. n ≡ length piece.new →
+        Takes (R.coming input.old) (R.coming input.new) (R.calls input.old) (R.calls input.new) (R.moved input.old) (R.moved input.new) piece.new 0) }
+    ensures end { IfOk result (λ n. n < length piece.new →
+        Takes (R.coming input.old) (R.coming input.new) (R.calls input.old) (R.calls input.new) (R.moved input.old) (R.moved input.new) (take n piece.new) 1
+        × IsAtEnd (R.coming input.new)) }
+    ensures err { OnErr result ((bytes : List ℕ) × (length bytes < length piece.new)
+        × Takes (R.coming input.old) (R.coming input.new) (R.calls input.old) (R.calls input.new) (R.moved input.old) (R.moved input.new) bytes 1) }
+    ensures failed { OnErr result (HasFailed (R.failures input.old) (R.failures input.new) (R.interrupted input.new)) }
+    ensures quiet { OnOk result (R.failures input.new ≡ R.failures input.old) }
+{
+    let mut at = 0;
+    'parts: while at < piece.len() {
+        let got = take_once(input, &mut piece[at..])?;
+        if got == 0 {
+            return Ok(at);
+        }
+        at += got;
+    }
+    Ok(at)
+}
+
+/// One answer that is no `Interrupted`.
+fn take_once<R: Input>(input: &mut R, piece: &mut [u8]) -> Result<usize, DeviceFault>
+    ensures within { IfOk result (λ n. n ≤ length piece.new) }
+    ensures bytes { ReadConsumes (R.coming input.old) (R.coming input.new) result piece.new }
+    ensures calls { R.calls input.new ≤ R.calls input.old + 1001 }
+    ensures moved { R.moved input.new ≡ moved_after result (R.moved input.old) }
+    ensures failed { OnErr result (HasFailed (R.failures input.old) (R.failures input.new) (R.interrupted input.new)) }
+    ensures quiet { OnOk result (R.failures input.new ≡ R.failures input.old) }
+{
+    'asks: for _turn in 0..RETRIES + 1 {
+        match input.take(piece) {
+            Ok(n) => return Ok(n),
+            Err(IoFault::Failed) => return Err(DeviceFault),
+            Err(IoFault::Interrupted) => {}
+        }
+    }
+    Err(DeviceFault)
+}
+
+/// Gives the whole piece. A fault tells how many bytes went out before the device failed.
+pub fn give_whole<W: Output>(output: &mut W, piece: &[u8]) -> Result<(), usize>
+    ensures ok { OnOk result (Gives (W.written output.old) (W.written output.new) (W.calls output.old) (W.calls output.new) (W.moved output.old) (W.moved output.new) piece.now 0) }
+    ensures short { IfErr result (λ n. n < length piece.now) }
+    ensures err { IfErr result (λ n. Gives (W.written output.old) (W.written output.new) (W.calls output.old) (W.calls output.new) (W.moved output.old) (W.moved output.new) (take n piece.now) 1) }
+    ensures failed { OnErr result (HasFailed (W.failures output.old) (W.failures output.new) (W.interrupted output.new)) }
+    ensures quiet { OnOk result (W.failures output.new ≡ W.failures output.old) }
+{
+    let mut at = 0;
+    'parts: while at < piece.len() {
+        match give_once(output, &piece[at..]) {
+            Some(n) => at += n,
+            None => return Err(at),
+        }
+    }
+    Ok(())
+}
+
+/// Gives a first part of a piece that isn't empty, at least one byte of it.
+fn give_once<W: Output>(output: &mut W, piece: &[u8]) -> Option<usize>
+    requires { 0 < length piece.now }
+    ensures within { IfSome result (λ n. (0 < n) × (n ≤ length piece.now)) }
+    ensures bytes { MatchOption result (Keeps (W.written output.old) (W.written output.new))
+        (λ n. Appends (W.written output.old) (W.written output.new) (take n piece.now)) }
+    ensures calls { W.calls output.new ≤ W.calls output.old + 1001 }
+    ensures moved { MatchOption result (W.moved output.new ≡ W.moved output.old) (λ n. W.moved output.new ≡ W.moved output.old + n) }
+    ensures failed { IfNone result (HasFailed (W.failures output.old) (W.failures output.new) (W.interrupted output.new)) }
+    ensures quiet { IsSome result → W.failures output.new ≡ W.failures output.old }
+{
+    'asks: for _turn in 0..RETRIES + 1 {
+        match output.give(piece) {
+            Ok(0) => return None,
+            Ok(n) => return Some(n),
+            Err(IoFault::Failed) => return None,
+            Err(IoFault::Interrupted) => {}
+        }
+    }
+    None
+}
