@@ -1,0 +1,188 @@
+//! Pair dictionaries of Syzygy tables: symbols, each of them a value or a pair of symbols.
+#![tactic(auto)]
+
+ghost use Rattle.std.specs.Prelude.{◌≡◌, ◌<◌, ◌≤◌, length, slice_get, Some, IfOk, IfErr, OnOk};
+ghost use Rattle.szg_pairs.specs.Expansion.{expansion_of, depths_of};
+ghost use Rattle.szg_pairs.specs.Dictionary.{IsDictionary, IsDictionaryFault};
+
+use entry::{is_leaf, left, right};
+use faults::{first_child, first_cycle, first_long};
+use std::alloc::{AllocError, Global};
+use std::marker::Model;
+use walk::find_lengths;
+
+pub mod entry;
+mod faults;
+pub mod laws;
+mod walk;
+
+/// Why a dictionary is refused, with the least symbol at fault.
+#[derive(Debug, PartialEq, Eq, Drop)]
+pub enum DictFault {
+    /// The symbol is a pair that names a symbol which isn't there.
+    Child(u16),
+    /// The symbol has no finite expansion.
+    Cycle(u16),
+    /// The symbol expands to more than 256 values.
+    LongSymbol(u16),
+    /// Memory was refused.
+    Memory,
+}
+
+impl From<AllocError> for DictFault {
+    ghost use Rattle.std.specs.Prelude.{◌≡◌};
+    ghost use Rattle.szg_pairs.specs.declared.DictFault.TheVariants.{Memory};
+
+    ghost from_gives = { λ _ fault. fault ≡ Memory };
+
+    fn from(_: AllocError) -> Self {
+        DictFault::Memory
+    }
+}
+
+/// The end of a descent through a symbol's pairs.
+#[derive(Debug, Clone, Copy, PartialEq, Eq)]
+pub struct Descent {
+    /// The value of the leaf.
+    pub value: u16,
+    /// The number of pairs passed, 0 to 255.
+    pub pairs: u16,
+}
+
+/// A dictionary in which each symbol expands to 1 to 256 values.
+///
+/// Symbols are numbered from 0. An entry, three bytes of the file, says what its symbol stands for: one value,
+/// or the values of one symbol followed by those of another. This is the pairing of de Man's format, where
+/// the probing code calls the symbols' entries `symPat` and their lengths, less one, `symLen`.
+#[derive(Drop)]
+pub struct Dict {
+    entries: Vec<[u8; 3]>,
+    lengths: Vec<u16>,
+}
+
+impl Model for Dict {
+    ghost use Rattle.std.specs.Prelude.{ℕ, List};
+    ghost use Rattle.szg_pairs.specs.Kept.{IsKept};
+
+    ghost Value = { List (List ℕ) };
+
+    ghost view = { λ dict. dict.entries.items };
+
+    ghost invariant = { λ dict. IsKept dict.entries.items dict.lengths.items };
+}
+
+impl Dict {
+    /// The dictionary of these entries, of which entry `s` is that of symbol `s`, at most 65,535.
+    ///
+    /// Refused with `Child` where an entry names a symbol that isn't there; else with `Cycle` where a symbol
+    /// has no finite expansion; else with `LongSymbol` where a symbol has more than 256 values; each carries
+    /// the least such symbol. `Memory` comes only where an allocation failed, which is after the look for
+    /// `Child`. The work is linear in the number of entries, and no call nests by the depth of the pairs.
+    pub fn new(alloc: Global, entries: Vec<[u8; 3]>) -> Result<Dict, DictFault>
+        requires { length entries.items ≤ 65535 }
+        ensures accepted { IfOk result (λ dict. (dict ≡ entries.items) × IsDictionary entries.items) }
+        ensures refused { IfErr result (λ fault. IsDictionaryFault entries.items fault) }
+    {
+        if let Some(symbol) = first_child(&entries) {
+            return Err(DictFault::Child(symbol));
+        }
+        let lengths = find_lengths(alloc, &entries)?;
+        if let Some(symbol) = first_cycle(&lengths) {
+            return Err(DictFault::Cycle(symbol));
+        }
+        if let Some(symbol) = first_long(&lengths) {
+            return Err(DictFault::LongSymbol(symbol));
+        }
+        Ok(Dict { entries, lengths })
+    }
+
+    /// The number of symbols, 0 to 65,535.
+    pub fn symbols(&self) -> u16
+        ensures number { result ≡ length self.now }
+        ensures dictionary { IsDictionary self.now }
+    {
+        self.entries.len() as u16
+    }
+
+    /// The entry of symbol `s`, as it was handed in.
+    pub fn entry(&self, s: u16) -> [u8; 3]
+        requires { s < length self.now }
+        ensures { slice_get self.now s ≡ Some result }
+    {
+        self.entries[s as usize]
+    }
+
+    /// The number of values of symbol `s`, 1 to 256.
+    pub fn len(&self, s: u16) -> u16
+        requires { s < length self.now }
+        ensures number { result ≡ length (expansion_of self.now s) }
+        ensures at_least { 1 ≤ result }
+        ensures at_most { result ≤ 256 }
+    {
+        self.lengths[s as usize]
+    }
+
+    /// Value `i` of symbol `s`, 0 to 4,095, found by a descent.
+    pub fn value_at(&self, s: u16, i: u16) -> u16
+        requires there { s < length self.now }
+        requires within { i < length (expansion_of self.now s) }
+        ensures { slice_get (expansion_of self.now s) i ≡ Some result }
+    {
+        self.descend(s, i).value
+    }
+
+    /// Value `i` of symbol `s`, and the number of pairs above it, at most 255. As in the probing code, the
+    /// descent goes down the pairs by the lengths of their left symbols.
+    pub fn descend(&self, s: u16, i: u16) -> Descent
+        requires there { s < length self.now }
+        requires within { i < length (expansion_of self.now s) }
+        ensures value { slice_get (expansion_of self.now s) i ≡ Some result.value }
+        ensures pairs { slice_get (depths_of self.now s) i ≡ Some result.pairs }
+        ensures at_most { result.pairs ≤ 255 }
+    {
+        let mut symbol = s;
+        let mut rest = i;
+        let mut pairs = 0;
+        loop {
+            let entry = self.entries[symbol as usize];
+            if is_leaf(entry) {
+                return Descent {
+                    value: left(entry),
+                    pairs,
+                };
+            }
+            pairs += 1;
+            let (first, second) = (left(entry), right(entry));
+            let length = self.lengths[first as usize];
+            if rest < length {
+                symbol = first;
+            } else {
+                rest -= length;
+                symbol = second;
+            }
+        }
+    }
+
+    /// The values of symbol `s`, 1 to 256, in their order. Refused only where memory is.
+    pub fn expand(&self, alloc: Global, s: u16) -> Result<Vec<u16>, AllocError>
+        requires { s < length self.now }
+        ensures { IfOk result (λ values. values.items ≡ expansion_of self.now s) }
+    {
+        let mut values = Vec::with_capacity(alloc, self.len(s) as usize)?;
+        let mut waiting = Vec::new(alloc);
+        waiting.push(s)?;
+        while let Some(symbol) = waiting.pop() {
+            let entry = self.entries[symbol as usize];
+            if is_leaf(entry) {
+                values.push(left(entry))?;
+            } else {
+                waiting.push(right(entry))?;
+                waiting.push(left(entry))?;
+            }
+        }
+        Ok(values)
+    }
+}
+
+#[cfg(test)]
+mod tests;

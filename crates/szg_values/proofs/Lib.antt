@@ -1,0 +1,6 @@
+pub mod Rows
+pub mod Names
+pub mod MaterialOf
+pub mod Letters
+pub mod SideOf
+pub mod SameMen

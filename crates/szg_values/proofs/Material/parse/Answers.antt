@@ -1,0 +1,81 @@
+use Rattle.std.proofs.Common.{◌≡◌, refl, sym, ap, ◌∙◌}
+use Rattle.std.specs.Prelude.{Ok, filter_map}
+use Rattle.szg_values.specs.Men.{man_of}
+use Rattle.szg_values.specs.Material.{sides_of, parsed, is_count}
+use Rattle.szg_values.proofs.Names.{named}
+use Rattle.szg_values.proofs.Letters.{letters_before, letters_after, count_letters, parsed_letter, parsed_king, parsed_order, parsed_sides, parsed_men, parsed_ok}
+use Rattle.szg_values.proofs.Material.parse.Goals as goal
+
+pub returns-in_default-clause-answer : goal.returns-in_default-clause-answer
+returns-in_default-clause-answer c = sym (parsed_letter c.args.text.now (sym c.in_default.ensures.spelled))
+
+pub returns-then-not-have_kings_first-clause-answer : goal.returns-then-not-have_kings_first-clause-answer
+returns-then-not-have_kings_first-clause-answer c =
+    let text = c.args.text.now in
+    let s = sides_of text in
+    let a = sym c.in-Some.ensures.spelled in
+    let f = c.in-Some.ensures.first ∙ letters_before text a in
+    let g = c.in-Some.ensures.second ∙ letters_after text a in
+    sym (parsed_king text a (sym (c.have_kings_first.ensures s.first s.second f g) ∙ c.if-not-have_kings_first.true))
+
+pub returns-then-not-are_in_order-clause-answer : goal.returns-then-not-are_in_order-clause-answer
+returns-then-not-are_in_order-clause-answer c =
+    let text = c.args.text.now in
+    let s = sides_of text in
+    let a = sym c.in-Some.ensures.spelled in
+    let f = c.in-Some.ensures.first ∙ letters_before text a in
+    let g = c.in-Some.ensures.second ∙ letters_after text a in
+    sym (parsed_order text a
+    (sym (c.have_kings_first.ensures s.first s.second f g) ∙ c.if-not-have_kings_first.false)
+    (sym (c.are_in_order.ensures s.first s.second f g) ∙ c.if-not-are_in_order.true))
+
+pub returns-then-not-may_be_first-clause-answer : goal.returns-then-not-may_be_first-clause-answer
+returns-then-not-may_be_first-clause-answer c =
+    let text = c.args.text.now in
+    let s = sides_of text in
+    let a = sym c.in-Some.ensures.spelled in
+    let f = c.in-Some.ensures.first ∙ letters_before text a in
+    let g = c.in-Some.ensures.second ∙ letters_after text a in
+    sym (parsed_sides text a
+    (sym (c.have_kings_first.ensures s.first s.second f g) ∙ c.if-not-have_kings_first.false)
+    (sym (c.are_in_order.ensures s.first s.second f g) ∙ c.if-not-are_in_order.false)
+    (sym (c.may_be_first.ensures s.first s.second f g) ∙ c.if-not-may_be_first.true))
+
+pub returns-then-not-is_count-clause-answer : goal.returns-then-not-is_count-clause-answer
+returns-then-not-is_count-clause-answer c =
+    let text = c.args.text.now in
+    let s = sides_of text in
+    let a = sym c.in-Some.ensures.spelled in
+    let f = c.in-Some.ensures.first ∙ letters_before text a in
+    let g = c.in-Some.ensures.second ∙ letters_after text a in
+    sym (parsed_men text a
+    (sym (c.have_kings_first.ensures s.first s.second f g) ∙ c.if-not-have_kings_first.false)
+    (sym (c.are_in_order.ensures s.first s.second f g) ∙ c.if-not-are_in_order.false)
+    (sym (c.may_be_first.ensures s.first s.second f g) ∙ c.if-not-may_be_first.false)
+    (ap is_count (sym (count_letters c.in-Some.first.now c.in-Some.second.now s.first s.second f g)) ∙ sym c.is_count.ensures ∙ c.if-not-is_count.true))
+
+read : (c : goal.After-men_of-2) → parsed c.args.text.now ≡ Ok (record { first = c.men_of.result.items; second = c.men_of-2.result.items })
+read c =
+    let text = c.args.text.now in
+    let s = sides_of text in
+    let a = sym c.in-Some.ensures.spelled in
+    let f = c.in-Some.ensures.first ∙ letters_before text a in
+    let g = c.in-Some.ensures.second ∙ letters_after text a in
+    let ok = parsed_ok text a
+    (sym (c.have_kings_first.ensures s.first s.second f g) ∙ c.if-not-have_kings_first.false)
+    (sym (c.are_in_order.ensures s.first s.second f g) ∙ c.if-not-are_in_order.false)
+    (sym (c.may_be_first.ensures s.first s.second f g) ∙ c.if-not-may_be_first.false)
+    (ap is_count (sym (count_letters c.in-Some.first.now c.in-Some.second.now s.first s.second f g)) ∙ sym c.is_count.ensures ∙ c.if-not-is_count.false) in
+    let p : c.men_of.result.items ≡ s.first = c.men_of.ensures ∙ ap (filter_map man_of) c.in-Some.ensures.first in
+    let q : c.men_of-2.result.items ≡ s.second = c.men_of-2.ensures ∙ ap (filter_map man_of) c.in-Some.ensures.second in
+    rw (p, q, ok) refl
+
+pub invariant_of-result : goal.invariant_of-result
+invariant_of-result c = (named c.args.text.now (record { first = c.men_of.result.items; second = c.men_of-2.result.items }) (read c)).1
+
+pub returns-clause-answer : goal.returns-clause-answer
+returns-clause-answer c = sym (read c)
+
+pub returns-clause-named : goal.returns-clause-named
+returns-clause-named c =
+    let n = named c.args.text.now (record { first = c.men_of.result.items; second = c.men_of-2.result.items }) (read c) in (n.1, n.0)

@@ -1,0 +1,144 @@
+//! Squares, men, materials and placements of Syzygy tables.
+//!
+//! A table is named by its material, as `KQvKR`: a side, the letter `v`, a side.
+//! All that the format says of a material (its men, whether it is symmetric, its lead pawns)
+//! is a function of that name, and stands here. Names, man codes and the lead colour are those of
+//! de Man's format; squares are numbered as in python-chess.
+#![tactic(auto)]
+
+use arrayvec::ArrayVec;
+use std::marker::Model;
+use thiserror::Error;
+
+pub mod laws;
+mod materials;
+mod men;
+mod parsing;
+mod placements;
+mod squares;
+#[cfg(test)]
+mod tests;
+
+/// The most men of a material.
+pub const MAX_MEN: usize = 6;
+
+/// What a table holds: the outcome of each placement, or the distance to it.
+#[derive(Clone, Copy, Debug, PartialEq, Eq)]
+pub enum Kind {
+    /// Win, draw or loss.
+    Wdl,
+    /// The distance to the next capture or pawn move that keeps the outcome.
+    Dtz,
+}
+
+/// A colour of the board.
+#[derive(Clone, Copy, Debug, Default, PartialEq, Eq)]
+pub enum Color {
+    #[default]
+    White,
+    Black,
+}
+
+/// A kind of man.
+#[derive(Clone, Copy, Debug, Default, PartialEq, Eq)]
+pub enum Man {
+    #[default]
+    Pawn,
+    Knight,
+    Bishop,
+    Rook,
+    Queen,
+    King,
+}
+
+/// A square of the board, by its number: a1 = 0, b1 = 1, .. h8 = 63.
+#[derive(Clone, Copy, Debug, PartialEq, Eq)]
+pub struct Square {
+    number: u8,
+}
+
+impl Model for Square {
+    ghost use Rattle.std.specs.Prelude.{ℕ, ◌<◌};
+
+    ghost Value = { ℕ };
+
+    ghost view = { λ s. s.number };
+
+    ghost invariant = { λ s. s.number < 64 };
+
+    ghost inverse = { λ n. record { number = n } };
+}
+
+/// Why a text is no name of a material. Of several faults the first in this order is told.
+#[derive(Clone, Copy, Debug, PartialEq, Eq, Error)]
+pub enum NameFault {
+    /// A character other than K Q R B N P v, or not exactly one v.
+    #[error("Letter")]
+    Letter,
+    /// A side doesn't begin with K, or has a second K.
+    #[error("King")]
+    King,
+    /// A side's letters aren't in the order K Q R B N P.
+    #[error("Order")]
+    Order,
+    /// The sides are in the wrong order.
+    #[error("Sides")]
+    Sides,
+    /// Not three to [`MAX_MEN`] men.
+    #[error("Men")]
+    Men,
+}
+
+/// Why men are no placement. Of several faults the first in this order is told.
+#[derive(Clone, Copy, Debug, PartialEq, Eq, Error)]
+pub enum PlacementFault {
+    /// Not three to [`MAX_MEN`] men, or a colour hasn't exactly one king.
+    #[error("Men")]
+    Men,
+    /// Two men stand on one square.
+    #[error("SameSquare")]
+    SameSquare,
+    /// A pawn stands on rank 1 or 8.
+    #[error("PawnRank")]
+    PawnRank,
+}
+
+/// The men of a table, by the two sides of its name.
+#[derive(Debug, Drop, PartialEq, Eq)]
+pub struct Material {
+    first: ArrayVec<Man, 6>,
+    second: ArrayVec<Man, 6>,
+}
+
+impl Model for Material {
+    ghost use Rattle.std.specs.Prelude.{ℕ, ◌<◌};
+    ghost use Rattle.szg_values.specs.Material.{Sides, IsMaterial};
+
+    ghost Value = { Sides };
+
+    ghost view = { λ m. record { first = m.first.items; second = m.second.items } };
+
+    ghost invariant = { λ m. IsMaterial (record { first = m.first.items; second = m.second.items }) };
+
+    ghost inverse = { λ sides. record { first = record { items = sides.first }; second = record { items = sides.second } } };
+}
+
+/// Men on squares, and who moves.
+#[derive(Debug, Drop, PartialEq, Eq)]
+pub struct Placement {
+    men: ArrayVec<(Man, Color, Square), 6>,
+    mover: Color,
+}
+
+impl Model for Placement {
+    ghost use Rattle.std.specs.Prelude.{ℕ, ◌≡◌, IsNone};
+    ghost use Rattle.szg_values.specs.Placement.{Board, placement_fault};
+
+    ghost Value = { Board };
+
+    ghost view = { λ p. record { standing = p.men.items; mover = p.mover } };
+
+    ghost invariant = { λ p. IsNone (placement_fault p.men.items) };
+
+    ghost inverse = { λ board. record { men = record { items = board.standing }; mover = board.mover } };
+}

@@ -1,0 +1,203 @@
+//! What a material tells.
+
+ghost use Rattle.std.specs.Prelude.{◌≡◌, ◌↔◌, ◌≤◌, ◌+◌, ◌==◌, ◌&&◌, not, ◌++◌, IsTrue, length, map};
+ghost use Rattle.szg_values.specs.Men.{code_of, letter_of};
+ghost use Rattle.arrayvec.specs.ArrayVec.{array_vec_len};
+ghost use Rattle.arrayvec.specs.ArrayString.{array_string_len};
+ghost use Rattle.szg_values.specs.Material.{name_of, man_codes, IsMaterial, is_symmetric, has_pawns, lead_pawns, other_pawns, has_single_lead, pawn_count, is_king_code, count_of, is_same_men, may_be_first, is_not_later, is_in_order};
+
+use crate::men::count_kind;
+use crate::{Man, Material};
+use arrayvec::{ArrayString, ArrayVec};
+
+/// The men codes of the name's second side are those of the first side and this.
+const SECOND_SIDE: u8 = 8;
+
+/// The kinds in the order in which a name has them.
+pub(crate) const NAME_ORDER: [Man; 6] = [
+    Man::King,
+    Man::Queen,
+    Man::Rook,
+    Man::Bishop,
+    Man::Knight,
+    Man::Pawn,
+];
+
+impl Material {
+    /// The man codes in name order: those of the first side, then those of the second, which add 8.
+    pub fn men(&self) -> ArrayVec<u8, 6>
+        ensures codes { result.items ≡ man_codes self.now }
+        // What a caller may rest on: a material is the men of a name.
+        ensures material { IsMaterial self.now }
+    {
+        let mut codes = ArrayVec::new();
+        push_codes(&mut codes, self.first.as_slice(), 0);
+        push_codes(&mut codes, self.second.as_slice(), SECOND_SIDE);
+        codes
+    }
+
+    /// The name, as `KQvKR`.
+    pub fn name(&self) -> ArrayString<8>
+        ensures { result.bytes ≡ name_of self.now }
+    {
+        let mut name = ArrayString::new();
+        push_letters(&mut name, self.first.as_slice());
+        name.push('v');
+        push_letters(&mut name, self.second.as_slice());
+        name
+    }
+
+    /// The same material once more; it takes no memory.
+    pub fn copy(&self) -> Material
+        ensures { result ≡ self.now }
+    {
+        Material {
+            first: copy_men(&self.first),
+            second: copy_men(&self.second),
+        }
+    }
+
+    /// Whether this is the same material as another: as many men of each kind on the first sides,
+    /// and on the second ones. It is what `==` answers, with a contract that says so.
+    pub fn is_same(&self, other: &Material) -> bool
+        ensures counts { result ≡ (is_same_men self.now.first other.now.first && is_same_men self.now.second other.now.second) }
+        ensures equal { IsTrue result ↔ (self.now ≡ other.now) }
+    {
+        has_same_men(self.first.as_slice(), other.first.as_slice())
+            && has_same_men(self.second.as_slice(), other.second.as_slice())
+    }
+
+    /// Whether both sides have the same men.
+    pub fn symmetric(&self) -> bool
+        ensures { result ≡ is_symmetric self.now }
+    {
+        has_same_men(self.first.as_slice(), self.second.as_slice())
+    }
+
+    /// Whether some man is a pawn.
+    pub fn has_pawns(&self) -> bool
+        ensures { result ≡ has_pawns self.now }
+    {
+        0 < self.first_pawns() + self.second_pawns()
+    }
+
+    /// The number of pawns of the lead colour: the side with fewer pawns but not none, on a tie
+    /// the first side; 0 without pawns.
+    pub fn lead_pawns(&self) -> u8
+        ensures { result ≡ lead_pawns self.now }
+    {
+        self.pawns().0
+    }
+
+    /// The number of pawns of the other colour than the lead colour; 0 without pawns.
+    pub fn other_pawns(&self) -> u8
+        ensures { result ≡ other_pawns self.now }
+    {
+        self.pawns().1
+    }
+
+    /// Whether some man other than a king is the only one of its kind and colour.
+    pub fn single_lead(&self) -> bool
+        ensures { result ≡ has_single_lead self.now }
+    {
+        let codes = self.men();
+        codes.iter().any(|code| is_single(*code, codes.as_slice()))
+    }
+
+    fn first_pawns(&self) -> u8
+        ensures value { result ≡ pawn_count self.now.first }
+        ensures small { result ≤ 6 }
+    {
+        count_kind(Man::Pawn, self.first.as_slice())
+    }
+
+    fn second_pawns(&self) -> u8
+        ensures value { result ≡ pawn_count self.now.second }
+        ensures small { result ≤ 6 }
+    {
+        count_kind(Man::Pawn, self.second.as_slice())
+    }
+
+    /// The numbers of pawns of the lead colour and of the other.
+    fn pawns(&self) -> (u8, u8)
+        ensures lead { result.0 ≡ lead_pawns self.now }
+        ensures other { result.1 ≡ other_pawns self.now }
+    {
+        let first = self.first_pawns();
+        let second = self.second_pawns();
+        if 0 < first && (second == 0 || first <= second) {
+            (first, second)
+        } else {
+            (second, first)
+        }
+    }
+}
+
+/// Appends the codes of one side's men, each raised by the side's number.
+fn push_codes(codes: &mut ArrayVec<u8, 6>, men: &[Man], side: u8)
+    requires room { array_vec_len codes.old + length men.now ≤ 6 }
+    requires side { side ≤ 8 }
+    ensures { codes.new.items ≡ codes.old.items ++ map (λ man. side + code_of man) men.now }
+{
+    for man in men {
+        codes.push(side + man.code());
+    }
+}
+
+/// Appends the letters of one side's men.
+fn push_letters(name: &mut ArrayString<8>, men: &[Man])
+    requires { array_string_len name.old + length men.now ≤ 8 }
+    ensures { name.new.bytes ≡ name.old.bytes ++ map letter_of men.now }
+{
+    for man in men {
+        name.push(char::from(man.letter()));
+    }
+}
+
+fn copy_men(men: &ArrayVec<Man, 6>) -> ArrayVec<Man, 6>
+    ensures { result.items ≡ men.now.items }
+{
+    let mut copy = ArrayVec::new();
+    let _ = copy.try_extend_from_slice(men.as_slice());
+    copy
+}
+
+/// Whether two sides have as many men of each kind; in name order they are then the same.
+fn has_same_men(first: &[Man], second: &[Man]) -> bool
+    requires first { IsTrue (is_in_order first.now) }
+    requires second { IsTrue (is_in_order second.now) }
+    ensures { result ≡ is_same_men first.now second.now }
+{
+    first == second
+}
+
+/// Whether a man of this code is no king and the only one of the code.
+fn is_single(code: u8, codes: &[u8]) -> bool
+    ensures { result ≡ (not (is_king_code code) && count_of code codes.now == 1) }
+{
+    code != 6 && code != 14 && codes.iter().filter(|other| **other == code).count() == 1
+}
+
+/// Whether a name may have these sides in this order: the first has more men, or as many and its
+/// letters come earlier or are the same.
+pub(crate) fn may_be_first(first: &[Man], second: &[Man]) -> bool
+    ensures { result ≡ may_be_first first.now second.now }
+{
+    first.len() > second.len() || first.len() == second.len() && is_not_later(first, second)
+}
+
+/// Of two sides with as many men: whether the first's letters come earlier or are the same,
+/// compared letter by letter in the order K Q R B N P.
+fn is_not_later(first: &[Man], second: &[Man]) -> bool
+    requires { length first.now ≡ length second.now }
+    ensures { result ≡ is_not_later first.now second.now }
+{
+    for (a, b) in first.iter().zip(second) {
+        let a = a.code();
+        let b = b.code();
+        if a != b {
+            return a > b;
+        }
+    }
+    true
+}

@@ -1,0 +1,68 @@
+//! The kinds of men: their letters in a name and their codes in a file.
+
+ghost use Rattle.std.specs.Prelude.{◌≡◌, ◌≤◌, length, count_by};
+ghost use Rattle.szg_values.specs.Men.{code_of, letter_of, man_of, is_man};
+ghost use Rattle.szg_values.specs.Material.{is_count};
+
+use crate::{MAX_MEN, Man};
+
+impl Man {
+    /// The man's code in a file of de Man's format: pawn 1, knight 2, bishop 3, rook 4, queen 5,
+    /// king 6. The men of the name's second side add 8 to it.
+    pub fn code(self) -> u8
+        ensures { result ≡ code_of self }
+    {
+        match self {
+            Man::Pawn => 1,
+            Man::Knight => 2,
+            Man::Bishop => 3,
+            Man::Rook => 4,
+            Man::Queen => 5,
+            Man::King => 6,
+        }
+    }
+
+    /// The man's letter in a name, an ASCII code: P N B R Q K.
+    pub fn letter(self) -> u8
+        ensures { result ≡ letter_of self }
+    {
+        match self {
+            Man::Pawn => b'P',
+            Man::Knight => b'N',
+            Man::Bishop => b'B',
+            Man::Rook => b'R',
+            Man::Queen => b'Q',
+            Man::King => b'K',
+        }
+    }
+
+    /// The man that a letter stands for; none for any other byte than P N B R Q K.
+    pub fn of_letter(letter: u8) -> Option<Man>
+        ensures { result ≡ man_of letter }
+    {
+        match letter {
+            b'K' => Some(Man::King),
+            b'Q' => Some(Man::Queen),
+            b'R' => Some(Man::Rook),
+            b'B' => Some(Man::Bishop),
+            b'N' => Some(Man::Knight),
+            b'P' => Some(Man::Pawn),
+            _ => None,
+        }
+    }
+}
+
+/// How many of these men are of a kind.
+pub(crate) fn count_kind(kind: Man, men: &[Man]) -> u8
+    requires { length men.now ≤ 6 }
+    ensures { result ≡ count_by (is_man kind) men.now }
+{
+    men.iter().filter(|man| **man == kind).count() as u8
+}
+
+/// Whether a material may have this many men.
+pub(crate) fn is_count(count: usize) -> bool
+    ensures { result ≡ is_count count }
+{
+    3 <= count && count <= MAX_MEN
+}

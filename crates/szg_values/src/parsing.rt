@@ -1,0 +1,173 @@
+//! Reading a name.
+
+ghost use Rattle.std.specs.Prelude.{◌≡◌, ◌≤◌, ◌<◌, ◌+◌, ◌&&◌, List, length, map, filter_map, count_by, is_some, IfSome, IfOk};
+ghost use Rattle.std.specs.List.{before_first, after_first, list_all};
+ghost use Rattle.std.specs.Option.{option_map_or};
+ghost use Rattle.szg_values.specs.declared.Man.{Man};
+ghost use Rattle.szg_values.specs.Men.{code_of, letter_of, man_of};
+ghost use Rattle.szg_values.specs.Material.{name_of, parsed, IsMaterial, is_spelled, is_v, is_name_letter, has_king_first, is_in_order, is_not_later, may_be_first};
+
+use crate::men::is_count;
+use crate::{Man, Material, NameFault};
+use arrayvec::ArrayVec;
+
+impl Material {
+    /// The material of a name; else the first of the five faults that the text has.
+    ///
+    /// A name is a side, `v`, a side; a side is `K` and men in the order Q R B N P. The side with
+    /// more men is first, at equal numbers the side whose letters come earlier. Each fault is one
+    /// of the whole text, however long it is.
+    pub fn parse(text: &str) -> Result<Material, NameFault>
+        ensures answer { result ≡ parsed text.now }
+        ensures named { IfOk result (λ material. IsMaterial material × (name_of material ≡ text.now)) }
+    {
+        let Some((first, second)) = split_name(text) else {
+            return Err(NameFault::Letter);
+        };
+        if !have_kings_first(first, second) {
+            return Err(NameFault::King);
+        }
+        if !are_in_order(first, second) {
+            return Err(NameFault::Order);
+        }
+        if !may_be_first(first, second) {
+            return Err(NameFault::Sides);
+        }
+        if !is_count(first.len() + second.len()) {
+            return Err(NameFault::Men);
+        }
+        Ok(Material {
+            first: men_of(first),
+            second: men_of(second),
+        })
+    }
+}
+
+/// The letters before the one v and those after it; none where the text is not spelled as a name is.
+fn split_name(text: &str) -> Option<(&[u8], &[u8])>
+    ensures spelled { is_some result ≡ is_spelled text.now }
+    ensures first { IfSome result (λ sides. sides.0.now ≡ before_first is_v text.now) }
+    ensures second { IfSome result (λ sides. sides.1.now ≡ after_first is_v text.now) }
+    ensures size { IfSome result (λ sides. length sides.0.now + length sides.1.now < length text.now) }
+{
+    if !is_spelled(text.as_bytes()) {
+        return None;
+    }
+    let (first, second) = text.split_once('v')?;
+    Some((first.as_bytes(), second.as_bytes()))
+}
+
+/// Whether a text has only letters of names, and exactly one v.
+fn is_spelled(text: &[u8]) -> bool
+    ensures { result ≡ is_spelled text.now }
+{
+    has_name_letters(text) && count_v(text) == 1
+}
+
+/// Whether a text has no other bytes than K Q R B N P v.
+fn has_name_letters(text: &[u8]) -> bool
+    ensures { result ≡ list_all is_name_letter text.now }
+{
+    text.iter().all(|letter| is_name_letter(*letter))
+}
+
+/// How many letters v a text has.
+fn count_v(text: &[u8]) -> usize
+    ensures { result ≡ count_by is_v text.now }
+{
+    text.iter().filter(|letter| **letter == b'v').count()
+}
+
+/// Whether a byte is one of K Q R B N P v.
+fn is_name_letter(letter: u8) -> bool
+    ensures { result ≡ is_name_letter letter }
+{
+    matches!(letter, b'K' | b'Q' | b'R' | b'B' | b'N' | b'P' | b'v')
+}
+
+/// Whether both sides' letters begin with the king's and have no second one.
+fn have_kings_first(first: &[u8], second: &[u8]) -> bool
+    ensures { (a b : List Man) → first.now ≡ map letter_of a → second.now ≡ map letter_of b → result ≡ (has_king_first a && has_king_first b) }
+{
+    has_king_first(first) && has_king_first(second)
+}
+
+/// Whether a side's letters begin with the king's and have no second one.
+fn has_king_first(side: &[u8]) -> bool
+    ensures { (men : List Man) → side.now ≡ map letter_of men → result ≡ has_king_first men }
+{
+    match side {
+        [first, others @ ..] => *first == b'K' && !others.contains(&b'K'),
+        [] => false,
+    }
+}
+
+/// Whether both sides' letters are in the order K Q R B N P.
+fn are_in_order(first: &[u8], second: &[u8]) -> bool
+    ensures { (a b : List Man) → first.now ≡ map letter_of a → second.now ≡ map letter_of b → result ≡ (is_in_order a && is_in_order b) }
+{
+    is_in_order(first) && is_in_order(second)
+}
+
+/// Whether a side's letters are in the order K Q R B N P.
+fn is_in_order(side: &[u8]) -> bool
+    ensures { (men : List Man) → side.now ≡ map letter_of men → result ≡ is_in_order men }
+{
+    let mut last = Man::King.code();
+    for letter in side {
+        let code = code_of_letter(*letter);
+        if code > last {
+            return false;
+        }
+        last = code;
+    }
+    true
+}
+
+/// Whether a name may have these sides in this order: the first has more men, or as many and its
+/// letters come earlier or are the same.
+fn may_be_first(first: &[u8], second: &[u8]) -> bool
+    ensures { (a b : List Man) → first.now ≡ map letter_of a → second.now ≡ map letter_of b → result ≡ may_be_first a b }
+{
+    first.len() > second.len() || first.len() == second.len() && is_not_later(first, second)
+}
+
+/// Of two sides with as many men: whether the first's letters come earlier or are the same,
+/// compared letter by letter in the order K Q R B N P.
+fn is_not_later(first: &[u8], second: &[u8]) -> bool
+    requires { length first.now ≡ length second.now }
+    ensures { (a b : List Man) → first.now ≡ map letter_of a → second.now ≡ map letter_of b → result ≡ is_not_later a b }
+{
+    for (a, b) in first.iter().zip(second) {
+        let a = code_of_letter(*a);
+        let b = code_of_letter(*b);
+        if a != b {
+            return a > b;
+        }
+    }
+    true
+}
+
+/// The code of the man that a letter stands for, 0 where it stands for none.
+fn code_of_letter(letter: u8) -> u8
+    ensures { result ≡ option_map_or code_of (man_of letter) 0 }
+{
+    match Man::of_letter(letter) {
+        Some(man) => man.code(),
+        None => 0,
+    }
+}
+
+/// The men of a side's letters.
+fn men_of(side: &[u8]) -> ArrayVec<Man, 6>
+    requires { length side.now ≤ 6 }
+    ensures { result.items ≡ filter_map man_of side.now }
+{
+    let mut men = ArrayVec::new();
+    for letter in side {
+        if let Some(man) = Man::of_letter(*letter) {
+            men.push(man);
+        }
+    }
+    men
+}

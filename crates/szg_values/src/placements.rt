@@ -1,0 +1,152 @@
+//! Placements: men on squares, and who moves.
+
+ghost use Rattle.std.specs.Prelude.{◌≡◌, ◌≤◌, ◌+◌, ◌&&◌, ◌||◌, ◌++◌, ◌==◌, length, replicate, IsNone, IfSome, Ok, Err};
+ghost use Rattle.std.specs.List.{list_any};
+ghost use Rattle.arrayvec.specs.ArrayVec.{array_vec_len};
+ghost use Rattle.szg_values.specs.Men.{is_man, is_color, rank_of};
+ghost use Rattle.szg_values.specs.Placement.{placement_fault, material_of, number_of, has_men, is_apart, has_pawns_inside, side_of};
+
+use crate::materials::{NAME_ORDER, may_be_first};
+use crate::men::is_count;
+use crate::{Color, Man, Material, Placement, PlacementFault, Square};
+use arrayvec::ArrayVec;
+
+impl Placement {
+    /// Men on squares and who moves; else the first of the three faults that the men have.
+    #[tactic(auto, unfolding(crate::specs::Placement::placement_fault))]
+    pub fn new(men: &[(Man, Color, Square)], mover: Color) -> Result<Placement, PlacementFault>
+        ensures placed { IsNone (placement_fault men.now) → result ≡ Ok (record { standing = men.now; mover = mover }) }
+        ensures refused { IfSome (placement_fault men.now) (λ fault. result ≡ Err fault) }
+    {
+        if !has_men(men) {
+            return Err(PlacementFault::Men);
+        }
+        if !is_apart(men) {
+            return Err(PlacementFault::SameSquare);
+        }
+        if !has_pawns_inside(men) {
+            return Err(PlacementFault::PawnRank);
+        }
+        Ok(Placement {
+            men: copy_standing(men),
+            mover,
+        })
+    }
+
+    /// The men in the order given.
+    pub fn men(&self) -> &[(Man, Color, Square)]
+        ensures men { result.now ≡ self.now.standing }
+        ensures sound { IsNone (placement_fault result.now) }
+    {
+        self.men.as_slice()
+    }
+
+    /// The material of the men: White's and Black's, the side that a name has first before the other.
+    pub fn material(&self) -> Material
+        ensures { result ≡ material_of self.now.standing }
+    {
+        let men = self.men();
+        let white = side_of(Color::White, men);
+        let black = side_of(Color::Black, men);
+        let (first, second) = if may_be_first(white.as_slice(), black.as_slice()) {
+            (white, black)
+        } else {
+            (black, white)
+        };
+        Material { first, second }
+    }
+
+    /// Who moves.
+    pub fn mover(&self) -> Color
+        ensures { result ≡ self.now.mover }
+    {
+        self.mover
+    }
+}
+
+/// Whether there are three to six men, and of each colour exactly one king.
+fn has_men(men: &[(Man, Color, Square)]) -> bool
+    ensures { result ≡ has_men men.now }
+{
+    is_count(men.len())
+        && number_of(Man::King, Color::White, men) == 1
+        && number_of(Man::King, Color::Black, men) == 1
+}
+
+/// How many men of this kind and colour stand.
+fn number_of(kind: Man, color: Color, men: &[(Man, Color, Square)]) -> usize
+    ensures { result ≡ number_of kind color men.now }
+{
+    men.iter().filter(|man| is_of(kind, color, man)).count()
+}
+
+fn is_of(kind: Man, color: Color, man: &(Man, Color, Square)) -> bool
+    ensures { result ≡ (is_man kind man.now.0 && is_color color man.now.1) }
+{
+    man.0 == kind && man.1 == color
+}
+
+/// Whether no two men stand on one square.
+fn is_apart(men: &[(Man, Color, Square)]) -> bool
+    requires { length men.now ≤ 6 }
+    ensures { result ≡ is_apart men.now }
+{
+    for (place, man) in men.iter().enumerate() {
+        if stands_on(man.2, &men[place + 1..]) {
+            return false;
+        }
+    }
+    true
+}
+
+/// Whether some man stands on a square.
+fn stands_on(square: Square, men: &[(Man, Color, Square)]) -> bool
+    ensures { result ≡ list_any (λ other. square == other.2) men.now }
+{
+    men.iter().any(|other| other.2 == square)
+}
+
+/// Whether no pawn stands on rank 1 or 8.
+fn has_pawns_inside(men: &[(Man, Color, Square)]) -> bool
+    ensures { result ≡ has_pawns_inside men.now }
+{
+    men.iter().all(|man| !is_pawn_outside(man.0, man.2))
+}
+
+fn is_pawn_outside(man: Man, square: Square) -> bool
+    ensures { result ≡ (is_man Man.Pawn man && (rank_of square == 0 || rank_of square == 7)) }
+{
+    let rank = square.number() / 8;
+    man == Man::Pawn && (rank == 0 || rank == 7)
+}
+
+fn copy_standing(men: &[(Man, Color, Square)]) -> ArrayVec<(Man, Color, Square), 6>
+    requires { length men.now ≤ 6 }
+    ensures { result.items ≡ men.now }
+{
+    let mut copy = ArrayVec::new();
+    let _ = copy.try_extend_from_slice(men);
+    copy
+}
+
+/// A colour's men in name order.
+fn side_of(color: Color, men: &[(Man, Color, Square)]) -> ArrayVec<Man, 6>
+    requires { length men.now ≤ 6 }
+    ensures { result.items ≡ side_of color men.now }
+{
+    let mut side = ArrayVec::new();
+    for kind in NAME_ORDER {
+        push_men(&mut side, kind, number_of(kind, color, men));
+    }
+    side
+}
+
+/// Appends as many men of a kind.
+fn push_men(side: &mut ArrayVec<Man, 6>, kind: Man, number: usize)
+    requires { array_vec_len side.old + number ≤ 6 }
+    ensures { side.new.items ≡ side.old.items ++ replicate number kind }
+{
+    for placed in 0..number {
+        side.push(kind);
+    }
+}
