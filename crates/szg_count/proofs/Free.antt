@@ -1,0 +1,125 @@
+-- How many elements are left, and that the places told and those left order the groups.
+use Rattle.std.proofs.Common.{◌≡◌, ℕ, zero, suc, ◌+◌, ◌<◌, ◌≤◌, inl, inr, List, [], ◌∷◌, ◌++◌, length, refl, sym, ap, subst, Bool, true, false, cond, arith, length-append}
+use Rattle.std.specs.Prelude.{◌==◌, nat_lt, Option, Some, None, option_to_list, is_some}
+use Rattle.std.specs.List.{list_all, list_any, range_with_len}
+use Rattle.std.proofs.Math.Bool.{not, ◌&&◌}
+use Rattle.std.proofs.lemmas.Bool.{cases_Bool, eqb-true, eq-eqb, ltb-true, or_cases}
+use Rattle.std.proofs.lemmas.Bool.Decides.{eqb_tells}
+use Rattle.szg_count.specs.Leads.{contains, without}
+use Rattle.szg_count.specs.Groups.{told_places, groups_of, has_other_pawns}
+use Rattle.szg_count.specs.Laws.{IsIn, AllDiffer, LawFreeCount}
+use Rattle.szg_count.specs.Radix.{IsOrdering, LawPlacesOrder}
+use Rattle.szg_count.proofs.Differ.{IsIn-append, IsIn-filter, AllDiffer-append, AllDiffer-filter, contains_it}
+
+pub contains-IsIn : (x : ℕ) (xs : List ℕ) → contains xs x ≡ true → IsIn x xs
+contains-IsIn x [] e = cc
+contains-IsIn x (y ∷ ys) e = elim (or_cases (x == y) (contains ys x) e) [ inl a ↦ inl (eqb-true x y a) | inr b ↦ inr (contains-IsIn x ys b) ]
+
+not_in : (x : ℕ) (xs : List ℕ) → (IsIn x xs → ⊥) → contains xs x ≡ false
+not_in x xs out = elim (cases_Bool (contains xs x)) [ inl t ↦ absurd (out (contains-IsIn x xs t)) | inr f ↦ f ]
+
+without-nothing : (xs : List ℕ) → without [] xs ≡ xs
+without-nothing [] = refl
+without-nothing (x ∷ xs) = ap (λ l. x ∷ l) (without-nothing xs)
+
+-- an element that isn't there takes nothing away
+without-absent : (y : ℕ) (ys xs : List ℕ) → (IsIn y xs → ⊥) → without (y ∷ ys) xs ≡ without ys xs
+without-absent y ys [] out = refl
+without-absent y ys (x ∷ xs) out = elim (eqb_tells x y) [
+  | inl e ↦ absurd (out (inl (sym e.1)))
+  | inr n ↦ rw (n.0, without-absent y ys xs (λ h. out (inr h))) refl
+]
+
+-- one that is there takes itself away
+without-one : (y : ℕ) (ys xs : List ℕ) → AllDiffer xs → IsIn y xs → contains ys y ≡ false → suc (length (without (y ∷ ys) xs)) ≡ length (without ys xs)
+without-one y ys [] d h c = absurd h
+without-one y ys (x ∷ xs) d (inl e) c =
+    let a : (x == y) ≡ true = eq-eqb x y (sym e) in
+    let b : contains ys x ≡ false = subst (λ (z : ℕ). contains ys z ≡ false) e c in
+    rw (a, b) (ap (λ l. suc (length l)) (without-absent y ys xs (λ h. d.0 (subst (λ (z : ℕ). IsIn z xs) e h))))
+without-one y ys (x ∷ xs) d (inr h) c =
+    let n : (x == y) ≡ false = elim (eqb_tells x y) [ inl e ↦ absurd (d.0 (subst (λ (z : ℕ). IsIn z xs) (sym e.1) h)) | inr n ↦ n.0 ] in
+    let k = without-one y ys xs d.1 h c in
+    rw n (kept (contains ys x) x (without (y ∷ ys) xs) (without ys xs) k) where
+      kept : (b : Bool) (x : ℕ) (us vs : List ℕ) → suc (length us) ≡ length vs → suc (length (cond (not b) (x ∷ us) us)) ≡ length (cond (not b) (x ∷ vs) vs)
+      kept true x us vs k = k
+      kept false x us vs k = ap suc k
+
+pub free_count_law : LawFreeCount
+free_count_law [] xs d e h = rw (without-nothing xs) (omega arith)
+free_count_law (y ∷ ys) xs d e h =
+    let k = free_count_law ys xs d.1 e (λ x i. h x (inr i)) in
+    let m = without-one y ys xs e (h y (inl refl)) (not_in y ys d.0) in
+    omega (arith, k, m)
+
+-- ---- places
+
+not_both : (b : Bool) → not b ≡ true → b ≡ true → ⊥
+not_both true e f = cc
+not_both false e f = cc
+
+pub told_differ : (lead : ℕ) (other : Option ℕ) → not (list_any (λ place. place == lead) (option_to_list other)) ≡ true → AllDiffer (lead ∷ option_to_list other)
+told_differ lead None e = (λ h. h, tt)
+told_differ lead (Some p) e = (λ h. elim h [ inl f ↦ let k : (p == lead) ≡ true = eq-eqb p lead (sym f) in let c = rw k at e in absurd (cc) | inr g ↦ absurd g ], (λ h. h, tt))
+
+pub range-below : (a n x : ℕ) → IsIn x (range_with_len a n) → (a ≤ x) × (x < a + n)
+range-below a zero x h = absurd h
+range-below a (suc n) x (inl e) = (omega arith, omega arith)
+range-below a (suc n) x (inr h) = let r = range-below (a + 1) n x h in (omega (arith, r), omega (arith, r))
+
+range-differs : (a n : ℕ) → AllDiffer (range_with_len a n)
+range-differs a zero = tt
+range-differs a (suc n) = (λ h. let r = range-below (a + 1) n a h in absurd (omega (arith, r)), range-differs (a + 1) n)
+
+range-has : (a n x : ℕ) → a ≤ x → x < a + n → IsIn x (range_with_len a n)
+range-has a zero x h k = absurd (omega arith)
+range-has a (suc n) x h k = elim (eqb_tells x a) [
+  | inl e ↦ inl e.1
+  | inr m ↦ inr (range-has (a + 1) n x (let f : x ≡ a → ⊥ = m.1 in omega (arith, f)) (omega arith))
+]
+
+length-range : (a n : ℕ) → length (range_with_len a n) ≡ n
+length-range a zero = refl
+length-range a (suc n) = ap suc (length-range (a + 1) n)
+
+one_of : (a b : Bool) → (a && b) ≡ true → a ≡ true
+one_of true b e = refl
+one_of false b e = cc
+
+two_of : (a b : Bool) → (a && b) ≡ true → b ≡ true
+two_of true b e = e
+two_of false b e = cc
+
+pub all_below : (xs : List ℕ) (n : ℕ) → list_all (λ place. nat_lt place n) xs ≡ true → (x : ℕ) → IsIn x xs → x < n
+all_below [] n e x h = absurd h
+all_below (y ∷ ys) n e x (inl f) = let a = ltb-true y n (one_of (nat_lt y n) (list_all (λ place. nat_lt place n) ys) e) in omega (arith, f, a)
+all_below (y ∷ ys) n e x (inr h) = all_below ys n (two_of (nat_lt y n) (list_all (λ place. nat_lt place n) ys) e) x h
+
+-- different numbers below m, and the others below m after them
+pub ordering_of : (told : List ℕ) (m : ℕ) → AllDiffer told → ((x : ℕ) → IsIn x told → x < m) →
+    IsOrdering (told ++ without told (range_with_len 0 m)) × (length (told ++ without told (range_with_len 0 m)) ≡ m)
+ordering_of told m d b =
+    let range = range_with_len 0 m in
+    let free = free_count_law told range d (range-differs 0 m) (λ x h. let k = b x h in range-has 0 m x (omega arith) (omega (arith, k))) in
+    let r = length-range 0 m in
+    let a = length-append told (without told range) in
+    let len : length (told ++ without told range) ≡ m = omega (arith, free, r, a) in (
+      record {
+        differ = AllDiffer-append told (without told range) d (AllDiffer-filter (λ x. not (contains told x)) range (range-differs 0 m))
+            (λ x h k. not_both (contains told x) (IsIn-filter (λ y. not (contains told y)) range x k).1 (contains_it x told h));
+        below = λ x h. rw len (elim (IsIn-append x told (without told range) h) [
+          | inl l ↦ b x l
+          | inr k ↦ let q = range-below 0 m x (IsIn-filter (λ y. not (contains told y)) range x k).0 in omega (arith, q)
+        ]);
+      },
+      len,
+    )
+
+pub places_order : LawPlacesOrder
+places_order sides n h =
+    let m = length (groups_of sides n.men) in
+    let front = (cond (is_some n.other) (has_other_pawns sides) (not (has_other_pawns sides))) in
+    let all = list_all (λ place. nat_lt place m) (told_places n) in
+    let last = not (list_any (λ place. place == n.lead) (option_to_list n.other)) in
+    let x = one_of (front && all) last h in
+    ordering_of (told_places n) m (told_differ n.lead n.other (two_of (front && all) last h)) (all_below (told_places n) m (two_of front all x))

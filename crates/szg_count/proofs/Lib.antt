@@ -1,0 +1,16 @@
+pub mod Rows
+pub mod Counting
+pub mod Differ
+pub mod Radix
+pub mod Places
+pub mod Free
+pub mod Sizes
+pub mod LeadSets
+pub mod Binomials
+pub mod Products
+pub mod Cutting
+pub mod Pawns
+pub mod Counts
+pub mod Told
+pub mod Whole
+pub mod Formulas

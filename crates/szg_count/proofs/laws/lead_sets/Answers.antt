@@ -1,0 +1,5 @@
+use Rattle.szg_count.proofs.LeadSets.{lead_sets_hold as law}
+use Rattle.szg_count.proofs.laws.lead_sets.Goals as goal
+
+pub returns : goal.returns
+returns c = law

@@ -1,0 +1,96 @@
+-- What is said of the ordered lists: their lengths, that nothing stands twice in them, and what they hold.
+use Rattle.std.specs.Prelude.{◌≡◌, ℕ, suc, ◌+◌, ◌-◌, ◌*◌, ◌^◌, ◌<◌, ◌⊎◌, Bool, List, [], ◌∷◌, map, length, filter, take, sum, ⊤, None, IsTrue, if◌then◌else◌, slice_get, unwrap_or}
+use Rattle.std.specs.List.{range_with_len, concat}
+use Rattle.szg_values.specs.Men.{square_at}
+use Rattle.szg_values.specs.Material.{Sides, IsMaterial, has_pawns, lead_pawns, other_pawns, has_single_lead}
+use Rattle.szg_count.specs.Sets.{sets_of, subsets, choose}
+use Rattle.szg_count.specs.Leads.{triples, king_pairs, pawn_order, after, lead_pawn_sets, without}
+use Rattle.szg_count.specs.Groups.{IsPart, lead_sets, lead_ways, lead_length, group_ways, groups_of, has_other_pawns, Nibbles, order_fault, counted, product}
+
+-- x is an element of the list
+abbrev pub IsIn : {A : Type 0} → A → List A → Type 0
+IsIn x [] = ⊥
+IsIn x (y ∷ ys) = (x ≡ y) ⊎ IsIn x ys
+
+-- nothing stands twice in the list
+abbrev pub AllDiffer : {A : Type 0} → List A → Type 0
+AllDiffer [] = ⊤
+AllDiffer (x ∷ xs) = (IsIn x xs → ⊥) × AllDiffer xs
+
+-- there are `choose` sets of r elements of a list
+abbrev pub LawSetCount : Type 0
+LawSetCount = (r : ℕ) (xs : List ℕ) → length (sets_of r xs) ≡ choose (length xs) r
+
+-- and as many sets of r numbers below n as the binomial says
+abbrev pub LawSubsetCount : Type 0
+LawSubsetCount = (n r : ℕ) → length (subsets n r) ≡ choose n r
+
+-- each binomial from the one before it
+abbrev pub LawChooseStep : Type 0
+LawChooseStep = (n k : ℕ) → choose (suc n) (suc k) * suc k ≡ suc n * choose n k
+
+abbrev pub LawTripleCount : Type 0
+LawTripleCount = length triples ≡ 31332
+
+abbrev pub LawKingPairCount : Type 0
+LawKingPairCount = length king_pairs ≡ 462
+
+-- k lead pawns on a file: the sum over its squares of the ways to set the others on squares of smaller P
+abbrev pub LawLeadPawnCount : Type 0
+LawLeadPawnCount = (k file : ℕ) →
+    length (lead_pawn_sets k file) ≡ sum (map (λ q. choose (length (after q pawn_order)) (k - 1)) (map (square_at file) (range_with_len 1 6)))
+
+-- one to four lead pawns on each file
+abbrev pub LawLeadPawnTable : Type 0
+LawLeadPawnTable = map (λ k. map (λ file. length (lead_pawn_sets k file)) (range_with_len 0 4)) (range_with_len 1 4) ≡
+    (6 ∷ 6 ∷ 6 ∷ 6 ∷ []) ∷ (252 ∷ 180 ∷ 108 ∷ 36 ∷ []) ∷ (5201 ∷ 2645 ∷ 953 ∷ 125 ∷ []) ∷ (70315 ∷ 25375 ∷ 5491 ∷ 295 ∷ []) ∷ []
+
+-- The ways of a lead group. The lead pawns' is the sum over the squares of the part's file, of which the
+-- first has 47 - 12 part squares after it and each further one two less.
+abbrev pub LawLeadWays : Type 0
+LawLeadWays = (sides : Sides) (part : ℕ) → IsPart sides part → lead_ways sides part ≡
+    (if has_pawns sides then sum (map (λ rank. choose (47 - 12 * part - 2 * rank) (lead_pawns sides - 1)) (range_with_len 0 6)) else
+    if has_single_lead sides then 31332 else 462)
+
+-- the ways of other pawns: on the squares of ranks 2 to 7 that the lead pawns leave free
+abbrev pub LawOtherPawnWays : Type 0
+LawOtherPawnWays = (sides : Sides) (part : ℕ) (n : Nibbles) → IsMaterial sides → order_fault sides n ≡ None → IsTrue (has_other_pawns sides) →
+    group_ways sides part (groups_of sides n.men) 1 ≡ choose (48 - lead_pawns sides) (other_pawns sides)
+
+-- the ways of a run: on the squares that all men of the groups before it leave free
+abbrev pub LawRunWays : Type 0
+LawRunWays = (sides : Sides) (part : ℕ) (groups : List (List ℕ)) (i : ℕ) → (if has_other_pawns sides then 1 else 0) < i →
+    group_ways sides part groups i ≡ choose (64 - length (concat (take i groups))) (length (unwrap_or (slice_get groups i) []))
+
+-- nothing stands twice
+abbrev pub LawSetsDiffer : Type 0
+LawSetsDiffer = (r : ℕ) (xs : List ℕ) → AllDiffer xs → AllDiffer (sets_of r xs)
+
+abbrev pub LawSubsetsDiffer : Type 0
+LawSubsetsDiffer = (n r : ℕ) → AllDiffer (subsets n r)
+
+abbrev pub LawLeadsDiffer : Type 0
+LawLeadsDiffer = (sides : Sides) (part : ℕ) → part < 4 → AllDiffer (lead_sets sides part)
+
+-- the elements of a list that pass a test are one of its sets
+abbrev pub LawSetsHold : Type 0
+LawSetsHold = (test : ℕ → Bool) (xs : List ℕ) → IsIn (filter test xs) (sets_of (length (filter test xs)) xs)
+
+-- of a list in which nothing stands twice, as many elements are left as some of its elements are not
+abbrev pub LawFreeCount : Type 0
+LawFreeCount = (some xs : List ℕ) → AllDiffer some → AllDiffer xs → ((x : ℕ) → IsIn x some → IsIn x xs) → length (without some xs) + length some ≡ length xs
+
+-- so the sets of the elements left are as many as the binomial of their number says
+abbrev pub LawFreeSetCount : Type 0
+LawFreeSetCount = (some xs : List ℕ) (r : ℕ) → AllDiffer some → AllDiffer xs → ((x : ℕ) → IsIn x some → IsIn x xs) →
+    length (sets_of r (without some xs)) ≡ choose (length xs - length some) r
+
+-- a size fits 64 bits by far
+abbrev pub LawSizeBelow : Type 0
+LawSizeBelow = (sides : Sides) (part : ℕ) (n : Nibbles) → IsMaterial sides → IsPart sides part → order_fault sides n ≡ None →
+    product (counted sides part n).ways < 2 ^ 33
+
+-- a set of a lead list has as many squares as the lead group has men, all different and on the board
+abbrev pub LawLeadSets : Type 0
+LawLeadSets = (sides : Sides) (part : ℕ) (set : List ℕ) → IsMaterial sides → IsPart sides part → IsIn set (lead_sets sides part) →
+    (length set ≡ lead_length sides) × AllDiffer set × ((square : ℕ) → IsIn square set → square < 64)

@@ -1,0 +1,123 @@
+//! The format's worked rows, by tables.
+
+use super::*;
+use std::process::Abort;
+
+fn material(rt: &impl Abort, name: &str) -> Material {
+    match Material::parse(name) {
+        Ok(material) => material,
+        Err(_) => panic!(rt; "no material: {name}"),
+    }
+}
+
+// The groups of a part: with the lead group's place, that of the other pawns, and the used men.
+fn groups(
+    rt: &impl Abort,
+    name: &str,
+    part: u8,
+    places: (u8, Option<u8>),
+    used: &[u8],
+) -> Result<Groups, OrderFault> {
+    let material = material(rt, name);
+    let parts = if material.has_pawns() { 4 } else { 1 };
+    assert!(rt; part < parts);
+    let mut men = ArrayVec::new();
+    assert!(rt; men.try_extend_from_slice(used).is_ok());
+    let (lead, other) = places;
+    Groups::of(&material, part, &Order { lead, other, men })
+}
+
+#[test]
+fn binomials(rt: HostRuntime) {
+    assert_eq!(rt; choose(48, 4), 194580);
+    assert_eq!(rt; choose(64, 6), 74974368);
+    assert_eq!(rt; choose(3, 5), 0);
+}
+
+#[test]
+fn lead_pawns_by_file(rt: HostRuntime) {
+    for (name, want) in [
+        ("KPPPvK", [5201, 2645, 953, 125]),
+        ("KPPPPvK", [70315, 25375, 5491, 295]),
+    ] {
+        let material = material(&rt, name);
+        assert!(rt; material.has_pawns());
+        for part in 0..4u8 {
+            assert_eq!(rt;
+                lead_ways(&material, part),
+                want[usize::from(part)],
+                "{name} {part}"
+            );
+        }
+    }
+}
+
+#[test]
+fn factors(rt: HostRuntime) {
+    let rows: [(&str, (u8, Option<u8>), &[u8], &[u64]); 4] = [
+        ("KBBvK", (0, None), &[6, 14, 3, 3], &[1, 462]),
+        ("KBBvK", (1, None), &[6, 14, 3, 3], &[1891, 1]),
+        ("KPvKP", (0, Some(1)), &[1, 9, 6, 14], &[1, 6, 282, 17484]),
+        (
+            "KPvKP",
+            (3, Some(0)),
+            &[1, 9, 6, 14],
+            &[177754, 1, 47, 2914],
+        ),
+    ];
+    for (name, places, men, want) in rows {
+        let Ok(groups) = groups(&rt, name, 0, places, men) else {
+            panic!(rt; "refused: {name}");
+        };
+        assert_eq!(rt; groups.count(), want.len());
+        for (i, factor) in want.iter().enumerate() {
+            assert_eq!(rt; groups.group(i).factor, *factor, "{name} {i}");
+        }
+    }
+}
+
+#[test]
+fn refusals(rt: HostRuntime) {
+    let rows: [(&str, (u8, Option<u8>), &[u8], OrderFault); 6] = [
+        ("KNvK", (0, None), &[6, 2, 6], OrderFault::Pieces),
+        ("KPvK", (0, None), &[6, 1, 14], OrderFault::PawnsFirst),
+        ("KNvK", (1, None), &[6, 2, 14], OrderFault::OrderPlace),
+        ("KPvK", (3, None), &[1, 6, 14], OrderFault::OrderPlace),
+        (
+            "KPvKP",
+            (0, Some(0)),
+            &[1, 9, 6, 14],
+            OrderFault::OrderPlace,
+        ),
+        ("KPvKP", (0, None), &[1, 9, 6, 14], OrderFault::OrderPlace),
+    ];
+    for (name, places, men, want) in rows {
+        match groups(&rt, name, 0, places, men) {
+            Ok(_) => panic!(rt; "accepted: {name}"),
+            Err(fault) => assert_eq!(rt; fault, want, "{name}"),
+        }
+    }
+}
+
+#[test]
+fn sizes(rt: HostRuntime) {
+    let rows: [(&str, u8, (u8, Option<u8>), &[u8], u64); 11] = [
+        ("KQvK", 0, (0, None), &[6, 5, 14], 31332),
+        ("KBBvK", 0, (0, None), &[6, 14, 3, 3], 873642),
+        ("KQRvK", 0, (0, None), &[6, 5, 14, 4], 1911252),
+        ("KPvK", 0, (0, None), &[1, 6, 14], 23436),
+        ("KPvK", 3, (0, None), &[1, 6, 14], 23436),
+        ("KPvKP", 2, (0, Some(1)), &[1, 9, 6, 14], 1066524),
+        ("KPPvK", 0, (0, None), &[1, 1, 6, 14], 953064),
+        ("KPPPPvK", 0, (0, None), &[1, 1, 1, 1, 6, 14], 248915100),
+        ("KPPvKPP", 0, (0, Some(1)), &[1, 1, 9, 9, 6, 14], 923302800),
+        ("KRRvKRR", 0, (0, None), &[6, 14, 4, 4, 12, 12], 1546346340),
+        ("KQRBvKN", 0, (0, None), &[6, 5, 14, 4, 3, 10], 6765832080),
+    ];
+    for (name, part, places, men, want) in rows {
+        let Ok(groups) = groups(&rt, name, part, places, men) else {
+            panic!(rt; "refused: {name}");
+        };
+        assert_eq!(rt; groups.size(), want, "{name} {part}");
+    }
+}
