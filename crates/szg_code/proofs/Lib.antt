@@ -1,0 +1,16 @@
+pub mod Numbers
+pub mod Words
+pub mod Reading
+pub mod Membership
+pub mod Spelled
+pub mod Accepting
+pub mod Rows
+pub mod Verdicts
+pub mod FirstFound
+pub mod Deciding
+pub mod ReadBack
+pub mod Windows
+pub mod BaseSteps
+pub mod ByteBits
+pub mod Fronts
+pub mod Buffers

@@ -1,0 +1,44 @@
+use Rattle.std.proofs.Common.{ℕ, Bool, ◌≡◌, ◌+◌, ◌-◌, ◌*◌, ◌/◌, ◌%◌, ◌^◌, ◌<◌, ◌≤◌, List, ◌++◌, length, get_or, take, sym, ap, ◌∙◌, subst, arith}
+use Rattle.std.specs.Prelude.{bit_or}
+use Rattle.szg_code.specs.Bits.{bits, bits_of_number}
+use Rattle.szg_code.specs.Buffer.{HoldsBits}
+use Rattle.szg_code.proofs.Buffers.{HoldsBits-word, joined-or}
+use Rattle.szg_code.proofs.ByteBits.{length-taken}
+use Rattle.szg_code.proofs.writer.BitBuf.append.Goals as goal
+
+pub overflow_add-self : goal.overflow_add-self
+overflow_add-self c =
+    let bytes : List ℕ = c.self.inside.bytes.items in
+    let whole : length bytes ≡ (c.self.inside.count + 7) / 8 = c.self.invariant.whole in
+    let n : length (take c.self.inside.count (bits bytes)) ≡ c.self.inside.count = length-taken c.self.inside.count bytes (omega arith) in
+    let room : length (take c.self.inside.count (bits bytes)) < 2 ^ 62 = subst (λ (u : List Bool). length u < 2 ^ 62) (sym c.self.view_is) c.requires.room in
+    omega arith
+
+-- what the new bytes hold
+abbrev After : goal.After-self-1 → Type 0
+After c = (take (c.self.inside.count + c.from-length.result) (bits c.put_bytes.new.bytes.items) ≡ take c.self.inside.count (bits c.self.inside.bytes.items) ++ bits_of_number c.from-length.result c.from.result)
+    × HoldsBits c.put_bytes.new.bytes.items (c.self.inside.count + c.from-length.result)
+
+after : (c : goal.After-self-1) → After c
+after c =
+    let bytes : List ℕ = c.self.inside.bytes.items in
+    let count : ℕ = c.self.inside.count in
+    let v : ℕ = c.from.result in
+    let l : ℕ = c.from-length.result in
+    let b : ℕ = c.from-begun.result in
+    let joined : ℕ = bit_or (b * 72057594037927936 % 18446744073709551616) (v * 2 ^ (64 - count % 8 - l) % 18446744073709551616) in
+    let at : b ≡ get_or bytes (count / 8) 0 = c.from-begun.ensures ∙ c.byte_or_zero.ensures ∙ ap (λ (xs : List ℕ). get_or xs (count / 8) 0) c.deref.ensures.value in
+    let short : l ≤ 32 = omega (arith, c.from-length.ensures, c.requires.short) in
+    let small : v < 2 ^ l = rw (c.from.ensures, c.from-length.ensures) c.requires.spelled in
+    let byte : b < 256 = omega (arith, c.from-begun.ensures, c.byte_or_zero.type_inv) in
+    let is = joined-or bytes count l v b c.self.invariant at byte short small in
+    let made = c.in_ok-put_bytes.ensures.ok ∙ ap (λ (xs : List ℕ). take (count / 8) bytes ++ take ((count % 8 + l + 7) / 8) xs) c.to_be_bytes.ensures in
+    HoldsBits-word bytes c.put_bytes.new.bytes.items count l v b joined c.self.invariant at short small is made
+
+pub invariant_of-self-2 : goal.invariant_of-self-2
+invariant_of-self-2 c = (after c).1
+
+pub returns-clause-ok : goal.returns-clause-ok
+returns-clause-ok c =
+    (after c).0 ∙ ap (λ (u : List Bool). u ++ bits_of_number c.from-length.result c.from.result) c.self.view_is
+    ∙ ap (λ (n : ℕ). c.args.self.now ++ bits_of_number n c.from.result) c.from-length.ensures ∙ ap (λ (n : ℕ). c.args.self.now ++ bits_of_number c.args.word.length n) c.from.ensures

@@ -1,0 +1,21 @@
+use Rattle.std.proofs.Common.{ℕ, false, ◌≡◌, ◌*◌, ◌+◌, ◌-◌, ◌/◌, List, ◌++◌, length, take, replicate, arith}
+use Rattle.szg_code.specs.Bits.{bits}
+use Rattle.szg_code.proofs.ByteBits.{length-taken}
+use Rattle.szg_code.proofs.writer.BitBuf.bytes.Goals as goal
+
+pub returns-clause-whole : goal.returns-clause-whole
+returns-clause-whole c =
+    let bytes : List ℕ = c.self.inside.bytes.items in
+    let count : ℕ = c.self.inside.count in
+    let whole : length bytes ≡ (count + 7) / 8 = c.self.invariant.whole in
+    let n : length (take count (bits bytes)) ≡ count = length-taken count bytes (omega arith) in
+    rw (← c.self.view_is, c.deref.ensures.value) (omega arith)
+
+pub returns-clause-filled : goal.returns-clause-filled
+returns-clause-filled c =
+    let bytes : List ℕ = c.self.inside.bytes.items in
+    let count : ℕ = c.self.inside.count in
+    let whole : length bytes ≡ (count + 7) / 8 = c.self.invariant.whole in
+    let n : length (take count (bits bytes)) ≡ count = length-taken count bytes (omega arith) in
+    let filled : bits bytes ≡ take count (bits bytes) ++ replicate (8 * length bytes - count) false = c.self.invariant.filled in
+    rw (← c.self.view_is, c.deref.ensures.value, n) filled

@@ -1,0 +1,32 @@
+-- How a reader finds the word that begins the bits: by the least length at which their number reaches the base.
+use Rattle.std.specs.Prelude.{ℕ, Bool, ◌≡◌, ◌+◌, ◌-◌, ◌*◌, ◌^◌, ◌<◌, ◌≤◌, List, length, take, slice_index}
+use Rattle.szg_code.specs.Bits.{number}
+use Rattle.szg_code.specs.Canonical.{CanonicalCode, base, symbol_at}
+
+-- l is the least length at which the number of the first l bits is not below the base of l
+pub record IsLeastLength (code : CanonicalCode) (bits : List Bool) (l : ℕ) : Type 0 where
+  pub long_enough : code.min_length ≤ l
+  pub short_enough : l ≤ code.max_length
+  pub inside : l ≤ length bits
+  pub reaches : base code l ≤ number (take l bits)
+  pub before : (k : ℕ) → code.min_length ≤ k → k < l → number (take k bits) < base code k
+
+-- at no length does the number of the first bits reach the base
+abbrev pub ReachesNoBase : CanonicalCode → List Bool → Type 0
+ReachesNoBase code bits = (k : ℕ) → code.min_length ≤ k → k ≤ code.max_length → k ≤ length bits → number (take k bits) < base code k
+
+-- the symbol of the first l bits
+unfoldable pub symbol_of_front : CanonicalCode → List Bool → ℕ → ℕ
+symbol_of_front code bits l = symbol_at code l (number (take l bits))
+
+-- the base of a length at the top of a window of so many bits
+unfoldable pub shifted_base : CanonicalCode → ℕ → ℕ → ℕ
+shifted_base code window l = base code l * 2 ^ (window - l)
+
+-- the list has the base of each length from the least on
+abbrev pub HasBases : CanonicalCode → List ℕ → Type 0
+HasBases code bases = (j : ℕ) → j < length code.lowest → slice_index bases j ≡ base code (code.min_length + j)
+
+-- the list has the same bases, each at the top of a window of 64 bits
+abbrev pub HasShiftedBases : CanonicalCode → List ℕ → Type 0
+HasShiftedBases code bases = (j : ℕ) → j < length code.lowest → slice_index bases j ≡ shifted_base code 64 (code.min_length + j)

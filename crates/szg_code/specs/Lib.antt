@@ -1,0 +1,11 @@
+pub mod Bits
+pub mod Canonical
+pub mod Spelling
+pub mod Acceptance
+pub mod Cursor
+pub mod Least
+pub mod Laws
+pub mod FirstFault
+pub mod CodeHead
+pub mod Buffer
+pub mod Window

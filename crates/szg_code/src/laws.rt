@@ -1,0 +1,37 @@
+// Laws over the definitions.
+ghost use Rattle.szg_code.specs.Laws.{NoWordBeginsAnother, OneFaultAtMost, OneListSpelled, OneWordAtMost, WordsAreListed, WrittenIsRead, WrittenListIsSpelled};
+
+/// No word of a code begins another.
+pub fn no_word_begins_another()
+    ensures { NoWordBeginsAnother }
+{}
+
+/// An accepted code has no fault, and any other has one at most: the answer of `Code::new` is determined.
+pub fn one_fault_at_most()
+    ensures { OneFaultAtMost }
+{}
+
+/// A symbol has one word at most.
+pub fn one_word_at_most()
+    ensures { OneWordAtMost }
+{}
+
+/// The finite list of words has the words, and nothing else.
+pub fn words_are_listed()
+    ensures { WordsAreListed }
+{}
+
+/// Bits spell one list of symbols only, as far as they are read.
+pub fn one_list_spelled()
+    ensures { OneListSpelled }
+{}
+
+/// A word that was written is read back, whatever follows it.
+pub fn written_is_read()
+    ensures { WrittenIsRead }
+{}
+
+/// The words of symbols, written one behind another, spell those symbols, whatever follows them.
+pub fn written_list_is_spelled()
+    ensures { WrittenListIsSpelled }
+{}
