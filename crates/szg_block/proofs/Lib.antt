@@ -1,0 +1,12 @@
+pub mod Rows
+pub mod Values
+pub mod Spelling
+pub mod Joined
+pub mod Powers
+pub mod Parts
+pub mod Reading
+pub mod Keeping
+pub mod Lookup
+pub mod Checking
+pub mod Pieces
+pub mod Deciding

@@ -1,0 +1,13 @@
+pub mod Layout
+pub mod Block
+pub mod Spelled
+pub mod Expansion
+pub mod Sound
+pub mod Steps
+pub mod Subtable
+pub mod Parts
+pub mod Starts
+pub mod Lending
+pub mod Shown
+pub mod Laws
+pub mod FirstFault

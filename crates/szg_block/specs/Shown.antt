@@ -1,0 +1,26 @@
+-- What a sound subtable shows: the subtable, its size, the value that a constant one stands for, the blocks that it
+-- reads, one behind another, and how often their source failed.
+use Rattle.std.specs.Prelude.{ℕ, ◌≡◌, ◌<◌, ◌^◌, List, length, IfSome}
+use Rattle.szg_code.specs.Acceptance.{IsCode}
+use Rattle.szg_block.specs.Lending.{packed_blocks}
+use Rattle.szg_block.specs.declared.Sub.{Sub}
+use Rattle.szg_block.specs.Subtable.{layout_of, IsShapedHead, IsSoundOver, values_over}
+
+pub record Shown : Type 0 where
+  pub sub : Sub
+  pub size : ℕ
+  pub constant : ℕ
+  pub packed : List ℕ
+  pub failures : ℕ
+
+-- a sound subtable over the blocks that it reads: so many blocks, which are whole
+pub record IsReady (sub : Sub) (size : ℕ) (count : ℕ) (bytes : ℕ → List ℕ) : Type 0 where
+  pub head : IsShapedHead sub size
+  pub code : IfSome (layout_of sub) (λ layout. IsCode layout.code)
+  pub all : IfSome (layout_of sub) (λ layout. count ≡ layout.blocks)
+  pub whole : IfSome (layout_of sub) (λ layout. (k : ℕ) → k < layout.blocks → length (bytes k) ≡ 2 ^ layout.block_bits)
+  pub sound : IsSoundOver sub (packed_blocks bytes count) size
+
+-- its values
+abbrev pub values_shown : Shown → List ℕ
+values_shown shown = values_over shown.sub shown.packed shown.size shown.constant

@@ -1,0 +1,273 @@
+//! Subtables of a Syzygy table: their shape, the check that tells the sound ones, and the values that a sound one has.
+//!
+//! A subtable is a constant, or blocks of packed words with a sparse index and lengths, as in de Man's format.
+#![tactic(auto)]
+
+ghost use Rattle.std.specs.Prelude.{◌≡◌, ◌<◌, ◌≤◌, ◌↔◌, ◌^◌, ◌/◌, ◌%◌, IsTrue, IfErr, IfNone, IfSome, IsSomeAnd, OnOk, length};
+ghost use Rattle.szg_block.specs.Block.{start};
+ghost use Rattle.szg_block.specs.Sound.{SpellsNeeded, entry_count as entry_count_of};
+ghost use Rattle.szg_block.specs.Subtable.{layout_of, packed_of, IsShaped, IsShapedHead, IsSoundOver, HasSoundIndex, IsFaultOf, IsIndexFault};
+
+pub use expanding::Sound;
+use lengths::{needed_from, total};
+pub use lent::{Blocks, SourceFault, Whole};
+use packed::first_bad_block;
+use sparse::first_bad_entry;
+use szg_code::Code;
+use szg_pairs::Dict;
+use words::spells;
+
+mod expanding;
+pub mod laws;
+mod lengths;
+mod lent;
+mod packed;
+mod sparse;
+mod words;
+
+/// An entry of the sparse index.
+#[derive(Clone, Copy)]
+pub struct Entry {
+    /// The number of a block; the number of all lengths stands for the end behind the last.
+    pub block: u32,
+    /// A number of values, counted from where that block starts.
+    pub offset: u16,
+}
+
+/// A subtable.
+#[derive(Drop)]
+pub enum Sub {
+    /// One value at each index.
+    Constant {
+        /// The flags byte; its highest bit is set.
+        flags: u8,
+        /// The byte behind it.
+        byte: u8,
+    },
+    /// Blocks of words, each word the code of a symbol that expands to values.
+    Pairs {
+        /// The flags byte; its highest bit is not set.
+        flags: u8,
+        /// A block has 2 to this power bytes, 0 to 18.
+        block_bits: u8,
+        /// An entry of the sparse index serves 2 to this power values, 1 to 31.
+        span_bits: u8,
+        /// The number of lengths behind those of the blocks.
+        extra: u8,
+        /// The number of blocks.
+        blocks: u32,
+        /// The words of the symbols.
+        code: Code,
+        /// The values of the symbols.
+        dict: Dict,
+        /// For each span that the values begin, a place near its middle.
+        sparse: Vec<Entry>,
+        /// For each block, and each extra length, its number of values less one.
+        lengths: Vec<u16>,
+        /// The blocks, one behind another.
+        packed: Vec<u8>,
+    },
+}
+
+/// Why a subtable isn't sound.
+#[derive(Debug, Clone, Copy, PartialEq, Eq)]
+pub enum SubFault {
+    /// The lengths of the blocks, without the extra ones, tell of fewer values than the subtable has.
+    ShortTotal,
+    /// The first entry of the sparse index that doesn't lead to the middle of its span.
+    SparseEntry(u64),
+    /// The first block whose own bits don't spell the values that it needs.
+    Word(u32),
+}
+
+/// The highest bit of a flags byte: set in a constant subtable and no other.
+const CONSTANT: u8 = 128;
+
+/// The most bits of a block's number of bytes.
+const MAX_BLOCK_BITS: u8 = 18;
+
+/// The most bits of a span's number of values.
+const MAX_SPAN_BITS: u8 = 31;
+
+/// Whether a flags byte is that of a constant subtable.
+fn is_constant(flags: u8) -> bool
+    ensures { IsTrue result ↔ (flags / 128 % 2 ≡ 1) }
+{
+    flags >= CONSTANT
+}
+
+/// Whether the bits of blocks and of spans are in their ranges.
+fn bits_fit(block_bits: u8, span_bits: u8) -> bool
+    ensures { IsTrue result ↔ ((block_bits ≤ 18) × (1 ≤ span_bits) × (span_bits ≤ 31)) }
+{
+    block_bits <= MAX_BLOCK_BITS && (1..=MAX_SPAN_BITS).contains(&span_bits)
+}
+
+/// The number of entries that a sparse index has: one for each span begun.
+fn entry_count(size: u64, span_bits: u8) -> u64
+    requires { span_bits ≤ 31 }
+    ensures { result ≡ entry_count_of span_bits size }
+{
+    size.div_ceil(1 << span_bits)
+}
+
+/// Whether flag, numbers and lists of a subtable of `size` values fit one another, whatever they say of the blocks.
+///
+/// It is the same as `shaped` without the bytes of the blocks.
+pub fn shaped_head(sub: &Sub, size: u64) -> bool
+    ensures { IsTrue result ↔ IsShapedHead sub.now size }
+{
+    match sub {
+        Sub::Constant { flags, .. } => is_constant(*flags),
+        Sub::Pairs {
+            flags,
+            block_bits,
+            span_bits,
+            extra,
+            blocks,
+            code,
+            dict,
+            sparse,
+            lengths,
+            ..
+        } => {
+            !is_constant(*flags)
+                && bits_fit(*block_bits, *span_bits)
+                && code.symbols() == dict.symbols()
+                && sparse.len() as u64 == entry_count(size, *span_bits)
+                && lengths.len() == *blocks as usize + usize::from(*extra)
+        }
+    }
+}
+
+/// Whether flag, numbers and lists of a subtable of `size` values fit one another, whatever they say.
+///
+/// The flags byte has its highest bit set exactly in a constant subtable. Else block bits are at most 18, span bits
+/// 1 to 31, the code has as many symbols as the dictionary, the sparse index has an entry for each span that the
+/// values begin, there is a length for each block and each extra one, and the blocks stand whole.
+pub fn shaped(sub: &Sub, size: u64) -> bool
+    ensures { IsTrue result ↔ IsShaped sub.now size }
+{
+    shaped_head(sub, size)
+        && match sub {
+            Sub::Constant { .. } => true,
+            Sub::Pairs {
+                block_bits,
+                blocks,
+                packed,
+                ..
+            } => packed.len() == (*blocks as usize) << *block_bits,
+        }
+}
+
+/// Checks the lengths and the sparse index of a subtable of `size` values, whatever its blocks hold.
+///
+/// `ShortTotal` comes where the lengths of the blocks, without extra ones, tell of fewer values than `size`. Else
+/// `SparseEntry(k)` tells the first entry that isn't good: its block is past all lengths, or its offset doesn't lead
+/// from that block's start to the middle of span k.
+pub fn check_index(sub: &Sub, size: u64) -> Result<(), SubFault>
+    requires { IsShapedHead sub.now size }
+    ensures ok { OnOk result (HasSoundIndex sub.now size) }
+    ensures fault { IfErr result (λ fault. IsIndexFault fault × IsFaultOf (layout_of sub.now) (packed_of sub.now) size fault) }
+{
+    let Sub::Pairs {
+        span_bits,
+        extra,
+        blocks,
+        sparse,
+        lengths,
+        ..
+    } = sub
+    else {
+        return Ok(());
+    };
+    prove_eq!(lengths.len(), *blocks as usize + usize::from(*extra));
+    if total(&lengths[..*blocks as usize]) < size {
+        return Err(SubFault::ShortTotal);
+    }
+    match first_bad_entry(sparse, lengths, *span_bits) {
+        Some(k) => Err(SubFault::SparseEntry(k)),
+        None => Ok(()),
+    }
+}
+
+/// Checks that the words of block `n`, whose bytes are `block`, spell the values that it needs of `size`.
+///
+/// `Word(n)` comes where its own bits don't. It adds the lengths before the block.
+pub fn check_block(sub: &Sub, size: u64, n: u32, block: &[u8]) -> Result<(), SubFault>
+    requires head { IsShapedHead sub.now size }
+    requires there { IsSomeAnd (layout_of sub.now) (λ layout. n < layout.blocks) }
+    requires whole { IsSomeAnd (layout_of sub.now) (λ layout. length block.now ≡ 2 ^ layout.block_bits) }
+    ensures ok { OnOk result (IsSomeAnd (layout_of sub.now) (λ layout. SpellsNeeded layout size n block.now)) }
+    ensures fault { IfErr result (λ fault. (fault ≡ SubFault.Word n) × IsSomeAnd (layout_of sub.now) (λ layout. ¬ SpellsNeeded layout size n block.now)) }
+{
+    let Sub::Pairs { lengths, .. } = sub else {
+        unreachable!()
+    };
+    let before = total(&lengths[..n as usize]);
+    check_block_from(sub, size, n, before, block)
+}
+
+/// The same as `check_block`, for a reader that carries its sum from block to block: `before` values come before block `n`.
+pub fn check_block_from(
+    sub: &Sub,
+    size: u64,
+    n: u32,
+    before: u64,
+    block: &[u8],
+) -> Result<(), SubFault>
+    requires head { IsShapedHead sub.now size }
+    requires there { IsSomeAnd (layout_of sub.now) (λ layout. n < layout.blocks) }
+    requires before { IsSomeAnd (layout_of sub.now) (λ layout. before ≡ start layout.lengths n) }
+    requires whole { IsSomeAnd (layout_of sub.now) (λ layout. length block.now ≡ 2 ^ layout.block_bits) }
+    ensures ok { OnOk result (IsSomeAnd (layout_of sub.now) (λ layout. SpellsNeeded layout size n block.now)) }
+    ensures fault { IfErr result (λ fault. (fault ≡ SubFault.Word n) × IsSomeAnd (layout_of sub.now) (λ layout. ¬ SpellsNeeded layout size n block.now)) }
+{
+    let Sub::Pairs {
+        code,
+        dict,
+        lengths,
+        ..
+    } = sub
+    else {
+        unreachable!()
+    };
+    prove_eq!(code.symbols(), dict.symbols());
+    let needed = needed_from(lengths[n as usize], size, before);
+    if spells(code, dict, block, needed) {
+        Ok(())
+    } else {
+        Err(SubFault::Word(n))
+    }
+}
+
+/// Checks a subtable of `size` values: it passes exactly the sound ones.
+///
+/// The faults come as in `check_index`, and then as in `check_block` for each block in order.
+pub fn check(sub: &Sub, size: u64) -> Result<(), SubFault>
+    requires { IsShaped sub.now size }
+    ensures ok { OnOk result (IsSoundOver sub.now (packed_of sub.now) size) }
+    ensures fault { IfErr result (λ fault. IsFaultOf (layout_of sub.now) (packed_of sub.now) size fault) }
+{
+    check_index(sub, size)?;
+    let Sub::Pairs {
+        block_bits,
+        blocks,
+        code,
+        dict,
+        lengths,
+        packed,
+        ..
+    } = sub
+    else {
+        return Ok(());
+    };
+    prove_eq!(code.symbols(), dict.symbols());
+    match first_bad_block(code, dict, lengths, size, packed, *block_bits, *blocks) {
+        Some(n) => Err(SubFault::Word(n)),
+        None => Ok(()),
+    }
+}
+
+#[cfg(test)]
+mod tests;

@@ -1,0 +1,210 @@
+-- Readers of heads: what a reading says of other values, how many items a field of rows has, and the checks of codes and dictionaries.
+use Rattle.std.proofs.Common.{◌≡◌, ℕ, zero, suc, ◌+◌, ◌*◌, List, [], length, map, take, drop, refl, sym, ap, subst, ◌∙◌, arith, inl, inr, Option, Some, None, Ok, Err}
+use Rattle.std.specs.Prelude.{Result}
+use Rattle.std.proofs.lemmas.Bool.{cases_lt}
+use Rattle.std.proofs.lemmas.List.{length-map}
+use Rattle.szg_code.specs.Canonical.{CanonicalCode}
+use Rattle.szg_code.specs.Acceptance.{HasLengths, IsCode, IsCodeFault}
+use Rattle.szg_code.specs.FirstFault.{first_rise, first_overfull}
+use Rattle.szg_code.specs.declared.CodeFault.{CodeFault}
+use Rattle.szg_code.specs.declared.CodeFault.TheVariants.{LowestOrder, TooFull}
+use Rattle.szg_code.proofs.Deciding.{rise_is_fault, overfull_is_fault, code_stands}
+use Rattle.szg_code.proofs.Accepting as codes
+use Rattle.szg_pairs.specs.Dictionary.{IsDictionary, IsDictionaryFault}
+use Rattle.szg_pairs.specs.FirstFault.{first_child, first_cycle, first_long}
+use Rattle.szg_pairs.specs.declared.DictFault.{DictFault}
+use Rattle.szg_pairs.specs.declared.DictFault.TheVariants as dict
+use Rattle.szg_pairs.proofs.Deciding.{first_child-None, first_child-Some, first_cycle-None, first_cycle-Some, first_long-None, first_long-Some}
+use Rattle.szg_pairs.proofs.Accepting as dictionaries
+use Rattle.std.specs.Io.KnownBytes.{Consumes}
+use Rattle.szg_file.specs.declared.front.Front.{Front}
+use Rattle.szg_file.specs.declared.fault.Reason.TheVariants as reason
+use Rattle.szg_file.specs.declared.fault.ReadFault.{ReadFault}
+use Rattle.szg_file.specs.declared.fault.ReadFault.TheVariants.{Refused, Device, Memory}
+use Rattle.szg_file.specs.Format.{Format, means, good, truncated, verdict, ◌>>◌}
+use Rattle.szg_file.specs.Contents.{items, number_of}
+use Rattle.szg_file.specs.File.{rows_field, none_fails, lowest_check, entries_check}
+use Rattle.szg_file.specs.Held.{numbers_field}
+use Rattle.szg_file.specs.HeadPieces.{Refuses, lowest_refusal, entries_refusal}
+use Rattle.szg_file.specs.Reading.{Reading}
+use Rattle.szg_file.proofs.FormatLaws.{field-short, field-whole}
+
+-- ---- readings
+
+nothing_gone : (known : Option (List ℕ)) → Consumes known known []
+nothing_gone None = tt
+nothing_gone (Some bytes) = refl
+
+-- Where memory runs out, no byte has to be taken.
+pub reads_no_memory : {A X R : Type 0} (f : Format A) (view : X → A) {o n : Front}
+    {coming : R → Option (List ℕ)} {calls moved failures interrupted : R → ℕ} {i : R} →
+    Reading f view o n coming calls moved failures interrupted i i (Err Memory)
+reads_no_memory f view {coming = coming} {i = i} = record {
+  bytes = [];
+  taken = record { bytes_gone = nothing_gone (coming i); bytes_moved = omega arith; calls_made = omega arith };
+  answer = refl;
+}
+
+-- What is made of the value that was read, and what is counted then, changes nothing of the reading.
+pub reads_made : {A X Y R : Type 0} (f : Format A) (view : X → A) (view' : Y → A) (v : X) (w : Y) {o m n : Front}
+    {coming : R → Option (List ℕ)} {calls moved failures interrupted : R → ℕ} {i j : R} →
+    view v ≡ view' w → n.place ≡ m.place → n.fill.items ≡ m.fill.items →
+    Reading f view o m coming calls moved failures interrupted i j (Ok v) →
+    Reading f view' o n coming calls moved failures interrupted i j (Ok w)
+reads_made {A = A} f view view' v w {o = o} same place fill h = record {
+  bytes = h.bytes;
+  taken = h.taken;
+  answer = (
+    record {
+      fits = h.answer.0.fits;
+      filled = h.answer.0.filled;
+      whole = h.answer.0.whole ∙ ap (λ (a : A). good a h.answer.0.filled []) same;
+      place = place ∙ h.answer.0.place;
+      fill = fill ∙ h.answer.0.fill;
+    },
+    h.answer.1,
+  );
+}
+
+-- A fault is the same, whatever was to be made.
+pub reads_failed : {A X Y R : Type 0} (f : Format A) (view : X → A) (view' : Y → A) {o m n : Front}
+    {coming : R → Option (List ℕ)} {calls moved failures interrupted : R → ℕ} {i j : R} (fault : ReadFault) →
+    Reading f view o m coming calls moved failures interrupted i j (Err fault) →
+    Reading f view' o n coming calls moved failures interrupted i j (Err fault)
+reads_failed f view view' (Refused place why) h = record { bytes = h.bytes; taken = h.taken; answer = h.answer }
+reads_failed f view view' Device h = record { bytes = h.bytes; taken = h.taken; answer = h.answer }
+reads_failed f view view' Memory h = record { bytes = h.bytes; taken = h.taken; answer = h.answer }
+
+-- ---- rows
+
+length-items : (size count : ℕ) (bytes : List ℕ) → length (items size count bytes) ≡ count
+length-items size zero bytes = refl
+length-items size (suc count) bytes = ap suc (length-items size count (drop size bytes))
+
+-- a field of rows has as many as it is asked for
+pub rows-count : (size count place : ℕ) (bytes : List ℕ) (rows : List (List ℕ)) (filled rest : List ℕ) →
+    verdict (rows_field size count) place bytes ≡ good rows filled rest → length rows ≡ count
+rows-count size count place bytes rows filled rest e =
+    elim (cases_lt (length bytes) (size * count)) [
+      | inl short ↦ let no : truncated (place + length bytes) ≡ good rows filled rest = sym (field-short (size * count) (λ b. means (items size count b)) place bytes short) ∙ e in absurd cc
+      | inr whole ↦
+          let same : good (items size count (take (size * count) bytes)) [] (drop (size * count) bytes) ≡ good rows filled rest = sym (field-whole (size * count) (λ b. means (items size count b)) place bytes whole) ∙ e in
+          let these : items size count (take (size * count) bytes) ≡ rows = cc in
+          ap length (sym these) ∙ length-items size count (take (size * count) bytes)
+    ]
+
+pub numbers-count : (count place : ℕ) (bytes list filled rest : List ℕ) →
+    verdict (numbers_field count) place bytes ≡ good list filled rest → length list ≡ count
+numbers-count count place bytes list filled rest e =
+    elim (cases_lt (length bytes) (2 * count)) [
+      | inl short ↦ let no : truncated (place + length bytes) ≡ good list filled rest = sym (field-short (2 * count) (λ b. means (map number_of (items 2 count b))) place bytes short) ∙ e in absurd cc
+      | inr whole ↦
+          let same : good (map number_of (items 2 count (take (2 * count) bytes))) [] (drop (2 * count) bytes) ≡ good list filled rest = sym (field-whole (2 * count) (λ b. means (map number_of (items 2 count b))) place bytes whole) ∙ e in
+          let these : map number_of (items 2 count (take (2 * count) bytes)) ≡ list = cc in
+          ap length (sym these) ∙ length-map (items 2 count (take (2 * count) bytes)) number_of ∙ length-items 2 count (take (2 * count) bytes)
+    ]
+
+-- ---- codes
+
+lowest_cases : (place : ℕ) (code : CanonicalCode) → HasLengths code → (fault : CodeFault) → IsCodeFault code fault →
+    (rise overfull : Option ℕ) → first_rise code ≡ rise → first_overfull code ≡ overfull → lowest_check place code ≡ lowest_refusal place fault
+lowest_cases place code lengths fault wrong (Some item) overfull e h =
+    ap (λ (o : Option ℕ). none_fails o (λ item. place + 2 * item) reason.LowestOrder >> none_fails (first_overfull code) (λ item. place + 2 * item) reason.TooFull) e
+    ∙ ap (lowest_refusal place) (codes.one_fault_at_most code (LowestOrder item) fault (rise_is_fault code item lengths e) wrong)
+lowest_cases place code lengths fault wrong None (Some item) e h =
+    ap (λ (o : Option ℕ). none_fails o (λ item. place + 2 * item) reason.LowestOrder >> none_fails (first_overfull code) (λ item. place + 2 * item) reason.TooFull) e
+    ∙ ap (λ (o : Option ℕ). none_fails o (λ item. place + 2 * item) reason.TooFull) h
+    ∙ ap (lowest_refusal place) (codes.one_fault_at_most code (TooFull item) fault (overfull_is_fault code item lengths e h) wrong)
+lowest_cases place code lengths fault wrong None None e h = absurd (codes.accepted_has_no_fault code (code_stands code lengths e h) fault wrong)
+
+pub lowest_refused : (place : ℕ) (code : CanonicalCode) → HasLengths code → (fault : CodeFault) → IsCodeFault code fault → lowest_check place code ≡ lowest_refusal place fault
+lowest_refused place code lengths fault wrong = lowest_cases place code lengths fault wrong (first_rise code) (first_overfull code) refl refl
+
+lowest_none : (place : ℕ) (code : CanonicalCode) → IsCode code → (rise overfull : Option ℕ) → first_rise code ≡ rise → first_overfull code ≡ overfull → lowest_check place code ≡ means tt
+lowest_none place code stands (Some item) overfull e h = absurd (codes.accepted_has_no_fault code stands (LowestOrder item) (rise_is_fault code item stands.lengths e))
+lowest_none place code stands None (Some item) e h = absurd (codes.accepted_has_no_fault code stands (TooFull item) (overfull_is_fault code item stands.lengths e h))
+lowest_none place code stands None None e h =
+    ap (λ (o : Option ℕ). none_fails o (λ item. place + 2 * item) reason.LowestOrder >> none_fails (first_overfull code) (λ item. place + 2 * item) reason.TooFull) e
+    ∙ ap (λ (o : Option ℕ). none_fails o (λ item. place + 2 * item) reason.TooFull) h
+
+pub lowest_passes : (place : ℕ) (code : CanonicalCode) → IsCode code → lowest_check place code ≡ means tt
+lowest_passes place code stands = lowest_none place code stands (first_rise code) (first_overfull code) refl refl
+
+-- ---- dictionaries
+
+abbrev checks_from : ℕ → Option ℕ → Option ℕ → Option ℕ → Format (Unit {0})
+checks_from place child cycle long =
+    none_fails child (λ symbol. place + 3 * symbol) reason.Child
+    >> (none_fails cycle (λ symbol. place + 3 * symbol) reason.Cycle >> none_fails long (λ symbol. place + 3 * symbol) reason.LongSymbol)
+
+-- the first fault of a list of entries, where it has one
+abbrev fault_of : Option ℕ → Option ℕ → Option ℕ → Option DictFault
+fault_of (Some symbol) cycle long = Some (dict.Child symbol)
+fault_of None (Some symbol) long = Some (dict.Cycle symbol)
+fault_of None None (Some symbol) = Some (dict.LongSymbol symbol)
+fault_of None None None = None
+
+-- what it is to have a fault, or none
+abbrev IsVerdict : List (List ℕ) → Option DictFault → Type 0
+IsVerdict entries None = IsDictionary entries
+IsVerdict entries (Some fault) = IsDictionaryFault entries fault × (fault ≡ dict.Memory → ⊥)
+
+decided : (entries : List (List ℕ)) (child cycle long : Option ℕ) → first_child entries ≡ child → first_cycle entries ≡ cycle → first_long entries ≡ long →
+    IsVerdict entries (fault_of child cycle long)
+decided entries (Some symbol) cycle long e h k = (first_child-Some entries symbol e, λ no. absurd cc)
+decided entries None (Some symbol) long e h k = ((first_child-None entries e, first_cycle-Some entries symbol h), λ no. absurd cc)
+decided entries None None (Some symbol) e h k = ((first_cycle-None entries h, first_long-Some entries symbol h k), λ no. absurd cc)
+decided entries None None None e h k = first_long-None entries h k
+
+-- the checks are what the first fault says
+abbrev verdict_of : ℕ → Option DictFault → Format (Unit {0})
+verdict_of place None = means tt
+verdict_of place (Some fault) = entries_refusal place fault
+
+checks_as : (place : ℕ) (child cycle long : Option ℕ) → checks_from place child cycle long ≡ verdict_of place (fault_of child cycle long)
+checks_as place (Some symbol) cycle long = refl
+checks_as place None (Some symbol) long = refl
+checks_as place None None (Some symbol) = refl
+checks_as place None None None = refl
+
+entries_none : (place : ℕ) (entries : List (List ℕ)) → IsDictionary entries → (found : Option DictFault) → IsVerdict entries found → verdict_of place found ≡ means tt
+entries_none place entries stands None h = refl
+entries_none place entries stands (Some fault) h = absurd (h.1 (dictionaries.accepted_has_no_fault entries stands fault h.0))
+
+pub entries_pass : (place : ℕ) (entries : List (List ℕ)) → IsDictionary entries → entries_check place entries ≡ means tt
+entries_pass place entries stands =
+    checks_as place (first_child entries) (first_cycle entries) (first_long entries)
+    ∙ entries_none place entries stands (fault_of (first_child entries) (first_cycle entries) (first_long entries))
+    (decided entries (first_child entries) (first_cycle entries) (first_long entries) refl refl refl)
+
+entries_same : (place : ℕ) (entries : List (List ℕ)) (fault : DictFault) → IsDictionaryFault entries fault → (fault ≡ dict.Memory → ⊥) →
+    (found : Option DictFault) → IsVerdict entries found → verdict_of place found ≡ entries_refusal place fault
+entries_same place entries fault wrong there None h = absurd (there (dictionaries.accepted_has_no_fault entries h fault wrong))
+entries_same place entries fault wrong there (Some first) h =
+    elim (dictionaries.one_fault_at_most entries first fault h.0 wrong) [
+      | inl none ↦ absurd (h.1 none)
+      | inr o ↦ elim o [ inl none ↦ absurd (there none) | inr same ↦ ap (entries_refusal place) same ]
+    ]
+
+pub entries_refused : (place : ℕ) (entries : List (List ℕ)) (fault : DictFault) → IsDictionaryFault entries fault → (fault ≡ dict.Memory → ⊥) →
+    entries_check place entries ≡ entries_refusal place fault
+entries_refused place entries fault wrong there =
+    checks_as place (first_child entries) (first_cycle entries) (first_long entries)
+    ∙ entries_same place entries fault wrong there (fault_of (first_child entries) (first_cycle entries) (first_long entries))
+    (decided entries (first_child entries) (first_cycle entries) (first_long entries) refl refl refl)
+
+-- what is told of a dictionary's fault is what its checks say
+pub entries_told : (place : ℕ) (entries : List (List ℕ)) (fault : DictFault) (r : ReadFault) → IsDictionaryFault entries fault →
+    ((fault ≡ dict.Memory → ⊥) → Refuses (entries_refusal place fault) r) → (fault ≡ dict.Memory → r ≡ Memory) → (r ≡ Memory → ⊥) → Refuses (entries_check place entries) r
+entries_told place entries fault r wrong told lacks there =
+    let full : fault ≡ dict.Memory → ⊥ = λ e. there (lacks e) in
+    subst (λ (f : Format (Unit {0})). Refuses f r) (sym (entries_refused place entries fault wrong full)) (told full)
+
+-- what is told of a fault of lowest symbols is what their checks say
+pub lowest_told : (place : ℕ) (code : CanonicalCode) (fault : CodeFault) (r : ReadFault) → HasLengths code → IsCodeFault code fault →
+    Refuses (lowest_refusal place fault) r → Refuses (lowest_check place code) r
+lowest_told place code fault r lengths wrong told = subst (λ (f : Format (Unit {0})). Refuses f r) (sym (lowest_refused place code lengths fault wrong)) told
+
+-- what says that memory ran out
+pub memory_is : {Y : Type 0} (fault : ReadFault) → ◌≡◌ {A = Result Y ReadFault} (Err fault) (Err Memory) → fault ≡ Memory
+memory_is fault e = cc

@@ -1,0 +1,123 @@
+-- Readers of maps: lists of bytes, four lists one after another, and what a part's flags say of its map.
+use Rattle.std.proofs.Common.{◌≡◌, ℕ, zero, suc, ◌+◌, ◌*◌, Bool, true, false, cond, List, [], ◌∷◌, length, map, take, drop, refl, sym, ap, ◌∙◌, arith, inl, inr, Option, Some, None, Ok, Err}
+use Rattle.std.specs.Prelude.{Result}
+use Rattle.std.proofs.lemmas.Bool.{cases_lt}
+use Rattle.std.proofs.lemmas.List.{length-take}
+use Rattle.szg_file.specs.declared.front.Front.{Front}
+use Rattle.szg_file.specs.declared.fault.ReadFault.{ReadFault}
+use Rattle.szg_file.specs.declared.fault.ReadFault.TheVariants.{Refused, Device, Memory}
+use Rattle.szg_file.specs.Format.{Format, means, field, good, verdict, ◌>>=◌}
+use Rattle.szg_file.specs.Contents.{Map, narrow, wide, Subtable, number_of, items, has_bit}
+use Rattle.szg_file.specs.File.{rows_field, filled_to, each, list_field, map_lists, map_field, flags_of}
+use Rattle.szg_file.specs.Reading.{Reading}
+use Rattle.szg_file.proofs.FormatLaws.{field-short, field-whole}
+use Rattle.szg_file.proofs.EachLaws.{then-then}
+
+-- ---- lists of bytes
+
+-- Two formats with one verdict are read alike.
+reads_as : {A X R : Type 0} (f f' : Format A) (view : X → A) {o n : Front}
+    {coming : R → Option (List ℕ)} {calls moved failures interrupted : R → ℕ} {i j : R} (r : Result X ReadFault) →
+    ((bytes : List ℕ) → verdict f o.place bytes ≡ verdict f' o.place bytes) →
+    Reading f view o n coming calls moved failures interrupted i j r →
+    Reading f' view o n coming calls moved failures interrupted i j r
+reads_as f f' view (Ok x) same h = record {
+  bytes = h.bytes;
+  taken = h.taken;
+  answer = (record { fits = h.answer.0.fits; filled = h.answer.0.filled; whole = sym (same h.bytes) ∙ h.answer.0.whole; place = h.answer.0.place; fill = h.answer.0.fill }, h.answer.1);
+}
+reads_as f f' view {coming = coming} {j = j} (Err (Refused place why)) same h = record {
+  bytes = h.bytes;
+  taken = h.taken;
+  answer = (rw (sym (same h.bytes)) h.answer.0, h.answer.1);
+}
+reads_as f f' view (Err Device) same h = record { bytes = h.bytes; taken = h.taken; answer = h.answer }
+reads_as f f' view (Err Memory) same h = record { bytes = h.bytes; taken = h.taken; answer = h.answer }
+
+-- each byte is a number of one byte
+ones : (count : ℕ) (bytes : List ℕ) → length bytes ≡ count → map number_of (items 1 count bytes) ≡ bytes
+ones zero [] e = refl
+ones zero (x ∷ xs) e = absurd (omega (arith, e))
+ones (suc count) [] e = absurd (omega (arith, e))
+ones (suc count) (x ∷ xs) e =
+    let one : x + 256 * 0 ≡ x = omega arith in
+    ap (λ (y : ℕ). y ∷ map number_of (items 1 count xs)) one ∙ ap (λ (ys : List ℕ). x ∷ ys) (ones count xs (omega (arith, e)))
+
+-- the items of a list of bytes, as the format has them
+abbrev pub list_behind : ℕ → ℕ → Format (List ℕ)
+list_behind size count = rows_field size count >>= λ list. means (map number_of list)
+
+bytes_verdict : (count place : ℕ) (bytes : List ℕ) → verdict (field count means) place bytes ≡ verdict (list_behind 1 count) place bytes
+bytes_verdict count place bytes =
+    let one : 1 * count ≡ count = omega arith in
+    elim (cases_lt (length bytes) count) [
+      | inl short ↦
+          field-short count means place bytes short
+          ∙ sym (field-short (1 * count) (λ b. means (map number_of (items 1 count b))) place bytes (omega (arith, short)))
+      | inr whole ↦
+          let sized : length (take count bytes) ≡ count = omega (arith, length-take count bytes, whole) in
+          field-whole count means place bytes whole
+          ∙ ap (λ (z : List ℕ). good z [] (drop count bytes)) (sym (ones count (take count bytes) sized))
+          ∙ ap (λ (n : ℕ). good (map number_of (items 1 count (take n bytes))) [] (drop n bytes)) (sym one)
+          ∙ sym (field-whole (1 * count) (λ b. means (map number_of (items 1 count b))) place bytes (omega (arith, whole)))
+    ]
+
+pub reads_bytes : {X R : Type 0} (count : ℕ) (view : X → List ℕ) {o n : Front}
+    {coming : R → Option (List ℕ)} {calls moved failures interrupted : R → ℕ} {i j : R} (r : Result X ReadFault) →
+    Reading (field count means) view o n coming calls moved failures interrupted i j r →
+    Reading (list_behind 1 count) view o n coming calls moved failures interrupted i j r
+reads_bytes count view {o = o} r h = reads_as (field count means) (list_behind 1 count) view r (λ bytes. bytes_verdict count o.place bytes) h
+
+-- ---- four lists
+
+each_then : {A B C : Type 0} (f : A → Format B) (x : A) (xs : List A) (k : List B → Format C) → each f (x ∷ xs) >>= k ≡ f x >>= (λ y. each f xs >>= λ ys. k (y ∷ ys))
+each_then {B = B} {C = C} f x xs k =
+    then-then (f x) (λ y. each f xs >>= λ ys. means (y ∷ ys)) k
+    ∙ ap (λ (h : B → Format C). f x >>= h) (λ i y. then-then (each f xs) (λ ys. means (y ∷ ys)) k i)
+
+module _ (size : ℕ) where
+  abbrev pub four_sizes : List ℕ
+  four_sizes = size ∷ size ∷ size ∷ size ∷ []
+
+  abbrev pub after_three : List ℕ → List ℕ → List ℕ → Format (List (List ℕ))
+  after_three w x y = list_field size >>= λ z. means (w ∷ x ∷ y ∷ z ∷ [])
+
+  abbrev pub after_two : List ℕ → List ℕ → Format (List (List ℕ))
+  after_two w x = list_field size >>= after_three w x
+
+  abbrev pub after_one : List ℕ → Format (List (List ℕ))
+  after_one w = list_field size >>= after_two w
+
+  -- four lists, step by step
+  pub four_steps : each list_field four_sizes ≡ list_field size >>= after_one
+  four_steps =
+      ap (λ (k : List ℕ → Format (List (List ℕ))). list_field size >>= k)
+      (λ i w. (each_then list_field size (size ∷ size ∷ []) (λ ys. means (w ∷ ys))
+      ∙ ap (λ (k : List ℕ → Format (List (List ℕ))). list_field size >>= k)
+      (λ i x. (each_then list_field size (size ∷ []) (λ ys. means (w ∷ x ∷ ys))
+      ∙ ap (λ (k : List ℕ → Format (List (List ℕ))). list_field size >>= k)
+      (λ i y. each_then list_field size [] (λ ys. means (w ∷ x ∷ y ∷ ys)) i)) i)) i)
+
+-- ---- flags
+
+abbrev pub wide_lists : Format Map
+wide_lists = each list_field (2 ∷ 2 ∷ 2 ∷ 2 ∷ []) >>= λ lists. means (wide lists)
+
+abbrev pub byte_lists : Format Map
+byte_lists = each list_field (1 ∷ 1 ∷ 1 ∷ 1 ∷ []) >>= λ lists. means (narrow lists)
+
+pub wide_behind : (flags : ℕ) → has_bit 4 flags ≡ true → map_lists flags ≡ filled_to 2 >>= (λ _. wide_lists)
+wide_behind flags e = ap (λ (b : Bool). cond b (filled_to 2 >>= (λ _. wide_lists)) byte_lists) e
+
+abbrev pub some_map : ℕ → Format (Option Map)
+some_map flags = map_lists flags >>= λ lists. means (Some lists)
+
+pub map_is : (subtable : Subtable) (flags : ℕ) → flags ≡ flags_of subtable → has_bit 1 flags ≡ true → map_field subtable ≡ some_map flags
+map_is subtable flags same e =
+    ap (λ (n : ℕ). cond (has_bit 1 n) (some_map n) (means None)) (sym same)
+    ∙ ap (λ (b : Bool). cond b (some_map flags) (means None)) e
+
+pub no_map_is : (subtable : Subtable) (flags : ℕ) → flags ≡ flags_of subtable → has_bit 1 flags ≡ false → map_field subtable ≡ means None
+no_map_is subtable flags same e =
+    ap (λ (n : ℕ). cond (has_bit 1 n) (some_map n) (means None)) (sym same)
+    ∙ ap (λ (b : Bool). cond b (some_map flags) (means None)) e

@@ -1,0 +1,11 @@
+use Rattle.std.proofs.Common.{◌+◌, ◌*◌, ◌≤◌, ◌^◌, length, map, take, Ok}
+use Rattle.szg_file.specs.File.{each, blocks_field}
+use Rattle.szg_file.specs.Held.{subtable_of}
+use Rattle.szg_file.specs.Reading.{Reading}
+use Rattle.szg_file.proofs.blocks.read_blocks.Given as goal
+
+abbrev pub invariant-subtables : goal.invariant-subtables
+invariant-subtables g l = record {
+  read : Reading (each blocks_field (take (length l.yielded) l.fn.list.items)) (λ subs. map subtable_of subs.items) l.fn.front l.front g.R.Input.coming g.R.Input.calls g.R.Input.moved g.R.Input.failures g.R.Input.interrupted l.fn.input l.input (Ok l.subs);
+  place : l.front.place ≤ l.fn.front.place + length l.yielded * 2 ^ 51;
+}

@@ -1,0 +1,12 @@
+use Rattle.std.proofs.Common.{◌≡◌, ◌+◌, ◌*◌, ◌≤◌, ◌^◌, length, map, take, Ok}
+use Rattle.szg_file.specs.File.{Begun, each, head_field, begun}
+use Rattle.szg_file.specs.Reading.{Reading}
+use Rattle.szg_file.proofs.heads.read_heads.Given as goal
+
+abbrev pub invariant-slots : goal.invariant-slots
+invariant-slots g l = record {
+  read : Reading (each head_field (take l.slot-index l.slots)) (λ list. map (λ (b : Begun). b.subtable) list.items) l.fn.front l.front g.R.Input.coming g.R.Input.calls g.R.Input.moved g.R.Input.failures g.R.Input.interrupted l.fn.input l.input (Ok l.list);
+  made : l.list.items ≡ begun (take l.slot-index l.slots) (map (λ (b : Begun). b.subtable) l.list.items);
+  count : length l.list.items ≡ l.slot-index;
+  place : l.front.place ≤ l.fn.front.place + l.slot-index * 2 ^ 18;
+}

@@ -1,0 +1,11 @@
+use Rattle.std.proofs.Common.{◌≡◌, ◌+◌, ◌*◌, ◌≤◌, ◌^◌, length, take, Ok}
+use Rattle.szg_file.specs.File.{each, lengths_field}
+use Rattle.szg_file.specs.Reading.{Reading}
+use Rattle.szg_file.proofs.index.read_lengths.Given as goal
+
+abbrev pub invariant-lengths : goal.invariant-lengths
+invariant-lengths g l = record {
+  read : Reading (each lengths_field (take (length l.yielded) l.fn.list.items)) (λ measured. measured.items) l.fn.front l.front g.R.Input.coming g.R.Input.calls g.R.Input.moved g.R.Input.failures g.R.Input.interrupted l.fn.input l.input (Ok l.measured);
+  count : length l.measured.items ≡ length l.yielded;
+  place : l.front.place ≤ l.fn.front.place + length l.yielded * 2 ^ 36;
+}

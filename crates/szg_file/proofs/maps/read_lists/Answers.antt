@@ -1,0 +1,25 @@
+use Rattle.std.proofs.Common.{◌≡◌, [], ◌∷◌, map, true, refl, sym, ◌∙◌}
+use Rattle.std.proofs.lemmas.Result.{err_from_is_err_and}
+use Rattle.szg_file.specs.Format.{means}
+use Rattle.szg_file.specs.Contents.{has_bit, wide}
+use Rattle.szg_file.specs.File.{filled_to, each, list_field}
+use Rattle.szg_file.specs.Held.{map_of}
+use Rattle.szg_file.proofs.ReadingLaws.{reads_then, reads_stopped, reads_nothing}
+use Rattle.szg_file.proofs.MapReads.{wide_behind, wide_lists}
+use Rattle.szg_file.proofs.maps.read_lists.Goals as goal
+
+pub returns-in_err-lists-clause-lists : goal.returns-in_err-lists-clause-lists
+returns-in_err-lists-clause-lists g c =
+    let set : has_bit 4 c.args.flags ≡ true = sym c.has_flag.ensures ∙ c.if-has_flag.true in
+    let p = err_from_is_err_and c.from_residual-in_err-lists.result c.from_residual-in_err-lists.ensures.1 in
+    rw (p.1, p.2, wide_behind c.args.flags set)
+    (reads_then (filled_to 2) (λ _. wide_lists) (λ _. tt) map_of tt c.in_ok-take_fill.ensures.fill
+    (reads_stopped (each list_field (2 ∷ 2 ∷ 2 ∷ 2 ∷ [])) (λ lists. means (wide lists)) (λ lists. map (λ list. list.items) lists) map_of c.in_err-lists.field-0.0 c.in_err-lists.ensures.lists))
+
+pub returns-then-has_flag-clause-lists : goal.returns-then-has_flag-clause-lists
+returns-then-has_flag-clause-lists g c =
+    let set : has_bit 4 c.args.flags ≡ true = sym c.has_flag.ensures ∙ c.if-has_flag.true in
+    rw (wide_behind c.args.flags set)
+    (reads_then (filled_to 2) (λ _. wide_lists) (λ _. tt) map_of tt c.in_ok-take_fill.ensures.fill
+    (reads_then (each list_field (2 ∷ 2 ∷ 2 ∷ 2 ∷ [])) (λ lists. means (wide lists)) (λ lists. map (λ list. list.items) lists) map_of c.in_ok-lists.lists c.in_ok-lists.ensures.lists
+    (reads_nothing (means (wide (map (λ list. list.items) c.in_ok-lists.lists))) map_of _ refl)))

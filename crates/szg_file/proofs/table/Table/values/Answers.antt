@@ -1,0 +1,23 @@
+use Rattle.std.proofs.Common.{◌≡◌, ℕ, List, ap, ◌∙◌, subst}
+use Rattle.std.proofs.lemmas.Result.{IfOk-weaker}
+use Rattle.szg_values.specs.declared.Kind.{Kind}
+use Rattle.szg_block.specs.Shown as block
+use Rattle.szg_block.specs.Subtable.{packed_of, values_over}
+use Rattle.szg_file.specs.Held.{Shown}
+use Rattle.szg_file.specs.Lookup.{byte_of}
+use Rattle.szg_file.specs.Values.{subtable_at, constant_value}
+use Rattle.szg_file.proofs.TableFinds.{values_at}
+use Rattle.szg_file.proofs.table.Table.values.Goals as goal
+
+pub returns : goal.returns
+returns c =
+    let kind : Kind = c.args.self.now.contents.kind in
+    let kind_is : c.self.inside.kind ≡ kind = ap (λ (t : Shown). t.contents.kind) c.self.view_is in
+    let sub = c.in-Some.found.sub.now in
+    let size : ℕ = c.in-Some.found.size in
+    let constant_is : c.constant_value-constant.result ≡ constant_value kind (byte_of sub) = c.constant_value-constant.ensures ∙ ap (λ (k : Kind). constant_value k (byte_of sub)) kind_is in
+    IfOk-weaker c.values.result _ _
+    (λ values told.
+    values_at (subtable_at c.args.self.now.contents c.args.part c.args.side) kind sub size values.items c.in-Some.ensures.found
+    (told ∙ ap block.values_shown c.of.ensures ∙ ap (λ (k : ℕ). values_over sub (packed_of sub) size k) constant_is))
+    c.values.ensures

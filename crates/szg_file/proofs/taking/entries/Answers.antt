@@ -1,0 +1,17 @@
+use Rattle.std.proofs.Common.{◌≡◌, ◌+◌, ◌-◌, ◌*◌, ◌≤◌, ◌++◌, ◌∷◌, [], length, take, drop, List, ℕ, slice_index, arith, rules, ap, sym, ◌∙◌}
+use Rattle.std.proofs.lemmas.List.{length-drop, take_rest}
+use Rattle.szg_file.specs.Contents.{items}
+use Rattle.szg_file.proofs.ItemsRead.{rows-more, three_bytes}
+use Rattle.szg_file.proofs.taking.entries.Goals as goal
+
+pub rows-preserved : goal.rows-preserved
+rows-preserved c =
+    let bytes = c.args.bytes.now in
+    let i = c.rows.i in
+    let whole = take_rest bytes (3 * i) in
+    let there : 3 ≤ length (drop (3 * i) bytes) = search (rules, length-drop (3 * i) bytes) in
+    let w : List ℕ = take (length bytes - 3 * i) (drop (3 * i) bytes) in
+    let x : List ℕ = slice_index w 0 ∷ slice_index w 1 ∷ slice_index w 2 ∷ [] in
+    let row = ap (λ (z : List ℕ). slice_index z 0 ∷ slice_index z 1 ∷ slice_index z 2 ∷ []) whole ∙ three_bytes (drop (3 * i) bytes) there in
+    c.in_ok-push.ensures.items ∙ ap (λ (z : List (List ℕ)). z ++ x ∷ []) c.in_ok-grow.ensures.items
+    ∙ rows-more 3 i bytes c.rows.list.items x c.rows.invariant row

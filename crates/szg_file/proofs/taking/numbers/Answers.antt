@@ -1,0 +1,17 @@
+use Rattle.std.proofs.Common.{◌≡◌, ◌+◌, ◌-◌, ◌≤◌, ◌*◌, ◌++◌, ◌∷◌, [], length, take, drop, map, List, ℕ, suc, arith, rules, ap, sym, ◌∙◌}
+use Rattle.std.proofs.lemmas.List.{length-drop, take_rest}
+use Rattle.byteorder.specs.Endian.{little_number}
+use Rattle.szg_file.specs.Contents.{number_of, items}
+use Rattle.szg_file.proofs.ItemsRead.{mapped-more, little-number_of}
+use Rattle.szg_file.proofs.taking.numbers.Goals as goal
+
+pub rows-preserved : goal.rows-preserved
+rows-preserved c =
+    let bytes = c.args.bytes.now in
+    let i = c.rows.i in
+    let whole = take_rest bytes (2 * i) in
+    let there : 2 ≤ length (drop (2 * i) bytes) = search (rules, length-drop (2 * i) bytes) in
+    let number : c.read_u16-number.result ≡ number_of (take 2 (drop (2 * i) bytes)) =
+    c.read_u16-number.ensures ∙ ap (little_number 2) whole ∙ little-number_of 2 (drop (2 * i) bytes) there in
+    c.in_ok-push.ensures.items ∙ ap (λ (z : List ℕ). z ++ c.read_u16-number.result ∷ []) c.in_ok-grow.ensures.items
+    ∙ mapped-more number_of 2 i bytes c.rows.list.items c.read_u16-number.result c.rows.invariant number

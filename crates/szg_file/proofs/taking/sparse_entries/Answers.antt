@@ -1,0 +1,28 @@
+use Rattle.std.proofs.Common.{◌≡◌, ◌+◌, ◌-◌, ◌*◌, ◌≤◌, ◌++◌, ◌∷◌, [], length, take, drop, map, List, ℕ, slice_index, arith, rules, ap, sym, ◌∙◌}
+use Rattle.std.proofs.lemmas.List.{length-drop, length-append, take_rest, map-append}
+use Rattle.byteorder.specs.Endian.{little_number}
+use Rattle.szg_block.specs.Layout.{SparseEntry}
+use Rattle.szg_block.specs.declared.Entry.{Entry}
+use Rattle.szg_file.specs.Contents.{items}
+use Rattle.szg_file.specs.File.{entry_of_bytes}
+use Rattle.szg_file.specs.Held.{sparse_of}
+use Rattle.szg_file.proofs.ItemsRead.{mapped-more, six_bytes}
+use Rattle.szg_file.proofs.taking.sparse_entries.Goals as goal
+
+pub rows-preserved : goal.rows-preserved
+rows-preserved c =
+    let bytes = c.args.bytes.now in
+    let i = c.rows.i in
+    let xs : List ℕ = drop (6 * i) bytes in
+    let whole = take_rest bytes (6 * i) in
+    let there : 6 ≤ length xs = search (rules, length-drop (6 * i) bytes) in
+    let entry : Entry = record { block = c.read_u32-block.result; offset = c.read_u16-offset.result } in
+    let block : c.read_u32-block.result ≡ little_number 4 xs = c.read_u32-block.ensures ∙ ap (little_number 4) whole in
+    let offset : c.read_u16-offset.result ≡ little_number 2 (drop 4 xs) =
+    c.read_u16-offset.ensures ∙ ap (λ (z : List ℕ). little_number 2 (take (length z - 4) (drop 4 z))) whole ∙ ap (little_number 2) (take_rest xs 4) in
+    let pushed : c.push.new.self.items ≡ c.rows.list.items ++ entry ∷ [] =
+    c.in_ok-push.ensures.items ∙ ap (λ (z : List Entry). z ++ entry ∷ []) c.in_ok-grow.ensures.items in (
+      ap (map sparse_of) pushed ∙ map-append sparse_of c.rows.list.items (entry ∷ [])
+          ∙ mapped-more entry_of_bytes 6 i bytes (map sparse_of c.rows.list.items) (sparse_of entry) c.rows.invariant.0 (six_bytes xs _ _ there block offset),
+      ap length pushed ∙ length-append c.rows.list.items (entry ∷ []) ∙ ap (λ n. n + 1) c.rows.invariant.1,
+    )

@@ -1,0 +1,18 @@
+use Rattle.std.proofs.Common.{◌≡◌, ℕ, ◌+◌, ◌≤◌, ◌-◌, length, take, drop, Ok}
+use Rattle.szg_file.specs.Format.{field, means}
+use Rattle.szg_file.specs.Reading.{Reading}
+use Rattle.szg_file.proofs.taking.take_more.Given as goal
+
+-- the front of the field was taken, and stands at the end of the list
+abbrev pub invariant-pieces : goal.invariant-pieces
+invariant-pieces g l =
+    (l.left ≤ l.count)
+    × Reading (field (l.count - l.left) means) (λ (_ : Unit {0}). drop (length l.initial.list.items) l.list.items) l.initial.front l.front
+    g.R.Input.coming g.R.Input.calls g.R.Input.moved g.R.Input.failures g.R.Input.interrupted l.initial.input l.input (Ok tt)
+    × (take (length l.initial.list.items) l.list.items ≡ l.initial.list.items)
+    × (length l.list.items ≡ length l.initial.list.items + (l.count - l.left))
+    × (l.front.place ≡ l.initial.front.place + (l.count - l.left))
+    × (l.front.held ≡ l.initial.front.held + (l.count - l.left))
+
+abbrev pub decreases-pieces : goal.decreases-pieces
+decreases-pieces g l = l.left

@@ -1,0 +1,20 @@
+use Rattle.std.proofs.Common.{◌≡◌, ◌+◌, ◌-◌, ◌++◌, length, take, drop, List, ℕ, arith, refl, rules, ap, sym, ◌∙◌}
+use Rattle.szg_file.specs.Format.{field, means}
+use Rattle.szg_file.specs.Reading.{Reading}
+use Rattle.szg_file.proofs.Taken.{reads_as, tail_written}
+use Rattle.szg_file.proofs.taking.take_piece.Goals as goal
+
+pub returns-clause-field : goal.returns-clause-field
+returns-clause-field g c =
+    let before = c.deref_mut.result.now in
+    let piece = c.take_field.new.piece in
+    let at = c.len-at.result in
+    let lasts : length before ≡ at + c.args.size = search rules in
+    let sized : length piece ≡ c.args.size = search rules in
+    let old : length c.args.list.now.items ≡ at = search rules in
+    let new : c.resize.new.self.len ≡ at + c.args.size = search rules in
+    let seen = ap (λ (n : ℕ). drop n (take c.resize.new.self.len ((take at before ++ (piece ++ drop (length before - at) (drop at before))) ++ drop (length (take at before ++ (piece ++ drop (length before - at) (drop at before)))) c.resize.new.self.items))) old
+    ∙ ap (λ (n : ℕ). drop at (take n ((take at before ++ (piece ++ drop (length before - at) (drop at before))) ++ drop (length (take at before ++ (piece ++ drop (length before - at) (drop at before)))) c.resize.new.self.items))) new
+    ∙ tail_written before piece (drop (length (take at before ++ (piece ++ drop (length before - at) (drop at before)))) c.resize.new.self.items) at c.args.size lasts sized in
+    reads_as (field (length piece) means) (field c.args.size means) (λ _. piece) _ tt tt (ap (λ (n : ℕ). field n means) sized)
+    seen refl refl c.in_ok-take_field.ensures.field

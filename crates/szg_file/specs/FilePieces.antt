@@ -1,0 +1,60 @@
+-- The format of a table file, in three pieces that are read one after another.
+use Rattle.std.specs.Prelude.{ℕ, List, map, option_map, Option}
+use Rattle.szg_values.specs.declared.Kind.{Kind}
+use Rattle.szg_values.specs.Material.{Sides}
+use Rattle.szg_file.specs.declared.reading.Opening.{Opening}
+use Rattle.szg_file.specs.declared.reading.Pieces.{Pieces}
+use Rattle.szg_file.specs.Format.{Format, means, field, ◌>>=◌, ◌>>◌}
+use Rattle.szg_file.specs.Contents as held
+use Rattle.szg_file.specs.File.{Begun, each, part_field, filled_to, head_field, maps_field, sparse_field, lengths_field, blocks_field}
+use Rattle.szg_file.specs.Held.{part_of, subtable_of, map_of}
+use Rattle.szg_file.specs.Reading.{start_field}
+
+-- what stands before the sparse indexes: byte 4, the parts, the subtables with their heads alone, the maps
+pub record Opened : Type 0 where
+  pub byte4 : ℕ
+  pub parts : List held.Part
+  pub heads : List held.Subtable
+  pub maps : List (Option held.Map)
+
+-- magic and byte 4, the parts, fill, the heads, the maps
+abbrev pub opening_field : Sides → Kind → Format Opened
+opening_field material kind = do
+  byte ← start_field material kind
+  parts ← each (λ _. part_field material kind) (held.part_numbers material)
+  filled_to 2
+  heads ← each head_field (held.slots material kind parts)
+  found ← maps_field kind heads
+  means (record { byte4 = byte; parts = parts; heads = heads; maps = found })
+
+-- the sparse indexes, the lengths, the blocks
+abbrev pub packed_field : List Begun → Format (List held.Subtable)
+packed_field list = do
+  indexed ← each sparse_field list
+  measured ← each lengths_field indexed
+  each blocks_field measured
+
+-- fill, and the last sixteen bytes
+abbrev pub ending_field : Format (List ℕ)
+ending_field = filled_to 64 >> field 16 means
+
+-- what an opening that was read stands for
+abbrev pub opened : Opening → Opened
+opened o = record {
+  byte4 = o.byte4;
+  parts = map part_of o.parts.bytes.items;
+  heads = map (λ begun. begun.subtable) o.heads.items;
+  maps = map (option_map map_of) o.maps.items;
+}
+
+-- what a file that was read holds
+abbrev pub contents_of : Sides → Kind → Pieces → held.Contents
+contents_of material kind p = record {
+  material = material;
+  kind = kind;
+  byte4 = p.byte4;
+  parts = map part_of p.parts.bytes.items;
+  subtables = map subtable_of p.subs.items;
+  maps = map (option_map map_of) p.maps.items;
+  last = p.last;
+}

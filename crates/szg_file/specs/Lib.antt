@@ -1,0 +1,17 @@
+pub mod Format
+pub mod Contents
+pub mod File
+pub mod FileOf
+pub mod Accepted
+pub mod Laws
+pub mod Values
+pub mod Reading
+pub mod Reads
+pub mod Held
+pub mod Parts
+pub mod HeadPieces
+pub mod Blocks
+pub mod FilePieces
+pub mod Writing
+pub mod Lengths
+pub mod Lookup

@@ -1,0 +1,56 @@
+-- What a call that reads a part of a file says of the reader, of how far it has come, and of its answer.
+use Rattle.std.specs.Prelude.{◌≡◌, ℕ, ◌+◌, List, [], ◌++◌, length, Option, Some, None, Result, Ok, Err}
+use Rattle.std.specs.Io.KnownBytes.{IsAtEnd}
+use Rattle.szg_io.specs.Device.{Takes, HasFailed}
+use Rattle.szg_file.specs.declared.front.Front.{Front}
+use Rattle.szg_file.specs.declared.fault.Reason.{Reason}
+use Rattle.szg_file.specs.declared.fault.Reason.TheVariants.{Truncated}
+use Rattle.szg_file.specs.declared.fault.ReadFault.{ReadFault}
+use Rattle.szg_file.specs.declared.fault.ReadFault.TheVariants.{Refused, Device, Memory}
+use Rattle.szg_values.specs.Material.{Sides}
+use Rattle.szg_file.specs.Format.{Format, means, refuses, Verdict, good, refused, truncated, verdict, ◌>>◌}
+use Rattle.szg_values.specs.declared.Kind.{Kind}
+use Rattle.szg_file.specs.File.{magic_field, byte4_field}
+use Rattle.szg_file.specs.Accepted.{AreNumbers}
+
+-- The verdict refuses the bytes with nothing left behind the field that fails; where they end within a
+-- field, the reader is at its end.
+abbrev pub IsRefusal : {A : Type 0} → Verdict A → ℕ → Reason → Option (List ℕ) → Type 0
+IsRefusal (good a filled rest) place reason coming = ⊥
+IsRefusal (refused at why rest) place reason coming = (place ≡ at) × (reason ≡ why) × (rest ≡ [])
+IsRefusal (truncated count) place reason coming = (place ≡ count) × (reason ≡ Truncated) × IsAtEnd coming
+
+-- The bytes, numbers below 256, are a whole text of the format, and the front has gone past them.
+pub record Advances {A : Type 0} (f : Format A) (a : A) (old new : Front) (bytes : List ℕ) : Type 0 where
+  pub fits : AreNumbers 1 bytes
+  pub filled : List ℕ
+  pub whole : verdict f old.place bytes ≡ good a filled []
+  pub place : new.place ≡ old.place + length bytes
+  pub fill : new.fill.items ≡ old.fill.items ++ filled
+
+-- A refused answer may have taken one more turn of retries.
+abbrev pub turns_of : {X : Type 0} → Result X ReadFault → ℕ
+turns_of (Ok x) = 0
+turns_of (Err fault) = 1
+
+-- What the answer says of the bytes that were taken.
+abbrev pub Answer : {A X : Type 0} → Format A → (X → A) → Front → Front → Option (List ℕ) → ℕ → ℕ → ℕ → List ℕ → Result X ReadFault → Type 0
+Answer f view old new coming failures failures' row bytes (Ok x) = Advances f (view x) old new bytes × (failures' ≡ failures)
+Answer f view old new coming failures failures' row bytes (Err (Refused place reason)) = IsRefusal (verdict f old.place bytes) place reason coming × (failures' ≡ failures)
+Answer f view old new coming failures failures' row bytes (Err Device) = HasFailed failures failures' row
+Answer f view old new coming failures failures' row bytes (Err Memory) = failures' ≡ failures
+
+-- These bytes were taken, with few enough calls, and the answer is their verdict.
+pub record Reading {A X R : Type 0} (f : Format A) (view : X → A) (old new : Front)
+    (coming : R → Option (List ℕ)) (calls moved failures interrupted : R → ℕ) (input input' : R) (result : Result X ReadFault) : Type 0 where
+  pub bytes : List ℕ
+  pub taken : Takes (coming input) (coming input') (calls input) (calls input') (moved input) (moved input') bytes (turns_of result)
+  pub answer : Answer f view old new (coming input') (failures input) (failures input') (interrupted input') bytes result
+
+abbrev pub start_field : Sides → Kind → Format ℕ
+start_field material kind = magic_field kind >> byte4_field material kind
+
+-- A check that reads nothing: it passes, or it refuses at a place for a reason.
+abbrev pub Checks : Format (Unit {0}) → Option (ℕ × Reason) → Type 0
+Checks f None = f ≡ means tt
+Checks f (Some refusal) = f ≡ refuses refusal.0 refusal.1

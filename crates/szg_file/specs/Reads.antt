@@ -1,0 +1,46 @@
+-- What reading and writing a whole table answers.
+use Rattle.std.specs.Prelude.{◌≡◌, ℕ, ◌+◌, List, [], length, map, sum, Option, Some, None, Result, Ok, Err}
+use Rattle.szg_values.specs.declared.Kind.{Kind}
+use Rattle.szg_file.specs.declared.fault.Reason.TheVariants.{Truncated}
+use Rattle.szg_file.specs.declared.fault.ReadFault.{ReadFault}
+use Rattle.szg_file.specs.declared.fault.ReadFault.TheVariants.{Refused, Device, Memory}
+use Rattle.szg_file.specs.Format.{Verdict, good, refused, truncated, verdict}
+use Rattle.szg_values.specs.Material.{Sides}
+use Rattle.szg_file.specs.Contents as held
+use Rattle.szg_file.specs.File.{file}
+use Rattle.szg_file.specs.Held.{Shown, file_bytes}
+use Rattle.szg_file.specs.Reading.{IsRefusal}
+
+-- The answer is the verdict on the bytes that were to come, and what stands behind the table, or behind
+-- the field that fails, is still to come.
+abbrev pub FollowsVerdict : Verdict held.Contents → Result Shown ReadFault → Option (List ℕ) → Type 0
+FollowsVerdict v (Ok t) coming = (rest : List ℕ) × (v ≡ good t.contents t.filled rest) × (coming ≡ Some rest)
+FollowsVerdict (good t filled rest) (Err (Refused place reason)) coming = ⊥
+FollowsVerdict (refused at why rest) (Err (Refused place reason)) coming = (place ≡ at) × (reason ≡ why) × (coming ≡ Some rest)
+FollowsVerdict (truncated count) (Err (Refused place reason)) coming = (place ≡ count) × (reason ≡ Truncated) × (coming ≡ Some [])
+FollowsVerdict v (Err Device) coming = Unit {0}
+FollowsVerdict v (Err Memory) coming = Unit {0}
+
+-- The bytes that were taken are the table's file, or those up to the end of the field that fails.
+abbrev pub TookBytes : Sides → Kind → List ℕ → Option (List ℕ) → Result Shown ReadFault → Type 0
+TookBytes material kind bytes coming (Ok t) = bytes ≡ file_bytes t
+TookBytes material kind bytes coming (Err (Refused place reason)) = IsRefusal (verdict (file material kind) 0 bytes) place reason coming
+TookBytes material kind bytes coming (Err Device) = Unit {0}
+TookBytes material kind bytes coming (Err Memory) = Unit {0}
+
+-- the lengths of a subtable's lists
+abbrev pub sub_lengths : held.Subtable → ℕ
+sub_lengths (held.constant flags byte) = 0
+sub_lengths (held.pairs head sparse lengths packed) =
+    length head.code.lowest + length head.entries + length sparse + length lengths + length packed
+
+abbrev pub map_lengths : Option held.Map → ℕ
+map_lengths None = 0
+map_lengths (Some (held.narrow lists)) = sum (map length lists)
+map_lengths (Some (held.wide lists)) = sum (map length lists)
+
+-- the lengths of all lists that a table holds
+abbrev pub list_lengths : Shown → ℕ
+list_lengths t = length t.contents.parts + sum (map (λ part. length part.order + length part.men) t.contents.parts)
+    + length t.contents.subtables + sum (map sub_lengths t.contents.subtables)
+    + length t.contents.maps + sum (map map_lengths t.contents.maps) + length t.filled

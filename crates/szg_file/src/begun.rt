@@ -1,0 +1,84 @@
+//! Subtables while they are read: with their heads, then with their sparse indexes, then with their lengths.
+ghost use Rattle.std.specs.Prelude.{ℕ, ◌≡◌, ◌<◌, ◌^◌};
+
+use std::marker::Model;
+use szg_block::Sub;
+
+/// A subtable's part, side and number of positions.
+#[derive(Clone, Copy)]
+pub struct Slot {
+    pub part: u8,
+    pub side: u8,
+    pub size: u64,
+}
+
+impl Model for Slot {
+    ghost use Rattle.std.specs.Prelude.{ℕ, ◌<◌, ◌^◌};
+    ghost use Rattle.szg_file.specs.Contents.{Slot};
+
+    ghost Value = { Slot };
+
+    ghost view = { λ s. record { part = s.part; side = s.side; size = s.size } };
+
+    ghost invariant = { λ s. s.size < 2 ^ 33 };
+
+    ghost inverse = { λ s. record { part = s.part; side = s.side; size = s.size } };
+}
+
+/// A subtable with its head alone.
+#[derive(Drop)]
+pub struct Begun {
+    pub slot: Slot,
+    pub sub: Sub,
+}
+
+impl Model for Begun {
+    ghost use Rattle.szg_file.specs.File.{Begun};
+    ghost use Rattle.szg_file.specs.Held.{subtable_of, IsHeaded};
+
+    ghost Value = { Begun };
+
+    ghost view = { λ begun. record { slot = begun.slot; subtable = subtable_of begun.sub; index = 0 } };
+
+    ghost invariant = { λ begun. IsHeaded begun.sub };
+}
+
+/// A subtable with its head and its sparse index, which stands at `index`.
+#[derive(Drop)]
+pub struct Indexed {
+    pub slot: Slot,
+    pub sub: Sub,
+    pub index: u64,
+}
+
+impl Model for Indexed {
+    ghost use Rattle.szg_file.specs.File.{Begun};
+    ghost use Rattle.std.specs.Prelude.{◌<◌, ◌^◌};
+    ghost use Rattle.szg_file.specs.Held.{subtable_of, IsIndexed};
+
+    ghost Value = { Begun };
+
+    ghost view = { λ begun. record { slot = begun.slot; subtable = subtable_of begun.sub; index = begun.index } };
+
+    ghost invariant = { λ begun. IsIndexed begun.sub begun.slot.size × (begun.index < 2 ^ 61) };
+}
+
+/// A subtable with all but its blocks.
+#[derive(Drop)]
+pub struct Measured {
+    pub slot: Slot,
+    pub sub: Sub,
+    pub index: u64,
+}
+
+impl Model for Measured {
+    ghost use Rattle.szg_file.specs.File.{Begun};
+    ghost use Rattle.szg_file.specs.Held.{subtable_of};
+    ghost use Rattle.szg_block.specs.Subtable.{IsShapedHead};
+
+    ghost Value = { Begun };
+
+    ghost view = { λ begun. record { slot = begun.slot; subtable = subtable_of begun.sub; index = begun.index } };
+
+    ghost invariant = { λ begun. IsShapedHead begun.sub begun.slot.size };
+}

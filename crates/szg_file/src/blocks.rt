@@ -1,0 +1,194 @@
+ghost use Rattle.std.specs.Prelude.{◌≡◌, ◌+◌, ◌*◌, ◌≤◌, ◌<◌, ◌^◌, length, map, take, drop, OnOk, IfSome, IsSomeAnd, IsTrue, ◌↔◌, None};
+ghost use Rattle.szg_code.specs.Acceptance.{IsCode};
+ghost use Rattle.szg_block.specs.Block.{start};
+ghost use Rattle.szg_block.specs.Subtable.{layout_of, IsShapedHead};
+ghost use Rattle.szg_file.specs.File.{each, block_field, blocks_from, blocks_of, blocks_field};
+ghost use Rattle.szg_file.specs.Blocks.{with_blocks};
+ghost use Rattle.szg_file.specs.Held.{subtable_of};
+ghost use Rattle.szg_file.specs.Reading.{Reading};
+
+use crate::begun::{Measured, Slot};
+use crate::fault::{ReadFault, Reason};
+use crate::fields::append;
+use crate::front::Front;
+use crate::taking::{take_fill, take_more};
+use std::alloc::Global;
+use szg_block::{Sub, check_block_from};
+use szg_io::Input;
+
+/// Takes the blocks of each subtable that isn't constant.
+pub fn read_blocks<R: Input>(
+    alloc: Global,
+    list: Vec<Measured>,
+    input: &mut R,
+    front: &mut Front,
+) -> Result<Vec<Sub>, ReadFault>
+    requires place { front.old.place < 2 ^ 60 }
+    requires few { length list.items ≤ 8 }
+    ensures blocks { Reading (each blocks_field list.items) (λ subs. map subtable_of subs.items) front.old front.new R.coming R.calls R.moved R.failures R.interrupted input.old input.new result }
+    ensures place { OnOk result (front.new.place ≤ front.old.place + 2 ^ 55) }
+{
+    let mut subs = Vec::new(alloc);
+    'subtables: for measured in list {
+        let sub = read_sub(alloc, measured, input, front)?;
+        append(&mut subs, sub, front)?;
+    }
+    Ok(subs)
+}
+
+/// Takes one subtable's blocks.
+fn read_sub<R: Input>(
+    alloc: Global,
+    measured: Measured,
+    input: &mut R,
+    front: &mut Front,
+) -> Result<Sub, ReadFault>
+    requires place { front.old.place < 2 ^ 60 + 2 ^ 55 }
+    ensures blocks { Reading (blocks_field measured) subtable_of front.old front.new R.coming R.calls R.moved R.failures R.interrupted input.old input.new result }
+    ensures place { OnOk result (front.new.place ≤ front.old.place + 2 ^ 51) }
+{
+    let Measured {
+        slot,
+        sub,
+        index: _,
+    } = measured;
+    pack_sub(alloc, slot, sub, input, front)
+}
+
+/// Takes the blocks into their subtable; a constant one has none.
+fn pack_sub<R: Input>(
+    alloc: Global,
+    slot: Slot,
+    sub: Sub,
+    input: &mut R,
+    front: &mut Front,
+) -> Result<Sub, ReadFault>
+    requires place { front.old.place < 2 ^ 60 + 2 ^ 55 }
+    requires shaped { IsShapedHead sub slot.size }
+    ensures blocks { Reading (blocks_of slot (subtable_of sub)) subtable_of front.old front.new R.coming R.calls R.moved R.failures R.interrupted input.old input.new result }
+    ensures place { OnOk result (front.new.place ≤ front.old.place + 2 ^ 51) }
+{
+    if is_constant(&sub) {
+        return Ok(sub);
+    }
+    take_fill(64, input, front)?;
+    let packed = take_packed(alloc, &sub, slot.size, input, front)?;
+    Ok(with_packed(sub, packed))
+}
+
+fn is_constant(sub: &Sub) -> bool
+    ensures { IsTrue result ↔ (layout_of sub.now ≡ None) }
+{
+    match sub {
+        Sub::Constant { .. } => true,
+        Sub::Pairs { .. } => false,
+    }
+}
+
+/// The subtable with these blocks.
+fn with_packed(sub: Sub, blocks_packed: Vec<u8>) -> Sub
+    ensures { subtable_of result ≡ with_blocks (subtable_of sub) blocks_packed.items }
+{
+    match sub {
+        Sub::Constant { flags, byte } => Sub::Constant { flags, byte },
+        Sub::Pairs {
+            flags,
+            block_bits,
+            span_bits,
+            extra,
+            blocks,
+            code,
+            dict,
+            sparse,
+            lengths,
+            packed: _,
+        } => Sub::Pairs {
+            flags,
+            block_bits,
+            span_bits,
+            extra,
+            blocks,
+            code,
+            dict,
+            sparse,
+            lengths,
+            packed: blocks_packed,
+        },
+    }
+}
+
+/// Takes the blocks of a subtable one after another, each with its check.
+fn take_packed<R: Input>(
+    alloc: Global,
+    sub: &Sub,
+    size: u64,
+    input: &mut R,
+    front: &mut Front,
+) -> Result<Vec<u8>, ReadFault>
+    requires place { front.old.place < 2 ^ 61 }
+    requires shaped { IsShapedHead sub.now size }
+    ensures blocks { IfSome (layout_of sub.now) (λ layout. Reading (blocks_from layout size 0 layout.blocks) (λ packed. packed.items) front.old front.new R.coming R.calls R.moved R.failures R.interrupted input.old input.new result) }
+    ensures place { OnOk result (front.new.place ≤ front.old.place + 2 ^ 50) }
+{
+    let mut packed = Vec::new(alloc);
+    let Sub::Pairs {
+        blocks,
+        code,
+        lengths,
+        ..
+    } = sub
+    else {
+        return Ok(packed);
+    };
+    // what each block's check stands on: no word of the code begins another
+    let _symbols = code.symbols();
+    let mut before = 0;
+    'each_block: for n in 0..*blocks {
+        take_block(&mut packed, sub, size, n, before, input, front)?;
+        before += lengths[n as usize] as u64 + 1;
+    }
+    Ok(packed)
+}
+
+/// Takes block n, before which so many values stand, to the end of the list, and checks it there.
+fn take_block<R: Input>(
+    packed: &mut Vec<u8>,
+    sub: &Sub,
+    size: u64,
+    n: u32,
+    before: u64,
+    input: &mut R,
+    front: &mut Front,
+) -> Result<(), ReadFault>
+    requires place { front.old.place < 2 ^ 61 + 2 ^ 50 }
+    requires shaped { IsShapedHead sub.now size }
+    requires code { IfSome (layout_of sub.now) (λ layout. IsCode layout.code) }
+    requires there { IsSomeAnd (layout_of sub.now) (λ layout. n < layout.blocks) }
+    requires before { IsSomeAnd (layout_of sub.now) (λ layout. before ≡ start layout.lengths n) }
+    ensures block { IfSome (layout_of sub.now) (λ layout. Reading (block_field layout size n) (λ _. drop (length packed.old.items) packed.new.items) front.old front.new R.coming R.calls R.moved R.failures R.interrupted input.old input.new result) }
+    ensures kept { OnOk result (take (length packed.old.items) packed.new.items ≡ packed.old.items) }
+    ensures place { OnOk result (front.new.place ≤ front.old.place + 2 ^ 18) }
+{
+    let place = front.place;
+    let at = packed.len();
+    take_more(packed, block_bytes(sub), input, front)?;
+    match check_block_from(sub, size, n, before, &packed[at..]) {
+        Ok(()) => Ok(()),
+        Err(_) => Err(ReadFault::Refused {
+            place,
+            reason: Reason::Word,
+        }),
+    }
+}
+
+/// The number of bytes of each block; a constant subtable has none.
+fn block_bytes(sub: &Sub) -> u64
+    requires { IfSome (layout_of sub.now) (λ layout. layout.block_bits ≤ 18) }
+    ensures bytes { IfSome (layout_of sub.now) (λ layout. result ≡ 2 ^ layout.block_bits) }
+    ensures most { result ≤ 2 ^ 18 }
+{
+    match sub {
+        Sub::Constant { .. } => 0,
+        Sub::Pairs { block_bits, .. } => 1 << *block_bits,
+    }
+}

@@ -1,0 +1,60 @@
+//! The numbers that a DTZ table's values stand for.
+ghost use Rattle.std.specs.Prelude.{◌≡◌, ◌<◌, option_map, IsTrue, Some, IfSome};
+ghost use Rattle.szg_file.specs.Held.{map_of};
+ghost use Rattle.szg_file.specs.Values.{list_number as list_of_class, mapped, in_plies as told_in_plies, distance, number_at as number_of};
+
+use crate::table::Map;
+
+/// Which of a map's lists has a class's values: none for a draw.
+pub fn list_number(class: i8) -> Option<usize>
+    ensures number { result ≡ list_of_class class }
+    ensures below { IfSome result (λ list. list < 4) }
+{
+    match class {
+        2 => Some(0),
+        -2 => Some(1),
+        1 => Some(2),
+        -1 => Some(3),
+        _ => None,
+    }
+}
+
+/// Item `v` of one of a map's lists, where it has one.
+fn map_item(map: &Map, list: usize, v: u16) -> Option<u16>
+    requires { list < 4 }
+    ensures { result ≡ mapped (Some (map_of map.now)) list v }
+{
+    match map {
+        Map::Bytes(lists) => lists[list]
+            .get(usize::from(v))
+            .map(|number| u16::from(*number)),
+        Map::Wide(lists) => lists[list].get(usize::from(v)).copied(),
+    }
+}
+
+/// Whether the numbers of this list count plies: with flag 4 those of wins, with flag 8 those of losses.
+fn in_plies(flags: u8, list: usize) -> bool
+    ensures { result ≡ told_in_plies flags list }
+{
+    match list {
+        0 => flags / 4 % 2 == 1,
+        1 => flags / 8 % 2 == 1,
+        _ => false,
+    }
+}
+
+/// The number of value `v` in one of a part's lists: the map's item, where the part has a map, in plies.
+pub fn number_at(flags: u8, map: &Option<Map>, list: usize, v: u16) -> Option<u32>
+    requires { list < 4 }
+    ensures { result ≡ number_of flags (option_map map_of map.now) list v }
+{
+    let number = match map {
+        Some(map) => u32::from(map_item(map, list, v)?),
+        None => u32::from(v),
+    };
+    Some(if in_plies(flags, list) {
+        number
+    } else {
+        2 * number
+    })
+}

@@ -1,0 +1,337 @@
+ghost use Rattle.std.specs.Prelude.{◌≡◌, ◌≢◌, ◌+◌, ◌*◌, ◌≤◌, ◌<◌, ◌^◌, length, map, nat_lt, nat_le, ◌&&◌, false, OnOk, OnErr, IfOk, IfErr, Err};
+ghost use Rattle.szg_code.specs.Acceptance.{IsCode};
+ghost use Rattle.szg_file.specs.Format.{means};
+ghost use Rattle.szg_file.specs.Contents.{has_bit};
+ghost use Rattle.szg_file.specs.File.{each, head_field, packed_head, byte_where, lowest_list, lowest_check, code_with, entries_check, dictionary, begun};
+ghost use Rattle.szg_file.specs.HeadPieces.{sizes_field, entries_field, Refuses, lowest_refusal, entries_refusal};
+ghost use Rattle.szg_file.specs.Held.{subtable_of, IsHeaded};
+ghost use Rattle.szg_file.specs.Reading.{Reading};
+
+use crate::begun::{Begun, Slot};
+use crate::fault::{ReadFault, Reason};
+use crate::fields::{append, has_flag, read_byte, read_number};
+use crate::front::{Front, grow};
+use crate::taking::{take_entries, take_field, take_numbers, take_spare};
+use byteorder::{ByteOrder, LittleEndian};
+use std::alloc::Global;
+use szg_block::Sub;
+use szg_code::{Code, CodeFault};
+use szg_io::Input;
+use szg_pairs::{Dict, DictFault};
+
+/// Takes the head of each subtable: its flags, and one byte of a constant subtable, or else the numbers, the code and the
+/// dictionary that its values are packed with (de Man's format).
+///
+/// `BlockBits`, `SpanBits`, `CodeLengths`, `LowestOrder`, `TooFull`, `Child`, `Cycle` and `LongSymbol` are told in the
+/// order in which a head's bytes come.
+pub fn read_heads<R: Input>(
+    alloc: Global,
+    slots: &[Slot],
+    input: &mut R,
+    front: &mut Front,
+) -> Result<Vec<Begun>, ReadFault>
+    requires place { front.old.place < 2 ^ 60 }
+    requires few { length slots.now ≤ 8 }
+    ensures heads { Reading (each head_field slots.now) (λ list. map (λ begun. begun.subtable) list.items) front.old front.new R.coming R.calls R.moved R.failures R.interrupted input.old input.new result }
+    ensures begun { IfOk result (λ list. list.items ≡ begun slots.now (map (λ begun. begun.subtable) list.items)) }
+    ensures count { IfOk result (λ list. length list.items ≡ length slots.now) }
+    ensures place { OnOk result (front.new.place ≤ front.old.place + 2 ^ 22) }
+{
+    let mut list = Vec::new(alloc);
+    'slots: for slot in slots {
+        let begun = read_head(alloc, *slot, input, front)?;
+        append(&mut list, begun, front)?;
+    }
+    Ok(list)
+}
+
+/// Takes the head of a subtable, and counts its items in the four lists that carry it in turn.
+fn read_head<R: Input>(
+    alloc: Global,
+    slot: Slot,
+    input: &mut R,
+    front: &mut Front,
+) -> Result<Begun, ReadFault>
+    requires { front.old.place + 2 ^ 18 < 2 ^ 62 }
+    ensures head { Reading (head_field slot) (λ begun. begun.subtable) front.old front.new R.coming R.calls R.moved R.failures R.interrupted input.old input.new result }
+    ensures slot { IfOk result (λ begun. begun ≡ record { slot = slot; subtable = begun.subtable; index = 0 }) }
+    ensures place { OnOk result (front.new.place ≤ front.old.place + 2 ^ 18) }
+{
+    let flags = read_byte(input, front)?;
+    if has_flag(7, flags) {
+        let byte = read_byte(input, front)?;
+        front.held += 4;
+        return Ok(Begun {
+            slot,
+            sub: Sub::Constant { flags, byte },
+        });
+    }
+    let sub = read_packed(alloc, flags, input, front)?;
+    front.held += 4;
+    Ok(Begun { slot, sub })
+}
+
+/// Takes what stands behind the flags of a subtable that isn't constant.
+fn read_packed<R: Input>(
+    alloc: Global,
+    flags: u8,
+    input: &mut R,
+    front: &mut Front,
+) -> Result<Sub, ReadFault>
+    requires flags { has_bit 7 flags ≡ false }
+    requires place { front.old.place + 200000 < 2 ^ 62 }
+    ensures head { Reading (packed_head flags) subtable_of front.old front.new R.coming R.calls R.moved R.failures R.interrupted input.old input.new result }
+    ensures headed { IfOk result IsHeaded }
+    ensures place { OnOk result (front.new.place ≤ front.old.place + 200000) }
+    ensures held { OnOk result (front.new.held + 4 + 2 * front.old.place ≤ front.old.held + 2 * front.new.place) }
+{
+    let block_bits = read_block_bits(input, front)?;
+    let span_bits = read_span_bits(input, front)?;
+    let sizes = read_sizes(input, front)?;
+    let lowest = read_lowest(alloc, sizes.min, sizes.max, input, front)?;
+    let dict = read_dictionary(alloc, input, front)?;
+    let code = with_symbols(alloc, &lowest, dict.symbols(), front)?;
+    Ok(Sub::Pairs {
+        flags,
+        block_bits,
+        span_bits,
+        extra: sizes.extra,
+        blocks: sizes.blocks,
+        code,
+        dict,
+        sparse: Vec::new(alloc),
+        lengths: Vec::new(alloc),
+        packed: Vec::new(alloc),
+    })
+}
+
+/// Takes the block bits: a block has 2 to that many bytes, at most 2^18.
+fn read_block_bits<R: Input>(input: &mut R, front: &mut Front) -> Result<u8, ReadFault>
+    requires { front.old.place < 2 ^ 62 }
+    ensures bits { Reading (byte_where (λ bits. nat_le bits 18) Reason.BlockBits) (λ bits. bits) front.old front.new R.coming R.calls R.moved R.failures R.interrupted input.old input.new result }
+    ensures most { IfOk result (λ bits. bits ≤ 18) }
+    ensures place { OnOk result (front.new.place ≡ front.old.place + 1) }
+    ensures held { OnOk result (front.new.held ≡ front.old.held) }
+{
+    let place = front.place;
+    let bits = read_byte(input, front)?;
+    if bits > 18 {
+        return Err(ReadFault::Refused {
+            place,
+            reason: Reason::BlockBits,
+        });
+    }
+    Ok(bits)
+}
+
+/// Takes the span bits: an entry of the sparse index stands for 2 to that many positions, 2 to 2^31.
+fn read_span_bits<R: Input>(input: &mut R, front: &mut Front) -> Result<u8, ReadFault>
+    requires { front.old.place < 2 ^ 62 }
+    ensures bits { Reading (byte_where (λ bits. nat_lt 0 bits && nat_le bits 31) Reason.SpanBits) (λ bits. bits) front.old front.new R.coming R.calls R.moved R.failures R.interrupted input.old input.new result }
+    ensures some { IfOk result (λ bits. 1 ≤ bits) }
+    ensures most { IfOk result (λ bits. bits ≤ 31) }
+    ensures place { OnOk result (front.new.place ≡ front.old.place + 1) }
+    ensures held { OnOk result (front.new.held ≡ front.old.held) }
+{
+    let place = front.place;
+    let bits = read_byte(input, front)?;
+    if bits == 0 || bits > 31 {
+        return Err(ReadFault::Refused {
+            place,
+            reason: Reason::SpanBits,
+        });
+    }
+    Ok(bits)
+}
+
+/// The numbers behind the span bits: of extra lengths and of blocks, and the least and the greatest length of a word.
+#[derive(Clone, Copy)]
+pub struct Sizes {
+    pub extra: u8,
+    pub blocks: u32,
+    pub min: u8,
+    pub max: u8,
+}
+
+/// Whether words may have these lengths.
+fn are_lengths(min: u8, max: u8) -> bool
+    ensures { result ≡ (nat_lt 0 min && nat_le min max && nat_le max 32) }
+{
+    0 < min && min <= max && max <= 32
+}
+
+/// Takes the numbers behind the span bits, in one piece, since no check stands between them.
+fn read_sizes<R: Input>(input: &mut R, front: &mut Front) -> Result<Sizes, ReadFault>
+    requires { front.old.place < 2 ^ 62 }
+    ensures sizes { Reading sizes_field (λ sizes. sizes) front.old front.new R.coming R.calls R.moved R.failures R.interrupted input.old input.new result }
+    ensures some { IfOk result (λ sizes. 1 ≤ sizes.min) }
+    ensures in_order { IfOk result (λ sizes. sizes.min ≤ sizes.max) }
+    ensures most { IfOk result (λ sizes. sizes.max ≤ 32) }
+    ensures place { OnOk result (front.new.place ≡ front.old.place + 7) }
+    ensures held { OnOk result (front.new.held ≡ front.old.held) }
+{
+    let place = front.place + 5;
+    let mut piece = [0; 7];
+    take_field(input, front, &mut piece)?;
+    let sizes = Sizes {
+        extra: piece[0],
+        blocks: LittleEndian::read_u32(&piece[1..]),
+        min: piece[6],
+        max: piece[5],
+    };
+    if !are_lengths(sizes.min, sizes.max) {
+        return Err(ReadFault::Refused {
+            place,
+            reason: Reason::CodeLengths,
+        });
+    }
+    Ok(sizes)
+}
+
+/// Takes the lowest symbol of each length, and tells their code, as yet without symbols.
+fn read_lowest<R: Input>(
+    alloc: Global,
+    min: u8,
+    max: u8,
+    input: &mut R,
+    front: &mut Front,
+) -> Result<Code, ReadFault>
+    requires some { 1 ≤ min }
+    requires in_order { min ≤ max }
+    requires most { max ≤ 32 }
+    requires place { front.old.place + 64 < 2 ^ 62 }
+    ensures lowest { Reading (lowest_list min max) (λ code. code.lowest) front.old front.new R.coming R.calls R.moved R.failures R.interrupted input.old input.new result }
+    ensures code { IfOk result (λ code. code ≡ code_with min max code.lowest 0) }
+    ensures accepted { IfOk result IsCode }
+    ensures place { OnOk result (front.new.place ≤ front.old.place + 64) }
+    ensures held { OnOk result (front.new.held + 2 * front.old.place ≤ front.old.held + 2 * front.new.place) }
+{
+    let place = front.place;
+    let lowest = take_numbers(alloc, u64::from(max + 1 - min), input, front)?;
+    check_lowest(place, min, max, lowest)
+}
+
+/// The code, without symbols, of lowest symbols that stand at a place.
+fn check_lowest(place: u64, min: u8, max: u8, lowest: Vec<u16>) -> Result<Code, ReadFault>
+    requires some { 1 ≤ min }
+    requires in_order { min ≤ max }
+    requires most { max ≤ 32 }
+    requires count { length lowest.items + min ≡ max + 1 }
+    requires place { place < 2 ^ 62 }
+    ensures code { IfOk result (λ code. code ≡ code_with min max lowest.items 0) }
+    ensures accepted { IfOk result IsCode }
+    ensures passes { OnOk result (lowest_check place (code_with min max lowest.items 0) ≡ means tt) }
+    ensures refused { IfErr result (Refuses (lowest_check place (code_with min max lowest.items 0))) }
+{
+    match Code::new(min, max, lowest, 0) {
+        Ok(code) => Ok(code),
+        Err(fault) => Err(lowest_refusal(place, fault)),
+    }
+}
+
+/// The refusal of a fault of lowest symbols that stand at a place.
+fn lowest_refusal(place: u64, fault: CodeFault) -> ReadFault
+    requires place { place < 2 ^ 62 }
+    requires lengths { fault ≢ CodeFault.Lengths }
+    ensures { Refuses (lowest_refusal place fault) result }
+{
+    match fault {
+        CodeFault::Lengths => unreachable!(),
+        CodeFault::LowestOrder(item) => ReadFault::Refused {
+            place: place + 2 * u64::from(item),
+            reason: Reason::LowestOrder,
+        },
+        CodeFault::TooFull(item) => ReadFault::Refused {
+            place: place + 2 * u64::from(item),
+            reason: Reason::TooFull,
+        },
+    }
+}
+
+/// A code with so many symbols.
+fn with_symbols(alloc: Global, code: &Code, symbols: u16, front: &Front) -> Result<Code, ReadFault>
+    requires { IsCode code.now }
+    ensures code { IfOk result (λ with. with ≡ code_with code.now.min_length code.now.max_length code.now.lowest symbols) }
+    ensures memory { OnErr result (result ≡ Err ReadFault.Memory) }
+{
+    let mut lowest = Vec::new(alloc);
+    grow(&mut lowest, code.lowest().len(), front.held, front.place)?;
+    if lowest.extend_from_slice(code.lowest()).is_err() {
+        return Err(ReadFault::Memory);
+    }
+    match Code::new(code.min(), code.max(), lowest, symbols) {
+        Ok(code) => Ok(code),
+        Err(_) => unreachable!(),
+    }
+}
+
+/// Takes the dictionary: its number of entries, the entries, and a fill byte where the number is odd.
+fn read_dictionary<R: Input>(
+    alloc: Global,
+    input: &mut R,
+    front: &mut Front,
+) -> Result<Dict, ReadFault>
+    requires { front.old.place + 196608 < 2 ^ 62 }
+    ensures dictionary { Reading dictionary (λ dict. dict) front.old front.new R.coming R.calls R.moved R.failures R.interrupted input.old input.new result }
+    ensures place { OnOk result (front.new.place ≤ front.old.place + 196608) }
+    ensures held { OnOk result (front.new.held + 2 * front.old.place ≤ front.old.held + 2 * front.new.place) }
+{
+    let count = read_number(input, front)?;
+    let dict = read_entries(alloc, count, input, front)?;
+    take_spare((count % 2) as u8, input, front)?;
+    Ok(dict)
+}
+
+/// Takes so many entries of a dictionary.
+fn read_entries<R: Input>(
+    alloc: Global,
+    count: u16,
+    input: &mut R,
+    front: &mut Front,
+) -> Result<Dict, ReadFault>
+    requires { front.old.place + 3 * count < 2 ^ 62 }
+    ensures entries { Reading (entries_field count) (λ dict. dict) front.old front.new R.coming R.calls R.moved R.failures R.interrupted input.old input.new result }
+    ensures place { OnOk result (front.new.place ≡ front.old.place + 3 * count) }
+    ensures held { OnOk result (front.new.held ≤ front.old.held + 4 * count) }
+{
+    let place = front.place;
+    let entries = take_entries(alloc, u64::from(count), input, front)?;
+    check_entries(alloc, place, entries)
+}
+
+/// The dictionary of entries that stand at a place.
+fn check_entries(alloc: Global, place: u64, entries: Vec<[u8; 3]>) -> Result<Dict, ReadFault>
+    requires count { length entries.items ≤ 65535 }
+    requires place { place < 2 ^ 62 }
+    ensures dict { IfOk result (λ dict. dict ≡ entries.items) }
+    ensures passes { OnOk result (entries_check place entries.items ≡ means tt) }
+    ensures refused { IfErr result (λ fault. fault ≢ ReadFault.Memory → Refuses (entries_check place entries.items) fault) }
+{
+    match Dict::new(alloc, entries) {
+        Ok(dict) => Ok(dict),
+        Err(fault) => Err(entries_refusal(place, fault)),
+    }
+}
+
+/// The refusal of a fault of entries that stand at a place.
+fn entries_refusal(place: u64, fault: DictFault) -> ReadFault
+    requires { place < 2 ^ 62 }
+    ensures refused { fault ≢ DictFault.Memory → Refuses (entries_refusal place fault) result }
+    ensures memory { fault ≡ DictFault.Memory → result ≡ ReadFault.Memory }
+{
+    match fault {
+        DictFault::Child(symbol) => ReadFault::Refused {
+            place: place + 3 * u64::from(symbol),
+            reason: Reason::Child,
+        },
+        DictFault::Cycle(symbol) => ReadFault::Refused {
+            place: place + 3 * u64::from(symbol),
+            reason: Reason::Cycle,
+        },
+        DictFault::LongSymbol(symbol) => ReadFault::Refused {
+            place: place + 3 * u64::from(symbol),
+            reason: Reason::LongSymbol,
+        },
+        DictFault::Memory => ReadFault::Memory,
+    }
+}

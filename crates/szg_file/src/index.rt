@@ -1,0 +1,218 @@
+ghost use Rattle.std.specs.Prelude.{◌≡◌, ◌+◌, ◌*◌, ◌≤◌, ◌<◌, ◌^◌, ◌∷◌, [], ◌++◌, Err, length, map, OnOk, OnErr, IfOk, IfSome};
+ghost use Rattle.szg_block.specs.Sound.{entry_count};
+ghost use Rattle.szg_block.specs.Subtable.{layout_of, IsShapedHead};
+ghost use Rattle.szg_file.specs.File.{each, sparse_of, sparse_field, lengths_of, lengths_field, index_check};
+ghost use Rattle.szg_file.specs.Held.{subtable_of, IsHeaded, IsIndexed};
+ghost use Rattle.szg_file.specs.Reading.{Reading, Checks};
+
+use crate::begun::{Begun, Indexed, Measured, Slot};
+use crate::fault::{ReadFault, Reason};
+use crate::fields::append;
+use crate::front::Front;
+use crate::taking::{take_numbers, take_sparse};
+use std::alloc::Global;
+use szg_block::{Sub, SubFault, check_index};
+use szg_io::Input;
+
+/// Takes the sparse index of each subtable that isn't constant.
+pub fn read_indexes<R: Input>(
+    alloc: Global,
+    list: Vec<Begun>,
+    input: &mut R,
+    front: &mut Front,
+) -> Result<Vec<Indexed>, ReadFault>
+    requires place { front.old.place < 2 ^ 60 }
+    requires few { length list.items ≤ 8 }
+    ensures indexes { Reading (each sparse_field list.items) (λ indexed. indexed.items) front.old front.new R.coming R.calls R.moved R.failures R.interrupted input.old input.new result }
+    ensures count { IfOk result (λ indexed. length indexed.items ≡ length list.items) }
+    ensures place { OnOk result (front.new.place ≤ front.old.place + 2 ^ 40) }
+{
+    let mut indexed = Vec::new(alloc);
+    'indexes: for begun in list {
+        let next = read_index(alloc, begun, input, front)?;
+        append(&mut indexed, next, front)?;
+    }
+    Ok(indexed)
+}
+
+/// Takes one subtable's sparse index.
+fn read_index<R: Input>(
+    alloc: Global,
+    begun: Begun,
+    input: &mut R,
+    front: &mut Front,
+) -> Result<Indexed, ReadFault>
+    requires place { front.old.place < 2 ^ 60 + 2 ^ 40 }
+    ensures index { Reading (sparse_field begun) (λ indexed. indexed) front.old front.new R.coming R.calls R.moved R.failures R.interrupted input.old input.new result }
+    ensures place { OnOk result (front.new.place ≤ front.old.place + 2 ^ 36) }
+{
+    let Begun { slot, sub } = begun;
+    let (sub, index) = index_sub(alloc, slot, sub, input, front)?;
+    Ok(Indexed { slot, sub, index })
+}
+
+/// Takes a sparse index into its subtable, and tells where it stands; a constant subtable has none.
+fn index_sub<R: Input>(
+    alloc: Global,
+    slot: Slot,
+    sub: Sub,
+    input: &mut R,
+    front: &mut Front,
+) -> Result<(Sub, u64), ReadFault>
+    requires place { front.old.place < 2 ^ 60 + 2 ^ 40 }
+    requires headed { IsHeaded sub }
+    ensures index { Reading (sparse_of slot (subtable_of sub)) (λ found. record { slot = slot; subtable = subtable_of found.0; index = found.1 }) front.old front.new R.coming R.calls R.moved R.failures R.interrupted input.old input.new result }
+    ensures indexed { IfOk result (λ found. IsIndexed found.0 slot.size) }
+    ensures stands { IfOk result (λ found. found.1 < 2 ^ 61) }
+    ensures place { OnOk result (front.new.place ≤ front.old.place + 2 ^ 36) }
+{
+    match sub {
+        Sub::Constant { flags, byte } => Ok((Sub::Constant { flags, byte }, 0)),
+        Sub::Pairs {
+            flags,
+            block_bits,
+            span_bits,
+            extra,
+            blocks,
+            code,
+            dict,
+            sparse: _,
+            lengths,
+            packed,
+        } => {
+            let index = front.place;
+            let count = span_count(span_bits, slot.size);
+            let sparse = take_sparse(alloc, count, input, front)?;
+            let sub = Sub::Pairs {
+                flags,
+                block_bits,
+                span_bits,
+                extra,
+                blocks,
+                code,
+                dict,
+                sparse,
+                lengths,
+                packed,
+            };
+            Ok((sub, index))
+        }
+    }
+}
+
+/// The number of spans begun: a sparse index has an entry for each.
+fn span_count(span_bits: u8, size: u64) -> u64
+    requires some { 1 ≤ span_bits }
+    requires most { span_bits ≤ 31 }
+    requires size { size < 2 ^ 33 }
+    ensures count { result ≡ entry_count span_bits size }
+    ensures most { result ≤ 2 ^ 33 }
+{
+    let span = 1_u64 << span_bits;
+    (size + span - 1) / span
+}
+
+/// Takes the lengths of each subtable that isn't constant.
+pub fn read_lengths<R: Input>(
+    alloc: Global,
+    list: Vec<Indexed>,
+    input: &mut R,
+    front: &mut Front,
+) -> Result<Vec<Measured>, ReadFault>
+    requires place { front.old.place < 2 ^ 60 }
+    requires few { length list.items ≤ 8 }
+    ensures lengths { Reading (each lengths_field list.items) (λ measured. measured.items) front.old front.new R.coming R.calls R.moved R.failures R.interrupted input.old input.new result }
+    ensures count { IfOk result (λ measured. length measured.items ≡ length list.items) }
+    ensures place { OnOk result (front.new.place ≤ front.old.place + 2 ^ 40) }
+{
+    let mut measured = Vec::new(alloc);
+    'lengths: for indexed in list {
+        let next = read_measured(alloc, indexed, input, front)?;
+        append(&mut measured, next, front)?;
+    }
+    Ok(measured)
+}
+
+/// Takes one subtable's lengths.
+fn read_measured<R: Input>(
+    alloc: Global,
+    indexed: Indexed,
+    input: &mut R,
+    front: &mut Front,
+) -> Result<Measured, ReadFault>
+    requires place { front.old.place < 2 ^ 60 + 2 ^ 40 }
+    ensures lengths { Reading (lengths_field indexed) (λ measured. measured) front.old front.new R.coming R.calls R.moved R.failures R.interrupted input.old input.new result }
+    ensures place { OnOk result (front.new.place ≤ front.old.place + 2 ^ 36) }
+{
+    let Indexed { slot, sub, index } = indexed;
+    let sub = measure_sub(alloc, slot, index, sub, input, front)?;
+    Ok(Measured { slot, sub, index })
+}
+
+/// Takes the lengths into their subtable, and checks them and the sparse index, which stands at `index`.
+fn measure_sub<R: Input>(
+    alloc: Global,
+    slot: Slot,
+    index: u64,
+    sub: Sub,
+    input: &mut R,
+    front: &mut Front,
+) -> Result<Sub, ReadFault>
+    requires place { front.old.place < 2 ^ 60 + 2 ^ 40 }
+    requires indexed { IsIndexed sub slot.size }
+    requires index { index < 2 ^ 61 }
+    ensures lengths { Reading (lengths_of slot index (subtable_of sub)) (λ found. record { slot = slot; subtable = subtable_of found; index = index }) front.old front.new R.coming R.calls R.moved R.failures R.interrupted input.old input.new result }
+    ensures shaped { IfOk result (λ found. IsShapedHead found slot.size) }
+    ensures place { OnOk result (front.new.place ≤ front.old.place + 2 ^ 36) }
+{
+    match sub {
+        Sub::Constant { flags, byte } => Ok(Sub::Constant { flags, byte }),
+        Sub::Pairs {
+            flags,
+            block_bits,
+            span_bits,
+            extra,
+            blocks,
+            code,
+            dict,
+            sparse,
+            lengths: _,
+            packed,
+        } => {
+            let place = front.place;
+            let lengths = take_numbers(alloc, blocks as u64 + extra as u64, input, front)?;
+            let sub = Sub::Pairs {
+                flags,
+                block_bits,
+                span_bits,
+                extra,
+                blocks,
+                code,
+                dict,
+                sparse,
+                lengths,
+                packed,
+            };
+            if let Some((place, reason)) = index_refusal(&sub, slot.size, place, index) {
+                return Err(ReadFault::Refused { place, reason });
+            }
+            Ok(sub)
+        }
+    }
+}
+
+/// The checks of lengths that stand at `place` and of a sparse index that stands at `index`.
+fn index_refusal(sub: &Sub, size: u64, place: u64, index: u64) -> Option<(u64, Reason)>
+    requires shaped { IsShapedHead sub.now size }
+    requires size { size < 2 ^ 33 }
+    requires index { index < 2 ^ 61 }
+    ensures { IfSome (layout_of sub.now) (λ layout. Checks (index_check place index layout size) result) }
+{
+    match check_index(sub, size) {
+        Ok(()) => None,
+        Err(SubFault::ShortTotal) => Some((place, Reason::ShortTotal)),
+        Err(SubFault::SparseEntry(entry)) => Some((index + 6 * entry, Reason::SparseEntry)),
+        // the index alone has no other fault
+        Err(SubFault::Word(_)) => None,
+    }
+}

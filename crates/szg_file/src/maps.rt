@@ -1,0 +1,182 @@
+ghost use Rattle.std.specs.Prelude.{◌≡◌, ◌+◌, ◌*◌, ◌≤◌, ◌<◌, ◌^◌, ◌∷◌, [], length, map, option_map, OnOk};
+ghost use Rattle.szg_file.specs.File.{each, list_field, map_lists, map_field, maps_field, flags_of};
+ghost use Rattle.szg_file.specs.Held.{map_of};
+ghost use Rattle.szg_file.specs.Reading.{Reading};
+
+use crate::begun::Begun;
+use crate::fault::ReadFault;
+use crate::fields::{append, has_flag, read_byte, read_number};
+use crate::front::Front;
+use crate::table::Map;
+use crate::taking::{take_bytes, take_fill, take_numbers};
+use std::alloc::Global;
+use szg_block::Sub;
+use szg_io::Input;
+use szg_values::Kind;
+
+/// Takes the maps of a DTZ file, an item a part; a WDL file has none.
+pub fn read_maps<R: Input>(
+    alloc: Global,
+    kind: Kind,
+    heads: &[Begun],
+    input: &mut R,
+    front: &mut Front,
+) -> Result<Vec<Option<Map>>, ReadFault>
+    requires place { front.old.place < 2 ^ 60 }
+    requires few { length heads.now ≤ 8 }
+    ensures maps { Reading (maps_field kind (map (λ begun. begun.subtable) heads.now)) (λ list. map (option_map map_of) list.items) front.old front.new R.coming R.calls R.moved R.failures R.interrupted input.old input.new result }
+    ensures place { OnOk result (front.new.place ≤ front.old.place + 2 ^ 23) }
+{
+    match kind {
+        Kind::Wdl => Ok(Vec::new(alloc)),
+        Kind::Dtz => read_dtz_maps(alloc, heads, input, front),
+    }
+}
+
+/// Takes the maps of a DTZ file, and the fill behind them.
+fn read_dtz_maps<R: Input>(
+    alloc: Global,
+    heads: &[Begun],
+    input: &mut R,
+    front: &mut Front,
+) -> Result<Vec<Option<Map>>, ReadFault>
+    requires place { front.old.place < 2 ^ 60 }
+    requires few { length heads.now ≤ 8 }
+    ensures maps { Reading (maps_field Kind.Dtz (map (λ begun. begun.subtable) heads.now)) (λ list. map (option_map map_of) list.items) front.old front.new R.coming R.calls R.moved R.failures R.interrupted input.old input.new result }
+    ensures place { OnOk result (front.new.place ≤ front.old.place + 2 ^ 23) }
+{
+    let maps = read_each(alloc, heads, input, front)?;
+    take_fill(2, input, front)?;
+    Ok(maps)
+}
+
+/// Takes the map of each part that has one.
+fn read_each<R: Input>(
+    alloc: Global,
+    heads: &[Begun],
+    input: &mut R,
+    front: &mut Front,
+) -> Result<Vec<Option<Map>>, ReadFault>
+    requires place { front.old.place < 2 ^ 60 }
+    requires few { length heads.now ≤ 8 }
+    ensures maps { Reading (each map_field (map (λ begun. begun.subtable) heads.now)) (λ list. map (option_map map_of) list.items) front.old front.new R.coming R.calls R.moved R.failures R.interrupted input.old input.new result }
+    ensures place { OnOk result (front.new.place ≤ front.old.place + 8 * 600000) }
+{
+    let mut list = Vec::new(alloc);
+    'heads: for head in heads {
+        let lists = read_map(alloc, head, input, front)?;
+        append(&mut list, lists, front)?;
+    }
+    Ok(list)
+}
+
+/// The flags of a subtable.
+fn flags_of(begun: &Begun) -> u8
+    ensures { result ≡ flags_of begun.now.subtable }
+{
+    match &begun.sub {
+        Sub::Constant { flags, .. } => *flags,
+        Sub::Pairs { flags, .. } => *flags,
+    }
+}
+
+/// Takes the map of a part, where flag 2 says that it has one.
+fn read_map<R: Input>(
+    alloc: Global,
+    begun: &Begun,
+    input: &mut R,
+    front: &mut Front,
+) -> Result<Option<Map>, ReadFault>
+    requires { front.old.place + 600000 < 2 ^ 62 }
+    ensures lists { Reading (map_field begun.now.subtable) (option_map map_of) front.old front.new R.coming R.calls R.moved R.failures R.interrupted input.old input.new result }
+    ensures place { OnOk result (front.new.place ≤ front.old.place + 600000) }
+{
+    let flags = flags_of(begun);
+    if !has_flag(1, flags) {
+        return Ok(None);
+    }
+    let lists = read_lists(alloc, flags, input, front)?;
+    Ok(Some(lists))
+}
+
+/// Takes a map: with flag 16 its lists are wide and begin at an even place.
+fn read_lists<R: Input>(
+    alloc: Global,
+    flags: u8,
+    input: &mut R,
+    front: &mut Front,
+) -> Result<Map, ReadFault>
+    requires { front.old.place + 600000 < 2 ^ 62 }
+    ensures lists { Reading (map_lists flags) map_of front.old front.new R.coming R.calls R.moved R.failures R.interrupted input.old input.new result }
+    ensures place { OnOk result (front.new.place ≤ front.old.place + 600000) }
+{
+    if has_flag(4, flags) {
+        take_fill(2, input, front)?;
+        let lists = read_wide_lists(alloc, input, front)?;
+        return Ok(Map::Wide(lists));
+    }
+    let lists = read_byte_lists(alloc, input, front)?;
+    Ok(Map::Bytes(lists))
+}
+
+/// Takes four lists of bytes: for wins, losses, cursed wins and blessed losses.
+fn read_byte_lists<R: Input>(
+    alloc: Global,
+    input: &mut R,
+    front: &mut Front,
+) -> Result<[Vec<u8>; 4], ReadFault>
+    requires { front.old.place + 4 * 256 < 2 ^ 62 }
+    ensures lists { Reading (each list_field (1 ∷ 1 ∷ 1 ∷ 1 ∷ [])) (map (λ list. list.items)) front.old front.new R.coming R.calls R.moved R.failures R.interrupted input.old input.new result }
+    ensures place { OnOk result (front.new.place ≤ front.old.place + 4 * 256) }
+{
+    let wins = read_bytes(alloc, input, front)?;
+    let losses = read_bytes(alloc, input, front)?;
+    let cursed_wins = read_bytes(alloc, input, front)?;
+    let blessed_losses = read_bytes(alloc, input, front)?;
+    Ok([wins, losses, cursed_wins, blessed_losses])
+}
+
+/// Takes four lists of numbers of two bytes: for wins, losses, cursed wins and blessed losses.
+fn read_wide_lists<R: Input>(
+    alloc: Global,
+    input: &mut R,
+    front: &mut Front,
+) -> Result<[Vec<u16>; 4], ReadFault>
+    requires { front.old.place + 4 * 131072 < 2 ^ 62 }
+    ensures lists { Reading (each list_field (2 ∷ 2 ∷ 2 ∷ 2 ∷ [])) (map (λ list. list.items)) front.old front.new R.coming R.calls R.moved R.failures R.interrupted input.old input.new result }
+    ensures place { OnOk result (front.new.place ≤ front.old.place + 4 * 131072) }
+{
+    let wins = read_numbers(alloc, input, front)?;
+    let losses = read_numbers(alloc, input, front)?;
+    let cursed_wins = read_numbers(alloc, input, front)?;
+    let blessed_losses = read_numbers(alloc, input, front)?;
+    Ok([wins, losses, cursed_wins, blessed_losses])
+}
+
+/// Takes a list of bytes, which a byte says the length of.
+fn read_bytes<R: Input>(
+    alloc: Global,
+    input: &mut R,
+    front: &mut Front,
+) -> Result<Vec<u8>, ReadFault>
+    requires { front.old.place + 256 < 2 ^ 62 }
+    ensures list { Reading (list_field 1) (λ list. list.items) front.old front.new R.coming R.calls R.moved R.failures R.interrupted input.old input.new result }
+    ensures place { OnOk result (front.new.place ≤ front.old.place + 256) }
+{
+    let count = read_byte(input, front)?;
+    take_bytes(alloc, u64::from(count), input, front)
+}
+
+/// Takes a list of numbers of two bytes, which such a number says the length of.
+fn read_numbers<R: Input>(
+    alloc: Global,
+    input: &mut R,
+    front: &mut Front,
+) -> Result<Vec<u16>, ReadFault>
+    requires { front.old.place + 131072 < 2 ^ 62 }
+    ensures list { Reading (list_field 2) (λ list. list.items) front.old front.new R.coming R.calls R.moved R.failures R.interrupted input.old input.new result }
+    ensures place { OnOk result (front.new.place ≤ front.old.place + 131072) }
+{
+    let count = read_number(input, front)?;
+    take_numbers(alloc, u64::from(count), input, front)
+}

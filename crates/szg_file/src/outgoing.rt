@@ -1,0 +1,120 @@
+ghost use Rattle.std.specs.Prelude.{◌≡◌, ℕ, ◌+◌, ◌<◌, ◌≤◌, ◌%◌, ◌^◌, ◌↔◌, [], ◌∷◌, ◌++◌, true, false, IsTrue, length, take, IfOk, IfErr, OnOk, OnErr};
+ghost use Rattle.szg_io.specs.Device.{Gives, HasFailed};
+ghost use Rattle.szg_file.specs.FileOf.{written, padding, spare};
+ghost use Rattle.szg_file.specs.Writing.{Writing};
+
+use crate::fault::WriteFault;
+use arrayvec::ArrayVec;
+use szg_io::{Output, give_whole};
+
+/// How far the writing has come.
+#[derive(Drop)]
+pub struct Outgoing<'a> {
+    /// The number of bytes that went out, modulo 2^64; no table's file is as long.
+    pub out: u64,
+    /// The bytes behind them that wait to be given.
+    pub held: ArrayVec<u8, 4096>,
+    /// The fill bytes that no section has taken.
+    pub fill: &'a [u8],
+}
+
+impl<'a> Outgoing<'a> {
+    /// Before the first byte of a file with this fill.
+    pub fn new(fill: &'a [u8]) -> Outgoing<'a>
+        ensures out { result.out ≡ 0 }
+        ensures held { result.held.items ≡ [] }
+        ensures fill { result.fill.now ≡ fill.now }
+    {
+        Outgoing {
+            out: 0,
+            held: ArrayVec::new(),
+            fill,
+        }
+    }
+}
+
+/// Gives a piece behind so many bytes, and tells how many bytes went out then.
+fn give<W: Output>(piece: &[u8], output: &mut W, out: u64) -> Result<u64, WriteFault>
+    ensures ok { IfOk result (λ now. now ≡ (out + length piece.now) % 2 ^ 64) }
+    ensures given { OnOk result (Gives (W.written output.old) (W.written output.new) (W.calls output.old) (W.calls output.new) (W.moved output.old) (W.moved output.new) piece.now 0) }
+    ensures quiet { OnOk result (W.failures output.new ≡ W.failures output.old) }
+    ensures fault { IfErr result (λ fault. (n : ℕ) × (n < length piece.now) × (fault.out ≡ (out + n) % 2 ^ 64)
+        × Gives (W.written output.old) (W.written output.new) (W.calls output.old) (W.calls output.new) (W.moved output.old) (W.moved output.new) (take n piece.now) 1) }
+    ensures failed { OnErr result (HasFailed (W.failures output.old) (W.failures output.new) (W.interrupted output.new)) }
+{
+    match give_whole(output, piece) {
+        Ok(()) => Ok(out.wrapping_add(piece.len() as u64)),
+        Err(n) => Err(WriteFault {
+            out: out.wrapping_add(n as u64),
+        }),
+    }
+}
+
+/// Gives the bytes that are held.
+pub fn flush<W: Output>(output: &mut W, outgoing: &mut Outgoing) -> Result<(), WriteFault>
+    ensures none { Writing [] outgoing.old outgoing.new W.written W.calls W.moved W.failures W.interrupted output.old output.new result }
+    ensures held { OnOk result (outgoing.new.held.items ≡ []) }
+{
+    outgoing.out = give(outgoing.held.as_slice(), output, outgoing.out)?;
+    outgoing.held.clear();
+    Ok(())
+}
+
+/// Holds a piece, where there is room for it.
+fn hold(piece: &[u8], outgoing: &mut Outgoing) -> bool
+    ensures room { IsTrue result ↔ (length outgoing.old.held.items + length piece.now ≤ 4096) }
+    ensures out { outgoing.new.out ≡ outgoing.old.out }
+    ensures fill { outgoing.new.fill.now ≡ outgoing.old.fill.now }
+    ensures held { result ≡ true → outgoing.new.held.items ≡ outgoing.old.held.items ++ piece.now }
+    ensures kept { result ≡ false → outgoing.new.held.items ≡ outgoing.old.held.items }
+{
+    outgoing.held.try_extend_from_slice(piece).is_ok()
+}
+
+/// Holds a piece, or gives it where it is too long.
+pub fn put<W: Output>(
+    piece: &[u8],
+    output: &mut W,
+    outgoing: &mut Outgoing,
+) -> Result<(), WriteFault>
+    ensures { Writing (written piece.now ∷ []) outgoing.old outgoing.new W.written W.calls W.moved W.failures W.interrupted output.old output.new result }
+{
+    if hold(piece, outgoing) {
+        return Ok(());
+    }
+    flush(output, outgoing)?;
+    if !hold(piece, outgoing) {
+        outgoing.out = give(piece, output, outgoing.out)?;
+    }
+    Ok(())
+}
+
+/// Puts so many fill bytes.
+pub fn put_spare<W: Output>(
+    count: u64,
+    output: &mut W,
+    outgoing: &mut Outgoing,
+) -> Result<(), WriteFault>
+    requires { count < 2 ^ 32 }
+    ensures { Writing (spare count ∷ []) outgoing.old outgoing.new W.written W.calls W.moved W.failures W.interrupted output.old output.new result }
+{
+    let count = outgoing.fill.len().min(count as usize);
+    let (fill, rest) = outgoing.fill.split_at(count);
+    outgoing.fill = rest;
+    put(fill, output, outgoing)
+}
+
+/// Puts the fill up to a multiple of the unit, 2 or 64.
+pub fn put_padding<W: Output>(
+    unit: u64,
+    output: &mut W,
+    outgoing: &mut Outgoing,
+) -> Result<(), WriteFault>
+    requires some { 0 < unit }
+    requires most { unit < 2 ^ 32 }
+    requires whole { 2 ^ 64 % unit ≡ 0 }
+    ensures { Writing (padding unit ∷ []) outgoing.old outgoing.new W.written W.calls W.moved W.failures W.interrupted output.old output.new result }
+{
+    let place = outgoing.out.wrapping_add(outgoing.held.len() as u64);
+    put_spare((unit - place % unit) % unit, output, outgoing)
+}

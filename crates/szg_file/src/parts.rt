@@ -1,0 +1,296 @@
+ghost use Rattle.std.specs.Prelude.{ℕ, ◌≡◌, ◌+◌, ◌*◌, ◌≤◌, ◌<◌, ◌^◌, ◌∷◌, ◌++◌, [], length, map, if◌then◌else◌, Some, None, OnOk, IfOk, IfErr, IfSome, OnErr, Err};
+ghost use Rattle.std.specs.List.{range_with_len};
+ghost use Rattle.szg_values.specs.Material.{man_codes};
+ghost use Rattle.szg_count.specs.Groups.{IsPart, nibble, nibbles_of, order_fault, size_of};
+ghost use Rattle.szg_count.specs.Seen.{nibbles_in};
+ghost use Rattle.szg_file.specs.Contents.{slots, part_slots, part_numbers, side_numbers, order_bytes};
+ghost use Rattle.szg_file.specs.File.{each, part_field, part_checks, order_check, part_of_bytes};
+ghost use Rattle.szg_file.specs.Format.{means, refuses};
+ghost use Rattle.szg_file.specs.Held.{part_of};
+ghost use Rattle.szg_file.specs.Parts.{part_with, slots_with};
+ghost use Rattle.szg_file.specs.Reading.{Reading, Checks};
+
+use crate::begun::Slot;
+use crate::fault::{ReadFault, Reason};
+use crate::front::{Front, grow};
+use crate::table::PartBytes;
+use crate::taking::take_field;
+use arrayvec::ArrayVec;
+use std::alloc::Global;
+use szg_count::{Groups, Order, OrderFault};
+use szg_io::Input;
+use szg_values::{Kind, Material};
+
+/// The parts of a file, and the subtables that they make.
+#[derive(Drop)]
+pub struct Parts {
+    pub bytes: Vec<PartBytes>,
+    pub slots: Vec<Slot>,
+}
+
+/// How many order bytes a part has.
+fn order_count(material: &Material) -> usize
+    ensures number { result ≡ order_bytes material.now }
+    ensures some { 1 ≤ result }
+    ensures few { result ≤ 2 }
+{
+    if material.has_pawns() && material.other_pawns() > 0 {
+        2
+    } else {
+        1
+    }
+}
+
+/// How many men a material has.
+fn man_count(material: &Material) -> usize
+    ensures number { result ≡ length (man_codes material.now) }
+    ensures some { 3 ≤ result }
+    ensures few { result ≤ 6 }
+{
+    material.men().len()
+}
+
+/// Whether subtables have two sides.
+fn has_two_sides(material: &Material, kind: Kind) -> bool
+    ensures { side_numbers material.now kind ≡ (if result then 0 ∷ 1 ∷ [] else 0 ∷ []) }
+{
+    match kind {
+        Kind::Wdl => !material.symmetric(),
+        Kind::Dtz => false,
+    }
+}
+
+/// A side's nibble of a byte: side 0 has the low one.
+fn nibble_of(side: u8, byte: u8) -> u8
+    requires { side < 2 }
+    ensures { result ≡ nibble side byte }
+{
+    if side == 0 { byte % 16 } else { byte / 16 }
+}
+
+/// A side's nibbles of a part.
+fn order_of(side: u8, order: &[u8], men: &[u8]) -> Order
+    requires side { side < 2 }
+    requires order { 1 ≤ length order.now }
+    requires men { length men.now ≤ 6 }
+    ensures { nibbles_in result ≡ nibbles_of side order.now men.now }
+{
+    let other = if order.len() > 1 {
+        Some(nibble_of(side, order[1]))
+    } else {
+        None
+    };
+    let mut used = ArrayVec::new();
+    'men: for man in men {
+        used.push(nibble_of(side, *man));
+    }
+    Order {
+        lead: nibble_of(side, order[0]),
+        other,
+        men: used,
+    }
+}
+
+/// The number of positions of a part's side; else the first check of its order that fails.
+fn side_size(
+    material: &Material,
+    part: u8,
+    side: u8,
+    order: &[u8],
+    men: &[u8],
+) -> Result<u64, OrderFault>
+    requires part { IsPart material.now part }
+    requires side { side < 2 }
+    requires order { 1 ≤ length order.now }
+    requires men { length men.now ≤ 6 }
+    ensures stands { OnOk result (order_fault material.now (nibbles_of side order.now men.now) ≡ None) }
+    ensures size { IfOk result (λ size. size ≡ size_of material.now part (nibbles_of side order.now men.now)) }
+    ensures fits { IfOk result (λ size. size < 2 ^ 33) }
+    ensures fault { IfErr result (λ fault. order_fault material.now (nibbles_of side order.now men.now) ≡ Some fault) }
+{
+    let groups = Groups::of(material, part, &order_of(side, order, men))?;
+    Ok(groups.size())
+}
+
+/// The sizes of a part's sides.
+#[derive(Clone, Copy)]
+pub struct Sizes {
+    pub first: u64,
+    pub second: Option<u64>,
+}
+
+/// Where and why a part is refused whose order fails a check, and which stands at this place.
+fn refusal_of(fault: OrderFault, place: u64, orders: usize) -> (u64, Reason)
+    requires place { place < 2 ^ 61 }
+    requires orders { orders ≤ 2 }
+    ensures { order_check place orders (Some fault) ≡ refuses result.0 result.1 }
+{
+    match fault {
+        OrderFault::Pieces => (place + orders as u64, Reason::Pieces),
+        OrderFault::PawnsFirst => (place + orders as u64, Reason::PawnsFirst),
+        OrderFault::OrderPlace => (place, Reason::OrderPlace),
+    }
+}
+
+/// The sizes of the sides of a part that stands at this place; else where and why it is refused.
+fn part_sizes(
+    material: &Material,
+    kind: Kind,
+    part: u8,
+    place: u64,
+    order: &[u8],
+    men: &[u8],
+) -> Result<Sizes, (u64, Reason)>
+    requires part { IsPart material.now part }
+    requires order { length order.now ≡ order_bytes material.now }
+    requires men { length men.now ≤ 6 }
+    requires place { place < 2 ^ 61 }
+    ensures passes { OnOk result (part_checks material.now kind place (part_with order.now men.now) ≡ means tt) }
+    ensures slots { IfOk result (λ sizes. part_slots material.now (side_numbers material.now kind) part (part_with order.now men.now) ≡ slots_with part sizes.first sizes.second) }
+    ensures fits { IfOk result (λ sizes. (sizes.first < 2 ^ 33) × IfSome sizes.second (λ second. second < 2 ^ 33)) }
+    ensures refuses { IfErr result (λ refusal. part_checks material.now kind place (part_with order.now men.now) ≡ refuses refusal.0 refusal.1) }
+{
+    let first = match side_size(material, part, 0, order, men) {
+        Ok(size) => size,
+        Err(fault) => return Err(refusal_of(fault, place, order.len())),
+    };
+    if !has_two_sides(material, kind) {
+        return Ok(Sizes {
+            first,
+            second: None,
+        });
+    }
+    match side_size(material, part, 1, order, men) {
+        Ok(second) => Ok(Sizes {
+            first,
+            second: Some(second),
+        }),
+        Err(fault) => Err(refusal_of(fault, place, order.len())),
+    }
+}
+
+/// A list of its own of these bytes, which the front has taken.
+fn copied(alloc: Global, bytes: &[u8], front: &Front) -> Result<Vec<u8>, ReadFault>
+    requires few { length bytes.now ≤ 8 }
+    requires place { front.now.place < 2 ^ 61 }
+    ensures bytes { IfOk result (λ list. list.items ≡ bytes.now) }
+    ensures memory { OnErr result (result ≡ Err ReadFault.Memory) }
+{
+    let mut list = Vec::new(alloc);
+    grow(&mut list, bytes.len(), front.held, front.place)?;
+    list.extend_from_slice(bytes)?;
+    Ok(list)
+}
+
+/// Takes a part, and tells the sizes of its sides.
+fn read_part<R: Input>(
+    alloc: Global,
+    material: &Material,
+    kind: Kind,
+    part: u8,
+    input: &mut R,
+    front: &mut Front,
+) -> Result<(PartBytes, Sizes), ReadFault>
+    requires part { IsPart material.now part }
+    requires place { front.old.place < 2 ^ 60 }
+    ensures part { Reading (part_field material.now kind) (λ read. part_of read.0) front.old front.new R.coming R.calls R.moved R.failures R.interrupted input.old input.new result }
+    ensures slots { IfOk result (λ read. part_slots material.now (side_numbers material.now kind) part (part_of read.0) ≡ slots_with part read.1.first read.1.second) }
+    ensures fits { IfOk result (λ read. (read.1.first < 2 ^ 33) × IfSome read.1.second (λ second. second < 2 ^ 33)) }
+    ensures place { OnOk result (front.new.place ≤ front.old.place + 8) }
+{
+    let place = front.place;
+    let orders = order_count(material);
+    let size = orders + man_count(material);
+    let mut piece = [0; 8];
+    take_field(input, front, &mut piece[..size])?;
+    let order = &piece[..orders];
+    let men = &piece[orders..size];
+    let sizes = match part_sizes(material, kind, part, place, order, men) {
+        Ok(sizes) => sizes,
+        Err((place, reason)) => return Err(ReadFault::Refused { place, reason }),
+    };
+    let order = copied(alloc, order, front)?;
+    let men = copied(alloc, men, front)?;
+    front.held += size as u64 + 4;
+    Ok((PartBytes { order, men }, sizes))
+}
+
+/// How many parts a file has.
+fn part_count(material: &Material) -> u8
+    ensures numbers { part_numbers material.now ≡ range_with_len 0 result }
+    ensures parts { (part : ℕ) → part < result → IsPart material.now part }
+    ensures few { result ≤ 4 }
+{
+    if material.has_pawns() { 4 } else { 1 }
+}
+
+/// Adds the subtables of a part.
+fn push_slots(slots: &mut Vec<Slot>, part: u8, sizes: Sizes, front: &Front) -> Result<(), ReadFault>
+    requires part { part < 4 }
+    requires first { sizes.first < 2 ^ 33 }
+    requires second { IfSome sizes.second (λ second. second < 2 ^ 33) }
+    requires place { front.now.place < 2 ^ 61 }
+    ensures slots { OnOk result (slots.new.items ≡ slots.old.items ++ slots_with part sizes.first sizes.second) }
+    ensures memory { OnErr result (result ≡ Err ReadFault.Memory) }
+{
+    grow(slots, 2, front.held, front.place)?;
+    slots.push(Slot {
+        part,
+        side: 0,
+        size: sizes.first,
+    })?;
+    if let Some(second) = sizes.second {
+        slots.push(Slot {
+            part,
+            side: 1,
+            size: second,
+        })?;
+    }
+    Ok(())
+}
+
+/// Adds a part with its subtables.
+fn push_part(
+    parts: &mut Parts,
+    part: u8,
+    bytes: PartBytes,
+    sizes: Sizes,
+    front: &Front,
+) -> Result<(), ReadFault>
+    requires part { part < 4 }
+    requires first { sizes.first < 2 ^ 33 }
+    requires second { IfSome sizes.second (λ second. second < 2 ^ 33) }
+    requires place { front.now.place < 2 ^ 61 }
+    ensures bytes { OnOk result (parts.new.bytes.items ≡ parts.old.bytes.items ++ bytes ∷ []) }
+    ensures slots { OnOk result (parts.new.slots.items ≡ parts.old.slots.items ++ slots_with part sizes.first sizes.second) }
+    ensures memory { OnErr result (result ≡ Err ReadFault.Memory) }
+{
+    grow(&mut parts.bytes, 1, front.held, front.place)?;
+    parts.bytes.push(bytes)?;
+    push_slots(&mut parts.slots, part, sizes, front)
+}
+
+/// Takes the parts.
+pub fn read_parts<R: Input>(
+    alloc: Global,
+    material: &Material,
+    kind: Kind,
+    input: &mut R,
+    front: &mut Front,
+) -> Result<Parts, ReadFault>
+    requires { front.old.place < 2 ^ 59 }
+    ensures parts { Reading (each (λ _. part_field material.now kind) (part_numbers material.now)) (λ parts. map part_of parts.bytes.items) front.old front.new R.coming R.calls R.moved R.failures R.interrupted input.old input.new result }
+    ensures slots { IfOk result (λ parts. parts.slots.items ≡ slots material.now kind (map part_of parts.bytes.items)) }
+    ensures few { IfOk result (λ parts. length parts.slots.items ≤ 8) }
+    ensures place { OnOk result (front.new.place ≤ front.old.place + 32) }
+{
+    let mut parts = Parts {
+        bytes: Vec::new(alloc),
+        slots: Vec::new(alloc),
+    };
+    'parts: for part in 0..part_count(material) {
+        let (bytes, sizes) = read_part(alloc, material, kind, part, input, front)?;
+        push_part(&mut parts, part, bytes, sizes, front)?;
+    }
+    Ok(parts)
+}

@@ -1,0 +1,175 @@
+ghost use Rattle.std.specs.Prelude.{◌≡◌, ℕ, ◌+◌, ◌*◌, ◌^◌, ◌≤◌, ◌<◌, List, length, map, IfSome, IfOk, OnOk, IsErrOf};
+ghost use Rattle.szg_io.specs.Device.{Takes, HasFailed};
+ghost use Rattle.szg_file.specs.Format.{verdict};
+ghost use Rattle.szg_file.specs.Contents.{slots};
+ghost use Rattle.szg_file.specs.File.{file, begun};
+ghost use Rattle.szg_file.specs.Accepted.{IsAccepted};
+ghost use Rattle.szg_file.specs.Held.{file_bytes, part_of, subtable_of};
+ghost use Rattle.szg_file.specs.Reading.{Reading};
+ghost use Rattle.szg_file.specs.Reads.{FollowsVerdict, TookBytes, list_lengths};
+ghost use Rattle.szg_file.specs.FilePieces.{opening_field, packed_field, ending_field, opened, contents_of};
+
+use crate::begun::Begun;
+use crate::blocks::read_blocks;
+use crate::fault::ReadFault;
+use crate::front::Front;
+use crate::heads::read_heads;
+use crate::index::{read_indexes, read_lengths};
+use crate::maps::read_maps;
+use crate::parts::{Parts, read_parts};
+use crate::start::read_start;
+use crate::table::{Map, Table};
+use crate::taking::{take_field, take_fill};
+use std::alloc::Global;
+use szg_block::Sub;
+use szg_io::Input;
+use szg_values::{Kind, Material};
+
+/// A file up to its sparse indexes.
+#[derive(Drop)]
+pub struct Opening {
+    pub byte4: u8,
+    pub parts: Parts,
+    pub heads: Vec<Begun>,
+    pub maps: Vec<Option<Map>>,
+}
+
+/// A whole file, but for its name and its fill.
+#[derive(Drop)]
+pub struct Pieces {
+    pub byte4: u8,
+    pub parts: Parts,
+    pub subs: Vec<Sub>,
+    pub maps: Vec<Option<Map>>,
+    pub last: [u8; 16],
+}
+
+/// Takes magic and byte 4, the parts, the heads and the maps.
+fn read_opening<R: Input>(
+    alloc: Global,
+    material: &Material,
+    kind: Kind,
+    input: &mut R,
+    front: &mut Front,
+) -> Result<Opening, ReadFault>
+    requires { front.old.place ≡ 0 }
+    ensures opening { Reading (opening_field material.now kind) opened front.old front.new R.coming R.calls R.moved R.failures R.interrupted input.old input.new result }
+    ensures slots { IfOk result (λ o. o.parts.slots.items ≡ slots material.now kind (map part_of o.parts.bytes.items)) }
+    ensures begun { IfOk result (λ o. o.heads.items ≡ begun (slots material.now kind (map part_of o.parts.bytes.items)) (map (λ begun. begun.subtable) o.heads.items)) }
+    ensures few { IfOk result (λ o. length o.heads.items ≤ 8) }
+    ensures place { OnOk result (front.new.place < 2 ^ 24) }
+{
+    let byte4 = read_start(material, kind, input, front)?;
+    let parts = read_parts(alloc, material, kind, input, front)?;
+    take_fill(2, input, front)?;
+    let heads = read_heads(alloc, &parts.slots, input, front)?;
+    let maps = read_maps(alloc, kind, &heads, input, front)?;
+    Ok(Opening {
+        byte4,
+        parts,
+        heads,
+        maps,
+    })
+}
+
+/// Takes the sparse indexes, the lengths and the blocks.
+fn read_packed<R: Input>(
+    alloc: Global,
+    heads: Vec<Begun>,
+    input: &mut R,
+    front: &mut Front,
+) -> Result<Vec<Sub>, ReadFault>
+    requires place { front.old.place < 2 ^ 24 }
+    requires few { length heads.items ≤ 8 }
+    ensures packed { Reading (packed_field heads.items) (λ subs. map subtable_of subs.items) front.old front.new R.coming R.calls R.moved R.failures R.interrupted input.old input.new result }
+    ensures place { OnOk result (front.new.place < 2 ^ 56) }
+{
+    let indexed = read_indexes(alloc, heads, input, front)?;
+    let measured = read_lengths(alloc, indexed, input, front)?;
+    read_blocks(alloc, measured, input, front)
+}
+
+/// Takes the fill behind the blocks, and the last sixteen bytes.
+fn read_ending<R: Input>(input: &mut R, front: &mut Front) -> Result<[u8; 16], ReadFault>
+    requires { front.old.place < 2 ^ 56 }
+    ensures ending { Reading ending_field (λ last. last) front.old front.new R.coming R.calls R.moved R.failures R.interrupted input.old input.new result }
+{
+    take_fill(64, input, front)?;
+    let mut last = [0; 16];
+    take_field(input, front, &mut last)?;
+    Ok(last)
+}
+
+/// Takes a whole file.
+fn read_pieces<R: Input>(
+    alloc: Global,
+    material: &Material,
+    kind: Kind,
+    input: &mut R,
+    front: &mut Front,
+) -> Result<Pieces, ReadFault>
+    requires { front.old.place ≡ 0 }
+    ensures pieces { Reading (file material.now kind) (contents_of material.now kind) front.old front.new R.coming R.calls R.moved R.failures R.interrupted input.old input.new result }
+    ensures slots { IfOk result (λ p. p.parts.slots.items ≡ slots material.now kind (map part_of p.parts.bytes.items)) }
+{
+    let Opening {
+        byte4,
+        parts,
+        heads,
+        maps,
+    } = read_opening(alloc, material, kind, input, front)?;
+    let subs = read_packed(alloc, heads, input, front)?;
+    let last = read_ending(input, front)?;
+    Ok(Pieces {
+        byte4,
+        parts,
+        subs,
+        maps,
+        last,
+    })
+}
+
+/// Reads a table of this material and kind, and takes just its file's bytes.
+///
+/// `Refused` tells the first check that fails and its place: then the bytes up to the end of the field that
+/// it checks were taken, and none past it; `Truncated` where the bytes end within a field. `Device` where the
+/// reader failed, `Memory` where a growth was refused.
+pub fn read<R: Input>(
+    alloc: Global,
+    material: Material,
+    kind: Kind,
+    input: &mut R,
+) -> Result<Table, ReadFault>
+    // Where the reader tells its bytes, the answer is their verdict, however they come in pieces.
+    ensures verdict { IfSome (R.coming input.old) (λ bytes. FollowsVerdict (verdict (file material kind) 0 bytes) result (R.coming input.new)) }
+    // Whatever the reader tells: which bytes were taken, and with how many calls.
+    ensures taken { (bytes : List ℕ)
+        × Takes (R.coming input.old) (R.coming input.new) (R.calls input.old) (R.calls input.new) (R.moved input.old) (R.moved input.new) bytes 1
+        × TookBytes material kind bytes (R.coming input.new) result }
+    ensures material { IfOk result (λ t. t.contents.material ≡ material) }
+    ensures kind { IfOk result (λ t. t.contents.kind ≡ kind) }
+    ensures accepted { IfOk result (λ t. IsAccepted t.contents t.filled) }
+    ensures lists { IfOk result (λ t. list_lengths t ≤ 4 * length (file_bytes t) + 65536) }
+    ensures device { IsErrOf result ReadFault.Device → HasFailed (R.failures input.old) (R.failures input.new) (R.interrupted input.new) }
+    ensures quiet { (IsErrOf result ReadFault.Device → ⊥) → R.failures input.new ≡ R.failures input.old }
+{
+    let mut front = Front::new(alloc);
+    let Pieces {
+        byte4,
+        parts,
+        subs,
+        maps,
+        last,
+    } = read_pieces(alloc, &material, kind, input, &mut front)?;
+    Ok(Table {
+        material,
+        kind,
+        byte4,
+        parts: parts.bytes,
+        placed: parts.slots,
+        subs,
+        maps,
+        filled: front.fill,
+        last,
+    })
+}

@@ -1,0 +1,208 @@
+ghost use Rattle.std.specs.Prelude.{◌≡◌};
+
+use crate::begun::Slot;
+use crate::distances::{list_number, number_at};
+use crate::fault::MapFault;
+use crate::lookup::{Found, constant_value, flags_of, slot_number};
+use std::alloc::{AllocError, Global};
+use std::marker::Model;
+use szg_block::{Sound, Sub};
+use szg_values::{Kind, Material};
+
+/// A part's bytes, as they stand in the file: low nibbles belong to side 0, high nibbles to side 1.
+#[derive(Drop)]
+pub struct PartBytes {
+    /// One order byte, or two where both colours have pawns.
+    pub order: Vec<u8>,
+    /// A byte for each man.
+    pub men: Vec<u8>,
+}
+
+/// A DTZ part's four lists: for wins, losses, cursed wins and blessed losses.
+#[derive(Drop)]
+pub enum Map {
+    /// Items of one byte.
+    Bytes([Vec<u8>; 4]),
+    /// Items of two bytes.
+    Wide([Vec<u16>; 4]),
+}
+
+/// A table that every check of the format accepts.
+#[derive(Drop)]
+pub struct Table {
+    pub(crate) material: Material,
+    pub(crate) kind: Kind,
+    pub(crate) byte4: u8,
+    pub(crate) parts: Vec<PartBytes>,
+    // the subtables' slots, in file order
+    pub(crate) placed: Vec<Slot>,
+    pub(crate) subs: Vec<Sub>,
+    pub(crate) maps: Vec<Option<Map>>,
+    pub(crate) filled: Vec<u8>,
+    pub(crate) last: [u8; 16],
+}
+
+impl Model for Table {
+    ghost use Rattle.std.specs.Prelude.{◌≡◌, map, option_map};
+    ghost use Rattle.szg_file.specs.Contents.{slots};
+    ghost use Rattle.szg_file.specs.Accepted.{IsAccepted};
+    ghost use Rattle.szg_file.specs.Held.{Shown, part_of, subtable_of, map_of};
+
+    ghost Value = { Shown };
+
+    ghost view = { λ t. record {
+      contents = record {
+        material = t.material;
+        kind = t.kind;
+        byte4 = t.byte4;
+        parts = map part_of t.parts.items;
+        subtables = map subtable_of t.subs.items;
+        maps = map (option_map map_of) t.maps.items;
+        last = t.last;
+      };
+      filled = t.filled.items;
+    } };
+
+    ghost invariant = { λ t.
+        IsAccepted (record {
+          material = t.material;
+          kind = t.kind;
+          byte4 = t.byte4;
+          parts = map part_of t.parts.items;
+          subtables = map subtable_of t.subs.items;
+          maps = map (option_map map_of) t.maps.items;
+          last = t.last;
+        }) t.filled.items
+        × (t.placed.items ≡ slots t.material t.kind (map part_of t.parts.items)) };
+}
+
+impl Table {
+    ghost use Rattle.std.specs.Prelude.{◌≡◌, ◌≢◌, ℤ, pos, ◌<◌, ◌↔◌, map, IsSome, IfSome, IfOk, option_map, option_copied, Ok, Err, Some, None, MatchOption, neg_ℤ, ◌≤ℤ◌};
+    ghost use Rattle.szg_file.specs.Accepted.{IsAccepted};
+    ghost use Rattle.szg_file.specs.Held.{part_of, subtable_of, map_of};
+    ghost use Rattle.szg_block.specs.Subtable.{packed_of, IsShaped, IsSoundOver};
+    ghost use Rattle.szg_file.specs.Lookup.{IsFound};
+    ghost use Rattle.szg_file.specs.Values.{subtable_at, values_of, item, number_of_value};
+
+    /// The material of the name that it was read by.
+    pub fn material(&self) -> &Material
+        ensures { result.now ≡ self.now.contents.material }
+    {
+        &self.material
+    }
+
+    /// What it tells: outcomes or distances.
+    pub fn kind(&self) -> Kind
+        ensures { result ≡ self.now.contents.kind }
+    {
+        self.kind
+    }
+
+    /// The byte behind the magic: bit 0 split, bit 1 pawns, all others carried.
+    pub fn byte4(&self) -> u8
+        ensures { result ≡ self.now.contents.byte4 }
+    {
+        self.byte4
+    }
+
+    /// The parts' bytes: four parts with pawns, else one.
+    pub fn parts(&self) -> &[PartBytes]
+        ensures { map part_of result.now ≡ self.now.contents.parts }
+    {
+        &self.parts
+    }
+
+    /// The maps of a DTZ table, an item a part; none of a WDL table.
+    pub fn maps(&self) -> &[Option<Map>]
+        ensures { map (option_map map_of) result.now ≡ self.now.contents.maps }
+    {
+        &self.maps
+    }
+
+    /// The fill bytes, in file order.
+    pub fn fill(&self) -> &[u8]
+        ensures bytes { result.now ≡ self.now.filled }
+        ensures accepted { IsAccepted self.now.contents self.now.filled }
+    {
+        &self.filled
+    }
+
+    /// The sixteen bytes at the end, which nobody checks.
+    pub fn last(&self) -> &[u8; 16]
+        ensures { result.now ≡ self.now.contents.last }
+    {
+        &self.last
+    }
+
+    // A part's side, where there is one.
+    fn find(&self, part: u8, side: u8) -> Option<Found<'_>>
+        ensures found { MatchOption result (subtable_at self.now.contents part side ≡ None) (λ found. IsFound (subtable_at self.now.contents part side) found.size (subtable_of found.sub.now)) }
+        ensures accepted { IfSome result (λ found. IsShaped found.sub.now found.size × IsSoundOver found.sub.now (packed_of found.sub.now) found.size) }
+    {
+        let n = slot_number(&self.placed, part, side)?;
+        Some(Found {
+            size: self.placed[n].size,
+            sub: &self.subs[n],
+        })
+    }
+
+    /// The number of positions of a part's side, where there is one.
+    pub fn size(&self, part: u8, side: u8) -> Option<u64>
+        ensures { result ≡ option_map (λ found. found.0.size) (subtable_at self.now.contents part side) }
+    {
+        self.find(part, side).map(|found| found.size)
+    }
+
+    /// A part's side, where there is one.
+    pub fn sub(&self, part: u8, side: u8) -> Option<&Sub>
+        ensures { option_map subtable_of (option_copied result) ≡ option_map (λ found. found.1) (subtable_at self.now.contents part side) }
+    {
+        self.find(part, side).map(|found| found.sub)
+    }
+
+    /// Value i of a part's side. A constant WDL subtable stands for its byte, a DTZ one for 0.
+    pub fn get(&self, part: u8, side: u8, i: u64) -> u16
+        requires there { IsSome (subtable_at self.now.contents part side) }
+        requires below { IfSome (subtable_at self.now.contents part side) (λ found. i < found.0.size) }
+        ensures { IfSome (subtable_at self.now.contents part side) (λ found. item (values_of self.now.contents.kind found) i ≡ Some result) }
+    {
+        let Some(found) = self.find(part, side) else {
+            unreachable!()
+        };
+        let constant = constant_value(self.kind, found.sub);
+        Sound::of(found.sub, found.size, constant).get(i)
+    }
+
+    /// All values of a part's side, in the order of their indexes.
+    pub fn values(&self, alloc: Global, part: u8, side: u8) -> Result<Vec<u16>, AllocError>
+        requires { IsSome (subtable_at self.now.contents part side) }
+        ensures { IfOk result (λ list. IfSome (subtable_at self.now.contents part side) (λ found. list.items ≡ values_of self.now.contents.kind found)) }
+    {
+        let Some(found) = self.find(part, side) else {
+            unreachable!()
+        };
+        let constant = constant_value(self.kind, found.sub);
+        Sound::of(found.sub, found.size, constant).values(alloc)
+    }
+
+    /// The number of a DTZ value in a class (2 win, 1 cursed win, -1 blessed loss, -2 loss).
+    ///
+    /// `Draw` exactly for class 0; else `OutsideMap` exactly where the part has a map without such an item.
+    pub fn map_value(&self, part: u8, class: i8, v: u16) -> Result<u32, MapFault>
+        requires dtz { self.now.contents.kind ≡ Kind.Dtz }
+        requires part { IsSome (subtable_at self.now.contents part 0) }
+        requires above { neg_ℤ (pos 2) ≤ℤ class }
+        requires below { class ≤ℤ pos 2 }
+        ensures draw { (result ≡ Err MapFault.Draw) ↔ (class ≡ pos 0) }
+        ensures number { MatchOption (number_of_value self.now.contents part class v) (class ≢ pos 0 → result ≡ Err MapFault.OutsideMap) (λ n. result ≡ Ok n) }
+    {
+        let Some(list) = list_number(class) else {
+            return Err(MapFault::Draw);
+        };
+        let Some(found) = self.find(part, 0) else {
+            unreachable!()
+        };
+        let number = number_at(flags_of(found.sub), &self.maps[part as usize], list, v);
+        number.ok_or(MapFault::OutsideMap)
+    }
+}

@@ -1,0 +1,243 @@
+ghost use Rattle.std.specs.Prelude.{◌≡◌, ◌+◌, ◌*◌, ◌≤◌, ◌<◌, ◌^◌, ◌/◌, length, map, take, drop, Err, OnOk, IfOk, OnErr};
+ghost use Rattle.szg_file.specs.Format.{field, means};
+ghost use Rattle.szg_file.specs.Contents.{number_of, items};
+ghost use Rattle.szg_file.specs.File.{filled_to, rows_field, entry_of_bytes};
+ghost use Rattle.szg_file.specs.Held.{sparse_of, numbers_field, sparse_rows, spare_field};
+ghost use Rattle.szg_file.specs.Reading.{Reading};
+
+use crate::fault::{ReadFault, Reason};
+use crate::front::{Front, grow};
+use byteorder::{ByteOrder, LittleEndian};
+use std::alloc::Global;
+use szg_block::Entry;
+use szg_io::{Input, take_whole};
+
+/// Takes a field of the piece's length.
+pub fn take_field<R: Input>(
+    input: &mut R,
+    front: &mut Front,
+    piece: &mut [u8],
+) -> Result<(), ReadFault>
+    requires { front.old.place + length piece.old < 2 ^ 64 }
+    ensures field { Reading (field (length piece.new) means) (λ _. piece.new) front.old front.new R.coming R.calls R.moved R.failures R.interrupted input.old input.new result }
+    ensures place { OnOk result (front.new.place ≡ front.old.place + length piece.new) }
+    ensures held { OnOk result (front.new.held ≡ front.old.held) }
+{
+    let Ok(got) = take_whole(input, piece) else {
+        return Err(ReadFault::Device);
+    };
+    if got < piece.len() {
+        let place = front.place + got as u64;
+        return Err(ReadFault::Refused {
+            place,
+            reason: Reason::Truncated,
+        });
+    }
+    front.place += got as u64;
+    Ok(())
+}
+
+/// The most bytes that a list takes at a time.
+const PIECE: u64 = 65536;
+
+/// Takes at most 65,536 bytes to the end of a list.
+fn take_piece<R: Input>(
+    list: &mut Vec<u8>,
+    size: usize,
+    input: &mut R,
+    front: &mut Front,
+) -> Result<(), ReadFault>
+    requires most { size ≤ 65536 }
+    requires place { front.old.place + size < 2 ^ 62 }
+    ensures field { Reading (field size means) (λ _. drop (length list.old.items) list.new.items) front.old front.new R.coming R.calls R.moved R.failures R.interrupted input.old input.new result }
+    ensures kept { OnOk result (take (length list.old.items) list.new.items ≡ list.old.items) }
+    ensures longer { OnOk result (length list.new.items ≡ length list.old.items + size) }
+    ensures place { OnOk result (front.new.place ≡ front.old.place + size) }
+    ensures held { OnOk result (front.new.held ≡ front.old.held + size) }
+{
+    grow(list, size, front.held, front.place)?;
+    let at = list.len();
+    if list.resize(at + size, 0).is_err() {
+        return Err(ReadFault::Memory);
+    }
+    take_field(input, front, &mut list[at..])?;
+    front.held += size as u64;
+    Ok(())
+}
+
+/// Takes a field of so many bytes into a list of its own, a piece at a time.
+pub fn take_bytes<R: Input>(
+    alloc: Global,
+    count: u64,
+    input: &mut R,
+    front: &mut Front,
+) -> Result<Vec<u8>, ReadFault>
+    requires { front.old.place + count < 2 ^ 62 }
+    ensures field { Reading (field count means) (λ list. list.items) front.old front.new R.coming R.calls R.moved R.failures R.interrupted input.old input.new result }
+    ensures place { OnOk result (front.new.place ≡ front.old.place + count) }
+    ensures held { OnOk result (front.new.held ≡ front.old.held + count) }
+{
+    let mut list = Vec::new(alloc);
+    take_more(&mut list, count, input, front)?;
+    Ok(list)
+}
+
+/// Takes a field of so many bytes to the end of a list, a piece at a time.
+pub fn take_more<R: Input>(
+    list: &mut Vec<u8>,
+    count: u64,
+    input: &mut R,
+    front: &mut Front,
+) -> Result<(), ReadFault>
+    requires { front.old.place + count < 2 ^ 62 }
+    ensures field { Reading (field count means) (λ _. drop (length list.old.items) list.new.items) front.old front.new R.coming R.calls R.moved R.failures R.interrupted input.old input.new result }
+    ensures kept { OnOk result (take (length list.old.items) list.new.items ≡ list.old.items) }
+    ensures longer { OnOk result (length list.new.items ≡ length list.old.items + count) }
+    ensures place { OnOk result (front.new.place ≡ front.old.place + count) }
+    ensures held { OnOk result (front.new.held ≡ front.old.held + count) }
+{
+    let mut left = count;
+    'pieces: while left > 0 {
+        let size = left.min(PIECE);
+        take_piece(list, size as usize, input, front)?;
+        left -= size;
+    }
+    Ok(())
+}
+
+/// Takes so many fill bytes, at most 63.
+pub fn take_spare<R: Input>(count: u8, input: &mut R, front: &mut Front) -> Result<(), ReadFault>
+    requires count { count < 64 }
+    requires place { front.old.place < 2 ^ 62 }
+    ensures fill { Reading (spare_field count) (λ _. tt) front.old front.new R.coming R.calls R.moved R.failures R.interrupted input.old input.new result }
+    ensures place { OnOk result (front.new.place ≡ front.old.place + count) }
+    ensures held { OnOk result (front.new.held ≡ front.old.held + count) }
+{
+    let size = count as usize;
+    let mut piece = [0; 64];
+    take_field(input, front, &mut piece[..size])?;
+    grow(&mut front.fill, size, front.held, front.place)?;
+    if front.fill.extend_from_slice(&piece[..size]).is_err() {
+        return Err(ReadFault::Memory);
+    }
+    front.held += count as u64;
+    Ok(())
+}
+
+/// Takes the fill up to a multiple of the unit, 2 or 64.
+pub fn take_fill<R: Input>(unit: u8, input: &mut R, front: &mut Front) -> Result<(), ReadFault>
+    requires some { 0 < unit }
+    requires most { unit ≤ 64 }
+    requires place { front.old.place < 2 ^ 62 }
+    ensures fill { Reading (filled_to unit) (λ _. tt) front.old front.new R.coming R.calls R.moved R.failures R.interrupted input.old input.new result }
+    ensures place { OnOk result (front.new.place < front.old.place + 64) }
+    ensures held { OnOk result (front.new.held + front.old.place ≡ front.old.held + front.new.place) }
+{
+    let rest = (front.place % unit as u64) as u8;
+    take_spare((unit - rest) % unit, input, front)
+}
+
+/// The numbers of two bytes each that stand one behind another.
+fn numbers(alloc: Global, bytes: &[u8], front: &Front) -> Result<Vec<u16>, ReadFault>
+    requires paid { length bytes.now ≤ front.now.place }
+    requires place { front.now.place < 2 ^ 62 }
+    ensures numbers { IfOk result (λ list. list.items ≡ map number_of (items 2 (length bytes.now / 2) bytes.now)) }
+    ensures memory { OnErr result (result ≡ Err ReadFault.Memory) }
+{
+    let mut list = Vec::new(alloc);
+    'rows: for i in 0..bytes.len() / 2 {
+        grow(&mut list, 1, front.held + i as u64, front.place)?;
+        let number = LittleEndian::read_u16(&bytes[2 * i..]);
+        list.push(number)?;
+    }
+    Ok(list)
+}
+
+/// Takes so many numbers of two bytes each, as one field.
+pub fn take_numbers<R: Input>(
+    alloc: Global,
+    count: u64,
+    input: &mut R,
+    front: &mut Front,
+) -> Result<Vec<u16>, ReadFault>
+    requires { front.old.place + 2 * count < 2 ^ 62 }
+    ensures rows { Reading (numbers_field count) (λ list. list.items) front.old front.new R.coming R.calls R.moved R.failures R.interrupted input.old input.new result }
+    ensures place { OnOk result (front.new.place ≡ front.old.place + 2 * count) }
+    ensures held { OnOk result (front.new.held ≤ front.old.held + 3 * count) }
+{
+    let bytes = take_bytes(alloc, 2 * count, input, front)?;
+    let list = numbers(alloc, &bytes, front)?;
+    front.held += count;
+    Ok(list)
+}
+
+/// The entries of three bytes each that stand one behind another.
+fn entries(alloc: Global, bytes: &[u8], front: &Front) -> Result<Vec<[u8; 3]>, ReadFault>
+    requires paid { length bytes.now ≤ front.now.place }
+    requires place { front.now.place < 2 ^ 62 }
+    ensures entries { IfOk result (λ list. list.items ≡ items 3 (length bytes.now / 3) bytes.now) }
+    ensures memory { OnErr result (result ≡ Err ReadFault.Memory) }
+{
+    let mut list = Vec::new(alloc);
+    'rows: for i in 0..bytes.len() / 3 {
+        grow(&mut list, 1, front.held + i as u64, front.place)?;
+        let row = &bytes[3 * i..];
+        list.push([row[0], row[1], row[2]])?;
+    }
+    Ok(list)
+}
+
+/// Takes so many dictionary entries of three bytes each, as one field.
+pub fn take_entries<R: Input>(
+    alloc: Global,
+    count: u64,
+    input: &mut R,
+    front: &mut Front,
+) -> Result<Vec<[u8; 3]>, ReadFault>
+    requires { front.old.place + 3 * count < 2 ^ 62 }
+    ensures rows { Reading (rows_field 3 count) (λ list. list.items) front.old front.new R.coming R.calls R.moved R.failures R.interrupted input.old input.new result }
+    ensures place { OnOk result (front.new.place ≡ front.old.place + 3 * count) }
+    ensures held { OnOk result (front.new.held ≤ front.old.held + 4 * count) }
+{
+    let bytes = take_bytes(alloc, 3 * count, input, front)?;
+    let list = entries(alloc, &bytes, front)?;
+    front.held += count;
+    Ok(list)
+}
+
+/// The entries of a sparse index, six bytes each, that stand one behind another.
+fn sparse_entries(alloc: Global, bytes: &[u8], front: &Front) -> Result<Vec<Entry>, ReadFault>
+    requires paid { length bytes.now ≤ front.now.place }
+    requires place { front.now.place < 2 ^ 62 }
+    ensures entries { IfOk result (λ list. map sparse_of list.items ≡ map entry_of_bytes (items 6 (length bytes.now / 6) bytes.now)) }
+    ensures count { IfOk result (λ list. length list.items ≡ length bytes.now / 6) }
+    ensures memory { OnErr result (result ≡ Err ReadFault.Memory) }
+{
+    let mut list = Vec::new(alloc);
+    'rows: for i in 0..bytes.len() / 6 {
+        grow(&mut list, 1, front.held + i as u64, front.place)?;
+        let row = &bytes[6 * i..];
+        let block = LittleEndian::read_u32(row);
+        let offset = LittleEndian::read_u16(&row[4..]);
+        list.push(Entry { block, offset })?;
+    }
+    Ok(list)
+}
+
+/// Takes so many entries of a sparse index, six bytes each, as one field.
+pub fn take_sparse<R: Input>(
+    alloc: Global,
+    count: u64,
+    input: &mut R,
+    front: &mut Front,
+) -> Result<Vec<Entry>, ReadFault>
+    requires { front.old.place + 6 * count < 2 ^ 62 }
+    ensures rows { Reading (sparse_rows count) (λ list. map sparse_of list.items) front.old front.new R.coming R.calls R.moved R.failures R.interrupted input.old input.new result }
+    ensures place { OnOk result (front.new.place ≡ front.old.place + 6 * count) }
+    ensures held { OnOk result (front.new.held ≤ front.old.held + 7 * count) }
+{
+    let bytes = take_bytes(alloc, 6 * count, input, front)?;
+    let list = sparse_entries(alloc, &bytes, front)?;
+    front.held += count;
+    Ok(list)
+}

@@ -1,0 +1,163 @@
+//! Files of tables, byte by byte.
+use std::alloc::{AllocError, Global};
+use szg_values::Kind;
+
+/// The bytes of a file, with the name and the kind that it is read by.
+#[derive(Drop)]
+pub struct Fixture {
+    pub name: &'static str,
+    pub kind: Kind,
+    pub bytes: Vec<u8>,
+}
+
+/// The sixteen bytes at each file's end.
+const LAST: [u8; 16] = [0, 1, 2, 3, 4, 5, 6, 7, 8, 9, 10, 11, 12, 13, 14, 15];
+
+/// Magic, byte 4, the one part and a fill byte of both tables of values of king and queen against king.
+const QUEEN: [u8; 10] = [0x71, 0xe8, 0x23, 0x5d, 0x01, 0x00, 0x66, 0x55, 0xee, 0x00];
+
+/// Adds so many equal bytes.
+fn add(bytes: &mut Vec<u8>, byte: u8, count: usize) -> Result<(), AllocError> {
+    for _ in 0..count {
+        bytes.push(byte)?;
+    }
+    Ok(())
+}
+
+/// These bytes, so many zeros, and the sixteen bytes at the end.
+fn with_zeros(
+    alloc: Global,
+    name: &'static str,
+    kind: Kind,
+    front: &[u8],
+    zeros: usize,
+) -> Result<Fixture, AllocError> {
+    let mut bytes = Vec::from_slice(alloc, front)?;
+    add(&mut bytes, 0x00, zeros)?;
+    bytes.extend_from_slice(&LAST)?;
+    Ok(Fixture { name, kind, bytes })
+}
+
+/// Both sides constant, of value 2.
+pub fn knvk_wdl_constant(alloc: Global) -> Result<Fixture, AllocError> {
+    let front = [
+        0x71, 0xe8, 0x23, 0x5d, 0x01, 0x00, 0x66, 0x22, 0xee, 0x00, 0x80, 0x02, 0x80, 0x02,
+    ];
+    with_zeros(alloc, "KNvK", Kind::Wdl, &front, 50)
+}
+
+/// Side 0 has the values 2, 4, 2, 4 .. as words of one bit, in 123 blocks of 32 bytes; side 1 is constant, of value 2.
+pub fn kqvk_wdl_unpaired(alloc: Global) -> Result<Fixture, AllocError> {
+    let mut bytes = Vec::from_slice(alloc, &QUEEN)?;
+    bytes.extend_from_slice(&[
+        0x00, 0x05, 0x10, 0x01, 0x7b, 0x00, 0x00, 0x00, 0x01, 0x01, 0x00, 0x00, 0x02, 0x00, 0x02,
+        0xf0, 0xff, 0x04, 0xf0, 0xff,
+    ])?;
+    bytes.extend_from_slice(&[0x80, 0x02])?;
+    bytes.extend_from_slice(&[0x7b, 0x00, 0x00, 0x00, 0x9c, 0x05])?;
+    for _ in 0..122 {
+        bytes.extend_from_slice(&[0xff, 0x00])?;
+    }
+    bytes.extend_from_slice(&[0x63, 0x00, 0xff, 0xff])?;
+    add(&mut bytes, 0x00, 34)?;
+    add(&mut bytes, 0x55, 122 * 32 + 12)?;
+    add(&mut bytes, 0x50, 1)?;
+    add(&mut bytes, 0x00, 19 + 32)?;
+    bytes.extend_from_slice(&LAST)?;
+    Ok(Fixture {
+        name: "KQvK",
+        kind: Kind::Wdl,
+        bytes,
+    })
+}
+
+/// The same values in two blocks, by symbols that are pairs of pairs: up to 256 values a word.
+pub fn kqvk_wdl_paired(alloc: Global) -> Result<Fixture, AllocError> {
+    let mut bytes = Vec::from_slice(alloc, &QUEEN)?;
+    bytes.extend_from_slice(&[
+        0x00, 0x05, 0x0a, 0x00, 0x02, 0x00, 0x00, 0x00, 0x04, 0x03, 0x04, 0x00, 0x00, 0x00, 0x0a,
+        0x00,
+    ])?;
+    bytes.extend_from_slice(&[
+        0x02, 0xf0, 0xff, 0x04, 0xf0, 0xff, 0x00, 0x10, 0x00, 0x02, 0x20, 0x00, 0x03, 0x30, 0x00,
+        0x04, 0x40, 0x00, 0x05, 0x50, 0x00, 0x06, 0x60, 0x00, 0x07, 0x70, 0x00, 0x08, 0x80, 0x00,
+    ])?;
+    bytes.extend_from_slice(&[0x80, 0x02])?;
+    for j in 0..31u16 {
+        let middle = 1024 * j + 512;
+        let (block, offset) = if middle < 21760 {
+            (0, middle)
+        } else {
+            (1, middle - 21760)
+        };
+        bytes.extend_from_slice(&[block, 0, 0, 0])?;
+        bytes.extend_from_slice(&offset.to_le_bytes())?;
+    }
+    bytes.extend_from_slice(&[0xff, 0x54, 0x63, 0x25])?;
+    add(&mut bytes, 0x00, 8)?;
+    add(&mut bytes, 0xff, 31)?;
+    add(&mut bytes, 0xfe, 1)?;
+    add(&mut bytes, 0xff, 14)?;
+    bytes.extend_from_slice(&[0x61, 0x80])?;
+    add(&mut bytes, 0x00, 16)?;
+    bytes.extend_from_slice(&LAST)?;
+    Ok(Fixture {
+        name: "KQvK",
+        kind: Kind::Wdl,
+        bytes,
+    })
+}
+
+/// All parts constant; part a has a map of bytes, part b a wide one.
+pub fn kpvk_dtz_mapped(alloc: Global) -> Result<Fixture, AllocError> {
+    let front = [
+        0xd7, 0x66, 0x0c, 0xa5, 0x03, 0x00, 0x01, 0x06, 0x0e, 0x00, 0x01, 0x06, 0x0e, 0x00, 0x01,
+        0x06, 0x0e, 0x00, 0x01, 0x06, 0x0e, 0x00, 0x82, 0x00, 0x92, 0x00, 0x80, 0x00, 0x80, 0x00,
+        0x01, 0x07, 0x00, 0x00, 0x00, 0x00, 0x01, 0x00, 0x2c, 0x01, 0x00, 0x00, 0x00, 0x00, 0x00,
+        0x00,
+    ];
+    with_zeros(alloc, "KPvK", Kind::Dtz, &front, 18)
+}
+
+/// All parts constant; part a, of these flags, has a map with the numbers 3 and 9 for losses.
+pub fn kpvk_dtz_losses(alloc: Global, flags: u8) -> Result<Fixture, AllocError> {
+    let front = [
+        0xd7, 0x66, 0x0c, 0xa5, 0x03, 0x00, 0x01, 0x06, 0x0e, 0x00, 0x01, 0x06, 0x0e, 0x00, 0x01,
+        0x06, 0x0e, 0x00, 0x01, 0x06, 0x0e, 0x00, flags, 0x00, 0x80, 0x00, 0x80, 0x00, 0x80, 0x00,
+        0x00, 0x02, 0x03, 0x09, 0x00, 0x00,
+    ];
+    with_zeros(alloc, "KPvK", Kind::Dtz, &front, 28)
+}
+
+/// Four parts of two constant sides each.
+pub fn kpvk_wdl_constant(alloc: Global) -> Result<Fixture, AllocError> {
+    let front = [
+        0x71, 0xe8, 0x23, 0x5d, 0x03, 0x00, 0x11, 0x66, 0xee, 0x00, 0x11, 0x66, 0xee, 0x00, 0x11,
+        0x66, 0xee, 0x00, 0x11, 0x66, 0xee, 0x00, 0x80, 0x02, 0x80, 0x02, 0x80, 0x02, 0x80, 0x02,
+        0x80, 0x02, 0x80, 0x02, 0x80, 0x02, 0x80, 0x02,
+    ];
+    with_zeros(alloc, "KPvK", Kind::Wdl, &front, 26)
+}
+
+/// Six men, both sides constant.
+pub fn kqrbvkn_wdl_constant(alloc: Global) -> Result<Fixture, AllocError> {
+    let front = [
+        0x71, 0xe8, 0x23, 0x5d, 0x01, 0x00, 0x66, 0x55, 0xee, 0x44, 0x33, 0xaa, 0x80, 0x02, 0x80,
+        0x02,
+    ];
+    with_zeros(alloc, "KQRBvKN", Kind::Wdl, &front, 48)
+}
+
+/// The front of a file whose code has 65,535 symbols, words of 15 and 16 bits, and one entry of its dictionary.
+pub fn kqvk_wdl_cut_in_its_dictionary(alloc: Global) -> Result<Fixture, AllocError> {
+    let mut bytes = Vec::from_slice(alloc, &QUEEN)?;
+    bytes.extend_from_slice(&[
+        0x00, 0x05, 0x10, 0x01, 0x7b, 0x00, 0x00, 0x00, 0x10, 0x0f, 0xff, 0xff, 0x00, 0x00, 0xff,
+        0xff, 0x02, 0xf0, 0xff,
+    ])?;
+    Ok(Fixture {
+        name: "KQvK",
+        kind: Kind::Wdl,
+        bytes,
+    })
+}

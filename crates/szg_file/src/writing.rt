@@ -1,0 +1,75 @@
+ghost use Rattle.std.specs.Prelude.{◌≡◌, ◌<◌, [], length, take, IfErr, OnOk, OnErr};
+ghost use Rattle.szg_io.specs.Device.{Gives, HasFailed};
+ghost use Rattle.szg_file.specs.FileOf.{sections};
+ghost use Rattle.szg_file.specs.Held.{file_bytes};
+ghost use Rattle.szg_file.specs.Lengths.{FileLength};
+ghost use Rattle.szg_file.specs.Writing.{Writing};
+
+use crate::fault::WriteFault;
+use crate::lengths::{maps_len, parts_len, subs_len};
+use crate::outgoing::{Outgoing, flush};
+use crate::sections::{
+    write_all_blocks, write_all_lengths, write_end, write_front, write_heads, write_indexes,
+    write_maps,
+};
+use crate::table::Table;
+use szg_io::Output;
+
+/// Writes the table's file. Where the writer fails, the fault tells how many bytes of the file went out.
+pub fn write<W: Output>(table: &Table, output: &mut W) -> Result<(), WriteFault>
+    ensures ok { OnOk result (Gives (W.written output.old) (W.written output.new) (W.calls output.old) (W.calls output.new) (W.moved output.old) (W.moved output.new) (file_bytes table.now) 0) }
+    ensures err { IfErr result (λ fault. Gives (W.written output.old) (W.written output.new) (W.calls output.old) (W.calls output.new) (W.moved output.old) (W.moved output.new) (take fault.out (file_bytes table.now)) 1) }
+    ensures short { IfErr result (λ fault. fault.out < length (file_bytes table.now)) }
+    ensures failed { OnErr result (HasFailed (W.failures output.old) (W.failures output.new) (W.interrupted output.new)) }
+    ensures quiet { OnOk result (W.failures output.new ≡ W.failures output.old) }
+{
+    bounded(table);
+    let mut outgoing = Outgoing::new(&table.filled);
+    write_whole(table, output, &mut outgoing)
+}
+
+/// Writes the sections of a table, and holds nothing back.
+fn write_whole<W: Output>(
+    table: &Table,
+    output: &mut W,
+    outgoing: &mut Outgoing,
+) -> Result<(), WriteFault>
+    ensures whole { Writing (sections table.now.contents) outgoing.old outgoing.new W.written W.calls W.moved W.failures W.interrupted output.old output.new result }
+    ensures held { OnOk result (outgoing.new.held.items ≡ []) }
+{
+    write_table(table, output, outgoing)?;
+    flush(output, outgoing)
+}
+
+/// Writes the sections of a table.
+fn write_table<W: Output>(
+    table: &Table,
+    output: &mut W,
+    outgoing: &mut Outgoing,
+) -> Result<(), WriteFault>
+    ensures { Writing (sections table.now.contents) outgoing.old outgoing.new W.written W.calls W.moved W.failures W.interrupted output.old output.new result }
+{
+    write_front(table.kind, table.byte4, &table.parts, output, outgoing)?;
+    write_heads(&table.subs, output, outgoing)?;
+    write_maps(table.kind, &table.maps, output, outgoing)?;
+    write_indexes(&table.subs, output, outgoing)?;
+    write_all_lengths(&table.subs, output, outgoing)?;
+    write_all_blocks(&table.subs, output, outgoing)?;
+    write_end(&table.last, output, outgoing)
+}
+
+/// How many bytes the table's file has.
+pub fn file_len(table: &Table) -> u64
+    ensures { result ≡ length (file_bytes table.now) }
+{
+    bounded(table);
+    let fields = parts_len(&table.parts) + subs_len(&table.subs) + maps_len(&table.maps);
+    21 + fields + table.filled.len() as u64
+}
+
+/// A table's file is short, since a material has few men. It does nothing.
+fn bounded(table: &Table)
+    ensures { FileLength table.now.contents table.now.filled }
+{
+    let _men = table.material.men();
+}

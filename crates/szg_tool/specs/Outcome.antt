@@ -1,0 +1,12 @@
+-- What the outcomes of a run are told by.
+use Rattle.std.specs.Prelude.{ℕ, ◌≡◌}
+use Rattle.szg_tool.specs.declared.outcome.Outcome.{Outcome}
+use Rattle.szg_tool.specs.declared.outcome.Outcome.TheVariants.{Done, Refused, Words, Device, Memory}
+
+-- the program's status
+abbrev pub status_of : Outcome → ℕ
+status_of Done = 0
+status_of Refused = 1
+status_of (Words error) = 2
+status_of Device = 3
+status_of Memory = 4
