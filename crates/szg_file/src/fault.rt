@@ -4,63 +4,63 @@ ghost use Rattle.szg_file.specs.declared.fault.ReadFault.TheVariants.{Memory};
 use std::alloc::{AllocError, AllocFailed};
 use thiserror::Error;
 
-/// Why a file is refused: the checks in the order in which a file meets them.
+/// Why a file is refused: the checks in the order in which a file meets them. `as u8` gives their numbers, from 1.
 #[derive(Clone, Copy, Debug, PartialEq, Eq, Drop, Error)]
 pub enum Reason {
     /// The bytes end within a field.
     #[error("Truncated")]
-    Truncated,
+    Truncated = 1,
     /// The first four bytes aren't those of the kind.
     #[error("Magic")]
-    Magic,
+    Magic = 2,
     /// Bit 0 of byte 4 of a WDL file isn't set exactly where the material isn't symmetric.
     #[error("SplitBit")]
-    SplitBit,
+    SplitBit = 3,
     /// Bit 1 of byte 4 isn't set exactly where the material has pawns.
     #[error("PawnBit")]
-    PawnBit,
+    PawnBit = 4,
     /// A part's men aren't a rearrangement of the name's.
     #[error("Pieces")]
-    Pieces,
+    Pieces = 5,
     /// With pawns, a part's first slots aren't the lead pawns and then the other pawns.
     #[error("PawnsFirst")]
-    PawnsFirst,
+    PawnsFirst = 6,
     /// The places that a part's order bytes tell aren't different places of groups.
     #[error("OrderPlace")]
-    OrderPlace,
+    OrderPlace = 7,
     /// A block has more than 2^18 bytes.
     #[error("BlockBits")]
-    BlockBits,
+    BlockBits = 8,
     /// A span has no bits, or more than 31.
     #[error("SpanBits")]
-    SpanBits,
+    SpanBits = 9,
     /// The shortest word has no bits, or more than the longest, or that one has more than 32.
     #[error("CodeLengths")]
-    CodeLengths,
+    CodeLengths = 10,
     /// A lowest symbol is above the one before it.
     #[error("LowestOrder")]
-    LowestOrder,
+    LowestOrder = 11,
     /// A length has more words than there is room for.
     #[error("TooFull")]
-    TooFull,
+    TooFull = 12,
     /// A pair names a symbol that isn't there.
     #[error("Child")]
-    Child,
+    Child = 13,
     /// A symbol has no finite expansion.
     #[error("Cycle")]
-    Cycle,
+    Cycle = 14,
     /// A symbol stands for more than 256 values.
     #[error("LongSymbol")]
-    LongSymbol,
+    LongSymbol = 15,
     /// The blocks' lengths tell of fewer values than the subtable has.
     #[error("ShortTotal")]
-    ShortTotal,
+    ShortTotal = 16,
     /// An entry of a sparse index doesn't lead to the middle of its span.
     #[error("SparseEntry")]
-    SparseEntry,
+    SparseEntry = 17,
     /// A block's own bits don't spell the values that are needed of it.
     #[error("Word")]
-    Word,
+    Word = 18,
 }
 
 /// Why nothing was read.
