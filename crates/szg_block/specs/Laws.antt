@@ -1,5 +1,5 @@
 -- Laws of subtables, over the definitions alone.
-use Rattle.std.specs.Prelude.{ℕ, ◌≡◌, ◌+◌, ◌/◌, ◌^◌, ◌<◌, ◌≤◌, List, Some, length, slice_get}
+use Rattle.std.specs.Prelude.{ℕ, ◌≡◌, ◌+◌, ◌/◌, ◌^◌, ◌<◌, ◌≤◌, List, Some, length, take, slice_get}
 use Rattle.szg_code.specs.Acceptance.{IsCode}
 use Rattle.szg_block.specs.Layout.{Layout, SparseEntry}
 use Rattle.szg_block.specs.Block.{HasValues, block_at, block_values}
@@ -10,6 +10,11 @@ use Rattle.szg_block.specs.Steps.{block_place, move_count}
 -- a block has one list of m values at most
 abbrev pub OneListOfValues : Type 0
 OneListOfValues = (layout : Layout) → IsCode layout.code → (block : List ℕ) (m : ℕ) (xs ys : List ℕ) → HasValues layout block m xs → HasValues layout block m ys → xs ≡ ys
+
+-- where a block's own bits spell m values, they are the first m that the function tells
+abbrev pub BlockValuesAreSpelled : Type 0
+BlockValuesAreSpelled = (layout : Layout) → IsCode layout.code → (block : List ℕ) (m : ℕ) (xs : List ℕ) → HasValues layout block m xs →
+    (m ≤ length (block_values layout block)) × (xs ≡ take m (block_values layout block))
 
 -- a sound subtable has as many values as its size
 abbrev pub SoundHasSize : Type 0

@@ -60,7 +60,7 @@ pub enum Sub {
         code: Code,
         /// The values of the symbols.
         dict: Dict,
-        /// For each span that the values begin, a place near its middle.
+        /// For each span that the values begin, the place of its middle.
         sparse: Vec<Entry>,
         /// For each block, and each extra length, its number of values less one.
         lengths: Vec<u16>,
@@ -163,7 +163,7 @@ pub fn shaped(sub: &Sub, size: u64) -> bool
 /// Checks the lengths and the sparse index of a subtable of `size` values, whatever its blocks hold.
 ///
 /// `ShortTotal` comes where the lengths of the blocks, without extra ones, tell of fewer values than `size`. Else
-/// `SparseEntry(k)` tells the first entry that isn't good: its block is past all lengths, or its offset doesn't lead
+/// `SparseEntry(k)` tells the first entry that isn't good: its block number is above the number of all lengths, or its offset doesn't lead
 /// from that block's start to the middle of span k.
 pub fn check_index(sub: &Sub, size: u64) -> Result<(), SubFault>
     requires { IsShapedHead sub.now size }
@@ -191,7 +191,8 @@ pub fn check_index(sub: &Sub, size: u64) -> Result<(), SubFault>
     }
 }
 
-/// Checks that the words of block `n`, whose bytes are `block`, spell the values that it needs of `size`.
+/// Checks that the words of block `n`, whose bytes are `block`, spell the values that it needs of `size`. The subtable
+/// isn't constant, `n` is one of its blocks, and `block` is as long as its blocks are.
 ///
 /// `Word(n)` comes where its own bits don't. It adds the lengths before the block.
 pub fn check_block(sub: &Sub, size: u64, n: u32, block: &[u8]) -> Result<(), SubFault>

@@ -78,7 +78,7 @@ fn factors(rt: HostRuntime) {
 
 #[test]
 fn refusals(rt: HostRuntime) {
-    let rows: [(&str, (u8, Option<u8>), &[u8], OrderFault); 6] = [
+    let rows: [(&str, (u8, Option<u8>), &[u8], OrderFault); 8] = [
         ("KNvK", (0, None), &[6, 2, 6], OrderFault::Pieces),
         ("KPvK", (0, None), &[6, 1, 14], OrderFault::PawnsFirst),
         ("KNvK", (1, None), &[6, 2, 14], OrderFault::OrderPlace),
@@ -90,6 +90,13 @@ fn refusals(rt: HostRuntime) {
             OrderFault::OrderPlace,
         ),
         ("KPvKP", (0, None), &[1, 9, 6, 14], OrderFault::OrderPlace),
+        ("KPvK", (0, Some(1)), &[1, 6, 14], OrderFault::OrderPlace),
+        (
+            "KPPvKP",
+            (0, Some(1)),
+            &[1, 1, 9, 6, 14],
+            OrderFault::PawnsFirst,
+        ),
     ];
     for (name, places, men, want) in rows {
         match groups(&rt, name, 0, places, men) {
@@ -101,7 +108,7 @@ fn refusals(rt: HostRuntime) {
 
 #[test]
 fn sizes(rt: HostRuntime) {
-    let rows: [(&str, u8, (u8, Option<u8>), &[u8], u64); 11] = [
+    let rows: [(&str, u8, (u8, Option<u8>), &[u8], u64); 13] = [
         ("KQvK", 0, (0, None), &[6, 5, 14], 31332),
         ("KBBvK", 0, (0, None), &[6, 14, 3, 3], 873642),
         ("KQRvK", 0, (0, None), &[6, 5, 14, 4], 1911252),
@@ -113,6 +120,8 @@ fn sizes(rt: HostRuntime) {
         ("KPPvKPP", 0, (0, Some(1)), &[1, 1, 9, 9, 6, 14], 923302800),
         ("KRRvKRR", 0, (0, None), &[6, 14, 4, 4, 12, 12], 1546346340),
         ("KQRBvKN", 0, (0, None), &[6, 5, 14, 4, 3, 10], 6765832080),
+        ("KQvKP", 0, (0, None), &[9, 6, 5, 14], 1429596),
+        ("KPPvKP", 0, (0, Some(1)), &[9, 1, 1, 6, 14], 23738760),
     ];
     for (name, part, places, men, want) in rows {
         let Ok(groups) = groups(&rt, name, part, places, men) else {

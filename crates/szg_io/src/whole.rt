@@ -13,6 +13,9 @@ pub struct DeviceFault;
 const RETRIES: u32 = 1000;
 
 /// Takes bytes into the piece until it is full or none is to come, and tells how many.
+///
+/// `DeviceFault` where the device failed, or at the thousand and first `Interrupted` in a row; the bytes taken until
+/// then are lost.
 pub fn take_whole<R: Input>(input: &mut R, piece: &mut [u8]) -> Result<usize, DeviceFault>
     ensures within { IfOk result (λ n. n ≤ length piece.new) }
     ensures ok { IfOk result (λ n. n ≡ length piece.new →

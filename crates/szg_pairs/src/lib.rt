@@ -1,9 +1,10 @@
 //! Pair dictionaries of Syzygy tables: symbols, each of them a value or a pair of symbols.
 #![tactic(auto)]
 
-ghost use Rattle.std.specs.Prelude.{◌≡◌, ◌<◌, ◌≤◌, length, slice_get, Some, IfOk, IfErr, OnOk};
+ghost use Rattle.std.specs.Prelude.{◌≡◌, ◌<◌, ◌≤◌, length, slice_get, ℕ, Some, IfOk, IfErr, IsErrOf, OnOk};
 ghost use Rattle.szg_pairs.specs.Expansion.{expansion_of, depths_of};
 ghost use Rattle.szg_pairs.specs.Dictionary.{IsDictionary, IsDictionaryFault};
+ghost use Rattle.szg_pairs.specs.Entry.{NamesSymbols};
 
 use entry::{is_leaf, left, right};
 use faults::{first_child, first_cycle, first_long};
@@ -82,6 +83,7 @@ impl Dict {
         requires { length entries.items ≤ 65535 }
         ensures accepted { IfOk result (λ dict. (dict ≡ entries.items) × IsDictionary entries.items) }
         ensures refused { IfErr result (λ fault. IsDictionaryFault entries.items fault) }
+        ensures memory { IsErrOf result DictFault.Memory → (s : ℕ) → NamesSymbols entries.items s }
     {
         if let Some(symbol) = first_child(&entries) {
             return Err(DictFault::Child(symbol));

@@ -45,11 +45,12 @@ fn constant_table(rt: HostRuntime) -> Result<(), Fail> {
     let file = knvk_wdl_constant(rt.alloc())?;
     check_run(&rt, &["szg", "show", "KNvK", "wdl"], &file, 0, SHOWN);
     check_run(&rt, &["szg", "check", "KNvK", "wdl"], &file, 0, "ok 80\n");
-    assert!(&rt; file.len() >= 80);
+    let mut cut = knvk_wdl_constant(rt.alloc())?;
+    let _last = cut.pop();
     check_run(
         &rt,
         &["szg", "show", "KNvK", "wdl"],
-        &file[..79],
+        &cut,
         1,
         "refused at 79: Truncated\n",
     );

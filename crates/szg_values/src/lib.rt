@@ -22,7 +22,7 @@ mod tests;
 /// The most men of a material.
 pub const MAX_MEN: usize = 6;
 
-/// What a table holds: the outcome of each placement, or the distance to it.
+/// What a table holds: the outcome of each placement, or a distance.
 #[derive(Clone, Copy, Debug, PartialEq, Eq)]
 pub enum Kind {
     /// Win, draw or loss.
