@@ -1,8 +1,6 @@
 //! The program `szg`: checks, shows and copies Syzygy table files, and looks values up in them.
 #![tactic(auto)]
 
-ghost use Rattle.std.specs.Prelude.{◌≡◌};
-
 mod commands;
 mod description;
 mod outcome;
@@ -13,7 +11,7 @@ mod tests;
 
 use commands::run;
 use outcome::Outcome;
-use std::io::{self, BufReader, BufWriter, Write};
+use std::io::{self, BufWriter, Write};
 use std::process::ExitCode;
 use szg_io::Std;
 
@@ -21,29 +19,51 @@ use szg_io::Std;
 ///
 /// The status is 0 where the command was carried out, 1 where it was refused (the refusal is printed), 2 for a fault
 /// of words and for help, 3 where a stream failed, and 4 for want of memory.
-fn main(rt: HostRuntime) -> anyhow::Result<ExitCode> {
-    let alloc = rt.alloc();
-    let words: Vec<String> = std::env::args(&rt)?.collect(alloc)?;
-    let mut texts = Vec::new(alloc);
-    for word in &words {
-        texts.push(word.as_str())?;
-    }
-    let mut reader = Std::new(BufReader::new(alloc, rt.reader())?);
-    let mut writer = BufWriter::new(alloc, io::writer(&rt))?;
-    let mut outcome = run(
-        alloc,
-        texts.as_slice(),
-        &mut reader,
-        &mut Std::new(&mut writer),
-    );
-    if writer.flush().is_err() {
-        outcome = Outcome::Device;
-    }
+fn main(rt: HostRuntime) -> ExitCode {
+    let Some(words) = words_given(&rt) else {
+        return told(&rt, "a word of the command line is no text, or there is no memory for it", 2);
+    };
+    let outcome = run_on_streams(&rt, &words);
     match &outcome {
-        Outcome::Words(error) => error.print(&rt)?,
-        Outcome::Device => eprintln!(&rt; "device fault")?,
-        Outcome::Memory => eprintln!(&rt; "out of memory")?,
-        Outcome::Done | Outcome::Refused => {}
+        Outcome::Done | Outcome::Refused => ExitCode::from(outcome.status()),
+        Outcome::Device => told(&rt, "device fault", 3),
+        Outcome::Memory => told(&rt, "out of memory", 4),
+        Outcome::Words(error) => match error.print(&rt) {
+            Ok(()) => ExitCode::from(2),
+            Err(_) => told(&rt, "device fault", 3),
+        },
     }
-    Ok(ExitCode::from(outcome.status()))
+}
+
+/// The words of the command line, where they are texts and there is memory for them.
+fn words_given(rt: &HostRuntime) -> Option<Vec<String>> {
+    std::env::args(rt).ok()?.collect(rt.alloc()).ok()
+}
+
+/// Prints a line on standard error, and gives the status.
+fn told(rt: &HostRuntime, line: &str, status: u8) -> ExitCode {
+    match eprintln!(rt; "{line}") {
+        Ok(()) => ExitCode::from(status),
+        Err(_) => ExitCode::from(3),
+    }
+}
+
+/// Runs the words on the standard streams. Nothing behind a table is taken from standard input, so it isn't read ahead.
+fn run_on_streams(rt: &HostRuntime, words: &[String]) -> Outcome {
+    let alloc = rt.alloc();
+    let mut texts = Vec::new(alloc);
+    'words: for word in words {
+        if texts.push(word.as_str()).is_err() {
+            return Outcome::Memory;
+        }
+    }
+    let Ok(mut writer) = BufWriter::new(alloc, io::writer(rt)) else {
+        return Outcome::Memory;
+    };
+    let mut reader = Std::new(rt.reader());
+    let outcome = run(alloc, texts.as_slice(), &mut reader, &mut Std::new(&mut writer));
+    match writer.flush() {
+        Ok(()) => outcome,
+        Err(_) => Outcome::Device,
+    }
 }
