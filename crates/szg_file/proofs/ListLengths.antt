@@ -70,7 +70,7 @@ some_each : {X : Type 0} (f : X → List ℕ) → ((x : X) → 1 ≤ length (f x
 some_each f h [] = omega arith
 some_each f h (x ∷ xs) = omega (arith, length-append (f x) (flat_map f xs), h x, some_each f h xs)
 
-entries_long : (entries : List (List ℕ)) → AllByRecursion (AreBytes 3) entries → length entries ≤ length (flat_map (λ entry. entry) entries)
+entries_long : (entries : List (List ℕ)) → AllByRecursion (AreBytes 3) entries → 3 * length entries ≤ length (flat_map (λ entry. entry) entries)
 entries_long [] h = omega arith
 entries_long (entry ∷ entries) h = omega (arith, length-append entry (flat_map (λ entry. entry) entries), h.0.0, entries_long entries h.1)
 
@@ -99,7 +99,7 @@ parts_long material kind (n ∷ numbers) (part ∷ parts) h =
 abbrev sub_written : Subtable → ℕ
 sub_written s = written_in (head_sections s) + (written_in (sparse_sections s) + (written_in (lengths_sections s) + written_in (blocks_sections s)))
 
-sub_long : (slot : Slot) (s : Subtable) → IsSubtable slot s → 1 + sub_lengths s ≤ sub_written s
+sub_long : (slot : Slot) (s : Subtable) → IsSubtable slot s → 2 + sub_lengths s ≤ sub_written s
 sub_long slot (constant flags byte) h = omega arith
 sub_long slot (pairs head sparse lengths packed) h =
     let a : length head.code.lowest ≤ length (flat_map (bytes_of 2) head.code.lowest) = some_each (bytes_of 2) (λ x. omega arith) head.code.lowest in
@@ -115,7 +115,7 @@ subs_written subtables =
     + (written_in (flat_map sparse_sections subtables) + (written_in (flat_map lengths_sections subtables) + written_in (flat_map blocks_sections subtables)))
 
 subs_long : (slots : List Slot) (subtables : List Subtable) → SideBySide IsSubtable slots subtables →
-    length subtables + sum (map sub_lengths subtables) ≤ subs_written subtables
+    2 * length subtables + sum (map sub_lengths subtables) ≤ subs_written subtables
 subs_long [] [] h = omega arith
 subs_long [] (s ∷ subtables) h = absurd h
 subs_long (slot ∷ slots) [] h = absurd h

@@ -1,5 +1,5 @@
--- What reading and writing a whole table answers.
-use Rattle.std.specs.Prelude.{◌≡◌, ℕ, ◌+◌, List, [], length, map, sum, Option, Some, None, Result, Ok, Err}
+-- What reading a whole table answers.
+use Rattle.std.specs.Prelude.{◌≡◌, ℕ, ◌+◌, ◌*◌, List, [], length, map, sum, Option, Some, None, Result, Ok, Err}
 use Rattle.szg_values.specs.declared.Kind.{Kind}
 use Rattle.szg_file.specs.declared.fault.Reason.TheVariants.{Truncated}
 use Rattle.szg_file.specs.declared.fault.ReadFault.{ReadFault}
@@ -28,19 +28,19 @@ TookBytes material kind bytes coming (Err (Refused place reason)) = IsRefusal (v
 TookBytes material kind bytes coming (Err Device) = Unit {0}
 TookBytes material kind bytes coming (Err Memory) = Unit {0}
 
--- the lengths of a subtable's lists
+-- the lengths of a subtable's lists; a dictionary has two: the entries, and their symbols' lengths
 abbrev pub sub_lengths : held.Subtable → ℕ
 sub_lengths (held.constant flags byte) = 0
 sub_lengths (held.pairs head sparse lengths packed) =
-    length head.code.lowest + length head.entries + length sparse + length lengths + length packed
+    length head.code.lowest + 2 * length head.entries + length sparse + length lengths + length packed
 
 abbrev pub map_lengths : Option held.Map → ℕ
 map_lengths None = 0
 map_lengths (Some (held.narrow lists)) = sum (map length lists)
 map_lengths (Some (held.wide lists)) = sum (map length lists)
 
--- the lengths of all lists that a table holds
+-- the lengths of all lists that a table holds; beside the subtables stand their slots
 abbrev pub list_lengths : Shown → ℕ
 list_lengths t = length t.contents.parts + sum (map (λ part. length part.order + length part.men) t.contents.parts)
-    + length t.contents.subtables + sum (map sub_lengths t.contents.subtables)
+    + 2 * length t.contents.subtables + sum (map sub_lengths t.contents.subtables)
     + length t.contents.maps + sum (map map_lengths t.contents.maps) + length t.filled
