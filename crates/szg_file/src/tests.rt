@@ -206,6 +206,49 @@ fn changed_files_of_blocks(rt: HostRuntime) -> Result<(), Fail> {
     check_refused(&rt, &cut, &[], 29, Reason::Truncated)
 }
 
+#[test]
+fn changed_files_of_codes(rt: HostRuntime) -> Result<(), Fail> {
+    let file = fixtures::kqvk_wdl_unpaired(rt.alloc())?;
+    let rising = [(18, 2), (20, 0), (22, 2), (24, 2), (25, 0)];
+    check_refused(&rt, &file, &rising, 22, Reason::LowestOrder)?;
+    let full = [(18, 2), (20, 4), (22, 0), (24, 4), (25, 0)];
+    check_refused(&rt, &file, &full, 20, Reason::TooFull)?;
+    let long = fixtures::kqvk_wdl_with_a_long_symbol(rt.alloc())?;
+    check_refused(&rt, &long, &[], 51, Reason::LongSymbol)
+}
+
+#[test]
+fn pawns_on_both_sides(rt: HostRuntime) -> Result<(), Fail> {
+    let file = fixtures::kpvkp_wdl_constant(rt.alloc())?;
+    assert_eq!(rt; file.bytes.len(), 80);
+    let table = accepted(&rt, &file, &[])?;
+    for part in 0..4 {
+        assert_eq!(rt; value(&table, part, 0, 0), Some(2));
+        assert_eq!(rt; table.size(part, 1), None);
+    }
+    check_refused(&rt, &file, &[(6, 0)], 5, Reason::OrderPlace)?;
+    check_refused(&rt, &file, &[(7, 9), (8, 1)], 7, Reason::PawnsFirst)
+}
+
+#[test]
+fn packed_values_of_other_files(rt: HostRuntime) -> Result<(), Fail> {
+    let distances = fixtures::kqvk_dtz_packed(rt.alloc())?;
+    assert_eq!(rt; distances.bytes.len(), 4304);
+    let table = accepted(&rt, &distances, &[])?;
+    assert_eq!(rt; table.size(0, 0), Some(31332));
+    for i in [0, 255, 31331] {
+        assert_eq!(rt; value(&table, 0, 0, i), Some(3), "at {i}");
+    }
+    let sides = fixtures::kqvk_wdl_both_sides(rt.alloc())?;
+    assert_eq!(rt; sides.bytes.len(), 8528);
+    let table = accepted(&rt, &sides, &[])?;
+    for side in 0..2 {
+        assert_eq!(rt; value(&table, 0, side, 31330), Some(2));
+        assert_eq!(rt; value(&table, 0, side, 31331), Some(4));
+    }
+    Ok(())
+}
+
 /// Side 0 has 2, 4, 2, 4 .., and side 1 is all 2.
 fn check_queen(rt: &impl Abort, table: &Table) {
     for k in 0..4476 {

@@ -16,12 +16,36 @@ const LAST: [u8; 16] = [0, 1, 2, 3, 4, 5, 6, 7, 8, 9, 10, 11, 12, 13, 14, 15];
 /// Magic, byte 4, the one part and a fill byte of both tables of values of king and queen against king.
 const QUEEN: [u8; 10] = [0x71, 0xe8, 0x23, 0x5d, 0x01, 0x00, 0x66, 0x55, 0xee, 0x00];
 
+/// The head of a side whose words of one bit are the values 2 and 4, in 123 blocks of 32 bytes.
+const HEAD: [u8; 20] = [
+    0x00, 0x05, 0x10, 0x01, 0x7b, 0x00, 0x00, 0x00, 0x01, 0x01, 0x00, 0x00, 0x02, 0x00, 0x02, 0xf0,
+    0xff, 0x04, 0xf0, 0xff,
+];
+
+/// The one sparse entry of such a side.
+const SPARSE: [u8; 6] = [0x7b, 0x00, 0x00, 0x00, 0x9c, 0x05];
+
 /// Adds so many equal bytes.
 fn add(bytes: &mut Vec<u8>, byte: u8, count: usize) -> Result<(), AllocError> {
     for _ in 0..count {
         bytes.push(byte)?;
     }
     Ok(())
+}
+
+/// Adds the lengths of 122 blocks of 256 values, of one of 100, and of one that is not there.
+fn add_lengths(bytes: &mut Vec<u8>) -> Result<(), AllocError> {
+    for _ in 0..122 {
+        bytes.extend_from_slice(&[0xff, 0x00])?;
+    }
+    bytes.extend_from_slice(&[0x63, 0x00, 0xff, 0xff])
+}
+
+/// Adds 123 blocks of the words 0, 1, 0, 1 .., and the fill behind them.
+fn add_blocks(bytes: &mut Vec<u8>) -> Result<(), AllocError> {
+    add(bytes, 0x55, 122 * 32 + 12)?;
+    add(bytes, 0x50, 1)?;
+    add(bytes, 0x00, 19 + 32)
 }
 
 /// These bytes, so many zeros, and the sixteen bytes at the end.
@@ -49,21 +73,62 @@ pub fn knvk_wdl_constant(alloc: Global) -> Result<Fixture, AllocError> {
 /// Side 0 has the values 2, 4, 2, 4 .. as words of one bit, in 123 blocks of 32 bytes; side 1 is constant, of value 2.
 pub fn kqvk_wdl_unpaired(alloc: Global) -> Result<Fixture, AllocError> {
     let mut bytes = Vec::from_slice(alloc, &QUEEN)?;
-    bytes.extend_from_slice(&[
-        0x00, 0x05, 0x10, 0x01, 0x7b, 0x00, 0x00, 0x00, 0x01, 0x01, 0x00, 0x00, 0x02, 0x00, 0x02,
-        0xf0, 0xff, 0x04, 0xf0, 0xff,
-    ])?;
+    bytes.extend_from_slice(&HEAD)?;
     bytes.extend_from_slice(&[0x80, 0x02])?;
-    bytes.extend_from_slice(&[0x7b, 0x00, 0x00, 0x00, 0x9c, 0x05])?;
-    for _ in 0..122 {
-        bytes.extend_from_slice(&[0xff, 0x00])?;
-    }
-    bytes.extend_from_slice(&[0x63, 0x00, 0xff, 0xff])?;
+    bytes.extend_from_slice(&SPARSE)?;
+    add_lengths(&mut bytes)?;
     add(&mut bytes, 0x00, 34)?;
-    add(&mut bytes, 0x55, 122 * 32 + 12)?;
-    add(&mut bytes, 0x50, 1)?;
-    add(&mut bytes, 0x00, 19 + 32)?;
+    add_blocks(&mut bytes)?;
     bytes.extend_from_slice(&LAST)?;
+    Ok(Fixture {
+        name: "KQvK",
+        kind: Kind::Wdl,
+        bytes,
+    })
+}
+
+/// Both sides have the values 2, 4, 2, 4 .. as words of one bit.
+pub fn kqvk_wdl_both_sides(alloc: Global) -> Result<Fixture, AllocError> {
+    let mut bytes = Vec::from_slice(alloc, &QUEEN)?;
+    bytes.extend_from_slice(&HEAD)?;
+    bytes.extend_from_slice(&HEAD)?;
+    bytes.extend_from_slice(&SPARSE)?;
+    bytes.extend_from_slice(&SPARSE)?;
+    add_lengths(&mut bytes)?;
+    add_lengths(&mut bytes)?;
+    add(&mut bytes, 0x00, 18)?;
+    add_blocks(&mut bytes)?;
+    add_blocks(&mut bytes)?;
+    bytes.extend_from_slice(&LAST)?;
+    Ok(Fixture {
+        name: "KQvK",
+        kind: Kind::Wdl,
+        bytes,
+    })
+}
+
+/// All values are 3; the dictionary has one entry, and so a spare byte behind it.
+pub fn kqvk_dtz_packed(alloc: Global) -> Result<Fixture, AllocError> {
+    let front = [
+        0xd7, 0x66, 0x0c, 0xa5, 0x01, 0x00, 0x06, 0x05, 0x0e, 0x00, 0x00, 0x05, 0x10, 0x01, 0x7b,
+        0x00, 0x00, 0x00, 0x01, 0x01, 0x00, 0x00, 0x01, 0x00, 0x03, 0xf0, 0xff, 0x00,
+    ];
+    let mut bytes = Vec::from_slice(alloc, &front)?;
+    bytes.extend_from_slice(&SPARSE)?;
+    add_lengths(&mut bytes)?;
+    with_zeros(alloc, "KQvK", Kind::Dtz, &bytes, 38 + 123 * 32 + 32)
+}
+
+/// The front of a file whose last symbol would have 512 values: each symbol is the one before it, twice.
+pub fn kqvk_wdl_with_a_long_symbol(alloc: Global) -> Result<Fixture, AllocError> {
+    let mut bytes = Vec::from_slice(alloc, &QUEEN)?;
+    bytes.extend_from_slice(&[
+        0x00, 0x05, 0x10, 0x01, 0x7b, 0x00, 0x00, 0x00, 0x01, 0x01, 0x00, 0x00, 0x0a, 0x00,
+    ])?;
+    bytes.extend_from_slice(&[0x05, 0xf0, 0xff])?;
+    for child in 0..9u8 {
+        bytes.extend_from_slice(&[child, child * 16, 0x00])?;
+    }
     Ok(Fixture {
         name: "KQvK",
         kind: Kind::Wdl,
@@ -137,6 +202,16 @@ pub fn kpvk_wdl_constant(alloc: Global) -> Result<Fixture, AllocError> {
         0x80, 0x02, 0x80, 0x02, 0x80, 0x02, 0x80, 0x02,
     ];
     with_zeros(alloc, "KPvK", Kind::Wdl, &front, 26)
+}
+
+/// A pawn on each side and four parts of one constant side each.
+pub fn kpvkp_wdl_constant(alloc: Global) -> Result<Fixture, AllocError> {
+    let front = [
+        0x71, 0xe8, 0x23, 0x5d, 0x02, 0x00, 0x01, 0x01, 0x09, 0x06, 0x0e, 0x00, 0x01, 0x01, 0x09,
+        0x06, 0x0e, 0x00, 0x01, 0x01, 0x09, 0x06, 0x0e, 0x00, 0x01, 0x01, 0x09, 0x06, 0x0e, 0x00,
+        0x80, 0x02, 0x80, 0x02, 0x80, 0x02, 0x80, 0x02,
+    ];
+    with_zeros(alloc, "KPvKP", Kind::Wdl, &front, 26)
 }
 
 /// Six men, both sides constant.
