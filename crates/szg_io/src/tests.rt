@@ -124,5 +124,8 @@ fn pieces_are_as_long_as_they_may_be(rt: HostRuntime) {
     assert_eq!(rt; Std::new(TEXT).take(&mut [0; 7]), Ok(7));
     assert_eq!(rt; Std::new(Vec::new(rt.alloc())).give(TEXT), Ok(7));
     assert_eq!(rt; Cut::new(Std::new(TEXT), 3, 0, 0).take(&mut [0; 7]), Ok(3));
-    assert_eq!(rt; Cut::new(Std::new(Vec::new(rt.alloc())), 3, 0, 0).give(TEXT), Ok(3));
+    assert_eq!(rt;
+        Cut::new(Std::new(Vec::new(rt.alloc())), 3, 0, 0).give(TEXT),
+        Ok(3)
+    );
 }

@@ -21,7 +21,11 @@ use szg_io::Std;
 /// of words and for help, 3 where a stream failed, and 4 for want of memory.
 fn main(rt: HostRuntime) -> ExitCode {
     let Some(words) = words_given(&rt) else {
-        return told(&rt, "a word of the command line is no text, or there is no memory for it", 2);
+        return told(
+            &rt,
+            "a word of the command line is no text, or there is no memory for it",
+            2,
+        );
     };
     let outcome = run_on_streams(&rt, &words);
     match &outcome {
@@ -61,7 +65,12 @@ fn run_on_streams(rt: &HostRuntime, words: &[String]) -> Outcome {
         return Outcome::Memory;
     };
     let mut reader = Std::new(rt.reader());
-    let outcome = run(alloc, texts.as_slice(), &mut reader, &mut Std::new(&mut writer));
+    let outcome = run(
+        alloc,
+        texts.as_slice(),
+        &mut reader,
+        &mut Std::new(&mut writer),
+    );
     match writer.flush() {
         Ok(()) => outcome,
         Err(_) => Outcome::Device,

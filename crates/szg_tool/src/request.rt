@@ -102,7 +102,7 @@ fn on_side<'a>(alloc: Global, command: Command<'a>) -> Result<Command<'a>, Alloc
         .long("side")
         .action(ArgAction::Set)
         .default_value("0")
-        .help("The side to move: 0 is the name's first side");
+        .help("0 or 1: in a WDL table with two sides, 0 is where the name's first side moves");
     command.arg(part)?.arg(side)
 }
 
