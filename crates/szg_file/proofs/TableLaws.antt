@@ -7,7 +7,7 @@ use Rattle.szg_file.specs.Format.{verdict, good, truncated}
 use Rattle.szg_values.specs.Material.{Sides}
 use Rattle.szg_file.specs.Contents.{Contents}
 use Rattle.szg_file.specs.File.{file, magic_of}
-use Rattle.szg_file.specs.FileOf.{Section, written, fill_of, bytes_with, joined, sections, file_of}
+use Rattle.szg_file.specs.FileOf.{Section, fill_of, bytes_with, joined, sections, file_of}
 use Rattle.szg_file.specs.Accepted.{IsAccepted}
 use Rattle.szg_file.specs.Laws.{FileIsGood, OneFileOneTable, NoFileBeginsAnother, CutFileIsTruncated}
 use Rattle.szg_file.proofs.FormatLaws.{no_prefix, cut_anywhere}
