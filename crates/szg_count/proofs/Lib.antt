@@ -14,3 +14,4 @@ pub mod Counts
 pub mod Told
 pub mod Whole
 pub mod Formulas
+pub mod SubsetPlaces

@@ -1,9 +1,9 @@
--- What is said of the ordered lists: their lengths, that nothing stands twice in them, and what they hold.
-use Rattle.std.specs.Prelude.{◌≡◌, ℕ, suc, ◌+◌, ◌-◌, ◌*◌, ◌^◌, ◌<◌, ◌⊎◌, Bool, List, [], ◌∷◌, map, length, filter, take, sum, ⊤, None, IsTrue, if◌then◌else◌, slice_get, unwrap_or}
+-- What is said of the ordered lists: their lengths, that nothing stands twice in them, what they hold and how that is ordered.
+use Rattle.std.specs.Prelude.{◌≡◌, ℕ, suc, ◌+◌, ◌-◌, ◌*◌, ◌^◌, ◌<◌, ◌⊎◌, Bool, List, [], ◌∷◌, map, length, filter, take, sum, ⊤, None, IsTrue, if◌then◌else◌, slice_get, slice_index, unwrap_or, Some, reverse, ◌↔◌}
 use Rattle.std.specs.List.{range_with_len, concat}
 use Rattle.szg_values.specs.Men.{square_at}
 use Rattle.szg_values.specs.Material.{Sides, IsMaterial, has_pawns, lead_pawns, other_pawns, has_single_lead}
-use Rattle.szg_count.specs.Sets.{sets_of, subsets, choose}
+use Rattle.szg_count.specs.Sets.{sets_of, subsets, choose, IsFallingBelow, binomial_sum}
 use Rattle.szg_count.specs.Leads.{triples, king_pairs, pawn_order, after, lead_pawn_sets, without}
 use Rattle.szg_count.specs.Groups.{IsPart, lead_sets, lead_ways, lead_length, group_ways, groups_of, has_other_pawns, Nibbles, order_fault, counted, product}
 
@@ -75,6 +75,28 @@ LawLeadsDiffer = (sides : Sides) (part : ℕ) → part < 4 → AllDiffer (lead_s
 -- the elements of a list that pass a test are one of its sets
 abbrev pub LawSetsHold : Type 0
 LawSetsHold = (test : ℕ → Bool) (xs : List ℕ) → IsIn (filter test xs) (sets_of (length (filter test xs)) xs)
+
+-- the sets of r numbers below n are the lists of r numbers that fall from below n
+abbrev pub LawSubsetsFall : Type 0
+LawSubsetsFall = (n r : ℕ) (set : List ℕ) → IsIn set (subsets n r) ↔ ((length set ≡ r) × IsFallingBelow n set)
+
+-- of two lists of one length: the first member that differs is less
+abbrev pub IsBefore : List ℕ → List ℕ → Type 0
+IsBefore [] ys = ⊥
+IsBefore (x ∷ xs) [] = ⊥
+IsBefore (x ∷ xs) (y ∷ ys) = (x < y) ⊎ ((x ≡ y) × IsBefore xs ys)
+
+-- the sets, each listed from its greatest member down, stand by the greatest member, then by the next one, and so on
+abbrev pub LawSubsetsRise : Type 0
+LawSubsetsRise = (n r i j : ℕ) (a b : List ℕ) → slice_get (subsets n r) i ≡ Some a → slice_get (subsets n r) j ≡ Some b → i < j → IsBefore a b
+
+-- so the place of a set is the sum of its binomials
+abbrev pub LawSubsetPlace : Type 0
+LawSubsetPlace = (n : ℕ) (set : List ℕ) → IsFallingBelow n set → slice_get (subsets n (length set)) (binomial_sum set) ≡ Some set
+
+-- the sets of a list are the sets of the places of its elements, counted from its last element, in the same order
+abbrev pub LawSetsNumbered : Type 0
+LawSetsNumbered = (r : ℕ) (xs : List ℕ) → sets_of r xs ≡ map (map (slice_index (reverse xs))) (subsets (length xs) r)
 
 -- of a list in which nothing stands twice, as many elements are left as some of its elements are not
 abbrev pub LawFreeCount : Type 0

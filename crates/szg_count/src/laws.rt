@@ -1,6 +1,6 @@
 //! Laws over the definitions: each is a function whose one clause is the law.
 
-ghost use Rattle.szg_count.specs.Laws.{LawSetCount, LawSubsetCount, LawChooseStep, LawTripleCount, LawKingPairCount, LawLeadPawnCount, LawLeadPawnTable, LawLeadWays, LawOtherPawnWays, LawRunWays, LawSetsDiffer, LawSubsetsDiffer, LawLeadsDiffer, LawSetsHold, LawFreeCount, LawFreeSetCount, LawSizeBelow, LawLeadSets};
+ghost use Rattle.szg_count.specs.Laws.{LawSetCount, LawSubsetCount, LawChooseStep, LawTripleCount, LawKingPairCount, LawLeadPawnCount, LawLeadPawnTable, LawLeadWays, LawOtherPawnWays, LawRunWays, LawSetsDiffer, LawSubsetsDiffer, LawSubsetsFall, LawSubsetsRise, LawSubsetPlace, LawSetsNumbered, LawLeadsDiffer, LawSetsHold, LawFreeCount, LawFreeSetCount, LawSizeBelow, LawLeadSets};
 ghost use Rattle.szg_count.specs.Radix.{LawIndexBelow, LawDigitsTold, LawIndexTold, LawPlacesOrder};
 
 /// A list of n elements has `choose n r` sets of r elements.
@@ -61,6 +61,27 @@ pub fn sets_differ()
 /// No set stands twice among the sets of numbers below n.
 pub fn subsets_differ()
     ensures { LawSubsetsDiffer }
+{}
+
+/// The sets of r numbers below n are the falling lists of r numbers below n, all of them.
+pub fn subsets_fall()
+    ensures { LawSubsetsFall }
+{}
+
+/// The sets of numbers stand by the greatest member, then by the next one, and so on.
+pub fn subsets_rise()
+    ensures { LawSubsetsRise }
+{}
+
+/// The place of a set of numbers is the sum of the binomials of its members.
+pub fn subset_place_sum()
+    ensures { LawSubsetPlace }
+{}
+
+/// The sets of a list, as of squares, stand as the sets of its elements' numbers do: a number counts the
+/// elements behind one.
+pub fn sets_numbered()
+    ensures { LawSetsNumbered }
 {}
 
 /// No set stands twice in the list of a lead group.

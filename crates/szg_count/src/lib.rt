@@ -1,5 +1,5 @@
-//! Binomials, groups and sizes of Syzygy tables: how many positions a subtable numbers, and what
-//! a position's number is made of. The rules are those of de Man's format and its probing code.
+//! Binomials, groups, sizes and places of sets in Syzygy tables: how many positions a subtable
+//! numbers, and what a position's number is made of. The rules are those of de Man's format and its probing code.
 #![tactic(auto)]
 
 ghost use Rattle.std.specs.Prelude.{◌≡◌, ◌<◌, ◌≤◌, ◌^◌, length, map, sum, IsNone, IfSome, Ok, Err, Some, slice_get};
@@ -19,10 +19,12 @@ use ways::group_ways;
 mod cut;
 pub mod laws;
 mod placing;
+mod subsets;
 #[cfg(test)]
 mod tests;
 mod ways;
 
+pub use subsets::{subset_at, subset_place};
 pub use ways::{choose, lead_ways};
 
 /// Why nibbles order no groups of a material. The first check that refuses is told, in this order.

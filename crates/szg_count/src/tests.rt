@@ -1,4 +1,4 @@
-//! The format's worked rows, by tables.
+//! The format's worked rows, by tables, and the order of sets.
 
 use super::*;
 use std::process::Abort;
@@ -32,6 +32,44 @@ fn binomials(rt: HostRuntime) {
     assert_eq!(rt; choose(48, 4), 194580);
     assert_eq!(rt; choose(64, 6), 74974368);
     assert_eq!(rt; choose(3, 5), 0);
+}
+
+// Where b1 and d1 are taken, c1 and e1 are the numbers 1 and 2 of the free squares, and g8 and h8 the
+// last two of 62.
+#[test]
+fn places_of_sets(rt: HostRuntime) {
+    assert_eq!(rt; subset_place(&[]), 0);
+    assert_eq!(rt; subset_place(&[2, 1]), 2);
+    assert_eq!(rt; subset_place(&[61, 60]), 1890);
+    assert_eq!(rt; subset_place(&[63, 62, 61, 60, 59, 58]), 74974367);
+    assert!(rt; 1890 < choose(62, 2));
+    assert_eq!(rt; subset_at(62, 2, 1890).as_slice(), [61, 60].as_slice());
+}
+
+// The members of a set as bits.
+fn mask_of(set: &[u8]) -> u32 {
+    let mut mask = 0;
+    for number in set {
+        mask |= 1u32.wrapping_shl(u32::from(*number));
+    }
+    mask
+}
+
+// Sets of as many numbers stand in the order of their masks.
+#[test]
+fn sets_in_the_order_of_masks(rt: HostRuntime) {
+    for size in 0..=6u8 {
+        let mut place = 0u64;
+        for mask in 0..1024u32 {
+            if mask.count_ones() == u32::from(size) {
+                assert!(rt; place < choose(64, u64::from(size)));
+                let set = subset_at(64, size, place);
+                assert_eq!(rt; mask_of(set.as_slice()), mask);
+                assert_eq!(rt; subset_place(set.as_slice()), place);
+                place = place.wrapping_add(1);
+            }
+        }
+    }
 }
 
 #[test]
