@@ -20,28 +20,29 @@ use szg_io::Std;
 /// The status is 0 where the command was carried out, 1 where it was refused (the refusal is printed), 2 for a fault
 /// of words and for help, 3 where a stream failed, and 4 for want of memory.
 fn main(rt: HostRuntime) -> ExitCode {
-    let Some(words) = words_given(&rt) else {
-        return told(
-            &rt,
-            "a word of the command line is no text, or there is no memory for it",
-            2,
-        );
-    };
-    let outcome = run_on_streams(&rt, &words);
-    match &outcome {
-        Outcome::Done | Outcome::Refused => ExitCode::from(outcome.status()),
-        Outcome::Device => told(&rt, "device fault", 3),
-        Outcome::Memory => told(&rt, "out of memory", 4),
-        Outcome::Words(error) => match error.print(&rt) {
-            Ok(()) => ExitCode::from(2),
-            Err(_) => told(&rt, "device fault", 3),
-        },
+    match words_given(&rt) {
+        Ok(words) => status_of(&rt, &run_on_streams(&rt, &words)),
+        Err(error) if error.kind() == io::ErrorKind::OutOfMemory => told(&rt, "out of memory", 4),
+        Err(_) => told(&rt, "a word of the command line is no text", 2),
     }
 }
 
-/// The words of the command line, where they are texts and there is memory for them.
-fn words_given(rt: &HostRuntime) -> Option<Vec<String>> {
-    std::env::args(rt).ok()?.collect(rt.alloc()).ok()
+/// The words of the command line.
+fn words_given(rt: &HostRuntime) -> io::Result<Vec<String>> {
+    Ok(std::env::args(rt)?.collect(rt.alloc())?)
+}
+
+/// The status of an outcome, whose fault is printed on standard error.
+fn status_of(rt: &HostRuntime, outcome: &Outcome) -> ExitCode {
+    match outcome {
+        Outcome::Done | Outcome::Refused => ExitCode::from(outcome.status()),
+        Outcome::Device => told(rt, "device fault", 3),
+        Outcome::Memory => told(rt, "out of memory", 4),
+        Outcome::Words(error) => match error.print(rt) {
+            Ok(()) => ExitCode::from(2),
+            Err(_) => told(rt, "device fault", 3),
+        },
+    }
 }
 
 /// Prints a line on standard error, and gives the status.
