@@ -10,3 +10,4 @@ pub mod Lookup
 pub mod Checking
 pub mod Pieces
 pub mod Deciding
+pub mod Finding

@@ -1,11 +1,16 @@
 -- Laws of subtables, over the definitions alone.
-use Rattle.std.specs.Prelude.{ℕ, ◌≡◌, ◌+◌, ◌/◌, ◌^◌, ◌<◌, ◌≤◌, List, Some, length, take, slice_get}
+use Rattle.std.specs.Prelude.{ℕ, false, ◌≡◌, ◌+◌, ◌/◌, ◌^◌, ◌<◌, ◌≤◌, ◌↔◌, IsTrue, List, Some, None, length, take, slice_get}
+use Rattle.szg_pairs.specs.Dictionary.{FailsFirst}
+use Rattle.szg_pairs.specs.Laws.{FindsFirst}
 use Rattle.szg_code.specs.Acceptance.{IsCode}
 use Rattle.szg_block.specs.Layout.{Layout, SparseEntry}
 use Rattle.szg_block.specs.Block.{HasValues, block_at, block_values}
 use Rattle.szg_block.specs.Expansion.{joined_values}
-use Rattle.szg_block.specs.Sound.{IsShapedLayout, IsSoundLayout}
+use Rattle.szg_block.specs.FirstFault.{has_total, first_bad_entry, spells_needed}
+use Rattle.szg_block.specs.Sound.{HasGoodEntry, HasTotal, IsShapedLayout, IsSoundLayout, SpellsNeeded}
 use Rattle.szg_block.specs.Steps.{block_place, move_count}
+use Rattle.szg_block.specs.Subtable.{IsLayoutFault}
+use Rattle.szg_block.specs.declared.SubFault.TheVariants.{ShortTotal, SparseEntry as BadEntry, Word}
 
 -- a block has one list of m values at most
 abbrev pub OneListOfValues : Type 0
@@ -29,3 +34,27 @@ OneBlockDecides = (layout : Layout) (packed : List ℕ) (size : ℕ) → IsCode 
 abbrev pub MovesAreBounded : Type 0
 MovesAreBounded = (layout : Layout) (packed : List ℕ) (size : ℕ) → IsShapedLayout layout size → IsCode layout.code → IsSoundLayout layout packed size → (i : ℕ) → i < size →
     (entry : SparseEntry) → slice_get layout.sparse (i / 2 ^ layout.span_bits) ≡ Some entry → move_count layout i ≤ 2 ^ layout.span_bits / 2 + entry.offset
+
+-- has_total is true exactly where the lengths of the blocks tell of as many values as the subtable has
+abbrev pub HasTotalTells : Type 0
+HasTotalTells = (layout : Layout) (size : ℕ) → IsTrue (has_total layout size) ↔ HasTotal layout size
+
+-- first_bad_entry finds the first entry that isn't good
+abbrev pub FirstBadEntryFinds : Type 0
+FirstBadEntryFinds = (layout : Layout) → FindsFirst (HasGoodEntry layout) (first_bad_entry layout)
+
+-- where the code is accepted, spells_needed is true exactly where the block's own bits spell its needed values
+abbrev pub SpellsNeededTells : Type 0
+SpellsNeededTells = (layout : Layout) → IsCode layout.code → (size j : ℕ) (block : List ℕ) → IsTrue (spells_needed layout size j block) ↔ SpellsNeeded layout size j block
+
+-- spells_needed passes block j, where it is there
+abbrev pub PassesBlock : Layout → List ℕ → ℕ → ℕ → Type 0
+PassesBlock layout packed size j = j < layout.blocks → IsTrue (spells_needed layout size j (block_at layout.block_bits packed j))
+
+-- where the code is accepted, a subtable is sound exactly where all three pass; else the first that does not tells the fault
+abbrev pub FoundIsFault : Type 0
+FoundIsFault = (layout : Layout) → IsCode layout.code → (packed : List ℕ) (size : ℕ) →
+    (IsSoundLayout layout packed size ↔ (IsTrue (has_total layout size) × (first_bad_entry layout ≡ None) × ((j : ℕ) → PassesBlock layout packed size j)))
+    × (IsLayoutFault layout packed size ShortTotal ↔ (has_total layout size ≡ false))
+    × ((k : ℕ) → IsLayoutFault layout packed size (BadEntry k) ↔ (IsTrue (has_total layout size) × (first_bad_entry layout ≡ Some k)))
+    × ((n : ℕ) → IsLayoutFault layout packed size (Word n) ↔ (IsTrue (has_total layout size) × (first_bad_entry layout ≡ None) × FailsFirst (PassesBlock layout packed size) n))

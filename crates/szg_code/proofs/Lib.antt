@@ -8,6 +8,7 @@ pub mod Rows
 pub mod Verdicts
 pub mod FirstFound
 pub mod Deciding
+pub mod Finding
 pub mod ReadBack
 pub mod Windows
 pub mod BaseSteps

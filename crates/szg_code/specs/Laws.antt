@@ -1,10 +1,12 @@
 -- Laws of words, over the definitions alone.
-use Rattle.std.specs.Prelude.{ℕ, Bool, ◌≡◌, ◌≤◌, ◌↔◌, List, [], ◌∷◌, ◌++◌, length, take}
-use Rattle.szg_code.specs.Acceptance.{IsCode, IsCodeFault}
-use Rattle.szg_code.specs.Canonical.{CanonicalCode, IsIn, IsWord, words}
+use Rattle.std.specs.Prelude.{ℕ, Bool, ◌≡◌, ◌+◌, ◌^◌, ◌<◌, ◌≤◌, ◌⊎◌, ◌↔◌, List, [], ◌∷◌, ◌++◌, Some, None, length, take}
+use Rattle.szg_code.specs.Acceptance.{HasLengths, HasRoomAt, IsCode, IsCodeFault, IsFirstRise, IsLastOverfull, IsOrderedAt, IsOverfullAtLeast}
+use Rattle.szg_code.specs.Canonical.{CanonicalCode, IsIn, IsWord, base, words}
 use Rattle.szg_code.specs.Cursor.{Cursor, TakesWord}
+use Rattle.szg_code.specs.FirstFault.{first_rise, first_overfull}
 use Rattle.szg_code.specs.Spelling.{BeginsWithNoWord, Spells}
 use Rattle.szg_code.specs.declared.CodeFault.{CodeFault}
+use Rattle.szg_code.specs.declared.CodeFault.TheVariants.{LowestOrder, TooFull}
 
 -- bits that begin with two words begin with one
 abbrev pub NoWordBeginsAnother : Type 0
@@ -41,3 +43,20 @@ WrittenListIsSpelled = (code : CanonicalCode) (symbols : List ℕ) (old new : Li
 -- an accepted code has no fault, and any other one at most
 abbrev pub OneFaultAtMost : Type 0
 OneFaultAtMost = (code : CanonicalCode) → (IsCode code → (f : CodeFault) → ¬ IsCodeFault code f) × ((f g : CodeFault) → IsCodeFault code f → IsCodeFault code g → f ≡ g)
+
+-- first_rise finds the first item above the one before it
+abbrev pub FirstRiseFinds : Type 0
+FirstRiseFinds = (code : CanonicalCode) → ((first_rise code ≡ None) ↔ ((j : ℕ) → IsOrderedAt code j)) × ((j : ℕ) → (first_rise code ≡ Some j) ↔ IsFirstRise code j)
+
+-- first_overfull finds the item of the greatest overfull length, or of the least, where at it alone the numbers don't fit
+abbrev pub FirstOverfullFinds : Type 0
+FirstOverfullFinds = (code : CanonicalCode) →
+    ((first_overfull code ≡ None) ↔ (((l : ℕ) → HasRoomAt code l) × (base code code.min_length < 2 ^ code.min_length)))
+    × ((j : ℕ) → (first_overfull code ≡ Some j) ↔ (IsLastOverfull code (code.min_length + j) ⊎ ((j ≡ 0) × IsOverfullAtLeast code)))
+
+-- with right lengths a code is accepted exactly where neither finds an item; else the first that does tells the fault
+abbrev pub FoundIsFault : Type 0
+FoundIsFault = (code : CanonicalCode) → HasLengths code →
+    (IsCode code ↔ ((first_rise code ≡ None) × (first_overfull code ≡ None)))
+    × ((j : ℕ) → IsCodeFault code (LowestOrder j) ↔ (first_rise code ≡ Some j))
+    × ((j : ℕ) → IsCodeFault code (TooFull j) ↔ ((first_rise code ≡ None) × (first_overfull code ≡ Some j)))

@@ -1,5 +1,5 @@
 // Laws over the definitions.
-ghost use Rattle.szg_code.specs.Laws.{NoWordBeginsAnother, OneFaultAtMost, OneListSpelled, OneWordAtMost, WordsAreListed, WrittenIsRead, WrittenListIsSpelled};
+ghost use Rattle.szg_code.specs.Laws.{FirstOverfullFinds, FirstRiseFinds, FoundIsFault, NoWordBeginsAnother, OneFaultAtMost, OneListSpelled, OneWordAtMost, WordsAreListed, WrittenIsRead, WrittenListIsSpelled};
 
 /// No word of a code begins another.
 pub fn no_word_begins_another()
@@ -34,4 +34,21 @@ pub fn written_is_read()
 /// The words of symbols, written one behind another, spell those symbols, whatever follows them.
 pub fn written_list_is_spelled()
     ensures { WrittenListIsSpelled }
+{}
+
+/// The function `first_rise` finds the first item of the lowest symbols that is above the one before it.
+pub fn first_rise_finds()
+    ensures { FirstRiseFinds }
+{}
+
+/// The function `first_overfull` finds the item of the greatest overfull length, or of the least length, where at it
+/// alone the numbers don't fit.
+pub fn first_overfull_finds()
+    ensures { FirstOverfullFinds }
+{}
+
+/// Where the lengths are right, a code is accepted exactly where the two functions find nothing, and else the first
+/// that finds an item tells the fault that `Code::new` tells.
+pub fn found_is_fault()
+    ensures { FoundIsFault }
 {}

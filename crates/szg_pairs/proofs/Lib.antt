@@ -3,6 +3,7 @@ pub mod Accepting
 pub mod Rows
 pub mod FirstFound
 pub mod Deciding
+pub mod Finding
 pub mod Walking
 pub mod Descending
 pub mod Judging

@@ -1,9 +1,11 @@
 -- Laws of expansions and of dictionaries, over the definitions alone.
-use Rattle.std.specs.Prelude.{ℕ, ◌≡◌, ◌<◌, ◌≤◌, ◌⊎◌, List, length}
+use Rattle.std.specs.Prelude.{ℕ, ◌≡◌, ◌<◌, ◌≤◌, ◌⊎◌, ◌↔◌, List, Option, Some, None, length}
+use Rattle.szg_pairs.specs.Entry.{NamesSymbols}
 use Rattle.szg_pairs.specs.Expansion.{Expands, expansion_of}
-use Rattle.szg_pairs.specs.Dictionary.{IsDictionary, IsDictionaryFault}
+use Rattle.szg_pairs.specs.Dictionary.{FailsFirst, HasExpansion, HasShortExpansion, IsDictionary, IsDictionaryFault}
+use Rattle.szg_pairs.specs.FirstFault.{first_child, first_cycle, first_long}
 use Rattle.szg_pairs.specs.declared.DictFault.{DictFault}
-use Rattle.szg_pairs.specs.declared.DictFault.TheVariants.{Memory}
+use Rattle.szg_pairs.specs.declared.DictFault.TheVariants.{Child, Cycle, LongSymbol, Memory}
 
 -- a symbol expands to one list at most
 abbrev pub OneExpansion : Type 0
@@ -24,3 +26,27 @@ AcceptedHasNoFault = (entries : List (List ℕ)) → IsDictionary entries → (f
 -- any other has one fault at most, beside refused memory
 abbrev pub OneFault : Type 0
 OneFault = (entries : List (List ℕ)) (f g : DictFault) → IsDictionaryFault entries f → IsDictionaryFault entries g → (f ≡ Memory) ⊎ ((g ≡ Memory) ⊎ (f ≡ g))
+
+-- what is found is nothing where P holds of all numbers, and else the least of which it does not hold
+abbrev pub FindsFirst : (ℕ → Type 0) → Option ℕ → Type 0
+FindsFirst P found = ((found ≡ None) ↔ ((n : ℕ) → P n)) × ((n : ℕ) → (found ≡ Some n) ↔ FailsFirst P n)
+
+-- first_child finds the least symbol whose pair names a symbol that isn't there
+abbrev pub FirstChildFinds : Type 0
+FirstChildFinds = (entries : List (List ℕ)) → FindsFirst (NamesSymbols entries) (first_child entries)
+
+-- first_cycle finds the least symbol that has no finite expansion
+abbrev pub FirstCycleFinds : Type 0
+FirstCycleFinds = (entries : List (List ℕ)) → FindsFirst (HasExpansion entries) (first_cycle entries)
+
+-- where all symbols have one, first_long finds the least symbol of more than 256 values
+abbrev pub FirstLongFinds : Type 0
+FirstLongFinds = (entries : List (List ℕ)) → first_cycle entries ≡ None → FindsFirst (HasShortExpansion entries) (first_long entries)
+
+-- a dictionary is accepted exactly where none of the three finds a symbol; else the first that does tells the fault
+abbrev pub FoundIsFault : Type 0
+FoundIsFault = (entries : List (List ℕ)) →
+    (IsDictionary entries ↔ ((first_child entries ≡ None) × (first_cycle entries ≡ None) × (first_long entries ≡ None)))
+    × ((s : ℕ) → IsDictionaryFault entries (Child s) ↔ (first_child entries ≡ Some s))
+    × ((s : ℕ) → IsDictionaryFault entries (Cycle s) ↔ ((first_child entries ≡ None) × (first_cycle entries ≡ Some s)))
+    × ((s : ℕ) → IsDictionaryFault entries (LongSymbol s) ↔ ((first_child entries ≡ None) × (first_cycle entries ≡ None) × (first_long entries ≡ Some s)))

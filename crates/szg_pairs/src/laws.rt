@@ -1,5 +1,5 @@
 // Laws over the definitions.
-ghost use Rattle.szg_pairs.specs.Laws.{AcceptedHasNoFault, ExpansionIsOf, NoneEmpty, OneExpansion, OneFault};
+ghost use Rattle.szg_pairs.specs.Laws.{AcceptedHasNoFault, ExpansionIsOf, FirstChildFinds, FirstCycleFinds, FirstLongFinds, FoundIsFault, NoneEmpty, OneExpansion, OneFault};
 
 /// A symbol expands to one list of values at most.
 pub fn one_expansion()
@@ -24,4 +24,25 @@ pub fn accepted_has_no_fault()
 /// A dictionary has one fault at most, beside refused memory.
 pub fn one_fault()
     ensures { OneFault }
+{}
+
+/// The function `first_child` finds the least symbol whose pair names a symbol that isn't there.
+pub fn first_child_finds()
+    ensures { FirstChildFinds }
+{}
+
+/// The function `first_cycle` finds the least symbol that has no finite expansion.
+pub fn first_cycle_finds()
+    ensures { FirstCycleFinds }
+{}
+
+/// Where `first_cycle` finds nothing, the function `first_long` finds the least symbol of more than 256 values.
+pub fn first_long_finds()
+    ensures { FirstLongFinds }
+{}
+
+/// A dictionary is accepted exactly where the three functions find nothing, and else the first that finds a symbol
+/// tells the fault that `Dict::new` tells.
+pub fn found_is_fault()
+    ensures { FoundIsFault }
 {}

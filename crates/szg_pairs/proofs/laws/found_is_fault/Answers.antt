@@ -1,0 +1,5 @@
+use Rattle.szg_pairs.proofs.Finding.{found_is_fault}
+use Rattle.szg_pairs.proofs.laws.found_is_fault.Goals as goal
+
+pub returns : goal.returns
+returns c = found_is_fault
