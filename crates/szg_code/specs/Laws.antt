@@ -1,4 +1,4 @@
--- Laws of words, over the definitions alone.
+-- Laws of words and of codes, over the definitions alone.
 use Rattle.std.specs.Prelude.{ℕ, Bool, ◌≡◌, ◌+◌, ◌^◌, ◌<◌, ◌≤◌, ◌⊎◌, ◌↔◌, List, [], ◌∷◌, ◌++◌, Some, None, length, take}
 use Rattle.szg_code.specs.Acceptance.{HasLengths, HasRoomAt, IsCode, IsCodeFault, IsFirstRise, IsLastOverfull, IsOrderedAt, IsOverfullAtLeast}
 use Rattle.szg_code.specs.Canonical.{CanonicalCode, IsIn, IsWord, base, words}

@@ -35,6 +35,18 @@ LawTripleCount = length triples ≡ 31332
 abbrev pub LawKingPairCount : Type 0
 LawKingPairCount = length king_pairs ≡ 462
 
+-- the value P of the squares of ranks 2 to 7, from a2 to h7, as the format's table has them: how many squares come after each in the order
+abbrev pub pawn_table : List ℕ
+pawn_table = 47 ∷ 35 ∷ 23 ∷ 11 ∷ 10 ∷ 22 ∷ 34 ∷ 46
+    ∷ 45 ∷ 33 ∷ 21 ∷ 9 ∷ 8 ∷ 20 ∷ 32 ∷ 44
+    ∷ 43 ∷ 31 ∷ 19 ∷ 7 ∷ 6 ∷ 18 ∷ 30 ∷ 42
+    ∷ 41 ∷ 29 ∷ 17 ∷ 5 ∷ 4 ∷ 16 ∷ 28 ∷ 40
+    ∷ 39 ∷ 27 ∷ 15 ∷ 3 ∷ 2 ∷ 14 ∷ 26 ∷ 38
+    ∷ 37 ∷ 25 ∷ 13 ∷ 1 ∷ 0 ∷ 12 ∷ 24 ∷ 36 ∷ []
+
+abbrev pub LawPawnValues : Type 0
+LawPawnValues = map (λ square. length (after square pawn_order)) (range_with_len 8 48) ≡ pawn_table
+
 -- k lead pawns on a file: the sum over its squares of the ways to set the others on squares of smaller P
 abbrev pub LawLeadPawnCount : Type 0
 LawLeadPawnCount = (k file : ℕ) →

@@ -1,6 +1,6 @@
 //! Laws over the definitions: each is a function whose one clause is the law.
 
-ghost use Rattle.szg_count.specs.Laws.{LawSetCount, LawSubsetCount, LawChooseStep, LawTripleCount, LawKingPairCount, LawLeadPawnCount, LawLeadPawnTable, LawLeadWays, LawOtherPawnWays, LawRunWays, LawSetsDiffer, LawSubsetsDiffer, LawSubsetsFall, LawSubsetsRise, LawSubsetPlace, LawSetsNumbered, LawLeadsDiffer, LawSetsHold, LawFreeCount, LawFreeSetCount, LawSizeBelow, LawLeadSets};
+ghost use Rattle.szg_count.specs.Laws.{LawSetCount, LawSubsetCount, LawChooseStep, LawTripleCount, LawKingPairCount, LawPawnValues, LawLeadPawnCount, LawLeadPawnTable, LawLeadWays, LawOtherPawnWays, LawRunWays, LawSetsDiffer, LawSubsetsDiffer, LawSubsetsFall, LawSubsetsRise, LawSubsetPlace, LawSetsNumbered, LawLeadsDiffer, LawSetsHold, LawFreeCount, LawFreeSetCount, LawSizeBelow, LawLeadSets};
 ghost use Rattle.szg_count.specs.Radix.{LawIndexBelow, LawDigitsTold, LawIndexTold, LawPlacesOrder};
 
 /// A list of n elements has `choose n r` sets of r elements.
@@ -26,6 +26,11 @@ pub fn triple_count()
 /// There are 462 pairs of king squares.
 pub fn king_pair_count()
     ensures { LawKingPairCount }
+{}
+
+/// The order of pawn squares is the one of the format's table of their values.
+pub fn pawn_values()
+    ensures { LawPawnValues }
 {}
 
 /// The sets of lead pawns on a file are as many as the format's sum of binomials says.
