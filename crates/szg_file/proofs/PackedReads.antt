@@ -7,7 +7,7 @@ use Rattle.szg_block.specs.declared.Entry.{Entry}
 use Rattle.szg_file.specs.declared.fault.Reason.TheVariants as reason
 use Rattle.szg_file.specs.declared.heads.HeadSizes.{HeadSizes}
 use Rattle.szg_file.specs.Format.{Format, means, fill, ◌>>=◌}
-use Rattle.szg_file.specs.Contents.{Subtable, constant, pairs, has_bit}
+use Rattle.szg_file.specs.Contents.{Subtable, Head, constant, pairs, has_bit}
 use Rattle.szg_file.specs.File.{number_field, byte_where, lengths_of_words, lowest_list, code_with, dictionary, packed_head}
 use Rattle.szg_file.specs.Held.{sparse_of}
 use Rattle.szg_file.specs.HeadPieces.{sizes_field, entries_field}
@@ -26,17 +26,22 @@ block_bits_field = byte_where (λ bits. nat_le bits 18) reason.BlockBits
 abbrev pub span_bits_field : Format ℕ
 span_bits_field = byte_where (λ bits. nat_lt 0 bits && nat_le bits 31) reason.SpanBits
 
--- the subtable of a head that was read
-abbrev pub packed_of : ℕ → ℕ → ℕ → HeadSizes → List ℕ → List (List ℕ) → Subtable
-packed_of flags block_bits span_bits sizes lowest entries = pairs (record {
+-- the head of what was read, with this code
+abbrev pub head_with : ℕ → ℕ → ℕ → HeadSizes → List (List ℕ) → CanonicalCode → Head
+head_with flags block_bits span_bits sizes entries code = record {
   flags = flags;
   block_bits = block_bits;
   span_bits = span_bits;
   extra = sizes.extra;
   blocks = sizes.blocks;
-  code = code_with sizes.min sizes.max lowest (length entries);
+  code = code;
   entries = entries;
-}) [] [] []
+}
+
+-- the subtable of a head that was read
+abbrev pub packed_of : ℕ → ℕ → ℕ → HeadSizes → List ℕ → List (List ℕ) → Subtable
+packed_of flags block_bits span_bits sizes lowest entries =
+    pairs (head_with flags block_bits span_bits sizes entries (code_with sizes.min sizes.max lowest (length entries))) [] [] []
 
 abbrev pub after_lowest : ℕ → ℕ → ℕ → HeadSizes → List ℕ → Format Subtable
 after_lowest flags block_bits span_bits sizes lowest = dictionary >>= λ entries. means (packed_of flags block_bits span_bits sizes lowest entries)
@@ -81,52 +86,13 @@ code_is sizes lowest code symbols entries first second count =
 pub packed_is : (flags block_bits span_bits : ℕ) (sizes : HeadSizes) (lowest code : CanonicalCode) (symbols : ℕ) (entries : List (List ℕ)) (sparse : List Entry) (lengths packed : List ℕ) →
     lowest ≡ code_with sizes.min sizes.max lowest.lowest 0 → code ≡ code_with lowest.min_length lowest.max_length lowest.lowest symbols → symbols ≡ length entries →
     sparse ≡ [] → lengths ≡ [] → packed ≡ [] →
-    packed_of flags block_bits span_bits sizes lowest.lowest entries ≡ pairs (record {
-      flags = flags;
-      block_bits = block_bits;
-      span_bits = span_bits;
-      extra = sizes.extra;
-      blocks = sizes.blocks;
-      code = code;
-      entries = entries;
-    }) (map sparse_of sparse) lengths packed
+    packed_of flags block_bits span_bits sizes lowest.lowest entries ≡ pairs (head_with flags block_bits span_bits sizes entries code) (map sparse_of sparse) lengths packed
 packed_is flags block_bits span_bits sizes lowest code symbols entries sparse lengths packed first second count s l p =
-    ap (λ (k : CanonicalCode). pairs (record {
-      flags = flags;
-      block_bits = block_bits;
-      span_bits = span_bits;
-      extra = sizes.extra;
-      blocks = sizes.blocks;
-      code = k;
-      entries = entries;
-    }) [] [] []) (sym (code_is sizes lowest code symbols entries first second count))
-    ∙ ap (λ (z : List Entry). pairs (record {
-      flags = flags;
-      block_bits = block_bits;
-      span_bits = span_bits;
-      extra = sizes.extra;
-      blocks = sizes.blocks;
-      code = code;
-      entries = entries;
-    }) (map sparse_of z) [] []) (sym s)
-    ∙ ap (λ (z : List ℕ). pairs (record {
-      flags = flags;
-      block_bits = block_bits;
-      span_bits = span_bits;
-      extra = sizes.extra;
-      blocks = sizes.blocks;
-      code = code;
-      entries = entries;
-    }) (map sparse_of sparse) z []) (sym l)
-    ∙ ap (λ (z : List ℕ). pairs (record {
-      flags = flags;
-      block_bits = block_bits;
-      span_bits = span_bits;
-      extra = sizes.extra;
-      blocks = sizes.blocks;
-      code = code;
-      entries = entries;
-    }) (map sparse_of sparse) lengths z) (sym p)
+    let head = head_with flags block_bits span_bits sizes entries in
+    ap (λ (k : CanonicalCode). pairs (head k) [] [] []) (sym (code_is sizes lowest code symbols entries first second count))
+    ∙ ap (λ (z : List Entry). pairs (head code) (map sparse_of z) [] []) (sym s)
+    ∙ ap (λ (z : List ℕ). pairs (head code) (map sparse_of sparse) z []) (sym l)
+    ∙ ap (λ (z : List ℕ). pairs (head code) (map sparse_of sparse) lengths z) (sym p)
 
 -- ---- flags
 
