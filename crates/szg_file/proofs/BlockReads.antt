@@ -1,8 +1,9 @@
 -- Blocks that are read one after another, and the subtables that hold them.
-use Rattle.std.proofs.Common.{◌≡◌, ℕ, zero, suc, ◌+◌, ◌-◌, ◌^◌, ◌<◌, Bool, true, false, List, [], ◌++◌, refl, sym, ap, ◌∙◌, append_assoc, append-nil, arith, length, map, take, drop, Option, Some, None, Ok, Err}
+use Rattle.std.proofs.Common.{◌≡◌, ℕ, zero, suc, ◌+◌, ◌-◌, ◌^◌, ◌<◌, Bool, List, [], ◌++◌, refl, sym, ap, ◌∙◌, append_assoc, append-nil, arith, length, map, take, drop, Option, Some, None, Ok, Err}
 use Rattle.std.specs.Prelude.{IfSome, IsSomeAnd}
 use Rattle.std.proofs.Common.{Vec, Global}
 use Rattle.std.proofs.Math.Seq.{take-length}
+use Rattle.std.proofs.lemmas.Bool.{false_from_ne_true}
 use Rattle.std.proofs.lemmas.List.{length-drop}
 use Rattle.szg_code.specs.Acceptance.{IsCode}
 use Rattle.szg_block.specs.Layout.{Layout, SparseEntry}
@@ -27,10 +28,6 @@ use Rattle.szg_file.proofs.ReadingLaws.{reads_then, reads_stopped, reads_nothing
 use Rattle.szg_file.proofs.Taken.{reads_like, reads_equal}
 
 -- ---- one block
-
-is_false : (b : Bool) → (b ≡ true → ⊥) → b ≡ false
-is_false true h = absurd (h refl)
-is_false false h = refl
 
 -- what follows a block's bytes
 abbrev then_checked : Layout → ℕ → ℕ → ℕ → List ℕ → Format (List ℕ)
@@ -61,7 +58,7 @@ reads_block_refused None size n bytes piece view long lacks taken = tt
 reads_block_refused (Some layout) size n bytes piece view {f = f} long lacks taken =
     let next : List ℕ → Format (List ℕ) = then_checked layout size n f.place in
     let stops : next piece ≡ refuses f.place Word =
-    ap (λ (b : Bool). demand b f.place Word >>= λ _. means piece) (is_false (spells_needed layout size n piece) (λ e. lacks (spells_needed-true layout size n piece e))) in
+    ap (λ (b : Bool). demand b f.place Word >>= λ _. means piece) (false_from_ne_true (spells_needed layout size n piece) (λ e. lacks (spells_needed-true layout size n piece e))) in
     reads_like (field (2 ^ layout.block_bits) means >>= next) (block_field layout size n) view (Err (Refused f.place Word)) (λ text. refl)
     (reads_then (field (2 ^ layout.block_bits) means) next (λ (_ : Unit {0}). piece) view tt
     (reads_equal (field bytes means) (field (2 ^ layout.block_bits) means) (λ (_ : Unit {0}). piece) (Ok tt) (ap (λ (z : ℕ). field z means) long) taken)

@@ -1,5 +1,5 @@
 -- Bytes of pieces and lists are numbers below 256.
-use Rattle.std.proofs.Common.{ℕ, ◌<◌, ◌^◌, zero, suc, List, [], ◌∷◌, slice_index_or, Fits, w8}
+use Rattle.std.proofs.Common.{ℕ, suc, List, [], ◌∷◌, slice_index_or, Fits, w8}
 use Rattle.szg_file.specs.Accepted.{AreNumbers}
 
 pub are_bytes : (xs : List ℕ) → ((k : ℕ) → Fits w8 (slice_index_or xs k 0)) → AreNumbers 1 xs

@@ -379,3 +379,9 @@ pub sum_by-map : {A B : Type 0} (f : B → ℕ) (v : A → B) (xs : List A) → 
 sum_by-map f v [] = refl
 sum_by-map f v (x ∷ xs) =
     sum_by-cons f (v x) (map v xs) ∙ ap (λ (n : ℕ). f (v x) + n) (sum_by-map f v xs) ∙ sym (sum_by-cons (λ x. f (v x)) x xs)
+
+-- the sum over what is held is the sum over what it stands for
+pub sum_held : {A B : Type 0} (f : B → ℕ) (view : A → B) (n : ℕ) (taken held : List A) (shown : List B) →
+    n ≡ sum_by (λ x. f (view x)) taken → taken ≡ held → map view held ≡ shown → n ≡ sum_by f shown
+sum_held f view n taken held shown sum same seen =
+    sum ∙ ap (λ (xs : List _). sum_by (λ x. f (view x)) xs) same ∙ sym (sum_by-map f view held) ∙ ap (λ (ys : List _). sum_by f ys) seen

@@ -3,7 +3,7 @@ use Rattle.std.proofs.Common.{◌≡◌, ℕ, ◌+◌, ◌^◌, ◌<◌, ◌≤�
 use Rattle.std.specs.Prelude.{flat_map, IsTrue, bytes_eq}
 use Rattle.std.specs.List.{AllByRecursion}
 use Rattle.std.proofs.lemmas.Slice.Eq.{bytes_eq-Decides}
-use Rattle.std.proofs.lemmas.List.{length-append}
+use Rattle.std.proofs.lemmas.List.{length-append, nil_from_length}
 use Rattle.szg_file.specs.declared.fault.Reason.{Reason}
 use Rattle.szg_file.specs.declared.fault.Reason.TheVariants as reason
 use Rattle.szg_values.specs.declared.Kind.{Kind}
@@ -18,7 +18,7 @@ use Rattle.szg_file.specs.FileOf.{sections, file_of, fill_asked, Section, writte
 use Rattle.szg_file.specs.Accepted.{IsAccepted, AreNumbers, AreBytes, SideBySide, IsPart}
 use Rattle.szg_file.proofs.FormatLaws.{take_front, drop_front, good-more}
 use Rattle.szg_file.specs.Laws.{FileIsGood}
-use Rattle.szg_file.proofs.FileLaws.{Spells-then, AreNumbers-join, one_byte, file_from_sections}
+use Rattle.szg_file.proofs.FileLaws.{Spells, Spells-then, AreNumbers-join, one_byte, file_from_sections}
 use Rattle.szg_file.proofs.CompleteLaws.{Text, Complete, asked_front, after_good, complete_field, complete_number, complete_bytes, complete_means, complete_demand}
 
 -- Some value that meets V has a good text that these sections spell, wherever it stands.
@@ -67,10 +67,6 @@ at_placed next z V h = record {
       let p = (h place).at place supply text e enough in
       (p.0, p.1, record { bytes = p.2.bytes; filled = p.2.filled; later = p.2.later; supply_is = p.2.supply_is; spells = p.2.spells; is_good = p.2.is_good });
 }
-
-no_bytes : (xs : List ℕ) → length xs ≡ 0 → xs ≡ []
-no_bytes [] e = refl
-no_bytes (x ∷ xs) e = absurd (omega (arith, e))
 
 -- ---- the front
 
@@ -139,7 +135,7 @@ file_is_good law t filled rest h =
     let x = p.2 in
     let f = file_from_sections x.bytes x.filled (sections t) x.spells in
     let total : length filled ≡ length x.filled + length x.later = ap length x.supply_is ∙ length-append x.filled x.later in
-    let none : x.later ≡ [] = no_bytes x.later (omega (arith, total, long, f.1)) in
+    let none : x.later ≡ [] = nil_from_length x.later (omega (arith, total, long, f.1)) in
     let same : filled ≡ x.filled = x.supply_is ∙ ap (λ (z : List ℕ). x.filled ++ z) none ∙ append-nil x.filled in
     let bytes_are : joined [] (sections t) filled ≡ x.bytes = ap (λ (z : List ℕ). joined [] (sections t) z) same ∙ f.0 in
     ap (λ (z : List ℕ). verdict (file t.material t.kind) 0 (z ++ rest)) bytes_are
@@ -152,11 +148,12 @@ file_is_good law t filled rest h =
 abbrev part_with : List ℕ → List ℕ → Part
 part_with order men = record { order = order; men = men }
 
--- the text of one section is that of two, joined
-at_apart : {A : Type 0} (f : Format A) (x y : List ℕ) (a : A) → At f (written (x ++ y) ∷ []) (Is a) → At f (written x ∷ written y ∷ []) (Is a)
-at_apart f x y a h = record {
+-- what spells some sections spells others that ask for as little
+pub at_respelled : {A : Type 0} (f : Format A) (z z' : List Section) (V : A → Type 0) → ((text : List ℕ) → asked text z ≤ asked text z') →
+    ((place : ℕ) (bytes filled : List ℕ) → Spells place bytes z filled → Spells place bytes z' filled) → At f z V → At f z' V
+at_respelled f z z' V less same h = record {
   at = λ place supply text e enough.
-      let p = h.at place supply text e (omega arith) in (
+      let p = h.at place supply text e (omega (arith, less text, enough)) in (
         p.0,
         p.1,
         record {
@@ -165,16 +162,22 @@ at_apart f x y a h = record {
           later = p.2.later;
           supply_is = p.2.supply_is;
           is_good = p.2.is_good;
-          spells = record {
-            spelled = λ front more later d. ap (λ (z : List ℕ). joined z more (p.2.filled ++ later)) (append_assoc front x y) ∙ p.2.spells.spelled front more later d;
-            counted = λ front more d.
-                let c = p.2.spells.counted front more d in
-                let same : asked ((front ++ x) ++ y) more ≡ asked (front ++ (x ++ y)) more = ap (λ (z : List ℕ). asked z more) (append_assoc front x y) in
-                (c.0, c.1, omega (arith, c.2, same));
-          };
+          spells = same place p.2.bytes p.2.filled p.2.spells;
         },
       );
 }
+
+-- the text of one section is that of two, joined
+at_apart : {A : Type 0} (f : Format A) (x y : List ℕ) (a : A) → At f (written (x ++ y) ∷ []) (Is a) → At f (written x ∷ written y ∷ []) (Is a)
+at_apart f x y a =
+    at_respelled f (written (x ++ y) ∷ []) (written x ∷ written y ∷ []) (Is a) (λ text. omega arith)
+    (λ place bytes filled s. record {
+      spelled = λ front more later d. ap (λ (z : List ℕ). joined z more (filled ++ later)) (append_assoc front x y) ∙ s.spelled front more later d;
+      counted = λ front more d.
+          let c = s.counted front more d in
+          let same : asked ((front ++ x) ++ y) more ≡ asked (front ++ (x ++ y)) more = ap (λ (z : List ℕ). asked z more) (append_assoc front x y) in
+          (c.0, c.1, omega (arith, c.2, same));
+    })
 
 pub at_part : (material : Sides) (kind : Kind) (part : Part) → IsPart material kind part → At (part_field material kind) (part_sections part) (Is part)
 at_part material kind part h =

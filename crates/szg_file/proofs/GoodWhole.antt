@@ -1,8 +1,8 @@
 -- Maps, sparse indexes, lengths, blocks and the whole file: the file of an accepted table is good.
-use Rattle.std.proofs.Common.{◌≡◌, ℕ, zero, suc, ◌+◌, ◌*◌, ◌^◌, ◌<◌, ◌≤◌, true, List, [], ◌∷◌, ◌++◌, length, map, take, drop, refl, sym, ap, subst, ◌∙◌, append_assoc, append-nil, arith, Option, Some, None}
+use Rattle.std.proofs.Common.{◌≡◌, ℕ, zero, suc, ◌+◌, ◌*◌, ◌^◌, ◌<◌, true, List, [], ◌∷◌, ◌++◌, length, map, take, drop, refl, sym, ap, subst, ◌∙◌, append_assoc, append-nil, arith, Option, Some, None}
 use Rattle.std.specs.Prelude.{flat_map, IsTrue}
 use Rattle.std.specs.List.{AllByRecursion}
-use Rattle.std.proofs.lemmas.List.{length-append, length-take, length-drop, take-append-drop}
+use Rattle.std.proofs.lemmas.List.{length-append, nil_from_length, length-take, length-drop, take-append-drop}
 use Rattle.szg_values.specs.declared.Kind.{Kind}
 use Rattle.szg_values.specs.declared.Kind.TheVariants.{Wdl, Dtz}
 use Rattle.szg_values.specs.Material.{Sides}
@@ -13,16 +13,16 @@ use Rattle.szg_file.specs.declared.fault.Reason.TheVariants as reason
 use Rattle.szg_file.specs.Format.{Format, means, field, ◌>>=◌, ◌>>◌}
 use Rattle.szg_file.specs.Contents.{Contents, Part, Subtable, constant, pairs, layout_of, Map, narrow, wide, number_of, bytes_of, items, has_bit, Slot, slots, part_numbers}
 use Rattle.szg_file.specs.File.{file, magic_of, magic_field, byte4_field, part_field, head_field, begun, number_field, rows_field, filled_to, each, list_field, map_lists, map_field, maps_field, flags_of, demand, none_fails, Begun, entry_of_bytes, sparse_of, sparse_field, index_check, lengths_of, lengths_field, block_field, blocks_from, blocks_of, blocks_field}
-use Rattle.szg_file.specs.FileOf.{sections, part_sections, Section, written, padding, list_sections, map_sections, maps_sections, head_sections, sparse_sections, lengths_sections, blocks_sections, asked}
+use Rattle.szg_file.specs.FileOf.{sections, part_sections, Section, written, padding, list_sections, map_sections, maps_sections, head_sections, sparse_sections, lengths_sections, blocks_sections}
 use Rattle.szg_file.specs.Accepted.{AreNumbers, AreBytes, AreLists, IsMapOf, AreMaps, SideBySide, IsSubtable, IsEntry, BlocksHold, HasIndex}
 use Rattle.szg_file.specs.Values.{slotted}
 use Rattle.szg_file.specs.Laws.{FileIsGood, OneFileOneTable, NoFileBeginsAnother, CutFileIsTruncated}
 use Rattle.szg_file.proofs.FormatLaws.{take_front, drop_front}
-use Rattle.szg_file.proofs.FileLaws.{Spells, Any, AreNumbers-split, AreNumbers-join, number_of-bytes_of}
+use Rattle.szg_file.proofs.FileLaws.{Any, AreNumbers-split, AreNumbers-join, number_of-bytes_of}
 use Rattle.szg_file.proofs.HeadLaws.{IsBegun}
-use Rattle.szg_file.proofs.WholeLaws.{HasWidth, Spells-glue, Spells-empty}
+use Rattle.szg_file.proofs.WholeLaws.{four, HasWidth, table_of, Spells-glue, Spells-empty}
 use Rattle.szg_file.proofs.CompleteLaws.{complete_filled_to, complete_bytes}
-use Rattle.szg_file.proofs.GoodLaws.{At, Is, at_of, at_then, at_next, at_means, at_demand, at_placed, at_magic, at_byte4, at_each, at_parts, SectionsAreGood, file_is_good}
+use Rattle.szg_file.proofs.GoodLaws.{At, Is, at_respelled, at_of, at_then, at_next, at_means, at_demand, at_placed, at_magic, at_byte4, at_each, at_parts, SectionsAreGood, file_is_good}
 use Rattle.szg_file.proofs.GoodHeads.{bytes_of-bytes, rows_of, at_rows, at_number, at_none_fails, at_head, at_first, at_second}
 use Rattle.szg_file.proofs.TableLaws.{one_file_one_table, no_file_begins_another, cut_file_is_truncated}
 
@@ -58,9 +58,6 @@ beside_of Q P [] [] e h k = tt
 beside_of Q P [] (y ∷ ys) e h k = absurd (omega (arith, e))
 beside_of Q P (x ∷ xs) [] e h k = absurd (omega (arith, e))
 beside_of Q P (x ∷ xs) (y ∷ ys) e h k = ((h.0, k.0), beside_of Q P xs ys (omega (arith, e)) h.1 k.1)
-
-abbrev four : ℕ → List ℕ
-four size = size ∷ size ∷ size ∷ size ∷ []
 
 abbrev FitsWidth : ℕ → List ℕ → Type 0
 FitsWidth size list = (length list < 256 ^ size) × AreNumbers size list
@@ -203,33 +200,10 @@ at_block layout size n bytes small holds =
     (at_of (field (2 ^ layout.block_bits) means) (λ b. written b ∷ []) (AreBytes (2 ^ layout.block_bits)) bytes (complete_bytes (2 ^ layout.block_bits)) small)
     (at_next (demand (spells_needed layout size n bytes) place reason.Word) (λ _. means bytes) [] [] tt (Is bytes) (at_demand (spells_needed layout size n bytes) place reason.Word holds) (at_means bytes)))
 
--- what spells some sections spells others that ask for as little
-at_respelled : {A : Type 0} (f : Format A) (z z' : List Section) (V : A → Type 0) → ((text : List ℕ) → asked text z ≤ asked text z') →
-    ((place : ℕ) (bytes filled : List ℕ) → Spells place bytes z filled → Spells place bytes z' filled) → At f z V → At f z' V
-at_respelled f z z' V less same h = record {
-  at = λ place supply text e enough.
-      let p = h.at place supply text e (omega (arith, less text, enough)) in (
-        p.0,
-        p.1,
-        record {
-          bytes = p.2.bytes;
-          filled = p.2.filled;
-          later = p.2.later;
-          supply_is = p.2.supply_is;
-          is_good = p.2.is_good;
-          spells = same place p.2.bytes p.2.filled p.2.spells;
-        },
-      );
-}
-
-no_bytes : (xs : List ℕ) → length xs ≡ 0 → xs ≡ []
-no_bytes [] e = refl
-no_bytes (x ∷ xs) e = absurd (omega (arith, e))
-
 at_blocks_from : (layout : Layout) (size n count : ℕ) (packed : List ℕ) → AreBytes (count * 2 ^ layout.block_bits) packed → BlocksHold layout size n (items (2 ^ layout.block_bits) count packed) →
     At (blocks_from layout size n count) (written packed ∷ []) (Is packed)
 at_blocks_from layout size n zero packed small holds =
-    let none : packed ≡ [] = no_bytes packed (small.0 ∙ omega arith) in
+    let none : packed ≡ [] = nil_from_length packed (small.0 ∙ omega arith) in
     subst (λ (z : List ℕ). At (means []) (written z ∷ []) (Is z)) (sym none)
     (at_respelled (means []) [] (written [] ∷ []) (Is []) (λ text. omega arith) Spells-empty (at_means []))
 at_blocks_from layout size n (suc count) packed small holds =
@@ -364,9 +338,6 @@ at_all_blocks xs ss bs h k =
     (λ out same. all_same xs ss out h same)
 
 -- ---- the whole file
-
-abbrev table_of : Sides → Kind → ℕ → List Part → List Subtable → List (Option Map) → List ℕ → Contents
-table_of material kind byte parts subtables found last = record { material = material; kind = kind; byte4 = byte; parts = parts; subtables = subtables; maps = found; last = last }
 
 abbrev after_blocks : Sides → Kind → ℕ → List Part → List (Option Map) → List Subtable → Format Contents
 after_blocks material kind byte parts found subtables = filled_to 64 >>= λ _. field 16 means >>= λ last. means (table_of material kind byte parts subtables found last)

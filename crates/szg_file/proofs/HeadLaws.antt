@@ -285,8 +285,8 @@ PackedChain flags =
       entries = entries;
     }) [] [] []))))))))
 
-read_packed : (flags : ℕ) → Read (packed_head flags) (PackedChain flags)
-read_packed flags =
+read_packed_head : (flags : ℕ) → Read (packed_head flags) (PackedChain flags)
+read_packed_head flags =
     read_then (byte_where (λ bits. nat_le bits 18) reason.BlockBits) _ _ _
     (read_of (byte_where (λ bits. nat_le bits 18) reason.BlockBits) byte_section _ (sound_byte_where (λ bits. nat_le bits 18) reason.BlockBits)) (λ block_bits.
     read_then (byte_where (λ bits. nat_lt 0 bits && nat_le bits 31) reason.SpanBits) _ _ _
@@ -389,7 +389,7 @@ sound_head slot =
     (λ s. (written (flags ∷ []) ∷ drop 1 (head_sections s) ≡ head_sections s) × (flags < 256 → IsBegun s))
     sound_byte (λ byte b. (refl, (refl, λ _. (flag_set flags small set, small, b)))))
     (λ clear. sound_of (packed_head flags) (PackedChain flags) (λ s. drop 1 (head_sections s)) (λ s. (written (flags ∷ []) ∷ drop 1 (head_sections s) ≡ head_sections s) × (flags < 256 → IsBegun s))
-    (read_packed flags)
+    (read_packed_head flags)
     (λ s z q. let h = packed_head_is flags (flag_clear flags small clear) s z q in
     let tail : z ≡ drop 1 (head_sections s) = ap (λ (x : List Section). drop 1 x) h.0 in
     (tail, (ap (λ (x : List Section). written (flags ∷ []) ∷ x) (sym tail) ∙ h.0, λ _. h.1)))))

@@ -1,5 +1,5 @@
 -- Readers of heads: what a reading says of other values, how many items a field of rows has, and the checks of codes and dictionaries.
-use Rattle.std.proofs.Common.{◌≡◌, ℕ, zero, suc, ◌+◌, ◌*◌, List, [], length, map, take, drop, refl, sym, ap, subst, ◌∙◌, arith, inl, inr, Option, Some, None, Ok, Err}
+use Rattle.std.proofs.Common.{◌≡◌, ℕ, zero, suc, ◌+◌, ◌*◌, List, [], length, map, take, drop, refl, sym, ap, subst, ◌∙◌, arith, inl, inr, Option, Some, None, Err}
 use Rattle.std.specs.Prelude.{Result}
 use Rattle.std.proofs.lemmas.Bool.{cases_lt}
 use Rattle.std.proofs.lemmas.List.{length-map}
@@ -43,27 +43,6 @@ reads_no_memory f view {coming = coming} {i = i} = record {
   bytes = [];
   taken = record { bytes_gone = nothing_gone (coming i); bytes_moved = omega arith; calls_made = omega arith };
   answer = refl;
-}
-
--- What is made of the value that was read, and what is counted then, changes nothing of the reading.
-pub reads_made : {A X Y R : Type 0} (f : Format A) (view : X → A) (view' : Y → A) (v : X) (w : Y) {o m n : Front}
-    {coming : R → Option (List ℕ)} {calls moved failures interrupted : R → ℕ} {i j : R} →
-    view v ≡ view' w → n.place ≡ m.place → n.fill.items ≡ m.fill.items →
-    Reading f view o m coming calls moved failures interrupted i j (Ok v) →
-    Reading f view' o n coming calls moved failures interrupted i j (Ok w)
-reads_made {A = A} f view view' v w {o = o} same place fill h = record {
-  bytes = h.bytes;
-  taken = h.taken;
-  answer = (
-    record {
-      fits = h.answer.0.fits;
-      filled = h.answer.0.filled;
-      whole = h.answer.0.whole ∙ ap (λ (a : A). good a h.answer.0.filled []) same;
-      place = place ∙ h.answer.0.place;
-      fill = fill ∙ h.answer.0.fill;
-    },
-    h.answer.1,
-  );
 }
 
 -- A fault is the same, whatever was to be made.

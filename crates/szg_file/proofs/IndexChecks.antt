@@ -1,10 +1,10 @@
 -- What `check_index` answers, in the words of the format; how many rows a field of rows gives.
-use Rattle.std.proofs.Common.{◌≡◌, ℕ, zero, suc, ◌+◌, ◌-◌, ◌*◌, ◌^◌, ◌<◌, ◌≤◌, Bool, true, false, List, [], length, map, take, drop, refl, sym, ap, ◌∙◌, inl, inr, Option, Some, None, Ok, arith}
+use Rattle.std.proofs.Common.{◌≡◌, ℕ, zero, suc, ◌+◌, ◌-◌, ◌*◌, ◌^◌, ◌<◌, ◌≤◌, Bool, true, List, [], length, map, take, drop, refl, sym, ap, ◌∙◌, inl, inr, Option, Some, None, Ok, arith}
 use Rattle.std.specs.Prelude.{IfSome}
 use Rattle.std.proofs.Math.Nat.{div-le_self}
 use Rattle.std.proofs.Math.Pow.{pow_mono}
 use Rattle.std.proofs.lemmas.Nat.{pow_pos}
-use Rattle.std.proofs.lemmas.Bool.{cases_lt}
+use Rattle.std.proofs.lemmas.Bool.{cases_lt, false_from_ne_true}
 use Rattle.std.proofs.lemmas.List.{length-map}
 use Rattle.std.proofs.lemmas.Option.{slice_get_past}
 use Rattle.std.specs.List.{slice_get}
@@ -25,10 +25,6 @@ use Rattle.szg_file.specs.Reading.{Reading, Checks}
 use Rattle.szg_file.proofs.FormatLaws.{field-short, field-whole}
 
 -- ---- the two checks
-
-is_false : (b : Bool) → (b ≡ true → ⊥) → b ≡ false
-is_false true h = absurd (h refl)
-is_false false h = refl
 
 no_item : (o : Option ℕ) → ((k : ℕ) → o ≡ Some k → ⊥) → o ≡ None
 no_item None h = refl
@@ -53,7 +49,7 @@ pub index_short : (place index size : ℕ) (packed : List ℕ) (o : Option Layou
     IfSome o (λ layout. Checks (index_check place index layout size) (Some (place, reason.ShortTotal)))
 index_short place index size packed None h = absurd h
 index_short place index size packed (Some layout) h =
-    ap (λ (b : Bool). checks_at place index b (first_bad_entry layout)) (is_false (has_total layout size) (λ e. h (has_total-true layout size e)))
+    ap (λ (b : Bool). checks_at place index b (first_bad_entry layout)) (false_from_ne_true (has_total layout size) (λ e. h (has_total-true layout size e)))
 
 pub index_bad : (place index size : ℕ) (packed : List ℕ) (k : ℕ) (o : Option Layout) → IsFaultOf o packed size (BadEntry k) →
     IfSome o (λ layout. Checks (index_check place index layout size) (Some (index + 6 * k, reason.SparseEntry)))

@@ -1,10 +1,10 @@
 -- Items that stand one behind another, read one at a time.
-use Rattle.std.proofs.Common.{◌≡◌, ℕ, zero, suc, ◌+◌, ◌-◌, ◌*◌, ◌≤◌, List, [], ◌∷◌, ◌++◌, length, map, take, drop, slice_index, refl, sym, ap, ◌∙◌, arith}
+use Rattle.std.proofs.Common.{◌≡◌, ℕ, zero, suc, ◌+◌, ◌*◌, ◌≤◌, List, [], ◌∷◌, ◌++◌, length, map, take, drop, slice_index, refl, sym, ap, ◌∙◌, arith}
 use Rattle.std.proofs.lemmas.List.{drop-drop, drop-take, length-drop, length-take-le, map-append, take_at}
 use Rattle.std.proofs.Math.Seq.{take-add}
 use Rattle.szg_block.specs.Layout.{SparseEntry}
 use Rattle.szg_file.specs.File.{entry_of_bytes}
-use Rattle.byteorder.specs.Endian.{little_number, little_from}
+use Rattle.byteorder.specs.Endian.{little_number}
 use Rattle.byteorder.specs.Numbers.{little_from-cons}
 use Rattle.szg_file.specs.Contents.{number_of, items}
 

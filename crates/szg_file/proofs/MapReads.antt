@@ -1,38 +1,19 @@
 -- Readers of maps: lists of bytes, four lists one after another, and what a part's flags say of its map.
-use Rattle.std.proofs.Common.{◌≡◌, ℕ, zero, suc, ◌+◌, ◌*◌, Bool, true, false, cond, List, [], ◌∷◌, length, map, take, drop, refl, sym, ap, ◌∙◌, arith, inl, inr, Option, Some, None, Ok, Err}
+use Rattle.std.proofs.Common.{◌≡◌, ℕ, zero, suc, ◌+◌, ◌*◌, Bool, true, false, cond, List, [], ◌∷◌, length, map, take, drop, refl, sym, ap, ◌∙◌, arith, inl, inr, Option, Some, None}
 use Rattle.std.specs.Prelude.{Result}
 use Rattle.std.proofs.lemmas.Bool.{cases_lt}
 use Rattle.std.proofs.lemmas.List.{length-take}
 use Rattle.szg_file.specs.declared.front.Front.{Front}
 use Rattle.szg_file.specs.declared.fault.ReadFault.{ReadFault}
-use Rattle.szg_file.specs.declared.fault.ReadFault.TheVariants.{Refused, Device, Memory}
 use Rattle.szg_file.specs.Format.{Format, means, field, good, verdict, ◌>>=◌}
 use Rattle.szg_file.specs.Contents.{Map, narrow, wide, Subtable, number_of, items, has_bit}
 use Rattle.szg_file.specs.File.{rows_field, filled_to, each, list_field, map_lists, map_field, flags_of}
 use Rattle.szg_file.specs.Reading.{Reading}
 use Rattle.szg_file.proofs.FormatLaws.{field-short, field-whole}
 use Rattle.szg_file.proofs.EachLaws.{then-then}
+use Rattle.szg_file.proofs.Taken.{reads_like}
 
 -- ---- lists of bytes
-
--- Two formats with one verdict are read alike.
-reads_as : {A X R : Type 0} (f f' : Format A) (view : X → A) {o n : Front}
-    {coming : R → Option (List ℕ)} {calls moved failures interrupted : R → ℕ} {i j : R} (r : Result X ReadFault) →
-    ((bytes : List ℕ) → verdict f o.place bytes ≡ verdict f' o.place bytes) →
-    Reading f view o n coming calls moved failures interrupted i j r →
-    Reading f' view o n coming calls moved failures interrupted i j r
-reads_as f f' view (Ok x) same h = record {
-  bytes = h.bytes;
-  taken = h.taken;
-  answer = (record { fits = h.answer.0.fits; filled = h.answer.0.filled; whole = sym (same h.bytes) ∙ h.answer.0.whole; place = h.answer.0.place; fill = h.answer.0.fill }, h.answer.1);
-}
-reads_as f f' view {coming = coming} {j = j} (Err (Refused place why)) same h = record {
-  bytes = h.bytes;
-  taken = h.taken;
-  answer = (rw (sym (same h.bytes)) h.answer.0, h.answer.1);
-}
-reads_as f f' view (Err Device) same h = record { bytes = h.bytes; taken = h.taken; answer = h.answer }
-reads_as f f' view (Err Memory) same h = record { bytes = h.bytes; taken = h.taken; answer = h.answer }
 
 -- each byte is a number of one byte
 ones : (count : ℕ) (bytes : List ℕ) → length bytes ≡ count → map number_of (items 1 count bytes) ≡ bytes
@@ -66,7 +47,7 @@ pub reads_bytes : {X R : Type 0} (count : ℕ) (view : X → List ℕ) {o n : Fr
     {coming : R → Option (List ℕ)} {calls moved failures interrupted : R → ℕ} {i j : R} (r : Result X ReadFault) →
     Reading (field count means) view o n coming calls moved failures interrupted i j r →
     Reading (list_behind 1 count) view o n coming calls moved failures interrupted i j r
-reads_bytes count view {o = o} r h = reads_as (field count means) (list_behind 1 count) view r (λ bytes. bytes_verdict count o.place bytes) h
+reads_bytes count view {o = o} r h = reads_like (field count means) (list_behind 1 count) view r (λ bytes. bytes_verdict count o.place bytes) h
 
 -- ---- four lists
 

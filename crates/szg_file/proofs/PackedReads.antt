@@ -5,9 +5,9 @@ use Rattle.std.proofs.lemmas.Bool.Decides.{Decides-eqb}
 use Rattle.szg_code.specs.Canonical.{CanonicalCode}
 use Rattle.szg_block.specs.declared.Entry.{Entry}
 use Rattle.szg_file.specs.declared.fault.Reason.TheVariants as reason
-use Rattle.szg_file.specs.declared.heads.Sizes.{Sizes}
+use Rattle.szg_file.specs.declared.heads.HeadSizes.{HeadSizes}
 use Rattle.szg_file.specs.Format.{Format, means, fill, ◌>>=◌}
-use Rattle.szg_file.specs.Contents.{Subtable, constant, pairs, has_bit}
+use Rattle.szg_file.specs.Contents.{Subtable, Head, constant, pairs, has_bit}
 use Rattle.szg_file.specs.File.{number_field, byte_where, lengths_of_words, lowest_list, code_with, dictionary, packed_head}
 use Rattle.szg_file.specs.Held.{sparse_of}
 use Rattle.szg_file.specs.HeadPieces.{sizes_field, entries_field}
@@ -26,22 +26,27 @@ block_bits_field = byte_where (λ bits. nat_le bits 18) reason.BlockBits
 abbrev pub span_bits_field : Format ℕ
 span_bits_field = byte_where (λ bits. nat_lt 0 bits && nat_le bits 31) reason.SpanBits
 
--- the subtable of a head that was read
-abbrev pub packed_of : ℕ → ℕ → ℕ → Sizes → List ℕ → List (List ℕ) → Subtable
-packed_of flags block_bits span_bits sizes lowest entries = pairs (record {
+-- the head of what was read, with this code
+abbrev pub head_with : ℕ → ℕ → ℕ → HeadSizes → List (List ℕ) → CanonicalCode → Head
+head_with flags block_bits span_bits sizes entries code = record {
   flags = flags;
   block_bits = block_bits;
   span_bits = span_bits;
   extra = sizes.extra;
   blocks = sizes.blocks;
-  code = code_with sizes.min sizes.max lowest (length entries);
+  code = code;
   entries = entries;
-}) [] [] []
+}
 
-abbrev pub after_lowest : ℕ → ℕ → ℕ → Sizes → List ℕ → Format Subtable
+-- the subtable of a head that was read
+abbrev pub packed_of : ℕ → ℕ → ℕ → HeadSizes → List ℕ → List (List ℕ) → Subtable
+packed_of flags block_bits span_bits sizes lowest entries =
+    pairs (head_with flags block_bits span_bits sizes entries (code_with sizes.min sizes.max lowest (length entries))) [] [] []
+
+abbrev pub after_lowest : ℕ → ℕ → ℕ → HeadSizes → List ℕ → Format Subtable
 after_lowest flags block_bits span_bits sizes lowest = dictionary >>= λ entries. means (packed_of flags block_bits span_bits sizes lowest entries)
 
-abbrev pub after_sizes : ℕ → ℕ → ℕ → Sizes → Format Subtable
+abbrev pub after_sizes : ℕ → ℕ → ℕ → HeadSizes → Format Subtable
 after_sizes flags block_bits span_bits sizes = lowest_list sizes.min sizes.max >>= after_lowest flags block_bits span_bits sizes
 
 abbrev pub after_span : ℕ → ℕ → ℕ → Format Subtable
@@ -50,7 +55,7 @@ after_span flags block_bits span_bits = sizes_field >>= after_sizes flags block_
 abbrev pub after_block : ℕ → ℕ → Format Subtable
 after_block flags block_bits = span_bits_field >>= after_span flags block_bits
 
-sizes-then : (h : Sizes → Format Subtable) → sizes_field >>= h ≡
+sizes-then : (h : HeadSizes → Format Subtable) → sizes_field >>= h ≡
     number_field 1 >>= (λ extra. number_field 4 >>= λ blocks. lengths_of_words >>= λ words. h (record { extra = extra; blocks = blocks; min = words.0; max = words.1 }))
 sizes-then h =
     then-then (number_field 1) (λ extra. number_field 4 >>= λ blocks. lengths_of_words >>= λ words. means (record { extra = extra; blocks = blocks; min = words.0; max = words.1 })) h
@@ -68,7 +73,7 @@ packed_steps flags =
     (λ i span_bits. sym (sizes-then (after_sizes flags block_bits span_bits)) i) i)
 
 -- the code that was made of the lowest symbols, with as many symbols as there are entries
-code_is : (sizes : Sizes) (lowest code : CanonicalCode) (symbols : ℕ) (entries : List (List ℕ)) →
+code_is : (sizes : HeadSizes) (lowest code : CanonicalCode) (symbols : ℕ) (entries : List (List ℕ)) →
     lowest ≡ code_with sizes.min sizes.max lowest.lowest 0 → code ≡ code_with lowest.min_length lowest.max_length lowest.lowest symbols → symbols ≡ length entries →
     code ≡ code_with sizes.min sizes.max lowest.lowest (length entries)
 code_is sizes lowest code symbols entries first second count =
@@ -78,55 +83,16 @@ code_is sizes lowest code symbols entries first second count =
     ∙ ap (λ (n : ℕ). code_with sizes.min sizes.max lowest.lowest n) count
 
 -- what was read is the subtable, whose other lists are still empty
-pub packed_is : (flags block_bits span_bits : ℕ) (sizes : Sizes) (lowest code : CanonicalCode) (symbols : ℕ) (entries : List (List ℕ)) (sparse : List Entry) (lengths packed : List ℕ) →
+pub packed_is : (flags block_bits span_bits : ℕ) (sizes : HeadSizes) (lowest code : CanonicalCode) (symbols : ℕ) (entries : List (List ℕ)) (sparse : List Entry) (lengths packed : List ℕ) →
     lowest ≡ code_with sizes.min sizes.max lowest.lowest 0 → code ≡ code_with lowest.min_length lowest.max_length lowest.lowest symbols → symbols ≡ length entries →
     sparse ≡ [] → lengths ≡ [] → packed ≡ [] →
-    packed_of flags block_bits span_bits sizes lowest.lowest entries ≡ pairs (record {
-      flags = flags;
-      block_bits = block_bits;
-      span_bits = span_bits;
-      extra = sizes.extra;
-      blocks = sizes.blocks;
-      code = code;
-      entries = entries;
-    }) (map sparse_of sparse) lengths packed
+    packed_of flags block_bits span_bits sizes lowest.lowest entries ≡ pairs (head_with flags block_bits span_bits sizes entries code) (map sparse_of sparse) lengths packed
 packed_is flags block_bits span_bits sizes lowest code symbols entries sparse lengths packed first second count s l p =
-    ap (λ (k : CanonicalCode). pairs (record {
-      flags = flags;
-      block_bits = block_bits;
-      span_bits = span_bits;
-      extra = sizes.extra;
-      blocks = sizes.blocks;
-      code = k;
-      entries = entries;
-    }) [] [] []) (sym (code_is sizes lowest code symbols entries first second count))
-    ∙ ap (λ (z : List Entry). pairs (record {
-      flags = flags;
-      block_bits = block_bits;
-      span_bits = span_bits;
-      extra = sizes.extra;
-      blocks = sizes.blocks;
-      code = code;
-      entries = entries;
-    }) (map sparse_of z) [] []) (sym s)
-    ∙ ap (λ (z : List ℕ). pairs (record {
-      flags = flags;
-      block_bits = block_bits;
-      span_bits = span_bits;
-      extra = sizes.extra;
-      blocks = sizes.blocks;
-      code = code;
-      entries = entries;
-    }) (map sparse_of sparse) z []) (sym l)
-    ∙ ap (λ (z : List ℕ). pairs (record {
-      flags = flags;
-      block_bits = block_bits;
-      span_bits = span_bits;
-      extra = sizes.extra;
-      blocks = sizes.blocks;
-      code = code;
-      entries = entries;
-    }) (map sparse_of sparse) lengths z) (sym p)
+    let head = head_with flags block_bits span_bits sizes entries in
+    ap (λ (k : CanonicalCode). pairs (head k) [] [] []) (sym (code_is sizes lowest code symbols entries first second count))
+    ∙ ap (λ (z : List Entry). pairs (head code) (map sparse_of z) [] []) (sym s)
+    ∙ ap (λ (z : List ℕ). pairs (head code) (map sparse_of sparse) z []) (sym l)
+    ∙ ap (λ (z : List ℕ). pairs (head code) (map sparse_of sparse) lengths z) (sym p)
 
 -- ---- flags
 

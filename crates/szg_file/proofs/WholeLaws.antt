@@ -47,7 +47,7 @@ beside_all P [] (y ∷ ys) h = absurd h
 beside_all P (x ∷ xs) [] h = absurd h
 beside_all P (x ∷ xs) (y ∷ ys) h = (h.0, beside_all P xs ys h.1)
 
-abbrev four : ℕ → List ℕ
+abbrev pub four : ℕ → List ℕ
 four size = size ∷ size ∷ size ∷ size ∷ []
 
 sound_four : (size : ℕ) → Sound (each list_field (four size)) (flat_map (list_sections size)) (AreLists size)
@@ -370,7 +370,7 @@ all_chains (x ∷ xs) (h ∷ hs) (i ∷ is) (m ∷ ms) (s ∷ ss) p q r t =
 
 -- ---- the whole file
 
-abbrev table_of : Sides → Kind → ℕ → List Part → List Subtable → List (Option Map) → List ℕ → Contents
+abbrev pub table_of : Sides → Kind → ℕ → List Part → List Subtable → List (Option Map) → List ℕ → Contents
 table_of material kind byte parts subtables found last = record { material = material; kind = kind; byte4 = byte; parts = parts; subtables = subtables; maps = found; last = last }
 
 abbrev FileChain : Sides → Kind → Contents → List Section → Type 0

@@ -7,12 +7,12 @@ use Rattle.szg_pairs.specs.declared.DictFault.TheVariants as dict
 use Rattle.szg_file.specs.declared.fault.Reason.TheVariants as reason
 use Rattle.szg_file.specs.declared.fault.ReadFault.{ReadFault}
 use Rattle.szg_file.specs.declared.fault.ReadFault.TheVariants.{Refused, Device, Memory}
-use Rattle.szg_file.specs.declared.heads.Sizes.{Sizes}
+use Rattle.szg_file.specs.declared.heads.HeadSizes.{HeadSizes}
 use Rattle.szg_file.specs.Format.{Format, means, refuses, placed, ◌>>=◌, ◌>>◌}
 use Rattle.szg_file.specs.File.{number_field, rows_field, lengths_of_words, entries_check}
 
 -- the numbers of extra lengths and of blocks, and the lengths of words: the bytes behind the span bits
-abbrev pub sizes_field : Format Sizes
+abbrev pub sizes_field : Format HeadSizes
 sizes_field = do
   extra ← number_field 1
   blocks ← number_field 4

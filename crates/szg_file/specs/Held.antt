@@ -1,10 +1,8 @@
 -- What the crate's types stand for.
-use Rattle.std.specs.Prelude.{◌≡◌, ℕ, ◌+◌, ◌≤◌, ◌<◌, ◌^◌, List, [], length, map, Option, Some, None, IfSome, option_map}
-use Rattle.szg_values.specs.declared.Kind.{Kind}
-use Rattle.szg_values.specs.Material.{Sides}
+use Rattle.std.specs.Prelude.{◌≡◌, ℕ, ◌≤◌, List, length, map, IfSome}
 use Rattle.szg_block.specs.declared.Sub.{Sub}
 use Rattle.szg_block.specs.declared.Sub.TheVariants as sub_variants
-use Rattle.szg_block.specs.Subtable.{layout_of, flags_of, HasFlagOf, IsShapedHead}
+use Rattle.szg_block.specs.Subtable.{layout_of, flags_of, HasFlagOf}
 use Rattle.szg_block.specs.Sound.{entry_count}
 use Rattle.szg_block.specs.Layout.{SparseEntry}
 use Rattle.szg_block.specs.declared.Entry.{Entry}

@@ -66,13 +66,13 @@ fn read_head<R: Input>(
             sub: Sub::Constant { flags, byte },
         });
     }
-    let sub = read_packed(alloc, flags, input, front)?;
+    let sub = read_packed_head(alloc, flags, input, front)?;
     front.held += 4;
     Ok(Begun { slot, sub })
 }
 
 /// Takes what stands behind the flags of a subtable that isn't constant.
-fn read_packed<R: Input>(
+fn read_packed_head<R: Input>(
     alloc: Global,
     flags: u8,
     input: &mut R,
@@ -144,9 +144,10 @@ fn read_span_bits<R: Input>(input: &mut R, front: &mut Front) -> Result<u8, Read
     Ok(bits)
 }
 
-/// The numbers behind the span bits: of extra lengths and of blocks, and the least and the greatest length of a word.
+/// The sizes that a head tells behind the span bits: how many extra lengths and blocks there are, and the least and the
+/// greatest length of a word.
 #[derive(Clone, Copy)]
-pub struct Sizes {
+pub struct HeadSizes {
     pub extra: u8,
     pub blocks: u32,
     pub min: u8,
@@ -161,7 +162,7 @@ fn are_lengths(min: u8, max: u8) -> bool
 }
 
 /// Takes the numbers behind the span bits, in one piece, since no check stands between them.
-fn read_sizes<R: Input>(input: &mut R, front: &mut Front) -> Result<Sizes, ReadFault>
+fn read_sizes<R: Input>(input: &mut R, front: &mut Front) -> Result<HeadSizes, ReadFault>
     requires { front.old.place < 2 ^ 62 }
     ensures sizes { Reading sizes_field (λ sizes. sizes) front.old front.new R.coming R.calls R.moved R.failures R.interrupted input.old input.new result }
     ensures some { IfOk result (λ sizes. 1 ≤ sizes.min) }
@@ -173,7 +174,7 @@ fn read_sizes<R: Input>(input: &mut R, front: &mut Front) -> Result<Sizes, ReadF
     let place = front.place + 5;
     let mut piece = [0; 7];
     take_field(input, front, &mut piece)?;
-    let sizes = Sizes {
+    let sizes = HeadSizes {
         extra: piece[0],
         blocks: LittleEndian::read_u32(&piece[1..]),
         min: piece[6],

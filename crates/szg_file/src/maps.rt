@@ -1,5 +1,5 @@
 ghost use Rattle.std.specs.Prelude.{◌≡◌, ◌+◌, ◌*◌, ◌≤◌, ◌<◌, ◌^◌, ◌∷◌, [], length, map, option_map, OnOk};
-ghost use Rattle.szg_file.specs.File.{each, list_field, map_lists, map_field, maps_field, flags_of};
+ghost use Rattle.szg_file.specs.File.{each, list_field, map_lists, map_field, maps_field};
 ghost use Rattle.szg_file.specs.Held.{map_of};
 ghost use Rattle.szg_file.specs.Reading.{Reading};
 
@@ -7,10 +7,10 @@ use crate::begun::Begun;
 use crate::fault::ReadFault;
 use crate::fields::{append, has_flag, read_byte, read_number};
 use crate::front::Front;
+use crate::lookup::flags_of;
 use crate::table::Map;
 use crate::taking::{take_bytes, take_fill, take_numbers};
 use std::alloc::Global;
-use szg_block::Sub;
 use szg_io::Input;
 use szg_values::Kind;
 
@@ -70,16 +70,6 @@ fn read_each<R: Input>(
     Ok(list)
 }
 
-/// The flags of a subtable.
-fn flags_of(begun: &Begun) -> u8
-    ensures { result ≡ flags_of begun.now.subtable }
-{
-    match &begun.sub {
-        Sub::Constant { flags, .. } => *flags,
-        Sub::Pairs { flags, .. } => *flags,
-    }
-}
-
 /// Takes the map of a part, where flag 2 says that it has one.
 fn read_map<R: Input>(
     alloc: Global,
@@ -91,7 +81,7 @@ fn read_map<R: Input>(
     ensures lists { Reading (map_field begun.now.subtable) (option_map map_of) front.old front.new R.coming R.calls R.moved R.failures R.interrupted input.old input.new result }
     ensures place { OnOk result (front.new.place ≤ front.old.place + 600000) }
 {
-    let flags = flags_of(begun);
+    let flags = flags_of(&begun.sub);
     if !has_flag(1, flags) {
         return Ok(None);
     }

@@ -114,7 +114,7 @@ fn side_size(
 
 /// The sizes of a part's sides.
 #[derive(Clone, Copy)]
-pub struct Sizes {
+pub struct SideSizes {
     pub first: u64,
     pub second: Option<u64>,
 }
@@ -140,7 +140,7 @@ fn part_sizes(
     place: u64,
     order: &[u8],
     men: &[u8],
-) -> Result<Sizes, (u64, Reason)>
+) -> Result<SideSizes, (u64, Reason)>
     requires part { IsPart material.now part }
     requires order { length order.now ≡ order_bytes material.now }
     requires men { length men.now ≤ 6 }
@@ -155,13 +155,13 @@ fn part_sizes(
         Err(fault) => return Err(refusal_of(fault, place, order.len())),
     };
     if !has_two_sides(material, kind) {
-        return Ok(Sizes {
+        return Ok(SideSizes {
             first,
             second: None,
         });
     }
     match side_size(material, part, 1, order, men) {
-        Ok(second) => Ok(Sizes {
+        Ok(second) => Ok(SideSizes {
             first,
             second: Some(second),
         }),
@@ -190,7 +190,7 @@ fn read_part<R: Input>(
     part: u8,
     input: &mut R,
     front: &mut Front,
-) -> Result<(PartBytes, Sizes), ReadFault>
+) -> Result<(PartBytes, SideSizes), ReadFault>
     requires part { IsPart material.now part }
     requires place { front.old.place < 2 ^ 60 }
     ensures part { Reading (part_field material.now kind) (λ read. part_of read.0) front.old front.new R.coming R.calls R.moved R.failures R.interrupted input.old input.new result }
@@ -225,7 +225,12 @@ fn part_count(material: &Material) -> u8
 }
 
 /// Adds the subtables of a part.
-fn push_slots(slots: &mut Vec<Slot>, part: u8, sizes: Sizes, front: &Front) -> Result<(), ReadFault>
+fn push_slots(
+    slots: &mut Vec<Slot>,
+    part: u8,
+    sizes: SideSizes,
+    front: &Front,
+) -> Result<(), ReadFault>
     requires part { part < 4 }
     requires first { sizes.first < 2 ^ 33 }
     requires second { IfSome sizes.second (λ second. second < 2 ^ 33) }
@@ -254,7 +259,7 @@ fn push_part(
     parts: &mut Parts,
     part: u8,
     bytes: PartBytes,
-    sizes: Sizes,
+    sizes: SideSizes,
     front: &Front,
 ) -> Result<(), ReadFault>
     requires part { part < 4 }

@@ -72,8 +72,8 @@ fn read_opening<R: Input>(
     })
 }
 
-/// Takes the sparse indexes, the lengths and the blocks.
-fn read_packed<R: Input>(
+/// Takes the sparse indexes, the lengths and the blocks, and so makes whole subtables of their heads.
+fn read_subtables<R: Input>(
     alloc: Global,
     heads: Vec<Begun>,
     input: &mut R,
@@ -118,7 +118,7 @@ fn read_pieces<R: Input>(
         heads,
         maps,
     } = read_opening(alloc, material, kind, input, front)?;
-    let subs = read_packed(alloc, heads, input, front)?;
+    let subs = read_subtables(alloc, heads, input, front)?;
     let last = read_ending(input, front)?;
     Ok(Pieces {
         byte4,

@@ -273,10 +273,25 @@ fn check_queen(rt: &impl Abort, table: &Table) {
 }
 
 #[test]
+fn sizes_of_sides(rt: HostRuntime) -> Result<(), Fail> {
+    let three = accepted(&rt, &fixtures::knvk_wdl_constant(rt.alloc())?, &[])?;
+    let pawns = accepted(&rt, &fixtures::kpvk_wdl_constant(rt.alloc())?, &[])?;
+    let six = accepted(&rt, &fixtures::kqrbvkn_wdl_constant(rt.alloc())?, &[])?;
+    for side in 0..2 {
+        assert_eq!(rt; three.size(0, side), Some(31332));
+        for part in 0..4 {
+            assert_eq!(rt; pawns.size(part, side), Some(23436), "part {part}");
+        }
+        assert_eq!(rt; six.size(0, side), Some(6765832080));
+    }
+    assert_eq!(rt; (six.size(0, 2), six.size(1, 0)), (None, None));
+    Ok(())
+}
+
+#[test]
 fn values_of_sides(rt: HostRuntime) -> Result<(), Fail> {
     let constant = accepted(&rt, &fixtures::knvk_wdl_constant(rt.alloc())?, &[])?;
     for side in 0..2 {
-        assert_eq!(rt; constant.size(0, side), Some(31332));
         assert_eq!(rt; value(&constant, 0, side, 31331), Some(2));
         assert!(rt;
             matches!(
@@ -288,30 +303,15 @@ fn values_of_sides(rt: HostRuntime) -> Result<(), Fail> {
             )
         );
     }
-    let file = fixtures::kqvk_wdl_unpaired(rt.alloc())?;
-    check_queen(&rt, &accepted(&rt, &file, &[])?);
-    check_queen(
-        &rt,
-        &accepted(&rt, &fixtures::kqvk_wdl_paired(rt.alloc())?, &[])?,
-    );
+    let paired = fixtures::kqvk_wdl_paired(rt.alloc())?;
+    check_queen(&rt, &accepted(&rt, &paired, &[])?);
+    let unpaired = fixtures::kqvk_wdl_unpaired(rt.alloc())?;
     let needless = [(282, 0xff), (283, 0xff), (32, 0x7a), (36, 0x00), (37, 0x06)];
-    check_queen(&rt, &accepted(&rt, &file, &needless)?);
-    check_queen(&rt, &accepted(&rt, &file, &[(284, 0), (285, 0)])?);
+    let small_extra = [(284, 0), (285, 0)];
     let beyond = [(284, 0), (285, 0), (32, 0x7c), (36, 0x9b)];
-    check_queen(&rt, &accepted(&rt, &file, &beyond)?);
-    let pawns = accepted(&rt, &fixtures::kpvk_wdl_constant(rt.alloc())?, &[])?;
-    for part in 0..4 {
-        assert_eq!(rt;
-            (pawns.size(part, 0), pawns.size(part, 1)),
-            (Some(23436), Some(23436))
-        );
+    for changes in [&[][..], &needless[..], &small_extra[..], &beyond[..]] {
+        check_queen(&rt, &accepted(&rt, &unpaired, changes)?);
     }
-    let six = accepted(&rt, &fixtures::kqrbvkn_wdl_constant(rt.alloc())?, &[])?;
-    assert_eq!(rt;
-        (six.size(0, 0), six.size(0, 1)),
-        (Some(6765832080), Some(6765832080))
-    );
-    assert_eq!(rt; (six.size(0, 2), six.size(1, 0)), (None, None));
     Ok(())
 }
 

@@ -1,12 +1,10 @@
 ghost use Rattle.std.specs.Prelude.{◌<◌};
 
+use crate::request::PARTS;
 use std::alloc::{AllocError, Global};
 use szg_block::Sub;
 use szg_file::{Map, PartBytes, Table, file_len};
 use szg_values::Kind;
-
-/// The letters of the parts.
-static LETTERS: [&str; 4] = ["a", "b", "c", "d"];
 
 /// What `show` prints of a table: all that it holds but its values, a line each.
 pub fn description(alloc: Global, table: &Table) -> Result<String, AllocError> {
@@ -28,7 +26,7 @@ pub fn description(alloc: Global, table: &Table) -> Result<String, AllocError> {
 
 /// A line for each part.
 fn add_parts(alloc: Global, parts: &[PartBytes], text: &mut String) -> Result<(), AllocError> {
-    'parts: for (part, letter) in parts.iter().zip(LETTERS.iter()) {
+    'parts: for (part, letter) in parts.iter().zip(PARTS.iter()) {
         let order = hex::encode(alloc, part.order.as_slice())?;
         let men = hex::encode(alloc, part.men.as_slice())?;
         writeln!(text, "part {letter} order {order} men {men}")?;
@@ -53,7 +51,7 @@ fn add_subtables(table: &Table, text: &mut String) -> Result<(), AllocError> {
 fn add_subtable(table: &Table, part: u8, side: u8, text: &mut String) -> Result<(), AllocError>
     requires { part < 4 }
 {
-    let letter = LETTERS[part as usize];
+    let letter = PARTS[part as usize];
     let (Some(sub), Some(size)) = (table.sub(part, side), table.size(part, side)) else {
         return Ok(());
     };
@@ -94,7 +92,7 @@ fn add_subtable(table: &Table, part: u8, side: u8, text: &mut String) -> Result<
 fn add_map(maps: &[Option<Map>], part: u8, text: &mut String) -> Result<(), AllocError>
     requires { part < 4 }
 {
-    let letter = LETTERS[part as usize];
+    let letter = PARTS[part as usize];
     let Some(Some(lists)) = maps.get(part as usize) else {
         return Ok(());
     };

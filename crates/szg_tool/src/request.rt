@@ -28,7 +28,8 @@ static ALONE: [&str; 1] = ["szg"];
 
 static KINDS: [&str; 2] = ["wdl", "dtz"];
 
-static PARTS: [&str; 4] = ["a", "b", "c", "d"];
+/// The letters of the parts.
+pub static PARTS: [&str; 4] = ["a", "b", "c", "d"];
 
 /// The words of a command.
 pub fn parse<'a>(alloc: Global, words: &'a [&'a str]) -> Result<Request<'a>, Error> {

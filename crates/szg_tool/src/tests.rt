@@ -21,6 +21,21 @@ const SHOWN_BLOCKS: &str =
 const SHOWN_MAPS: &str =
     "name KPvK\nkind dtz\nbytes 80\nflags 3\npart a order 00 men 01060e\npart b order 00 men 01060e\npart c order 00 men 01060e\npart d order 00 men 01060e\nsub a 0 flags 130 constant 0\nmap a 1 0 0 0\nsub b 0 flags 146 constant 0\nmap b 1 0 0 0\nsub c 0 flags 128 constant 0\nsub d 0 flags 128 constant 0\nend 000102030405060708090a0b0c0d0e0f\n";
 
+/// The words on these bytes end with this status and print these bytes.
+fn check_printed(
+    rt: &(impl Abort + Alloc<A = Global>),
+    words: &[&str],
+    bytes: &[u8],
+    status: u8,
+    printed: &[u8],
+) {
+    let mut reader = Std::new(bytes);
+    let mut writer = Std::new(Vec::new(rt.alloc()));
+    let outcome = run(rt.alloc(), words, &mut reader, &mut writer);
+    assert_eq!(rt; outcome.status(), status, "status of {words:?}");
+    assert_eq!(rt; writer.inner().as_slice(), printed, "text of {words:?}");
+}
+
 /// The words on these bytes end with this status and print this text.
 fn check_run(
     rt: &(impl Abort + Alloc<A = Global>),
@@ -29,15 +44,7 @@ fn check_run(
     status: u8,
     text: &str,
 ) {
-    let mut reader = Std::new(bytes);
-    let mut writer = Std::new(Vec::new(rt.alloc()));
-    let outcome = run(rt.alloc(), words, &mut reader, &mut writer);
-    assert_eq!(rt; outcome.status(), status, "status of {words:?}");
-    assert_eq!(rt;
-        writer.inner().as_slice(),
-        text.as_bytes(),
-        "text of {words:?}"
-    );
+    check_printed(rt, words, bytes, status, text.as_bytes());
 }
 
 #[test]
@@ -67,73 +74,45 @@ fn constant_table(rt: HostRuntime) -> Result<(), Fail> {
 #[test]
 fn copied_and_listed(rt: HostRuntime) -> Result<(), Fail> {
     let file = knvk_wdl_constant(rt.alloc())?;
-    let mut reader = Std::new(file.as_slice());
-    let mut writer = Std::new(Vec::new(rt.alloc()));
-    let copied = run(
-        rt.alloc(),
-        &["szg", "copy", "KNvK", "wdl"],
-        &mut reader,
-        &mut writer,
-    );
-    assert_eq!(&rt; copied.status(), 0);
-    assert_eq!(&rt; writer.inner().as_slice(), file.as_slice());
+    check_printed(&rt, &["szg", "copy", "KNvK", "wdl"], &file, 0, &file);
     let mut lines = Vec::new(rt.alloc());
     for _ in 0..31332 {
         lines.extend_from_slice(b"2\n")?;
     }
-    let mut reader = Std::new(file.as_slice());
-    let mut writer = Std::new(Vec::new(rt.alloc()));
-    let listed = run(
-        rt.alloc(),
-        &["szg", "values", "KNvK", "wdl"],
-        &mut reader,
-        &mut writer,
-    );
-    assert_eq!(&rt; listed.status(), 0);
-    assert_eq!(&rt; writer.inner().as_slice(), lines.as_slice());
+    check_printed(&rt, &["szg", "values", "KNvK", "wdl"], &file, 0, &lines);
     Ok(())
 }
 
 #[test]
 fn table_of_blocks(rt: HostRuntime) -> Result<(), Fail> {
     let file = kqvk_wdl_unpaired(rt.alloc())?;
-    check_run(&rt, &["szg", "check", "KQvK", "wdl"], &file, 0, "ok 4304\n");
-    check_run(&rt, &["szg", "show", "KQvK", "wdl"], &file, 0, SHOWN_BLOCKS);
-    check_run(
-        &rt,
-        &["szg", "get", "KQvK", "wdl", "31331"],
-        &file,
-        0,
-        "4\n",
-    );
-    check_run(
-        &rt,
-        &["szg", "get", "KQvK", "wdl", "0031331", "--side", "1"],
-        &file,
-        0,
-        "2\n",
-    );
-    check_run(
-        &rt,
-        &["szg", "get", "--part", "b", "KQvK", "wdl", "31331"],
-        &file,
-        1,
-        "refused part\n",
-    );
-    check_run(
-        &rt,
-        &["szg", "get", "KQvK", "wdl", "31332"],
-        &file,
-        1,
-        "refused index\n",
-    );
-    check_run(
-        &rt,
-        &["szg", "values", "KQvK", "wdl", "--part", "b"],
-        &file,
-        1,
-        "refused part\n",
-    );
+    for (words, status, text) in [
+        (&["szg", "check", "KQvK", "wdl"][..], 0, "ok 4304\n"),
+        (&["szg", "show", "KQvK", "wdl"][..], 0, SHOWN_BLOCKS),
+        (&["szg", "get", "KQvK", "wdl", "31331"][..], 0, "4\n"),
+        (
+            &["szg", "get", "KQvK", "wdl", "0031331", "--side", "1"][..],
+            0,
+            "2\n",
+        ),
+        (
+            &["szg", "get", "--part", "b", "KQvK", "wdl", "31331"][..],
+            1,
+            "refused part\n",
+        ),
+        (
+            &["szg", "get", "KQvK", "wdl", "31332"][..],
+            1,
+            "refused index\n",
+        ),
+        (
+            &["szg", "values", "KQvK", "wdl", "--part", "b"][..],
+            1,
+            "refused part\n",
+        ),
+    ] {
+        check_run(&rt, words, &file, status, text);
+    }
     Ok(())
 }
 
@@ -160,68 +139,41 @@ fn table_of_distances(rt: HostRuntime) -> Result<(), Fail> {
 
 #[test]
 fn words_that_make_no_command(rt: HostRuntime) {
-    check_run(&rt, &[], b"", 2, "");
-    check_run(&rt, &["szg"], b"", 2, "");
-    check_run(&rt, &["szg", "--help"], b"", 2, "");
-    check_run(&rt, &["szg", "--version"], b"", 2, "");
-    check_run(&rt, &["szg", "show", "KNvK"], b"", 2, "");
-    check_run(&rt, &["szg", "show", "KNvK", "dtm"], b"", 2, "");
-    check_run(&rt, &["szg", "get", "KNvK", "wdl", "+1"], b"", 2, "");
-    check_run(
-        &rt,
-        &["szg", "get", "KNvK", "wdl", "9223372036854775808"],
-        b"",
-        2,
-        "",
-    );
-    check_run(
-        &rt,
-        &["szg", "get", "KNvK", "wdl", "1", "--side", "2"],
-        b"",
-        2,
-        "",
-    );
-    check_run(
-        &rt,
+    for words in [
+        &[][..],
+        &["szg"][..],
+        &["szg", "--help"][..],
+        &["szg", "--version"][..],
+        &["szg", "show", "KNvK"][..],
+        &["szg", "show", "KNvK", "dtm"][..],
+        &["szg", "get", "KNvK", "wdl", "+1"][..],
+        &["szg", "get", "KNvK", "wdl", "9223372036854775808"][..],
+        &["szg", "get", "KNvK", "wdl", "1", "--side", "2"][..],
         &[
             "szg", "get", "KNvK", "wdl", "1", "--side", "0", "--side", "0",
-        ],
-        b"",
-        2,
-        "",
-    );
+        ][..],
+    ] {
+        check_run(&rt, words, b"", 2, "");
+    }
 }
 
 #[test]
 fn devices_that_fail(rt: HostRuntime) -> Result<(), Fail> {
     let file = knvk_wdl_constant(rt.alloc())?;
+    let copy = ["szg", "copy", "KNvK", "wdl"];
     let mut reader = Cut::new(Std::new(file.as_slice()), 7, 0, 3);
     let mut writer = Std::new(Vec::new(rt.alloc()));
-    let unread = run(
-        rt.alloc(),
-        &["szg", "copy", "KNvK", "wdl"],
-        &mut reader,
-        &mut writer,
-    );
+    let unread = run(rt.alloc(), &copy, &mut reader, &mut writer);
     assert_eq!(&rt; unread.status(), 3);
     let mut reader = Std::new(file.as_slice());
     let mut writer = Cut::new(Std::new(Vec::new(rt.alloc())), 8, 0, 6);
-    let unwritten = run(
-        rt.alloc(),
-        &["szg", "copy", "KNvK", "wdl"],
-        &mut reader,
-        &mut writer,
-    );
+    let unwritten = run(rt.alloc(), &copy, &mut reader, &mut writer);
     assert_eq!(&rt; unwritten.status(), 3);
     assert_eq!(&rt; writer.inner().inner().len(), 40);
+    let misnamed = ["szg", "show", "KvKN", "wdl"];
     let mut reader = Cut::new(Std::new(file.as_slice()), 7, 0, 1);
     let mut writer = Std::new(Vec::new(rt.alloc()));
-    let unnamed = run(
-        rt.alloc(),
-        &["szg", "show", "KvKN", "wdl"],
-        &mut reader,
-        &mut writer,
-    );
+    let unnamed = run(rt.alloc(), &misnamed, &mut reader, &mut writer);
     assert_eq!(&rt; unnamed.status(), 1);
     assert_eq!(&rt;
         writer.inner().as_slice(),

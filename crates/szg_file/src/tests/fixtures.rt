@@ -16,6 +16,12 @@ const LAST: [u8; 16] = [0, 1, 2, 3, 4, 5, 6, 7, 8, 9, 10, 11, 12, 13, 14, 15];
 /// Magic, byte 4, the one part and a fill byte of both tables of values of king and queen against king.
 const QUEEN: [u8; 10] = [0x71, 0xe8, 0x23, 0x5d, 0x01, 0x00, 0x66, 0x55, 0xee, 0x00];
 
+/// Magic, byte 4, the four parts and a fill byte of both tables of distances of king and pawn against king.
+const PAWN: [u8; 22] = [
+    0xd7, 0x66, 0x0c, 0xa5, 0x03, 0x00, 0x01, 0x06, 0x0e, 0x00, 0x01, 0x06, 0x0e, 0x00, 0x01, 0x06,
+    0x0e, 0x00, 0x01, 0x06, 0x0e, 0x00,
+];
+
 /// The head of a side whose words of one bit are the values 2 and 4, in 123 blocks of 32 bytes.
 const HEAD: [u8; 20] = [
     0x00, 0x05, 0x10, 0x01, 0x7b, 0x00, 0x00, 0x00, 0x01, 0x01, 0x00, 0x00, 0x02, 0x00, 0x02, 0xf0,
@@ -46,6 +52,15 @@ fn add_blocks(bytes: &mut Vec<u8>) -> Result<(), AllocError> {
     add(bytes, 0x55, 122 * 32 + 12)?;
     add(bytes, 0x50, 1)?;
     add(bytes, 0x00, 19 + 32)
+}
+
+/// A file of values of king and queen against king.
+fn kqvk_wdl(bytes: Vec<u8>) -> Fixture {
+    Fixture {
+        name: "KQvK",
+        kind: Kind::Wdl,
+        bytes,
+    }
 }
 
 /// These bytes, so many zeros, and the sixteen bytes at the end.
@@ -80,11 +95,7 @@ pub fn kqvk_wdl_unpaired(alloc: Global) -> Result<Fixture, AllocError> {
     add(&mut bytes, 0x00, 34)?;
     add_blocks(&mut bytes)?;
     bytes.extend_from_slice(&LAST)?;
-    Ok(Fixture {
-        name: "KQvK",
-        kind: Kind::Wdl,
-        bytes,
-    })
+    Ok(kqvk_wdl(bytes))
 }
 
 /// Both sides have the values 2, 4, 2, 4 .. as words of one bit.
@@ -100,11 +111,7 @@ pub fn kqvk_wdl_both_sides(alloc: Global) -> Result<Fixture, AllocError> {
     add_blocks(&mut bytes)?;
     add_blocks(&mut bytes)?;
     bytes.extend_from_slice(&LAST)?;
-    Ok(Fixture {
-        name: "KQvK",
-        kind: Kind::Wdl,
-        bytes,
-    })
+    Ok(kqvk_wdl(bytes))
 }
 
 /// All values are 3; the dictionary has one entry, and so a spare byte behind it.
@@ -129,11 +136,7 @@ pub fn kqvk_wdl_with_a_long_symbol(alloc: Global) -> Result<Fixture, AllocError>
     for child in 0..9u8 {
         bytes.extend_from_slice(&[child, child * 16, 0x00])?;
     }
-    Ok(Fixture {
-        name: "KQvK",
-        kind: Kind::Wdl,
-        bytes,
-    })
+    Ok(kqvk_wdl(bytes))
 }
 
 /// The same values in two blocks, by symbols that are pairs of pairs: up to 256 values a word.
@@ -166,32 +169,24 @@ pub fn kqvk_wdl_paired(alloc: Global) -> Result<Fixture, AllocError> {
     bytes.extend_from_slice(&[0x61, 0x80])?;
     add(&mut bytes, 0x00, 16)?;
     bytes.extend_from_slice(&LAST)?;
-    Ok(Fixture {
-        name: "KQvK",
-        kind: Kind::Wdl,
-        bytes,
-    })
+    Ok(kqvk_wdl(bytes))
 }
 
 /// All parts constant; part a has a map of bytes, part b a wide one.
 pub fn kpvk_dtz_mapped(alloc: Global) -> Result<Fixture, AllocError> {
-    let front = [
-        0xd7, 0x66, 0x0c, 0xa5, 0x03, 0x00, 0x01, 0x06, 0x0e, 0x00, 0x01, 0x06, 0x0e, 0x00, 0x01,
-        0x06, 0x0e, 0x00, 0x01, 0x06, 0x0e, 0x00, 0x82, 0x00, 0x92, 0x00, 0x80, 0x00, 0x80, 0x00,
-        0x01, 0x07, 0x00, 0x00, 0x00, 0x00, 0x01, 0x00, 0x2c, 0x01, 0x00, 0x00, 0x00, 0x00, 0x00,
-        0x00,
-    ];
-    with_zeros(alloc, "KPvK", Kind::Dtz, &front, 18)
+    let mut bytes = Vec::from_slice(alloc, &PAWN)?;
+    bytes.extend_from_slice(&[0x82, 0x00, 0x92, 0x00, 0x80, 0x00, 0x80, 0x00])?;
+    bytes.extend_from_slice(&[0x01, 0x07, 0x00, 0x00, 0x00, 0x00])?;
+    bytes.extend_from_slice(&[0x01, 0x00, 0x2c, 0x01, 0x00, 0x00, 0x00, 0x00, 0x00, 0x00])?;
+    with_zeros(alloc, "KPvK", Kind::Dtz, &bytes, 18)
 }
 
 /// All parts constant; part a, of these flags, has a map with the numbers 3 and 9 for losses.
 pub fn kpvk_dtz_losses(alloc: Global, flags: u8) -> Result<Fixture, AllocError> {
-    let front = [
-        0xd7, 0x66, 0x0c, 0xa5, 0x03, 0x00, 0x01, 0x06, 0x0e, 0x00, 0x01, 0x06, 0x0e, 0x00, 0x01,
-        0x06, 0x0e, 0x00, 0x01, 0x06, 0x0e, 0x00, flags, 0x00, 0x80, 0x00, 0x80, 0x00, 0x80, 0x00,
-        0x00, 0x02, 0x03, 0x09, 0x00, 0x00,
-    ];
-    with_zeros(alloc, "KPvK", Kind::Dtz, &front, 28)
+    let mut bytes = Vec::from_slice(alloc, &PAWN)?;
+    bytes.extend_from_slice(&[flags, 0x00, 0x80, 0x00, 0x80, 0x00, 0x80, 0x00])?;
+    bytes.extend_from_slice(&[0x00, 0x02, 0x03, 0x09, 0x00, 0x00])?;
+    with_zeros(alloc, "KPvK", Kind::Dtz, &bytes, 28)
 }
 
 /// Four parts of two constant sides each.
@@ -230,9 +225,5 @@ pub fn kqvk_wdl_cut_in_its_dictionary(alloc: Global) -> Result<Fixture, AllocErr
         0x00, 0x05, 0x10, 0x01, 0x7b, 0x00, 0x00, 0x00, 0x10, 0x0f, 0xff, 0xff, 0x00, 0x00, 0xff,
         0xff, 0x02, 0xf0, 0xff,
     ])?;
-    Ok(Fixture {
-        name: "KQvK",
-        kind: Kind::Wdl,
-        bytes,
-    })
+    Ok(kqvk_wdl(bytes))
 }

@@ -12,15 +12,20 @@ fn add(bytes: &mut Vec<u8>, byte: u8, count: usize) -> Result<(), AllocError> {
     Ok(())
 }
 
+/// These bytes, so many zeros, and the sixteen bytes at the end.
+fn with_zeros(alloc: Global, front: &[u8], zeros: usize) -> Result<Vec<u8>, AllocError> {
+    let mut bytes = Vec::from_slice(alloc, front)?;
+    add(&mut bytes, 0x00, zeros)?;
+    bytes.extend_from_slice(&LAST)?;
+    Ok(bytes)
+}
+
 /// King and knight against king, WDL: both sides constant, of value 2.
 pub fn knvk_wdl_constant(alloc: Global) -> Result<Vec<u8>, AllocError> {
     let front = [
         0x71, 0xe8, 0x23, 0x5d, 0x01, 0x00, 0x66, 0x22, 0xee, 0x00, 0x80, 0x02, 0x80, 0x02,
     ];
-    let mut bytes = Vec::from_slice(alloc, &front)?;
-    add(&mut bytes, 0x00, 50)?;
-    bytes.extend_from_slice(&LAST)?;
-    Ok(bytes)
+    with_zeros(alloc, &front, 50)
 }
 
 /// King and queen against king, WDL. Side 0 has the values 2, 4, 2, 4 .. as words of one bit, in 123 blocks of 32
@@ -52,8 +57,5 @@ pub fn kpvk_dtz_mapped(alloc: Global) -> Result<Vec<u8>, AllocError> {
         0x01, 0x07, 0x00, 0x00, 0x00, 0x00, 0x01, 0x00, 0x2c, 0x01, 0x00, 0x00, 0x00, 0x00, 0x00,
         0x00,
     ];
-    let mut bytes = Vec::from_slice(alloc, &front)?;
-    add(&mut bytes, 0x00, 18)?;
-    bytes.extend_from_slice(&LAST)?;
-    Ok(bytes)
+    with_zeros(alloc, &front, 18)
 }

@@ -4,8 +4,9 @@ use Rattle.szg_file.specs.Format.{means}
 use Rattle.szg_file.specs.Contents.{Subtable, constant, has_bit}
 use Rattle.szg_file.specs.File.{Begun, number_field, packed_head}
 use Rattle.szg_file.specs.Held.{subtable_of}
-use Rattle.szg_file.proofs.HeadReads.{reads_made, reads_failed}
+use Rattle.szg_file.proofs.HeadReads.{reads_failed}
 use Rattle.szg_file.proofs.ReadingLaws.{reads_then, reads_stopped, reads_nothing}
+use Rattle.szg_file.proofs.Taken.{reads_as}
 use Rattle.szg_file.proofs.PackedReads.{after_flags, constant_behind, packed_behind}
 use Rattle.szg_file.proofs.heads.read_head.Goals as goal
 
@@ -26,7 +27,7 @@ returns-then-has_flag-clause-head g c =
     reads_then (number_field 1) after_flags (λ b. b) (λ (begun : Begun). begun.subtable) flags c.in_ok-flags.ensures.byte
     (rw (constant_behind flags set)
     (reads_then (number_field 1) (λ byte. means (constant flags byte)) (λ b. b) (λ (begun : Begun). begun.subtable) c.in_ok-byte.byte c.in_ok-byte.ensures.byte
-    (reads_made (means (constant flags c.in_ok-byte.byte)) (λ (s : Subtable). s) (λ (begun : Begun). begun.subtable) (constant flags c.in_ok-byte.byte) _ refl refl refl
+    (reads_as (means (constant flags c.in_ok-byte.byte)) (means (constant flags c.in_ok-byte.byte)) (λ (s : Subtable). s) (λ (begun : Begun). begun.subtable) (constant flags c.in_ok-byte.byte) _ refl refl refl refl
     (reads_nothing (means (constant flags c.in_ok-byte.byte)) (λ (s : Subtable). s) (constant flags c.in_ok-byte.byte) refl))))
 
 pub returns-in_err-sub-clause-head : goal.returns-in_err-sub-clause-head
@@ -44,4 +45,4 @@ returns-clause-head g c =
     let clear : has_bit 7 flags ≡ false = sym c.has_flag.ensures ∙ c.if-has_flag.false in
     reads_then (number_field 1) after_flags (λ b. b) (λ (begun : Begun). begun.subtable) flags c.in_ok-flags.ensures.byte
     (rw (packed_behind flags clear)
-    (reads_made (packed_head flags) subtable_of (λ (begun : Begun). begun.subtable) c.in_ok-sub.sub _ refl refl refl c.in_ok-sub.ensures.head))
+    (reads_as (packed_head flags) (packed_head flags) subtable_of (λ (begun : Begun). begun.subtable) c.in_ok-sub.sub _ refl refl refl refl c.in_ok-sub.ensures.head))

@@ -1,4 +1,4 @@
-use Rattle.std.proofs.Common.{◌≡◌, ◌+◌, ◌-◌, ◌*◌, ◌≤◌, ◌<◌, ◌++◌, ◌∷◌, [], length, map, List, ℕ, suc, arith, refl, rules, ap, sym, subst, ◌∙◌, Ok, Err}
+use Rattle.std.proofs.Common.{◌≡◌, ◌+◌, ◌-◌, ◌<◌, ◌++◌, ◌∷◌, [], length, map, List, ℕ, suc, arith, refl, ap, sym, ◌∙◌, Ok, Err}
 use Rattle.std.specs.Prelude.{Result}
 use Rattle.std.specs.List.{range_with_len}
 use Rattle.std.proofs.lemmas.Result.{err_from_is_err_and}
@@ -12,9 +12,8 @@ use Rattle.szg_file.specs.Parts.{slots_with}
 use Rattle.szg_file.specs.declared.table.PartBytes.{PartBytes}
 use Rattle.szg_file.specs.declared.fault.ReadFault.{ReadFault}
 use Rattle.szg_file.specs.declared.fault.ReadFault.TheVariants.{Memory}
-use Rattle.szg_file.specs.Reading.{Reading}
 use Rattle.szg_file.proofs.ReadingLaws.{reads_nothing, reads_more, reads_more_stopped}
-use Rattle.szg_file.proofs.Taken.{reads_as, reads_equal, reads_refused_growth}
+use Rattle.szg_file.proofs.Taken.{reads_equal, reads_refused_growth}
 use Rattle.szg_file.proofs.PartLaws.{slots_few, slots-more, numbers-more, numbers-split}
 use Rattle.szg_file.proofs.parts.read_parts.Goals as goal
 

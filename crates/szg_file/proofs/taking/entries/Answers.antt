@@ -1,6 +1,5 @@
-use Rattle.std.proofs.Common.{◌≡◌, ◌+◌, ◌-◌, ◌*◌, ◌≤◌, ◌++◌, ◌∷◌, [], length, take, drop, List, ℕ, slice_index, arith, rules, ap, sym, ◌∙◌}
+use Rattle.std.proofs.Common.{◌-◌, ◌*◌, ◌≤◌, ◌++◌, ◌∷◌, [], length, take, drop, List, ℕ, slice_index, rules, ap, ◌∙◌}
 use Rattle.std.proofs.lemmas.List.{length-drop, take_rest}
-use Rattle.szg_file.specs.Contents.{items}
 use Rattle.szg_file.proofs.ItemsRead.{rows-more, three_bytes}
 use Rattle.szg_file.proofs.taking.entries.Goals as goal
 

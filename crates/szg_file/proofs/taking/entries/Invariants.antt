@@ -1,4 +1,4 @@
-use Rattle.std.proofs.Common.{◌≡◌, length, map}
+use Rattle.std.proofs.Common.{◌≡◌}
 use Rattle.szg_file.specs.Contents.{items}
 use Rattle.szg_file.proofs.taking.entries.Given as goal
 

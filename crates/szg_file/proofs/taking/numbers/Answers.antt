@@ -1,7 +1,7 @@
-use Rattle.std.proofs.Common.{◌≡◌, ◌+◌, ◌-◌, ◌≤◌, ◌*◌, ◌++◌, ◌∷◌, [], length, take, drop, map, List, ℕ, suc, arith, rules, ap, sym, ◌∙◌}
+use Rattle.std.proofs.Common.{◌≡◌, ◌≤◌, ◌*◌, ◌++◌, ◌∷◌, [], length, take, drop, List, ℕ, rules, ap, ◌∙◌}
 use Rattle.std.proofs.lemmas.List.{length-drop, take_rest}
 use Rattle.byteorder.specs.Endian.{little_number}
-use Rattle.szg_file.specs.Contents.{number_of, items}
+use Rattle.szg_file.specs.Contents.{number_of}
 use Rattle.szg_file.proofs.ItemsRead.{mapped-more, little-number_of}
 use Rattle.szg_file.proofs.taking.numbers.Goals as goal
 

@@ -1,4 +1,4 @@
-use Rattle.std.proofs.Common.{◌≡◌, ◌≤◌, length, map}
+use Rattle.std.proofs.Common.{◌≡◌, map}
 use Rattle.szg_file.specs.Contents.{number_of, items}
 use Rattle.szg_file.proofs.taking.numbers.Given as goal
 

@@ -1,9 +1,7 @@
-use Rattle.std.proofs.Common.{◌≡◌, ◌+◌, ◌-◌, ◌*◌, ◌≤◌, ◌++◌, ◌∷◌, [], length, take, drop, map, List, ℕ, slice_index, arith, rules, ap, sym, ◌∙◌}
+use Rattle.std.proofs.Common.{◌≡◌, ◌+◌, ◌-◌, ◌*◌, ◌≤◌, ◌++◌, ◌∷◌, [], length, take, drop, map, List, ℕ, rules, ap, ◌∙◌}
 use Rattle.std.proofs.lemmas.List.{length-drop, length-append, take_rest, map-append}
 use Rattle.byteorder.specs.Endian.{little_number}
-use Rattle.szg_block.specs.Layout.{SparseEntry}
 use Rattle.szg_block.specs.declared.Entry.{Entry}
-use Rattle.szg_file.specs.Contents.{items}
 use Rattle.szg_file.specs.File.{entry_of_bytes}
 use Rattle.szg_file.specs.Held.{sparse_of}
 use Rattle.szg_file.proofs.ItemsRead.{mapped-more, six_bytes}

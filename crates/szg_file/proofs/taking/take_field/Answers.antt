@@ -1,4 +1,4 @@
-use Rattle.std.proofs.Common.{◌≡◌, ◌+◌, length, arith, refl, rules}
+use Rattle.std.proofs.Common.{◌≡◌, length, arith, refl}
 use Rattle.szg_file.proofs.Bytes.{are_bytes}
 use Rattle.szg_file.proofs.Taken.{field_taken}
 use Rattle.szg_file.proofs.taking.take_field.Goals as goal

@@ -1,8 +1,7 @@
-use Rattle.std.proofs.Common.{◌≡◌, ◌+◌, ◌-◌, ◌≤◌, ◌++◌, length, take, drop, List, ℕ, arith, refl, rules, ap, sym, subst, ◌∙◌, [], Ok, Err}
+use Rattle.std.proofs.Common.{◌≡◌, ◌+◌, ◌-◌, ◌≤◌, length, drop, ℕ, arith, refl, rules, ap, Err}
 use Rattle.std.proofs.lemmas.Result.{err_from_is_err_and}
 use Rattle.std.proofs.Math.Seq.{take-length, drop-length}
-use Rattle.szg_file.specs.Format.{Format, field, means}
-use Rattle.szg_file.specs.Reading.{Reading}
+use Rattle.szg_file.specs.Format.{field, means}
 use Rattle.szg_file.proofs.Taken.{reads_as, reads_no_bytes, field_more, field_stopped, grown_twice, reads_equal}
 use Rattle.szg_file.proofs.taking.take_more.Goals as goal
 

@@ -1,4 +1,4 @@
-use Rattle.std.proofs.Common.{◌≡◌, ℕ, ◌+◌, ◌≤◌, ◌-◌, length, take, drop, Ok}
+use Rattle.std.proofs.Common.{◌≡◌, ◌+◌, ◌≤◌, ◌-◌, length, take, drop, Ok}
 use Rattle.szg_file.specs.Format.{field, means}
 use Rattle.szg_file.specs.Reading.{Reading}
 use Rattle.szg_file.proofs.taking.take_more.Given as goal

@@ -1,6 +1,5 @@
-use Rattle.std.proofs.Common.{◌≡◌, ◌+◌, ◌-◌, ◌++◌, length, take, drop, List, ℕ, arith, refl, rules, ap, sym, ◌∙◌}
+use Rattle.std.proofs.Common.{◌≡◌, ◌+◌, ◌-◌, ◌++◌, length, take, drop, ℕ, refl, rules, ap, ◌∙◌}
 use Rattle.szg_file.specs.Format.{field, means}
-use Rattle.szg_file.specs.Reading.{Reading}
 use Rattle.szg_file.proofs.Taken.{reads_as, tail_written}
 use Rattle.szg_file.proofs.taking.take_piece.Goals as goal
 

@@ -1,15 +1,12 @@
-use Rattle.std.proofs.Common.{◌≡◌, ◌<◌, ℕ, ap, ◌∙◌, arith, sym, subst, refl, map, length, option_map, Some, Option, IsSome, Result, w8}
+use Rattle.std.proofs.Common.{◌≡◌, ◌<◌, ℕ, ap, ◌∙◌, arith, sym, subst, length, option_map, Some, Option, IsSome, w8}
 use Rattle.std.specs.Prelude.{ℤ}
 use Rattle.std.proofs.lemmas.Int.{to_z-of_z}
 use Rattle.std.proofs.lemmas.List.{length-map}
-use Rattle.szg_values.specs.declared.Kind.{Kind}
 use Rattle.szg_values.specs.declared.Kind.TheVariants.{Dtz}
-use Rattle.szg_file.specs.declared.fault.MapFault.{MapFault}
 use Rattle.szg_file.specs.declared.fault.MapFault.TheVariants.{OutsideMap}
 use Rattle.std.specs.Option.{ok_or}
-use Rattle.szg_file.specs.Contents.{Map}
 use Rattle.szg_file.specs.Held.{Shown, map_of, subtable_of}
-use Rattle.szg_file.specs.Values.{item, list_number, number_of_value, number_at, subtable_at}
+use Rattle.szg_file.specs.Values.{item, list_number, number_of_value, subtable_at}
 use Rattle.szg_file.specs.declared.table.Table.TheInside.{Inside}
 use Rattle.szg_file.specs.contracts.table.Table.{the_view, the_invariant}
 use Rattle.szg_file.proofs.TableFinds.{mapped_part, number_told, map_at, answer_of}

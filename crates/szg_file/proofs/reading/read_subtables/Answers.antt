@@ -5,7 +5,7 @@ use Rattle.szg_file.specs.File.{Begun, each, sparse_field, lengths_field, blocks
 use Rattle.szg_file.specs.Format.{Format, ◌>>=◌}
 use Rattle.szg_file.specs.Held.{subtable_of}
 use Rattle.szg_file.proofs.ReadingLaws.{reads_then, reads_stopped}
-use Rattle.szg_file.proofs.reading.read_packed.Goals as goal
+use Rattle.szg_file.proofs.reading.read_subtables.Goals as goal
 
 -- what follows the sparse indexes
 abbrev behind : List Begun → Format (List Subtable)

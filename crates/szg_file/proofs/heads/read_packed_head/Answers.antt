@@ -8,7 +8,7 @@ use Rattle.szg_file.specs.Held.{subtable_of}
 use Rattle.szg_file.proofs.HeadReads.{reads_no_memory, memory_is}
 use Rattle.szg_file.proofs.ReadingLaws.{reads_then, reads_stopped, reads_nothing}
 use Rattle.szg_file.proofs.PackedReads.{packed_steps, packed_of, packed_is, flag_is_clear, block_bits_field, span_bits_field, after_block, after_span, after_sizes, after_lowest}
-use Rattle.szg_file.proofs.heads.read_packed.Goals as goal
+use Rattle.szg_file.proofs.heads.read_packed_head.Goals as goal
 
 pub returns-in_err-span_bits-clause-head : goal.returns-in_err-span_bits-clause-head
 returns-in_err-span_bits-clause-head g c =
