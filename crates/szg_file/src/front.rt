@@ -31,8 +31,9 @@ impl Front {
     }
 }
 
-/// Makes room for `more` items of a list. All growth of lists while a file is read goes through here: a list runs at
-/// most 65,536 items ahead of its bytes, and all lists together hold at most 4 items for each byte taken and 65,536 more.
+/// Makes room for `more` items of a list. All growth of this crate's lists while a file is read goes through here: a list
+/// runs at most 65,536 items ahead of its bytes, and all lists together hold at most 4 items for each byte taken and
+/// 65,536 more.
 pub fn grow<T>(list: &mut Vec<T>, more: usize, held: u64, place: u64) -> Result<(), ReadFault>
     requires ahead { more ≤ 65536 }
     requires bound { held + more ≤ 4 * place + 65536 }

@@ -51,6 +51,7 @@ pub fn parse<'a>(alloc: Global, words: &'a [&'a str]) -> Result<Request<'a>, Err
 /// The command line: a command and its words.
 fn program<'a>(alloc: Global) -> Result<Command<'a>, AllocError> {
     Command::new(alloc, "szg")
+        .bin_name("szg")?
         .version("0.1.0")
         .about(
             "Checks, shows and copies Syzygy table files, and looks values up in them. Reads the file from standard input.",
