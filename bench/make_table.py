@@ -1,52 +1,110 @@
 #!/usr/bin/env python3
-"""Writes a WDL file of king, queen and rook against king to standard output, for timing: 1,911,252 values a side,
-drawn by a fixed rule from 0 to 4, as words of two and three bits in blocks of 64 bytes."""
+"""Writes a WDL file of king, queen and rook against king to standard output, for timing: 1,911,252 values a side in
+blocks of 64 bytes. Plain: values drawn by a fixed rule from 0 to 4, as words of two and three bits. With the word
+'deep': words of 3 to 12 bits, drawn by a fixed rule, of symbols that stand for up to 256 values each by deep pairs."""
 import struct
 import sys
 
 SIZE = 31332 * 61
-SPAN_BITS = 10
 BLOCK_BITS = 6
-# The words of the symbols 0 to 4, which stand for their numbers: shorter words have larger numbers.
-WORDS = ["000", "001", "01", "10", "11"]
+WIDTH = 8 << BLOCK_BITS
 
 
-def values(seed):
+def numbers(seed):
+    """Numbers of 31 bits by a fixed rule."""
     state = seed
-    for _ in range(SIZE):
+    while True:
         state = (state * 6364136223846793005 + 1442695040888963407) % 2**64
-        yield (state >> 33) % 5
+        yield state >> 33
 
 
-def packed(seed):
-    """The blocks, and how many values each holds."""
-    blocks, counts, bits, count = [], [], "", 0
-    for value in values(seed):
-        word = WORDS[value]
-        if len(bits) + len(word) > 8 << BLOCK_BITS:
+class Plain:
+    """Five symbols, which stand for their numbers."""
+
+    SPAN_BITS = 10
+    # how many words there are of each length, from the least on; together they use up all bits
+    LEAST, WORDS = 2, [3, 2]
+
+    def __init__(self):
+        self.entries = [(symbol, 0xFFF) for symbol in range(5)]
+        self.counts = [1] * 5
+
+
+class Deep:
+    """Leaves, and pairs of a late symbol and an early one."""
+
+    SPAN_BITS = 12
+    LEAST, WORDS = 3, [2, 3, 4, 6, 8, 12, 20, 32, 48, 576]
+
+    def __init__(self):
+        draw = numbers(7)
+        count = sum(self.WORDS)
+        made, lengths, chain = [(value, 0xFFF) for value in range(5)], [1] * 5, 0
+        while len(made) < count:
+            right = next(draw) % min(len(made), 40)
+            if lengths[chain] + lengths[right] > 256:
+                chain = next(draw) % 5
+                continue
+            made.append((chain, right))
+            lengths.append(lengths[chain] + lengths[right])
+            chain = len(made) - 1
+        # symbols are numbered anew, so that each length of a word has symbols of all lengths
+        order = sorted(range(count), key=lambda symbol: (symbol * 7919 + 13) % count)
+        place = {symbol: n for n, symbol in enumerate(order)}
+        self.entries = [
+            (left if right == 0xFFF else place[left], right if right == 0xFFF else place[right])
+            for left, right in (made[symbol] for symbol in order)
+        ]
+        self.counts = [lengths[symbol] for symbol in order]
+
+
+def code_of(least, words):
+    """The lowest symbols, and the word of each symbol as a text of bits: longer words have lower numbers."""
+    lowest, spelled, below, base = [], {}, 0, 0
+    for j in range(len(words) - 1, -1, -1):
+        for k in range(words[j]):
+            spelled[below + k] = format(base + k, f"0{least + j}b")
+        lowest.insert(0, below)
+        below += words[j]
+        base = (base + words[j]) // 2
+    return lowest, [spelled[symbol] for symbol in range(below)]
+
+
+def packed(form, spelled, seed):
+    """The blocks, and how many values each holds. Symbols come as often as their words' lengths say."""
+    symbol_of = {word: symbol for symbol, word in enumerate(spelled)}
+    draw = numbers(seed)
+    blocks, counts, bits, count, total, word = [], [], "", 0, 0, ""
+    while total < SIZE:
+        word += str(next(draw) >> 20 & 1)
+        if word not in symbol_of:
+            continue
+        if len(bits) + len(word) > WIDTH:
             blocks.append(bits)
             counts.append(count)
             bits, count = "", 0
         bits += word
-        count += 1
+        values = form.counts[symbol_of[word]]
+        count += values
+        total += values
+        word = ""
     blocks.append(bits)
     counts.append(count)
-    width = 8 << BLOCK_BITS
-    data = b"".join(int(block.ljust(width, "0"), 2).to_bytes(width // 8, "big") for block in blocks)
-    return data, counts
+    return b"".join(int(block.ljust(WIDTH, "0"), 2).to_bytes(WIDTH // 8, "big") for block in blocks), counts
 
 
-def head(blocks):
-    entries = b"".join(bytes([symbol, 0xF0, 0xFF]) for symbol in range(5))
-    lengths = bytes([3, 2]) + struct.pack("<HH", 2, 0)
-    return bytes([0, BLOCK_BITS, SPAN_BITS, 1]) + struct.pack("<I", blocks) + lengths + struct.pack("<H", 5) + entries + b"\0"
+def head(form, lowest, blocks):
+    entries = b"".join(bytes([left & 0xFF, left >> 8 | right % 16 << 4, right >> 4]) for left, right in form.entries)
+    lengths = bytes([form.LEAST + len(lowest) - 1, form.LEAST]) + struct.pack(f"<{len(lowest)}H", *lowest)
+    count = len(form.entries)
+    return bytes([0, BLOCK_BITS, form.SPAN_BITS, 1]) + struct.pack("<I", blocks) + lengths + struct.pack("<H", count) + entries + bytes(count % 2)
 
 
-def sparse(counts):
+def sparse(form, counts):
     """An entry for the middle of each span; the last may stand past the size, in the extra length."""
     entries, block, start = [], 0, 0
-    for span in range(-(-SIZE >> SPAN_BITS)):
-        middle = (span << SPAN_BITS) + (1 << SPAN_BITS - 1)
+    for span in range(-(-SIZE >> form.SPAN_BITS)):
+        middle = (span << form.SPAN_BITS) + (1 << form.SPAN_BITS - 1)
         while block < len(counts) and start + counts[block] <= middle:
             start += counts[block]
             block += 1
@@ -55,10 +113,12 @@ def sparse(counts):
 
 
 def main():
-    sides = [packed(seed) for seed in (1, 2)]
+    form = Deep() if sys.argv[1:] == ["deep"] else Plain()
+    lowest, spelled = code_of(form.LEAST, form.WORDS)
+    sides = [packed(form, spelled, seed) for seed in (1, 2)]
     out = bytes([0x71, 0xE8, 0x23, 0x5D, 0x01, 0x00, 0x66, 0x55, 0x44, 0xEE])
-    out += b"".join(head(len(counts)) for _, counts in sides)
-    out += b"".join(sparse(counts) for _, counts in sides)
+    out += b"".join(head(form, lowest, len(counts)) for _, counts in sides)
+    out += b"".join(sparse(form, counts) for _, counts in sides)
     for _, counts in sides:
         out += struct.pack(f"<{len(counts) + 1}H", *(count - 1 for count in counts), 65535)
     for data, _ in sides:

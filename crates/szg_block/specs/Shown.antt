@@ -4,7 +4,8 @@ use Rattle.std.specs.Prelude.{ℕ, ◌≡◌, ◌<◌, ◌^◌, List, length, If
 use Rattle.szg_code.specs.Acceptance.{IsCode}
 use Rattle.szg_block.specs.Lending.{packed_blocks}
 use Rattle.szg_block.specs.declared.Sub.{Sub}
-use Rattle.szg_block.specs.Subtable.{layout_of, IsShapedHead, IsSoundOver, values_over}
+use Rattle.szg_block.specs.Subtable.{layout_of, IsShapedHead, IsSoundOver, values_over, steps_over}
+use Rattle.szg_block.specs.declared.probing.Steps.{Steps}
 
 pub record Shown : Type 0 where
   pub sub : Sub
@@ -21,6 +22,14 @@ pub record IsReady (sub : Sub) (size : ℕ) (count : ℕ) (bytes : ℕ → List 
   pub whole : IfSome (layout_of sub) (λ layout. (k : ℕ) → k < layout.blocks → length (bytes k) ≡ 2 ^ layout.block_bits)
   pub sound : IsSoundOver sub (packed_blocks bytes count) size
 
+-- over some blocks it is
+abbrev pub IsSound : Sub → ℕ → Type 0
+IsSound sub size = (count : ℕ) × (bytes : ℕ → List ℕ) × IsReady sub size count bytes
+
 -- its values
 abbrev pub values_shown : Shown → List ℕ
 values_shown shown = values_over shown.sub shown.packed shown.size shown.constant
+
+-- the steps to value i
+abbrev pub steps_shown : Shown → ℕ → Steps
+steps_shown shown i = steps_over shown.sub shown.packed i

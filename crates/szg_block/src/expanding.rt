@@ -1,14 +1,19 @@
 //! The values of sound subtables.
 
-ghost use Rattle.std.specs.Prelude.{◌≡◌, ◌<◌, IfOk, Some, slice_get};
-ghost use Rattle.szg_block.specs.Subtable.{packed_of, IsShaped, IsSoundOver};
-ghost use Rattle.szg_block.specs.Shown.{values_shown};
+ghost use Rattle.std.specs.Prelude.{◌≡◌, ◌<◌, ◌≤◌, ◌+◌, ◌^◌, ◌*◌, IfOk, IfSome, IsOkAnd, Some, length, slice_get};
+ghost use Rattle.szg_block.specs.Subtable.{layout_of, packed_of, IsShaped, IsShapedHead, IsSoundOver};
+ghost use Rattle.szg_block.specs.Lending.{failed_after, bytes_at};
+ghost use Rattle.szg_block.specs.Paging.{source_of, first_of, count_of, size_of};
+ghost use Rattle.szg_block.specs.Shown.{values_shown, steps_shown};
 
 use crate::Sub;
-use crate::lengths::{find_block, needed_from};
-use crate::lent::{Blocks, Whole, blocks_in};
+use crate::lengths::needed_from;
+use crate::lent::{Blocks, SourceFault, Whole, blocks_in};
 use crate::packed::block_of;
-use crate::words::{push_values, value_in_block};
+use crate::paged::Paged;
+use crate::probing::{Steps, look_up};
+use crate::source::Source;
+use crate::words::push_values;
 use std::alloc::{AllocError, Global};
 use std::marker::Model;
 
@@ -38,6 +43,15 @@ impl<'a, B: Blocks> Model for Sound<'a, B> {
     ghost invariant = { λ sound. IsReady sound.sub.now sound.size (B.count sound.blocks) (B.bytes sound.blocks) };
 }
 
+impl<'a, B: Blocks> Sound<'a, B> {
+    /// How many values it has.
+    pub fn size(&self) -> u64
+        ensures { result ≡ self.now.size }
+    {
+        self.size
+    }
+}
+
 impl<'a> Sound<'a, Whole<'a>> {
     /// A subtable in memory of `size` values that passed `check`; `constant` is the value that a constant one stands for.
     ///
@@ -55,32 +69,27 @@ impl<'a> Sound<'a, Whole<'a>> {
         }
     }
 
-    /// How many values it has.
-    pub fn size(&self) -> u64
-        ensures { result ≡ self.now.size }
-    {
-        self.size
-    }
-
-    /// Value `i`. It takes no memory.
-    ///
-    /// Lengths are added from block 0 on until the block is found, and that block is decoded up to the value.
+    /// Value `i`, by the sparse index. It takes no memory.
     pub fn get(&self, i: u64) -> u16
         requires { i < self.now.size }
         ensures { slice_get (values_shown self.now) i ≡ Some result }
     {
-        let Sub::Pairs {
-            code,
-            dict,
-            lengths,
-            ..
-        } = self.sub
-        else {
-            return self.constant;
-        };
-        let place = find_block(lengths, i);
-        let block = block_of(self.blocks.packed, self.blocks.block_bits, place.block);
-        value_in_block(code, dict, block, place.item)
+        let mut blocks = self.blocks;
+        match look_up(self.sub, self.size, self.constant, i, &mut blocks) {
+            Ok((value, _)) => value,
+            Err(_) => unreachable!(),
+        }
+    }
+
+    /// Value `i`, and the steps to it. Blocks in memory never fail.
+    pub fn get_counted(&mut self, i: u64) -> Result<(u16, Steps), SourceFault>
+        requires { i < self.old.size }
+        ensures value { IsOkAnd result (λ found. slice_get (values_shown self.old) i ≡ Some found.0) }
+        ensures steps { IsOkAnd result (λ found. found.1 ≡ steps_shown self.old i) }
+        ensures kept { self.new ≡ self.old }
+    {
+        let mut blocks = self.blocks;
+        look_up(self.sub, self.size, self.constant, i, &mut blocks)
     }
 
     /// All values in order, block by block. The error is want of memory.
@@ -113,5 +122,60 @@ impl<'a> Sound<'a, Whole<'a>> {
             start += u64::from(count) + 1;
         }
         Ok(values)
+    }
+}
+
+impl<'a, S: Source + Drop> Sound<'a, Paged<S>> {
+    /// A subtable of `size` values over the blocks of a source: with these as its own it passes `check`. `constant` is the
+    /// value that a constant one stands for. It takes no memory.
+    pub fn paged(sub: &'a Sub, size: u64, constant: u16, blocks: Paged<S>) -> Sound<'a, Paged<S>>
+        requires head { IsShapedHead sub.now size }
+        requires count { IfSome (layout_of sub.now) (λ layout. count_of blocks ≡ layout.blocks) }
+        requires bytes { IfSome (layout_of sub.now) (λ layout. size_of blocks ≡ 2 ^ layout.block_bits) }
+        requires there { IfSome (layout_of sub.now) (λ layout. first_of blocks + layout.blocks * 2 ^ layout.block_bits ≤ length (S.content (source_of blocks))) }
+        requires sound { IsSoundOver sub.now (bytes_at (S.content (source_of blocks)) (first_of blocks) (count_of blocks * size_of blocks)) size }
+        ensures sub { result.sub ≡ sub.now }
+        ensures size { result.size ≡ size }
+        ensures constant { result.constant ≡ constant }
+        ensures packed { result.packed ≡ bytes_at (S.content (source_of blocks)) (first_of blocks) (count_of blocks * size_of blocks) }
+        ensures failures { result.failures ≡ S.failed (source_of blocks) }
+    {
+        // what a look-up stands on: no word of the code begins another
+        let _held = blocks_in(sub);
+        Sound {
+            sub,
+            size,
+            constant,
+            blocks,
+        }
+    }
+
+    /// Value `i`, by the sparse index. It takes no memory. A fault comes only where the source failed; the next call is
+    /// answered as if there had been none.
+    pub fn get(&mut self, i: u64) -> Result<u16, SourceFault>
+        requires { i < self.old.size }
+        ensures value { IfOk result (λ value. slice_get (values_shown self.old) i ≡ Some value) }
+        ensures failures { self.new.failures ≡ failed_after result self.old.failures }
+        ensures sub { self.new.sub ≡ self.old.sub }
+        ensures size { self.new.size ≡ self.old.size }
+        ensures constant { self.new.constant ≡ self.old.constant }
+        ensures packed { self.new.packed ≡ self.old.packed }
+    {
+        let (value, _) = self.get_counted(i)?;
+        Ok(value)
+    }
+
+    /// Value `i`, and the steps to it.
+    pub fn get_counted(&mut self, i: u64) -> Result<(u16, Steps), SourceFault>
+        requires { i < self.old.size }
+        ensures value { IfOk result (λ found. slice_get (values_shown self.old) i ≡ Some found.0) }
+        ensures steps { IfOk result (λ found. found.1 ≡ steps_shown self.old i) }
+        ensures failures { self.new.failures ≡ failed_after result self.old.failures }
+        ensures sub { self.new.sub ≡ self.old.sub }
+        ensures size { self.new.size ≡ self.old.size }
+        ensures constant { self.new.constant ≡ self.old.constant }
+        ensures packed { self.new.packed ≡ self.old.packed }
+    {
+        look_up(self.sub, self.size, self.constant, i, &mut self.blocks)
     }
 }

@@ -12,9 +12,14 @@ pub use expanding::Sound;
 use lengths::{needed_from, total};
 pub use lent::{Blocks, SourceFault, Whole};
 use packed::first_bad_block;
+pub use paged::Paged;
+pub use piece::{find_block, value_in_block};
+pub use probing::{Steps, look_up};
+pub use source::{Image, Source};
 use sparse::first_bad_entry;
 use szg_code::Code;
 use szg_pairs::Dict;
+pub use watch::Watch;
 use words::spells;
 
 mod expanding;
@@ -22,7 +27,12 @@ pub mod laws;
 mod lengths;
 mod lent;
 mod packed;
+mod paged;
+mod piece;
+mod probing;
+mod source;
 mod sparse;
+mod watch;
 mod words;
 
 /// An entry of the sparse index.
@@ -269,6 +279,3 @@ pub fn check(sub: &Sub, size: u64) -> Result<(), SubFault>
         None => Ok(()),
     }
 }
-
-#[cfg(test)]
-mod tests;

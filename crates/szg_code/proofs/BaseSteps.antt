@@ -1,5 +1,5 @@
 -- What the computing of bases, from the greatest length down, keeps true.
-use Rattle.std.proofs.Common.{ℕ, suc, ◌≡◌, ◌≢◌, ◌+◌, ◌-◌, ◌*◌, ◌/◌, ◌%◌, ◌^◌, ◌<◌, ◌≤◌, inl, inr, List, length, get_or, set, ap, sym, ◌∙◌, arith}
+use Rattle.std.proofs.Common.{ℕ, suc, ◌≡◌, ◌≢◌, ◌+◌, ◌-◌, ◌*◌, ◌/◌, ◌%◌, ◌^◌, ◌<◌, ◌≤◌, inl, inr, List, length, get_or, set, ap, sym, ◌∙◌, subst, arith}
 use Rattle.std.specs.List.{slice_index}
 use Rattle.std.proofs.lemmas.Bool.{cases_lt}
 use Rattle.std.proofs.lemmas.List.{get_or-set_other, get_or_read}
@@ -28,6 +28,15 @@ values_next f xs j v fits old e k less =
     elim (cases_lt k j) [
       | inl before ↦ let other : k ≢ j = omega arith in get_or-set_other xs j k v 0 other ∙ old k before
       | inr at ↦ let here : k ≡ j = omega arith in get_or-set_at xs j k v 0 here fits ∙ e ∙ ap f (sym here)
+    ]
+
+-- a property of the first items of a list, and of one more that is set
+pub items_next : (P : ℕ → ℕ → Type 0) (xs : List ℕ) (j v : ℕ) → j < length xs →
+    ((k : ℕ) → k < j → P k (get_or xs k 0)) → P j v → (k : ℕ) → k < j + 1 → P k (get_or (set xs j v) k 0)
+items_next P xs j v fits old holds k less =
+    elim (cases_lt k j) [
+      | inl before ↦ let other : k ≢ j = omega arith in subst (P k) (sym (get_or-set_other xs j k v 0 other)) (old k before)
+      | inr at ↦ let here : k ≡ j = omega arith in subst (P k) (sym (get_or-set_at xs j k v 0 here fits)) (subst (λ (n : ℕ). P n v) (sym here) holds)
     ]
 
 module _ (code : CanonicalCode) (lengths : HasLengths code) where

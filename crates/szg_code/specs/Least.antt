@@ -30,3 +30,12 @@ HasBases code bases = (j : ℕ) → j < length code.lowest → slice_index bases
 -- the list has the same bases, each at the top of a window of 64 bits
 abbrev pub HasShiftedBases : CanonicalCode → List ℕ → Type 0
 HasShiftedBases code bases = (j : ℕ) → j < length code.lowest → slice_index bases j ≡ shifted_base code 64 (code.min_length + j)
+
+-- the lengths before a place have bases above all windows of 64 bits with this first byte
+pub record IsStart (code : CanonicalCode) (first place : ℕ) : Type 0 where
+  pub inside : place < length code.lowest
+  pub before : (k : ℕ) → k < place → (first + 1) * 2 ^ 56 ≤ shifted_base code 64 (code.min_length + k)
+
+-- the list has such a place for each first byte
+abbrev pub HasStarts : CanonicalCode → List ℕ → Type 0
+HasStarts code starts = (first : ℕ) → first < 256 → IsStart code first (slice_index starts first)

@@ -1,4 +1,4 @@
-// Bytes of a slice, with zeros past its end.
+//! Bytes of a slice, with zeros past its end.
 ghost use Rattle.std.specs.Prelude.{◌≡◌, slice_index};
 
 /// The byte at a place, or 0 past the end.

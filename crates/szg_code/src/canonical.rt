@@ -1,4 +1,4 @@
-// Accepted codes, and the words of their symbols.
+//! Accepted codes, and the words of their symbols.
 ghost use Rattle.std.specs.Prelude.{ℕ, ◌≡◌, ◌+◌, ◌-◌, ◌/◌, ◌^◌, ◌<◌, ◌≤◌, Bool, List, length, IfOk, IfErr, IfSome, IfNone};
 ghost use Rattle.szg_code.specs.Bits.{bits_of_number};
 ghost use Rattle.szg_code.specs.Canonical.{IsWord, base, top, symbol_at};
@@ -12,29 +12,32 @@ use crate::found::Word;
 use std::marker::Model;
 
 /// An accepted code: words of 1 to 32 bits, of which none begins another, for symbols below their number.
-/// It keeps the base of each length at the top of 64 bits, as de Man's probing code does.
+/// It keeps the base of each length at the top of 64 bits, as de Man's probing code does, and for each first byte of a
+/// window where the search for a word's length begins.
 #[derive(Drop)]
 pub struct Code {
     head: Head,
     bases: [u64; 32],
+    starts: [u8; 256],
 }
 
 impl Model for Code {
     ghost use Rattle.szg_code.specs.Canonical.{CanonicalCode};
     ghost use Rattle.szg_code.specs.Acceptance.{IsCode};
-    ghost use Rattle.szg_code.specs.Least.{HasShiftedBases};
+    ghost use Rattle.szg_code.specs.Least.{HasShiftedBases, HasStarts};
     ghost use Rattle.szg_code.specs.CodeHead.{code_of};
 
     ghost Value = { CanonicalCode };
 
     ghost view = { λ code. code_of code.head };
 
-    ghost invariant = { λ code. IsCode (code_of code.head) × HasShiftedBases (code_of code.head) code.bases };
+    ghost invariant = { λ code. IsCode (code_of code.head) × HasShiftedBases (code_of code.head) code.bases × HasStarts (code_of code.head) code.starts };
 }
 
 impl Code {
     /// The code of a subtable's head: the least and the greatest length of a word in bits, the lowest
-    /// symbol of each length from the least on, and the number of symbols n. It takes no memory.
+    /// symbol of each length from the least on, and the number of symbols n. The list is kept as it is. That
+    /// no memory is taken, on the list's allocator either, is seen by reading; no clause says it.
     ///
     /// Refused, with the first of these that stands: `Lengths` where min is 0, min is above max, max is
     /// above 32, or the list has another length than max - min + 1; `LowestOrder` where the list rises;
@@ -59,10 +62,14 @@ impl Code {
         }
         match head.bases() {
             Err(j) => Err(CodeFault::TooFull(j)),
-            Ok(bases) => Ok(Code {
-                bases: head.shifted(&bases),
-                head,
-            }),
+            Ok(bases) => {
+                let bases = head.shifted(&bases);
+                Ok(Code {
+                    starts: head.starts(&bases),
+                    bases,
+                    head,
+                })
+            }
         }
     }
 
@@ -148,11 +155,8 @@ impl Code {
         ensures reaches { shifted_base self.now 64 (self.now.min_length + result) ≤ window }
         ensures before { (k : ℕ) → k < result → window < shifted_base self.now 64 (self.now.min_length + k) }
     {
-        let mut j = 0;
-        while window < self.bases[j] {
-            j += 1;
-        }
-        j
+        let start = usize::from(self.starts[(window >> 56) as usize]);
+        self.head.place_from(&self.bases, start, window)
     }
 
     /// The symbol of the first bits of a window, as many as the length at place j, if it is there.

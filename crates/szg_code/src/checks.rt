@@ -1,8 +1,11 @@
-// The code section of a subtable's head, and the checks that make a code of it.
+//! The code section of a subtable's head, and the checks that make a code of it.
 ghost use Rattle.std.specs.Prelude.{ℕ, ◌≡◌, ◌+◌, ◌-◌, ◌*◌, ◌^◌, ◌<◌, ◌≤◌, ◌↔◌, ◌⊎◌, length, IsTrue, IfOk, IfErr, IfSome, IfNone};
 ghost use Rattle.szg_code.specs.Canonical.{base};
 ghost use Rattle.szg_code.specs.Acceptance.{HasLengths, IsOrderedAt, HasRoomAt, IsCode, IsFirstRise, IsLastOverfull, IsOverfullAtLeast};
-ghost use Rattle.szg_code.specs.Least.{HasBases, HasShiftedBases};
+ghost use Rattle.szg_code.specs.Least.{HasBases, HasShiftedBases, HasStarts, IsStart, shifted_base};
+
+/// How many windows of 64 bits have one first byte.
+const WINDOWS: u64 = 1 << 56;
 
 /// What a subtable's head says of its code.
 #[derive(Drop)]
@@ -84,5 +87,45 @@ impl Head {
             shifted[j] = u64::from(bases[j]) << (64 - usize::from(self.min) - j);
         }
         shifted
+    }
+
+    /// From a place on, the place of the first length whose base, at the top of 64 bits, the window reaches.
+    pub fn place_from(&self, bases: &[u64; 32], from: usize, window: u64) -> usize
+        requires accepted { IsCode (code_of self.now) }
+        requires bases { HasShiftedBases (code_of self.now) bases.now }
+        requires inside { from < length self.now.lowest.items }
+        requires before { (k : ℕ) → k < from → window < shifted_base (code_of self.now) 64 (self.now.min + k) }
+        ensures inside { result < length self.now.lowest.items }
+        ensures reaches { shifted_base (code_of self.now) 64 (self.now.min + result) ≤ window }
+        ensures before { (k : ℕ) → k < result → window < shifted_base (code_of self.now) 64 (self.now.min + k) }
+    {
+        let mut j = from;
+        while window < bases[j] {
+            j += 1;
+        }
+        j
+    }
+
+    /// The place of the first length whose base some window with this first byte reaches.
+    fn start_of(&self, bases: &[u64; 32], first: u8) -> u8
+        requires accepted { IsCode (code_of self.now) }
+        requires bases { HasShiftedBases (code_of self.now) bases.now }
+        ensures { IsStart (code_of self.now) first result }
+    {
+        let last = u64::from(first) * WINDOWS + (WINDOWS - 1);
+        self.place_from(bases, 0, last) as u8
+    }
+
+    /// For each first byte of a window the place from which the first length that it reaches is looked for.
+    pub fn starts(&self, bases: &[u64; 32]) -> [u8; 256]
+        requires accepted { IsCode (code_of self.now) }
+        requires bases { HasShiftedBases (code_of self.now) bases.now }
+        ensures { HasStarts (code_of self.now) result }
+    {
+        let mut starts = [0u8; 256];
+        for first in 0..256usize {
+            starts[first] = self.start_of(bases, first as u8);
+        }
+        starts
     }
 }

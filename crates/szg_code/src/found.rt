@@ -1,3 +1,5 @@
+//! A word as a length and a number.
+
 /// A word: its number of bits, and the number that they spell, the first bit highest.
 #[derive(Debug, Clone, Copy, PartialEq, Eq)]
 pub struct Word {

@@ -1,4 +1,4 @@
-// Laws over the definitions.
+//! Laws over the definitions: the contract of each function is a law, and its body is empty.
 ghost use Rattle.szg_code.specs.Laws.{FirstOverfullFinds, FirstRiseFinds, FoundIsFault, NoWordBeginsAnother, OneFaultAtMost, OneListSpelled, OneWordAtMost, WordsAreListed, WrittenIsRead, WrittenListIsSpelled};
 
 /// No word of a code begins another.

@@ -11,8 +11,6 @@ mod checks;
 mod found;
 pub mod laws;
 mod reader;
-#[cfg(test)]
-mod tests;
 mod writer;
 
 pub use canonical::{Code, word};
@@ -38,6 +36,6 @@ pub enum CodeFault {
 pub enum PutFault {
     /// The symbol has no word.
     NoWord,
-    /// The buffer had to grow, and there was no memory.
+    /// The word didn't fit into the buffer's memory, and no more was given.
     Memory,
 }

@@ -1,4 +1,4 @@
-// A reader of words in lent bytes, by windows of 64 bits as in de Man's probing code.
+//! A reader of words in lent bytes, by windows of 64 bits as in de Man's probing code.
 ghost use Rattle.std.specs.Prelude.{◌≡◌, ◌+◌, ◌*◌, ◌^◌, ◌<◌, ◌≤◌, [], ◌++◌, length, slice_index, take, drop, IfSome, IfNone};
 ghost use Rattle.szg_code.specs.Bits.{bits, number};
 ghost use Rattle.szg_code.specs.Spelling.{BeginsWithNoWord};

@@ -1,5 +1,5 @@
-// A writer that appends words to a buffer.
-ghost use Rattle.std.specs.Prelude.{◌≡◌, ◌+◌, ◌-◌, ◌/◌, ◌*◌, ◌^◌, ◌<◌, ◌≤◌, ◌↔◌, [], ◌++◌, Bool, List, false, length, vec_len, take, replicate, OnOk, OnErr};
+//! A writer that appends words to a buffer.
+ghost use Rattle.std.specs.Prelude.{◌≡◌, Err, vec_capacity, ◌+◌, ◌-◌, ◌/◌, ◌*◌, ◌^◌, ◌<◌, ◌≤◌, ◌↔◌, [], ◌++◌, Bool, List, false, length, vec_len, take, replicate, OnOk, OnErr};
 ghost use Rattle.szg_code.specs.Bits.{bits, bits_of_number};
 ghost use Rattle.szg_code.specs.Canonical.{IsWord};
 ghost use Rattle.szg_code.specs.Spelling.{HasNoWord};
@@ -19,21 +19,22 @@ pub struct BitBuf {
 }
 
 impl Model for BitBuf {
-    ghost use Rattle.std.specs.Prelude.{List, Bool, take};
+    ghost use Rattle.std.specs.Prelude.{take, vec_capacity};
     ghost use Rattle.szg_code.specs.Bits.{bits};
-    ghost use Rattle.szg_code.specs.Buffer.{HoldsBits};
+    ghost use Rattle.szg_code.specs.Buffer.{Buffer, HoldsBits};
 
-    ghost Value = { List Bool };
+    ghost Value = { Buffer };
 
-    ghost view = { λ buffer. take buffer.count (bits buffer.bytes.items) };
+    ghost view = { λ buffer. record { written = take buffer.count (bits buffer.bytes.items); room = vec_capacity buffer.bytes } };
 
     ghost invariant = { λ buffer. HoldsBits buffer.bytes.items buffer.count };
 }
 
 impl BitBuf {
-    /// No bits yet. It takes no memory, and keeps the allocator for `put`.
+    /// No bits yet, and no memory: the allocator is kept for `put`.
     pub fn new(alloc: Global) -> BitBuf
-        ensures { result ≡ [] }
+        ensures empty { result.written ≡ [] }
+        ensures no_memory { result.room ≡ 0 }
     {
         BitBuf {
             bytes: Vec::new(alloc),
@@ -43,15 +44,15 @@ impl BitBuf {
 
     /// The number of bits written.
     pub fn bits(&self) -> u64
-        ensures { result ≡ length self.now }
+        ensures { result ≡ length self.now.written }
     {
         self.count
     }
 
     /// The bytes that hold the bits, the free bits of the last filled with zeros.
     pub fn bytes(&self) -> &[u8]
-        ensures whole { length result.now ≡ (length self.now + 7) / 8 }
-        ensures filled { bits result.now ≡ self.now ++ replicate (8 * length result.now - length self.now) false }
+        ensures whole { length result.now ≡ (length self.now.written + 7) / 8 }
+        ensures filled { bits result.now ≡ self.now.written ++ replicate (8 * length result.now - length self.now.written) false }
     {
         &self.bytes
     }
@@ -61,9 +62,11 @@ impl BitBuf {
         requires some { 1 ≤ word.length }
         requires short { word.length ≤ 32 }
         requires spelled { word.number < 2 ^ word.length }
-        requires room { length self.old < 2 ^ 62 }
-        ensures ok { OnOk result (self.new ≡ self.old ++ bits_of_number word.length word.number) }
-        ensures unchanged { OnErr result (self.new ≡ self.old) }
+        requires few { length self.old.written < 2 ^ 62 }
+        ensures ok { OnOk result (self.new.written ≡ self.old.written ++ bits_of_number word.length word.number) }
+        ensures unchanged { OnErr result (self.new.written ≡ self.old.written) }
+        ensures room { self.old.room ≤ self.new.room }
+        ensures full { OnErr result (self.old.room < (length self.old.written + word.length + 7) / 8) }
     {
         let whole = (self.count / 8) as usize;
         let used = self.count % 8;
@@ -84,6 +87,8 @@ fn put_bytes(bytes: &mut Vec<u8>, whole: usize, new: &[u8]) -> Result<(), AllocE
     requires some { 0 < length new.now }
     ensures ok { OnOk result (bytes.new.items ≡ take whole bytes.old.items ++ new.now) }
     ensures unchanged { OnErr result (bytes.new.items ≡ bytes.old.items) }
+    ensures room { vec_capacity bytes.old ≤ vec_capacity bytes.new }
+    ensures full { OnErr result (vec_capacity bytes.old < whole + length new.now) }
 {
     if whole == bytes.len() {
         return bytes.extend_from_slice(new);
@@ -95,13 +100,16 @@ fn put_bytes(bytes: &mut Vec<u8>, whole: usize, new: &[u8]) -> Result<(), AllocE
 
 /// Appends the word of a symbol, to a buffer of fewer than 2^62 bits.
 ///
-/// Refused with `NoWord` where the symbol has no word, and else with `Memory` where the buffer had to
-/// grow and there was no memory. Either leaves the bits as they were.
+/// Refused with `NoWord` exactly where the symbol has no word, and with `Memory` only where the word
+/// didn't fit into the memory that the buffer had. Either leaves the bits as they were. The buffer's
+/// memory never shrinks.
 pub fn put(code: &Code, s: u16, buffer: &mut BitBuf) -> Result<(), PutFault>
-    requires { length buffer.old < 2 ^ 62 }
-    ensures ok { OnOk result ((word : List Bool) × IsWord code.now word s × (buffer.new ≡ buffer.old ++ word)) }
+    requires { length buffer.old.written < 2 ^ 62 }
+    ensures ok { OnOk result ((word : List Bool) × IsWord code.now word s × (buffer.new.written ≡ buffer.old.written ++ word)) }
     ensures no_word { (result ≡ Err PutFault.NoWord) ↔ HasNoWord code.now s }
-    ensures unchanged { OnErr result (buffer.new ≡ buffer.old) }
+    ensures full { result ≡ Err PutFault.Memory → ((word : List Bool) × IsWord code.now word s × (buffer.old.room < (length buffer.old.written + length word + 7) / 8)) }
+    ensures unchanged { OnErr result (buffer.new.written ≡ buffer.old.written) }
+    ensures room { buffer.old.room ≤ buffer.new.room }
 {
     let Some(word) = word(code, s) else {
         return Err(PutFault::NoWord);

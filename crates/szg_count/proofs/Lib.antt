@@ -15,3 +15,4 @@ pub mod Told
 pub mod Whole
 pub mod Formulas
 pub mod SubsetPlaces
+pub mod Rearranged

@@ -2,10 +2,10 @@
 use Rattle.std.specs.Prelude.{◌≡◌, ℕ, suc, ◌+◌, ◌-◌, ◌*◌, ◌^◌, ◌<◌, ◌⊎◌, Bool, List, [], ◌∷◌, map, length, filter, take, sum, ⊤, None, IsTrue, if◌then◌else◌, slice_get, slice_index, unwrap_or, Some, reverse, ◌↔◌}
 use Rattle.std.specs.List.{range_with_len, concat}
 use Rattle.szg_values.specs.Men.{square_at}
-use Rattle.szg_values.specs.Material.{Sides, IsMaterial, has_pawns, lead_pawns, other_pawns, has_single_lead}
+use Rattle.szg_values.specs.Material.{Sides, IsMaterial, has_pawns, lead_pawns, other_pawns, has_single_lead, man_codes, count_of}
 use Rattle.szg_count.specs.Sets.{sets_of, subsets, choose, IsFallingBelow, binomial_sum}
 use Rattle.szg_count.specs.Leads.{triples, king_pairs, pawn_order, after, lead_pawn_sets, without}
-use Rattle.szg_count.specs.Groups.{IsPart, lead_sets, lead_ways, lead_length, group_ways, groups_of, has_other_pawns, Nibbles, order_fault, counted, product}
+use Rattle.szg_count.specs.Groups.{IsPart, lead_sets, lead_ways, lead_length, group_ways, groups_of, runs_of, has_other_pawns, Nibbles, order_fault, counted, product}
 
 -- x is an element of the list
 abbrev pub IsIn : {A : Type 0} → A → List A → Type 0
@@ -128,3 +128,29 @@ LawSizeBelow = (sides : Sides) (part : ℕ) (n : Nibbles) → IsMaterial sides �
 abbrev pub LawLeadSets : Type 0
 LawLeadSets = (sides : Sides) (part : ℕ) (set : List ℕ) → IsMaterial sides → IsPart sides part → IsIn set (lead_sets sides part) →
     (length set ≡ lead_length sides) × AllDiffer set × ((square : ℕ) → IsIn square set → square < 64)
+
+-- An accepted order has the material's men, each as often as the material has it, and no others.
+abbrev pub LawMenOfOrder : Type 0
+LawMenOfOrder = (sides : Sides) (n : Nibbles) → order_fault sides n ≡ None → (code : ℕ) → count_of code n.men ≡ count_of code (man_codes sides)
+
+-- the groups, joined, are the men
+abbrev pub LawGroupsJoined : Type 0
+LawGroupsJoined = (sides : Sides) (men : List ℕ) → concat (groups_of sides men) ≡ men
+
+-- some man, and all men equal to the first
+abbrev pub IsRun : List ℕ → Type 0
+IsRun [] = ⊥
+IsRun (x ∷ run) = (y : ℕ) → IsIn y run → y ≡ x
+
+-- no man of a run is one of the next run's
+abbrev pub DiffersFromFirst : List ℕ → List (List ℕ) → Type 0
+DiffersFromFirst run [] = ⊤
+DiffersFromFirst run (next ∷ runs) = (x y : ℕ) → IsIn x run → IsIn y next → x ≡ y → ⊥
+
+abbrev pub NeighboursDiffer : List (List ℕ) → Type 0
+NeighboursDiffer [] = ⊤
+NeighboursDiffer (run ∷ runs) = DiffersFromFirst run runs × NeighboursDiffer runs
+
+-- The runs, joined, are the men; each has some man, and equal men; and two neighbours have different men.
+abbrev pub LawRuns : Type 0
+LawRuns = (men : List ℕ) → (concat (runs_of men) ≡ men) × ((run : List ℕ) → IsIn run (runs_of men) → IsRun run) × NeighboursDiffer (runs_of men)

@@ -1,6 +1,6 @@
 //! Laws over the definitions: each is a function whose one clause is the law.
 
-ghost use Rattle.szg_count.specs.Laws.{LawSetCount, LawSubsetCount, LawChooseStep, LawTripleCount, LawKingPairCount, LawPawnValues, LawLeadPawnCount, LawLeadPawnTable, LawLeadWays, LawOtherPawnWays, LawRunWays, LawSetsDiffer, LawSubsetsDiffer, LawSubsetsFall, LawSubsetsRise, LawSubsetPlace, LawSetsNumbered, LawLeadsDiffer, LawSetsHold, LawFreeCount, LawFreeSetCount, LawSizeBelow, LawLeadSets};
+ghost use Rattle.szg_count.specs.Laws.{LawSetCount, LawSubsetCount, LawChooseStep, LawTripleCount, LawKingPairCount, LawPawnValues, LawLeadPawnCount, LawLeadPawnTable, LawLeadWays, LawOtherPawnWays, LawRunWays, LawSetsDiffer, LawSubsetsDiffer, LawSubsetsFall, LawSubsetsRise, LawSubsetPlace, LawSetsNumbered, LawLeadsDiffer, LawSetsHold, LawFreeCount, LawFreeSetCount, LawSizeBelow, LawLeadSets, LawMenOfOrder, LawGroupsJoined, LawRuns};
 ghost use Rattle.szg_count.specs.Radix.{LawIndexBelow, LawDigitsTold, LawIndexTold, LawPlacesOrder};
 
 /// A list of n elements has `choose n r` sets of r elements.
@@ -137,4 +137,19 @@ pub fn index_told()
 /// Accepted nibbles give each group a place of its own.
 pub fn places_order()
     ensures { LawPlacesOrder }
+{}
+
+/// The men of an accepted order are the material's, each as often.
+pub fn men_of_order()
+    ensures { LawMenOfOrder }
+{}
+
+/// The groups, joined, are the men that were cut into them.
+pub fn groups_joined()
+    ensures { LawGroupsJoined }
+{}
+
+/// The runs, joined, are the men; each has some man, and equal men; and neighbouring runs have different men.
+pub fn runs()
+    ensures { LawRuns }
 {}

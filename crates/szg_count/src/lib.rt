@@ -20,8 +20,6 @@ mod cut;
 pub mod laws;
 mod placing;
 mod subsets;
-#[cfg(test)]
-mod tests;
 mod ways;
 
 pub use subsets::{subset_at, subset_place};

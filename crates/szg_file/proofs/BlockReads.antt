@@ -25,6 +25,7 @@ use Rattle.szg_file.specs.Held.{subtable_of, sparse_of}
 use Rattle.szg_file.specs.Reading.{Reading}
 use Rattle.szg_file.proofs.EachLaws.{then-then, then-means}
 use Rattle.szg_file.proofs.ReadingLaws.{reads_then, reads_stopped, reads_nothing, reads_refused}
+use Rattle.szg_io.specs.declared.device.Input.{Ghosts}
 use Rattle.szg_file.proofs.Taken.{reads_like, reads_equal}
 
 -- ---- one block
@@ -35,10 +36,10 @@ then_checked layout size n place bytes = demand (spells_needed layout size n byt
 
 -- a block that spells what is needed of it
 pub reads_block : {R : Type 0} (o : Option Layout) (size n bytes : ℕ) (piece : List ℕ) {f m : Front}
-    {coming : R → Option (List ℕ)} {calls moved failures interrupted : R → ℕ} {i k : R} →
+    {dev : Ghosts R} {i k : R} →
     IfSome o (λ layout. IsCode layout.code) → IfSome o (λ layout. bytes ≡ 2 ^ layout.block_bits) → IsSomeAnd o (λ layout. SpellsNeeded layout size n piece) →
-    Reading (field bytes means) (λ (_ : Unit {0}). piece) f m coming calls moved failures interrupted i k (Ok tt) →
-    IfSome o (λ layout. Reading (block_field layout size n) (λ (_ : Unit {0}). piece) f m coming calls moved failures interrupted i k (Ok tt))
+    Reading (field bytes means) (λ (_ : Unit {0}). piece) f m dev i k (Ok tt) →
+    IfSome o (λ layout. Reading (block_field layout size n) (λ (_ : Unit {0}). piece) f m dev i k (Ok tt))
 reads_block None size n bytes piece code long spells taken = tt
 reads_block (Some layout) size n bytes piece {f = f} code long spells taken =
     let next : List ℕ → Format (List ℕ) = then_checked layout size n f.place in
@@ -50,10 +51,10 @@ reads_block (Some layout) size n bytes piece {f = f} code long spells taken =
 
 -- a block that does not is refused at its first byte
 pub reads_block_refused : {R : Type 0} (o : Option Layout) (size n bytes : ℕ) (piece : List ℕ) (view : Unit {0} → List ℕ) {f m : Front}
-    {coming : R → Option (List ℕ)} {calls moved failures interrupted : R → ℕ} {i k : R} →
+    {dev : Ghosts R} {i k : R} →
     IfSome o (λ layout. bytes ≡ 2 ^ layout.block_bits) → IsSomeAnd o (λ layout. ¬ SpellsNeeded layout size n piece) →
-    Reading (field bytes means) (λ (_ : Unit {0}). piece) f m coming calls moved failures interrupted i k (Ok tt) →
-    IfSome o (λ layout. Reading (block_field layout size n) view f m coming calls moved failures interrupted i k (Err (Refused f.place Word)))
+    Reading (field bytes means) (λ (_ : Unit {0}). piece) f m dev i k (Ok tt) →
+    IfSome o (λ layout. Reading (block_field layout size n) view f m dev i k (Err (Refused f.place Word)))
 reads_block_refused None size n bytes piece view long lacks taken = tt
 reads_block_refused (Some layout) size n bytes piece view {f = f} long lacks taken =
     let next : List ℕ → Format (List ℕ) = then_checked layout size n f.place in
@@ -101,10 +102,10 @@ blocks-cut layout size n b =
 
 -- one more block
 pub reads_blocks_more : {X Y Z R : Type 0} (layout : Layout) (size n : ℕ) (view : X → List ℕ) (view' : Y → List ℕ) (view'' : Z → List ℕ) {f m h : Front}
-    {coming : R → Option (List ℕ)} {calls moved failures interrupted : R → ℕ} {i j k : R} (v : X) (y : Y) (z : Z) → view'' z ≡ view v ++ view' y →
-    Reading (blocks_from layout size 0 n) view f m coming calls moved failures interrupted i j (Ok v) →
-    Reading (block_field layout size n) view' m h coming calls moved failures interrupted j k (Ok y) →
-    Reading (blocks_from layout size 0 (n + 1)) view'' f h coming calls moved failures interrupted i k (Ok z)
+    {dev : Ghosts R} {i j k : R} (v : X) (y : Y) (z : Z) → view'' z ≡ view v ++ view' y →
+    Reading (blocks_from layout size 0 n) view f m dev i j (Ok v) →
+    Reading (block_field layout size n) view' m h dev j k (Ok y) →
+    Reading (blocks_from layout size 0 (n + 1)) view'' f h dev i k (Ok z)
 reads_blocks_more layout size n view view' view'' v y z e first second =
     reads_equal (blocks_from layout size 0 n >>= (λ xs. blocks_from layout size n 1 >>= λ ys. means (xs ++ ys))) (blocks_from layout size 0 (n + 1)) view'' (Ok z) (sym (blocks-cut layout size n 1))
     (reads_then (blocks_from layout size 0 n) (λ xs. blocks_from layout size n 1 >>= λ ys. means (xs ++ ys)) view view'' v first
@@ -115,10 +116,10 @@ reads_blocks_more layout size n view view' view'' v y z e first second =
 
 -- a fault within a block ends them all
 pub reads_blocks_stopped : {X Y Z R : Type 0} (layout : Layout) (size n : ℕ) (view : X → List ℕ) (view' : Y → List ℕ) (view'' : Z → List ℕ) {f m h : Front}
-    {coming : R → Option (List ℕ)} {calls moved failures interrupted : R → ℕ} {i j k : R} (v : X) (fault : ReadFault) → n < layout.blocks →
-    Reading (blocks_from layout size 0 n) view f m coming calls moved failures interrupted i j (Ok v) →
-    Reading (block_field layout size n) view' m h coming calls moved failures interrupted j k (Err fault) →
-    Reading (blocks_from layout size 0 layout.blocks) view'' f h coming calls moved failures interrupted i k (Err fault)
+    {dev : Ghosts R} {i j k : R} (v : X) (fault : ReadFault) → n < layout.blocks →
+    Reading (blocks_from layout size 0 n) view f m dev i j (Ok v) →
+    Reading (block_field layout size n) view' m h dev j k (Err fault) →
+    Reading (blocks_from layout size 0 layout.blocks) view'' f h dev i k (Err fault)
 reads_blocks_stopped layout size n view view' view'' v fault there first second =
     let rest : ℕ = layout.blocks - (n + 1) in
     let all : n + suc rest ≡ layout.blocks = omega (arith, there) in
@@ -142,11 +143,11 @@ constant_blocks slot (Constant flags byte) e = refl
 constant_blocks slot (Pairs flags block_bits span_bits extra blocks code dict sparse lengths packed) e = absurd cc
 
 pub reads_sub : {R : Type 0} (slot : Slot) (size : ℕ) (sub sub' : Sub) (packed : Vec ℕ Global) {f m h : Front}
-    {coming : R → Option (List ℕ)} {calls moved failures interrupted : R → ℕ} {i j k : R} →
+    {dev : Ghosts R} {i j k : R} →
     size ≡ slot.size → (layout_of sub ≡ None → ⊥) → subtable_of sub' ≡ with_blocks (subtable_of sub) packed.items →
-    Reading (filled_to 64) (λ (_ : Unit {0}). tt) f m coming calls moved failures interrupted i j (Ok tt) →
-    IfSome (layout_of sub) (λ layout. Reading (blocks_from layout size 0 layout.blocks) (λ (l : Vec ℕ Global). l.items) m h coming calls moved failures interrupted j k (Ok packed)) →
-    Reading (blocks_of slot (subtable_of sub)) subtable_of f h coming calls moved failures interrupted i k (Ok sub')
+    Reading (filled_to 64) (λ (_ : Unit {0}). tt) f m dev i j (Ok tt) →
+    IfSome (layout_of sub) (λ layout. Reading (blocks_from layout size 0 layout.blocks) (λ (l : Vec ℕ Global). l.items) m h dev j k (Ok packed)) →
+    Reading (blocks_of slot (subtable_of sub)) subtable_of f h dev i k (Ok sub')
 reads_sub slot size (Constant flags byte) sub' packed sized some same filled read = absurd (some refl)
 reads_sub slot size (Pairs flags block_bits span_bits extra blocks code dict sparse lengths old) sub' packed sized some same filled read =
     let head : Head = record { flags = flags; block_bits = block_bits; span_bits = span_bits; extra = extra; blocks = blocks; code = code; entries = dict } in
@@ -158,12 +159,25 @@ reads_sub slot size (Pairs flags block_bits span_bits extra blocks code dict spa
     reads_then (filled_to 64) (λ _. all >>= λ p. means (found p)) (λ (_ : Unit {0}). tt) subtable_of tt filled
     (reads_then all (λ p. means (found p)) view subtable_of packed (reads_equal _ all view (Ok packed) same_size read) (reads_nothing (means (found packed.items)) subtable_of sub' (ap means (sym same))))
 
+-- a fault within the fill ends a subtable's blocks
+pub reads_fill_stopped : {R : Type 0} (slot : Slot) (sub : Sub) (fault : ReadFault) {f h : Front}
+    {dev : Ghosts R} {i k : R} → (layout_of sub ≡ None → ⊥) →
+    Reading (filled_to 64) (λ (_ : Unit {0}). tt) f h dev i k (Err fault) →
+    Reading (blocks_of slot (subtable_of sub)) subtable_of f h dev i k (Err fault)
+reads_fill_stopped slot (Constant flags byte) fault some filled = absurd (some refl)
+reads_fill_stopped slot (Pairs flags block_bits span_bits extra blocks code dict sparse lengths old) fault some filled =
+    let head : Head = record { flags = flags; block_bits = block_bits; span_bits = span_bits; extra = extra; blocks = blocks; code = code; entries = dict } in
+    let entries : List SparseEntry = map sparse_of sparse.items in
+    let all : Format (List ℕ) = blocks_from (held_layout head entries lengths.items) slot.size 0 blocks in
+    let found : List ℕ → Subtable = λ p. pairs head entries lengths.items p in
+    reads_stopped (filled_to 64) (λ _. all >>= λ p. means (found p)) (λ (_ : Unit {0}). tt) subtable_of fault filled
+
 pub reads_sub_stopped : {R : Type 0} (slot : Slot) (size : ℕ) (sub : Sub) (fault : ReadFault) {f m h : Front}
-    {coming : R → Option (List ℕ)} {calls moved failures interrupted : R → ℕ} {i j k : R} →
+    {dev : Ghosts R} {i j k : R} →
     size ≡ slot.size → (layout_of sub ≡ None → ⊥) →
-    Reading (filled_to 64) (λ (_ : Unit {0}). tt) f m coming calls moved failures interrupted i j (Ok tt) →
-    IfSome (layout_of sub) (λ layout. Reading (blocks_from layout size 0 layout.blocks) (λ (l : Vec ℕ Global). l.items) m h coming calls moved failures interrupted j k (Err fault)) →
-    Reading (blocks_of slot (subtable_of sub)) subtable_of f h coming calls moved failures interrupted i k (Err fault)
+    Reading (filled_to 64) (λ (_ : Unit {0}). tt) f m dev i j (Ok tt) →
+    IfSome (layout_of sub) (λ layout. Reading (blocks_from layout size 0 layout.blocks) (λ (l : Vec ℕ Global). l.items) m h dev j k (Err fault)) →
+    Reading (blocks_of slot (subtable_of sub)) subtable_of f h dev i k (Err fault)
 reads_sub_stopped slot size (Constant flags byte) fault sized some filled read = absurd (some refl)
 reads_sub_stopped slot size (Pairs flags block_bits span_bits extra blocks code dict sparse lengths old) fault sized some filled read =
     let head : Head = record { flags = flags; block_bits = block_bits; span_bits = span_bits; extra = extra; blocks = blocks; code = code; entries = dict } in

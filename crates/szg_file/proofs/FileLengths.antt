@@ -44,13 +44,13 @@ written-append (written bytes ∷ s) t = let h = written-append s t in omega (ar
 written-append (padding unit ∷ s) t = written-append s t
 written-append (spare size ∷ s) t = written-append s t
 
-fill-append : (s t : List Section) → most_fill (s ++ t) ≡ most_fill s + most_fill t
+pub fill-append : (s t : List Section) → most_fill (s ++ t) ≡ most_fill s + most_fill t
 fill-append [] t = omega arith
 fill-append (written bytes ∷ s) t = fill-append s t
 fill-append (padding unit ∷ s) t = let h = fill-append s t in omega (arith, h)
 fill-append (spare size ∷ s) t = let h = fill-append s t in omega (arith, h)
 
-asked-fill : (text : List ℕ) (s : List Section) → asked text s ≤ most_fill s
+pub asked-fill : (text : List ℕ) (s : List Section) → asked text s ≤ most_fill s
 asked-fill text [] = omega arith
 asked-fill text (written bytes ∷ s) = let h = asked-fill (text ++ bytes) s in omega (arith, h)
 asked-fill text (padding unit ∷ s) =
@@ -158,21 +158,21 @@ few_slots material sides h number (part ∷ parts) =
 
 -- ---- subtables
 
-pairs-length : (list : List ℕ) → length (flat_map (bytes_of 2) list) ≡ 2 * length list
+pub pairs-length : (list : List ℕ) → length (flat_map (bytes_of 2) list) ≡ 2 * length list
 pairs-length [] = omega arith
 pairs-length (n ∷ list) = let h = pairs-length list in omega (arith, h)
 
-ones-length : (list : List ℕ) → length (flat_map (bytes_of 1) list) ≡ length list
+pub ones-length : (list : List ℕ) → length (flat_map (bytes_of 1) list) ≡ length list
 ones-length [] = omega arith
 ones-length (n ∷ list) = let h = ones-length list in omega (arith, h)
 
-entries-length : (entries : List (List ℕ)) → AllByRecursion (AreBytes 3) entries → length (flat_map (λ (entry : List ℕ). entry) entries) ≡ 3 * length entries
+pub entries-length : (entries : List (List ℕ)) → AllByRecursion (AreBytes 3) entries → length (flat_map (λ (entry : List ℕ). entry) entries) ≡ 3 * length entries
 entries-length [] h = omega arith
 entries-length (entry ∷ entries) h =
     let r = entries-length entries h.1 in
     omega (arith, r, h.0.0, length-append entry (flat_map (λ (entry : List ℕ). entry) entries))
 
-sparse-length : (sparse : List SparseEntry) → length (flat_map (λ entry. bytes_of 4 entry.block ++ bytes_of 2 entry.offset) sparse) ≡ 6 * length sparse
+pub sparse-length : (sparse : List SparseEntry) → length (flat_map (λ entry. bytes_of 4 entry.block ++ bytes_of 2 entry.offset) sparse) ≡ 6 * length sparse
 sparse-length [] = omega arith
 sparse-length (entry ∷ sparse) = let h = sparse-length sparse in omega (arith, h)
 

@@ -235,6 +235,50 @@ refused-more (fill size next) place bytes more at reason rest e =
     ]
 refused-more (placed next) place bytes more at reason rest e = refused-more (next place) place bytes more at reason rest e
 
+-- good fields and the field that fails were taken off the front of the bytes
+pub refused-split : {A : Type 0} (f : Format A) (place : ℕ) (bytes : List ℕ) (at : ℕ) (reason : Reason) (rest : List ℕ) → verdict f place bytes ≡ refused at reason rest →
+    (text : List ℕ) × (bytes ≡ text ++ rest) × (verdict f place text ≡ refused at reason [])
+refused-split (means a') place bytes at reason rest e = absurd cc
+refused-split (refuses at' reason') place bytes at reason rest e =
+    let same : bytes ≡ rest = cc in
+    let places : at' ≡ at = cc in
+    let reasons : reason' ≡ reason = cc in
+    ([], same, cc)
+refused-split (field size next) place bytes at reason rest e =
+    elim (cases_lt (length bytes) size) [
+      | inl short ↦ let no : truncated (place + length bytes) ≡ refused at reason rest = sym (field-short size next place bytes short) ∙ e in absurd cc
+      | inr whole ↦
+          let h = refused-split (next (take size bytes)) (place + size) (drop size bytes) at reason rest (sym (field-whole size next place bytes whole) ∙ e) in
+          let long : size ≤ length (take size bytes ++ h.0) = omega (arith, length-append (take size bytes) h.0, length-take size bytes) in
+          let front : take size (take size bytes ++ h.0) ≡ take size bytes = take_front size (take size bytes) h.0 (omega (arith, length-take size bytes)) in
+          let back : drop size (take size bytes ++ h.0) ≡ h.0 = drop_front size (take size bytes) h.0 (omega (arith, length-take size bytes)) in (
+            take size bytes ++ h.0,
+            sym (take-append-drop size bytes) ∙ ap (λ (z : List ℕ). take size bytes ++ z) h.1 ∙ sym (append_assoc (take size bytes) h.0 rest),
+            field-whole size next place (take size bytes ++ h.0) long
+                ∙ ap (λ (z : List ℕ). verdict (next z) (place + size) (drop size (take size bytes ++ h.0))) front
+                ∙ ap (λ (z : List ℕ). verdict (next (take size bytes)) (place + size) z) back
+                ∙ h.2,
+          )
+    ]
+refused-split (fill size next) place bytes at reason rest e =
+    elim (cases_lt (length bytes) size) [
+      | inl short ↦ let no : truncated (place + length bytes) ≡ refused at reason rest = sym (fill-short size next place bytes short) ∙ e in absurd cc
+      | inr whole ↦
+          let g = after_fill-refused (take size bytes) (verdict next (place + size) (drop size bytes)) at reason rest (sym (fill-whole size next place bytes whole) ∙ e) in
+          let h = refused-split next (place + size) (drop size bytes) at reason rest g in
+          let long : size ≤ length (take size bytes ++ h.0) = omega (arith, length-append (take size bytes) h.0, length-take size bytes) in
+          let front : take size (take size bytes ++ h.0) ≡ take size bytes = take_front size (take size bytes) h.0 (omega (arith, length-take size bytes)) in
+          let back : drop size (take size bytes ++ h.0) ≡ h.0 = drop_front size (take size bytes) h.0 (omega (arith, length-take size bytes)) in (
+            take size bytes ++ h.0,
+            sym (take-append-drop size bytes) ∙ ap (λ (z : List ℕ). take size bytes ++ z) h.1 ∙ sym (append_assoc (take size bytes) h.0 rest),
+            fill-whole size next place (take size bytes ++ h.0) long
+                ∙ ap (λ (z : List ℕ). after_fill z (verdict next (place + size) (drop size (take size bytes ++ h.0)))) front
+                ∙ ap (λ (z : List ℕ). after_fill (take size bytes) (verdict next (place + size) z)) back
+                ∙ ap (after_fill (take size bytes)) h.2,
+          )
+    ]
+refused-split (placed next) place bytes at reason rest e = refused-split (next place) place bytes at reason rest e
+
 -- No whole text is a proper prefix of another.
 pub no_prefix : {A : Type 0} (f : Format A) (place : ℕ) (text more : List ℕ) (a a' : A) (filled filled' : List ℕ) →
     verdict f place text ≡ good a filled [] → verdict f place (text ++ more) ≡ good a' filled' [] → more ≡ []

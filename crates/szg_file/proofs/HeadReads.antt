@@ -1,5 +1,5 @@
 -- Readers of heads: what a reading says of other values, how many items a field of rows has, and the checks of codes and dictionaries.
-use Rattle.std.proofs.Common.{◌≡◌, ℕ, zero, suc, ◌+◌, ◌*◌, List, [], length, map, take, drop, refl, sym, ap, subst, ◌∙◌, arith, inl, inr, Option, Some, None, Err}
+use Rattle.std.proofs.Common.{◌≡◌, ℕ, zero, suc, ◌+◌, ◌*◌, List, [], length, map, take, drop, refl, sym, ap, subst, ◌∙◌, inl, inr, Option, Some, None, Err}
 use Rattle.std.specs.Prelude.{Result}
 use Rattle.std.proofs.lemmas.Bool.{cases_lt}
 use Rattle.std.proofs.lemmas.List.{length-map}
@@ -16,7 +16,7 @@ use Rattle.szg_pairs.specs.declared.DictFault.{DictFault}
 use Rattle.szg_pairs.specs.declared.DictFault.TheVariants as dict
 use Rattle.szg_pairs.proofs.Deciding.{first_child-None, first_child-Some, first_cycle-None, first_cycle-Some, first_long-None, first_long-Some}
 use Rattle.szg_pairs.proofs.Accepting as dictionaries
-use Rattle.std.specs.Io.KnownBytes.{Consumes}
+use Rattle.szg_io.proofs.DeviceLaws.{Takes-none}
 use Rattle.szg_file.specs.declared.front.Front.{Front}
 use Rattle.szg_file.specs.declared.fault.Reason.TheVariants as reason
 use Rattle.szg_file.specs.declared.fault.ReadFault.{ReadFault}
@@ -27,29 +27,27 @@ use Rattle.szg_file.specs.File.{rows_field, none_fails, lowest_check, entries_ch
 use Rattle.szg_file.specs.Held.{numbers_field}
 use Rattle.szg_file.specs.HeadPieces.{Refuses, lowest_refusal, entries_refusal}
 use Rattle.szg_file.specs.Reading.{Reading}
+use Rattle.szg_io.specs.declared.device.Input.{Ghosts}
+use Rattle.szg_file.proofs.CutLaws.{stops-nil}
 use Rattle.szg_file.proofs.FormatLaws.{field-short, field-whole}
 
 -- ---- readings
 
-nothing_gone : (known : Option (List ℕ)) → Consumes known known []
-nothing_gone None = tt
-nothing_gone (Some bytes) = refl
-
 -- Where memory runs out, no byte has to be taken.
 pub reads_no_memory : {A X R : Type 0} (f : Format A) (view : X → A) {o n : Front}
-    {coming : R → Option (List ℕ)} {calls moved failures interrupted : R → ℕ} {i : R} →
-    Reading f view o n coming calls moved failures interrupted i i (Err Memory)
-reads_no_memory f view {coming = coming} {i = i} = record {
+    {dev : Ghosts R} {i : R} →
+    Reading f view o n dev i i (Err Memory)
+reads_no_memory f view {o = o} {dev = dev} {i = i} = record {
   bytes = [];
-  taken = record { bytes_gone = nothing_gone (coming i); bytes_moved = omega arith; calls_made = omega arith };
-  answer = refl;
+  taken = Takes-none dev i 1;
+  answer = (stops-nil f o.place, refl);
 }
 
 -- A fault is the same, whatever was to be made.
 pub reads_failed : {A X Y R : Type 0} (f : Format A) (view : X → A) (view' : Y → A) {o m n : Front}
-    {coming : R → Option (List ℕ)} {calls moved failures interrupted : R → ℕ} {i j : R} (fault : ReadFault) →
-    Reading f view o m coming calls moved failures interrupted i j (Err fault) →
-    Reading f view' o n coming calls moved failures interrupted i j (Err fault)
+    {dev : Ghosts R} {i j : R} (fault : ReadFault) →
+    Reading f view o m dev i j (Err fault) →
+    Reading f view' o n dev i j (Err fault)
 reads_failed f view view' (Refused place why) h = record { bytes = h.bytes; taken = h.taken; answer = h.answer }
 reads_failed f view view' Device h = record { bytes = h.bytes; taken = h.taken; answer = h.answer }
 reads_failed f view view' Memory h = record { bytes = h.bytes; taken = h.taken; answer = h.answer }

@@ -22,6 +22,7 @@ use Rattle.szg_file.specs.Format.{Format, means, good, truncated, verdict, ◌>>
 use Rattle.szg_file.specs.Contents.{items}
 use Rattle.szg_file.specs.File.{rows_field, demand, none_fails, index_check}
 use Rattle.szg_file.specs.Reading.{Reading, Checks}
+use Rattle.szg_io.specs.declared.device.Input.{Ghosts}
 use Rattle.szg_file.proofs.FormatLaws.{field-short, field-whole}
 
 -- ---- the two checks
@@ -108,6 +109,6 @@ counted {B = B} f size count place bytes a filled rest e =
 
 -- a field of so many rows gives so many
 pub rows_counted : {B X R : Type 0} (f : List ℕ → B) (size count : ℕ) (view : X → List B) {o n : Front}
-    {coming : R → Option (List ℕ)} {calls moved failures interrupted : R → ℕ} {i k : R} (v : X) →
-    Reading (rows_field size count >>= λ rows. means (map f rows)) view o n coming calls moved failures interrupted i k (Ok v) → length (view v) ≡ count
+    {dev : Ghosts R} {i k : R} (v : X) →
+    Reading (rows_field size count >>= λ rows. means (map f rows)) view o n dev i k (Ok v) → length (view v) ≡ count
 rows_counted f size count view {o = o} v h = counted f size count o.place h.bytes (view v) h.answer.0.filled [] h.answer.0.whole

@@ -1,5 +1,5 @@
 -- Loops that read items one after another: what has been read up to an item, and what an item's fault says of them all.
-use Rattle.std.proofs.Common.{◌≡◌, ℕ, suc, ◌+◌, ◌<◌, List, [], ◌∷◌, ◌++◌, length, take, drop, get_or, refl, sym, ap, subst, ◌∙◌, arith, Option, Ok, Err}
+use Rattle.std.proofs.Common.{◌≡◌, ℕ, suc, ◌+◌, ◌<◌, List, [], ◌∷◌, ◌++◌, length, take, drop, get_or, refl, sym, ap, subst, ◌∙◌, arith, Ok, Err}
 use Rattle.std.proofs.Common.{drop-cons}
 use Rattle.std.proofs.lemmas.List.{take_more, take-append-drop}
 use Rattle.szg_file.specs.declared.front.Front.{Front}
@@ -9,6 +9,9 @@ use Rattle.szg_file.specs.Format.{Format}
 use Rattle.szg_file.specs.Contents.{Slot, Subtable}
 use Rattle.szg_file.specs.File.{each, Begun, begun}
 use Rattle.szg_file.specs.Reading.{Reading}
+use Rattle.szg_io.specs.declared.device.Input.{Ghosts}
+use Rattle.szg_io.proofs.DeviceLaws.{Takes-more}
+use Rattle.szg_file.proofs.CutLaws.{stops-whole}
 use Rattle.szg_file.proofs.ReadingLaws.{reads_more, reads_more_stopped}
 
 pub taken_next : {X : Type 0} (xs : List X) (i : ℕ) (x : X) → i < length xs → x ≡ get_or xs i x → take (i + 1) xs ≡ take i xs ++ x ∷ []
@@ -21,35 +24,35 @@ cut_at {X = X} xs i x there e =
 
 -- Where memory runs out behind a reading, its bytes were taken.
 pub reads_lacking : {A X Y R : Type 0} (f : Format A) (view : X → A) (view' : Y → A) (v : X) {o m n : Front}
-    {coming : R → Option (List ℕ)} {calls moved failures interrupted : R → ℕ} {i j : R} →
-    Reading f view o m coming calls moved failures interrupted i j (Ok v) →
-    Reading f view' o n coming calls moved failures interrupted i j (Err Memory)
-reads_lacking f view view' v h = record {
+    {dev : Ghosts R} {i j : R} →
+    Reading f view o m dev i j (Ok v) →
+    Reading f view' o n dev i j (Err Memory)
+reads_lacking f view view' v {o = o} h = record {
   bytes = h.bytes;
-  taken = let made = h.taken.calls_made in record { bytes_gone = h.taken.bytes_gone; bytes_moved = h.taken.bytes_moved; calls_made = omega (arith, made) };
-  answer = h.answer.1;
+  taken = Takes-more h.bytes 1 h.taken;
+  answer = (stops-whole f o.place h.bytes (view v) h.answer.0.filled h.answer.0.whole, h.answer.1);
 }
 
 -- One more item.
 pub each_next : {A B X Y Z R : Type 0} (f : A → Format B) (xs : List A) (at : ℕ) (x : A) (view : X → List B) (view' : Y → B) (view'' : Z → List B) {o m n : Front}
-    {coming : R → Option (List ℕ)} {calls moved failures interrupted : R → ℕ} {i j k : R} (v : X) (y : Y) (z : Z) →
+    {dev : Ghosts R} {i j k : R} (v : X) (y : Y) (z : Z) →
     at < length xs → x ≡ get_or xs at x → view'' z ≡ view v ++ view' y ∷ [] →
-    Reading (each f (take at xs)) view o m coming calls moved failures interrupted i j (Ok v) →
-    Reading (f x) view' m n coming calls moved failures interrupted j k (Ok y) →
-    Reading (each f (take (at + 1) xs)) view'' o n coming calls moved failures interrupted i k (Ok z)
-each_next {A = A} f xs at x view view' view'' {o = o} {n = n} {coming = coming} {calls = calls} {moved = moved} {failures = failures} {interrupted = interrupted} {i = i} {k = k} v y z there is e first second =
-    subst (λ (l : List A). Reading (each f l) view'' o n coming calls moved failures interrupted i k (Ok z)) (sym (taken_next xs at x there is))
+    Reading (each f (take at xs)) view o m dev i j (Ok v) →
+    Reading (f x) view' m n dev j k (Ok y) →
+    Reading (each f (take (at + 1) xs)) view'' o n dev i k (Ok z)
+each_next {A = A} f xs at x view view' view'' {o = o} {n = n} {dev = dev} {i = i} {k = k} v y z there is e first second =
+    subst (λ (l : List A). Reading (each f l) view'' o n dev i k (Ok z)) (sym (taken_next xs at x there is))
     (reads_more f (take at xs) x view view' view'' v y z e first second)
 
 -- An item's fault is that of all.
 pub each_stops : {A B X Y Z R : Type 0} (f : A → Format B) (xs : List A) (at : ℕ) (x : A) (view : X → List B) (view' : Y → B) (view'' : Z → List B) {o m n : Front}
-    {coming : R → Option (List ℕ)} {calls moved failures interrupted : R → ℕ} {i j k : R} (v : X) (fault : ReadFault) →
+    {dev : Ghosts R} {i j k : R} (v : X) (fault : ReadFault) →
     at < length xs → x ≡ get_or xs at x →
-    Reading (each f (take at xs)) view o m coming calls moved failures interrupted i j (Ok v) →
-    Reading (f x) view' m n coming calls moved failures interrupted j k (Err fault) →
-    Reading (each f xs) view'' o n coming calls moved failures interrupted i k (Err fault)
-each_stops {A = A} f xs at x view view' view'' {o = o} {n = n} {coming = coming} {calls = calls} {moved = moved} {failures = failures} {interrupted = interrupted} {i = i} {k = k} v fault there is first second =
-    subst (λ (l : List A). Reading (each f l) view'' o n coming calls moved failures interrupted i k (Err fault)) (sym (cut_at xs at x there is))
+    Reading (each f (take at xs)) view o m dev i j (Ok v) →
+    Reading (f x) view' m n dev j k (Err fault) →
+    Reading (each f xs) view'' o n dev i k (Err fault)
+each_stops {A = A} f xs at x view view' view'' {o = o} {n = n} {dev = dev} {i = i} {k = k} v fault there is first second =
+    subst (λ (l : List A). Reading (each f l) view'' o n dev i k (Err fault)) (sym (cut_at xs at x there is))
     (reads_more_stopped f (take at xs) x (drop (suc at) xs) view view' view'' v fault first second)
 
 -- ---- subtables and their slots

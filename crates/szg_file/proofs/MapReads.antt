@@ -11,6 +11,7 @@ use Rattle.szg_file.specs.File.{rows_field, filled_to, each, list_field, map_lis
 use Rattle.szg_file.specs.Reading.{Reading}
 use Rattle.szg_file.proofs.FormatLaws.{field-short, field-whole}
 use Rattle.szg_file.proofs.EachLaws.{then-then}
+use Rattle.szg_io.specs.declared.device.Input.{Ghosts}
 use Rattle.szg_file.proofs.Taken.{reads_like}
 
 -- ---- lists of bytes
@@ -44,9 +45,9 @@ bytes_verdict count place bytes =
     ]
 
 pub reads_bytes : {X R : Type 0} (count : ℕ) (view : X → List ℕ) {o n : Front}
-    {coming : R → Option (List ℕ)} {calls moved failures interrupted : R → ℕ} {i j : R} (r : Result X ReadFault) →
-    Reading (field count means) view o n coming calls moved failures interrupted i j r →
-    Reading (list_behind 1 count) view o n coming calls moved failures interrupted i j r
+    {dev : Ghosts R} {i j : R} (r : Result X ReadFault) →
+    Reading (field count means) view o n dev i j r →
+    Reading (list_behind 1 count) view o n dev i j r
 reads_bytes count view {o = o} r h = reads_like (field count means) (list_behind 1 count) view r (λ bytes. bytes_verdict count o.place bytes) h
 
 -- ---- four lists
@@ -89,6 +90,9 @@ byte_lists = each list_field (1 ∷ 1 ∷ 1 ∷ 1 ∷ []) >>= λ lists. means (n
 
 pub wide_behind : (flags : ℕ) → has_bit 4 flags ≡ true → map_lists flags ≡ filled_to 2 >>= (λ _. wide_lists)
 wide_behind flags e = ap (λ (b : Bool). cond b (filled_to 2 >>= (λ _. wide_lists)) byte_lists) e
+
+pub byte_behind : (flags : ℕ) → has_bit 4 flags ≡ false → map_lists flags ≡ byte_lists
+byte_behind flags e = ap (λ (b : Bool). cond b (filled_to 2 >>= (λ _. wide_lists)) byte_lists) e
 
 abbrev pub some_map : ℕ → Format (Option Map)
 some_map flags = map_lists flags >>= λ lists. means (Some lists)

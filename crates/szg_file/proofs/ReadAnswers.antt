@@ -1,8 +1,8 @@
 -- What `read` answers follows from one reading of the whole file from its first byte on.
-use Rattle.std.proofs.Common.{◌≡◌, ℕ, List, [], ◌++◌, refl, sym, ap, subst, ◌∙◌, append-nil, arith, Option, Some, None, Ok, Err}
-use Rattle.std.specs.Prelude.{IfSome}
+use Rattle.std.proofs.Common.{◌≡◌, ℕ, List, [], ◌++◌, refl, sym, ap, subst, ◌∙◌, append-nil, Option, Some, None, Ok, Err}
+use Rattle.std.specs.Prelude.{IfSome, Result, IsErrOf}
 use Rattle.std.specs.Io.KnownBytes.{Consumes}
-use Rattle.szg_io.specs.Device.{Takes}
+use Rattle.szg_io.specs.Moved.{Takes}
 use Rattle.szg_values.specs.declared.Kind.{Kind}
 use Rattle.szg_values.specs.Material.{Sides}
 use Rattle.szg_file.specs.declared.front.Front.{Front}
@@ -15,9 +15,11 @@ use Rattle.szg_file.specs.File.{file}
 use Rattle.szg_file.specs.FileOf.{file_of}
 use Rattle.szg_file.specs.Accepted.{IsAccepted}
 use Rattle.szg_file.specs.Held.{Shown}
-use Rattle.szg_file.specs.Reading.{Reading, Advances, IsRefusal}
-use Rattle.szg_file.specs.Reads.{FollowsVerdict, TookBytes}
+use Rattle.szg_file.specs.Reading.{Reading, Advances, IsRefusal, IsCut, Lacking}
+use Rattle.szg_file.specs.Reads.{FollowsVerdict, IsVerdict, TookBytes, LeavesMore}
+use Rattle.szg_file.proofs.CutLaws.{leaves_more}
 use Rattle.szg_file.proofs.FormatLaws.{good-more, refused-more}
+use Rattle.szg_io.specs.declared.device.Input.{Ghosts}
 use Rattle.szg_file.proofs.WholeLaws.{good_is_file}
 
 -- ---- told bytes
@@ -53,9 +55,12 @@ follows_device : (f : Format Contents) (old new : Option (List ℕ)) → IfSome 
 follows_device f None new = tt
 follows_device f (Some all) new = tt
 
-follows_memory : (f : Format Contents) (old new : Option (List ℕ)) → IfSome old (λ all. FollowsVerdict (verdict f 0 all) (Err Memory) new)
-follows_memory f None new = tt
-follows_memory f (Some all) new = tt
+follows_memory : (f : Format Contents) (old new : Option (List ℕ)) (bytes : List ℕ) → Consumes old new bytes → IsCut (verdict f 0 bytes) →
+    IfSome old (λ all. FollowsVerdict (verdict f 0 all) (Err Memory) new)
+follows_memory f None new bytes c h = tt
+follows_memory f (Some all) None bytes c h = absurd c
+follows_memory f (Some all) (Some rest) bytes c h =
+    subst (λ (z : List ℕ). LeavesMore (verdict f 0 z) (Some rest)) (sym c) (leaves_more f 0 bytes rest h)
 
 -- ---- a table
 
@@ -75,9 +80,15 @@ whole_file material kind t o n bytes place fill h =
     let g = good_is_file material kind bytes t n.fill.items [] h.fits whole in
     record { whole = whole; accepted = g.2; file_is = g.3 ∙ append-nil (file_of t n.fill.items) }
 
--- a call more may be made than was
-pub calls_more : {a b : Option (List ℕ)} {m n p q : ℕ} (bytes : List ℕ) → Takes a b m n p q bytes 0 → Takes a b m n p q bytes 1
-calls_more bytes t = record { bytes_gone = t.bytes_gone; bytes_moved = t.bytes_moved; calls_made = omega (arith, t.calls_made) }
+-- ---- bytes in memory
+
+pub in_memory : (v : Verdict Contents) (r : Result Shown ReadFault) (coming : Option (List ℕ)) → FollowsVerdict v r coming → (IsErrOf r Device → ⊥) → IsVerdict v r
+in_memory v (Ok t) coming h never = (h.0, h.1)
+in_memory (good t filled rest) (Err (Refused place reason)) coming h never = absurd h
+in_memory (refused at why rest) (Err (Refused place reason)) coming h never = (h.0, h.1)
+in_memory (truncated count) (Err (Refused place reason)) coming h never = (h.0, h.1)
+in_memory v (Err Device) coming h never = absurd (never refl)
+in_memory v (Err Memory) coming h never = tt
 
 -- ---- a fault
 
@@ -86,19 +97,23 @@ at_first : {A : Type 0} (f : Format A) (from : ℕ) (bytes : List ℕ) (place : 
 at_first f from bytes place reason coming e h = subst (λ (p : ℕ). IsRefusal (verdict f p bytes) place reason coming) e h
 
 pub fault_follows : {X R : Type 0} (f : Format Contents) (view : X → Contents) (fault : ReadFault) {o n : Front}
-    {coming : R → Option (List ℕ)} {calls moved failures interrupted : R → ℕ} {i k : R} → o.place ≡ 0 →
-    Reading f view o n coming calls moved failures interrupted i k (Err fault) →
-    IfSome (coming i) (λ all. FollowsVerdict (verdict f 0 all) (Err fault) (coming k))
-fault_follows f view (Refused place reason) {o = o} {coming = coming} {i = i} {k = k} first h =
-    follows_refusal f place reason (coming i) (coming k) h.bytes h.taken.bytes_gone (at_first f o.place h.bytes place reason (coming k) first h.answer.0)
-fault_follows f view Device {coming = coming} {i = i} {k = k} first h = follows_device f (coming i) (coming k)
-fault_follows f view Memory {coming = coming} {i = i} {k = k} first h = follows_memory f (coming i) (coming k)
+    {dev : Ghosts R} {i k : R} → o.place ≡ 0 →
+    Reading f view o n dev i k (Err fault) → (IsErrOf {T = X} (Err fault) Memory → Lacking f o dev i k) →
+    IfSome (dev.coming i) (λ all. FollowsVerdict (verdict f 0 all) (Err fault) (dev.coming k))
+fault_follows f view (Refused place reason) {o = o} {dev = dev} {i = i} {k = k} first h lacks =
+    follows_refusal f place reason (dev.coming i) (dev.coming k) h.bytes h.taken.bytes_gone (at_first f o.place h.bytes place reason (dev.coming k) first h.answer.0)
+fault_follows f view Device {dev = dev} {i = i} {k = k} first h lacks = follows_device f (dev.coming i) (dev.coming k)
+fault_follows f view Memory {o = o} {dev = dev} {i = i} {k = k} first h lacks =
+    let l = lacks refl in
+    follows_memory f (dev.coming i) (dev.coming k) l.bytes l.taken.bytes_gone (subst (λ (p : ℕ). IsCut (verdict f p l.bytes)) first l.short)
 
 pub fault_took : {X R : Type 0} (material : Sides) (kind : Kind) (view : X → Contents) (fault : ReadFault) {o n : Front}
-    {coming : R → Option (List ℕ)} {calls moved failures interrupted : R → ℕ} {i k : R} → o.place ≡ 0 →
-    Reading (file material kind) view o n coming calls moved failures interrupted i k (Err fault) →
-    (bytes : List ℕ) × Takes (coming i) (coming k) (calls i) (calls k) (moved i) (moved k) bytes 1 × TookBytes material kind bytes (coming k) (Err fault)
-fault_took material kind view (Refused place reason) {o = o} {coming = coming} {k = k} first h =
-    (h.bytes, h.taken, at_first (file material kind) o.place h.bytes place reason (coming k) first h.answer.0)
-fault_took material kind view Device first h = (h.bytes, h.taken, tt)
-fault_took material kind view Memory first h = (h.bytes, h.taken, tt)
+    {dev : Ghosts R} {i k : R} → o.place ≡ 0 →
+    Reading (file material kind) view o n dev i k (Err fault) → (IsErrOf {T = X} (Err fault) Memory → Lacking (file material kind) o dev i k) →
+    (bytes : List ℕ) × Takes dev i k bytes 1 × TookBytes material kind bytes (dev.coming k) (Err fault)
+fault_took material kind view (Refused place reason) {o = o} {dev = dev} {k = k} first h lacks =
+    (h.bytes, h.taken, at_first (file material kind) o.place h.bytes place reason (dev.coming k) first h.answer.0)
+fault_took material kind view Device first h lacks = (h.bytes, h.taken, tt)
+fault_took material kind view Memory first h lacks =
+    let l = lacks refl in
+    (l.bytes, l.taken, subst (λ (p : ℕ). IsCut (verdict (file material kind) p l.bytes)) first l.short)

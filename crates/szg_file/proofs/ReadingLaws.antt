@@ -1,18 +1,19 @@
 -- Readers compose: what two calls read one after another is what the two formats one after another are.
-use Rattle.std.proofs.Common.{◌≡◌, ℕ, ◌+◌, ◌-◌, List, [], ◌∷◌, ◌++◌, length, refl, sym, ap, subst, ◌∙◌, append_assoc, arith, append-nil, Option, Some, None, Ok, Err}
-use Rattle.std.specs.Prelude.{Result}
+use Rattle.std.proofs.Common.{◌≡◌, ℕ, ◌+◌, ◌-◌, List, [], ◌∷◌, ◌++◌, length, refl, sym, ap, subst, ◌∙◌, append_assoc, arith, append-nil, Option, Ok, Err}
+use Rattle.std.specs.Prelude.{Result, Bool}
 use Rattle.std.proofs.lemmas.List.{length-append}
-use Rattle.std.specs.Io.KnownBytes.{Consumes}
-use Rattle.szg_io.specs.Device.{Takes}
+use Rattle.szg_io.proofs.DeviceLaws.{Takes-on, Takes-none}
 use Rattle.szg_file.specs.declared.front.Front.{Front}
 use Rattle.szg_file.specs.declared.fault.Reason.{Reason}
 use Rattle.szg_file.specs.declared.fault.ReadFault.{ReadFault}
 use Rattle.szg_file.specs.declared.fault.ReadFault.TheVariants.{Refused, Device, Memory}
 use Rattle.szg_file.specs.Format.{Format, means, refuses, Verdict, good, refused, truncated, verdict, after_fill, ◌>>=◌}
-use Rattle.szg_file.specs.Reading.{Reading, Answer, Advances, IsRefusal, turns_of}
+use Rattle.szg_file.specs.Reading.{Reading, Answer, Advances, IsRefusal, StopsWithin, turns_of}
 use Rattle.szg_file.specs.File.{each}
+use Rattle.szg_file.proofs.CutLaws.{stops-after_fill, stops-then}
 use Rattle.szg_file.proofs.EachLaws.{each-append, each-more}
 use Rattle.szg_file.proofs.FormatLaws.{verdict-then, good-more, continued}
+use Rattle.szg_io.specs.declared.device.Input.{Ghosts}
 use Rattle.szg_file.proofs.FileLaws.{AreNumbers-join}
 
 -- Bytes x are a whole text of f; what follows them has the verdict of g.
@@ -37,23 +38,10 @@ IsRefusal-after_fill filled (good a more rest) place reason coming h = absurd h
 IsRefusal-after_fill filled (refused at why rest) place reason coming h = h
 IsRefusal-after_fill filled (truncated at) place reason coming h = h
 
-Consumes-then : (a b c : Option (List ℕ)) (x y : List ℕ) → Consumes a b x → Consumes b c y → Consumes a c (x ++ y)
-Consumes-then None b c x y p q = p
-Consumes-then (Some xs) None c x y p q = absurd p
-Consumes-then (Some xs) (Some ys) None x y p q = absurd q
-Consumes-then (Some xs) (Some ys) (Some zs) x y p q = p ∙ ap (λ (t : List ℕ). x ++ t) q ∙ sym (append_assoc x y zs)
-
-Takes-on : {a b c : Option (List ℕ)} {m n k p q r : ℕ} (x y : List ℕ) (turns : ℕ) → Takes a b m n p q x 0 → Takes b c n k q r y turns → Takes a c m k p r (x ++ y) turns
-Takes-on x y turns t u = record {
-  bytes_gone = Consumes-then _ _ _ x y t.bytes_gone u.bytes_gone;
-  bytes_moved = omega (arith, length-append x y, t.bytes_moved, u.bytes_moved);
-  calls_made = omega (arith, length-append x y, t.calls_made, u.calls_made);
-}
-
 -- the answer of the second reader, seen from before the first
-Answer-then : {A B Y : Type 0} (f : Format A) (g : A → Format B) (view' : Y → B) (o m n : Front) (coming : Option (List ℕ)) (fs fs' row : ℕ) (x y : List ℕ) (a : A) (r : Result Y ReadFault) →
-    Advances f a o m x → Answer (g a) view' m n coming fs fs' row y r → Answer (f >>= g) view' o n coming fs fs' row (x ++ y) r
-Answer-then f g view' o m n coming fs fs' row x y a (Ok v) first h =
+Answer-then : {A B Y : Type 0} (f : Format A) (g : A → Format B) (view' : Y → B) (o m n : Front) (coming : Option (List ℕ)) (fs fs' row : ℕ) (may : Bool) (x y : List ℕ) (a : A) (r : Result Y ReadFault) →
+    Advances f a o m x → Answer (g a) view' m n coming fs fs' row may y r → Answer (f >>= g) view' o n coming fs fs' row may (x ++ y) r
+Answer-then f g view' o m n coming fs fs' row may x y a (Ok v) first h =
     let place : o.place + length x ≡ m.place = sym first.place in
     let joint : verdict (f >>= g) o.place (x ++ y) ≡ good (view' v) (first.filled ++ h.0.filled) [] =
     after_text f g o.place x y a first.filled first.whole
@@ -68,7 +56,7 @@ Answer-then f g view' o m n coming fs fs' row x y a (Ok v) first h =
       },
       h.1,
     )
-Answer-then f g view' o m n coming fs fs' row x y a (Err (Refused place reason)) first h =
+Answer-then f g view' o m n coming fs fs' row may x y a (Err (Refused place reason)) first h =
     let at : o.place + length x ≡ m.place = sym first.place in
     let joint : verdict (f >>= g) o.place (x ++ y) ≡ after_fill first.filled (verdict (g a) m.place y) =
     after_text f g o.place x y a first.filled first.whole
@@ -77,87 +65,89 @@ Answer-then f g view' o m n coming fs fs' row x y a (Err (Refused place reason))
           (IsRefusal-after_fill first.filled (verdict (g a) m.place y) place reason coming h.0),
       h.1,
     )
-Answer-then f g view' o m n coming fs fs' row x y a (Err Device) first h = h
-Answer-then f g view' o m n coming fs fs' row x y a (Err Memory) first h = h
+Answer-then f g view' o m n coming fs fs' row may x y a (Err Device) first h = h
+Answer-then f g view' o m n coming fs fs' row may x y a (Err Memory) first h =
+    let at : o.place + length x ≡ m.place = sym first.place in
+    let joint : verdict (f >>= g) o.place (x ++ y) ≡ after_fill first.filled (verdict (g a) m.place y) =
+    after_text f g o.place x y a first.filled first.whole
+    ∙ ap (λ (p : ℕ). after_fill first.filled (verdict (g a) p y)) at in
+    (subst (λ (v : Verdict _). StopsWithin v) (sym joint) (stops-after_fill first.filled (verdict (g a) m.place y) h.0), h.1)
 
 -- One reader after another that gave a value.
 pub reads_then : {A B X Y R : Type 0} (f : Format A) (g : A → Format B) (view : X → A) (view' : Y → B) {o m n : Front}
-    {coming : R → Option (List ℕ)} {calls moved failures interrupted : R → ℕ} {i j k : R} (v : X) {r : Result Y ReadFault} →
-    Reading f view o m coming calls moved failures interrupted i j (Ok v) →
-    Reading (g (view v)) view' m n coming calls moved failures interrupted j k r →
-    Reading (f >>= g) view' o n coming calls moved failures interrupted i k r
-reads_then f g view view' {o = o} {m = m} {n = n} {coming = coming} {calls = calls} {moved = moved} {failures = failures} {interrupted = interrupted} {i = i} {j = j} {k = k} v {r = r} first second =
-    let same : failures j ≡ failures i = first.answer.1 in
+    {dev : Ghosts R} {i j k : R} (v : X) {r : Result Y ReadFault} →
+    Reading f view o m dev i j (Ok v) →
+    Reading (g (view v)) view' m n dev j k r →
+    Reading (f >>= g) view' o n dev i k r
+reads_then f g view view' {o = o} {m = m} {n = n} {dev = dev} {i = i} {j = j} {k = k} v {r = r} first second =
+    let same : dev.failures j ≡ dev.failures i = first.answer.1 in
     record {
       bytes = first.bytes ++ second.bytes;
       taken = Takes-on first.bytes second.bytes (turns_of r) first.taken second.taken;
-      answer = Answer-then f g view' o m n (coming k) (failures i) (failures k) (interrupted k) first.bytes second.bytes (view v) r first.answer.0
-          (subst (λ (fs : ℕ). Answer (g (view v)) view' m n (coming k) fs (failures k) (interrupted k) second.bytes r) same second.answer);
+      answer = Answer-then f g view' o m n (dev.coming k) (dev.failures i) (dev.failures k) (dev.interrupted k) (dev.may_fail i) first.bytes second.bytes (view v) r first.answer.0
+          (subst (λ (may : Bool). Answer (g (view v)) view' m n (dev.coming k) (dev.failures i) (dev.failures k) (dev.interrupted k) may second.bytes r) first.taken.stays
+          (subst (λ (fs : ℕ). Answer (g (view v)) view' m n (dev.coming k) fs (dev.failures k) (dev.interrupted k) (dev.may_fail j) second.bytes r) same second.answer));
     }
 
 -- A reader that answers a fault ends the whole.
 pub reads_stopped : {A B X Y R : Type 0} (f : Format A) (g : A → Format B) (view : X → A) (view' : Y → B) {o n : Front}
-    {coming : R → Option (List ℕ)} {calls moved failures interrupted : R → ℕ} {i k : R} (fault : ReadFault) →
-    Reading f view o n coming calls moved failures interrupted i k (Err fault) →
-    Reading (f >>= g) view' o n coming calls moved failures interrupted i k (Err fault)
-reads_stopped f g view view' {o = o} {coming = coming} {k = k} (Refused place reason) h = record {
+    {dev : Ghosts R} {i k : R} (fault : ReadFault) →
+    Reading f view o n dev i k (Err fault) →
+    Reading (f >>= g) view' o n dev i k (Err fault)
+reads_stopped f g view view' {o = o} {dev = dev} {k = k} (Refused place reason) h = record {
   bytes = h.bytes;
   taken = h.taken;
   answer = (
-    subst (λ (v : Verdict _). IsRefusal v place reason (coming k)) (sym (verdict-then f g o.place h.bytes))
-        (IsRefusal-first g (o.place + length h.bytes) (verdict f o.place h.bytes) place reason (coming k) h.answer.0),
+    subst (λ (v : Verdict _). IsRefusal v place reason (dev.coming k)) (sym (verdict-then f g o.place h.bytes))
+        (IsRefusal-first g (o.place + length h.bytes) (verdict f o.place h.bytes) place reason (dev.coming k) h.answer.0),
     h.answer.1,
   );
 }
 reads_stopped f g view view' Device h = record { bytes = h.bytes; taken = h.taken; answer = h.answer }
-reads_stopped f g view view' Memory h = record { bytes = h.bytes; taken = h.taken; answer = h.answer }
-
-Consumes-none : (a : Option (List ℕ)) → Consumes a a []
-Consumes-none None = tt
-Consumes-none (Some xs) = refl
+reads_stopped f g view view' {o = o} Memory h = record { bytes = h.bytes; taken = h.taken; answer = (stops-then f g o.place h.bytes h.answer.0, h.answer.1) }
 
 -- What means a value is read by no call.
 pub reads_nothing : {A X R : Type 0} (f : Format A) (view : X → A) (x : X) {o : Front}
-    {coming : R → Option (List ℕ)} {calls moved failures interrupted : R → ℕ} {i : R} → f ≡ means (view x) →
-    Reading f view o o coming calls moved failures interrupted i i (Ok x)
-reads_nothing f view x {o = o} {coming = coming} {i = i} e = record {
+    {dev : Ghosts R} {i : R} → f ≡ means (view x) →
+    Reading f view o o dev i i (Ok x)
+reads_nothing f view x {o = o} {dev = dev} {i = i} e = record {
   bytes = [];
-  taken = record { bytes_gone = Consumes-none (coming i); bytes_moved = omega arith; calls_made = omega arith };
+  taken = Takes-none dev i 0;
   answer = (record { fits = tt; filled = []; whole = ap (λ (h : Format _). verdict h o.place []) e; place = omega arith; fill = sym (append-nil o.fill.items) }, refl);
 }
 
 -- A check that fails is told without a call.
 pub reads_refused : {A X R : Type 0} (f : Format A) (view : X → A) (place : ℕ) (reason : Reason) {o : Front}
-    {coming : R → Option (List ℕ)} {calls moved failures interrupted : R → ℕ} {i : R} → f ≡ refuses place reason →
-    Reading f view o o coming calls moved failures interrupted i i (Err (Refused place reason))
-reads_refused f view place reason {o = o} {coming = coming} {i = i} e = record {
+    {dev : Ghosts R} {i : R} → f ≡ refuses place reason →
+    Reading f view o o dev i i (Err (Refused place reason))
+reads_refused f view place reason {o = o} {dev = dev} {i = i} e = record {
   bytes = [];
-  taken = record { bytes_gone = Consumes-none (coming i); bytes_moved = omega arith; calls_made = omega arith };
-  answer = (subst (λ (h : Format _). IsRefusal (verdict h o.place []) place reason (coming i)) (sym e) (refl, refl, refl), refl);
+  taken = Takes-none dev i 1;
+  answer = (subst (λ (h : Format _). IsRefusal (verdict h o.place []) place reason (dev.coming i)) (sym e) (refl, refl, refl), refl);
 }
 
 -- ---- loops over items
 
 -- One more item: what a loop has read so far, and the item behind it.
 pub reads_more : {A B X Y Z R : Type 0} (f : A → Format B) (xs : List A) (x : A) (view : X → List B) (view' : Y → B) (view'' : Z → List B) {o m n : Front}
-    {coming : R → Option (List ℕ)} {calls moved failures interrupted : R → ℕ} {i j k : R} (v : X) (y : Y) (z : Z) → view'' z ≡ view v ++ view' y ∷ [] →
-    Reading (each f xs) view o m coming calls moved failures interrupted i j (Ok v) →
-    Reading (f x) view' m n coming calls moved failures interrupted j k (Ok y) →
-    Reading (each f (xs ++ x ∷ [])) view'' o n coming calls moved failures interrupted i k (Ok z)
-reads_more f xs x view view' view'' {o = o} {n = n} {coming = coming} {calls = calls} {moved = moved} {failures = failures} {interrupted = interrupted} {i = i} {k = k} v y z e first second =
-    subst (λ (h : Format (List _)). Reading h view'' o n coming calls moved failures interrupted i k (Ok z)) (sym (each-more f xs x))
+    {dev : Ghosts R} {i j k : R} (v : X) (y : Y) (z : Z) → view'' z ≡ view v ++ view' y ∷ [] →
+    Reading (each f xs) view o m dev i j (Ok v) →
+    Reading (f x) view' m n dev j k (Ok y) →
+    Reading (each f (xs ++ x ∷ [])) view'' o n dev i k (Ok z)
+reads_more f xs x view view' view'' {o = o} {n = n} {dev = dev} {i = i} {k = k} v y z e first second =
+    subst (λ (h : Format (List _)). Reading h view'' o n dev i k (Ok z)) (sym (each-more f xs x))
     (reads_then (each f xs) (λ us. f x >>= λ b. means (us ++ b ∷ [])) view view'' v first
     (reads_then (f x) (λ b. means (view v ++ b ∷ [])) view' view'' y second
     (reads_nothing (means (view v ++ view' y ∷ [])) view'' z (ap means (sym e)))))
 
 -- An item that answers a fault ends the loop, whatever items are still to come.
 pub reads_more_stopped : {A B X Y Z R : Type 0} (f : A → Format B) (xs : List A) (x : A) (ys : List A) (view : X → List B) (view' : Y → B) (view'' : Z → List B) {o m n : Front}
-    {coming : R → Option (List ℕ)} {calls moved failures interrupted : R → ℕ} {i j k : R} (v : X) (fault : ReadFault) →
-    Reading (each f xs) view o m coming calls moved failures interrupted i j (Ok v) →
-    Reading (f x) view' m n coming calls moved failures interrupted j k (Err fault) →
-    Reading (each f (xs ++ x ∷ ys)) view'' o n coming calls moved failures interrupted i k (Err fault)
-reads_more_stopped f xs x ys view view' view'' {o = o} {n = n} {coming = coming} {calls = calls} {moved = moved} {failures = failures} {interrupted = interrupted} {i = i} {k = k} v fault first second =
-    subst (λ (h : Format (List _)). Reading h view'' o n coming calls moved failures interrupted i k (Err fault)) (sym (each-append f xs (x ∷ ys)))
+    {dev : Ghosts R} {i j k : R} (v : X) (fault : ReadFault) →
+    Reading (each f xs) view o m dev i j (Ok v) →
+    Reading (f x) view' m n dev j k (Err fault) →
+    Reading (each f (xs ++ x ∷ ys)) view'' o n dev i k (Err fault)
+reads_more_stopped f xs x ys view view' view'' {o = o} {n = n} {dev = dev} {i = i} {k = k} v fault first second =
+    subst (λ (h : Format (List _)). Reading h view'' o n dev i k (Err fault)) (sym (each-append f xs (x ∷ ys)))
     (reads_then (each f xs) (λ us. each f (x ∷ ys) >>= λ bs. means (us ++ bs)) view view'' v first
     (reads_stopped (each f (x ∷ ys)) (λ bs. means (view v ++ bs)) view'' view'' fault
     (reads_stopped (f x) (λ b. each f ys >>= λ bs. means (b ∷ bs)) view' view'' fault second)))

@@ -37,7 +37,7 @@ side_lengths P (x ∷ xs) [] h = absurd h
 not_none : {A : Type 0} (x : A) → None ≡ Some x → ⊥
 not_none x e = cc e
 
-side_at : {A B : Type 0} (P : A → B → Type 0) (xs : List A) (ys : List B) → SideBySide P xs ys → (k : ℕ) (x : A) (y : B) →
+pub side_at : {A B : Type 0} (P : A → B → Type 0) (xs : List A) (ys : List B) → SideBySide P xs ys → (k : ℕ) (x : A) (y : B) →
     slice_get xs k ≡ Some x → slice_get ys k ≡ Some y → P x y
 side_at P [] ys h k x y ex ey = absurd (not_none x ex)
 side_at P (a ∷ xs) [] h k x y ex ey = absurd h

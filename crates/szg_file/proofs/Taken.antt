@@ -1,17 +1,18 @@
 -- One field that was taken, and how fields of the same bytes are one field.
-use Rattle.std.proofs.Common.{◌≡◌, ℕ, ◌+◌, ◌-◌, List, [], ◌++◌, length, take, drop, refl, sym, ap, subst, inl, inr, ◌∙◌, append_assoc, arith, append-nil, Option, Ok, Err}
+use Rattle.std.proofs.Common.{◌≡◌, ℕ, ◌+◌, ◌-◌, List, [], ◌++◌, length, take, drop, refl, sym, ap, subst, inl, inr, ◌∙◌, append_assoc, arith, append-nil, Ok, Err}
 use Rattle.std.specs.Prelude.{Result}
 use Rattle.std.proofs.Math.Seq.{take-length, take-add, take-append_seam, drop-append_seam}
 use Rattle.std.proofs.lemmas.Bool.{cases_lt}
 use Rattle.std.proofs.lemmas.List.{drop_all, drop_at, take_at, length-append, length-drop, length-take-le, drop-drop, take-append-drop}
-use Rattle.szg_io.specs.Device.{Takes}
+use Rattle.szg_io.specs.Moved.{Takes}
 use Rattle.szg_file.specs.declared.front.Front.{Front}
 use Rattle.szg_file.specs.declared.fault.ReadFault.{ReadFault}
 use Rattle.szg_file.specs.Format.{Format, field, means, Verdict, good, truncated, verdict, ◌>>=◌}
 use Rattle.szg_file.specs.Accepted.{AreNumbers}
 use Rattle.szg_file.specs.declared.fault.ReadFault.TheVariants.{Refused, Device, Memory}
-use Rattle.szg_file.specs.Reading.{Reading, IsRefusal}
+use Rattle.szg_file.specs.Reading.{Reading, IsRefusal, StopsWithin}
 use Rattle.szg_file.proofs.FormatLaws.{field-whole, field-short}
+use Rattle.szg_io.specs.declared.device.Input.{Ghosts}
 use Rattle.szg_file.proofs.ReadingLaws.{reads_then, reads_stopped, reads_nothing}
 
 -- a field of a text's own length is the text
@@ -24,10 +25,10 @@ field_of_text place bytes =
     ∙ ap (λ (z : List ℕ). good bytes [] z) left
 
 pub field_taken : {R : Type 0} (o n : Front) (piece : List ℕ)
-    {coming : R → Option (List ℕ)} {calls moved failures interrupted : R → ℕ} {i k : R} →
-    AreNumbers 1 piece → Takes (coming i) (coming k) (calls i) (calls k) (moved i) (moved k) piece 0 →
-    n.place ≡ o.place + length piece → n.fill.items ≡ o.fill.items → failures k ≡ failures i →
-    Reading (field (length piece) means) (λ (_ : Unit {0}). piece) o n coming calls moved failures interrupted i k (Ok tt)
+    {dev : Ghosts R} {i k : R} →
+    AreNumbers 1 piece → Takes dev i k piece 0 →
+    n.place ≡ o.place + length piece → n.fill.items ≡ o.fill.items → dev.failures k ≡ dev.failures i →
+    Reading (field (length piece) means) (λ (_ : Unit {0}). piece) o n dev i k (Ok tt)
 field_taken o n piece small taken place fill quiet = record {
   bytes = piece;
   taken = taken;
@@ -65,40 +66,33 @@ two_fields-one a b place bytes =
 
 -- formats with the same verdicts are read alike
 pub reads_like : {A X R : Type 0} (f g : Format A) (view : X → A) {o n : Front}
-    {coming : R → Option (List ℕ)} {calls moved failures interrupted : R → ℕ} {i k : R} (r : Result X ReadFault) →
+    {dev : Ghosts R} {i k : R} (r : Result X ReadFault) →
     ((bytes : List ℕ) → verdict f o.place bytes ≡ verdict g o.place bytes) →
-    Reading f view o n coming calls moved failures interrupted i k r → Reading g view o n coming calls moved failures interrupted i k r
+    Reading f view o n dev i k r → Reading g view o n dev i k r
 reads_like f g view (Ok x) same h = record {
   bytes = h.bytes;
   taken = h.taken;
   answer = (record { fits = h.answer.0.fits; filled = h.answer.0.filled; whole = sym (same h.bytes) ∙ h.answer.0.whole; place = h.answer.0.place; fill = h.answer.0.fill }, h.answer.1);
 }
-reads_like f g view {coming = coming} {k = k} (Err (Refused place reason)) same h = record {
+reads_like f g view {dev = dev} {k = k} (Err (Refused place reason)) same h = record {
   bytes = h.bytes;
   taken = h.taken;
-  answer = (subst (λ (v : Verdict _). IsRefusal v place reason (coming k)) (same h.bytes) h.answer.0, h.answer.1);
+  answer = (subst (λ (v : Verdict _). IsRefusal v place reason (dev.coming k)) (same h.bytes) h.answer.0, h.answer.1);
 }
 reads_like f g view (Err Device) same h = record { bytes = h.bytes; taken = h.taken; answer = h.answer }
-reads_like f g view (Err Memory) same h = record { bytes = h.bytes; taken = h.taken; answer = h.answer }
-
--- a growth that is refused ends any reading
-pub reads_refused_growth : {A B X Y R : Type 0} (f : Format A) (g : Format B) (view : X → A) (view' : Y → B) {o m n : Front}
-    {coming : R → Option (List ℕ)} {calls moved failures interrupted : R → ℕ} {i k : R} (v : X) →
-    Reading f view o m coming calls moved failures interrupted i k (Ok v) →
-    Reading g view' o n coming calls moved failures interrupted i k (Err Memory)
-reads_refused_growth f g view view' v h = record {
+reads_like f g view (Err Memory) same h = record {
   bytes = h.bytes;
-  taken = record { bytes_gone = h.taken.bytes_gone; bytes_moved = h.taken.bytes_moved; calls_made = omega (arith, h.taken.calls_made) };
-  answer = h.answer.1;
+  taken = h.taken;
+  answer = (subst (λ (v : Verdict _). StopsWithin v) (same h.bytes) h.answer.0, h.answer.1);
 }
 
 -- more bytes of one field
 pub field_more : {X Y Z R : Type 0} (a b : ℕ) (view : X → List ℕ) (view' : Y → List ℕ) (view'' : Z → List ℕ) {o m n : Front}
-    {coming : R → Option (List ℕ)} {calls moved failures interrupted : R → ℕ} {i j k : R} (v : X) (w : Y) (z : Z) →
+    {dev : Ghosts R} {i j k : R} (v : X) (w : Y) (z : Z) →
     view'' z ≡ view v ++ view' w →
-    Reading (field a means) view o m coming calls moved failures interrupted i j (Ok v) →
-    Reading (field b means) view' m n coming calls moved failures interrupted j k (Ok w) →
-    Reading (field (a + b) means) view'' o n coming calls moved failures interrupted i k (Ok z)
+    Reading (field a means) view o m dev i j (Ok v) →
+    Reading (field b means) view' m n dev j k (Ok w) →
+    Reading (field (a + b) means) view'' o n dev i k (Ok z)
 field_more a b view view' view'' {o = o} v w z e first second =
     reads_like (two_fields a b) (field (a + b) means) view'' (Ok z) (λ bytes. two_fields-one a b o.place bytes)
     (reads_then (field a means) (λ x. field b means >>= λ y. means (x ++ y)) view view'' v first
@@ -107,10 +101,10 @@ field_more a b view view' view'' {o = o} v w z e first second =
 
 -- a fault within one field
 pub field_stopped : {X Y Z R : Type 0} (a b rest : ℕ) (view : X → List ℕ) (view' : Y → List ℕ) (view'' : Z → List ℕ) {o m n : Front}
-    {coming : R → Option (List ℕ)} {calls moved failures interrupted : R → ℕ} {i j k : R} (v : X) (fault : ReadFault) →
-    Reading (field a means) view o m coming calls moved failures interrupted i j (Ok v) →
-    Reading (field b means) view' m n coming calls moved failures interrupted j k (Err fault) →
-    Reading (field (a + (b + rest)) means) view'' o n coming calls moved failures interrupted i k (Err fault)
+    {dev : Ghosts R} {i j k : R} (v : X) (fault : ReadFault) →
+    Reading (field a means) view o m dev i j (Ok v) →
+    Reading (field b means) view' m n dev j k (Err fault) →
+    Reading (field (a + (b + rest)) means) view'' o n dev i k (Err fault)
 field_stopped a b rest view view' view'' {o = o} {m = m} v fault first second =
     reads_like (two_fields a (b + rest)) (field (a + (b + rest)) means) view'' (Err fault) (λ bytes. two_fields-one a (b + rest) o.place bytes)
     (reads_then (field a means) (λ x. field (b + rest) means >>= λ y. means (x ++ y)) view view'' v first
@@ -120,9 +114,9 @@ field_stopped a b rest view view' view'' {o = o} {m = m} v fault first second =
 
 -- the same reading, where the front holds more, and with another way to see its answer
 pub reads_as : {A X Y R : Type 0} (f g : Format A) (view : X → A) (view' : Y → A) {o n n' : Front}
-    {coming : R → Option (List ℕ)} {calls moved failures interrupted : R → ℕ} {i k : R} (v : X) (w : Y) →
+    {dev : Ghosts R} {i k : R} (v : X) (w : Y) →
     f ≡ g → view' w ≡ view v → n'.place ≡ n.place → n'.fill.items ≡ n.fill.items →
-    Reading f view o n coming calls moved failures interrupted i k (Ok v) → Reading g view' o n' coming calls moved failures interrupted i k (Ok w)
+    Reading f view o n dev i k (Ok v) → Reading g view' o n' dev i k (Ok w)
 reads_as f g view view' {o = o} v w same seen place fill h = record {
   bytes = h.bytes;
   taken = h.taken;
@@ -153,8 +147,8 @@ tail_written before piece after at size long sized =
 
 -- no bytes are a field of none
 pub reads_no_bytes : {X R : Type 0} (size : ℕ) (view : X → List ℕ) (x : X) {o : Front}
-    {coming : R → Option (List ℕ)} {calls moved failures interrupted : R → ℕ} {i : R} → size ≡ 0 → view x ≡ [] →
-    Reading (field size means) view o o coming calls moved failures interrupted i i (Ok x)
+    {dev : Ghosts R} {i : R} → size ≡ 0 → view x ≡ [] →
+    Reading (field size means) view o o dev i i (Ok x)
 reads_no_bytes size view x {o = o} none empty =
     reads_like (means []) (field size means) view (Ok x)
     (λ bytes. ap (λ (z : List ℕ). good [] [] z) refl ∙ sym (ap (λ (n : ℕ). verdict (field n means) o.place bytes) none ∙ field-whole 0 means o.place bytes (omega arith)))
@@ -178,7 +172,38 @@ grown_twice first second third p q =
 
 -- one format written in two ways
 pub reads_equal : {A X R : Type 0} (f g : Format A) (view : X → A) {o n : Front}
-    {coming : R → Option (List ℕ)} {calls moved failures interrupted : R → ℕ} {i k : R} (r : Result X ReadFault) → f ≡ g →
-    Reading f view o n coming calls moved failures interrupted i k r → Reading g view o n coming calls moved failures interrupted i k r
-reads_equal f g view {o = o} {n = n} {coming = coming} {calls = calls} {moved = moved} {failures = failures} {interrupted = interrupted} {i = i} {k = k} r e h =
-    subst (λ (t : Format _). Reading t view o n coming calls moved failures interrupted i k r) e h
+    {dev : Ghosts R} {i k : R} (r : Result X ReadFault) → f ≡ g →
+    Reading f view o n dev i k r → Reading g view o n dev i k r
+reads_equal f g view {o = o} {n = n} {dev = dev} {i = i} {k = k} r e h =
+    subst (λ (t : Format _). Reading t view o n dev i k r) e h
+
+-- the same reading, from a front with the same bytes before it
+pub reads_from : {A X R : Type 0} (f : Format A) (view : X → A) {o o' n : Front}
+    {dev : Ghosts R} {i k : R} (r : Result X ReadFault) →
+    o'.place ≡ o.place → o'.fill.items ≡ o.fill.items →
+    Reading f view o n dev i k r → Reading f view o' n dev i k r
+reads_from f view {o = o} {o' = o'} (Ok x) place fill h = record {
+  bytes = h.bytes;
+  taken = h.taken;
+  answer = (
+    record {
+      fits = h.answer.0.fits;
+      filled = h.answer.0.filled;
+      whole = ap (λ (p : ℕ). verdict f p h.bytes) place ∙ h.answer.0.whole;
+      place = h.answer.0.place ∙ ap (λ (p : ℕ). p + length h.bytes) (sym place);
+      fill = h.answer.0.fill ∙ ap (λ (z : List ℕ). z ++ h.answer.0.filled) (sym fill);
+    },
+    h.answer.1,
+  );
+}
+reads_from f view {dev = dev} {k = k} (Err (Refused at reason)) place fill h = record {
+  bytes = h.bytes;
+  taken = h.taken;
+  answer = (subst (λ (p : ℕ). IsRefusal (verdict f p h.bytes) at reason (dev.coming k)) (sym place) h.answer.0, h.answer.1);
+}
+reads_from f view (Err Device) place fill h = record { bytes = h.bytes; taken = h.taken; answer = h.answer }
+reads_from f view (Err Memory) place fill h = record {
+  bytes = h.bytes;
+  taken = h.taken;
+  answer = (subst (λ (p : ℕ). StopsWithin (verdict f p h.bytes)) (sym place) h.answer.0, h.answer.1);
+}

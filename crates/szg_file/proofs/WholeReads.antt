@@ -10,22 +10,23 @@ use Rattle.szg_file.specs.File.{begun, each, magic_field, byte4_field, part_fiel
 use Rattle.szg_file.specs.Reading.{Reading}
 use Rattle.szg_file.specs.FilePieces.{Opened, opening_field, packed_field, ending_field}
 use Rattle.szg_file.proofs.EachLaws.{then-then, then-means}
+use Rattle.szg_io.specs.declared.device.Input.{Ghosts}
 use Rattle.szg_file.proofs.ReadingLaws.{reads_then, reads_stopped, reads_nothing}
 
 -- A fault is the same whatever the value would have been, and in equal formats.
 pub reads_stopped_as : {A X Y R : Type 0} (f : Format A) (g : Format A) (view : X → A) (view' : Y → A) {o n : Front}
-    {coming : R → Option (List ℕ)} {calls moved failures interrupted : R → ℕ} {i k : R} (fault : ReadFault) → f ≡ g →
-    Reading f view o n coming calls moved failures interrupted i k (Err fault) →
-    Reading g view' o n coming calls moved failures interrupted i k (Err fault)
-reads_stopped_as f g view view' {o = o} {n = n} {coming = coming} {calls = calls} {moved = moved} {failures = failures} {interrupted = interrupted} {i = i} {k = k} fault e h =
-    subst (λ (t : Format _). Reading t view' o n coming calls moved failures interrupted i k (Err fault)) (then-means f ∙ e)
+    {dev : Ghosts R} {i k : R} (fault : ReadFault) → f ≡ g →
+    Reading f view o n dev i k (Err fault) →
+    Reading g view' o n dev i k (Err fault)
+reads_stopped_as f g view view' {o = o} {n = n} {dev = dev} {i = i} {k = k} fault e h =
+    subst (λ (t : Format _). Reading t view' o n dev i k (Err fault)) (then-means f ∙ e)
     (reads_stopped f means view view' fault h)
 
 -- The last reading of several, whose value makes the value of all.
 pub reads_made : {A B X Y R : Type 0} (f : Format A) (made : A → B) (view : X → A) (view' : Y → B) {o n : Front}
-    {coming : R → Option (List ℕ)} {calls moved failures interrupted : R → ℕ} {i k : R} (v : X) (w : Y) → view' w ≡ made (view v) →
-    Reading f view o n coming calls moved failures interrupted i k (Ok v) →
-    Reading (f >>= λ a. means (made a)) view' o n coming calls moved failures interrupted i k (Ok w)
+    {dev : Ghosts R} {i k : R} (v : X) (w : Y) → view' w ≡ made (view v) →
+    Reading f view o n dev i k (Ok v) →
+    Reading (f >>= λ a. means (made a)) view' o n dev i k (Ok w)
 reads_made f made view view' v w e h =
     reads_then f (λ a. means (made a)) view view' v h (reads_nothing (means (made (view v))) view' w (ap means (sym e)))
 

@@ -1,28 +1,22 @@
 -- Writers compose: what two calls write one after another is what their sections are, one after another.
-use Rattle.std.proofs.Common.{◌≡◌, ℕ, suc, add-one, get_or, ◌+◌, ◌-◌, ◌%◌, ◌^◌, ◌<◌, ◌≤◌, List, [], ◌∷◌, ◌++◌, length, take, drop, map, refl, sym, ap, subst, ◌∙◌, append_assoc, append-nil, arith, Option, Some, None}
+use Rattle.std.proofs.Common.{◌≡◌, ℕ, suc, add-one, get_or, ◌+◌, ◌-◌, ◌%◌, ◌^◌, ◌<◌, ◌≤◌, List, [], ◌∷◌, ◌++◌, length, take, drop, map, refl, sym, ap, subst, ◌∙◌, append_assoc, append-nil, arith}
 use Rattle.std.specs.Prelude.{Result, Ok, Err, flat_map}
 use Rattle.std.proofs.lemmas.List.{length-append, length-take, length-drop, take-append-drop, take_all}
 use Rattle.std.proofs.Math.Seq.{take-suc, drop-cons}
-use Rattle.std.specs.Io.KnownBytes.{Appends}
 use Rattle.std.specs.Int.{w64, to_le_bytes}
 use Rattle.std.proofs.lemmas.Grind.{flat_map-append}
 use Rattle.std.proofs.lemmas.List.Folds.{flat_map-map}
 use Rattle.std.proofs.lemmas.Nat.Gcd.{dvd_of_mod-eq-zero}
 use Rattle.std.proofs.Math.Nat.{mod-mod_of_dvd}
-use Rattle.szg_io.specs.Device.{Gives, HasFailed}
-use Rattle.szg_io.proofs.DeviceLaws.{Appends-then}
+use Rattle.szg_io.specs.Device.{HasFailed}
+use Rattle.szg_io.specs.Moved.{Gives}
+use Rattle.szg_io.proofs.DeviceLaws.{Gives-on, Gives-none}
 use Rattle.szg_file.specs.declared.outgoing.Outgoing.{Outgoing}
 use Rattle.szg_file.specs.declared.fault.WriteFault.{WriteFault}
 use Rattle.szg_file.specs.Contents.{bytes_of, gap}
 use Rattle.szg_file.specs.FileOf.{Section, written, padding, spare, fill_of, bytes_with, joined}
+use Rattle.szg_io.specs.declared.device.Output.{Ghosts}
 use Rattle.szg_file.specs.Writing.{Writing, Writes, Stops, Answer, CountsOut, turns_of}
-
-Gives-on : {a b c : Option (List ℕ)} {m n k p q r : ℕ} (x y : List ℕ) (turns : ℕ) → Gives a b m n p q x 0 → Gives b c n k q r y turns → Gives a c m k p r (x ++ y) turns
-Gives-on x y turns t u = record {
-  bytes_out = Appends-then _ _ _ x y t.bytes_out u.bytes_out;
-  bytes_moved = omega (arith, length-append x y, t.bytes_moved, u.bytes_moved);
-  calls_made = omega (arith, length-append x y, t.calls_made, u.calls_made);
-}
 
 -- a text that sections are joined to goes on
 pub joined-front : (text : List ℕ) (s : List Section) (fill : List ℕ) → (rest : List ℕ) × (joined text s fill ≡ text ++ rest)
@@ -73,41 +67,37 @@ Answer-then s t o m n fs fs' row x y (Err fault) first h = (Writes-stops s t o m
 
 -- One writer after another that wrote its sections.
 pub writes_then : {X Y W : Type 0} (s t : List Section) {o m n : Outgoing}
-    {wrote : W → Option (List ℕ)} {calls moved failures interrupted : W → ℕ} {i j k : W} (v : X) {r : Result Y WriteFault} →
-    Writing s o m wrote calls moved failures interrupted i j (Ok v) →
-    Writing t m n wrote calls moved failures interrupted j k r →
-    Writing (s ++ t) o n wrote calls moved failures interrupted i k r
-writes_then s t {o = o} {m = m} {n = n} {failures = failures} {interrupted = interrupted} {i = i} {j = j} {k = k} v {r = r} first second =
-    let same : failures j ≡ failures i = first.answer.1 in
+    {dev : Ghosts W} {i j k : W} (v : X) {r : Result Y WriteFault} →
+    Writing s o m dev i j (Ok v) →
+    Writing t m n dev j k r →
+    Writing (s ++ t) o n dev i k r
+writes_then s t {o = o} {m = m} {n = n} {dev = dev} {i = i} {j = j} {k = k} v {r = r} first second =
+    let same : dev.failures j ≡ dev.failures i = first.answer.1 in
     record {
       bytes = first.bytes ++ second.bytes;
       given = Gives-on first.bytes second.bytes (turns_of r) first.given second.given;
-      answer = Answer-then s t o m n (failures i) (failures k) (interrupted k) first.bytes second.bytes r first.answer.0
-          (subst (λ (fs : ℕ). Answer t m n fs (failures k) (interrupted k) second.bytes r) same second.answer);
+      answer = Answer-then s t o m n (dev.failures i) (dev.failures k) (dev.interrupted k) first.bytes second.bytes r first.answer.0
+          (subst (λ (fs : ℕ). Answer t m n fs (dev.failures k) (dev.interrupted k) second.bytes r) same second.answer);
     }
 
 -- A writer that answers a fault ends the whole.
 pub writes_stopped : {X Y W : Type 0} (s t : List Section) {o n n' : Outgoing}
-    {wrote : W → Option (List ℕ)} {calls moved failures interrupted : W → ℕ} {i k : W} (fault : WriteFault) →
-    Writing {X = X} s o n wrote calls moved failures interrupted i k (Err fault) →
-    Writing {X = Y} (s ++ t) o n' wrote calls moved failures interrupted i k (Err fault)
+    {dev : Ghosts W} {i k : W} (fault : WriteFault) →
+    Writing {X = X} s o n dev i k (Err fault) →
+    Writing {X = Y} (s ++ t) o n' dev i k (Err fault)
 writes_stopped s t {o = o} fault h = record {
   bytes = h.bytes;
   given = h.given;
   answer = (Stops-first s t o fault.out h.bytes h.answer.0, h.answer.1);
 }
 
-Appends-none : (a : Option (List ℕ)) → Appends a a []
-Appends-none None = tt
-Appends-none (Some xs) = sym (append-nil xs)
-
 -- No section is written by no call.
 pub writes_nothing : {X W : Type 0} (x : X) {o : Outgoing}
-    {wrote : W → Option (List ℕ)} {calls moved failures interrupted : W → ℕ} {i : W} →
-    Writing [] o o wrote calls moved failures interrupted i i (Ok x)
-writes_nothing x {o = o} {wrote = wrote} {i = i} = record {
+    {dev : Ghosts W} {i : W} →
+    Writing [] o o dev i i (Ok x)
+writes_nothing x {o = o} {dev = dev} {i = i} = record {
   bytes = [];
-  given = record { bytes_out = Appends-none (wrote i); bytes_moved = omega arith; calls_made = omega arith };
+  given = Gives-none dev i 0;
   answer = (
     record {
       counts = λ text h. subst (λ (z : List ℕ). CountsOut o.out z) (sym (append-nil text)) h;
@@ -131,13 +121,13 @@ Answer-same s t e o n fs fs' row x (Err fault) h =
     (record { counts = h.0.counts; begun = λ text more c. let b = h.0.begun text more c in (b.0, b.1, sym (e.same (text ++ o.held.items) more o.fill.now) ∙ b.2) }, h.1)
 
 pub writes_same : {X W : Type 0} {s t : List Section} {o n : Outgoing}
-    {wrote : W → Option (List ℕ)} {calls moved failures interrupted : W → ℕ} {i k : W} {r : Result X WriteFault} → Same s t →
-    Writing s o n wrote calls moved failures interrupted i k r →
-    Writing t o n wrote calls moved failures interrupted i k r
-writes_same {s = s} {t = t} {o = o} {n = n} {failures = failures} {interrupted = interrupted} {i = i} {k = k} {r = r} e h = record {
+    {dev : Ghosts W} {i k : W} {r : Result X WriteFault} → Same s t →
+    Writing s o n dev i k r →
+    Writing t o n dev i k r
+writes_same {s = s} {t = t} {o = o} {n = n} {dev = dev} {i = i} {k = k} {r = r} e h = record {
   bytes = h.bytes;
   given = h.given;
-  answer = Answer-same s t e o n (failures i) (failures k) (interrupted k) h.bytes r h.answer;
+  answer = Answer-same s t e o n (dev.failures i) (dev.failures k) (dev.interrupted k) h.bytes r h.answer;
 }
 
 -- two pieces written as one
@@ -172,26 +162,26 @@ Same-items f xs = record { same = λ text more fill. joined-items f xs text more
 
 -- One more item.
 pub writes_more : {A X Y Z W : Type 0} (f : A → List Section) (xs : List A) (x : A) {o m n : Outgoing}
-    {wrote : W → Option (List ℕ)} {calls moved failures interrupted : W → ℕ} {i j k : W} (v : X) (y : Y) (z : Z) →
-    Writing (flat_map f xs) o m wrote calls moved failures interrupted i j (Ok v) →
-    Writing (f x) m n wrote calls moved failures interrupted j k (Ok y) →
-    Writing (flat_map f (xs ++ x ∷ [])) o n wrote calls moved failures interrupted i k (Ok z)
-writes_more f xs x {o = o} {n = n} {wrote = wrote} {calls = calls} {moved = moved} {failures = failures} {interrupted = interrupted} {i = i} {k = k} v y z first second =
+    {dev : Ghosts W} {i j k : W} (v : X) (y : Y) (z : Z) →
+    Writing (flat_map f xs) o m dev i j (Ok v) →
+    Writing (f x) m n dev j k (Ok y) →
+    Writing (flat_map f (xs ++ x ∷ [])) o n dev i k (Ok z)
+writes_more f xs x {o = o} {n = n} {dev = dev} {i = i} {k = k} v y z first second =
     let joint = writes_then (flat_map f xs) (f x) v first second in
     let one : flat_map f (xs ++ x ∷ []) ≡ flat_map f xs ++ f x = flat_map-append f xs (x ∷ []) ∙ ap (λ (w : List Section). flat_map f xs ++ w) (append-nil (f x)) in
-    subst (λ (w : List Section). Writing w o n wrote calls moved failures interrupted i k (Ok z)) (sym one)
+    subst (λ (w : List Section). Writing w o n dev i k (Ok z)) (sym one)
     (record { bytes = joint.bytes; given = joint.given; answer = joint.answer })
 
 -- An item that answers a fault ends the loop, whatever items are still to come.
 pub writes_more_stopped : {A X Y Z W : Type 0} (f : A → List Section) (xs : List A) (x : A) (ys : List A) {o m n n' : Outgoing}
-    {wrote : W → Option (List ℕ)} {calls moved failures interrupted : W → ℕ} {i j k : W} (v : X) (fault : WriteFault) →
-    Writing (flat_map f xs) o m wrote calls moved failures interrupted i j (Ok v) →
-    Writing {X = Y} (f x) m n wrote calls moved failures interrupted j k (Err fault) →
-    Writing {X = Z} (flat_map f (xs ++ x ∷ ys)) o n' wrote calls moved failures interrupted i k (Err fault)
-writes_more_stopped {Z = Z} f xs x ys {o = o} {n = n} {n' = n'} {wrote = wrote} {calls = calls} {moved = moved} {failures = failures} {interrupted = interrupted} {i = i} {k = k} v fault first second =
+    {dev : Ghosts W} {i j k : W} (v : X) (fault : WriteFault) →
+    Writing (flat_map f xs) o m dev i j (Ok v) →
+    Writing {X = Y} (f x) m n dev j k (Err fault) →
+    Writing {X = Z} (flat_map f (xs ++ x ∷ ys)) o n' dev i k (Err fault)
+writes_more_stopped {Z = Z} f xs x ys {o = o} {n = n} {n' = n'} {dev = dev} {i = i} {k = k} v fault first second =
     let stopped = writes_stopped {Y = Z} (f x) (flat_map f ys) {n' = n'} fault second in
     let joint = writes_then (flat_map f xs) (f x ++ flat_map f ys) v first stopped in
-    subst (λ (w : List Section). Writing {X = Z} w o n' wrote calls moved failures interrupted i k (Err fault)) (sym (flat_map-append f xs (x ∷ ys)))
+    subst (λ (w : List Section). Writing {X = Z} w o n' dev i k (Err fault)) (sym (flat_map-append f xs (x ∷ ys)))
     (record { bytes = joint.bytes; given = joint.given; answer = joint.answer })
 
 -- ---- fill
@@ -227,14 +217,14 @@ Answer-spare count o m n fs fs' row x (Ok v) out held fill h = (Writes-spare cou
 Answer-spare count o m n fs fs' row x (Err fault) out held fill h = (Stops-spare count o m fault.out x out held fill h.0, h.1)
 
 pub writes_spare : {X W : Type 0} (count : ℕ) (o m : Outgoing) {n : Outgoing}
-    {wrote : W → Option (List ℕ)} {calls moved failures interrupted : W → ℕ} {i k : W} (r : Result X WriteFault) →
+    {dev : Ghosts W} {i k : W} (r : Result X WriteFault) →
     m.out ≡ o.out → m.held.items ≡ o.held.items → m.fill.now ≡ drop count o.fill.now →
-    Writing (written (take count o.fill.now) ∷ []) m n wrote calls moved failures interrupted i k r →
-    Writing (spare count ∷ []) o n wrote calls moved failures interrupted i k r
-writes_spare count o m {n = n} {failures = failures} {interrupted = interrupted} {i = i} {k = k} r out held fill h = record {
+    Writing (written (take count o.fill.now) ∷ []) m n dev i k r →
+    Writing (spare count ∷ []) o n dev i k r
+writes_spare count o m {n = n} {dev = dev} {i = i} {k = k} r out held fill h = record {
   bytes = h.bytes;
   given = h.given;
-  answer = Answer-spare count o m n (failures i) (failures k) (interrupted k) h.bytes r out held fill h.answer;
+  answer = Answer-spare count o m n (dev.failures i) (dev.failures k) (dev.interrupted k) h.bytes r out held fill h.answer;
 }
 
 -- Padding is the fill up to the next multiple of the unit, a divisor of 2 ^ 64.
@@ -271,28 +261,28 @@ Answer-padding unit count o n fs fs' row x (Err fault) whole e h = (
 )
 
 pub writes_padding : {X W : Type 0} (unit count : ℕ) {o n : Outgoing}
-    {wrote : W → Option (List ℕ)} {calls moved failures interrupted : W → ℕ} {i k : W} (r : Result X WriteFault) →
+    {dev : Ghosts W} {i k : W} (r : Result X WriteFault) →
     2 ^ 64 % unit ≡ 0 → count ≡ gap unit ((o.out + length o.held.items) % 2 ^ 64) →
-    Writing (spare count ∷ []) o n wrote calls moved failures interrupted i k r →
-    Writing (padding unit ∷ []) o n wrote calls moved failures interrupted i k r
-writes_padding unit count {o = o} {n = n} {failures = failures} {interrupted = interrupted} {i = i} {k = k} r whole e h = record {
+    Writing (spare count ∷ []) o n dev i k r →
+    Writing (padding unit ∷ []) o n dev i k r
+writes_padding unit count {o = o} {n = n} {dev = dev} {i = i} {k = k} r whole e h = record {
   bytes = h.bytes;
   given = h.given;
-  answer = Answer-padding unit count o n (failures i) (failures k) (interrupted k) h.bytes r whole e h.answer;
+  answer = Answer-padding unit count o n (dev.failures i) (dev.failures k) (dev.interrupted k) h.bytes r whole e h.answer;
 }
 
 -- ---- what is held
 
 -- A fault while the held bytes are given.
 pub writes_held_stopped : {X W : Type 0} (o n : Outgoing)
-    {wrote : W → Option (List ℕ)} {calls moved failures interrupted : W → ℕ} {i k : W} (piece : List ℕ) (count : ℕ) (fault : WriteFault) → piece ≡ o.held.items →
+    {dev : Ghosts W} {i k : W} (piece : List ℕ) (count : ℕ) (fault : WriteFault) → piece ≡ o.held.items →
     count < length piece → fault.out ≡ (o.out + count) % 2 ^ 64 →
-    Gives (wrote i) (wrote k) (calls i) (calls k) (moved i) (moved k) (take count piece) 1 →
-    HasFailed (failures i) (failures k) (interrupted k) →
-    Writing {X = X} [] o n wrote calls moved failures interrupted i k (Err fault)
-writes_held_stopped o n {wrote = wrote} {calls = calls} {moved = moved} {i = i} {k = k} piece count fault held at out given failed = record {
+    Gives dev i k (take count piece) 1 →
+    HasFailed (dev.failures i) (dev.failures k) (dev.interrupted k) →
+    Writing {X = X} [] o n dev i k (Err fault)
+writes_held_stopped o n {dev = dev} {i = i} {k = k} piece count fault held at out given failed = record {
   bytes = take count o.held.items;
-  given = subst (λ (z : List ℕ). Gives (wrote i) (wrote k) (calls i) (calls k) (moved i) (moved k) (take count z) 1) held given;
+  given = subst (λ (z : List ℕ). Gives dev i k (take count z) 1) held given;
   answer = let short : count < length o.held.items = omega (arith, at, ap length held) in (
     record {
       counts = λ text h. omega (arith, out, h, length-append text (take count o.held.items), length-take count o.held.items, short);
@@ -313,12 +303,12 @@ writes_held_stopped o n {wrote = wrote} {calls = calls} {moved = moved} {i = i} 
 
 -- A piece that is held.
 pub writes_held : {X W : Type 0} (x : X) (piece : List ℕ) (o n : Outgoing)
-    {wrote : W → Option (List ℕ)} {calls moved failures interrupted : W → ℕ} {i : W} →
+    {dev : Ghosts W} {i : W} →
     n.out ≡ o.out → n.held.items ≡ o.held.items ++ piece → n.fill.now ≡ o.fill.now →
-    Writing (written piece ∷ []) o n wrote calls moved failures interrupted i i (Ok x)
-writes_held x piece o n {wrote = wrote} {i = i} out held fill = record {
+    Writing (written piece ∷ []) o n dev i i (Ok x)
+writes_held x piece o n {dev = dev} {i = i} out held fill = record {
   bytes = [];
-  given = record { bytes_out = Appends-none (wrote i); bytes_moved = omega arith; calls_made = omega arith };
+  given = Gives-none dev i 0;
   answer = (
     record {
       counts = λ text h. subst (λ (z : List ℕ). CountsOut n.out z) (sym (append-nil text)) (out ∙ h);
@@ -337,10 +327,10 @@ nothing_held text held piece e = ap (λ (z : List ℕ). (text ++ z) ++ piece) e 
 
 -- A piece that is given while nothing is held.
 pub writes_piece : {X W : Type 0} (x : X) (piece : List ℕ) (o n : Outgoing)
-    {wrote : W → Option (List ℕ)} {calls moved failures interrupted : W → ℕ} {i k : W} →
+    {dev : Ghosts W} {i k : W} →
     o.held.items ≡ [] → n.held.items ≡ [] → n.out ≡ (o.out + length piece) % 2 ^ 64 → n.fill.now ≡ o.fill.now →
-    Gives (wrote i) (wrote k) (calls i) (calls k) (moved i) (moved k) piece 0 → failures k ≡ failures i →
-    Writing (written piece ∷ []) o n wrote calls moved failures interrupted i k (Ok x)
+    Gives dev i k piece 0 → dev.failures k ≡ dev.failures i →
+    Writing (written piece ∷ []) o n dev i k (Ok x)
 writes_piece x piece o n before after out fill given quiet = record {
   bytes = piece;
   given = given;
@@ -359,11 +349,11 @@ writes_piece x piece o n before after out fill given quiet = record {
 
 -- A fault in it.
 pub writes_piece_stopped : {X W : Type 0} (piece : List ℕ) (o n : Outgoing)
-    {wrote : W → Option (List ℕ)} {calls moved failures interrupted : W → ℕ} {i k : W} (count : ℕ) (fault : WriteFault) →
+    {dev : Ghosts W} {i k : W} (count : ℕ) (fault : WriteFault) →
     o.held.items ≡ [] → count < length piece → fault.out ≡ (o.out + count) % 2 ^ 64 →
-    Gives (wrote i) (wrote k) (calls i) (calls k) (moved i) (moved k) (take count piece) 1 →
-    HasFailed (failures i) (failures k) (interrupted k) →
-    Writing {X = X} (written piece ∷ []) o n wrote calls moved failures interrupted i k (Err fault)
+    Gives dev i k (take count piece) 1 →
+    HasFailed (dev.failures i) (dev.failures k) (dev.interrupted k) →
+    Writing {X = X} (written piece ∷ []) o n dev i k (Err fault)
 writes_piece_stopped piece o n count fault before short out given failed = record {
   bytes = take count piece;
   given = given;
@@ -416,57 +406,57 @@ Answer-from s o o' n fs fs' row x (Err fault) out held fill h = (
 )
 
 pub writes_from : {X W : Type 0} (s : List Section) (o o' : Outgoing) {n : Outgoing}
-    {wrote : W → Option (List ℕ)} {calls moved failures interrupted : W → ℕ} {i k : W} {r : Result X WriteFault} →
+    {dev : Ghosts W} {i k : W} {r : Result X WriteFault} →
     o'.out ≡ o.out → o'.held.items ≡ o.held.items → o'.fill.now ≡ o.fill.now →
-    Writing s o' n wrote calls moved failures interrupted i k r →
-    Writing s o n wrote calls moved failures interrupted i k r
-writes_from s o o' {n = n} {failures = failures} {interrupted = interrupted} {i = i} {k = k} {r = r} out held fill h = record {
+    Writing s o' n dev i k r →
+    Writing s o n dev i k r
+writes_from s o o' {n = n} {dev = dev} {i = i} {k = k} {r = r} out held fill h = record {
   bytes = h.bytes;
   given = h.given;
-  answer = Answer-from s o o' n (failures i) (failures k) (interrupted k) h.bytes r out held fill h.answer;
+  answer = Answer-from s o o' n (dev.failures i) (dev.failures k) (dev.interrupted k) h.bytes r out held fill h.answer;
 }
 
 -- ---- loops over a slice
 
 -- One more item, at its index.
 pub writes_next : {A Y W : Type 0} (f : A → List Section) (xs : List A) (at : ℕ) (d : A) {o m n : Outgoing}
-    {wrote : W → Option (List ℕ)} {calls moved failures interrupted : W → ℕ} {i j k : W} (y : Y) → at < length xs →
-    Writing {X = Unit {0}} (flat_map f (take at xs)) o m wrote calls moved failures interrupted i j (Ok tt) →
-    Writing (f (get_or xs at d)) m n wrote calls moved failures interrupted j k (Ok y) →
-    Writing {X = Unit {0}} (flat_map f (take (at + 1) xs)) o n wrote calls moved failures interrupted i k (Ok tt)
-writes_next f xs at d {o = o} {n = n} {wrote = wrote} {calls = calls} {moved = moved} {failures = failures} {interrupted = interrupted} {i = i} {k = k} y h first second =
+    {dev : Ghosts W} {i j k : W} (y : Y) → at < length xs →
+    Writing {X = Unit {0}} (flat_map f (take at xs)) o m dev i j (Ok tt) →
+    Writing (f (get_or xs at d)) m n dev j k (Ok y) →
+    Writing {X = Unit {0}} (flat_map f (take (at + 1) xs)) o n dev i k (Ok tt)
+writes_next f xs at d {o = o} {n = n} {dev = dev} {i = i} {k = k} y h first second =
     let longer : take (at + 1) xs ≡ take at xs ++ get_or xs at d ∷ [] = ap (λ (m : ℕ). take m xs) (add-one at) ∙ take-suc xs at d h in
-    subst (λ (ys : List _). Writing {X = Unit {0}} (flat_map f ys) o n wrote calls moved failures interrupted i k (Ok tt)) (sym longer)
+    subst (λ (ys : List _). Writing {X = Unit {0}} (flat_map f ys) o n dev i k (Ok tt)) (sym longer)
     (writes_more f (take at xs) (get_or xs at d) tt y tt first second)
 
 -- An item that answers a fault, at its index.
 pub writes_next_stopped : {A Y Z W : Type 0} (f : A → List Section) (xs : List A) (at : ℕ) (d : A) {o m n n' : Outgoing}
-    {wrote : W → Option (List ℕ)} {calls moved failures interrupted : W → ℕ} {i j k : W} (fault : WriteFault) → at < length xs →
-    Writing {X = Unit {0}} (flat_map f (take at xs)) o m wrote calls moved failures interrupted i j (Ok tt) →
-    Writing {X = Y} (f (get_or xs at d)) m n wrote calls moved failures interrupted j k (Err fault) →
-    Writing {X = Z} (flat_map f xs) o n' wrote calls moved failures interrupted i k (Err fault)
-writes_next_stopped {Z = Z} f xs at d {o = o} {n' = n'} {wrote = wrote} {calls = calls} {moved = moved} {failures = failures} {interrupted = interrupted} {i = i} {k = k} fault h first second =
+    {dev : Ghosts W} {i j k : W} (fault : WriteFault) → at < length xs →
+    Writing {X = Unit {0}} (flat_map f (take at xs)) o m dev i j (Ok tt) →
+    Writing {X = Y} (f (get_or xs at d)) m n dev j k (Err fault) →
+    Writing {X = Z} (flat_map f xs) o n' dev i k (Err fault)
+writes_next_stopped {Z = Z} f xs at d {o = o} {n' = n'} {dev = dev} {i = i} {k = k} fault h first second =
     let whole : take at xs ++ get_or xs at d ∷ drop (suc at) xs ≡ xs = ap (λ (z : List _). take at xs ++ z) (sym (drop-cons xs at d h)) ∙ take-append-drop at xs in
-    subst (λ (ys : List _). Writing {X = Z} (flat_map f ys) o n' wrote calls moved failures interrupted i k (Err fault)) whole
+    subst (λ (ys : List _). Writing {X = Z} (flat_map f ys) o n' dev i k (Err fault)) whole
     (writes_more_stopped f (take at xs) (get_or xs at d) (drop (suc at) xs) tt fault first second)
 
 -- No item is left.
 pub writes_all : {A W : Type 0} (f : A → List Section) (xs : List A) (at : ℕ) {o n : Outgoing}
-    {wrote : W → Option (List ℕ)} {calls moved failures interrupted : W → ℕ} {i k : W} → length xs ≤ at →
-    Writing {X = Unit {0}} (flat_map f (take at xs)) o n wrote calls moved failures interrupted i k (Ok tt) →
-    Writing {X = Unit {0}} (flat_map f xs) o n wrote calls moved failures interrupted i k (Ok tt)
-writes_all f xs at {o = o} {n = n} {wrote = wrote} {calls = calls} {moved = moved} {failures = failures} {interrupted = interrupted} {i = i} {k = k} h first =
-    subst (λ (ys : List _). Writing {X = Unit {0}} (flat_map f ys) o n wrote calls moved failures interrupted i k (Ok tt)) (take_all at xs h) first
+    {dev : Ghosts W} {i k : W} → length xs ≤ at →
+    Writing {X = Unit {0}} (flat_map f (take at xs)) o n dev i k (Ok tt) →
+    Writing {X = Unit {0}} (flat_map f xs) o n dev i k (Ok tt)
+writes_all f xs at {o = o} {n = n} {dev = dev} {i = i} {k = k} h first =
+    subst (λ (ys : List _). Writing {X = Unit {0}} (flat_map f ys) o n dev i k (Ok tt)) (take_all at xs h) first
 
 -- ---- loops over items that stand for others
 
 -- The sections of what the items stand for.
 pub writes_mapped : {A B X W : Type 0} (h : B → List Section) (v : A → B) (xs : List A) {o n : Outgoing}
-    {wrote : W → Option (List ℕ)} {calls moved failures interrupted : W → ℕ} {i k : W} {r : Result X WriteFault} →
-    Writing (flat_map (λ x. h (v x)) xs) o n wrote calls moved failures interrupted i k r →
-    Writing (flat_map h (map v xs)) o n wrote calls moved failures interrupted i k r
-writes_mapped h v xs {o = o} {n = n} {wrote = wrote} {calls = calls} {moved = moved} {failures = failures} {interrupted = interrupted} {i = i} {k = k} {r = r} first =
-    subst (λ (s : List Section). Writing s o n wrote calls moved failures interrupted i k r) (sym (flat_map-map h v xs)) first
+    {dev : Ghosts W} {i k : W} {r : Result X WriteFault} →
+    Writing (flat_map (λ x. h (v x)) xs) o n dev i k r →
+    Writing (flat_map h (map v xs)) o n dev i k r
+writes_mapped h v xs {o = o} {n = n} {dev = dev} {i = i} {k = k} {r = r} first =
+    subst (λ (s : List Section). Writing s o n dev i k r) (sym (flat_map-map h v xs)) first
 
 -- Items as one piece.
 pub Same-mapped : {A B : Type 0} (h : B → List ℕ) (v : A → B) (xs : List A) → Same (flat_map (λ x. written (h (v x)) ∷ []) xs) (written (flat_map h (map v xs)) ∷ [])
@@ -488,20 +478,20 @@ Same-joined x y = record { same = λ text more fill. ap (λ (z : List ℕ). join
 
 -- The same two where the item is read out of the slice.
 pub writes_item : {A Y W : Type 0} (f : A → List Section) (xs : List A) (at : ℕ) (x : A) {o m n : Outgoing}
-    {wrote : W → Option (List ℕ)} {calls moved failures interrupted : W → ℕ} {i j k : W} (y : Y) → at < length xs → x ≡ get_or xs at x →
-    Writing {X = Unit {0}} (flat_map f (take at xs)) o m wrote calls moved failures interrupted i j (Ok tt) →
-    Writing (f x) m n wrote calls moved failures interrupted j k (Ok y) →
-    Writing {X = Unit {0}} (flat_map f (take (at + 1) xs)) o n wrote calls moved failures interrupted i k (Ok tt)
-writes_item f xs at x {m = m} {n = n} {wrote = wrote} {calls = calls} {moved = moved} {failures = failures} {interrupted = interrupted} {j = j} {k = k} y h is first second =
-    writes_next f xs at x y h first (subst (λ (z : _). Writing (f z) m n wrote calls moved failures interrupted j k (Ok y)) is second)
+    {dev : Ghosts W} {i j k : W} (y : Y) → at < length xs → x ≡ get_or xs at x →
+    Writing {X = Unit {0}} (flat_map f (take at xs)) o m dev i j (Ok tt) →
+    Writing (f x) m n dev j k (Ok y) →
+    Writing {X = Unit {0}} (flat_map f (take (at + 1) xs)) o n dev i k (Ok tt)
+writes_item f xs at x {m = m} {n = n} {dev = dev} {j = j} {k = k} y h is first second =
+    writes_next f xs at x y h first (subst (λ (z : _). Writing (f z) m n dev j k (Ok y)) is second)
 
 pub writes_item_stopped : {A Y Z W : Type 0} (f : A → List Section) (xs : List A) (at : ℕ) (x : A) {o m n n' : Outgoing}
-    {wrote : W → Option (List ℕ)} {calls moved failures interrupted : W → ℕ} {i j k : W} (fault : WriteFault) → at < length xs → x ≡ get_or xs at x →
-    Writing {X = Unit {0}} (flat_map f (take at xs)) o m wrote calls moved failures interrupted i j (Ok tt) →
-    Writing {X = Y} (f x) m n wrote calls moved failures interrupted j k (Err fault) →
-    Writing {X = Z} (flat_map f xs) o n' wrote calls moved failures interrupted i k (Err fault)
-writes_item_stopped {Y = Y} f xs at x {m = m} {n = n} {wrote = wrote} {calls = calls} {moved = moved} {failures = failures} {interrupted = interrupted} {j = j} {k = k} fault h is first second =
-    writes_next_stopped f xs at x fault h first (subst (λ (z : _). Writing {X = Y} (f z) m n wrote calls moved failures interrupted j k (Err fault)) is second)
+    {dev : Ghosts W} {i j k : W} (fault : WriteFault) → at < length xs → x ≡ get_or xs at x →
+    Writing {X = Unit {0}} (flat_map f (take at xs)) o m dev i j (Ok tt) →
+    Writing {X = Y} (f x) m n dev j k (Err fault) →
+    Writing {X = Z} (flat_map f xs) o n' dev i k (Err fault)
+writes_item_stopped {Y = Y} f xs at x {m = m} {n = n} {dev = dev} {j = j} {k = k} fault h is first second =
+    writes_next_stopped f xs at x fault h first (subst (λ (z : _). Writing {X = Y} (f z) m n dev j k (Err fault)) is second)
 
 -- Bytes of a number in 64 bits, the first of them.
 pub one_byte_of : (n : ℕ) → take 1 (to_le_bytes w64 n) ≡ bytes_of 1 n
@@ -512,11 +502,11 @@ two_bytes_of n = refl
 
 -- The same sections, told otherwise.
 pub writes_as : {X W : Type 0} {s t : List Section} {o n : Outgoing}
-    {wrote : W → Option (List ℕ)} {calls moved failures interrupted : W → ℕ} {i k : W} {r : Result X WriteFault} → s ≡ t →
-    Writing t o n wrote calls moved failures interrupted i k r →
-    Writing s o n wrote calls moved failures interrupted i k r
-writes_as {o = o} {n = n} {wrote = wrote} {calls = calls} {moved = moved} {failures = failures} {interrupted = interrupted} {i = i} {k = k} {r = r} e h =
-    subst (λ (z : List Section). Writing z o n wrote calls moved failures interrupted i k r) (sym e) h
+    {dev : Ghosts W} {i k : W} {r : Result X WriteFault} → s ≡ t →
+    Writing t o n dev i k r →
+    Writing s o n dev i k r
+writes_as {o = o} {n = n} {dev = dev} {i = i} {k = k} {r = r} e h =
+    subst (λ (z : List Section). Writing z o n dev i k r) (sym e) h
 
 pub one_piece : (x y : List ℕ) → x ≡ y → written x ∷ [] ≡ written y ∷ []
 one_piece x y e = ap (λ (z : List ℕ). written z ∷ []) e

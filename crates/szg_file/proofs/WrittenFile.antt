@@ -1,39 +1,41 @@
 -- What all sections of a table, written, say of its file.
-use Rattle.std.proofs.Common.{◌≡◌, ℕ, ◌+◌, ◌^◌, ◌<◌, List, [], ◌++◌, length, take, sym, ap, subst, ◌∙◌, append-nil, arith, Option}
+use Rattle.std.proofs.Common.{◌≡◌, ℕ, ◌+◌, ◌^◌, ◌<◌, List, [], ◌++◌, length, take, sym, ap, subst, ◌∙◌, append-nil, arith}
 use Rattle.std.specs.Prelude.{Result, Ok, Err, IfErr, OnOk, OnErr}
 use Rattle.std.proofs.lemmas.List.{length-append}
-use Rattle.szg_io.specs.Device.{Gives, HasFailed}
+use Rattle.szg_io.specs.Device.{HasFailed}
+use Rattle.szg_io.specs.Moved.{Gives}
 use Rattle.szg_file.specs.declared.outgoing.Outgoing.{Outgoing}
 use Rattle.szg_file.specs.declared.fault.WriteFault.{WriteFault}
 use Rattle.szg_file.specs.FileOf.{Section, joined}
 use Rattle.szg_file.specs.Writing.{Writing}
+use Rattle.szg_io.specs.declared.device.Output.{Ghosts}
 use Rattle.szg_file.proofs.FormatLaws.{take_front}
 
 -- the clauses of `write`
-pub record Clauses {W : Type 0} (file : List ℕ) (wrote : W → Option (List ℕ)) (calls moved failures interrupted : W → ℕ) (i k : W) (r : Result (Unit {0}) WriteFault) : Type 0 where
-  pub ok : OnOk r (Gives (wrote i) (wrote k) (calls i) (calls k) (moved i) (moved k) file 0)
-  pub err : IfErr r (λ fault. Gives (wrote i) (wrote k) (calls i) (calls k) (moved i) (moved k) (take fault.out file) 1)
+pub record Clauses {W : Type 0} (file : List ℕ) (dev : Ghosts W) (i k : W) (r : Result (Unit {0}) WriteFault) : Type 0 where
+  pub ok : OnOk r (Gives dev i k file 0)
+  pub err : IfErr r (λ fault. Gives dev i k (take fault.out file) 1)
   pub short : IfErr r (λ fault. fault.out < length file)
-  pub failed : OnErr r (HasFailed (failures i) (failures k) (interrupted k))
-  pub quiet : OnOk r (failures k ≡ failures i)
+  pub failed : OnErr r (HasFailed (dev.failures i) (dev.failures k) (dev.interrupted k))
+  pub quiet : OnOk r (dev.failures k ≡ dev.failures i)
 
 pub file_written : {W : Type 0} (s : List Section) (fill : List ℕ) (o n : Outgoing)
-    {wrote : W → Option (List ℕ)} {calls moved failures interrupted : W → ℕ} {i k : W} (r : Result (Unit {0}) WriteFault) →
+    {dev : Ghosts W} {i k : W} (r : Result (Unit {0}) WriteFault) →
     o.out ≡ 0 → o.held.items ≡ [] → o.fill.now ≡ fill → OnOk r (n.held.items ≡ []) → length (joined [] s fill) < 2 ^ 64 →
-    Writing s o n wrote calls moved failures interrupted i k r → Clauses (joined [] s fill) wrote calls moved failures interrupted i k r
-file_written s fill o n {wrote = wrote} {calls = calls} {moved = moved} {i = i} {k = k} (Ok x) out held filled empty below h =
+    Writing s o n dev i k r → Clauses (joined [] s fill) dev i k r
+file_written s fill o n {dev = dev} {i = i} {k = k} (Ok x) out held filled empty below h =
     let from : joined (o.held.items) (s ++ []) o.fill.now ≡ joined [] s fill =
     ap (λ (z : List ℕ). joined z (s ++ []) o.fill.now) held ∙ ap (λ (z : List Section). joined [] z o.fill.now) (append-nil s) ∙ ap (λ (z : List ℕ). joined [] s z) filled in
     let same : joined [] s fill ≡ h.bytes =
     sym from ∙ h.answer.0.whole [] [] out ∙ ap (λ (z : List ℕ). h.bytes ++ z) empty ∙ append-nil h.bytes in
     record {
-      ok = subst (λ (z : List ℕ). Gives (wrote i) (wrote k) (calls i) (calls k) (moved i) (moved k) z 0) (sym same) h.given;
+      ok = subst (λ (z : List ℕ). Gives dev i k z 0) (sym same) h.given;
       err = tt;
       short = tt;
       failed = tt;
       quiet = h.answer.1;
     }
-file_written s fill o n {wrote = wrote} {calls = calls} {moved = moved} {i = i} {k = k} (Err fault) out held filled empty below h =
+file_written s fill o n {dev = dev} {i = i} {k = k} (Err fault) out held filled empty below h =
     let from : joined (o.held.items) (s ++ []) o.fill.now ≡ joined [] s fill =
     ap (λ (z : List ℕ). joined z (s ++ []) o.fill.now) held ∙ ap (λ (z : List Section). joined [] z o.fill.now) (append-nil s) ∙ ap (λ (z : List ℕ). joined [] s z) filled in
     let b = h.answer.0.begun [] [] out in
@@ -44,7 +46,7 @@ file_written s fill o n {wrote = wrote} {calls = calls} {moved = moved} {i = i} 
     ap (λ (z : List ℕ). take fault.out z) same ∙ take_front fault.out h.bytes b.0 (sym count) in
     record {
       ok = tt;
-      err = subst (λ (z : List ℕ). Gives (wrote i) (wrote k) (calls i) (calls k) (moved i) (moved k) z 1) (sym front) h.given;
+      err = subst (λ (z : List ℕ). Gives dev i k z 1) (sym front) h.given;
       short = omega (arith, count, long, b.1);
       failed = h.answer.1;
       quiet = tt;

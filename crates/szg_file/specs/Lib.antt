@@ -15,3 +15,12 @@ pub mod FilePieces
 pub mod Writing
 pub mod Lengths
 pub mod Lookup
+pub mod Assembled
+pub mod Tally
+pub mod Steps
+pub mod Forward
+pub mod Placed
+pub mod Outline
+pub mod Opened
+pub mod Wanted
+pub mod Heads

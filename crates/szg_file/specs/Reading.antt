@@ -1,7 +1,8 @@
 -- What a call that reads a part of a file says of the reader, of how far it has come, and of its answer.
-use Rattle.std.specs.Prelude.{◌≡◌, ℕ, ◌+◌, List, [], ◌++◌, length, Option, Some, None, Result, Ok, Err}
+use Rattle.std.specs.Prelude.{◌≡◌, ℕ, ◌+◌, List, [], ◌++◌, length, Option, Some, None, Result, Ok, Err, Bool, IsTrue}
 use Rattle.std.specs.Io.KnownBytes.{IsAtEnd}
-use Rattle.szg_io.specs.Device.{Takes, HasFailed}
+use Rattle.szg_io.specs.Device.{HasFailed}
+use Rattle.szg_io.specs.Moved.{Takes}
 use Rattle.szg_file.specs.declared.front.Front.{Front}
 use Rattle.szg_file.specs.declared.fault.Reason.{Reason}
 use Rattle.szg_file.specs.declared.fault.Reason.TheVariants.{Truncated}
@@ -11,6 +12,7 @@ use Rattle.szg_values.specs.Material.{Sides}
 use Rattle.szg_file.specs.Format.{Format, means, refuses, Verdict, good, refused, truncated, verdict, ◌>>◌}
 use Rattle.szg_values.specs.declared.Kind.{Kind}
 use Rattle.szg_file.specs.File.{magic_field, byte4_field}
+use Rattle.szg_io.specs.declared.device.Input.{Ghosts}
 use Rattle.szg_file.specs.Accepted.{AreNumbers}
 
 -- The verdict refuses the bytes with nothing left behind the field that fails; where they end within a
@@ -19,6 +21,18 @@ abbrev pub IsRefusal : {A : Type 0} → Verdict A → ℕ → Reason → Option 
 IsRefusal (good a filled rest) place reason coming = ⊥
 IsRefusal (refused at why rest) place reason coming = (place ≡ at) × (reason ≡ why) × (rest ≡ [])
 IsRefusal (truncated count) place reason coming = (place ≡ count) × (reason ≡ Truncated) × IsAtEnd coming
+
+-- Nothing stands behind the text, nor behind the first field that fails.
+abbrev pub StopsWithin : {A : Type 0} → Verdict A → Type 0
+StopsWithin (good a filled rest) = rest ≡ []
+StopsWithin (refused at why rest) = rest ≡ []
+StopsWithin (truncated count) = Unit {0}
+
+-- And the text is not whole.
+abbrev pub IsCut : {A : Type 0} → Verdict A → Type 0
+IsCut (good a filled rest) = ⊥
+IsCut (refused at why rest) = rest ≡ []
+IsCut (truncated count) = Unit {0}
 
 -- The bytes, numbers below 256, are a whole text of the format, and the front has gone past them.
 pub record Advances {A : Type 0} (f : Format A) (a : A) (old new : Front) (bytes : List ℕ) : Type 0 where
@@ -33,19 +47,26 @@ abbrev pub turns_of : {X : Type 0} → Result X ReadFault → ℕ
 turns_of (Ok x) = 0
 turns_of (Err fault) = 1
 
--- What the answer says of the bytes that were taken.
-abbrev pub Answer : {A X : Type 0} → Format A → (X → A) → Front → Front → Option (List ℕ) → ℕ → ℕ → ℕ → List ℕ → Result X ReadFault → Type 0
-Answer f view old new coming failures failures' row bytes (Ok x) = Advances f (view x) old new bytes × (failures' ≡ failures)
-Answer f view old new coming failures failures' row bytes (Err (Refused place reason)) = IsRefusal (verdict f old.place bytes) place reason coming × (failures' ≡ failures)
-Answer f view old new coming failures failures' row bytes (Err Device) = HasFailed failures failures' row
-Answer f view old new coming failures failures' row bytes (Err Memory) = failures' ≡ failures
+-- What the answer says of the bytes that were taken: `Device` comes only where the reader may fail, and with `Memory`
+-- no byte was taken past the text or past the first field that fails.
+abbrev pub Answer : {A X : Type 0} → Format A → (X → A) → Front → Front → Option (List ℕ) → ℕ → ℕ → ℕ → Bool → List ℕ → Result X ReadFault → Type 0
+Answer f view old new coming failures failures' row may_fail bytes (Ok x) = Advances f (view x) old new bytes × (failures' ≡ failures)
+Answer f view old new coming failures failures' row may_fail bytes (Err (Refused place reason)) = IsRefusal (verdict f old.place bytes) place reason coming × (failures' ≡ failures)
+Answer f view old new coming failures failures' row may_fail bytes (Err Device) = HasFailed failures failures' row × IsTrue may_fail
+Answer f view old new coming failures failures' row may_fail bytes (Err Memory) = StopsWithin (verdict f old.place bytes) × (failures' ≡ failures)
 
 -- These bytes were taken, with few enough calls, and the answer is their verdict.
 pub record Reading {A X R : Type 0} (f : Format A) (view : X → A) (old new : Front)
-    (coming : R → Option (List ℕ)) (calls moved failures interrupted : R → ℕ) (input input' : R) (result : Result X ReadFault) : Type 0 where
+    (dev : Ghosts R) (input input' : R) (result : Result X ReadFault) : Type 0 where
   pub bytes : List ℕ
-  pub taken : Takes (coming input) (coming input') (calls input) (calls input') (moved input) (moved input') bytes (turns_of result)
-  pub answer : Answer f view old new (coming input') (failures input) (failures input') (interrupted input') bytes result
+  pub taken : Takes dev input input' bytes (turns_of result)
+  pub answer : Answer f view old new (dev.coming input') (dev.failures input) (dev.failures input') (dev.interrupted input') (dev.may_fail input) bytes result
+
+-- These bytes were taken, and they are no whole text.
+pub record Lacking {A R : Type 0} (f : Format A) (old : Front) (dev : Ghosts R) (input input' : R) : Type 0 where
+  pub bytes : List ℕ
+  pub taken : Takes dev input input' bytes 1
+  pub short : IsCut (verdict f old.place bytes)
 
 abbrev pub start_field : Sides → Kind → Format ℕ
 start_field material kind = magic_field kind >> byte4_field material kind

@@ -1,5 +1,5 @@
 -- What reading a whole table answers.
-use Rattle.std.specs.Prelude.{◌≡◌, ℕ, ◌+◌, ◌*◌, List, [], length, map, sum, Option, Some, None, Result, Ok, Err}
+use Rattle.std.specs.Prelude.{◌≡◌, ℕ, ◌+◌, ◌*◌, ◌<◌, List, [], ◌++◌, length, map, sum, Option, Some, None, Result, Ok, Err}
 use Rattle.szg_values.specs.declared.Kind.{Kind}
 use Rattle.szg_file.specs.declared.fault.Reason.TheVariants.{Truncated}
 use Rattle.szg_file.specs.declared.fault.ReadFault.{ReadFault}
@@ -9,24 +9,41 @@ use Rattle.szg_values.specs.Material.{Sides}
 use Rattle.szg_file.specs.Contents as held
 use Rattle.szg_file.specs.File.{file}
 use Rattle.szg_file.specs.Held.{Shown, file_bytes}
-use Rattle.szg_file.specs.Reading.{IsRefusal}
+use Rattle.szg_file.specs.Reading.{IsRefusal, IsCut}
+
+-- More is still to come than what stands behind a table, and no less than what stands behind a field that fails.
+abbrev pub LeavesMore : {A : Type 0} → Verdict A → Option (List ℕ) → Type 0
+LeavesMore (good t filled rest) coming = (more : List ℕ) × (0 < length more) × (coming ≡ Some (more ++ rest))
+LeavesMore (refused at why rest) coming = (more : List ℕ) × (coming ≡ Some (more ++ rest))
+LeavesMore (truncated count) coming = Unit {0}
 
 -- The answer is the verdict on the bytes that were to come, and what stands behind the table, or behind
--- the field that fails, is still to come.
+-- the field that fails, is still to come. Where memory ran out, the file was not read to its end, and no check that
+-- fails was passed over.
 abbrev pub FollowsVerdict : Verdict held.Contents → Result Shown ReadFault → Option (List ℕ) → Type 0
 FollowsVerdict v (Ok t) coming = (rest : List ℕ) × (v ≡ good t.contents t.filled rest) × (coming ≡ Some rest)
 FollowsVerdict (good t filled rest) (Err (Refused place reason)) coming = ⊥
 FollowsVerdict (refused at why rest) (Err (Refused place reason)) coming = (place ≡ at) × (reason ≡ why) × (coming ≡ Some rest)
 FollowsVerdict (truncated count) (Err (Refused place reason)) coming = (place ≡ count) × (reason ≡ Truncated) × (coming ≡ Some [])
 FollowsVerdict v (Err Device) coming = Unit {0}
-FollowsVerdict v (Err Memory) coming = Unit {0}
+FollowsVerdict v (Err Memory) coming = LeavesMore v coming
 
--- The bytes that were taken are the table's file, or those up to the end of the field that fails.
+-- The answer is the verdict on bytes in memory, or memory ran out.
+abbrev pub IsVerdict : Verdict held.Contents → Result Shown ReadFault → Type 0
+IsVerdict v (Ok t) = (rest : List ℕ) × (v ≡ good t.contents t.filled rest)
+IsVerdict (good t filled rest) (Err (Refused place reason)) = ⊥
+IsVerdict (refused at why rest) (Err (Refused place reason)) = (place ≡ at) × (reason ≡ why)
+IsVerdict (truncated count) (Err (Refused place reason)) = (place ≡ count) × (reason ≡ Truncated)
+IsVerdict v (Err Device) = ⊥
+IsVerdict v (Err Memory) = Unit {0}
+
+-- The bytes that were taken are the table's file, or those up to the end of the field that fails; where memory ran
+-- out, a part of such a text.
 abbrev pub TookBytes : Sides → Kind → List ℕ → Option (List ℕ) → Result Shown ReadFault → Type 0
 TookBytes material kind bytes coming (Ok t) = bytes ≡ file_bytes t
 TookBytes material kind bytes coming (Err (Refused place reason)) = IsRefusal (verdict (file material kind) 0 bytes) place reason coming
 TookBytes material kind bytes coming (Err Device) = Unit {0}
-TookBytes material kind bytes coming (Err Memory) = Unit {0}
+TookBytes material kind bytes coming (Err Memory) = IsCut (verdict (file material kind) 0 bytes)
 
 -- the lengths of a subtable's lists; a dictionary has two: the entries, and their symbols' lengths
 abbrev pub sub_lengths : held.Subtable → ℕ

@@ -1,10 +1,12 @@
 -- What a call that writes a part of a file says of the writer, of how far it has come, and of its answer.
-use Rattle.std.specs.Prelude.{◌≡◌, ℕ, ◌<◌, ◌%◌, ◌^◌, List, [], ◌∷◌, ◌++◌, length, flat_map, Option, Result, Ok, Err}
-use Rattle.szg_io.specs.Device.{Gives, HasFailed}
+use Rattle.std.specs.Prelude.{◌≡◌, ℕ, ◌<◌, ◌%◌, ◌^◌, List, [], ◌∷◌, ◌++◌, length, flat_map, Result, Ok, Err}
+use Rattle.szg_io.specs.Device.{HasFailed}
+use Rattle.szg_io.specs.Moved.{Gives}
 use Rattle.szg_file.specs.declared.outgoing.Outgoing.{Outgoing}
 use Rattle.szg_file.specs.declared.fault.WriteFault.{WriteFault}
 use Rattle.szg_code.specs.Canonical.{CanonicalCode}
 use Rattle.szg_file.specs.Contents.{bytes_of}
+use Rattle.szg_io.specs.declared.device.Output.{Ghosts}
 use Rattle.szg_file.specs.FileOf.{Section, written, spare, joined}
 
 -- So many bytes went out, as 64 bits count them: this text.
@@ -36,10 +38,10 @@ Answer sections old new failures failures' row bytes (Err fault) = Stops section
 
 -- Some bytes went out, with few enough calls, and the answer is true of them.
 pub record Writing {X W : Type 0} (sections : List Section) (old new : Outgoing)
-    (written : W → Option (List ℕ)) (calls moved failures interrupted : W → ℕ) (output output' : W) (result : Result X WriteFault) : Type 0 where
+    (dev : Ghosts W) (output output' : W) (result : Result X WriteFault) : Type 0 where
   pub bytes : List ℕ
-  pub given : Gives (written output) (written output') (calls output) (calls output') (moved output) (moved output') bytes (turns_of result)
-  pub answer : Answer sections old new (failures output) (failures output') (interrupted output') bytes result
+  pub given : Gives dev output output' bytes (turns_of result)
+  pub answer : Answer sections old new (dev.failures output) (dev.failures output') (dev.interrupted output') bytes result
 
 -- a code's longest and shortest word, and its lowest symbols
 abbrev pub code_sections : CanonicalCode → List Section

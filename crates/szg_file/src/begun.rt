@@ -5,7 +5,7 @@ use std::marker::Model;
 use szg_block::Sub;
 
 /// A subtable's part, side and number of positions.
-#[derive(Clone, Copy)]
+#[derive(Clone, Copy, Default)]
 pub struct Slot {
     pub part: u8,
     pub side: u8,

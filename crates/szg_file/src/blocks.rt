@@ -1,4 +1,4 @@
-ghost use Rattle.std.specs.Prelude.{◌≡◌, ◌+◌, ◌*◌, ◌≤◌, ◌<◌, ◌^◌, length, map, take, drop, OnOk, IfSome, IsSomeAnd, IsTrue, ◌↔◌, None};
+ghost use Rattle.std.specs.Prelude.{◌≡◌, ◌+◌, ◌*◌, ◌≤◌, ◌<◌, ◌^◌, length, map, take, drop, OnOk, IfSome, IfNone, IsSomeAnd, IsTrue, ◌↔◌, None};
 ghost use Rattle.szg_code.specs.Acceptance.{IsCode};
 ghost use Rattle.szg_block.specs.Block.{start};
 ghost use Rattle.szg_block.specs.Subtable.{layout_of, IsShapedHead};
@@ -25,8 +25,10 @@ pub fn read_blocks<R: Input>(
 ) -> Result<Vec<Sub>, ReadFault>
     requires place { front.old.place < 2 ^ 60 }
     requires few { length list.items ≤ 8 }
-    ensures blocks { Reading (each blocks_field list.items) (λ subs. map subtable_of subs.items) front.old front.new R.coming R.calls R.moved R.failures R.interrupted input.old input.new result }
+    requires paid { front.old.held ≤ 2 * front.old.place + 2 ^ 14 }
+    ensures blocks { Reading (each blocks_field list.items) (λ subs. map subtable_of subs.items) front.old front.new R.Input input.old input.new result }
     ensures place { OnOk result (front.new.place ≤ front.old.place + 2 ^ 55) }
+    ensures held { OnOk result (front.new.held + 2 * front.old.place ≤ front.old.held + 2 * front.new.place + 8) }
 {
     let mut subs = Vec::new(alloc);
     'subtables: for measured in list {
@@ -44,8 +46,10 @@ fn read_sub<R: Input>(
     front: &mut Front,
 ) -> Result<Sub, ReadFault>
     requires place { front.old.place < 2 ^ 60 + 2 ^ 55 }
-    ensures blocks { Reading (blocks_field measured) subtable_of front.old front.new R.coming R.calls R.moved R.failures R.interrupted input.old input.new result }
+    requires paid { front.old.held ≤ 2 * front.old.place + 2 ^ 15 }
+    ensures blocks { Reading (blocks_field measured) subtable_of front.old front.new R.Input input.old input.new result }
     ensures place { OnOk result (front.new.place ≤ front.old.place + 2 ^ 51) }
+    ensures held { OnOk result (front.new.held + 2 * front.old.place ≤ front.old.held + 2 * front.new.place) }
 {
     let Measured {
         slot,
@@ -64,19 +68,21 @@ fn pack_sub<R: Input>(
     front: &mut Front,
 ) -> Result<Sub, ReadFault>
     requires place { front.old.place < 2 ^ 60 + 2 ^ 55 }
+    requires paid { front.old.held ≤ 2 * front.old.place + 2 ^ 15 }
     requires shaped { IsShapedHead sub slot.size }
-    ensures blocks { Reading (blocks_of slot (subtable_of sub)) subtable_of front.old front.new R.coming R.calls R.moved R.failures R.interrupted input.old input.new result }
+    ensures blocks { Reading (blocks_of slot (subtable_of sub)) subtable_of front.old front.new R.Input input.old input.new result }
     ensures place { OnOk result (front.new.place ≤ front.old.place + 2 ^ 51) }
+    ensures held { OnOk result (front.new.held + 2 * front.old.place ≤ front.old.held + 2 * front.new.place) }
 {
     if is_constant(&sub) {
         return Ok(sub);
     }
-    take_fill(64, input, front)?;
+    take_fill(alloc, 64, input, front)?;
     let packed = take_packed(alloc, &sub, slot.size, input, front)?;
     Ok(with_packed(sub, packed))
 }
 
-fn is_constant(sub: &Sub) -> bool
+pub fn is_constant(sub: &Sub) -> bool
     ensures { IsTrue result ↔ (layout_of sub.now ≡ None) }
 {
     match sub {
@@ -86,35 +92,13 @@ fn is_constant(sub: &Sub) -> bool
 }
 
 /// The subtable with these blocks.
-fn with_packed(sub: Sub, blocks_packed: Vec<u8>) -> Sub
+fn with_packed(mut sub: Sub, blocks_packed: Vec<u8>) -> Sub
     ensures { subtable_of result ≡ with_blocks (subtable_of sub) blocks_packed.items }
 {
-    match sub {
-        Sub::Constant { flags, byte } => Sub::Constant { flags, byte },
-        Sub::Pairs {
-            flags,
-            block_bits,
-            span_bits,
-            extra,
-            blocks,
-            code,
-            dict,
-            sparse,
-            lengths,
-            packed: _,
-        } => Sub::Pairs {
-            flags,
-            block_bits,
-            span_bits,
-            extra,
-            blocks,
-            code,
-            dict,
-            sparse,
-            lengths,
-            packed: blocks_packed,
-        },
+    if let Sub::Pairs { packed, .. } = &mut sub {
+        *packed = blocks_packed;
     }
+    sub
 }
 
 /// Takes the blocks of a subtable one after another, each with its check.
@@ -126,9 +110,11 @@ fn take_packed<R: Input>(
     front: &mut Front,
 ) -> Result<Vec<u8>, ReadFault>
     requires place { front.old.place < 2 ^ 61 }
+    requires paid { front.old.held ≤ 2 * front.old.place + 2 ^ 15 }
     requires shaped { IsShapedHead sub.now size }
-    ensures blocks { IfSome (layout_of sub.now) (λ layout. Reading (blocks_from layout size 0 layout.blocks) (λ packed. packed.items) front.old front.new R.coming R.calls R.moved R.failures R.interrupted input.old input.new result) }
+    ensures blocks { IfSome (layout_of sub.now) (λ layout. Reading (blocks_from layout size 0 layout.blocks) (λ packed. packed.items) front.old front.new R.Input input.old input.new result) }
     ensures place { OnOk result (front.new.place ≤ front.old.place + 2 ^ 50) }
+    ensures held { OnOk result (front.new.held + 2 * front.old.place ≤ front.old.held + 2 * front.new.place) }
 {
     let mut packed = Vec::new(alloc);
     let Sub::Pairs {
@@ -161,13 +147,15 @@ fn take_block<R: Input>(
     front: &mut Front,
 ) -> Result<(), ReadFault>
     requires place { front.old.place < 2 ^ 61 + 2 ^ 50 }
+    requires paid { front.old.held ≤ 2 * front.old.place + 2 ^ 15 }
     requires shaped { IsShapedHead sub.now size }
     requires code { IfSome (layout_of sub.now) (λ layout. IsCode layout.code) }
     requires there { IsSomeAnd (layout_of sub.now) (λ layout. n < layout.blocks) }
     requires before { IsSomeAnd (layout_of sub.now) (λ layout. before ≡ start layout.lengths n) }
-    ensures block { IfSome (layout_of sub.now) (λ layout. Reading (block_field layout size n) (λ _. drop (length packed.old.items) packed.new.items) front.old front.new R.coming R.calls R.moved R.failures R.interrupted input.old input.new result) }
+    ensures block { IfSome (layout_of sub.now) (λ layout. Reading (block_field layout size n) (λ _. drop (length packed.old.items) packed.new.items) front.old front.new R.Input input.old input.new result) }
     ensures kept { OnOk result (take (length packed.old.items) packed.new.items ≡ packed.old.items) }
     ensures place { OnOk result (front.new.place ≤ front.old.place + 2 ^ 18) }
+    ensures held { OnOk result (front.new.held + 2 * front.old.place ≤ front.old.held + 2 * front.new.place) }
 {
     let place = front.place;
     let at = packed.len();
@@ -182,13 +170,24 @@ fn take_block<R: Input>(
 }
 
 /// The number of bytes of each block; a constant subtable has none.
-fn block_bytes(sub: &Sub) -> u64
+pub fn block_bytes(sub: &Sub) -> u64
     requires { IfSome (layout_of sub.now) (λ layout. layout.block_bits ≤ 18) }
     ensures bytes { IfSome (layout_of sub.now) (λ layout. result ≡ 2 ^ layout.block_bits) }
+    ensures none { IfNone (layout_of sub.now) (result ≡ 0) }
     ensures most { result ≤ 2 ^ 18 }
 {
     match sub {
         Sub::Constant { .. } => 0,
         Sub::Pairs { block_bits, .. } => 1 << *block_bits,
+    }
+}
+
+/// The number of blocks; a constant subtable has none.
+pub fn block_count(sub: &Sub) -> u32
+    ensures { IfSome (layout_of sub.now) (λ layout. result ≡ layout.blocks) }
+{
+    match sub {
+        Sub::Constant { .. } => 0,
+        Sub::Pairs { blocks, .. } => *blocks,
     }
 }

@@ -64,13 +64,16 @@ pub enum Reason {
 }
 
 /// Why nothing was read.
-#[derive(Clone, Copy, Debug, PartialEq, Eq, Drop)]
+#[derive(Clone, Copy, Debug, PartialEq, Eq, Drop, Error)]
 pub enum ReadFault {
     /// The bytes are no table: the first check that fails, and the place that it tells, counted from the first byte.
+    #[error("Refused")]
     Refused { place: u64, reason: Reason },
     /// The reader failed.
+    #[error("Device")]
     Device,
     /// A growth was refused.
+    #[error("Memory")]
     Memory,
 }
 
@@ -91,7 +94,8 @@ impl<T: Drop> From<AllocFailed<T>> for ReadFault {
 }
 
 /// The writer failed: the first `out` bytes of the file went out, and no others.
-#[derive(Clone, Copy, Debug, PartialEq, Eq, Drop)]
+#[derive(Clone, Copy, Debug, PartialEq, Eq, Drop, Error)]
+#[error("WriteFault")]
 pub struct WriteFault {
     pub out: u64,
 }

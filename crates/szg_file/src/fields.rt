@@ -1,5 +1,5 @@
 //! What the readers of heads and of maps share: bytes, numbers and flags, and lists that grow by an item.
-ghost use Rattle.std.specs.Prelude.{◌≡◌, ◌+◌, ◌<◌, ◌^◌, ◌∷◌, [], ◌++◌, OnOk, OnErr, Err};
+ghost use Rattle.std.specs.Prelude.{◌≡◌, ◌+◌, ◌*◌, ◌≤◌, ◌<◌, ◌^◌, ◌∷◌, [], ◌++◌, OnOk, OnErr, Err};
 ghost use Rattle.szg_file.specs.Contents.{has_bit};
 ghost use Rattle.szg_file.specs.File.{number_field};
 ghost use Rattle.szg_file.specs.Reading.{Reading};
@@ -13,7 +13,7 @@ use szg_io::Input;
 /// Takes a byte.
 pub fn read_byte<R: Input>(input: &mut R, front: &mut Front) -> Result<u8, ReadFault>
     requires { front.old.place < 2 ^ 62 }
-    ensures byte { Reading (number_field 1) (λ byte. byte) front.old front.new R.coming R.calls R.moved R.failures R.interrupted input.old input.new result }
+    ensures byte { Reading (number_field 1) (λ byte. byte) front.old front.new R.Input input.old input.new result }
     ensures place { OnOk result (front.new.place ≡ front.old.place + 1) }
     ensures held { OnOk result (front.new.held ≡ front.old.held) }
 {
@@ -25,7 +25,7 @@ pub fn read_byte<R: Input>(input: &mut R, front: &mut Front) -> Result<u8, ReadF
 /// Takes a number of two bytes.
 pub fn read_number<R: Input>(input: &mut R, front: &mut Front) -> Result<u16, ReadFault>
     requires { front.old.place < 2 ^ 62 }
-    ensures number { Reading (number_field 2) (λ number. number) front.old front.new R.coming R.calls R.moved R.failures R.interrupted input.old input.new result }
+    ensures number { Reading (number_field 2) (λ number. number) front.old front.new R.Input input.old input.new result }
     ensures place { OnOk result (front.new.place ≡ front.old.place + 2) }
     ensures held { OnOk result (front.new.held ≡ front.old.held) }
 {
@@ -43,11 +43,16 @@ pub fn has_flag(k: u8, flags: u8) -> bool
 }
 
 /// Appends an item.
-pub fn append<T: Drop>(list: &mut Vec<T>, item: T, front: &Front) -> Result<(), ReadFault>
+pub fn append<T: Drop>(list: &mut Vec<T>, item: T, front: &mut Front) -> Result<(), ReadFault>
+    requires paid { front.old.held ≤ 2 * front.old.place + 2 ^ 15 }
+    requires place { front.old.place < 2 ^ 62 }
     ensures items { OnOk result (list.new.items ≡ list.old.items ++ item ∷ []) }
+    ensures held { OnOk result (front.new.held ≡ front.old.held + 1) }
+    ensures place { OnOk result (front.new.place ≡ front.old.place) }
+    ensures fill { OnOk result (front.new.fill.items ≡ front.old.fill.items) }
     ensures memory { OnErr result (result ≡ Err ReadFault.Memory) }
 {
-    grow(list, 1, front.held, front.place)?;
+    grow(list, 1, front)?;
     list.push(item)?;
     Ok(())
 }

@@ -1,4 +1,4 @@
-ghost use Rattle.std.specs.Prelude.{◌≡◌, ◌+◌, ◌*◌, ◌≤◌, [], OnErr};
+ghost use Rattle.std.specs.Prelude.{◌≡◌, ◌+◌, ◌*◌, ◌^◌, ◌≤◌, ◌<◌, [], OnOk, OnErr, Err};
 
 use crate::fault::ReadFault;
 use std::alloc::Global;
@@ -8,12 +8,12 @@ use std::alloc::Global;
 pub struct Front {
     /// The number of bytes taken.
     pub place: u64,
-    /// The lengths of all lists that the reading holds, added up.
+    /// By how many items the lists of this crate have grown, those let go too. Only `grow` raises it.
     pub held: u64,
     /// The fill bytes among the bytes taken, in their order.
     pub fill: Vec<u8>,
-    // Bytes pay for what is held.
-    pub ghost paid: { held ≤ 2 * place },
+    // All lists together hold at most 4 items for each byte taken, and 65,536 more.
+    pub ghost bound: { held ≤ 4 * place + 65536 },
 }
 
 impl Front {
@@ -31,14 +31,22 @@ impl Front {
     }
 }
 
-/// Makes room for `more` items of a list. All growth of this crate's lists while a file is read goes through here: a list
-/// runs at most 65,536 items ahead of its bytes, and all lists together hold at most 4 items for each byte taken and
-/// 65,536 more.
-pub fn grow<T>(list: &mut Vec<T>, more: usize, held: u64, place: u64) -> Result<(), ReadFault>
+/// Makes room for `more` items of a list, and counts them. All growth of this crate's lists while a file is read goes
+/// through here: a list runs at most 65,536 items ahead of its bytes, and all lists together hold at most 4 items for each
+/// byte taken and 65,536 more.
+pub fn grow<T>(list: &mut Vec<T>, more: usize, front: &mut Front) -> Result<(), ReadFault>
     requires ahead { more ≤ 65536 }
-    requires bound { held + more ≤ 4 * place + 65536 }
+    requires bound { front.old.held + more ≤ 4 * front.old.place + 65536 }
+    requires fits { front.old.held + more < 2 ^ 64 }
     ensures items { list.new.items ≡ list.old.items }
+    ensures held { OnOk result (front.new.held ≡ front.old.held + more) }
+    ensures place { front.new.place ≡ front.old.place }
+    ensures fill { front.new.fill.items ≡ front.old.fill.items }
     ensures memory { OnErr result (result ≡ Err ReadFault.Memory) }
 {
-    list.try_reserve(more).map_err(|_| ReadFault::Memory)
+    if list.try_reserve(more).is_err() {
+        return Err(ReadFault::Memory);
+    }
+    front.held += more as u64;
+    Ok(())
 }

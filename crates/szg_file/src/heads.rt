@@ -1,4 +1,4 @@
-ghost use Rattle.std.specs.Prelude.{◌≡◌, ◌≢◌, ◌+◌, ◌*◌, ◌≤◌, ◌<◌, ◌^◌, length, map, nat_lt, nat_le, ◌&&◌, false, OnOk, OnErr, IfOk, IfErr, Err};
+ghost use Rattle.std.specs.Prelude.{◌≡◌, ◌≢◌, ◌+◌, ◌-◌, ◌*◌, ◌≤◌, ◌<◌, ◌^◌, length, map, nat_lt, nat_le, ◌&&◌, false, OnOk, OnErr, IfOk, IfErr, Err};
 ghost use Rattle.szg_code.specs.Acceptance.{IsCode};
 ghost use Rattle.szg_file.specs.Format.{means};
 ghost use Rattle.szg_file.specs.Contents.{has_bit};
@@ -32,10 +32,12 @@ pub fn read_heads<R: Input>(
 ) -> Result<Vec<Begun>, ReadFault>
     requires place { front.old.place < 2 ^ 60 }
     requires few { length slots.now ≤ 8 }
-    ensures heads { Reading (each head_field slots.now) (λ list. map (λ begun. begun.subtable) list.items) front.old front.new R.coming R.calls R.moved R.failures R.interrupted input.old input.new result }
+    requires paid { front.old.held ≤ 2 * front.old.place + 2 ^ 14 }
+    ensures heads { Reading (each head_field slots.now) (λ list. map (λ begun. begun.subtable) list.items) front.old front.new R.Input input.old input.new result }
     ensures begun { IfOk result (λ list. list.items ≡ begun slots.now (map (λ begun. begun.subtable) list.items)) }
     ensures count { IfOk result (λ list. length list.items ≡ length slots.now) }
     ensures place { OnOk result (front.new.place ≤ front.old.place + 2 ^ 22) }
+    ensures held { OnOk result (front.new.held + 2 * front.old.place ≤ front.old.held + 2 * front.new.place + 8) }
 {
     let mut list = Vec::new(alloc);
     'slots: for slot in slots {
@@ -45,29 +47,29 @@ pub fn read_heads<R: Input>(
     Ok(list)
 }
 
-/// Takes the head of a subtable, and counts its items in the four lists that carry it in turn.
+/// Takes the head of a subtable.
 fn read_head<R: Input>(
     alloc: Global,
     slot: Slot,
     input: &mut R,
     front: &mut Front,
 ) -> Result<Begun, ReadFault>
-    requires { front.old.place + 2 ^ 18 < 2 ^ 62 }
-    ensures head { Reading (head_field slot) (λ begun. begun.subtable) front.old front.new R.coming R.calls R.moved R.failures R.interrupted input.old input.new result }
+    requires place { front.old.place + 2 ^ 18 < 2 ^ 62 }
+    requires paid { front.old.held ≤ 2 * front.old.place + 2 ^ 15 }
+    ensures head { Reading (head_field slot) (λ begun. begun.subtable) front.old front.new R.Input input.old input.new result }
     ensures slot { IfOk result (λ begun. begun ≡ record { slot = slot; subtable = begun.subtable; index = 0 }) }
     ensures place { OnOk result (front.new.place ≤ front.old.place + 2 ^ 18) }
+    ensures held { OnOk result (front.new.held + 2 * front.old.place ≤ front.old.held + 2 * front.new.place) }
 {
     let flags = read_byte(input, front)?;
     if has_flag(7, flags) {
         let byte = read_byte(input, front)?;
-        front.held += 4;
         return Ok(Begun {
             slot,
             sub: Sub::Constant { flags, byte },
         });
     }
     let sub = read_packed_head(alloc, flags, input, front)?;
-    front.held += 4;
     Ok(Begun { slot, sub })
 }
 
@@ -80,10 +82,11 @@ fn read_packed_head<R: Input>(
 ) -> Result<Sub, ReadFault>
     requires flags { has_bit 7 flags ≡ false }
     requires place { front.old.place + 200000 < 2 ^ 62 }
-    ensures head { Reading (packed_head flags) subtable_of front.old front.new R.coming R.calls R.moved R.failures R.interrupted input.old input.new result }
+    requires paid { front.old.held ≤ 2 * front.old.place + 2 ^ 15 }
+    ensures head { Reading (packed_head flags) subtable_of front.old front.new R.Input input.old input.new result }
     ensures headed { IfOk result IsHeaded }
     ensures place { OnOk result (front.new.place ≤ front.old.place + 200000) }
-    ensures held { OnOk result (front.new.held + 4 + 2 * front.old.place ≤ front.old.held + 2 * front.new.place) }
+    ensures held { OnOk result (front.new.held + 2 * front.old.place ≤ front.old.held + 2 * front.new.place) }
 {
     let block_bits = read_block_bits(input, front)?;
     let span_bits = read_span_bits(input, front)?;
@@ -108,7 +111,7 @@ fn read_packed_head<R: Input>(
 /// Takes the block bits: a block has 2 to that many bytes, at most 2^18.
 fn read_block_bits<R: Input>(input: &mut R, front: &mut Front) -> Result<u8, ReadFault>
     requires { front.old.place < 2 ^ 62 }
-    ensures bits { Reading (byte_where (λ bits. nat_le bits 18) Reason.BlockBits) (λ bits. bits) front.old front.new R.coming R.calls R.moved R.failures R.interrupted input.old input.new result }
+    ensures bits { Reading (byte_where (λ bits. nat_le bits 18) Reason.BlockBits) (λ bits. bits) front.old front.new R.Input input.old input.new result }
     ensures most { IfOk result (λ bits. bits ≤ 18) }
     ensures place { OnOk result (front.new.place ≡ front.old.place + 1) }
     ensures held { OnOk result (front.new.held ≡ front.old.held) }
@@ -127,7 +130,7 @@ fn read_block_bits<R: Input>(input: &mut R, front: &mut Front) -> Result<u8, Rea
 /// Takes the span bits: an entry of the sparse index stands for 2 to that many positions, 2 to 2^31.
 fn read_span_bits<R: Input>(input: &mut R, front: &mut Front) -> Result<u8, ReadFault>
     requires { front.old.place < 2 ^ 62 }
-    ensures bits { Reading (byte_where (λ bits. nat_lt 0 bits && nat_le bits 31) Reason.SpanBits) (λ bits. bits) front.old front.new R.coming R.calls R.moved R.failures R.interrupted input.old input.new result }
+    ensures bits { Reading (byte_where (λ bits. nat_lt 0 bits && nat_le bits 31) Reason.SpanBits) (λ bits. bits) front.old front.new R.Input input.old input.new result }
     ensures some { IfOk result (λ bits. 1 ≤ bits) }
     ensures most { IfOk result (λ bits. bits ≤ 31) }
     ensures place { OnOk result (front.new.place ≡ front.old.place + 1) }
@@ -164,7 +167,7 @@ fn are_lengths(min: u8, max: u8) -> bool
 /// Takes the numbers behind the span bits, in one piece, since no check stands between them.
 fn read_sizes<R: Input>(input: &mut R, front: &mut Front) -> Result<HeadSizes, ReadFault>
     requires { front.old.place < 2 ^ 62 }
-    ensures sizes { Reading sizes_field (λ sizes. sizes) front.old front.new R.coming R.calls R.moved R.failures R.interrupted input.old input.new result }
+    ensures sizes { Reading sizes_field (λ sizes. sizes) front.old front.new R.Input input.old input.new result }
     ensures some { IfOk result (λ sizes. 1 ≤ sizes.min) }
     ensures in_order { IfOk result (λ sizes. sizes.min ≤ sizes.max) }
     ensures most { IfOk result (λ sizes. sizes.max ≤ 32) }
@@ -201,11 +204,12 @@ fn read_lowest<R: Input>(
     requires in_order { min ≤ max }
     requires most { max ≤ 32 }
     requires place { front.old.place + 64 < 2 ^ 62 }
-    ensures lowest { Reading (lowest_list min max) (λ code. code.lowest) front.old front.new R.coming R.calls R.moved R.failures R.interrupted input.old input.new result }
+    requires paid { front.old.held ≤ 2 * front.old.place + 2 ^ 15 }
+    ensures lowest { Reading (lowest_list min max) (λ code. code.lowest) front.old front.new R.Input input.old input.new result }
     ensures code { IfOk result (λ code. code ≡ code_with min max code.lowest 0) }
     ensures accepted { IfOk result IsCode }
-    ensures place { OnOk result (front.new.place ≤ front.old.place + 64) }
-    ensures held { OnOk result (front.new.held + 2 * front.old.place ≤ front.old.held + 2 * front.new.place) }
+    ensures place { OnOk result (front.new.place ≡ front.old.place + 2 * (max + 1 - min)) }
+    ensures held { OnOk result (front.new.held ≡ front.old.held + 3 * (max + 1 - min)) }
 {
     let place = front.place;
     let lowest = take_numbers(alloc, u64::from(max + 1 - min), input, front)?;
@@ -250,13 +254,23 @@ fn lowest_refusal(place: u64, fault: CodeFault) -> ReadFault
 }
 
 /// A code with so many symbols.
-fn with_symbols(alloc: Global, code: &Code, symbols: u16, front: &Front) -> Result<Code, ReadFault>
-    requires { IsCode code.now }
+fn with_symbols(
+    alloc: Global,
+    code: &Code,
+    symbols: u16,
+    front: &mut Front,
+) -> Result<Code, ReadFault>
+    requires code { IsCode code.now }
+    requires place { front.old.place < 2 ^ 62 }
+    requires paid { front.old.held ≤ 2 * front.old.place + 2 ^ 15 }
     ensures code { IfOk result (λ with. with ≡ code_with code.now.min_length code.now.max_length code.now.lowest symbols) }
+    ensures held { OnOk result (front.new.held ≡ front.old.held + length code.now.lowest) }
+    ensures place { OnOk result (front.new.place ≡ front.old.place) }
+    ensures fill { OnOk result (front.new.fill.items ≡ front.old.fill.items) }
     ensures memory { OnErr result (result ≡ Err ReadFault.Memory) }
 {
     let mut lowest = Vec::new(alloc);
-    grow(&mut lowest, code.lowest().len(), front.held, front.place)?;
+    grow(&mut lowest, code.lowest().len(), front)?;
     if lowest.extend_from_slice(code.lowest()).is_err() {
         return Err(ReadFault::Memory);
     }
@@ -272,14 +286,15 @@ fn read_dictionary<R: Input>(
     input: &mut R,
     front: &mut Front,
 ) -> Result<Dict, ReadFault>
-    requires { front.old.place + 196608 < 2 ^ 62 }
-    ensures dictionary { Reading dictionary (λ dict. dict) front.old front.new R.coming R.calls R.moved R.failures R.interrupted input.old input.new result }
+    requires place { front.old.place + 196608 < 2 ^ 62 }
+    requires paid { front.old.held ≤ 2 * front.old.place + 2 ^ 15 }
+    ensures dictionary { Reading dictionary (λ dict. dict) front.old front.new R.Input input.old input.new result }
     ensures place { OnOk result (front.new.place ≤ front.old.place + 196608) }
     ensures held { OnOk result (front.new.held + 2 * front.old.place ≤ front.old.held + 2 * front.new.place) }
 {
     let count = read_number(input, front)?;
     let dict = read_entries(alloc, count, input, front)?;
-    take_spare((count % 2) as u8, input, front)?;
+    take_spare(alloc, (count % 2) as u8, input, front)?;
     Ok(dict)
 }
 
@@ -290,10 +305,11 @@ fn read_entries<R: Input>(
     input: &mut R,
     front: &mut Front,
 ) -> Result<Dict, ReadFault>
-    requires { front.old.place + 3 * count < 2 ^ 62 }
-    ensures entries { Reading (entries_field count) (λ dict. dict) front.old front.new R.coming R.calls R.moved R.failures R.interrupted input.old input.new result }
+    requires place { front.old.place + 3 * count < 2 ^ 62 }
+    requires paid { front.old.held ≤ 2 * front.old.place + 2 ^ 15 }
+    ensures entries { Reading (entries_field count) (λ dict. dict) front.old front.new R.Input input.old input.new result }
     ensures place { OnOk result (front.new.place ≡ front.old.place + 3 * count) }
-    ensures held { OnOk result (front.new.held ≤ front.old.held + 4 * count) }
+    ensures held { OnOk result (front.new.held ≡ front.old.held + 4 * count) }
 {
     let place = front.place;
     let entries = take_entries(alloc, u64::from(count), input, front)?;

@@ -23,9 +23,11 @@ pub fn read_indexes<R: Input>(
 ) -> Result<Vec<Indexed>, ReadFault>
     requires place { front.old.place < 2 ^ 60 }
     requires few { length list.items ≤ 8 }
-    ensures indexes { Reading (each sparse_field list.items) (λ indexed. indexed.items) front.old front.new R.coming R.calls R.moved R.failures R.interrupted input.old input.new result }
+    requires paid { front.old.held ≤ 2 * front.old.place + 2 ^ 14 }
+    ensures indexes { Reading (each sparse_field list.items) (λ indexed. indexed.items) front.old front.new R.Input input.old input.new result }
     ensures count { IfOk result (λ indexed. length indexed.items ≡ length list.items) }
     ensures place { OnOk result (front.new.place ≤ front.old.place + 2 ^ 40) }
+    ensures held { OnOk result (front.new.held + 2 * front.old.place ≤ front.old.held + 2 * front.new.place + 8) }
 {
     let mut indexed = Vec::new(alloc);
     'indexes: for begun in list {
@@ -43,8 +45,10 @@ fn read_index<R: Input>(
     front: &mut Front,
 ) -> Result<Indexed, ReadFault>
     requires place { front.old.place < 2 ^ 60 + 2 ^ 40 }
-    ensures index { Reading (sparse_field begun) (λ indexed. indexed) front.old front.new R.coming R.calls R.moved R.failures R.interrupted input.old input.new result }
+    requires paid { front.old.held ≤ 2 * front.old.place + 2 ^ 15 }
+    ensures index { Reading (sparse_field begun) (λ indexed. indexed) front.old front.new R.Input input.old input.new result }
     ensures place { OnOk result (front.new.place ≤ front.old.place + 2 ^ 36) }
+    ensures held { OnOk result (front.new.held + 2 * front.old.place ≤ front.old.held + 2 * front.new.place) }
 {
     let Begun { slot, sub } = begun;
     let (sub, index) = index_sub(alloc, slot, sub, input, front)?;
@@ -60,11 +64,13 @@ fn index_sub<R: Input>(
     front: &mut Front,
 ) -> Result<(Sub, u64), ReadFault>
     requires place { front.old.place < 2 ^ 60 + 2 ^ 40 }
+    requires paid { front.old.held ≤ 2 * front.old.place + 2 ^ 15 }
     requires headed { IsHeaded sub }
-    ensures index { Reading (sparse_of slot (subtable_of sub)) (λ found. record { slot = slot; subtable = subtable_of found.0; index = found.1 }) front.old front.new R.coming R.calls R.moved R.failures R.interrupted input.old input.new result }
+    ensures index { Reading (sparse_of slot (subtable_of sub)) (λ found. record { slot = slot; subtable = subtable_of found.0; index = found.1 }) front.old front.new R.Input input.old input.new result }
     ensures indexed { IfOk result (λ found. IsIndexed found.0 slot.size) }
     ensures stands { IfOk result (λ found. found.1 < 2 ^ 61) }
     ensures place { OnOk result (front.new.place ≤ front.old.place + 2 ^ 36) }
+    ensures held { OnOk result (front.new.held + 2 * front.old.place ≤ front.old.held + 2 * front.new.place) }
 {
     match sub {
         Sub::Constant { flags, byte } => Ok((Sub::Constant { flags, byte }, 0)),
@@ -121,9 +127,11 @@ pub fn read_lengths<R: Input>(
 ) -> Result<Vec<Measured>, ReadFault>
     requires place { front.old.place < 2 ^ 60 }
     requires few { length list.items ≤ 8 }
-    ensures lengths { Reading (each lengths_field list.items) (λ measured. measured.items) front.old front.new R.coming R.calls R.moved R.failures R.interrupted input.old input.new result }
+    requires paid { front.old.held ≤ 2 * front.old.place + 2 ^ 14 }
+    ensures lengths { Reading (each lengths_field list.items) (λ measured. measured.items) front.old front.new R.Input input.old input.new result }
     ensures count { IfOk result (λ measured. length measured.items ≡ length list.items) }
     ensures place { OnOk result (front.new.place ≤ front.old.place + 2 ^ 40) }
+    ensures held { OnOk result (front.new.held + 2 * front.old.place ≤ front.old.held + 2 * front.new.place + 8) }
 {
     let mut measured = Vec::new(alloc);
     'lengths: for indexed in list {
@@ -141,8 +149,10 @@ fn read_measured<R: Input>(
     front: &mut Front,
 ) -> Result<Measured, ReadFault>
     requires place { front.old.place < 2 ^ 60 + 2 ^ 40 }
-    ensures lengths { Reading (lengths_field indexed) (λ measured. measured) front.old front.new R.coming R.calls R.moved R.failures R.interrupted input.old input.new result }
+    requires paid { front.old.held ≤ 2 * front.old.place + 2 ^ 15 }
+    ensures lengths { Reading (lengths_field indexed) (λ measured. measured) front.old front.new R.Input input.old input.new result }
     ensures place { OnOk result (front.new.place ≤ front.old.place + 2 ^ 36) }
+    ensures held { OnOk result (front.new.held + 2 * front.old.place ≤ front.old.held + 2 * front.new.place) }
 {
     let Indexed { slot, sub, index } = indexed;
     let sub = measure_sub(alloc, slot, index, sub, input, front)?;
@@ -159,11 +169,13 @@ fn measure_sub<R: Input>(
     front: &mut Front,
 ) -> Result<Sub, ReadFault>
     requires place { front.old.place < 2 ^ 60 + 2 ^ 40 }
+    requires paid { front.old.held ≤ 2 * front.old.place + 2 ^ 15 }
     requires indexed { IsIndexed sub slot.size }
     requires index { index < 2 ^ 61 }
-    ensures lengths { Reading (lengths_of slot index (subtable_of sub)) (λ found. record { slot = slot; subtable = subtable_of found; index = index }) front.old front.new R.coming R.calls R.moved R.failures R.interrupted input.old input.new result }
+    ensures lengths { Reading (lengths_of slot index (subtable_of sub)) (λ found. record { slot = slot; subtable = subtable_of found; index = index }) front.old front.new R.Input input.old input.new result }
     ensures shaped { IfOk result (λ found. IsShapedHead found slot.size) }
     ensures place { OnOk result (front.new.place ≤ front.old.place + 2 ^ 36) }
+    ensures held { OnOk result (front.new.held + 2 * front.old.place ≤ front.old.held + 2 * front.new.place) }
 {
     match sub {
         Sub::Constant { flags, byte } => Ok(Sub::Constant { flags, byte }),

@@ -2,30 +2,44 @@
 //! and looked up.
 #![tactic(auto)]
 
+mod assembled;
 mod begun;
 mod blocks;
 mod distances;
+mod dropping;
 mod fault;
 mod fields;
+mod forward;
 mod front;
 mod heads;
+mod in_memory;
 mod index;
+mod kept;
 pub mod laws;
 mod lengths;
 mod lookup;
 mod maps;
+mod opened;
 mod outgoing;
+mod outline;
+mod outlined;
 mod parts;
+mod passing;
 mod reading;
 mod sections;
 mod start;
 mod table;
 mod taking;
-#[cfg(test)]
-mod tests;
+mod tally;
+mod wanted;
 mod writing;
 
+pub use assembled::{Fields, subtable_sizes};
 pub use fault::{MapFault, ReadFault, Reason, WriteFault};
+pub use in_memory::read_bytes;
+pub use kept::Heads;
+pub use opened::{OpenFault, Opened, open};
 pub use reading::read;
 pub use table::{Map, PartBytes, Table};
+pub use wanted::Wanted;
 pub use writing::{file_len, write};

@@ -24,8 +24,10 @@ pub fn read_maps<R: Input>(
 ) -> Result<Vec<Option<Map>>, ReadFault>
     requires place { front.old.place < 2 ^ 60 }
     requires few { length heads.now ≤ 8 }
-    ensures maps { Reading (maps_field kind (map (λ begun. begun.subtable) heads.now)) (λ list. map (option_map map_of) list.items) front.old front.new R.coming R.calls R.moved R.failures R.interrupted input.old input.new result }
+    requires paid { front.old.held ≤ 2 * front.old.place + 2 ^ 14 }
+    ensures maps { Reading (maps_field kind (map (λ begun. begun.subtable) heads.now)) (λ list. map (option_map map_of) list.items) front.old front.new R.Input input.old input.new result }
     ensures place { OnOk result (front.new.place ≤ front.old.place + 2 ^ 23) }
+    ensures held { OnOk result (front.new.held + 2 * front.old.place ≤ front.old.held + 2 * front.new.place + 8) }
 {
     match kind {
         Kind::Wdl => Ok(Vec::new(alloc)),
@@ -42,11 +44,13 @@ fn read_dtz_maps<R: Input>(
 ) -> Result<Vec<Option<Map>>, ReadFault>
     requires place { front.old.place < 2 ^ 60 }
     requires few { length heads.now ≤ 8 }
-    ensures maps { Reading (maps_field Kind.Dtz (map (λ begun. begun.subtable) heads.now)) (λ list. map (option_map map_of) list.items) front.old front.new R.coming R.calls R.moved R.failures R.interrupted input.old input.new result }
+    requires paid { front.old.held ≤ 2 * front.old.place + 2 ^ 14 }
+    ensures maps { Reading (maps_field Kind.Dtz (map (λ begun. begun.subtable) heads.now)) (λ list. map (option_map map_of) list.items) front.old front.new R.Input input.old input.new result }
     ensures place { OnOk result (front.new.place ≤ front.old.place + 2 ^ 23) }
+    ensures held { OnOk result (front.new.held + 2 * front.old.place ≤ front.old.held + 2 * front.new.place + 8) }
 {
     let maps = read_each(alloc, heads, input, front)?;
-    take_fill(2, input, front)?;
+    take_fill(alloc, 2, input, front)?;
     Ok(maps)
 }
 
@@ -59,8 +63,10 @@ fn read_each<R: Input>(
 ) -> Result<Vec<Option<Map>>, ReadFault>
     requires place { front.old.place < 2 ^ 60 }
     requires few { length heads.now ≤ 8 }
-    ensures maps { Reading (each map_field (map (λ begun. begun.subtable) heads.now)) (λ list. map (option_map map_of) list.items) front.old front.new R.coming R.calls R.moved R.failures R.interrupted input.old input.new result }
+    requires paid { front.old.held ≤ 2 * front.old.place + 2 ^ 14 }
+    ensures maps { Reading (each map_field (map (λ begun. begun.subtable) heads.now)) (λ list. map (option_map map_of) list.items) front.old front.new R.Input input.old input.new result }
     ensures place { OnOk result (front.new.place ≤ front.old.place + 8 * 600000) }
+    ensures held { OnOk result (front.new.held + 2 * front.old.place ≤ front.old.held + 2 * front.new.place + 8) }
 {
     let mut list = Vec::new(alloc);
     'heads: for head in heads {
@@ -77,9 +83,11 @@ fn read_map<R: Input>(
     input: &mut R,
     front: &mut Front,
 ) -> Result<Option<Map>, ReadFault>
-    requires { front.old.place + 600000 < 2 ^ 62 }
-    ensures lists { Reading (map_field begun.now.subtable) (option_map map_of) front.old front.new R.coming R.calls R.moved R.failures R.interrupted input.old input.new result }
+    requires place { front.old.place + 600000 < 2 ^ 62 }
+    requires paid { front.old.held ≤ 2 * front.old.place + 2 ^ 15 }
+    ensures lists { Reading (map_field begun.now.subtable) (option_map map_of) front.old front.new R.Input input.old input.new result }
     ensures place { OnOk result (front.new.place ≤ front.old.place + 600000) }
+    ensures held { OnOk result (front.new.held + 2 * front.old.place ≤ front.old.held + 2 * front.new.place) }
 {
     let flags = flags_of(&begun.sub);
     if !has_flag(1, flags) {
@@ -96,12 +104,14 @@ fn read_lists<R: Input>(
     input: &mut R,
     front: &mut Front,
 ) -> Result<Map, ReadFault>
-    requires { front.old.place + 600000 < 2 ^ 62 }
-    ensures lists { Reading (map_lists flags) map_of front.old front.new R.coming R.calls R.moved R.failures R.interrupted input.old input.new result }
+    requires place { front.old.place + 600000 < 2 ^ 62 }
+    requires paid { front.old.held ≤ 2 * front.old.place + 2 ^ 15 }
+    ensures lists { Reading (map_lists flags) map_of front.old front.new R.Input input.old input.new result }
     ensures place { OnOk result (front.new.place ≤ front.old.place + 600000) }
+    ensures held { OnOk result (front.new.held + 2 * front.old.place ≤ front.old.held + 2 * front.new.place) }
 {
     if has_flag(4, flags) {
-        take_fill(2, input, front)?;
+        take_fill(alloc, 2, input, front)?;
         let lists = read_wide_lists(alloc, input, front)?;
         return Ok(Map::Wide(lists));
     }
@@ -115,9 +125,11 @@ fn read_byte_lists<R: Input>(
     input: &mut R,
     front: &mut Front,
 ) -> Result<[Vec<u8>; 4], ReadFault>
-    requires { front.old.place + 4 * 256 < 2 ^ 62 }
-    ensures lists { Reading (each list_field (1 ∷ 1 ∷ 1 ∷ 1 ∷ [])) (map (λ list. list.items)) front.old front.new R.coming R.calls R.moved R.failures R.interrupted input.old input.new result }
+    requires place { front.old.place + 4 * 256 < 2 ^ 62 }
+    requires paid { front.old.held ≤ 2 * front.old.place + 2 ^ 15 }
+    ensures lists { Reading (each list_field (1 ∷ 1 ∷ 1 ∷ 1 ∷ [])) (map (λ list. list.items)) front.old front.new R.Input input.old input.new result }
     ensures place { OnOk result (front.new.place ≤ front.old.place + 4 * 256) }
+    ensures held { OnOk result (front.new.held + 2 * front.old.place ≤ front.old.held + 2 * front.new.place) }
 {
     let wins = read_bytes(alloc, input, front)?;
     let losses = read_bytes(alloc, input, front)?;
@@ -132,9 +144,11 @@ fn read_wide_lists<R: Input>(
     input: &mut R,
     front: &mut Front,
 ) -> Result<[Vec<u16>; 4], ReadFault>
-    requires { front.old.place + 4 * 131072 < 2 ^ 62 }
-    ensures lists { Reading (each list_field (2 ∷ 2 ∷ 2 ∷ 2 ∷ [])) (map (λ list. list.items)) front.old front.new R.coming R.calls R.moved R.failures R.interrupted input.old input.new result }
+    requires place { front.old.place + 4 * 131072 < 2 ^ 62 }
+    requires paid { front.old.held ≤ 2 * front.old.place + 2 ^ 15 }
+    ensures lists { Reading (each list_field (2 ∷ 2 ∷ 2 ∷ 2 ∷ [])) (map (λ list. list.items)) front.old front.new R.Input input.old input.new result }
     ensures place { OnOk result (front.new.place ≤ front.old.place + 4 * 131072) }
+    ensures held { OnOk result (front.new.held + 2 * front.old.place ≤ front.old.held + 2 * front.new.place) }
 {
     let wins = read_numbers(alloc, input, front)?;
     let losses = read_numbers(alloc, input, front)?;
@@ -149,9 +163,11 @@ fn read_bytes<R: Input>(
     input: &mut R,
     front: &mut Front,
 ) -> Result<Vec<u8>, ReadFault>
-    requires { front.old.place + 256 < 2 ^ 62 }
-    ensures list { Reading (list_field 1) (λ list. list.items) front.old front.new R.coming R.calls R.moved R.failures R.interrupted input.old input.new result }
+    requires place { front.old.place + 256 < 2 ^ 62 }
+    requires paid { front.old.held ≤ 2 * front.old.place + 2 ^ 15 }
+    ensures list { Reading (list_field 1) (λ list. list.items) front.old front.new R.Input input.old input.new result }
     ensures place { OnOk result (front.new.place ≤ front.old.place + 256) }
+    ensures held { OnOk result (front.new.held + 2 * front.old.place ≤ front.old.held + 2 * front.new.place) }
 {
     let count = read_byte(input, front)?;
     take_bytes(alloc, u64::from(count), input, front)
@@ -163,9 +179,11 @@ fn read_numbers<R: Input>(
     input: &mut R,
     front: &mut Front,
 ) -> Result<Vec<u16>, ReadFault>
-    requires { front.old.place + 131072 < 2 ^ 62 }
-    ensures list { Reading (list_field 2) (λ list. list.items) front.old front.new R.coming R.calls R.moved R.failures R.interrupted input.old input.new result }
+    requires place { front.old.place + 131072 < 2 ^ 62 }
+    requires paid { front.old.held ≤ 2 * front.old.place + 2 ^ 15 }
+    ensures list { Reading (list_field 2) (λ list. list.items) front.old front.new R.Input input.old input.new result }
     ensures place { OnOk result (front.new.place ≤ front.old.place + 131072) }
+    ensures held { OnOk result (front.new.held + 2 * front.old.place ≤ front.old.held + 2 * front.new.place) }
 {
     let count = read_number(input, front)?;
     take_numbers(alloc, u64::from(count), input, front)

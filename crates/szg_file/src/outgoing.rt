@@ -1,5 +1,6 @@
 ghost use Rattle.std.specs.Prelude.{◌≡◌, ℕ, ◌+◌, ◌<◌, ◌≤◌, ◌%◌, ◌^◌, ◌↔◌, [], ◌∷◌, ◌++◌, true, false, IsTrue, length, take, IfOk, IfErr, OnOk, OnErr};
-ghost use Rattle.szg_io.specs.Device.{Gives, HasFailed};
+ghost use Rattle.szg_io.specs.Device.{HasFailed};
+ghost use Rattle.szg_io.specs.Moved.{Gives};
 ghost use Rattle.szg_file.specs.FileOf.{written, padding, spare};
 ghost use Rattle.szg_file.specs.Writing.{Writing};
 
@@ -36,10 +37,10 @@ impl<'a> Outgoing<'a> {
 /// Gives a piece behind so many bytes, and tells how many bytes went out then.
 fn give<W: Output>(piece: &[u8], output: &mut W, out: u64) -> Result<u64, WriteFault>
     ensures ok { IfOk result (λ now. now ≡ (out + length piece.now) % 2 ^ 64) }
-    ensures given { OnOk result (Gives (W.written output.old) (W.written output.new) (W.calls output.old) (W.calls output.new) (W.moved output.old) (W.moved output.new) piece.now 0) }
+    ensures given { OnOk result (Gives W.Output output.old output.new piece.now 0) }
     ensures quiet { OnOk result (W.failures output.new ≡ W.failures output.old) }
     ensures fault { IfErr result (λ fault. (n : ℕ) × (n < length piece.now) × (fault.out ≡ (out + n) % 2 ^ 64)
-        × Gives (W.written output.old) (W.written output.new) (W.calls output.old) (W.calls output.new) (W.moved output.old) (W.moved output.new) (take n piece.now) 1) }
+        × Gives W.Output output.old output.new (take n piece.now) 1) }
     ensures failed { OnErr result (HasFailed (W.failures output.old) (W.failures output.new) (W.interrupted output.new)) }
 {
     match give_whole(output, piece) {
@@ -52,7 +53,7 @@ fn give<W: Output>(piece: &[u8], output: &mut W, out: u64) -> Result<u64, WriteF
 
 /// Gives the bytes that are held.
 pub fn flush<W: Output>(output: &mut W, outgoing: &mut Outgoing) -> Result<(), WriteFault>
-    ensures none { Writing [] outgoing.old outgoing.new W.written W.calls W.moved W.failures W.interrupted output.old output.new result }
+    ensures none { Writing [] outgoing.old outgoing.new W.Output output.old output.new result }
     ensures held { OnOk result (outgoing.new.held.items ≡ []) }
 {
     outgoing.out = give(outgoing.held.as_slice(), output, outgoing.out)?;
@@ -77,7 +78,7 @@ pub fn put<W: Output>(
     output: &mut W,
     outgoing: &mut Outgoing,
 ) -> Result<(), WriteFault>
-    ensures { Writing (written piece.now ∷ []) outgoing.old outgoing.new W.written W.calls W.moved W.failures W.interrupted output.old output.new result }
+    ensures { Writing (written piece.now ∷ []) outgoing.old outgoing.new W.Output output.old output.new result }
 {
     if hold(piece, outgoing) {
         return Ok(());
@@ -96,7 +97,7 @@ pub fn put_spare<W: Output>(
     outgoing: &mut Outgoing,
 ) -> Result<(), WriteFault>
     requires { count < 2 ^ 32 }
-    ensures { Writing (spare count ∷ []) outgoing.old outgoing.new W.written W.calls W.moved W.failures W.interrupted output.old output.new result }
+    ensures { Writing (spare count ∷ []) outgoing.old outgoing.new W.Output output.old output.new result }
 {
     let count = outgoing.fill.len().min(count as usize);
     let (fill, rest) = outgoing.fill.split_at(count);
@@ -113,7 +114,7 @@ pub fn put_padding<W: Output>(
     requires some { 0 < unit }
     requires most { unit < 2 ^ 32 }
     requires whole { 2 ^ 64 % unit ≡ 0 }
-    ensures { Writing (padding unit ∷ []) outgoing.old outgoing.new W.written W.calls W.moved W.failures W.interrupted output.old output.new result }
+    ensures { Writing (padding unit ∷ []) outgoing.old outgoing.new W.Output output.old output.new result }
 {
     let place = outgoing.out.wrapping_add(outgoing.held.len() as u64);
     put_spare((unit - place % unit) % unit, output, outgoing)

@@ -25,11 +25,12 @@ use szg_values::{Kind, Material};
 #[derive(Drop)]
 pub struct Parts {
     pub bytes: Vec<PartBytes>,
-    pub slots: Vec<Slot>,
+    /// At most two for each of four parts; it takes no memory.
+    pub slots: ArrayVec<Slot, 8>,
 }
 
 /// How many order bytes a part has.
-fn order_count(material: &Material) -> usize
+pub fn order_count(material: &Material) -> usize
     ensures number { result ≡ order_bytes material.now }
     ensures some { 1 ≤ result }
     ensures few { result ≤ 2 }
@@ -42,7 +43,7 @@ fn order_count(material: &Material) -> usize
 }
 
 /// How many men a material has.
-fn man_count(material: &Material) -> usize
+pub fn man_count(material: &Material) -> usize
     ensures number { result ≡ length (man_codes material.now) }
     ensures some { 3 ≤ result }
     ensures few { result ≤ 6 }
@@ -133,7 +134,7 @@ fn refusal_of(fault: OrderFault, place: u64, orders: usize) -> (u64, Reason)
 }
 
 /// The sizes of the sides of a part that stands at this place; else where and why it is refused.
-fn part_sizes(
+pub fn part_sizes(
     material: &Material,
     kind: Kind,
     part: u8,
@@ -170,14 +171,18 @@ fn part_sizes(
 }
 
 /// A list of its own of these bytes, which the front has taken.
-fn copied(alloc: Global, bytes: &[u8], front: &Front) -> Result<Vec<u8>, ReadFault>
+fn copied(alloc: Global, bytes: &[u8], front: &mut Front) -> Result<Vec<u8>, ReadFault>
     requires few { length bytes.now ≤ 8 }
-    requires place { front.now.place < 2 ^ 61 }
+    requires place { front.old.place < 2 ^ 61 }
+    requires paid { front.old.held ≤ 2 * front.old.place + 2 ^ 15 }
     ensures bytes { IfOk result (λ list. list.items ≡ bytes.now) }
+    ensures held { OnOk result (front.new.held ≡ front.old.held + length bytes.now) }
+    ensures place { OnOk result (front.new.place ≡ front.old.place) }
+    ensures fill { OnOk result (front.new.fill.items ≡ front.old.fill.items) }
     ensures memory { OnErr result (result ≡ Err ReadFault.Memory) }
 {
     let mut list = Vec::new(alloc);
-    grow(&mut list, bytes.len(), front.held, front.place)?;
+    grow(&mut list, bytes.len(), front)?;
     list.extend_from_slice(bytes)?;
     Ok(list)
 }
@@ -193,10 +198,12 @@ fn read_part<R: Input>(
 ) -> Result<(PartBytes, SideSizes), ReadFault>
     requires part { IsPart material.now part }
     requires place { front.old.place < 2 ^ 60 }
-    ensures part { Reading (part_field material.now kind) (λ read. part_of read.0) front.old front.new R.coming R.calls R.moved R.failures R.interrupted input.old input.new result }
+    requires paid { front.old.held ≤ 2 * front.old.place + 2 ^ 14 }
+    ensures part { Reading (part_field material.now kind) (λ read. part_of read.0) front.old front.new R.Input input.old input.new result }
     ensures slots { IfOk result (λ read. part_slots material.now (side_numbers material.now kind) part (part_of read.0) ≡ slots_with part read.1.first read.1.second) }
     ensures fits { IfOk result (λ read. (read.1.first < 2 ^ 33) × IfSome read.1.second (λ second. second < 2 ^ 33)) }
     ensures place { OnOk result (front.new.place ≤ front.old.place + 8) }
+    ensures held { OnOk result (front.new.held + front.old.place ≡ front.old.held + front.new.place) }
 {
     let place = front.place;
     let orders = order_count(material);
@@ -211,12 +218,11 @@ fn read_part<R: Input>(
     };
     let order = copied(alloc, order, front)?;
     let men = copied(alloc, men, front)?;
-    front.held += size as u64 + 4;
     Ok((PartBytes { order, men }, sizes))
 }
 
 /// How many parts a file has.
-fn part_count(material: &Material) -> u8
+pub fn part_count(material: &Material) -> u8
     ensures numbers { part_numbers material.now ≡ range_with_len 0 result }
     ensures parts { (part : ℕ) → part < result → IsPart material.now part }
     ensures few { result ≤ 4 }
@@ -225,33 +231,25 @@ fn part_count(material: &Material) -> u8
 }
 
 /// Adds the subtables of a part.
-fn push_slots(
-    slots: &mut Vec<Slot>,
-    part: u8,
-    sizes: SideSizes,
-    front: &Front,
-) -> Result<(), ReadFault>
+pub fn push_slots(slots: &mut ArrayVec<Slot, 8>, part: u8, sizes: SideSizes)
     requires part { part < 4 }
     requires first { sizes.first < 2 ^ 33 }
     requires second { IfSome sizes.second (λ second. second < 2 ^ 33) }
-    requires place { front.now.place < 2 ^ 61 }
-    ensures slots { OnOk result (slots.new.items ≡ slots.old.items ++ slots_with part sizes.first sizes.second) }
-    ensures memory { OnErr result (result ≡ Err ReadFault.Memory) }
+    requires room { length slots.old.items ≤ 6 }
+    ensures { slots.new.items ≡ slots.old.items ++ slots_with part sizes.first sizes.second }
 {
-    grow(slots, 2, front.held, front.place)?;
     slots.push(Slot {
         part,
         side: 0,
         size: sizes.first,
-    })?;
+    });
     if let Some(second) = sizes.second {
         slots.push(Slot {
             part,
             side: 1,
             size: second,
-        })?;
+        });
     }
-    Ok(())
 }
 
 /// Adds a part with its subtables.
@@ -260,19 +258,25 @@ fn push_part(
     part: u8,
     bytes: PartBytes,
     sizes: SideSizes,
-    front: &Front,
+    front: &mut Front,
 ) -> Result<(), ReadFault>
     requires part { part < 4 }
     requires first { sizes.first < 2 ^ 33 }
     requires second { IfSome sizes.second (λ second. second < 2 ^ 33) }
-    requires place { front.now.place < 2 ^ 61 }
+    requires room { length parts.old.slots.items ≤ 6 }
+    requires place { front.old.place < 2 ^ 61 }
+    requires paid { front.old.held ≤ 2 * front.old.place + 2 ^ 15 }
     ensures bytes { OnOk result (parts.new.bytes.items ≡ parts.old.bytes.items ++ bytes ∷ []) }
     ensures slots { OnOk result (parts.new.slots.items ≡ parts.old.slots.items ++ slots_with part sizes.first sizes.second) }
+    ensures held { OnOk result (front.new.held ≡ front.old.held + 1) }
+    ensures place { OnOk result (front.new.place ≡ front.old.place) }
+    ensures fill { OnOk result (front.new.fill.items ≡ front.old.fill.items) }
     ensures memory { OnErr result (result ≡ Err ReadFault.Memory) }
 {
-    grow(&mut parts.bytes, 1, front.held, front.place)?;
+    grow(&mut parts.bytes, 1, front)?;
     parts.bytes.push(bytes)?;
-    push_slots(&mut parts.slots, part, sizes, front)
+    push_slots(&mut parts.slots, part, sizes);
+    Ok(())
 }
 
 /// Takes the parts.
@@ -283,15 +287,17 @@ pub fn read_parts<R: Input>(
     input: &mut R,
     front: &mut Front,
 ) -> Result<Parts, ReadFault>
-    requires { front.old.place < 2 ^ 59 }
-    ensures parts { Reading (each (λ _. part_field material.now kind) (part_numbers material.now)) (λ parts. map part_of parts.bytes.items) front.old front.new R.coming R.calls R.moved R.failures R.interrupted input.old input.new result }
+    requires place { front.old.place < 2 ^ 59 }
+    requires paid { front.old.held ≤ 2 * front.old.place }
+    ensures parts { Reading (each (λ _. part_field material.now kind) (part_numbers material.now)) (λ parts. map part_of parts.bytes.items) front.old front.new R.Input input.old input.new result }
     ensures slots { IfOk result (λ parts. parts.slots.items ≡ slots material.now kind (map part_of parts.bytes.items)) }
     ensures few { IfOk result (λ parts. length parts.slots.items ≤ 8) }
     ensures place { OnOk result (front.new.place ≤ front.old.place + 32) }
+    ensures held { OnOk result (front.new.held + 2 * front.old.place ≤ front.old.held + 2 * front.new.place + 4) }
 {
     let mut parts = Parts {
         bytes: Vec::new(alloc),
-        slots: Vec::new(alloc),
+        slots: ArrayVec::new(),
     };
     'parts: for part in 0..part_count(material) {
         let (bytes, sizes) = read_part(alloc, material, kind, part, input, front)?;

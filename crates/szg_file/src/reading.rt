@@ -1,11 +1,12 @@
-ghost use Rattle.std.specs.Prelude.{◌≡◌, ℕ, ◌+◌, ◌*◌, ◌^◌, ◌≤◌, ◌<◌, List, length, map, IfSome, IfOk, OnOk, IsErrOf};
-ghost use Rattle.szg_io.specs.Device.{Takes, HasFailed};
+ghost use Rattle.std.specs.Prelude.{◌≡◌, ℕ, ◌+◌, ◌*◌, ◌^◌, ◌≤◌, ◌<◌, List, length, map, IfSome, IfOk, OnOk, IsErrOf, IsTrue};
+ghost use Rattle.szg_io.specs.Device.{HasFailed};
+ghost use Rattle.szg_io.specs.Moved.{Takes};
 ghost use Rattle.szg_file.specs.Format.{verdict};
 ghost use Rattle.szg_file.specs.Contents.{slots};
 ghost use Rattle.szg_file.specs.File.{file, begun};
 ghost use Rattle.szg_file.specs.Accepted.{IsAccepted};
 ghost use Rattle.szg_file.specs.Held.{file_bytes, part_of, subtable_of};
-ghost use Rattle.szg_file.specs.Reading.{Reading};
+ghost use Rattle.szg_file.specs.Reading.{Reading, Lacking};
 ghost use Rattle.szg_file.specs.Reads.{FollowsVerdict, TookBytes, list_lengths};
 ghost use Rattle.szg_file.specs.FilePieces.{opening_field, packed_field, ending_field, opened, contents_of};
 
@@ -45,24 +46,26 @@ pub struct Pieces {
 }
 
 /// Takes magic and byte 4, the parts, the heads and the maps.
-fn read_opening<R: Input>(
+pub fn read_opening<R: Input>(
     alloc: Global,
     material: &Material,
     kind: Kind,
     input: &mut R,
     front: &mut Front,
 ) -> Result<Opening, ReadFault>
-    requires { front.old.place ≡ 0 }
-    ensures opening { Reading (opening_field material.now kind) opened front.old front.new R.coming R.calls R.moved R.failures R.interrupted input.old input.new result }
+    requires place { front.old.place ≡ 0 }
+    requires held { front.old.held ≡ 0 }
+    ensures opening { Reading (opening_field material.now kind) opened front.old front.new R.Input input.old input.new result }
     ensures slots { IfOk result (λ o. o.parts.slots.items ≡ slots material.now kind (map part_of o.parts.bytes.items)) }
     ensures begun { IfOk result (λ o. o.heads.items ≡ begun (slots material.now kind (map part_of o.parts.bytes.items)) (map (λ begun. begun.subtable) o.heads.items)) }
     ensures few { IfOk result (λ o. length o.heads.items ≤ 8) }
     ensures place { OnOk result (front.new.place < 2 ^ 24) }
+    ensures held { OnOk result (front.new.held ≤ 2 * front.new.place + 20) }
 {
     let byte4 = read_start(material, kind, input, front)?;
     let parts = read_parts(alloc, material, kind, input, front)?;
-    take_fill(2, input, front)?;
-    let heads = read_heads(alloc, &parts.slots, input, front)?;
+    take_fill(alloc, 2, input, front)?;
+    let heads = read_heads(alloc, parts.slots.as_slice(), input, front)?;
     let maps = read_maps(alloc, kind, &heads, input, front)?;
     Ok(Opening {
         byte4,
@@ -80,9 +83,11 @@ fn read_subtables<R: Input>(
     front: &mut Front,
 ) -> Result<Vec<Sub>, ReadFault>
     requires place { front.old.place < 2 ^ 24 }
+    requires paid { front.old.held ≤ 2 * front.old.place + 20 }
     requires few { length heads.items ≤ 8 }
-    ensures packed { Reading (packed_field heads.items) (λ subs. map subtable_of subs.items) front.old front.new R.coming R.calls R.moved R.failures R.interrupted input.old input.new result }
+    ensures packed { Reading (packed_field heads.items) (λ subs. map subtable_of subs.items) front.old front.new R.Input input.old input.new result }
     ensures place { OnOk result (front.new.place < 2 ^ 56) }
+    ensures held { OnOk result (front.new.held ≤ 2 * front.new.place + 44) }
 {
     let indexed = read_indexes(alloc, heads, input, front)?;
     let measured = read_lengths(alloc, indexed, input, front)?;
@@ -90,11 +95,17 @@ fn read_subtables<R: Input>(
 }
 
 /// Takes the fill behind the blocks, and the last sixteen bytes.
-fn read_ending<R: Input>(input: &mut R, front: &mut Front) -> Result<[u8; 16], ReadFault>
-    requires { front.old.place < 2 ^ 56 }
-    ensures ending { Reading ending_field (λ last. last) front.old front.new R.coming R.calls R.moved R.failures R.interrupted input.old input.new result }
+pub fn read_ending<R: Input>(
+    alloc: Global,
+    input: &mut R,
+    front: &mut Front,
+) -> Result<[u8; 16], ReadFault>
+    requires place { front.old.place < 2 ^ 56 }
+    requires paid { front.old.held ≤ 2 * front.old.place + 44 }
+    ensures ending { Reading ending_field (λ last. last) front.old front.new R.Input input.old input.new result }
+    ensures memory { IsErrOf result ReadFault.Memory → Lacking ending_field front.old R.Input input.old input.new }
 {
-    take_fill(64, input, front)?;
+    take_fill(alloc, 64, input, front)?;
     let mut last = [0; 16];
     take_field(input, front, &mut last)?;
     Ok(last)
@@ -108,8 +119,10 @@ fn read_pieces<R: Input>(
     input: &mut R,
     front: &mut Front,
 ) -> Result<Pieces, ReadFault>
-    requires { front.old.place ≡ 0 }
-    ensures pieces { Reading (file material.now kind) (contents_of material.now kind) front.old front.new R.coming R.calls R.moved R.failures R.interrupted input.old input.new result }
+    requires place { front.old.place ≡ 0 }
+    requires held { front.old.held ≡ 0 }
+    ensures pieces { Reading (file material.now kind) (contents_of material.now kind) front.old front.new R.Input input.old input.new result }
+    ensures memory { IsErrOf result ReadFault.Memory → Lacking (file material.now kind) front.old R.Input input.old input.new }
     ensures slots { IfOk result (λ p. p.parts.slots.items ≡ slots material.now kind (map part_of p.parts.bytes.items)) }
 {
     let Opening {
@@ -119,7 +132,7 @@ fn read_pieces<R: Input>(
         maps,
     } = read_opening(alloc, material, kind, input, front)?;
     let subs = read_subtables(alloc, heads, input, front)?;
-    let last = read_ending(input, front)?;
+    let last = read_ending(alloc, input, front)?;
     Ok(Pieces {
         byte4,
         parts,
@@ -133,7 +146,8 @@ fn read_pieces<R: Input>(
 ///
 /// `Refused` tells the first check that fails and its place: then the bytes up to the end of the field that
 /// it checks were taken, and none past it; `Truncated` where the bytes end within a field. `Device` where the
-/// reader failed, `Memory` where a growth was refused.
+/// reader failed, never of a reader that may not fail. `Memory` where a growth was refused: then no byte was taken past
+/// the file or past the first field that fails, and no check that fails was passed over.
 pub fn read<R: Input>(
     alloc: Global,
     material: Material,
@@ -142,15 +156,16 @@ pub fn read<R: Input>(
 ) -> Result<Table, ReadFault>
     // Where the reader tells its bytes, the answer is their verdict, however they come in pieces.
     ensures verdict { IfSome (R.coming input.old) (λ bytes. FollowsVerdict (verdict (file material kind) 0 bytes) result (R.coming input.new)) }
-    // Whatever the reader tells: which bytes were taken, and with how many calls.
+    // Whatever the reader tells: these are the bytes that it moved, and with how many calls.
     ensures taken { (bytes : List ℕ)
-        × Takes (R.coming input.old) (R.coming input.new) (R.calls input.old) (R.calls input.new) (R.moved input.old) (R.moved input.new) bytes 1
+        × Takes R.Input input.old input.new bytes 1
         × TookBytes material kind bytes (R.coming input.new) result }
     ensures material { IfOk result (λ t. t.contents.material ≡ material) }
     ensures kind { IfOk result (λ t. t.contents.kind ≡ kind) }
     ensures accepted { IfOk result (λ t. IsAccepted t.contents t.filled) }
     ensures lists { IfOk result (λ t. list_lengths t ≤ 4 * length (file_bytes t) + 65536) }
     ensures device { IsErrOf result ReadFault.Device → HasFailed (R.failures input.old) (R.failures input.new) (R.interrupted input.new) }
+    ensures may_fail { IsErrOf result ReadFault.Device → IsTrue (R.may_fail input.old) }
     ensures quiet { (IsErrOf result ReadFault.Device → ⊥) → R.failures input.new ≡ R.failures input.old }
 {
     let mut front = Front::new(alloc);

@@ -24,7 +24,7 @@ fn put_bytes<W: Output>(
     output: &mut W,
     outgoing: &mut Outgoing,
 ) -> Result<(), WriteFault>
-    ensures { Writing (written (flat_map (bytes_of 1) list.now) ∷ []) outgoing.old outgoing.new W.written W.calls W.moved W.failures W.interrupted output.old output.new result }
+    ensures { Writing (written (flat_map (bytes_of 1) list.now) ∷ []) outgoing.old outgoing.new W.Output output.old output.new result }
 {
     put(list, output, outgoing)
 }
@@ -35,7 +35,7 @@ fn put_u16<W: Output>(
     output: &mut W,
     outgoing: &mut Outgoing,
 ) -> Result<(), WriteFault>
-    ensures { Writing (written (bytes_of 2 number) ∷ []) outgoing.old outgoing.new W.written W.calls W.moved W.failures W.interrupted output.old output.new result }
+    ensures { Writing (written (bytes_of 2 number) ∷ []) outgoing.old outgoing.new W.Output output.old output.new result }
 {
     put(&number.to_le_bytes(), output, outgoing)
 }
@@ -46,7 +46,7 @@ fn put_u32<W: Output>(
     output: &mut W,
     outgoing: &mut Outgoing,
 ) -> Result<(), WriteFault>
-    ensures { Writing (written (bytes_of 4 number) ∷ []) outgoing.old outgoing.new W.written W.calls W.moved W.failures W.interrupted output.old output.new result }
+    ensures { Writing (written (bytes_of 4 number) ∷ []) outgoing.old outgoing.new W.Output output.old output.new result }
 {
     put(&number.to_le_bytes(), output, outgoing)
 }
@@ -57,7 +57,7 @@ fn put_numbers<W: Output>(
     output: &mut W,
     outgoing: &mut Outgoing,
 ) -> Result<(), WriteFault>
-    ensures { Writing (written (flat_map (bytes_of 2) list.now) ∷ []) outgoing.old outgoing.new W.written W.calls W.moved W.failures W.interrupted output.old output.new result }
+    ensures { Writing (written (flat_map (bytes_of 2) list.now) ∷ []) outgoing.old outgoing.new W.Output output.old output.new result }
 {
     'numbers: for number in list {
         put_u16(*number, output, outgoing)?;
@@ -71,7 +71,7 @@ fn put_short_list<W: Output>(
     output: &mut W,
     outgoing: &mut Outgoing,
 ) -> Result<(), WriteFault>
-    ensures { Writing (list_sections 1 list.now) outgoing.old outgoing.new W.written W.calls W.moved W.failures W.interrupted output.old output.new result }
+    ensures { Writing (list_sections 1 list.now) outgoing.old outgoing.new W.Output output.old output.new result }
 {
     put(&(list.len() as u64).to_le_bytes()[..1], output, outgoing)?;
     put_bytes(list, output, outgoing)
@@ -83,7 +83,7 @@ fn put_wide_list<W: Output>(
     output: &mut W,
     outgoing: &mut Outgoing,
 ) -> Result<(), WriteFault>
-    ensures { Writing (list_sections 2 list.now) outgoing.old outgoing.new W.written W.calls W.moved W.failures W.interrupted output.old output.new result }
+    ensures { Writing (list_sections 2 list.now) outgoing.old outgoing.new W.Output output.old output.new result }
 {
     put(&(list.len() as u64).to_le_bytes()[..2], output, outgoing)?;
     put_numbers(list, output, outgoing)
@@ -96,7 +96,7 @@ fn write_part<W: Output>(
     output: &mut W,
     outgoing: &mut Outgoing,
 ) -> Result<(), WriteFault>
-    ensures { Writing (part_sections (part_of part.now)) outgoing.old outgoing.new W.written W.calls W.moved W.failures W.interrupted output.old output.new result }
+    ensures { Writing (part_sections (part_of part.now)) outgoing.old outgoing.new W.Output output.old output.new result }
 {
     put(&part.order, output, outgoing)?;
     put(&part.men, output, outgoing)
@@ -107,7 +107,7 @@ fn write_parts<W: Output>(
     output: &mut W,
     outgoing: &mut Outgoing,
 ) -> Result<(), WriteFault>
-    ensures { Writing (flat_map part_sections (map part_of parts.now)) outgoing.old outgoing.new W.written W.calls W.moved W.failures W.interrupted output.old output.new result }
+    ensures { Writing (flat_map part_sections (map part_of parts.now)) outgoing.old outgoing.new W.Output output.old output.new result }
 {
     'parts: for part in parts {
         write_part(part, output, outgoing)?;
@@ -123,7 +123,7 @@ pub fn write_front<W: Output>(
     output: &mut W,
     outgoing: &mut Outgoing,
 ) -> Result<(), WriteFault>
-    ensures { Writing (written (magic_of kind) ∷ written (byte4 ∷ []) ∷ flat_map part_sections (map part_of parts.now)) outgoing.old outgoing.new W.written W.calls W.moved W.failures W.interrupted output.old output.new result }
+    ensures { Writing (written (magic_of kind) ∷ written (byte4 ∷ []) ∷ flat_map part_sections (map part_of parts.now)) outgoing.old outgoing.new W.Output output.old output.new result }
 {
     put(&magic(kind), output, outgoing)?;
     put(&[byte4], output, outgoing)?;
@@ -137,7 +137,7 @@ fn put_code<W: Output>(
     output: &mut W,
     outgoing: &mut Outgoing,
 ) -> Result<(), WriteFault>
-    ensures { Writing (code_sections code.now) outgoing.old outgoing.new W.written W.calls W.moved W.failures W.interrupted output.old output.new result }
+    ensures { Writing (code_sections code.now) outgoing.old outgoing.new W.Output output.old output.new result }
 {
     put(&[code.max(), code.min()], output, outgoing)?;
     put_numbers(code.lowest(), output, outgoing)
@@ -148,7 +148,7 @@ fn put_entries<W: Output>(
     output: &mut W,
     outgoing: &mut Outgoing,
 ) -> Result<(), WriteFault>
-    ensures { Writing (written (flat_map (λ entry. entry) dict.now) ∷ []) outgoing.old outgoing.new W.written W.calls W.moved W.failures W.interrupted output.old output.new result }
+    ensures { Writing (written (flat_map (λ entry. entry) dict.now) ∷ []) outgoing.old outgoing.new W.Output output.old output.new result }
 {
     'symbols: for symbol in 0..dict.symbols() {
         put(&dict.entry(symbol), output, outgoing)?;
@@ -161,7 +161,7 @@ fn put_dictionary<W: Output>(
     output: &mut W,
     outgoing: &mut Outgoing,
 ) -> Result<(), WriteFault>
-    ensures { Writing (dictionary_sections dict.now) outgoing.old outgoing.new W.written W.calls W.moved W.failures W.interrupted output.old output.new result }
+    ensures { Writing (dictionary_sections dict.now) outgoing.old outgoing.new W.Output output.old output.new result }
 {
     let symbols = dict.symbols();
     put_u16(symbols, output, outgoing)?;
@@ -174,7 +174,7 @@ fn write_head<W: Output>(
     output: &mut W,
     outgoing: &mut Outgoing,
 ) -> Result<(), WriteFault>
-    ensures { Writing (head_sections (subtable_of sub.now)) outgoing.old outgoing.new W.written W.calls W.moved W.failures W.interrupted output.old output.new result }
+    ensures { Writing (head_sections (subtable_of sub.now)) outgoing.old outgoing.new W.Output output.old output.new result }
 {
     match sub {
         Sub::Constant { flags, byte } => put(&[*flags, *byte], output, outgoing),
@@ -201,7 +201,7 @@ fn write_each_head<W: Output>(
     output: &mut W,
     outgoing: &mut Outgoing,
 ) -> Result<(), WriteFault>
-    ensures { Writing (flat_map head_sections (map subtable_of subs.now)) outgoing.old outgoing.new W.written W.calls W.moved W.failures W.interrupted output.old output.new result }
+    ensures { Writing (flat_map head_sections (map subtable_of subs.now)) outgoing.old outgoing.new W.Output output.old output.new result }
 {
     'heads: for sub in subs {
         write_head(sub, output, outgoing)?;
@@ -215,7 +215,7 @@ pub fn write_heads<W: Output>(
     output: &mut W,
     outgoing: &mut Outgoing,
 ) -> Result<(), WriteFault>
-    ensures { Writing (padding 2 ∷ flat_map head_sections (map subtable_of subs.now)) outgoing.old outgoing.new W.written W.calls W.moved W.failures W.interrupted output.old output.new result }
+    ensures { Writing (padding 2 ∷ flat_map head_sections (map subtable_of subs.now)) outgoing.old outgoing.new W.Output output.old output.new result }
 {
     put_padding(2, output, outgoing)?;
     write_each_head(subs, output, outgoing)
@@ -228,7 +228,7 @@ fn put_short_lists<W: Output>(
     output: &mut W,
     outgoing: &mut Outgoing,
 ) -> Result<(), WriteFault>
-    ensures { Writing (flat_map (list_sections 1) (map (λ list. list.items) lists.now)) outgoing.old outgoing.new W.written W.calls W.moved W.failures W.interrupted output.old output.new result }
+    ensures { Writing (flat_map (list_sections 1) (map (λ list. list.items) lists.now)) outgoing.old outgoing.new W.Output output.old output.new result }
 {
     'lists: for list in lists {
         put_short_list(list, output, outgoing)?;
@@ -241,7 +241,7 @@ fn put_wide_lists<W: Output>(
     output: &mut W,
     outgoing: &mut Outgoing,
 ) -> Result<(), WriteFault>
-    ensures { Writing (flat_map (list_sections 2) (map (λ list. list.items) lists.now)) outgoing.old outgoing.new W.written W.calls W.moved W.failures W.interrupted output.old output.new result }
+    ensures { Writing (flat_map (list_sections 2) (map (λ list. list.items) lists.now)) outgoing.old outgoing.new W.Output output.old output.new result }
 {
     'lists: for list in lists {
         put_wide_list(list, output, outgoing)?;
@@ -250,7 +250,7 @@ fn put_wide_lists<W: Output>(
 }
 
 fn put_map<W: Output>(map: &Map, output: &mut W, outgoing: &mut Outgoing) -> Result<(), WriteFault>
-    ensures { Writing (map_sections (Some (map_of map.now))) outgoing.old outgoing.new W.written W.calls W.moved W.failures W.interrupted output.old output.new result }
+    ensures { Writing (map_sections (Some (map_of map.now))) outgoing.old outgoing.new W.Output output.old output.new result }
 {
     match map {
         Map::Bytes(lists) => put_short_lists(lists, output, outgoing),
@@ -266,7 +266,7 @@ fn write_map<W: Output>(
     output: &mut W,
     outgoing: &mut Outgoing,
 ) -> Result<(), WriteFault>
-    ensures { Writing (map_sections (option_map map_of map.now)) outgoing.old outgoing.new W.written W.calls W.moved W.failures W.interrupted output.old output.new result }
+    ensures { Writing (map_sections (option_map map_of map.now)) outgoing.old outgoing.new W.Output output.old output.new result }
 {
     match map {
         None => Ok(()),
@@ -279,7 +279,7 @@ fn write_each_map<W: Output>(
     output: &mut W,
     outgoing: &mut Outgoing,
 ) -> Result<(), WriteFault>
-    ensures { Writing (flat_map map_sections (map (option_map map_of) maps.now)) outgoing.old outgoing.new W.written W.calls W.moved W.failures W.interrupted output.old output.new result }
+    ensures { Writing (flat_map map_sections (map (option_map map_of) maps.now)) outgoing.old outgoing.new W.Output output.old output.new result }
 {
     'maps: for item in maps {
         write_map(item, output, outgoing)?;
@@ -294,7 +294,7 @@ pub fn write_maps<W: Output>(
     output: &mut W,
     outgoing: &mut Outgoing,
 ) -> Result<(), WriteFault>
-    ensures { Writing (maps_sections kind (map (option_map map_of) maps.now)) outgoing.old outgoing.new W.written W.calls W.moved W.failures W.interrupted output.old output.new result }
+    ensures { Writing (maps_sections kind (map (option_map map_of) maps.now)) outgoing.old outgoing.new W.Output output.old output.new result }
 {
     match kind {
         Kind::Wdl => Ok(()),
@@ -312,7 +312,7 @@ fn put_entry<W: Output>(
     output: &mut W,
     outgoing: &mut Outgoing,
 ) -> Result<(), WriteFault>
-    ensures { Writing (written (bytes_of 4 entry.now.block ++ bytes_of 2 entry.now.offset) ∷ []) outgoing.old outgoing.new W.written W.calls W.moved W.failures W.interrupted output.old output.new result }
+    ensures { Writing (written (bytes_of 4 entry.now.block ++ bytes_of 2 entry.now.offset) ∷ []) outgoing.old outgoing.new W.Output output.old output.new result }
 {
     put_u32(entry.block, output, outgoing)?;
     put_u16(entry.offset, output, outgoing)
@@ -323,7 +323,7 @@ fn put_sparse<W: Output>(
     output: &mut W,
     outgoing: &mut Outgoing,
 ) -> Result<(), WriteFault>
-    ensures { Writing (written (flat_map (λ entry. bytes_of 4 entry.block ++ bytes_of 2 entry.offset) (map sparse_of sparse.now)) ∷ []) outgoing.old outgoing.new W.written W.calls W.moved W.failures W.interrupted output.old output.new result }
+    ensures { Writing (written (flat_map (λ entry. bytes_of 4 entry.block ++ bytes_of 2 entry.offset) (map sparse_of sparse.now)) ∷ []) outgoing.old outgoing.new W.Output output.old output.new result }
 {
     'entries: for entry in sparse {
         put_entry(entry, output, outgoing)?;
@@ -336,7 +336,7 @@ fn write_index<W: Output>(
     output: &mut W,
     outgoing: &mut Outgoing,
 ) -> Result<(), WriteFault>
-    ensures { Writing (sparse_sections (subtable_of sub.now)) outgoing.old outgoing.new W.written W.calls W.moved W.failures W.interrupted output.old output.new result }
+    ensures { Writing (sparse_sections (subtable_of sub.now)) outgoing.old outgoing.new W.Output output.old output.new result }
 {
     match sub {
         Sub::Constant { .. } => Ok(()),
@@ -350,7 +350,7 @@ pub fn write_indexes<W: Output>(
     output: &mut W,
     outgoing: &mut Outgoing,
 ) -> Result<(), WriteFault>
-    ensures { Writing (flat_map sparse_sections (map subtable_of subs.now)) outgoing.old outgoing.new W.written W.calls W.moved W.failures W.interrupted output.old output.new result }
+    ensures { Writing (flat_map sparse_sections (map subtable_of subs.now)) outgoing.old outgoing.new W.Output output.old output.new result }
 {
     'indexes: for sub in subs {
         write_index(sub, output, outgoing)?;
@@ -363,7 +363,7 @@ fn write_lengths<W: Output>(
     output: &mut W,
     outgoing: &mut Outgoing,
 ) -> Result<(), WriteFault>
-    ensures { Writing (lengths_sections (subtable_of sub.now)) outgoing.old outgoing.new W.written W.calls W.moved W.failures W.interrupted output.old output.new result }
+    ensures { Writing (lengths_sections (subtable_of sub.now)) outgoing.old outgoing.new W.Output output.old output.new result }
 {
     match sub {
         Sub::Constant { .. } => Ok(()),
@@ -377,7 +377,7 @@ pub fn write_all_lengths<W: Output>(
     output: &mut W,
     outgoing: &mut Outgoing,
 ) -> Result<(), WriteFault>
-    ensures { Writing (flat_map lengths_sections (map subtable_of subs.now)) outgoing.old outgoing.new W.written W.calls W.moved W.failures W.interrupted output.old output.new result }
+    ensures { Writing (flat_map lengths_sections (map subtable_of subs.now)) outgoing.old outgoing.new W.Output output.old output.new result }
 {
     'lengths: for sub in subs {
         write_lengths(sub, output, outgoing)?;
@@ -390,7 +390,7 @@ fn write_blocks<W: Output>(
     output: &mut W,
     outgoing: &mut Outgoing,
 ) -> Result<(), WriteFault>
-    ensures { Writing (blocks_sections (subtable_of sub.now)) outgoing.old outgoing.new W.written W.calls W.moved W.failures W.interrupted output.old output.new result }
+    ensures { Writing (blocks_sections (subtable_of sub.now)) outgoing.old outgoing.new W.Output output.old output.new result }
 {
     match sub {
         Sub::Constant { .. } => Ok(()),
@@ -407,7 +407,7 @@ pub fn write_all_blocks<W: Output>(
     output: &mut W,
     outgoing: &mut Outgoing,
 ) -> Result<(), WriteFault>
-    ensures { Writing (flat_map blocks_sections (map subtable_of subs.now)) outgoing.old outgoing.new W.written W.calls W.moved W.failures W.interrupted output.old output.new result }
+    ensures { Writing (flat_map blocks_sections (map subtable_of subs.now)) outgoing.old outgoing.new W.Output output.old output.new result }
 {
     'packed: for sub in subs {
         write_blocks(sub, output, outgoing)?;
@@ -421,7 +421,7 @@ pub fn write_end<W: Output>(
     output: &mut W,
     outgoing: &mut Outgoing,
 ) -> Result<(), WriteFault>
-    ensures { Writing (padding 64 ∷ written last.now ∷ []) outgoing.old outgoing.new W.written W.calls W.moved W.failures W.interrupted output.old output.new result }
+    ensures { Writing (padding 64 ∷ written last.now ∷ []) outgoing.old outgoing.new W.Output output.old output.new result }
 {
     put_padding(64, output, outgoing)?;
     put(last, output, outgoing)

@@ -30,7 +30,7 @@ fn same(a: &[u8], b: &[u8]) -> bool
 
 fn read_magic<R: Input>(kind: Kind, input: &mut R, front: &mut Front) -> Result<(), ReadFault>
     requires { front.old.place ≡ 0 }
-    ensures magic { Reading (magic_field kind) (λ _. tt) front.old front.new R.coming R.calls R.moved R.failures R.interrupted input.old input.new result }
+    ensures magic { Reading (magic_field kind) (λ _. tt) front.old front.new R.Input input.old input.new result }
     ensures place { OnOk result (front.new.place ≡ 4) }
     ensures held { OnOk result (front.new.held ≡ front.old.held) }
 {
@@ -45,13 +45,15 @@ fn read_magic<R: Input>(kind: Kind, input: &mut R, front: &mut Front) -> Result<
     Ok(())
 }
 
-fn pawns_as(material: &Material, byte: u8) -> bool
+/// Whether bit 1 says whether there are pawns.
+pub fn pawns_as(material: &Material, byte: u8) -> bool
     ensures { result ≡ agrees (has_bit 1 byte) (has_pawns material.now) }
 {
     has_flag(1, byte) == material.has_pawns()
 }
 
-fn splits_as(material: &Material, kind: Kind, byte: u8) -> bool
+/// Whether bit 0 of a WDL file says whether there are two sides; a DTZ file's is carried.
+pub fn splits_as(material: &Material, kind: Kind, byte: u8) -> bool
     ensures { result ≡ split_agrees material.now kind byte }
 {
     match kind {
@@ -67,7 +69,7 @@ fn read_byte4<R: Input>(
     front: &mut Front,
 ) -> Result<u8, ReadFault>
     requires { front.old.place ≡ 4 }
-    ensures byte { Reading (byte4_field material.now kind) (λ byte. byte) front.old front.new R.coming R.calls R.moved R.failures R.interrupted input.old input.new result }
+    ensures byte { Reading (byte4_field material.now kind) (λ byte. byte) front.old front.new R.Input input.old input.new result }
     ensures place { OnOk result (front.new.place ≡ 5) }
     ensures held { OnOk result (front.new.held ≡ front.old.held) }
 {
@@ -97,7 +99,7 @@ pub fn read_start<R: Input>(
     front: &mut Front,
 ) -> Result<u8, ReadFault>
     requires place { front.old.place ≡ 0 }
-    ensures start { Reading (start_field material.now kind) (λ byte. byte) front.old front.new R.coming R.calls R.moved R.failures R.interrupted input.old input.new result }
+    ensures start { Reading (start_field material.now kind) (λ byte. byte) front.old front.new R.Input input.old input.new result }
     ensures place { OnOk result (front.new.place ≡ 5) }
     ensures held { OnOk result (front.new.held ≡ front.old.held) }
 {

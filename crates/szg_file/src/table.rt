@@ -4,9 +4,10 @@ use crate::begun::Slot;
 use crate::distances::{list_number, number_at};
 use crate::fault::MapFault;
 use crate::lookup::{Found, constant_value, flags_of, slot_number};
+use arrayvec::ArrayVec;
 use std::alloc::{AllocError, Global};
 use std::marker::Model;
-use szg_block::{Sound, Sub};
+use szg_block::{Sound, Steps, Sub};
 use szg_values::{Kind, Material};
 
 /// A part's bytes, as they stand in the file: low nibbles belong to side 0, high nibbles to side 1.
@@ -35,7 +36,7 @@ pub struct Table {
     pub(crate) byte4: u8,
     pub(crate) parts: Vec<PartBytes>,
     // the subtables' slots, in file order
-    pub(crate) placed: Vec<Slot>,
+    pub(crate) placed: ArrayVec<Slot, 8>,
     pub(crate) subs: Vec<Sub>,
     pub(crate) maps: Vec<Option<Map>>,
     pub(crate) filled: Vec<u8>,
@@ -82,6 +83,7 @@ impl Table {
     ghost use Rattle.szg_file.specs.Held.{part_of, subtable_of, map_of};
     ghost use Rattle.szg_block.specs.Subtable.{packed_of, IsShaped, IsSoundOver};
     ghost use Rattle.szg_file.specs.Lookup.{IsFound};
+    ghost use Rattle.szg_file.specs.Steps.{steps_of};
     ghost use Rattle.szg_file.specs.Values.{subtable_at, values_of, item, number_of_value};
 
     /// The material of the name that it was read by.
@@ -139,9 +141,11 @@ impl Table {
         ensures found { MatchOption result (subtable_at self.now.contents part side ≡ None) (λ found. IsFound (subtable_at self.now.contents part side) found.size (subtable_of found.sub.now)) }
         ensures accepted { IfSome result (λ found. IsShaped found.sub.now found.size × IsSoundOver found.sub.now (packed_of found.sub.now) found.size) }
     {
-        let n = slot_number(&self.placed, part, side)?;
+        let placed = self.placed.as_slice();
+        let n = slot_number(placed, part, side)?;
+        let slot = placed[n];
         Some(Found {
-            size: self.placed[n].size,
+            size: slot.size,
             sub: &self.subs[n],
         })
     }
@@ -171,6 +175,24 @@ impl Table {
         };
         let constant = constant_value(self.kind, found.sub);
         Sound::of(found.sub, found.size, constant).get(i)
+    }
+
+    /// Value i of a part's side, and the steps by which it is found.
+    pub fn get_counted(&self, part: u8, side: u8, i: u64) -> (u16, Steps)
+        requires there { IsSome (subtable_at self.now.contents part side) }
+        requires below { IfSome (subtable_at self.now.contents part side) (λ found. i < found.0.size) }
+        ensures value { IfSome (subtable_at self.now.contents part side) (λ found. item (values_of self.now.contents.kind found) i ≡ Some result.0) }
+        ensures steps { IfSome (subtable_at self.now.contents part side) (λ found. result.1 ≡ steps_of found i) }
+    {
+        let Some(found) = self.find(part, side) else {
+            unreachable!()
+        };
+        let constant = constant_value(self.kind, found.sub);
+        let mut sound = Sound::of(found.sub, found.size, constant);
+        match sound.get_counted(i) {
+            Ok(counted) => counted,
+            Err(_) => unreachable!(),
+        }
     }
 
     /// All values of a part's side, in the order of their indexes.

@@ -1,4 +1,4 @@
-ghost use Rattle.std.specs.Prelude.{◌≡◌, ◌+◌, ◌*◌, ◌≤◌, ◌<◌, ◌^◌, ◌/◌, length, map, take, drop, Err, OnOk, IfOk, OnErr};
+ghost use Rattle.std.specs.Prelude.{◌≡◌, ◌+◌, ◌*◌, ◌≤◌, ◌<◌, ◌^◌, ◌/◌, length, map, take, drop, Err, OnOk, IfOk, OnErr, IsErrOf};
 ghost use Rattle.szg_file.specs.Format.{field, means};
 ghost use Rattle.szg_file.specs.Contents.{number_of, items};
 ghost use Rattle.szg_file.specs.File.{filled_to, rows_field, entry_of_bytes};
@@ -9,6 +9,7 @@ use crate::fault::{ReadFault, Reason};
 use crate::front::{Front, grow};
 use byteorder::{ByteOrder, LittleEndian};
 use std::alloc::Global;
+use std::mem;
 use szg_block::Entry;
 use szg_io::{Input, take_whole};
 
@@ -19,9 +20,10 @@ pub fn take_field<R: Input>(
     piece: &mut [u8],
 ) -> Result<(), ReadFault>
     requires { front.old.place + length piece.old < 2 ^ 64 }
-    ensures field { Reading (field (length piece.new) means) (λ _. piece.new) front.old front.new R.coming R.calls R.moved R.failures R.interrupted input.old input.new result }
+    ensures field { Reading (field (length piece.new) means) (λ _. piece.new) front.old front.new R.Input input.old input.new result }
     ensures place { OnOk result (front.new.place ≡ front.old.place + length piece.new) }
     ensures held { OnOk result (front.new.held ≡ front.old.held) }
+    ensures memory { IsErrOf result ReadFault.Memory → ⊥ }
 {
     let Ok(got) = take_whole(input, piece) else {
         return Err(ReadFault::Device);
@@ -37,31 +39,32 @@ pub fn take_field<R: Input>(
     Ok(())
 }
 
-/// The most bytes that a list takes at a time.
-const PIECE: u64 = 65536;
+/// The most bytes that a list takes at a time: half of what lists may run ahead of their bytes, so that there is room for
+/// items that few bytes pay for.
+const PIECE: u64 = 32768;
 
-/// Takes at most 65,536 bytes to the end of a list.
+/// Takes at most 32,768 bytes to the end of a list.
 fn take_piece<R: Input>(
     list: &mut Vec<u8>,
     size: usize,
     input: &mut R,
     front: &mut Front,
 ) -> Result<(), ReadFault>
-    requires most { size ≤ 65536 }
+    requires most { size ≤ 32768 }
     requires place { front.old.place + size < 2 ^ 62 }
-    ensures field { Reading (field size means) (λ _. drop (length list.old.items) list.new.items) front.old front.new R.coming R.calls R.moved R.failures R.interrupted input.old input.new result }
+    requires paid { front.old.held ≤ 2 * front.old.place + 2 ^ 15 }
+    ensures field { Reading (field size means) (λ _. drop (length list.old.items) list.new.items) front.old front.new R.Input input.old input.new result }
     ensures kept { OnOk result (take (length list.old.items) list.new.items ≡ list.old.items) }
     ensures longer { OnOk result (length list.new.items ≡ length list.old.items + size) }
     ensures place { OnOk result (front.new.place ≡ front.old.place + size) }
     ensures held { OnOk result (front.new.held ≡ front.old.held + size) }
 {
-    grow(list, size, front.held, front.place)?;
+    grow(list, size, front)?;
     let at = list.len();
     if list.resize(at + size, 0).is_err() {
         return Err(ReadFault::Memory);
     }
     take_field(input, front, &mut list[at..])?;
-    front.held += size as u64;
     Ok(())
 }
 
@@ -72,8 +75,10 @@ pub fn take_bytes<R: Input>(
     input: &mut R,
     front: &mut Front,
 ) -> Result<Vec<u8>, ReadFault>
-    requires { front.old.place + count < 2 ^ 62 }
-    ensures field { Reading (field count means) (λ list. list.items) front.old front.new R.coming R.calls R.moved R.failures R.interrupted input.old input.new result }
+    requires place { front.old.place + count < 2 ^ 62 }
+    requires paid { front.old.held ≤ 2 * front.old.place + 2 ^ 15 }
+    ensures field { Reading (field count means) (λ list. list.items) front.old front.new R.Input input.old input.new result }
+    ensures count { IfOk result (λ list. length list.items ≡ count) }
     ensures place { OnOk result (front.new.place ≡ front.old.place + count) }
     ensures held { OnOk result (front.new.held ≡ front.old.held + count) }
 {
@@ -89,8 +94,9 @@ pub fn take_more<R: Input>(
     input: &mut R,
     front: &mut Front,
 ) -> Result<(), ReadFault>
-    requires { front.old.place + count < 2 ^ 62 }
-    ensures field { Reading (field count means) (λ _. drop (length list.old.items) list.new.items) front.old front.new R.coming R.calls R.moved R.failures R.interrupted input.old input.new result }
+    requires place { front.old.place + count < 2 ^ 62 }
+    requires paid { front.old.held ≤ 2 * front.old.place + 2 ^ 15 }
+    ensures field { Reading (field count means) (λ _. drop (length list.old.items) list.new.items) front.old front.new R.Input input.old input.new result }
     ensures kept { OnOk result (take (length list.old.items) list.new.items ≡ list.old.items) }
     ensures longer { OnOk result (length list.new.items ≡ length list.old.items + count) }
     ensures place { OnOk result (front.new.place ≡ front.old.place + count) }
@@ -106,47 +112,64 @@ pub fn take_more<R: Input>(
 }
 
 /// Takes so many fill bytes, at most 63.
-pub fn take_spare<R: Input>(count: u8, input: &mut R, front: &mut Front) -> Result<(), ReadFault>
+pub fn take_spare<R: Input>(
+    alloc: Global,
+    count: u8,
+    input: &mut R,
+    front: &mut Front,
+) -> Result<(), ReadFault>
     requires count { count < 64 }
     requires place { front.old.place < 2 ^ 62 }
-    ensures fill { Reading (spare_field count) (λ _. tt) front.old front.new R.coming R.calls R.moved R.failures R.interrupted input.old input.new result }
+    requires paid { front.old.held ≤ 2 * front.old.place + 2 ^ 15 }
+    ensures fill { Reading (spare_field count) (λ _. tt) front.old front.new R.Input input.old input.new result }
     ensures place { OnOk result (front.new.place ≡ front.old.place + count) }
     ensures held { OnOk result (front.new.held ≡ front.old.held + count) }
 {
     let size = count as usize;
     let mut piece = [0; 64];
     take_field(input, front, &mut piece[..size])?;
-    grow(&mut front.fill, size, front.held, front.place)?;
-    if front.fill.extend_from_slice(&piece[..size]).is_err() {
+    let mut fill = mem::replace(&mut front.fill, Vec::new(alloc));
+    grow(&mut fill, size, front)?;
+    if fill.extend_from_slice(&piece[..size]).is_err() {
         return Err(ReadFault::Memory);
     }
-    front.held += count as u64;
+    front.fill = fill;
     Ok(())
 }
 
 /// Takes the fill up to a multiple of the unit, 2 or 64.
-pub fn take_fill<R: Input>(unit: u8, input: &mut R, front: &mut Front) -> Result<(), ReadFault>
+pub fn take_fill<R: Input>(
+    alloc: Global,
+    unit: u8,
+    input: &mut R,
+    front: &mut Front,
+) -> Result<(), ReadFault>
     requires some { 0 < unit }
     requires most { unit ≤ 64 }
     requires place { front.old.place < 2 ^ 62 }
-    ensures fill { Reading (filled_to unit) (λ _. tt) front.old front.new R.coming R.calls R.moved R.failures R.interrupted input.old input.new result }
+    requires paid { front.old.held ≤ 2 * front.old.place + 2 ^ 15 }
+    ensures fill { Reading (filled_to unit) (λ _. tt) front.old front.new R.Input input.old input.new result }
     ensures place { OnOk result (front.new.place < front.old.place + 64) }
     ensures held { OnOk result (front.new.held + front.old.place ≡ front.old.held + front.new.place) }
 {
     let rest = (front.place % unit as u64) as u8;
-    take_spare((unit - rest) % unit, input, front)
+    take_spare(alloc, (unit - rest) % unit, input, front)
 }
 
 /// The numbers of two bytes each that stand one behind another.
-fn numbers(alloc: Global, bytes: &[u8], front: &Front) -> Result<Vec<u16>, ReadFault>
-    requires paid { length bytes.now ≤ front.now.place }
-    requires place { front.now.place < 2 ^ 62 }
+fn numbers(alloc: Global, bytes: &[u8], front: &mut Front) -> Result<Vec<u16>, ReadFault>
+    requires paid { front.old.held + length bytes.now ≤ 2 * front.old.place + 2 ^ 15 }
+    requires place { front.old.place < 2 ^ 62 }
     ensures numbers { IfOk result (λ list. list.items ≡ map number_of (items 2 (length bytes.now / 2) bytes.now)) }
+    ensures count { IfOk result (λ list. length list.items ≡ length bytes.now / 2) }
+    ensures held { OnOk result (front.new.held ≡ front.old.held + length bytes.now / 2) }
+    ensures place { OnOk result (front.new.place ≡ front.old.place) }
+    ensures fill { OnOk result (front.new.fill.items ≡ front.old.fill.items) }
     ensures memory { OnErr result (result ≡ Err ReadFault.Memory) }
 {
     let mut list = Vec::new(alloc);
     'rows: for i in 0..bytes.len() / 2 {
-        grow(&mut list, 1, front.held + i as u64, front.place)?;
+        grow(&mut list, 1, front)?;
         let number = LittleEndian::read_u16(&bytes[2 * i..]);
         list.push(number)?;
     }
@@ -160,27 +183,31 @@ pub fn take_numbers<R: Input>(
     input: &mut R,
     front: &mut Front,
 ) -> Result<Vec<u16>, ReadFault>
-    requires { front.old.place + 2 * count < 2 ^ 62 }
-    ensures rows { Reading (numbers_field count) (λ list. list.items) front.old front.new R.coming R.calls R.moved R.failures R.interrupted input.old input.new result }
+    requires place { front.old.place + 2 * count < 2 ^ 62 }
+    requires paid { front.old.held ≤ 2 * front.old.place + 2 ^ 15 }
+    ensures rows { Reading (numbers_field count) (λ list. list.items) front.old front.new R.Input input.old input.new result }
     ensures place { OnOk result (front.new.place ≡ front.old.place + 2 * count) }
-    ensures held { OnOk result (front.new.held ≤ front.old.held + 3 * count) }
+    ensures count { IfOk result (λ list. length list.items ≡ count) }
+    ensures held { OnOk result (front.new.held ≡ front.old.held + 3 * count) }
 {
     let bytes = take_bytes(alloc, 2 * count, input, front)?;
-    let list = numbers(alloc, &bytes, front)?;
-    front.held += count;
-    Ok(list)
+    numbers(alloc, &bytes, front)
 }
 
 /// The entries of three bytes each that stand one behind another.
-fn entries(alloc: Global, bytes: &[u8], front: &Front) -> Result<Vec<[u8; 3]>, ReadFault>
-    requires paid { length bytes.now ≤ front.now.place }
-    requires place { front.now.place < 2 ^ 62 }
+fn entries(alloc: Global, bytes: &[u8], front: &mut Front) -> Result<Vec<[u8; 3]>, ReadFault>
+    requires paid { front.old.held + length bytes.now ≤ 2 * front.old.place + 2 ^ 15 }
+    requires place { front.old.place < 2 ^ 62 }
     ensures entries { IfOk result (λ list. list.items ≡ items 3 (length bytes.now / 3) bytes.now) }
+    ensures count { IfOk result (λ list. length list.items ≡ length bytes.now / 3) }
+    ensures held { OnOk result (front.new.held ≡ front.old.held + length bytes.now / 3) }
+    ensures place { OnOk result (front.new.place ≡ front.old.place) }
+    ensures fill { OnOk result (front.new.fill.items ≡ front.old.fill.items) }
     ensures memory { OnErr result (result ≡ Err ReadFault.Memory) }
 {
     let mut list = Vec::new(alloc);
     'rows: for i in 0..bytes.len() / 3 {
-        grow(&mut list, 1, front.held + i as u64, front.place)?;
+        grow(&mut list, 1, front)?;
         let row = &bytes[3 * i..];
         list.push([row[0], row[1], row[2]])?;
     }
@@ -194,28 +221,31 @@ pub fn take_entries<R: Input>(
     input: &mut R,
     front: &mut Front,
 ) -> Result<Vec<[u8; 3]>, ReadFault>
-    requires { front.old.place + 3 * count < 2 ^ 62 }
-    ensures rows { Reading (rows_field 3 count) (λ list. list.items) front.old front.new R.coming R.calls R.moved R.failures R.interrupted input.old input.new result }
+    requires place { front.old.place + 3 * count < 2 ^ 62 }
+    requires paid { front.old.held ≤ 2 * front.old.place + 2 ^ 15 }
+    ensures rows { Reading (rows_field 3 count) (λ list. list.items) front.old front.new R.Input input.old input.new result }
     ensures place { OnOk result (front.new.place ≡ front.old.place + 3 * count) }
-    ensures held { OnOk result (front.new.held ≤ front.old.held + 4 * count) }
+    ensures count { IfOk result (λ list. length list.items ≡ count) }
+    ensures held { OnOk result (front.new.held ≡ front.old.held + 4 * count) }
 {
     let bytes = take_bytes(alloc, 3 * count, input, front)?;
-    let list = entries(alloc, &bytes, front)?;
-    front.held += count;
-    Ok(list)
+    entries(alloc, &bytes, front)
 }
 
 /// The entries of a sparse index, six bytes each, that stand one behind another.
-fn sparse_entries(alloc: Global, bytes: &[u8], front: &Front) -> Result<Vec<Entry>, ReadFault>
-    requires paid { length bytes.now ≤ front.now.place }
-    requires place { front.now.place < 2 ^ 62 }
+fn sparse_entries(alloc: Global, bytes: &[u8], front: &mut Front) -> Result<Vec<Entry>, ReadFault>
+    requires paid { front.old.held + length bytes.now ≤ 2 * front.old.place + 2 ^ 15 }
+    requires place { front.old.place < 2 ^ 62 }
     ensures entries { IfOk result (λ list. map sparse_of list.items ≡ map entry_of_bytes (items 6 (length bytes.now / 6) bytes.now)) }
     ensures count { IfOk result (λ list. length list.items ≡ length bytes.now / 6) }
+    ensures held { OnOk result (front.new.held ≡ front.old.held + length bytes.now / 6) }
+    ensures place { OnOk result (front.new.place ≡ front.old.place) }
+    ensures fill { OnOk result (front.new.fill.items ≡ front.old.fill.items) }
     ensures memory { OnErr result (result ≡ Err ReadFault.Memory) }
 {
     let mut list = Vec::new(alloc);
     'rows: for i in 0..bytes.len() / 6 {
-        grow(&mut list, 1, front.held + i as u64, front.place)?;
+        grow(&mut list, 1, front)?;
         let row = &bytes[6 * i..];
         let block = LittleEndian::read_u32(row);
         let offset = LittleEndian::read_u16(&row[4..]);
@@ -231,13 +261,13 @@ pub fn take_sparse<R: Input>(
     input: &mut R,
     front: &mut Front,
 ) -> Result<Vec<Entry>, ReadFault>
-    requires { front.old.place + 6 * count < 2 ^ 62 }
-    ensures rows { Reading (sparse_rows count) (λ list. map sparse_of list.items) front.old front.new R.coming R.calls R.moved R.failures R.interrupted input.old input.new result }
+    requires place { front.old.place + 6 * count < 2 ^ 62 }
+    requires paid { front.old.held ≤ 2 * front.old.place + 2 ^ 15 }
+    ensures rows { Reading (sparse_rows count) (λ list. map sparse_of list.items) front.old front.new R.Input input.old input.new result }
     ensures place { OnOk result (front.new.place ≡ front.old.place + 6 * count) }
-    ensures held { OnOk result (front.new.held ≤ front.old.held + 7 * count) }
+    ensures count { IfOk result (λ list. length list.items ≡ count) }
+    ensures held { OnOk result (front.new.held ≡ front.old.held + 7 * count) }
 {
     let bytes = take_bytes(alloc, 6 * count, input, front)?;
-    let list = sparse_entries(alloc, &bytes, front)?;
-    front.held += count;
-    Ok(list)
+    sparse_entries(alloc, &bytes, front)
 }

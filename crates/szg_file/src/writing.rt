@@ -1,5 +1,6 @@
 ghost use Rattle.std.specs.Prelude.{◌≡◌, ◌<◌, [], length, take, IfErr, OnOk, OnErr};
-ghost use Rattle.szg_io.specs.Device.{Gives, HasFailed};
+ghost use Rattle.szg_io.specs.Device.{HasFailed};
+ghost use Rattle.szg_io.specs.Moved.{Gives};
 ghost use Rattle.szg_file.specs.FileOf.{sections};
 ghost use Rattle.szg_file.specs.Held.{file_bytes};
 ghost use Rattle.szg_file.specs.Lengths.{FileLength};
@@ -17,8 +18,8 @@ use szg_io::Output;
 
 /// Writes the table's file. Where the writer fails, the fault tells how many bytes of the file went out.
 pub fn write<W: Output>(table: &Table, output: &mut W) -> Result<(), WriteFault>
-    ensures ok { OnOk result (Gives (W.written output.old) (W.written output.new) (W.calls output.old) (W.calls output.new) (W.moved output.old) (W.moved output.new) (file_bytes table.now) 0) }
-    ensures err { IfErr result (λ fault. Gives (W.written output.old) (W.written output.new) (W.calls output.old) (W.calls output.new) (W.moved output.old) (W.moved output.new) (take fault.out (file_bytes table.now)) 1) }
+    ensures ok { OnOk result (Gives W.Output output.old output.new (file_bytes table.now) 0) }
+    ensures err { IfErr result (λ fault. Gives W.Output output.old output.new (take fault.out (file_bytes table.now)) 1) }
     ensures short { IfErr result (λ fault. fault.out < length (file_bytes table.now)) }
     ensures failed { OnErr result (HasFailed (W.failures output.old) (W.failures output.new) (W.interrupted output.new)) }
     ensures quiet { OnOk result (W.failures output.new ≡ W.failures output.old) }
@@ -34,7 +35,7 @@ fn write_whole<W: Output>(
     output: &mut W,
     outgoing: &mut Outgoing,
 ) -> Result<(), WriteFault>
-    ensures whole { Writing (sections table.now.contents) outgoing.old outgoing.new W.written W.calls W.moved W.failures W.interrupted output.old output.new result }
+    ensures whole { Writing (sections table.now.contents) outgoing.old outgoing.new W.Output output.old output.new result }
     ensures held { OnOk result (outgoing.new.held.items ≡ []) }
 {
     write_table(table, output, outgoing)?;
@@ -47,7 +48,7 @@ fn write_table<W: Output>(
     output: &mut W,
     outgoing: &mut Outgoing,
 ) -> Result<(), WriteFault>
-    ensures { Writing (sections table.now.contents) outgoing.old outgoing.new W.written W.calls W.moved W.failures W.interrupted output.old output.new result }
+    ensures { Writing (sections table.now.contents) outgoing.old outgoing.new W.Output output.old output.new result }
 {
     write_front(table.kind, table.byte4, &table.parts, output, outgoing)?;
     write_heads(&table.subs, output, outgoing)?;

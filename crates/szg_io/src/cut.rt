@@ -1,29 +1,32 @@
 //! A device for tests, that cuts pieces short, interrupts and fails.
-ghost use Rattle.std.specs.Prelude.{◌≡◌, ◌+◌, ◌<◌, Some, None};
+ghost use Rattle.std.specs.Prelude.{◌≡◌, ◌+◌, ◌≤◌, ◌<◌, ◌||◌, nat_lt, [], Some, None, IsSome, IsTrue};
 ghost use Rattle.szg_io.specs.Device.{raised};
 ghost use Rattle.szg_io.specs.Counts.{cut_device_of, cut_counts_of, cut_settings_of};
 
 use crate::counters::Counters;
 use crate::device::{Input, IoFault, Output};
 
-/// A device over another, for tests. Its counts begin at 0, and it tells its bytes where that one does.
+/// A device over another, for tests. Its counts begin at 0, and it tells its bytes where that one does. Where it
+/// never interrupts and is never set to fail, it may fail only where that one may.
 #[derive(Drop)]
 pub struct Cut<T> {
     device: T,
     most: usize,
     before: u64,
     fails_at: u64,
-    /// How many `Interrupted` are still to come before the next piece.
-    due: u64,
+    /// How many `Interrupted` came since the last piece.
+    came: u64,
     counts: Counters,
 }
 
 impl<T> Cut<T> {
-    /// Wraps a device: pieces of at most `most` bytes (over an `Input` 0 is taken as 1), `before` times
-    /// `Interrupted` before each piece, and `Failed` at call `fails_at` (0: never).
+    /// Wraps a device. Its calls are numbered from 1. Call `fails_at` answers `Failed` (0: none does). Of the others
+    /// each piece is preceded by `before` calls that answer `Interrupted`; neither asks the device. A piece moves at
+    /// most `most` bytes: over an `Input` 0 is taken as 1, and an `Output` with 0 takes none, which is a failure
+    /// where the piece isn't empty. The clauses say that it was told so; that the calls answer so is tested.
     pub fn new(device: T, most: usize, before: u64, fails_at: u64) -> Self
         ensures device { cut_device_of result ≡ device }
-        ensures counts { cut_counts_of result ≡ record { calls = 0; moved = 0; failures = 0; row = 0 } }
+        ensures counts { cut_counts_of result ≡ record { calls = 0; moved = []; failures = 0; row = 0 } }
         ensures settings { cut_settings_of result ≡ record { most = most; before = before; fails_at = fails_at } }
     {
         Cut {
@@ -31,7 +34,7 @@ impl<T> Cut<T> {
             most,
             before,
             fails_at,
-            due: before,
+            came: 0,
             counts: Counters::new(),
         }
     }
@@ -49,19 +52,20 @@ impl<T> Cut<T> {
         ensures counts { self.new.counts ≡ self.old.counts }
         ensures settings { cut_settings_of self.new ≡ cut_settings_of self.old }
         ensures failed { raised self.old.counts.calls ≡ self.old.fails_at → result ≡ Some IoFault.Failed }
-        ensures interrupted { ¬ raised self.old.counts.calls ≡ self.old.fails_at → 0 < self.old.due →
-            (result ≡ Some IoFault.Interrupted) × (self.new.due + 1 ≡ self.old.due) }
-        ensures none { ¬ raised self.old.counts.calls ≡ self.old.fails_at → self.old.due ≡ 0 →
-            (result ≡ None) × (self.new.due ≡ self.old.before) }
+        ensures interrupted { ¬ raised self.old.counts.calls ≡ self.old.fails_at → self.old.came < self.old.before →
+            (result ≡ Some IoFault.Interrupted) × (self.new.came ≡ self.old.came + 1) }
+        ensures none { ¬ raised self.old.counts.calls ≡ self.old.fails_at → self.old.before ≤ self.old.came →
+            (result ≡ None) × (self.new.came ≡ 0) }
+        ensures set { IsSome result → IsTrue (nat_lt 0 self.old.before || nat_lt 0 self.old.fails_at) }
     {
         if self.counts.calls.saturating_add(1) == self.fails_at {
             return Some(IoFault::Failed);
         }
-        if self.due > 0 {
-            self.due -= 1;
+        if self.came < self.before {
+            self.came += 1;
             return Some(IoFault::Interrupted);
         }
-        self.due = self.before;
+        self.came = 0;
         None
     }
 }
@@ -71,11 +75,13 @@ impl<T: Input> Input for Cut<T> {
 
     ghost calls = { λ s. s.counts.calls };
 
-    ghost moved = { λ s. s.counts.moved.count };
+    ghost moved = { λ s. s.counts.moved.bytes };
 
     ghost failures = { λ s. s.counts.failures };
 
     ghost interrupted = { λ s. s.counts.interrupted };
+
+    ghost may_fail = { λ s. (nat_lt 0 s.before || nat_lt 0 s.fails_at) || T.may_fail s.device };
 
     fn take(&mut self, piece: &mut [u8]) -> Result<usize, IoFault> {
         let answer = match self.fault_due() {
@@ -85,7 +91,7 @@ impl<T: Input> Input for Cut<T> {
                 self.device.take(&mut piece[..size])
             }
         };
-        self.counts.taken(answer);
+        self.counts.taken(answer, piece);
         answer
     }
 }
@@ -95,7 +101,7 @@ impl<T: Output> Output for Cut<T> {
 
     ghost calls = { λ s. s.counts.calls };
 
-    ghost moved = { λ s. s.counts.moved.count };
+    ghost moved = { λ s. s.counts.moved.bytes };
 
     ghost failures = { λ s. s.counts.failures };
 

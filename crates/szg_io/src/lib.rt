@@ -1,19 +1,22 @@
 //! Devices that give or take bytes in pieces, with what a proof needs to know of them.
 //!
-//! `device` has the traits `Input` and `Output`, `whole` moves whole pieces over any device, `over_std` makes
-//! devices of the readers and writers of std, and `cut` is a device for tests.
+//! [`Input`] and [`Output`] are the traits. [`take_whole`] and [`give_whole`] move whole pieces over any device.
+//! [`Std`] makes a device of a reader or a writer of std, [`Bytes`] one of bytes in memory, which never fails, and
+//! [`Cut`] is a device for tests. [`Counters`], with [`Past`], is what a device of your own keeps.
 #![tactic(auto)]
 
 mod counters;
 mod cut;
 mod device;
+mod memory;
 mod over_std;
-mod tally;
-#[cfg(test)]
-mod tests;
+mod past;
 mod whole;
 
+pub use counters::Counters;
 pub use cut::Cut;
 pub use device::{Input, IoFault, Output};
-pub use over_std::Std;
+pub use memory::Bytes;
+pub use over_std::{Std, fault_of};
+pub use past::Past;
 pub use whole::{DeviceFault, give_whole, take_whole};

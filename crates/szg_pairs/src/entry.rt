@@ -1,4 +1,4 @@
-// An entry of a dictionary, three bytes of the file: the symbol's left and right numbers, of 12 bits each.
+//! An entry of a dictionary, three bytes of the file: the symbol's left and right numbers, of 12 bits each.
 ghost use Rattle.std.specs.Prelude.{◌≡◌};
 ghost use Rattle.szg_pairs.specs.Entry.{left_of, right_of, is_leaf, names_symbols_below};
 

@@ -1,4 +1,4 @@
-// The least symbol at fault.
+//! The least symbol at fault.
 ghost use Rattle.std.specs.Prelude.{ℕ, ◌<◌, ◌≤◌, ◌≡◌, length, slice_index, MatchOption};
 ghost use Rattle.szg_pairs.specs.Entry.{NamesSymbols};
 ghost use Rattle.szg_pairs.specs.Dictionary.{FailsFirst};

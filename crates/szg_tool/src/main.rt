@@ -1,16 +1,22 @@
-//! The program `szg`: checks, shows and copies Syzygy table files, and looks values up in them.
+//! The program `szg`: checks, shows, copies, dumps and builds Syzygy table files, and looks values and placements up in them.
 #![tactic(auto)]
 
+mod building;
 mod commands;
 mod description;
+mod lookups;
+mod men;
 mod outcome;
+mod placements;
 mod refusal;
 mod request;
+mod saying;
 #[cfg(test)]
 mod tests;
 
 use commands::run;
 use outcome::Outcome;
+use std::alloc::{AllocError, Global};
 use std::io::{self, BufWriter, Write};
 use std::process::ExitCode;
 use szg_io::Std;
@@ -18,12 +24,17 @@ use szg_io::Std;
 /// Runs the words of the command line on the standard streams.
 ///
 /// The status is 0 where the command was carried out, 1 where it was refused (the refusal is printed), 2 for a fault
-/// of words and for help, 3 where a stream failed, and 4 for want of memory.
+/// of words and for help (both are told on standard error), 3 where a stream failed, and 4 for want of memory.
 fn main(rt: HostRuntime) -> ExitCode {
     match words_given(&rt) {
         Ok(words) => status_of(&rt, &run_on_streams(&rt, &words)),
-        Err(error) if error.kind() == io::ErrorKind::OutOfMemory => told(&rt, "out of memory", 4),
-        Err(_) => told(&rt, "a word of the command line is no text", 2),
+        Err(error) if error.kind() == io::ErrorKind::OutOfMemory => {
+            status_of(&rt, &Outcome::Memory)
+        }
+        Err(_) => match eprintln!(&rt; "a word of the command line is no text") {
+            Ok(()) => ExitCode::from(2),
+            Err(_) => ExitCode::from(Outcome::Device.status()),
+        },
     }
 }
 
@@ -34,44 +45,40 @@ fn words_given(rt: &HostRuntime) -> io::Result<Vec<String>> {
 
 /// The status of an outcome, whose fault is printed on standard error.
 fn status_of(rt: &HostRuntime, outcome: &Outcome) -> ExitCode {
-    match outcome {
-        Outcome::Done | Outcome::Refused => ExitCode::from(outcome.status()),
-        Outcome::Device => told(rt, "device fault", 3),
-        Outcome::Memory => told(rt, "out of memory", 4),
-        Outcome::Words(error) => match error.print(rt) {
-            Ok(()) => ExitCode::from(2),
-            Err(_) => told(rt, "device fault", 3),
-        },
-    }
+    let told = match outcome {
+        Outcome::Done | Outcome::Refused => Ok(()),
+        Outcome::Device => eprintln!(rt; "device fault"),
+        Outcome::Memory => eprintln!(rt; "out of memory"),
+        Outcome::Words(error) => eprint!(rt; "{error}"),
+    };
+    ExitCode::from(match told {
+        Ok(()) => outcome.status(),
+        Err(_) => Outcome::Device.status(),
+    })
 }
 
-/// Prints a line on standard error, and gives the status.
-fn told(rt: &HostRuntime, line: &str, status: u8) -> ExitCode {
-    match eprintln!(rt; "{line}") {
-        Ok(()) => ExitCode::from(status),
-        Err(_) => ExitCode::from(3),
-    }
-}
-
-/// Runs the words on the standard streams. Nothing behind a table is taken from standard input, so it isn't read ahead.
-fn run_on_streams(rt: &HostRuntime, words: &[String]) -> Outcome {
-    let alloc = rt.alloc();
+/// The words as texts.
+fn texts_of<'a>(alloc: Global, words: &'a [String]) -> Result<Vec<&'a str>, AllocError> {
     let mut texts = Vec::new(alloc);
     'words: for word in words {
-        if texts.push(word.as_str()).is_err() {
-            return Outcome::Memory;
-        }
+        texts.push(word.as_str())?;
     }
+    Ok(texts)
+}
+
+/// Runs the words on the standard streams. Nothing behind a table or a dump is taken from standard input, so it isn't
+/// read ahead.
+fn run_on_streams(rt: &HostRuntime, words: &[String]) -> Outcome {
+    let alloc = rt.alloc();
+    let Ok(texts) = texts_of(alloc, words) else {
+        return Outcome::Memory;
+    };
     let Ok(mut writer) = BufWriter::new(alloc, io::writer(rt)) else {
         return Outcome::Memory;
     };
     let mut reader = Std::new(rt.reader());
-    let outcome = run(
-        alloc,
-        texts.as_slice(),
-        &mut reader,
-        &mut Std::new(&mut writer),
-    );
+    let mut output = Std::new(&mut writer);
+    let outcome = run(alloc, texts.as_slice(), &mut reader, &mut output);
     match writer.flush() {
         Ok(()) => outcome,
         Err(_) => Outcome::Device,

@@ -1,28 +1,48 @@
 use std::alloc::{AllocError, AllocFailed};
 use std::fmt;
-use szg_file::Reason;
-use szg_values::NameFault;
+use szg_build::{BuildFault, DumpFault};
+use szg_file::{MapFault, Reason};
+use szg_place::PlaceFault;
+use szg_values::{NameFault, PlacementFault};
 
 /// Why a command is refused, in the order in which it meets these.
 #[derive(Clone, Copy)]
 pub enum Refusal {
     /// The name is no material's.
     Name(NameFault),
+    /// A word isn't a man's letter, a file and a rank.
+    Man,
+    /// The men make no placement.
+    Placement(PlacementFault),
     /// The bytes are no table's: the place and the reason.
     At(u64, Reason),
+    /// A line, from 1, is none of a dump.
+    Line(u64, DumpFault),
+    /// What the dump tells can't be built.
+    Build(BuildFault),
     /// The table has no such part or side.
     Part,
     /// The subtable has no such index.
     Index,
+    /// The table has no index for the placement, or no placement for the index.
+    Place(PlaceFault),
+    /// The table has no number for the placement in the class.
+    Map(MapFault),
 }
 
 impl fmt::Display for Refusal {
     fn fmt<W: fmt::Write>(&self, f: &mut fmt::Formatter<W>) -> fmt::Result {
         match self {
-            Refusal::Name(fault) => write!(f, "refused name: {fault}"),
-            Refusal::At(place, reason) => write!(f, "refused at {place}: {reason}"),
-            Refusal::Part => write!(f, "refused part"),
-            Refusal::Index => write!(f, "refused index"),
+            Refusal::Name(fault) => write!(f, "name: {fault}"),
+            Refusal::Man => write!(f, "man"),
+            Refusal::Placement(fault) => write!(f, "placement: {fault}"),
+            Refusal::At(place, reason) => write!(f, "at {place}: {reason}"),
+            Refusal::Line(line, fault) => write!(f, "line {line}: {fault}"),
+            Refusal::Build(fault) => write!(f, "build: {fault}"),
+            Refusal::Part => write!(f, "part"),
+            Refusal::Index => write!(f, "index"),
+            Refusal::Place(fault) => write!(f, "place: {fault}"),
+            Refusal::Map(fault) => write!(f, "map: {fault}"),
         }
     }
 }
@@ -36,6 +56,17 @@ pub enum Stop {
     Device,
     /// A growth was refused.
     Memory,
+}
+
+impl From<Refusal> for Stop {
+    ghost use Rattle.std.specs.Prelude.{◌≡◌};
+    ghost use Rattle.szg_tool.specs.declared.refusal.Stop.TheVariants.{Refused};
+
+    ghost from_gives = { λ refusal stop. stop ≡ Refused refusal };
+
+    fn from(refusal: Refusal) -> Stop {
+        Stop::Refused(refusal)
+    }
 }
 
 impl From<AllocError> for Stop {

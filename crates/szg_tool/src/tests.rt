@@ -1,5 +1,8 @@
 //! Runs of the program over bytes in memory.
+mod dumps;
 mod fixtures;
+mod placements;
+mod shapes;
 
 use crate::commands::run;
 use crate::outcome::Outcome;
@@ -45,6 +48,22 @@ fn check_run(
     text: &str,
 ) {
     check_printed(rt, words, bytes, status, text.as_bytes());
+}
+
+/// The words of this line, on these bytes, end with this status and print this text.
+fn check_line(
+    rt: &(impl Abort + Alloc<A = Global>),
+    line: &str,
+    bytes: &[u8],
+    status: u8,
+    text: &str,
+) -> Result<(), Fail> {
+    let mut words = Vec::new(rt.alloc());
+    for word in line.split(' ') {
+        words.push(word)?;
+    }
+    check_run(rt, &words, bytes, status, text);
+    Ok(())
 }
 
 #[test]
@@ -94,6 +113,21 @@ fn table_of_blocks(rt: HostRuntime) -> Result<(), Fail> {
             &["szg", "get", "KQvK", "wdl", "0031331", "--side", "1"][..],
             0,
             "2\n",
+        ),
+        (
+            &["szg", "get", "KQvK", "wdl", "31331", "--steps"][..],
+            0,
+            "4 moves 1 words 100 descents 0 fetches 1\n",
+        ),
+        (
+            &["szg", "get", "--steps", "KQvK", "wdl", "0"][..],
+            0,
+            "2 moves 123 words 1 descents 0 fetches 1\n",
+        ),
+        (
+            &["szg", "get", "KQvK", "wdl", "7", "--side", "1", "--steps"][..],
+            0,
+            "2 moves 0 words 0 descents 0 fetches 0\n",
         ),
         (
             &["szg", "get", "--part", "b", "KQvK", "wdl", "31331"][..],
@@ -149,6 +183,9 @@ fn words_that_make_no_command(rt: HostRuntime) {
         &["szg", "get", "KNvK", "wdl", "+1"][..],
         &["szg", "get", "KNvK", "wdl", "9223372036854775808"][..],
         &["szg", "get", "KNvK", "wdl", "1", "--side", "2"][..],
+        &["szg", "get", "KNvK", "wdl", "1", "--steps", "--steps"][..],
+        &["szg", "values", "KNvK", "wdl", "--steps"][..],
+        &["szg", "dump", "KNvK", "wdl", "--form", "3"][..],
         &[
             "szg", "get", "KNvK", "wdl", "1", "--side", "0", "--side", "0",
         ][..],

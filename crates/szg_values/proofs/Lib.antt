@@ -4,3 +4,5 @@ pub mod MaterialOf
 pub mod Letters
 pub mod SideOf
 pub mod SameMen
+pub mod SideCounts
+pub mod AllNames

@@ -16,8 +16,6 @@ mod men;
 mod parsing;
 mod placements;
 mod squares;
-#[cfg(test)]
-mod tests;
 
 /// The most men of a material.
 pub const MAX_MEN: usize = 6;
@@ -34,20 +32,28 @@ pub enum Kind {
 /// A colour of the board.
 #[derive(Clone, Copy, Debug, Default, PartialEq, Eq)]
 pub enum Color {
+    /// White, who moves first in a game.
     #[default]
     White,
+    /// Black.
     Black,
 }
 
 /// A kind of man.
 #[derive(Clone, Copy, Debug, Default, PartialEq, Eq)]
 pub enum Man {
+    /// P in a name, 1 in a file.
     #[default]
     Pawn,
+    /// N in a name, 2 in a file.
     Knight,
+    /// B in a name, 3 in a file.
     Bishop,
+    /// R in a name, 4 in a file.
     Rook,
+    /// Q in a name, 5 in a file.
     Queen,
+    /// K in a name, 6 in a file.
     King,
 }
 
@@ -81,7 +87,8 @@ pub enum NameFault {
     /// A side's letters aren't in the order K Q R B N P.
     #[error("Order")]
     Order,
-    /// The sides are in the wrong order.
+    /// The sides are in the wrong order: the second has more men, or as many and letters that come
+    /// earlier in the order K Q R B N P.
     #[error("Sides")]
     Sides,
     /// Not three to [`MAX_MEN`] men.
@@ -131,14 +138,13 @@ pub struct Placement {
 }
 
 impl Model for Placement {
-    ghost use Rattle.std.specs.Prelude.{ℕ, ◌≡◌, IsNone};
-    ghost use Rattle.szg_values.specs.Placement.{Board, placement_fault};
+    ghost use Rattle.szg_values.specs.Placement.{Board, ArePlaced};
 
     ghost Value = { Board };
 
     ghost view = { λ p. record { standing = p.men.items; mover = p.mover } };
 
-    ghost invariant = { λ p. IsNone (placement_fault p.men.items) };
+    ghost invariant = { λ p. ArePlaced p.men.items };
 
     ghost inverse = { λ board. record { men = record { items = board.standing }; mover = board.mover } };
 }

@@ -47,7 +47,8 @@ impl Material {
         name
     }
 
-    /// The same material once more; it takes no memory.
+    /// The same material once more. Men stand in the value itself, so there is no memory to take: no
+    /// call of this crate is handed an allocator.
     pub fn copy(&self) -> Material
         ensures { result ≡ self.now }
     {
@@ -179,7 +180,7 @@ fn is_single(code: u8, codes: &[u8]) -> bool
 }
 
 /// Whether a name may have these sides in this order: the first has more men, or as many and its
-/// letters come earlier or are the same.
+/// letters come earlier, in the order K Q R B N P, or are the same.
 pub(crate) fn may_be_first(first: &[Man], second: &[Man]) -> bool
     ensures { result ≡ may_be_first first.now second.now }
 {

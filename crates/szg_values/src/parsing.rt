@@ -15,8 +15,9 @@ impl Material {
     /// The material of a name; else the first of the five faults that the text has.
     ///
     /// A name is a side, `v`, a side; a side is `K` and men in the order Q R B N P. The side with
-    /// more men is first, at equal numbers the side whose letters come earlier. Each fault is one
-    /// of the whole text, however long it is.
+    /// more men is first. Of two sides with as many, the first letters in which they differ decide:
+    /// first is the side whose letter comes earlier in K Q R B N P, as Q in `KQvKR`; two equal sides
+    /// may stand. Each fault is one of the whole text, however long it is.
     pub fn parse(text: &str) -> Result<Material, NameFault>
         ensures answer { result ≡ parsed text.now }
         ensures named { IfOk result (λ material. IsMaterial material × (name_of material ≡ text.now)) }
@@ -125,7 +126,7 @@ fn is_in_order(side: &[u8]) -> bool
 }
 
 /// Whether a name may have these sides in this order: the first has more men, or as many and its
-/// letters come earlier or are the same.
+/// letters come earlier, in the order K Q R B N P, or are the same.
 fn may_be_first(first: &[u8], second: &[u8]) -> bool
     ensures { (a b : List Man) → first.now ≡ map letter_of a → second.now ≡ map letter_of b → result ≡ may_be_first a b }
 {

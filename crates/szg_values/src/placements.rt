@@ -1,10 +1,10 @@
 //! Placements: men on squares, and who moves.
 
-ghost use Rattle.std.specs.Prelude.{◌≡◌, ◌≤◌, ◌+◌, ◌&&◌, ◌||◌, ◌++◌, ◌==◌, length, replicate, IsNone, IfSome, Ok, Err};
+ghost use Rattle.std.specs.Prelude.{◌≡◌, IsTrue, ◌≤◌, ◌+◌, ◌&&◌, ◌||◌, ◌++◌, ◌==◌, length, replicate, IsNone, IfSome, Ok, Err};
 ghost use Rattle.std.specs.List.{list_any};
 ghost use Rattle.arrayvec.specs.ArrayVec.{array_vec_len};
 ghost use Rattle.szg_values.specs.Men.{is_man, is_color, rank_of};
-ghost use Rattle.szg_values.specs.Placement.{placement_fault, material_of, number_of, has_men, is_apart, has_pawns_inside, side_of};
+ghost use Rattle.szg_values.specs.Placement.{AreOnBoard, placement_fault, material_of, number_of, has_men, is_apart, has_pawns_inside, side_of};
 
 use crate::materials::{NAME_ORDER, may_be_first};
 use crate::men::is_count;
@@ -33,10 +33,11 @@ impl Placement {
         })
     }
 
-    /// The men in the order given.
+    /// The men in the order given. They are a placement's, and stand on squares of the board.
     pub fn men(&self) -> &[(Man, Color, Square)]
         ensures men { result.now ≡ self.now.standing }
         ensures sound { IsNone (placement_fault result.now) }
+        ensures on_board { AreOnBoard result.now }
     {
         self.men.as_slice()
     }
@@ -89,21 +90,22 @@ fn is_of(kind: Man, color: Color, man: &(Man, Color, Square)) -> bool
 /// Whether no two men stand on one square.
 fn is_apart(men: &[(Man, Color, Square)]) -> bool
     requires { length men.now ≤ 6 }
-    ensures { result ≡ is_apart men.now }
+    ensures test { result ≡ is_apart men.now }
+    ensures on_board { IsTrue result → AreOnBoard men.now }
 {
     for (place, man) in men.iter().enumerate() {
-        if stands_on(man.2, &men[place + 1..]) {
+        if stands_on(man.2.number(), &men[place + 1..]) {
             return false;
         }
     }
     true
 }
 
-/// Whether some man stands on a square.
-fn stands_on(square: Square, men: &[(Man, Color, Square)]) -> bool
-    ensures { result ≡ list_any (λ other. square == other.2) men.now }
+/// Whether some man stands on the square of a number.
+fn stands_on(number: u8, men: &[(Man, Color, Square)]) -> bool
+    ensures { result ≡ list_any (λ other. number == other.2) men.now }
 {
-    men.iter().any(|other| other.2 == square)
+    men.iter().any(|other| other.2.number() == number)
 }
 
 /// Whether no pawn stands on rank 1 or 8.

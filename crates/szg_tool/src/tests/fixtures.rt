@@ -22,8 +22,13 @@ fn with_zeros(alloc: Global, front: &[u8], zeros: usize) -> Result<Vec<u8>, Allo
 
 /// King and knight against king, WDL: both sides constant, of value 2.
 pub fn knvk_wdl_constant(alloc: Global) -> Result<Vec<u8>, AllocError> {
+    knvk_wdl_with(alloc, 2)
+}
+
+/// The same with this value where the name's first side moves.
+pub fn knvk_wdl_with(alloc: Global, value: u8) -> Result<Vec<u8>, AllocError> {
     let front = [
-        0x71, 0xe8, 0x23, 0x5d, 0x01, 0x00, 0x66, 0x22, 0xee, 0x00, 0x80, 0x02, 0x80, 0x02,
+        0x71, 0xe8, 0x23, 0x5d, 0x01, 0x00, 0x66, 0x22, 0xee, 0x00, 0x80, value, 0x80, 0x02,
     ];
     with_zeros(alloc, &front, 50)
 }
@@ -58,4 +63,80 @@ pub fn kpvk_dtz_mapped(alloc: Global) -> Result<Vec<u8>, AllocError> {
         0x00,
     ];
     with_zeros(alloc, &front, 18)
+}
+
+/// King and pawn against king, DTZ, of many shapes. The parts differ in their bytes. Part a is constant, with a map of
+/// bytes; its lists have 2, 0, 1 and 3 items. Part b has the values 300, 2, 300, 2 .. in one block of 92 words, each of
+/// one bit and for 256 values, and a map of two bytes an item; its lists have 1, 3, 0 and 2 items.
+pub fn kpvk_dtz_shapes(alloc: Global) -> Result<Vec<u8>, AllocError> {
+    let front = [
+        0xd7, 0x66, 0x0c, 0xa5, 0x82, 0x00, 0x01, 0x06, 0x0e, 0x01, 0x01, 0x0e, 0x06, 0x02, 0x01,
+        0x06, 0x0e, 0x30, 0x21, 0x56, 0x7e, 0x00, 0x82, 0x05, 0x12, 0x04, 0x0f, 0x00, 0x01, 0x00,
+        0x00, 0x00, 0x02, 0x01, 0x09, 0x00, 0x07, 0x00, 0x0a, 0x00, 0x2c, 0xf1, 0xff, 0x02, 0xf0,
+        0xff, 0x00, 0x10, 0x00, 0x02, 0x20, 0x00, 0x03, 0x30, 0x00, 0x04, 0x40, 0x00, 0x05, 0x50,
+        0x00, 0x06, 0x60, 0x00, 0x07, 0x70, 0x00, 0x08, 0x80, 0x00, 0x80, 0x00, 0x81, 0x00, 0x02,
+        0x0b, 0x0c, 0x00, 0x01, 0x0d, 0x03, 0x0e, 0x0f, 0x10, 0x01, 0x00, 0x2c, 0x01, 0x03, 0x00,
+        0x01, 0x00, 0x02, 0x00, 0x03, 0x00, 0x00, 0x00, 0x02, 0x00, 0x04, 0x00, 0x05, 0x00, 0x00,
+        0x00, 0x00, 0x00, 0x00, 0x40, 0x8b, 0x5b,
+    ];
+    let mut bytes = Vec::from_slice(alloc, &front)?;
+    add(&mut bytes, 0x00, 16)?;
+    add(&mut bytes, 0xff, 11)?;
+    add(&mut bytes, 0xf0, 1)?;
+    add(&mut bytes, 0x00, 4 + 48)?;
+    bytes.extend_from_slice(&LAST)?;
+    Ok(bytes)
+}
+
+/// Tables of constants: so many parts of the same bytes, and two bytes for each subtable.
+fn constants(
+    alloc: Global,
+    front: &[u8],
+    parts: usize,
+    part: &[u8],
+    subtables: &[u8],
+) -> Result<Vec<u8>, AllocError> {
+    let mut bytes = Vec::from_slice(alloc, front)?;
+    for _ in 0..parts {
+        bytes.extend_from_slice(part)?;
+    }
+    if bytes.len() % 2 == 1 {
+        bytes.push(0x00)?;
+    }
+    bytes.extend_from_slice(subtables)?;
+    let missing = 64usize.saturating_sub(bytes.len());
+    add(&mut bytes, 0x00, missing)?;
+    bytes.extend_from_slice(&LAST)?;
+    Ok(bytes)
+}
+
+/// King and two bishops against king, WDL, constant; the men in this order.
+pub fn kbbvk_wdl_constant(alloc: Global, men: [u8; 4]) -> Result<Vec<u8>, AllocError> {
+    let [a, b, c, d] = men;
+    let front = [0x71, 0xe8, 0x23, 0x5d, 0x01];
+    constants(
+        alloc,
+        &front,
+        1,
+        &[0x00, a, b, c, d],
+        &[0x80, 0x02, 0x80, 0x02],
+    )
+}
+
+/// King and pawns against king, WDL, all constant; these are the men of each part.
+pub fn pawns_wdl_constant(alloc: Global, part: &[u8]) -> Result<Vec<u8>, AllocError> {
+    let front = [0x71, 0xe8, 0x23, 0x5d, 0x03];
+    let subtables = [
+        0x80, 0x02, 0x80, 0x02, 0x80, 0x02, 0x80, 0x02, 0x80, 0x02, 0x80, 0x02, 0x80, 0x02, 0x80,
+        0x02,
+    ];
+    constants(alloc, &front, 4, part, &subtables)
+}
+
+/// King and pawn against king and pawn, DTZ, all constant: part a stores the side to move second.
+pub fn kpvkp_dtz_constant(alloc: Global) -> Result<Vec<u8>, AllocError> {
+    let front = [0xd7, 0x66, 0x0c, 0xa5, 0x02];
+    let part = [0x00, 0x01, 0x01, 0x09, 0x06, 0x0e];
+    let subtables = [0x81, 0x00, 0x80, 0x00, 0x80, 0x00, 0x80, 0x00];
+    constants(alloc, &front, 4, &part, &subtables)
 }

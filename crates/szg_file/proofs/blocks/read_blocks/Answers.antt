@@ -1,4 +1,4 @@
-use Rattle.std.proofs.Common.{◌≡◌, ◌+◌, ◌∷◌, [], ◌++◌, Ok, length, map, take, ℕ, List, sym, ap, ◌∙◌, arith}
+use Rattle.std.proofs.Common.{◌≡◌, refl, ◌+◌, ◌∷◌, [], ◌++◌, Ok, length, map, take, ℕ, List, sym, ap, ◌∙◌, arith}
 use Rattle.std.proofs.lemmas.List.{length_push, map-append}
 use Rattle.std.proofs.lemmas.Result.{err_from_is_err_and}
 use Rattle.std.proofs.lemmas.Iterator.Adapters.{YieldsList-from_vec}
@@ -9,7 +9,7 @@ use Rattle.szg_block.specs.declared.Sub.{Sub}
 use Rattle.szg_file.specs.File.{each, blocks_field}
 use Rattle.szg_file.specs.Held.{subtable_of}
 use Rattle.szg_file.proofs.ReadingLaws.{reads_nothing}
-use Rattle.szg_file.proofs.Taken.{reads_equal}
+use Rattle.szg_file.proofs.Taken.{reads_as, reads_equal}
 use Rattle.szg_file.proofs.LoopReads.{each_next, each_stops, reads_lacking}
 use Rattle.szg_file.proofs.blocks.read_blocks.Goals as goal
 
@@ -17,6 +17,7 @@ pub subtables-init : goal.subtables-init
 subtables-init g c = record {
   read = reads_nothing (means []) (λ subs. map subtable_of subs.items) c.new-subs.result (ap (λ (l : List Sub). means (map subtable_of l)) (sym c.new-subs.ensures.items));
   place = omega arith;
+  held = omega arith;
 }
 
 pub returns-in_err-sub-clause-blocks : goal.returns-in_err-sub-clause-blocks
@@ -49,6 +50,8 @@ subtables-preserved g c =
     record {
       read = reads_equal (each blocks_field (take (length c.subtables.yielded + 1) c.args.list.items)) _ (λ subs. map subtable_of subs.items) (Ok c.append.new.list) (ap (λ (n : ℕ). each blocks_field (take n c.args.list.items)) (sym longer))
           (each_next blocks_field c.args.list.items (length c.subtables.yielded) c.in-Some.measured (λ subs. map subtable_of subs.items) subtable_of (λ subs. map subtable_of subs.items)
-          c.subtables.subs c.in_ok-sub.sub c.append.new.list turn.0 turn.1 shown c.subtables.invariant.read c.in_ok-sub.ensures.blocks);
-      place = omega (arith, c.subtables.invariant.place, c.in_ok-sub.ensures.place, longer);
+          c.subtables.subs c.in_ok-sub.sub c.append.new.list turn.0 turn.1 shown c.subtables.invariant.read
+          (reads_as (blocks_field c.in-Some.measured) (blocks_field c.in-Some.measured) subtable_of subtable_of c.in_ok-sub.sub c.in_ok-sub.sub refl refl c.in_ok-append.ensures.place c.in_ok-append.ensures.fill c.in_ok-sub.ensures.blocks));
+      place = omega (arith, c.subtables.invariant.place, c.in_ok-sub.ensures.place, c.in_ok-append.ensures.place, longer);
+      held = omega (arith, c.subtables.invariant.held, c.in_ok-sub.ensures.held, c.in_ok-append.ensures.held, c.in_ok-append.ensures.place, longer);
     }

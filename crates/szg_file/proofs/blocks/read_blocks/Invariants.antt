@@ -6,6 +6,7 @@ use Rattle.szg_file.proofs.blocks.read_blocks.Given as goal
 
 abbrev pub invariant-subtables : goal.invariant-subtables
 invariant-subtables g l = record {
-  read : Reading (each blocks_field (take (length l.yielded) l.fn.list.items)) (λ subs. map subtable_of subs.items) l.fn.front l.front g.R.Input.coming g.R.Input.calls g.R.Input.moved g.R.Input.failures g.R.Input.interrupted l.fn.input l.input (Ok l.subs);
+  read : Reading (each blocks_field (take (length l.yielded) l.fn.list.items)) (λ subs. map subtable_of subs.items) l.fn.front l.front g.R.Input l.fn.input l.input (Ok l.subs);
   place : l.front.place ≤ l.fn.front.place + length l.yielded * 2 ^ 51;
+  held : l.front.held + 2 * l.fn.front.place ≤ l.fn.front.held + 2 * l.front.place + length l.yielded;
 }

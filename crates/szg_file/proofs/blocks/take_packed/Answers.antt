@@ -16,6 +16,7 @@ each_block-init g c = record {
   before = rw c.in-Pairs.is refl;
   few = omega arith;
   place = omega arith;
+  held = omega arith;
 }
 
 pub returns-in_err-take_block-clause-blocks : goal.returns-in_err-take_block-clause-blocks
@@ -44,4 +45,5 @@ each_block-preserved g c =
       before = rw c.in-Pairs.is (omega (arith, step, next, before, length_is));
       few = omega (arith, c.each_block.invariant.few);
       place = omega (arith, c.each_block.invariant.place, c.in_ok-take_block.ensures.place);
+      held = omega (arith, c.each_block.invariant.held, c.in_ok-take_block.ensures.held);
     }

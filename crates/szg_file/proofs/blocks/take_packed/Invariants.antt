@@ -8,8 +8,9 @@ use Rattle.szg_file.proofs.blocks.take_packed.Given as goal
 
 abbrev pub invariant-each_block : goal.invariant-each_block
 invariant-each_block g l = record {
-  read : IfSome (layout_of l.sub) (λ layout. Reading (blocks_from layout l.size 0 l.n) (λ packed. packed.items) l.fn.front l.front g.R.Input.coming g.R.Input.calls g.R.Input.moved g.R.Input.failures g.R.Input.interrupted l.fn.input l.input (Ok l.packed));
+  read : IfSome (layout_of l.sub) (λ layout. Reading (blocks_from layout l.size 0 l.n) (λ packed. packed.items) l.fn.front l.front g.R.Input l.fn.input l.input (Ok l.packed));
   before : IfSome (layout_of l.sub) (λ layout. l.before ≡ start layout.lengths l.n);
   few : l.before ≤ l.n * 65536;
   place : l.front.place ≤ l.fn.front.place + l.n * 2 ^ 18;
+  held : l.front.held + 2 * l.fn.front.place ≤ l.fn.front.held + 2 * l.front.place;
 }

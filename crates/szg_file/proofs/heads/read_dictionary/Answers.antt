@@ -8,11 +8,18 @@ use Rattle.szg_file.proofs.ReadingLaws.{reads_then, reads_stopped, reads_nothing
 use Rattle.szg_file.proofs.PackedReads.{after_count, after_entries}
 use Rattle.szg_file.proofs.heads.read_dictionary.Goals as goal
 
-pub read_entries-requires : goal.read_entries-requires
-read_entries-requires g c =
+pub read_entries-requires-clause-place : goal.read_entries-requires-clause-place
+read_entries-requires-clause-place g c =
     let first = c.in_ok-count.ensures.place in
-    let place = c.requires in
+    let place = c.requires.place in
     omega (arith, first, place)
+
+pub read_entries-requires-clause-paid : goal.read_entries-requires-clause-paid
+read_entries-requires-clause-paid g c =
+    let first = c.in_ok-count.ensures.place in
+    let held = c.in_ok-count.ensures.held in
+    let paid = c.requires.paid in
+    omega (arith, first, held, paid)
 
 pub returns-in_err-dict-clause-dictionary : goal.returns-in_err-dict-clause-dictionary
 returns-in_err-dict-clause-dictionary g c =

@@ -1,4 +1,4 @@
-use Rattle.std.proofs.Common.{◌≡◌, ◌+◌, ◌∷◌, ◌++◌, [], length, map, arith, List, sym, ap, ◌∙◌, take}
+use Rattle.std.proofs.Common.{◌≡◌, refl, ◌+◌, ◌∷◌, ◌++◌, [], length, map, arith, List, sym, ap, ◌∙◌, take}
 use Rattle.std.proofs.lemmas.List.{map-append, length-map, length-append, length-take}
 use Rattle.std.proofs.lemmas.Result.{err_from_is_err_and}
 use Rattle.szg_file.specs.Format.{means}
@@ -6,6 +6,7 @@ use Rattle.szg_file.specs.Contents.{Slot, Subtable}
 use Rattle.szg_file.specs.File.{Begun, begun, head_field}
 use Rattle.szg_file.proofs.HeadReads.{memory_is}
 use Rattle.szg_file.proofs.ReadingLaws.{reads_nothing}
+use Rattle.szg_file.proofs.Taken.{reads_as}
 use Rattle.szg_file.proofs.LoopReads.{each_next, each_stops, reads_lacking, taken_next, begun_more}
 use Rattle.szg_file.proofs.heads.read_heads.Goals as goal
 
@@ -15,6 +16,7 @@ slots-init g c = record {
   made = c.new-list.ensures.items;
   count = ap length c.new-list.ensures.items;
   place = omega arith;
+  held = omega arith;
 }
 
 pub returns-in_err-begun-clause-heads : goal.returns-in_err-begun-clause-heads
@@ -48,7 +50,8 @@ slots-preserved g c =
     omega (arith, length-take i xs, length-map old (λ (b : Begun). b.subtable), c.slots.invariant.count, c.slots-test.true) in
     record {
       read = each_next head_field xs i x (λ list. map (λ (b : Begun). b.subtable) list.items) (λ (b : Begun). b.subtable) (λ list. map (λ (b : Begun). b.subtable) list.items)
-          c.slots.list b c.append.new.list c.slots-test.true c.slot-item.is shown c.slots.invariant.read c.in_ok-begun.ensures.head;
+          c.slots.list b c.append.new.list c.slots-test.true c.slot-item.is shown c.slots.invariant.read
+          (reads_as (head_field x) (head_field x) (λ (b : Begun). b.subtable) (λ (b : Begun). b.subtable) b b refl refl c.in_ok-append.ensures.place c.in_ok-append.ensures.fill c.in_ok-begun.ensures.head);
       made = more
           ∙ ap (λ (l : List Begun). l ++ b ∷ []) c.slots.invariant.made
           ∙ ap (λ (e : Begun). begun (take i xs) (map (λ (b : Begun). b.subtable) old) ++ e ∷ []) c.in_ok-begun.ensures.slot
@@ -56,5 +59,6 @@ slots-preserved g c =
           ∙ ap (λ (l : List Slot). begun l (map (λ (b : Begun). b.subtable) old ++ b.subtable ∷ [])) (sym next)
           ∙ ap (λ (l : List Subtable). begun (take (i + 1) xs) l) (sym shown);
       count = omega (arith, ap length more, length-append old (b ∷ []), c.slots.invariant.count);
-      place = omega (arith, c.slots.invariant.place, c.in_ok-begun.ensures.place);
+      place = omega (arith, c.slots.invariant.place, c.in_ok-begun.ensures.place, c.in_ok-append.ensures.place);
+      held = omega (arith, c.slots.invariant.held, c.in_ok-begun.ensures.held, c.in_ok-append.ensures.held, c.in_ok-append.ensures.place);
     }

@@ -5,8 +5,9 @@ use Rattle.szg_file.proofs.heads.read_heads.Given as goal
 
 abbrev pub invariant-slots : goal.invariant-slots
 invariant-slots g l = record {
-  read : Reading (each head_field (take l.slot-index l.slots)) (λ list. map (λ (b : Begun). b.subtable) list.items) l.fn.front l.front g.R.Input.coming g.R.Input.calls g.R.Input.moved g.R.Input.failures g.R.Input.interrupted l.fn.input l.input (Ok l.list);
+  read : Reading (each head_field (take l.slot-index l.slots)) (λ list. map (λ (b : Begun). b.subtable) list.items) l.fn.front l.front g.R.Input l.fn.input l.input (Ok l.list);
   made : l.list.items ≡ begun (take l.slot-index l.slots) (map (λ (b : Begun). b.subtable) l.list.items);
   count : length l.list.items ≡ l.slot-index;
   place : l.front.place ≤ l.fn.front.place + l.slot-index * 2 ^ 18;
+  held : l.front.held + 2 * l.fn.front.place ≤ l.fn.front.held + 2 * l.front.place + l.slot-index;
 }

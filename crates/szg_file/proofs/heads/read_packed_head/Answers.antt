@@ -1,4 +1,4 @@
-use Rattle.std.proofs.Common.{arith, ap, ◌∙◌}
+use Rattle.std.proofs.Common.{arith, refl, ap, ◌∙◌}
 use Rattle.std.proofs.lemmas.Result.{err_from_is_err_and}
 use Rattle.szg_code.specs.Canonical.{CanonicalCode}
 use Rattle.szg_file.specs.Format.{means}
@@ -7,6 +7,7 @@ use Rattle.szg_file.specs.HeadPieces.{sizes_field}
 use Rattle.szg_file.specs.Held.{subtable_of}
 use Rattle.szg_file.proofs.HeadReads.{reads_no_memory, memory_is}
 use Rattle.szg_file.proofs.ReadingLaws.{reads_then, reads_stopped, reads_nothing}
+use Rattle.szg_file.proofs.Taken.{reads_as}
 use Rattle.szg_file.proofs.PackedReads.{packed_steps, packed_of, packed_is, flag_is_clear, block_bits_field, span_bits_field, after_block, after_span, after_sizes, after_lowest}
 use Rattle.szg_file.proofs.heads.read_packed_head.Goals as goal
 
@@ -50,8 +51,16 @@ returns-in_err-lowest-clause-head g c =
     (reads_then sizes_field (after_sizes flags bb sb) (λ z. z) subtable_of sizes c.in_ok-sizes.ensures.sizes
     (reads_stopped (lowest_list sizes.min sizes.max) (after_lowest flags bb sb sizes) (λ k. k.lowest) subtable_of c.in_err-lowest.field-0.0 c.in_err-lowest.ensures.lowest))))
 
-pub read_dictionary-requires : goal.read_dictionary-requires
-read_dictionary-requires g c =
+pub read_dictionary-requires-clause-paid : goal.read_dictionary-requires-clause-paid
+read_dictionary-requires-clause-paid g c =
+    let a = c.in_ok-block_bits.ensures in
+    let b = c.in_ok-span_bits.ensures in
+    let d = c.in_ok-sizes.ensures in
+    let e = c.in_ok-lowest.ensures in
+    omega (arith, a.place, b.place, d.place, e.place, a.held, b.held, d.held, e.held, c.requires.paid)
+
+pub read_dictionary-requires-clause-place : goal.read_dictionary-requires-clause-place
+read_dictionary-requires-clause-place g c =
     let a = c.in_ok-block_bits.ensures.place in
     let b = c.in_ok-span_bits.ensures.place in
     let d = c.in_ok-sizes.ensures.place in
@@ -105,7 +114,8 @@ returns-clause-head g c =
     (reads_then span_bits_field (after_span flags bb) (λ b. b) subtable_of sb c.in_ok-span_bits.ensures.bits
     (reads_then sizes_field (after_sizes flags bb sb) (λ z. z) subtable_of sizes c.in_ok-sizes.ensures.sizes
     (reads_then (lowest_list sizes.min sizes.max) (after_lowest flags bb sb sizes) (λ k. k.lowest) subtable_of lowest c.in_ok-lowest.ensures.lowest
-    (reads_then dictionary (λ entries. means (packed_of flags bb sb sizes lowest.lowest entries)) (λ d. d) subtable_of dict c.in_ok-dict.ensures.dictionary
+    (reads_then dictionary (λ entries. means (packed_of flags bb sb sizes lowest.lowest entries)) (λ d. d) subtable_of dict
+    (reads_as dictionary dictionary (λ d. d) (λ d. d) dict dict refl refl c.in_ok-code.ensures.place c.in_ok-code.ensures.fill c.in_ok-dict.ensures.dictionary)
     (reads_nothing (means (packed_of flags bb sb sizes lowest.lowest dict)) subtable_of _
     (ap means (packed_is flags bb sb sizes lowest c.in_ok-code.code c.symbols.result dict c.new.result.items c.new-2.result.items c.new-3.result.items
     c.in_ok-lowest.ensures.code c.in_ok-code.ensures.code c.symbols.ensures.number c.new.ensures.items c.new-2.ensures.items c.new-3.ensures.items))))))))

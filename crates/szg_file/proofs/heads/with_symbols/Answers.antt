@@ -10,17 +10,26 @@ use Rattle.szg_file.proofs.heads.with_symbols.Goals as goal
 pub grow-requires-clause-ahead : goal.grow-requires-clause-ahead
 grow-requires-clause-ahead c =
     let same : length c.lowest.result.now ≡ length c.args.code.now.lowest = ap length c.lowest.ensures in
-    let each = c.requires.lengths.each in
-    let most = c.requires.lengths.at_most in
+    let each = c.requires.code.lengths.each in
+    let most = c.requires.code.lengths.at_most in
     omega (arith, same, each, most)
 
 pub grow-requires-clause-bound : goal.grow-requires-clause-bound
 grow-requires-clause-bound c =
     let same : length c.lowest.result.now ≡ length c.args.code.now.lowest = ap length c.lowest.ensures in
-    let each = c.requires.lengths.each in
-    let most = c.requires.lengths.at_most in
-    let paid = c.args.front.now.paid in
+    let each = c.requires.code.lengths.each in
+    let most = c.requires.code.lengths.at_most in
+    let paid = c.requires.paid in
     omega (arith, same, each, most, paid)
+
+pub grow-requires-clause-fits : goal.grow-requires-clause-fits
+grow-requires-clause-fits c =
+    let same : length c.lowest.result.now ≡ length c.args.code.now.lowest = ap length c.lowest.ensures in
+    let each = c.requires.code.lengths.each in
+    let most = c.requires.code.lengths.at_most in
+    let paid = c.requires.paid in
+    let place = c.requires.place in
+    omega (arith, same, each, most, paid, place)
 
 pub unreachable-requires : goal.unreachable-requires
 unreachable-requires c =
@@ -32,5 +41,5 @@ unreachable-requires c =
     ∙ ap (λ (m : ℕ). code_with old.min_length m list c.args.symbols) c.max.ensures
     ∙ ap (λ (l : List ℕ). code_with old.min_length old.max_length l c.args.symbols) same in
     accepted_has_no_fault (code_with c.min.result c.max.result list c.args.symbols)
-    (subst (λ (k : CanonicalCode). IsCode k) (sym made) (IsCode-symbols (code_with old.min_length old.max_length old.lowest c.args.symbols) old.symbols c.requires))
+    (subst (λ (k : CanonicalCode). IsCode k) (sym made) (IsCode-symbols (code_with old.min_length old.max_length old.lowest c.args.symbols) old.symbols c.requires.code))
     c.in-Err.field-0 c.in-Err.ensures.refused

@@ -1,4 +1,4 @@
-use Rattle.std.proofs.Common.{◌≡◌, ◌+◌, ◌∷◌, [], ◌++◌, Ok, length, take, ℕ, List, sym, ap, ◌∙◌, arith}
+use Rattle.std.proofs.Common.{◌≡◌, refl, ◌+◌, ◌∷◌, [], ◌++◌, Ok, length, take, ℕ, List, sym, ap, ◌∙◌, arith}
 use Rattle.std.proofs.lemmas.List.{length_push}
 use Rattle.std.proofs.lemmas.Result.{err_from_is_err_and}
 use Rattle.std.proofs.lemmas.Iterator.Adapters.{YieldsList-from_vec}
@@ -7,7 +7,7 @@ use Rattle.szg_file.specs.declared.fault.ReadFault.TheVariants.{Memory}
 use Rattle.szg_file.specs.Format.{means}
 use Rattle.szg_file.specs.File.{Begun, each, sparse_field}
 use Rattle.szg_file.proofs.ReadingLaws.{reads_nothing}
-use Rattle.szg_file.proofs.Taken.{reads_equal}
+use Rattle.szg_file.proofs.Taken.{reads_as, reads_equal}
 use Rattle.szg_file.proofs.LoopReads.{each_next, each_stops, reads_lacking}
 use Rattle.szg_file.proofs.index.read_indexes.Goals as goal
 
@@ -16,6 +16,7 @@ indexes-init g c = record {
   read = reads_nothing (means []) (λ list. list.items) c.new-indexed.result (ap (λ (l : List Begun). means l) (sym c.new-indexed.ensures.items));
   count = ap length c.new-indexed.ensures.items;
   place = omega arith;
+  held = omega arith;
 }
 
 pub returns-in_err-next-clause-indexes : goal.returns-in_err-next-clause-indexes
@@ -47,7 +48,9 @@ indexes-preserved g c =
     record {
       read = reads_equal (each sparse_field (take (length c.indexes.yielded + 1) c.args.list.items)) _ (λ list. list.items) (Ok c.append.new.list) (ap (λ (n : ℕ). each sparse_field (take n c.args.list.items)) (sym longer))
           (each_next sparse_field c.args.list.items (length c.indexes.yielded) c.in-Some.begun (λ list. list.items) (λ item. item) (λ list. list.items)
-          c.indexes.indexed c.in_ok-next.next c.append.new.list turn.0 turn.1 c.in_ok-append.ensures.items c.indexes.invariant.read c.in_ok-next.ensures.index);
+          c.indexes.indexed c.in_ok-next.next c.append.new.list turn.0 turn.1 c.in_ok-append.ensures.items c.indexes.invariant.read
+          (reads_as (sparse_field c.in-Some.begun) (sparse_field c.in-Some.begun) (λ item. item) (λ item. item) c.in_ok-next.next c.in_ok-next.next refl refl c.in_ok-append.ensures.place c.in_ok-append.ensures.fill c.in_ok-next.ensures.index));
       count = ap length c.in_ok-append.ensures.items ∙ kept ∙ omega (arith, c.indexes.invariant.count, longer);
-      place = omega (arith, c.indexes.invariant.place, c.in_ok-next.ensures.place, longer);
+      place = omega (arith, c.indexes.invariant.place, c.in_ok-next.ensures.place, c.in_ok-append.ensures.place, longer);
+      held = omega (arith, c.indexes.invariant.held, c.in_ok-next.ensures.held, c.in_ok-append.ensures.held, c.in_ok-append.ensures.place, longer);
     }

@@ -5,7 +5,8 @@ use Rattle.szg_file.proofs.index.read_indexes.Given as goal
 
 abbrev pub invariant-indexes : goal.invariant-indexes
 invariant-indexes g l = record {
-  read : Reading (each sparse_field (take (length l.yielded) l.fn.list.items)) (λ indexed. indexed.items) l.fn.front l.front g.R.Input.coming g.R.Input.calls g.R.Input.moved g.R.Input.failures g.R.Input.interrupted l.fn.input l.input (Ok l.indexed);
+  read : Reading (each sparse_field (take (length l.yielded) l.fn.list.items)) (λ indexed. indexed.items) l.fn.front l.front g.R.Input l.fn.input l.input (Ok l.indexed);
   count : length l.indexed.items ≡ length l.yielded;
   place : l.front.place ≤ l.fn.front.place + length l.yielded * 2 ^ 36;
+  held : l.front.held + 2 * l.fn.front.place ≤ l.fn.front.held + 2 * l.front.place + length l.yielded;
 }

@@ -1,4 +1,4 @@
-use Rattle.std.proofs.Common.{◌≡◌, ◌+◌, ◌∷◌, [], ◌++◌, Ok, length, take, ℕ, List, sym, ap, ◌∙◌, arith}
+use Rattle.std.proofs.Common.{◌≡◌, refl, ◌+◌, ◌∷◌, [], ◌++◌, Ok, length, take, ℕ, List, sym, ap, ◌∙◌, arith}
 use Rattle.std.proofs.lemmas.List.{length_push}
 use Rattle.std.proofs.lemmas.Result.{err_from_is_err_and}
 use Rattle.std.proofs.lemmas.Iterator.Adapters.{YieldsList-from_vec}
@@ -7,7 +7,7 @@ use Rattle.szg_file.specs.declared.fault.ReadFault.TheVariants.{Memory}
 use Rattle.szg_file.specs.Format.{means}
 use Rattle.szg_file.specs.File.{Begun, each, lengths_field}
 use Rattle.szg_file.proofs.ReadingLaws.{reads_nothing}
-use Rattle.szg_file.proofs.Taken.{reads_equal}
+use Rattle.szg_file.proofs.Taken.{reads_as, reads_equal}
 use Rattle.szg_file.proofs.LoopReads.{each_next, each_stops, reads_lacking}
 use Rattle.szg_file.proofs.index.read_lengths.Goals as goal
 
@@ -16,6 +16,7 @@ lengths-init g c = record {
   read = reads_nothing (means []) (λ list. list.items) c.new-measured.result (ap (λ (l : List Begun). means l) (sym c.new-measured.ensures.items));
   count = ap length c.new-measured.ensures.items;
   place = omega arith;
+  held = omega arith;
 }
 
 pub returns-in_err-next-clause-lengths : goal.returns-in_err-next-clause-lengths
@@ -47,7 +48,9 @@ lengths-preserved g c =
     record {
       read = reads_equal (each lengths_field (take (length c.lengths.yielded + 1) c.args.list.items)) _ (λ list. list.items) (Ok c.append.new.list) (ap (λ (n : ℕ). each lengths_field (take n c.args.list.items)) (sym longer))
           (each_next lengths_field c.args.list.items (length c.lengths.yielded) c.in-Some.indexed (λ list. list.items) (λ item. item) (λ list. list.items)
-          c.lengths.measured c.in_ok-next.next c.append.new.list turn.0 turn.1 c.in_ok-append.ensures.items c.lengths.invariant.read c.in_ok-next.ensures.lengths);
+          c.lengths.measured c.in_ok-next.next c.append.new.list turn.0 turn.1 c.in_ok-append.ensures.items c.lengths.invariant.read
+          (reads_as (lengths_field c.in-Some.indexed) (lengths_field c.in-Some.indexed) (λ item. item) (λ item. item) c.in_ok-next.next c.in_ok-next.next refl refl c.in_ok-append.ensures.place c.in_ok-append.ensures.fill c.in_ok-next.ensures.lengths));
       count = ap length c.in_ok-append.ensures.items ∙ kept ∙ omega (arith, c.lengths.invariant.count, longer);
-      place = omega (arith, c.lengths.invariant.place, c.in_ok-next.ensures.place, longer);
+      place = omega (arith, c.lengths.invariant.place, c.in_ok-next.ensures.place, c.in_ok-append.ensures.place, longer);
+      held = omega (arith, c.lengths.invariant.held, c.in_ok-next.ensures.held, c.in_ok-append.ensures.held, c.in_ok-append.ensures.place, longer);
     }

@@ -5,7 +5,8 @@ use Rattle.szg_file.proofs.index.read_lengths.Given as goal
 
 abbrev pub invariant-lengths : goal.invariant-lengths
 invariant-lengths g l = record {
-  read : Reading (each lengths_field (take (length l.yielded) l.fn.list.items)) (λ measured. measured.items) l.fn.front l.front g.R.Input.coming g.R.Input.calls g.R.Input.moved g.R.Input.failures g.R.Input.interrupted l.fn.input l.input (Ok l.measured);
+  read : Reading (each lengths_field (take (length l.yielded) l.fn.list.items)) (λ measured. measured.items) l.fn.front l.front g.R.Input l.fn.input l.input (Ok l.measured);
   count : length l.measured.items ≡ length l.yielded;
   place : l.front.place ≤ l.fn.front.place + length l.yielded * 2 ^ 36;
+  held : l.front.held + 2 * l.fn.front.place ≤ l.fn.front.held + 2 * l.front.place + length l.yielded;
 }

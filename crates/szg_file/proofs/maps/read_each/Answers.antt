@@ -1,4 +1,4 @@
-use Rattle.std.proofs.Common.{◌≡◌, ◌<◌, ◌∷◌, ◌++◌, [], length, map, arith, List, ℕ, Option, option_map, sym, ap, ◌∙◌, get_or}
+use Rattle.std.proofs.Common.{◌≡◌, refl, ◌<◌, ◌∷◌, ◌++◌, [], length, map, arith, List, ℕ, Option, option_map, sym, ap, ◌∙◌, get_or}
 use Rattle.std.proofs.lemmas.List.{map-append, length-map, get_or-map}
 use Rattle.std.proofs.lemmas.Result.{err_from_is_err_and}
 use Rattle.szg_file.specs.declared.table.Map.{Map}
@@ -8,6 +8,7 @@ use Rattle.szg_file.specs.File.{Begun, map_field}
 use Rattle.szg_file.specs.Held.{map_of}
 use Rattle.szg_file.proofs.HeadReads.{memory_is}
 use Rattle.szg_file.proofs.ReadingLaws.{reads_nothing}
+use Rattle.szg_file.proofs.Taken.{reads_as}
 use Rattle.szg_file.proofs.LoopReads.{each_next, each_stops, reads_lacking}
 use Rattle.szg_file.proofs.maps.read_each.Goals as goal
 
@@ -25,6 +26,7 @@ pub heads-init : goal.heads-init
 heads-init g c = record {
   read = reads_nothing (means []) (λ list. map (option_map map_of) list.items) c.new-list.result (ap (λ (l : List (Option Map)). means (map (option_map map_of) l)) (sym c.new-list.ensures.items));
   place = omega arith;
+  held = omega arith;
 }
 
 pub returns-in_err-lists-clause-maps : goal.returns-in_err-lists-clause-maps
@@ -59,6 +61,8 @@ heads-preserved g c =
     ap (λ (l : List (Option Map)). map (option_map map_of) l) c.in_ok-append.ensures.items ∙ map-append (option_map map_of) old (c.in_ok-lists.lists ∷ []) in
     record {
       read = each_next map_field (subtables xs) i x.subtable (λ list. map (option_map map_of) list.items) (option_map map_of) (λ list. map (option_map map_of) list.items)
-          c.heads.list c.in_ok-lists.lists c.append.new.list (there xs i c.heads-test.true) (is_item xs i x c.heads-test.true c.head-item.is) shown c.heads.invariant.read c.in_ok-lists.ensures.lists;
-      place = omega (arith, c.heads.invariant.place, c.in_ok-lists.ensures.place);
+          c.heads.list c.in_ok-lists.lists c.append.new.list (there xs i c.heads-test.true) (is_item xs i x c.heads-test.true c.head-item.is) shown c.heads.invariant.read
+          (reads_as (map_field x.subtable) (map_field x.subtable) (option_map map_of) (option_map map_of) c.in_ok-lists.lists c.in_ok-lists.lists refl refl c.in_ok-append.ensures.place c.in_ok-append.ensures.fill c.in_ok-lists.ensures.lists);
+      place = omega (arith, c.heads.invariant.place, c.in_ok-lists.ensures.place, c.in_ok-append.ensures.place);
+      held = omega (arith, c.heads.invariant.held, c.in_ok-lists.ensures.held, c.in_ok-append.ensures.held, c.in_ok-append.ensures.place);
     }

@@ -6,6 +6,7 @@ use Rattle.szg_file.proofs.maps.read_each.Given as goal
 
 abbrev pub invariant-heads : goal.invariant-heads
 invariant-heads g l = record {
-  read : Reading (each map_field (take l.head-index (map (λ (b : Begun). b.subtable) l.heads))) (λ list. map (option_map map_of) list.items) l.fn.front l.front g.R.Input.coming g.R.Input.calls g.R.Input.moved g.R.Input.failures g.R.Input.interrupted l.fn.input l.input (Ok l.list);
+  read : Reading (each map_field (take l.head-index (map (λ (b : Begun). b.subtable) l.heads))) (λ list. map (option_map map_of) list.items) l.fn.front l.front g.R.Input l.fn.input l.input (Ok l.list);
   place : l.front.place ≤ l.fn.front.place + l.head-index * 600000;
+  held : l.front.held + 2 * l.fn.front.place ≤ l.fn.front.held + 2 * l.front.place + l.head-index;
 }

@@ -17,4 +17,4 @@ returns g c =
     writes_spare c.args.count c.args.outgoing.now (record { out = c.args.outgoing.now.out; held = c.args.outgoing.now.held; fill = c.split_at.result.1 })
     c.put.result refl refl back
     (subst (λ (z : List ℕ). Writing (written z ∷ []) (record { out = c.args.outgoing.now.out; held = c.args.outgoing.now.held; fill = c.split_at.result.1 }) c.put.new.outgoing
-    g.W.Output.written g.W.Output.calls g.W.Output.moved g.W.Output.failures g.W.Output.interrupted c.args.output.now c.put.new.output c.put.result) front c.put.ensures)
+    g.W.Output c.args.output.now c.put.new.output c.put.result) front c.put.ensures)

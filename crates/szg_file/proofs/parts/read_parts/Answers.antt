@@ -10,10 +10,12 @@ use Rattle.szg_file.specs.File.{each, part_field}
 use Rattle.szg_file.specs.Held.{part_of}
 use Rattle.szg_file.specs.Parts.{slots_with}
 use Rattle.szg_file.specs.declared.table.PartBytes.{PartBytes}
+use Rattle.szg_file.specs.declared.parts.SideSizes.{SideSizes}
 use Rattle.szg_file.specs.declared.fault.ReadFault.{ReadFault}
 use Rattle.szg_file.specs.declared.fault.ReadFault.TheVariants.{Memory}
 use Rattle.szg_file.proofs.ReadingLaws.{reads_nothing, reads_more, reads_more_stopped}
-use Rattle.szg_file.proofs.Taken.{reads_equal, reads_refused_growth}
+use Rattle.szg_file.proofs.LoopReads.{reads_lacking}
+use Rattle.szg_file.proofs.Taken.{reads_as, reads_equal}
 use Rattle.szg_file.proofs.PartLaws.{slots_few, slots-more, numbers-more, numbers-split}
 use Rattle.szg_file.proofs.parts.read_parts.Goals as goal
 
@@ -25,6 +27,10 @@ numbers_at numbers end part e h =
     let here : 0 + part ≡ part = omega arith in
     e ∙ ap (range_with_len 0) there ∙ numbers-split 0 part (end - part - 1)
     ∙ ap (λ (k : ℕ). range_with_len 0 part ++ k ∷ range_with_len (k + 1) (end - part - 1)) here
+
+-- a part that was read
+abbrev read_as : PartBytes × SideSizes → Part
+read_as read = part_of read.0
 
 fault_of : Result (Unit {0}) ReadFault → ReadFault
 fault_of (Ok x) = Memory
@@ -38,9 +44,10 @@ pub parts-init : goal.parts-init
 parts-init g c =
     let none = c.new.ensures.items in (
       reads_nothing (means []) _ tt (ap means (sym (ap (map part_of) none))),
-      c.new-2.ensures.items ∙ sym (ap (λ (z : List PartBytes). slots_from c.args.material.now (side_numbers c.args.material.now c.args.kind) 0 (map part_of z)) none),
+      c.new-2.ensures ∙ sym (ap (λ (z : List PartBytes). slots_from c.args.material.now (side_numbers c.args.material.now c.args.kind) 0 (map part_of z)) none),
       ap length none,
-      omega (arith, ap length c.new-2.ensures.items),
+      omega (arith, ap length c.new-2.ensures),
+      omega arith,
       omega arith,
     )
 
@@ -60,11 +67,12 @@ pub returns-in_err-push_part-clause-parts : goal.returns-in_err-push_part-clause
 returns-in_err-push_part-clause-parts g c =
     let p = err_from_is_err_and c.from_residual-in_err-push_part.result c.from_residual-in_err-push_part.ensures.1 in
     let one : ℕ → Format Part = λ _. part_field c.args.material.now c.args.kind in
-    let read = reads_more one (range_with_len 0 c.parts.part) c.parts.part _ (λ read. part_of read.0)
-    (λ (_ : Unit {0}). map part_of c.parts.parts.bytes.items ++ part_of c.in_ok-bytes.bytes ∷ []) tt (c.in_ok-bytes.bytes, c.in_ok-bytes.sizes) tt refl
-    c.parts.invariant.0 c.in_ok-bytes.ensures.part in
+    let e = numbers_at _ c.part_count-part-end.result c.parts.part c.part_count-part-end.ensures.numbers c.parts-test.true in
+    let stopped = reads_more_stopped one (range_with_len 0 c.parts.part) c.parts.part (range_with_len (c.parts.part + 1) (c.part_count-part-end.result - c.parts.part - 1))
+    _ _ (λ parts. map part_of parts.bytes.items) tt Memory c.parts.invariant.0
+    (reads_lacking (one c.parts.part) read_as read_as (c.in_ok-bytes.bytes, c.in_ok-bytes.sizes) c.in_ok-bytes.ensures.part) in
     let fault : c.in_err-push_part.field-0.0 ≡ Memory = fault_inside c.in_err-push_part.field-0.0 c.in_err-push_part.ensures.memory in
-    rw (p.1, p.2, fault) (reads_refused_growth (each one (range_with_len 0 c.parts.part ++ c.parts.part ∷ [])) _ _ _ tt read)
+    rw (p.1, p.2, fault) (reads_equal _ _ _ (Err Memory) (ap (each one) (sym e)) stopped)
 
 pub parts-preserved : goal.parts-preserved
 parts-preserved g c =
@@ -74,9 +82,10 @@ parts-preserved g c =
     let i : ℕ = c.parts.part in
     let pushed : map part_of c.push_part.new.parts.bytes.items ≡ map part_of c.parts.parts.bytes.items ++ part_of c.in_ok-bytes.bytes ∷ [] =
     ap (map part_of) c.in_ok-push_part.ensures.bytes ∙ map-append part_of c.parts.parts.bytes.items (c.in_ok-bytes.bytes ∷ []) in
-    let read = reads_more one (range_with_len 0 i) i _ (λ read. part_of read.0)
+    let read = reads_more one (range_with_len 0 i) i _ read_as
     (λ (_ : Unit {0}). map part_of c.push_part.new.parts.bytes.items) tt (c.in_ok-bytes.bytes, c.in_ok-bytes.sizes) tt pushed
-    c.parts.invariant.0 c.in_ok-bytes.ensures.part in
+    c.parts.invariant.0
+    (reads_as (one i) (one i) read_as read_as (c.in_ok-bytes.bytes, c.in_ok-bytes.sizes) (c.in_ok-bytes.bytes, c.in_ok-bytes.sizes) refl refl c.in_ok-push_part.ensures.place c.in_ok-push_part.ensures.fill c.in_ok-bytes.ensures.part) in
     let count : length (map part_of c.parts.parts.bytes.items) ≡ i = length-map c.parts.parts.bytes.items part_of ∙ c.parts.invariant.2 in
     let place : 0 + length (map part_of c.parts.parts.bytes.items) ≡ i = omega (arith, count) in
     let slots : c.push_part.new.parts.slots.items ≡ slots_from m sides 0 (map part_of c.push_part.new.parts.bytes.items) =
@@ -96,5 +105,6 @@ parts-preserved g c =
         slots_few i c.in_ok-bytes.sizes.first c.in_ok-bytes.sizes.second,
         c.parts.invariant.3,
       ),
-      omega (arith, c.parts.invariant.4, c.in_ok-bytes.ensures.place),
+      omega (arith, c.parts.invariant.4, c.in_ok-bytes.ensures.place, c.in_ok-push_part.ensures.place),
+      omega (arith, c.parts.invariant.5, c.in_ok-bytes.ensures.held, c.in_ok-push_part.ensures.held, c.in_ok-push_part.ensures.place, c.in_ok-bytes.ensures.part.answer.0.place),
     )

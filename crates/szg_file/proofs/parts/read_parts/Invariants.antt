@@ -10,8 +10,9 @@ use Rattle.szg_file.proofs.parts.read_parts.Given as goal
 abbrev pub invariant-parts : goal.invariant-parts
 invariant-parts g l =
     Reading (each (λ _. part_field l.material l.kind) (range_with_len 0 l.part)) (λ (_ : Unit {0}). map part_of l.parts.bytes.items) l.initial.front l.front
-    g.R.Input.coming g.R.Input.calls g.R.Input.moved g.R.Input.failures g.R.Input.interrupted l.initial.input l.input (Ok tt)
+    g.R.Input l.initial.input l.input (Ok tt)
     × (l.parts.slots.items ≡ slots_from l.material (side_numbers l.material l.kind) 0 (map part_of l.parts.bytes.items))
     × (length l.parts.bytes.items ≡ l.part)
     × (length l.parts.slots.items ≤ 2 * l.part)
     × (l.front.place ≤ l.initial.front.place + 8 * l.part)
+    × (l.front.held + 2 * l.initial.front.place ≤ l.initial.front.held + 2 * l.front.place + l.part)

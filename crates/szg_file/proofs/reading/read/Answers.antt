@@ -1,11 +1,12 @@
 use Rattle.std.proofs.lemmas.Result.{err_from_is_err_and}
+use Rattle.szg_io.proofs.DeviceLaws.{Takes-more}
 use Rattle.szg_values.specs.declared.Kind.{Kind}
 use Rattle.szg_values.specs.Material.{Sides}
 use Rattle.szg_file.specs.File.{file}
 use Rattle.szg_file.specs.Held.{Shown}
 use Rattle.szg_file.specs.FilePieces.{contents_of}
 use Rattle.szg_file.proofs.ListLengths.{lists_are_paid}
-use Rattle.szg_file.proofs.ReadAnswers.{follows_good, fault_follows, fault_took, whole_file, calls_more}
+use Rattle.szg_file.proofs.ReadAnswers.{follows_good, fault_follows, fault_took, whole_file}
 use Rattle.szg_file.proofs.reading.read.Goals as goal
 
 pub returns-in_err-byte4-clause-verdict : goal.returns-in_err-byte4-clause-verdict
@@ -13,14 +14,14 @@ returns-in_err-byte4-clause-verdict g c =
     let m : Sides = c.args.material in
     let k : Kind = c.args.kind in
     let p = err_from_is_err_and c.from_residual.result c.from_residual.ensures.1 in
-    rw (p.1, p.2) (fault_follows (file m k) (contents_of m k) c.in_err-byte4.field-0.0 c.new-front.ensures.place c.in_err-byte4.ensures.pieces)
+    rw (p.1, p.2) (fault_follows (file m k) (contents_of m k) c.in_err-byte4.field-0.0 c.new-front.ensures.place c.in_err-byte4.ensures.pieces c.in_err-byte4.ensures.memory)
 
 pub returns-in_err-byte4-clause-taken : goal.returns-in_err-byte4-clause-taken
 returns-in_err-byte4-clause-taken g c =
     let m : Sides = c.args.material in
     let k : Kind = c.args.kind in
     let p = err_from_is_err_and c.from_residual.result c.from_residual.ensures.1 in
-    rw (p.1, p.2) (fault_took m k (contents_of m k) c.in_err-byte4.field-0.0 c.new-front.ensures.place c.in_err-byte4.ensures.pieces)
+    rw (p.1, p.2) (fault_took m k (contents_of m k) c.in_err-byte4.field-0.0 c.new-front.ensures.place c.in_err-byte4.ensures.pieces c.in_err-byte4.ensures.memory)
 
 pub invariant_of-result : goal.invariant_of-result
 invariant_of-result g c =
@@ -45,7 +46,7 @@ returns-clause-taken g c =
     let k : Kind = c.args.kind in
     let h = c.in_ok-byte4.ensures.pieces in
     let w = whole_file m k (contents_of m k c.in_ok-byte4.field-0) c.new-front.result c.read_pieces.new.front h.bytes c.new-front.ensures.place c.new-front.ensures.fill h.answer.0 in
-    (h.bytes, calls_more h.bytes h.taken, w.file_is)
+    (h.bytes, Takes-more h.bytes 1 h.taken, w.file_is)
 
 pub returns-clause-accepted : goal.returns-clause-accepted
 returns-clause-accepted g c =

@@ -49,14 +49,14 @@ returns-in_err-heads-clause-opening g c =
     let k : Kind = c.args.kind in
     let byte : ℕ = c.in_ok-byte4.byte4 in
     let parts : List Part = map part_of c.in_ok-parts.parts.bytes.items in
-    let at : c.deref.result.now ≡ slots m k parts = c.deref.ensures.value ∙ c.in_ok-parts.ensures.slots in
+    let at : c.as_slice.result.now ≡ slots m k parts = c.as_slice.ensures.value ∙ c.in_ok-parts.ensures.slots in
     let p = err_from_is_err_and c.from_residual-in_err-heads.result c.from_residual-in_err-heads.ensures.1 in
     rw (p.1, p.2)
     (reads_then (start_field m k) (after_start m k) (λ b. b) opened byte c.in_ok-byte4.ensures.start
     (reads_then (each (λ _. part_field m k) (part_numbers m)) (after_parts m k byte) (λ parts. map part_of parts.bytes.items) opened c.in_ok-parts.parts c.in_ok-parts.ensures.parts
     (reads_then (filled_to 2) (after_gap m k byte parts) (λ _. tt) opened c.in_ok-take_fill.field-0 c.in_ok-take_fill.ensures.fill
     (reads_stopped (each head_field (slots m k parts)) (after_heads m k byte parts) (λ list. map (λ begun. begun.subtable) list.items) opened c.in_err-heads.field-0.0
-    (reads_equal (each head_field c.deref.result.now) (each head_field (slots m k parts)) _ (Err c.in_err-heads.field-0.0) (ap (each head_field) at) c.in_err-heads.ensures.heads)))))
+    (reads_equal (each head_field c.as_slice.result.now) (each head_field (slots m k parts)) _ (Err c.in_err-heads.field-0.0) (ap (each head_field) at) c.in_err-heads.ensures.heads)))))
 
 pub returns-in_err-maps-clause-opening : goal.returns-in_err-maps-clause-opening
 returns-in_err-maps-clause-opening g c =
@@ -64,7 +64,7 @@ returns-in_err-maps-clause-opening g c =
     let k : Kind = c.args.kind in
     let byte : ℕ = c.in_ok-byte4.byte4 in
     let parts : List Part = map part_of c.in_ok-parts.parts.bytes.items in
-    let at : c.deref.result.now ≡ slots m k parts = c.deref.ensures.value ∙ c.in_ok-parts.ensures.slots in
+    let at : c.as_slice.result.now ≡ slots m k parts = c.as_slice.ensures.value ∙ c.in_ok-parts.ensures.slots in
     let heads : List Subtable = map (λ (begun : Begun). begun.subtable) c.in_ok-heads.heads.items in
     let p = err_from_is_err_and c.from_residual-in_err-maps.result c.from_residual-in_err-maps.ensures.1 in
     rw (p.1, p.2)
@@ -72,9 +72,9 @@ returns-in_err-maps-clause-opening g c =
     (reads_then (each (λ _. part_field m k) (part_numbers m)) (after_parts m k byte) (λ parts. map part_of parts.bytes.items) opened c.in_ok-parts.parts c.in_ok-parts.ensures.parts
     (reads_then (filled_to 2) (after_gap m k byte parts) (λ _. tt) opened c.in_ok-take_fill.field-0 c.in_ok-take_fill.ensures.fill
     (reads_then (each head_field (slots m k parts)) (after_heads m k byte parts) (λ list. map (λ begun. begun.subtable) list.items) opened c.in_ok-heads.heads
-    (reads_equal (each head_field c.deref.result.now) (each head_field (slots m k parts)) _ (Ok c.in_ok-heads.heads) (ap (each head_field) at) c.in_ok-heads.ensures.heads)
+    (reads_equal (each head_field c.as_slice.result.now) (each head_field (slots m k parts)) _ (Ok c.in_ok-heads.heads) (ap (each head_field) at) c.in_ok-heads.ensures.heads)
     (reads_stopped (maps_field k heads) (λ found. means (record { byte4 = byte; parts = parts; heads = heads; maps = found })) (λ list. map (option_map map_of) list.items) opened c.in_err-maps.field-0.0
-    (reads_equal _ (maps_field k heads) _ (Err c.in_err-maps.field-0.0) (ap (λ (z : List Begun). maps_field k (map (λ (begun : Begun). begun.subtable) z)) c.deref-2.ensures.value) c.in_err-maps.ensures.maps))))))
+    (reads_equal _ (maps_field k heads) _ (Err c.in_err-maps.field-0.0) (ap (λ (z : List Begun). maps_field k (map (λ (begun : Begun). begun.subtable) z)) c.deref.ensures.value) c.in_err-maps.ensures.maps))))))
 
 pub returns-clause-opening : goal.returns-clause-opening
 returns-clause-opening g c =
@@ -82,12 +82,12 @@ returns-clause-opening g c =
     let k : Kind = c.args.kind in
     let byte : ℕ = c.in_ok-byte4.byte4 in
     let parts : List Part = map part_of c.in_ok-parts.parts.bytes.items in
-    let at : c.deref.result.now ≡ slots m k parts = c.deref.ensures.value ∙ c.in_ok-parts.ensures.slots in
+    let at : c.as_slice.result.now ≡ slots m k parts = c.as_slice.ensures.value ∙ c.in_ok-parts.ensures.slots in
     let heads : List Subtable = map (λ (begun : Begun). begun.subtable) c.in_ok-heads.heads.items in
     reads_then (start_field m k) (after_start m k) (λ b. b) opened byte c.in_ok-byte4.ensures.start
     (reads_then (each (λ _. part_field m k) (part_numbers m)) (after_parts m k byte) (λ parts. map part_of parts.bytes.items) opened c.in_ok-parts.parts c.in_ok-parts.ensures.parts
     (reads_then (filled_to 2) (after_gap m k byte parts) (λ _. tt) opened c.in_ok-take_fill.field-0 c.in_ok-take_fill.ensures.fill
     (reads_then (each head_field (slots m k parts)) (after_heads m k byte parts) (λ list. map (λ begun. begun.subtable) list.items) opened c.in_ok-heads.heads
-    (reads_equal (each head_field c.deref.result.now) (each head_field (slots m k parts)) _ (Ok c.in_ok-heads.heads) (ap (each head_field) at) c.in_ok-heads.ensures.heads)
+    (reads_equal (each head_field c.as_slice.result.now) (each head_field (slots m k parts)) _ (Ok c.in_ok-heads.heads) (ap (each head_field) at) c.in_ok-heads.ensures.heads)
     (reads_made (maps_field k heads) (λ found. record { byte4 = byte; parts = parts; heads = heads; maps = found }) (λ list. map (option_map map_of) list.items) opened c.in_ok-maps.maps _ refl
-    (reads_equal _ (maps_field k heads) _ (Ok c.in_ok-maps.maps) (ap (λ (z : List Begun). maps_field k (map (λ (begun : Begun). begun.subtable) z)) c.deref-2.ensures.value) c.in_ok-maps.ensures.maps)))))
+    (reads_equal _ (maps_field k heads) _ (Ok c.in_ok-maps.maps) (ap (λ (z : List Begun). maps_field k (map (λ (begun : Begun). begun.subtable) z)) c.deref.ensures.value) c.in_ok-maps.ensures.maps)))))

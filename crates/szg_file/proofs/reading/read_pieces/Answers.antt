@@ -7,6 +7,7 @@ use Rattle.szg_file.specs.File.{Begun, begun, file}
 use Rattle.szg_file.specs.Format.{means, ◌>>=◌}
 use Rattle.szg_file.specs.Held.{subtable_of}
 use Rattle.szg_file.specs.FilePieces.{Opened, opened, opening_field, packed_field, ending_field, contents_of}
+use Rattle.szg_file.proofs.LackingReads.{opening_lacks, behind_lacks, packed_lacks, ending_lacks, memory_told, memory_tells}
 use Rattle.szg_file.proofs.ReadingLaws.{reads_then, reads_stopped}
 use Rattle.szg_file.proofs.Taken.{reads_equal}
 use Rattle.szg_file.proofs.WholeReads.{reads_made, behind_opening, behind_packed, with_last, pieces_are_file}
@@ -64,3 +65,33 @@ returns-clause-pieces g c =
     (reads_equal (packed_field c.in_ok-byte4.field-0.heads.items) (packed_field list) _ (Ok c.in_ok-subs.subs) (ap packed_field at) c.in_ok-subs.ensures.packed)
     (reads_made ending_field (with_last m k o (map subtable_of c.in_ok-subs.subs.items)) (λ last. last) (contents_of m k) c.in_ok-last.last _ refl
     c.in_ok-last.ensures.ending)))
+
+-- ---- where memory runs out, the file is not whole
+
+pub returns-in_err-byte4-clause-memory : goal.returns-in_err-byte4-clause-memory
+returns-in_err-byte4-clause-memory g c =
+    let m : Sides = c.args.material.now in
+    let k : Kind = c.args.kind in
+    let p = err_from_is_err_and c.from_residual.result c.from_residual.ensures.1 in
+    rw (p.1, p.2) (λ e. opening_lacks m k opened c.in_err-byte4.field-0.0 c.in_err-byte4.ensures.opening (memory_told c.in_err-byte4.field-0.0 e))
+
+pub returns-in_err-subs-clause-memory : goal.returns-in_err-subs-clause-memory
+returns-in_err-subs-clause-memory g c =
+    let m : Sides = c.args.material.now in
+    let k : Kind = c.args.kind in
+    let o : Opened = opened c.in_ok-byte4.field-0 in
+    let p = err_from_is_err_and c.from_residual-in_err-subs.result c.from_residual-in_err-subs.ensures.1 in
+    rw (p.1, p.2)
+    (λ e. behind_lacks m k opened c.in_ok-byte4.field-0 c.in_ok-byte4.ensures.opening
+    (packed_lacks m k o (λ subs. map subtable_of subs.items) c.in_ok-byte4.field-0.heads.items c.in_err-subs.field-0.0 c.in_ok-byte4.ensures.begun c.in_err-subs.ensures.packed (memory_told c.in_err-subs.field-0.0 e)))
+
+pub returns-in_err-last-clause-memory : goal.returns-in_err-last-clause-memory
+returns-in_err-last-clause-memory g c =
+    let m : Sides = c.args.material.now in
+    let k : Kind = c.args.kind in
+    let o : Opened = opened c.in_ok-byte4.field-0 in
+    let p = err_from_is_err_and c.from_residual-in_err-last.result c.from_residual-in_err-last.ensures.1 in
+    rw (p.1, p.2)
+    (λ e. behind_lacks m k opened c.in_ok-byte4.field-0 c.in_ok-byte4.ensures.opening
+    (ending_lacks m k o (λ subs. map subtable_of subs.items) c.in_ok-byte4.field-0.heads.items c.in_ok-subs.subs c.in_ok-byte4.ensures.begun c.in_ok-subs.ensures.packed
+    (c.in_err-last.ensures.memory (memory_tells c.in_err-last.field-0.0 (memory_told c.in_err-last.field-0.0 e)))))

@@ -8,5 +8,5 @@ pub returns : goal.returns
 returns g c =
     let small : (i : ℕ) → get_or c.args.list.now i 0 < 256 = λ i. let fits = c.type_inv.list i in omega (arith, fits) in
     subst (λ (z : List ℕ). Writing (written z ∷ []) c.args.outgoing.now c.put.new.outgoing
-    g.W.Output.written g.W.Output.calls g.W.Output.moved g.W.Output.failures g.W.Output.interrupted c.args.output.now c.put.new.output c.put.result)
+    g.W.Output c.args.output.now c.put.new.output c.put.result)
     (sym (ones_of c.args.list.now small)) c.put.ensures

@@ -8,4 +8,4 @@ use Rattle.szg_file.proofs.sections.put_entries.Given as goal
 abbrev pub invariant-symbols : goal.invariant-symbols
 invariant-symbols g l =
     Writing {X = Unit {0}} (flat_map (λ (entry : List ℕ). written entry ∷ []) (take l.symbol l.dict)) l.initial.outgoing l.outgoing
-    g.W.Output.written g.W.Output.calls g.W.Output.moved g.W.Output.failures g.W.Output.interrupted l.initial.output l.output (Ok tt)
+    g.W.Output l.initial.output l.output (Ok tt)

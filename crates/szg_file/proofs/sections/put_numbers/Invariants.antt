@@ -9,4 +9,4 @@ use Rattle.szg_file.proofs.sections.put_numbers.Given as goal
 abbrev pub invariant-numbers : goal.invariant-numbers
 invariant-numbers g l =
     Writing {X = Unit {0}} (flat_map (λ n. written (bytes_of 2 n) ∷ []) (take l.number-index l.list)) l.initial.outgoing l.outgoing
-    g.W.Output.written g.W.Output.calls g.W.Output.moved g.W.Output.failures g.W.Output.interrupted l.initial.output l.output (Ok tt)
+    g.W.Output l.initial.output l.output (Ok tt)

@@ -8,4 +8,4 @@ use Rattle.szg_file.proofs.sections.put_short_lists.Given as goal
 abbrev pub invariant-lists : goal.invariant-lists
 invariant-lists g l =
     Writing {X = Unit {0}} (flat_map (λ list. list_sections 1 list.items) (take l.list-index l.lists)) l.initial.outgoing l.outgoing
-    g.W.Output.written g.W.Output.calls g.W.Output.moved g.W.Output.failures g.W.Output.interrupted l.initial.output l.output (Ok tt)
+    g.W.Output l.initial.output l.output (Ok tt)

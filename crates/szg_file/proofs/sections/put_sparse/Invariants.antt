@@ -9,4 +9,4 @@ use Rattle.szg_file.proofs.sections.put_sparse.Given as goal
 abbrev pub invariant-entries : goal.invariant-entries
 invariant-entries g l =
     Writing {X = Unit {0}} (flat_map (λ entry. written (bytes_of 4 entry.block ++ bytes_of 2 entry.offset) ∷ []) (take l.entry-index l.sparse)) l.initial.outgoing l.outgoing
-    g.W.Output.written g.W.Output.calls g.W.Output.moved g.W.Output.failures g.W.Output.interrupted l.initial.output l.output (Ok tt)
+    g.W.Output l.initial.output l.output (Ok tt)

@@ -9,4 +9,4 @@ use Rattle.szg_file.proofs.sections.write_all_lengths.Given as goal
 abbrev pub invariant-lengths : goal.invariant-lengths
 invariant-lengths g l =
     Writing {X = Unit {0}} (flat_map (λ x. lengths_sections (subtable_of x)) (take l.sub-index l.subs)) l.initial.outgoing l.outgoing
-    g.W.Output.written g.W.Output.calls g.W.Output.moved g.W.Output.failures g.W.Output.interrupted l.initial.output l.output (Ok tt)
+    g.W.Output l.initial.output l.output (Ok tt)

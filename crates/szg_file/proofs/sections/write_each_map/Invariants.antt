@@ -9,4 +9,4 @@ use Rattle.szg_file.proofs.sections.write_each_map.Given as goal
 abbrev pub invariant-maps : goal.invariant-maps
 invariant-maps g l =
     Writing {X = Unit {0}} (flat_map (λ x. map_sections (option_map map_of x)) (take l.item-index l.maps)) l.initial.outgoing l.outgoing
-    g.W.Output.written g.W.Output.calls g.W.Output.moved g.W.Output.failures g.W.Output.interrupted l.initial.output l.output (Ok tt)
+    g.W.Output l.initial.output l.output (Ok tt)

@@ -9,4 +9,4 @@ use Rattle.szg_file.proofs.sections.write_indexes.Given as goal
 abbrev pub invariant-indexes : goal.invariant-indexes
 invariant-indexes g l =
     Writing {X = Unit {0}} (flat_map (λ x. sparse_sections (subtable_of x)) (take l.sub-index l.subs)) l.initial.outgoing l.outgoing
-    g.W.Output.written g.W.Output.calls g.W.Output.moved g.W.Output.failures g.W.Output.interrupted l.initial.output l.output (Ok tt)
+    g.W.Output l.initial.output l.output (Ok tt)

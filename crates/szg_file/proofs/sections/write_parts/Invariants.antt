@@ -9,4 +9,4 @@ use Rattle.szg_file.proofs.sections.write_parts.Given as goal
 abbrev pub invariant-parts : goal.invariant-parts
 invariant-parts g l =
     Writing {X = Unit {0}} (flat_map (λ x. part_sections (part_of x)) (take l.part-index l.parts)) l.initial.outgoing l.outgoing
-    g.W.Output.written g.W.Output.calls g.W.Output.moved g.W.Output.failures g.W.Output.interrupted l.initial.output l.output (Ok tt)
+    g.W.Output l.initial.output l.output (Ok tt)

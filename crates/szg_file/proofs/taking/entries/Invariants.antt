@@ -1,6 +1,12 @@
-use Rattle.std.proofs.Common.{◌≡◌}
+use Rattle.std.proofs.Common.{◌≡◌, ◌+◌, length}
 use Rattle.szg_file.specs.Contents.{items}
 use Rattle.szg_file.proofs.taking.entries.Given as goal
 
 abbrev pub invariant-rows : goal.invariant-rows
-invariant-rows l = l.list.items ≡ items 3 l.i l.bytes
+invariant-rows l = record {
+  read : l.list.items ≡ items 3 l.i l.bytes;
+  count : length l.list.items ≡ l.i;
+  held : l.front.held ≡ l.initial.front.held + l.i;
+  place : l.front.place ≡ l.initial.front.place;
+  fill : l.front.fill.items ≡ l.initial.front.fill.items;
+}

@@ -1,5 +1,5 @@
-use Rattle.std.proofs.Common.{◌≡◌, ◌≤◌, ◌*◌, ◌++◌, ◌∷◌, [], length, take, drop, List, ℕ, rules, ap, ◌∙◌}
-use Rattle.std.proofs.lemmas.List.{length-drop, take_rest}
+use Rattle.std.proofs.Common.{◌≡◌, ◌+◌, arith, ◌≤◌, ◌*◌, ◌++◌, ◌∷◌, [], length, take, drop, List, ℕ, rules, ap, ◌∙◌}
+use Rattle.std.proofs.lemmas.List.{length-drop, length_push, take_rest}
 use Rattle.byteorder.specs.Endian.{little_number}
 use Rattle.szg_file.specs.Contents.{number_of}
 use Rattle.szg_file.proofs.ItemsRead.{mapped-more, little-number_of}
@@ -13,5 +13,12 @@ rows-preserved c =
     let there : 2 ≤ length (drop (2 * i) bytes) = search (rules, length-drop (2 * i) bytes) in
     let number : c.read_u16-number.result ≡ number_of (take 2 (drop (2 * i) bytes)) =
     c.read_u16-number.ensures ∙ ap (little_number 2) whole ∙ little-number_of 2 (drop (2 * i) bytes) there in
-    c.in_ok-push.ensures.items ∙ ap (λ (z : List ℕ). z ++ c.read_u16-number.result ∷ []) c.in_ok-grow.ensures.items
-    ∙ mapped-more number_of 2 i bytes c.rows.list.items c.read_u16-number.result c.rows.invariant number
+    let pushed : c.push.new.self.items ≡ c.rows.list.items ++ c.read_u16-number.result ∷ [] =
+    c.in_ok-push.ensures.items ∙ ap (λ (z : List ℕ). z ++ c.read_u16-number.result ∷ []) c.in_ok-grow.ensures.items in
+    record {
+      read = pushed ∙ mapped-more number_of 2 i bytes c.rows.list.items c.read_u16-number.result c.rows.invariant.read number;
+      count = ap length pushed ∙ length_push c.rows.list.items c.read_u16-number.result ∙ ap (λ (n : ℕ). n + 1) c.rows.invariant.count;
+      held = omega (arith, c.rows.invariant.held, c.in_ok-grow.ensures.held);
+      place = c.in_ok-grow.ensures.place ∙ c.rows.invariant.place;
+      fill = c.in_ok-grow.ensures.fill ∙ c.rows.invariant.fill;
+    }

@@ -1,8 +1,14 @@
-use Rattle.std.proofs.Common.{◌≡◌, length, map}
+use Rattle.std.proofs.Common.{◌≡◌, ◌+◌, length, map}
 use Rattle.szg_file.specs.Contents.{items}
 use Rattle.szg_file.specs.File.{entry_of_bytes}
 use Rattle.szg_file.specs.Held.{sparse_of}
 use Rattle.szg_file.proofs.taking.sparse_entries.Given as goal
 
 abbrev pub invariant-rows : goal.invariant-rows
-invariant-rows l = (map sparse_of l.list.items ≡ map entry_of_bytes (items 6 l.i l.bytes)) × (length l.list.items ≡ l.i)
+invariant-rows l = record {
+  read : map sparse_of l.list.items ≡ map entry_of_bytes (items 6 l.i l.bytes);
+  count : length l.list.items ≡ l.i;
+  held : l.front.held ≡ l.initial.front.held + l.i;
+  place : l.front.place ≡ l.initial.front.place;
+  fill : l.front.fill.items ≡ l.initial.front.fill.items;
+}

@@ -8,7 +8,7 @@ abbrev pub invariant-pieces : goal.invariant-pieces
 invariant-pieces g l =
     (l.left ≤ l.count)
     × Reading (field (l.count - l.left) means) (λ (_ : Unit {0}). drop (length l.initial.list.items) l.list.items) l.initial.front l.front
-    g.R.Input.coming g.R.Input.calls g.R.Input.moved g.R.Input.failures g.R.Input.interrupted l.initial.input l.input (Ok tt)
+    g.R.Input l.initial.input l.input (Ok tt)
     × (take (length l.initial.list.items) l.list.items ≡ l.initial.list.items)
     × (length l.list.items ≡ length l.initial.list.items + (l.count - l.left))
     × (l.front.place ≡ l.initial.front.place + (l.count - l.left))

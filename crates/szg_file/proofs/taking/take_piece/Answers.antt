@@ -1,6 +1,6 @@
-use Rattle.std.proofs.Common.{◌≡◌, ◌+◌, ◌-◌, ◌++◌, length, take, drop, ℕ, refl, rules, ap, ◌∙◌}
+use Rattle.std.proofs.Common.{sym, Ok, ◌≡◌, ◌+◌, ◌-◌, ◌++◌, length, take, drop, ℕ, refl, rules, ap, ◌∙◌}
 use Rattle.szg_file.specs.Format.{field, means}
-use Rattle.szg_file.proofs.Taken.{reads_as, tail_written}
+use Rattle.szg_file.proofs.Taken.{reads_as, reads_from, tail_written}
 use Rattle.szg_file.proofs.taking.take_piece.Goals as goal
 
 pub returns-clause-field : goal.returns-clause-field
@@ -16,4 +16,5 @@ returns-clause-field g c =
     ∙ ap (λ (n : ℕ). drop at (take n ((take at before ++ (piece ++ drop (length before - at) (drop at before))) ++ drop (length (take at before ++ (piece ++ drop (length before - at) (drop at before)))) c.resize.new.self.items))) new
     ∙ tail_written before piece (drop (length (take at before ++ (piece ++ drop (length before - at) (drop at before)))) c.resize.new.self.items) at c.args.size lasts sized in
     reads_as (field (length piece) means) (field c.args.size means) (λ _. piece) _ tt tt (ap (λ (n : ℕ). field n means) sized)
-    seen refl refl c.in_ok-take_field.ensures.field
+    seen refl refl
+    (reads_from (field (length piece) means) (λ (_ : Unit {0}). piece) (Ok tt) (sym c.in_ok-grow.ensures.place) (sym c.in_ok-grow.ensures.fill) c.in_ok-take_field.ensures.field)

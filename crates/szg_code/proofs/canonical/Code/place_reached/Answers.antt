@@ -1,31 +1,18 @@
-use Rattle.std.proofs.Common.{ℕ, ◌≡◌, ◌+◌, ◌<◌, inl, inr, length, get_or, subst, arith}
-use Rattle.std.proofs.lemmas.Bool.{cases_lt}
+use Rattle.std.proofs.Common.{ℕ, ◌≡◌, ◌/◌, ◌^◌, get_or, arith}
 use Rattle.szg_code.specs.Canonical.{CanonicalCode}
-use Rattle.szg_code.specs.Acceptance.{IsCode}
 use Rattle.szg_code.specs.CodeHead.{code_of}
-use Rattle.szg_code.specs.Least.{HasShiftedBases, shifted_base}
-use Rattle.szg_code.proofs.Fronts.{shifted_last}
+use Rattle.szg_code.specs.Least.{IsStart}
 use Rattle.szg_code.proofs.canonical.Code.place_reached.Goals as goal
 
-pub loop-j-preserved : goal.loop-j-preserved
-loop-j-preserved c =
-    let code : CanonicalCode = c.args.self.now in
-    let is : code_of c.self.inside.head ≡ code = c.self.view_is in
-    let accepted : IsCode code = subst (λ (k : CanonicalCode). IsCode k) is c.self.invariant.0 in
-    let bases : HasShiftedBases code c.self.inside.bases = subst (λ (k : CanonicalCode). HasShiftedBases k c.self.inside.bases) is c.self.invariant.1 in
-    let j : ℕ = c.loop-j.j in
-    let inside : j < length code.lowest = c.loop-j.invariant.inside in
-    let at : get_or c.self.inside.bases j 0 ≡ shifted_base code 64 (code.min_length + j) = bases j inside in
-    let below : c.args.window < get_or c.self.inside.bases j 0 = c.loop-j-test.true in
+pub place_from-requires : goal.place_from-requires
+place_from-requires c =
+    let code : CanonicalCode = code_of c.self.inside.head in
+    let first : ℕ = c.args.window / 2 ^ 56 in
+    let start : IsStart code first (get_or c.self.inside.starts first 0) = c.self.invariant.2 first (omega arith) in
+    let is : c.from-start.result ≡ get_or c.self.inside.starts first 0 = c.from-start.ensures in
     record {
-      inside =
-          elim (cases_lt (j + 1) (length code.lowest)) [
-            | inl less ↦ less
-            | inr last ↦ absurd (let z = shifted_last code accepted j (omega arith) in omega (arith, z, at, below))
-          ];
-      before = λ k less.
-          elim (cases_lt k j) [
-            | inl earlier ↦ c.loop-j.invariant.before k earlier
-            | inr no_earlier ↦ let here : k ≡ j = omega arith in rw here (omega (arith, at, below))
-          ];
+      accepted = c.self.invariant.0;
+      bases = c.self.invariant.1;
+      inside = let h = start.inside in omega (arith, h, is);
+      before = λ k less. let h = start.before k (omega (arith, less, is)) in omega (arith, h);
     }

@@ -1,0 +1,146 @@
+/* szg: Syzygy tables, read with proof.
+ *
+ * Threads: a szg_table serves one call at a time. Threads that ask one table take a szg_table each, made by szg_share:
+ * the table stays in memory once, and no call waits for another. A szg_table may go from one thread to another by a lock
+ * or by a thread's start or join. The calls that hold nothing (szg_check, szg_size, szg_values, szg_values_at) may run
+ * side by side.
+ *
+ * A call takes the name of a material, as "KQvKR" (its length is told beside it, and no zero byte is wanted), whether
+ * the table is a DTZ table (else WDL), and the bytes of its file in memory. What follows the file is not looked at. Each
+ * call but szg_close answers a status of enum szg_status.
+ *
+ * What is behind a call is proved to give these answers for every name, all bytes and all men. What a caller owes is
+ * checked by nobody: each pointer leads to as many items as the length behind it says, and is not NULL even where that
+ * is 0; no length is 2^63 bytes or more; while a call runs, nobody else reads or writes what it writes, nor writes what
+ * it reads.
+ * malloc, realloc and free of the program are one allocator, which aligns as C wants; no call comes from a signal
+ * handler, nor from the forked child of a process with threads. Nothing is called back, printed or locked. */
+#ifndef SZG_H
+#define SZG_H
+#include <stdbool.h>
+#include <stddef.h>
+#include <stdint.h>
+#ifdef __cplusplus
+extern "C" {
+#endif
+
+enum szg_status {
+    SZG_DONE = 0,
+    SZG_NAME = 1,    /* the name is no material's */
+    SZG_REFUSED = 2, /* the bytes are no table's: answer->place and answer->reason tell the first check that fails */
+    SZG_MEMORY = 3,  /* a growth was refused */
+    SZG_RANGE = 4,   /* the table has no such part, side, index or class, the list hasn't its length, or a number is asked
+                        of a WDL table */
+    SZG_CLOSED = 5,  /* the handle holds no table */
+
+    /* the men are no placement; of several faults the first is told */
+    SZG_MAN = 6,         /* a number tells no kind of man, colour or square */
+    SZG_MEN = 7,         /* not three to six men, or a colour hasn't exactly one king */
+    SZG_SAME_SQUARE = 8, /* two men stand on one square */
+    SZG_PAWN_RANK = 9,   /* a pawn stands on rank 1 or 8 */
+
+    /* the table has no index for the placement; of several faults the first is told */
+    SZG_OTHER_MATERIAL = 10, /* the men are not the table's */
+    SZG_IRREGULAR = 11,      /* a lead man that is no pawn has a twin, or equal men are in several groups */
+    SZG_KINGS_TOUCH = 12,    /* the lead group is the two kings, and they touch */
+    SZG_WRONG_SIDE = 13,     /* the DTZ table tells of the other side to move */
+
+    /* the table has an index, and nothing to tell there */
+    SZG_NO_CLASS = 14,   /* the value is none of the five classes of a WDL table */
+    SZG_DRAW = 15,       /* a draw has no number in a DTZ table */
+    SZG_OUTSIDE_MAP = 16 /* the DTZ table's map hasn't the value */
+};
+
+enum szg_reason {
+    SZG_TRUNCATED = 1, SZG_MAGIC, SZG_SPLIT_BIT, SZG_PAWN_BIT, SZG_PIECES, SZG_PAWNS_FIRST, SZG_ORDER_PLACE,
+    SZG_BLOCK_BITS, SZG_SPAN_BITS, SZG_CODE_LENGTHS, SZG_LOWEST_ORDER, SZG_TOO_FULL, SZG_CHILD, SZG_CYCLE,
+    SZG_LONG_SYMBOL, SZG_SHORT_TOTAL, SZG_SPARSE_ENTRY, SZG_WORD
+};
+
+typedef struct szg_answer {
+    uint64_t place;  /* refused: the place of the check; szg_check, done: the number of bytes of the table's file */
+    uint32_t reason; /* refused: which check, as enum szg_reason */
+} szg_answer;
+
+/* Whether the bytes begin with a table's file that passes every check, and how long it is. */
+uint32_t szg_check(const char *name, size_t name_length, bool dtz, const uint8_t *bytes, size_t length,
+                   szg_answer *answer);
+
+/* The number of positions of a part's side. With another status than SZG_DONE *size stays. */
+uint32_t szg_size(const char *name, size_t name_length, bool dtz, const uint8_t *bytes, size_t length,
+                  uint8_t part, uint8_t side, uint64_t *size, szg_answer *answer);
+
+/* All values of a part's side. `count` is its number of positions. With another status than SZG_DONE the list stays. */
+uint32_t szg_values(const char *name, size_t name_length, bool dtz, const uint8_t *bytes, size_t length,
+                    uint8_t part, uint8_t side, uint16_t *values, size_t count, szg_answer *answer);
+
+/* The values at these indexes, in their order: as many as the shorter of the two lists has. */
+uint32_t szg_values_at(const char *name, size_t name_length, bool dtz, const uint8_t *bytes, size_t length,
+                       uint8_t part, uint8_t side, const uint64_t *indexes, size_t index_count,
+                       uint16_t *values, size_t value_count, szg_answer *answer);
+
+/* A table in memory, with a copy of all of the file that it needs. It begins as SZG_NO_TABLE, is changed by the calls
+ * alone, is not copied, and is given to one call at a time. */
+typedef struct szg_table { void *held; } szg_table;
+#define SZG_NO_TABLE {0}
+
+/* Opens a table. What it held before is let go, also where the call is refused. */
+uint32_t szg_open(const char *name, size_t name_length, bool dtz, const uint8_t *bytes, size_t length,
+                  szg_table *table, szg_answer *answer);
+
+/* Makes `second`, another szg_table, hold the table that `table` holds, without a copy of it. The table goes when the
+ * last of them is closed or opens another. What `second` held before is let go, also where the call is refused. */
+uint32_t szg_share(szg_table *table, szg_table *second);
+
+/* The value at an index of a part's side. With another status than SZG_DONE *value stays. */
+uint32_t szg_get(szg_table *table, uint8_t part, uint8_t side, uint64_t index, uint16_t *value);
+
+/* The number of positions of a part's side. With another status than SZG_DONE *size stays. */
+uint32_t szg_positions(szg_table *table, uint8_t part, uint8_t side, uint64_t *size);
+
+/* All values of a part's side. `count` is its number of positions. With another status than SZG_DONE the list stays. */
+uint32_t szg_all(szg_table *table, uint8_t part, uint8_t side, uint16_t *values, size_t count);
+
+/* The number of a DTZ value in a class: 2 win, 1 cursed win, -1 blessed loss, -2 loss. SZG_RANGE tells a WDL table, a
+ * part that isn't there and a class below -2 or above 2; SZG_DRAW and SZG_OUTSIDE_MAP that there is no number. Then
+ * *number stays. */
+uint32_t szg_number(szg_table *table, uint8_t part, int8_t class_of_position, uint16_t value, uint32_t *number);
+
+/* ---- Placements: `men` leads to `count` men in any order, `mover` (enum szg_color) is who moves. What the men are is
+ * checked: the statuses SZG_MAN to SZG_WRONG_SIDE say what is refused. Of a position nothing else is asked: castling,
+ * en passant, checks and captures, after which other tables tell, are the caller's. */
+
+enum szg_kind { SZG_PAWN = 1, SZG_KNIGHT, SZG_BISHOP, SZG_ROOK, SZG_QUEEN, SZG_KING };
+enum szg_color { SZG_WHITE = 0, SZG_BLACK = 1 };
+
+/* A man on a square, three bytes. Other numbers than those told are refused by SZG_MAN. */
+typedef struct szg_man {
+    uint8_t kind;   /* enum szg_kind, as in python-chess */
+    uint8_t color;  /* enum szg_color */
+    uint8_t square; /* a1 = 0, b1 = 1, .. h8 = 63 */
+} szg_man;
+
+/* Where a table tells of a placement: szg_get has the value there. */
+typedef struct szg_spot {
+    uint8_t part;   /* 0 to 3 for the files a to d of the lead pawn; 0 without pawns */
+    uint8_t side;   /* 0 where the name's first side moves, else 1; 0 where the table has one side */
+    uint64_t index; /* below the number of positions */
+} szg_spot;
+
+/* The part, side and index of a placement. With another status than SZG_DONE *spot stays. */
+uint32_t szg_index(szg_table *table, const szg_man *men, size_t count, uint8_t mover, szg_spot *spot);
+
+/* What the table tells of a placement: a WDL table its class for the mover (2 win, 1 cursed win, 0 draw, -1 blessed
+ * loss, -2 loss; it asks no class of the caller), a DTZ table the number, without sign, of plies in this class; numbers
+ * that the table counts in moves are doubled. In a DTZ table SZG_RANGE tells a class below -2 or above 2. With another
+ * status than SZG_DONE *outcome stays. */
+uint32_t szg_probe(szg_table *table, const szg_man *men, size_t count, uint8_t mover, int8_t class_of_position,
+                   int64_t *outcome);
+
+/* Lets the table go. A second call does nothing. */
+void szg_close(szg_table *table);
+
+#ifdef __cplusplus
+}
+#endif
+#endif

@@ -1,0 +1,82 @@
+/* Look-ups on a held table: held FOLDER. */
+#include "szg.h"
+#include <stdio.h>
+#include <stdlib.h>
+#include <string.h>
+#include <time.h>
+
+static uint8_t bytes[1 << 20];
+static int failed;
+
+static void want(const char *what, uint64_t got, uint64_t wanted) {
+    if (got != wanted) { printf("%s: %llu, not %llu\n", what, (unsigned long long)got, (unsigned long long)wanted); failed = 1; }
+}
+
+static double now(void) {
+    struct timespec t;
+    clock_gettime(CLOCK_MONOTONIC, &t);
+    return t.tv_sec + t.tv_nsec / 1e9;
+}
+
+static void table(const char *folder, const char *file, const char *name, bool dtz) {
+    char path[4096];
+    snprintf(path, sizeof path, "%s/%s", folder, file);
+    FILE *f = fopen(path, "rb");
+    if (!f) { perror(path); exit(2); }
+    size_t n = fread(bytes, 1, sizeof bytes, f);
+    fclose(f);
+    szg_answer answer = {0, 0};
+    szg_table t = SZG_NO_TABLE;
+    uint16_t value = 77;
+    want("closed", szg_get(&t, 0, 0, 0, &value), SZG_CLOSED);
+    want("cut", szg_open(name, strlen(name), dtz, bytes, n - 1, &t, &answer), SZG_REFUSED);
+    want("cut at", answer.place, n - 1);
+    want("closed", szg_get(&t, 0, 0, 0, &value), SZG_CLOSED);
+    want("open", szg_open(name, strlen(name), dtz, bytes, n, &t, &answer), SZG_DONE);
+    want("open again", szg_open(name, strlen(name), dtz, bytes, n, &t, &answer), SZG_DONE);
+    uint64_t size = 0, again = 0;
+    uint32_t number = 0;
+    want("number", szg_number(&t, 0, 2, 0, &number), dtz ? SZG_DONE : SZG_RANGE);
+    if (dtz) printf("%s: value 0 of a win is %u\n", file, number);
+    want("number of a draw", szg_number(&t, 0, 0, 0, &number), dtz ? SZG_DRAW : SZG_RANGE);
+    want("number of no class", szg_number(&t, 0, 3, 0, &number), SZG_RANGE);
+    want("number past the map", szg_number(&t, 0, 2, 65535, &number), dtz ? SZG_OUTSIDE_MAP : SZG_RANGE);
+    want("size", szg_size(name, strlen(name), dtz, bytes, n, 0, 0, &size, &answer), SZG_DONE);
+    uint16_t *values = malloc(size * 2);
+    want("values", szg_values(name, strlen(name), dtz, bytes, n, 0, 0, values, size, &answer), SZG_DONE);
+    memset(bytes, 0, n);
+    want("positions", szg_positions(&t, 0, 0, &again), SZG_DONE);
+    want("positions", again, size);
+    want("no side", szg_positions(&t, 0, 2, &again), SZG_RANGE);
+    uint16_t *all = malloc(size * 2);
+    want("all", szg_all(&t, 0, 0, all, size), SZG_DONE);
+    want("all alike", memcmp(all, values, size * 2) != 0, 0);
+    want("all, too short", szg_all(&t, 0, 0, all, size - 1), SZG_RANGE);
+    free(all);
+    for (uint64_t i = 0; i < size; i += 17) {
+        want("get", szg_get(&t, 0, 0, i, &value), SZG_DONE);
+        want("value", value, values[i]);
+    }
+    want("outside", szg_get(&t, 0, 0, size, &value), SZG_RANGE);
+    want("no part", szg_get(&t, 4, 0, 0, &value), SZG_RANGE);
+    want("no side", szg_get(&t, 0, 2, 0, &value), SZG_RANGE);
+    double begun = now();
+    uint64_t sum = 0;
+    int count = 20000000;
+    for (int i = 0; i < count; i++) { szg_get(&t, 0, 0, i & 15, &value); sum += value; }
+    printf("%s: %.1f ns a get near a block's begin (%llu)\n", file, (now() - begun) * 1e9 / count, (unsigned long long)sum);
+    szg_close(&t);
+    szg_close(&t);
+    want("closed", szg_get(&t, 0, 0, 0, &value), SZG_CLOSED);
+    free(values);
+}
+
+int main(int count, char **words) {
+    const char *folder = count > 1 ? words[1] : "data";
+    table(folder, "knvk_wdl_constant.rtbw", "KNvK", false);
+    table(folder, "kqvk_wdl_unpaired.rtbw", "KQvK", false);
+    table(folder, "kqvk_wdl_paired.rtbw", "KQvK", false);
+    table(folder, "kpvk_dtz_mapped.rtbz", "KPvK", true);
+    if (!failed) puts("all as expected");
+    return failed;
+}

@@ -1,0 +1,28 @@
+-- A line that was read says what its words say.
+use Rattle.std.proofs.Common.{◌≡◌, ℕ, List, sym, subst, ◌∙◌, Ok, Err}
+use Rattle.std.specs.Prelude.{Result}
+use Rattle.szg_io.specs.declared.device.Input.{Ghosts}
+use Rattle.szg_build.specs.declared.incoming.Incoming.{Incoming}
+use Rattle.szg_build.specs.declared.dump.DumpFault.{DumpFault}
+use Rattle.szg_build.specs.declared.dump.DumpReadFault.{DumpReadFault}
+use Rattle.szg_build.specs.Fronts.{in_line}
+use Rattle.szg_build.specs.Lines.{Lines, line, words_of}
+use Rattle.szg_build.specs.Reading.{ReadsLines, Says}
+use Rattle.szg_build.proofs.LineRead.{words_line}
+use Rattle.szg_build.proofs.ReadingLaws.{reads_then, reads_stopped, reads_nothing, reads_refused}
+
+says_in : {A X T R : Type 0} (next : List (List ℕ) → Lines A) (view : X → A) (words : T → List (List ℕ)) (text : T) {o m : Incoming} {dev : Ghosts R} {i k : R} (r : Result X DumpFault) →
+    ReadsLines words_line words o m dev i k (Ok text) → Says (next (words text)) view r → ReadsLines (line next) view o m dev i k (in_line m.line r)
+says_in next view words text (Ok x) first says = reads_then words_line next words view text first (reads_nothing (next (words text)) view x says)
+says_in next view words text (Err fault) first says = reads_then words_line next words view text first (reads_refused (next (words text)) view fault says)
+
+pub reads_said : {A X T R : Type 0} (next : List (List ℕ) → Lines A) (view : X → A) (words : T → List (List ℕ)) (seen : List ℕ) (text : T) {o m : Incoming} {dev : Ghosts R} {i k : R}
+    (r : Result X DumpFault) (answer : Result X DumpReadFault) → words text ≡ words_of seen →
+    ReadsLines words_line words o m dev i k (Ok text) → Says (next (words_of seen)) view r → answer ≡ in_line m.line r → ReadsLines (line next) view o m dev i k answer
+reads_said next view words seen text {o = o} {m = m} {dev = dev} {i = i} {k = k} r answer same first says e =
+    subst (λ a. ReadsLines (line next) view o m dev i k a) (sym e)
+    (says_in next view words text r first (subst (λ (z : List (List ℕ)). Says (next z) view r) (sym same) says))
+
+pub reads_unread : {A X T R : Type 0} (next : List (List ℕ) → Lines A) (words : T → List (List ℕ)) (view : X → A) {o m n : Incoming} {dev : Ghosts R} {i k : R} (fault : DumpReadFault) →
+    ReadsLines words_line words o m dev i k (Err fault) → ReadsLines (line next) view o n dev i k (Err fault)
+reads_unread next words view fault first = reads_stopped words_line next words view fault first

@@ -1,0 +1,47 @@
+use Rattle.std.proofs.Common.{◌≡◌, ◌<◌, ℕ, List, Option, Some, length, map, ap, subst, ◌∙◌, arith, [], ◌∷◌}
+use Rattle.std.specs.Prelude.{is_some, IfSome}
+use Rattle.std.proofs.lemmas.List.{map-append, take_all}
+use Rattle.szg_values.specs.declared.Kind.{Kind}
+use Rattle.szg_file.specs.Contents.{Slot, Subtable}
+use Rattle.szg_file.specs.Values.{values_of}
+use Rattle.szg_build.specs.Dump.{places_of}
+use Rattle.szg_build.specs.Built.{subtables_in}
+use Rattle.szg_build.proofs.PlaceLaws.{place_at, place_count, pairs_more}
+use Rattle.szg_build.proofs.copies.copy_values.Goals as goal
+
+-- the values of a subtable that is there
+told_values : (kind : Kind) (list : List ℕ) {o : Option (Slot × Subtable)} {x : Slot × Subtable} → o ≡ Some x → IfSome o (λ found. list ≡ values_of kind found) → list ≡ values_of kind x
+told_values kind list e h = subst (λ o. IfSome o (λ found. list ≡ values_of kind found)) e h
+
+pub values-requires : goal.values-requires
+values-requires c =
+    let t = c.args.table.now.contents in
+    let i = c.places.place-index in
+    let items = c.places-place-items.result.now in
+    let same = c.places-place-items.ensures.places ∙ ap (λ m. places_of m c.kind.result) c.material.ensures ∙ ap (λ k. places_of t.material k) c.kind.ensures in
+    let accepted = c.fill-fill.ensures.accepted in
+    ap is_some (place_at t c.args.table.now.filled items i (0, 0) accepted same c.places-test.true)
+
+pub places-preserved : goal.places-preserved
+places-preserved c =
+    let t = c.args.table.now.contents in
+    let i = c.places.place-index in
+    let items = c.places-place-items.result.now in
+    let same = c.places-place-items.ensures.places ∙ ap (λ m. places_of m c.kind.result) c.material.ensures ∙ ap (λ k. places_of t.material k) c.kind.ensures in
+    let accepted = c.fill-fill.ensures.accepted in
+    let at = place_at t c.args.table.now.filled items i (0, 0) accepted same c.places-test.true in
+    let values = c.in_ok-values.values in
+    let below : i < length (subtables_in t) = omega (arith, place_count t c.args.table.now.filled accepted, ap length same, c.places-test.true) in
+    ap (map (λ list. list.items)) c.in_ok-push.ensures.items
+    ∙ map-append (λ list. list.items) c.places.lists.items (values ∷ [])
+    ∙ pairs_more (values_of t.kind) (subtables_in t) i (map (λ list. list.items) c.places.lists.items) values.items below c.places.invariant
+    (told_values t.kind values.items at c.in_ok-values.ensures)
+
+pub returns : goal.returns
+returns c =
+    let t = c.args.table.now.contents in
+    let i = c.places.place-index in
+    let items = c.places-place-items.result.now in
+    let same = c.places-place-items.ensures.places ∙ ap (λ m. places_of m c.kind.result) c.material.ensures ∙ ap (λ k. places_of t.material k) c.kind.ensures in
+    let accepted = c.fill-fill.ensures.accepted in
+    c.places.invariant ∙ ap (map (values_of t.kind)) (take_all i (subtables_in t) (omega (arith, place_count t c.args.table.now.filled accepted, ap length same, c.places-test.false)))

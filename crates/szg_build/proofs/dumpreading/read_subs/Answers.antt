@@ -1,0 +1,62 @@
+use Rattle.std.proofs.Common.{ℕ, suc, ◌≡◌, ◌+◌, ◌<◌, ◌≤◌, List, [], ◌∷◌, ◌++◌, length, map, option_map, get_or, ap, sym, refl, ◌∙◌, arith}
+use Rattle.std.proofs.lemmas.Result.{err_from_is_err_and}
+use Rattle.szg_file.specs.Held.{part_of}
+use Rattle.szg_build.specs.Dump.{places_of}
+use Rattle.szg_build.specs.Plan.{sizes_told}
+use Rattle.szg_build.specs.Rests.{sub_told}
+use Rattle.szg_build.specs.Shown.{dump_seen, form_of}
+use Rattle.szg_build.proofs.GoingLaws.{goes_unheld}
+use Rattle.szg_build.proofs.WholeLaws.{are_more, none_read, same_dump, subs_begun, subs_more, subs_stopped, subs_ended}
+use Rattle.szg_build.proofs.dumpreading.read_subs.Goals as goal
+
+pub each-init : goal.each-init
+each-init g c =
+    let front = c.args.front in (
+      [],
+      none_read front.kind (record { flags = c.new.result; maps = c.new-2.result; lists = c.new-3.result }) c.new.ensures.items c.new-2.ensures.items c.new-3.ensures.items,
+      subs_begun (form_of c.args.form) front.material front.kind front.last (map part_of front.parts.items),
+      omega (arith, c.requires, ap length c.places-places.ensures.places),
+    )
+
+pub returns-in_err-sub-clause-lines : goal.returns-in_err-sub-clause-lines
+returns-in_err-sub-clause-lines g c =
+    let p = err_from_is_err_and c.from_residual.result c.from_residual.ensures.1 in
+    let front = c.args.front in
+    let v = c.each.invariant in
+    let same = c.places-places.ensures.places in
+    let few : c.each.s < length (places_of front.material front.kind) = omega (arith, c.each-test.true, ap length same) in
+    let sizes = c.sizes_of-sizes.ensures ∙ ap (λ z. sizes_told front.material front.kind (map part_of z)) c.deref.ensures.value in
+    rw (p.1, p.2) (subs_stopped (form_of c.args.form) front.material front.kind front.last (map part_of front.parts.items) v.0 c.each.s (get_or c.places-places.result.now c.each.s (0, 0))
+    (option_map (λ list. list.items) c.sizes_of-sizes.result) sub_told dump_seen c.in_err-sub.field-0.0 few (ap (λ z. get_or z c.each.s (0, 0)) same) sizes v.2 c.in_err-sub.ensures.lines)
+
+pub returns-in_err-add_sub-clause-lines : goal.returns-in_err-add_sub-clause-lines
+returns-in_err-add_sub-clause-lines g c =
+    let p = err_from_is_err_and c.from_residual-in_err-add_sub.result c.from_residual-in_err-add_sub.ensures.1 in
+    let front = c.args.front in
+    let v = c.each.invariant in
+    let same = c.places-places.ensures.places in
+    let few : c.each.s < length (places_of front.material front.kind) = omega (arith, c.each-test.true, ap length same) in
+    let sizes = c.sizes_of-sizes.ensures ∙ ap (λ z. sizes_told front.material front.kind (map part_of z)) c.deref.ensures.value in
+    rw (p.1, p.2) (goes_unheld dump_seen (subs_more (form_of c.args.form) front.material front.kind front.last (map part_of front.parts.items) v.0 c.each.s (suc c.each.s) (get_or c.places-places.result.now c.each.s (0, 0))
+    (option_map (λ list. list.items) c.sizes_of-sizes.result) sub_told c.in_ok-sub.sub refl few (ap (λ z. get_or z c.each.s (0, 0)) same) sizes v.2 c.in_ok-sub.ensures.lines))
+
+pub each-preserved : goal.each-preserved
+each-preserved g c =
+    let front = c.args.front in
+    let v = c.each.invariant in
+    let same = c.places-places.ensures.places in
+    let few : c.each.s < length (places_of front.material front.kind) = omega (arith, c.each-test.true, ap length same) in
+    let sizes = c.sizes_of-sizes.ensures ∙ ap (λ z. sizes_told front.material front.kind (map part_of z)) c.deref.ensures.value in (
+      v.0 ++ sub_told c.in_ok-sub.sub ∷ [],
+      are_more front.kind c.each.subs c.add_sub.new.subs v.0 c.in_ok-sub.sub c.in_ok-add_sub.ensures.flags c.in_ok-add_sub.ensures.maps c.in_ok-add_sub.ensures.lists v.1,
+      subs_more (form_of c.args.form) front.material front.kind front.last (map part_of front.parts.items) v.0 c.each.s (c.each.s + 1) (get_or c.places-places.result.now c.each.s (0, 0))
+          (option_map (λ list. list.items) c.sizes_of-sizes.result) sub_told c.in_ok-sub.sub (omega arith) few (ap (λ z. get_or z c.each.s (0, 0)) same) sizes v.2 c.in_ok-sub.ensures.lines,
+      omega (arith, c.in_ok-sub.ensures.behind, c.each-test.true),
+    )
+
+pub returns-clause-lines : goal.returns-clause-lines
+returns-clause-lines g c =
+    let front = c.args.front in
+    let v = c.each.invariant in
+    subs_ended (form_of c.args.form) front.material front.kind front.last (map part_of front.parts.items) v.0 c.each.s dump_seen _
+    (omega (arith, c.each-test.false, ap length c.places-places.ensures.places)) (same_dump front.material front.kind (map part_of front.parts.items) front.last c.each.subs v.0 v.1) v.2

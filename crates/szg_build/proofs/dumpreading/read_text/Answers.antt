@@ -1,0 +1,33 @@
+use Rattle.std.proofs.lemmas.Result.{err_from_is_err_and}
+use Rattle.szg_build.specs.Lines.{◌>>=◌}
+use Rattle.szg_build.specs.Grammar.{version_line, name_line, kind_line}
+use Rattle.szg_build.specs.Shown.{dump_seen, form_of}
+use Rattle.szg_build.specs.Wholes.{dump_behind_kind}
+use Rattle.szg_build.proofs.ReadingLaws.{reads_then, reads_stopped}
+use Rattle.szg_build.proofs.RestLaws.{reads_as}
+use Rattle.szg_build.proofs.WholeLaws.{behind_form, whole_text}
+use Rattle.szg_build.proofs.dumpreading.read_text.Goals as goal
+
+pub returns-in_err-form-clause-lines : goal.returns-in_err-form-clause-lines
+returns-in_err-form-clause-lines g c =
+    let p = err_from_is_err_and c.from_residual.result c.from_residual.ensures.1 in
+    rw (p.1, p.2) (reads_as whole_text (reads_stopped version_line behind_form form_of dump_seen c.in_err-form.field-0.0 c.in_err-form.ensures.lines))
+
+pub returns-in_err-material-clause-lines : goal.returns-in_err-material-clause-lines
+returns-in_err-material-clause-lines g c =
+    let p = err_from_is_err_and c.from_residual-in_err-material.result c.from_residual-in_err-material.ensures.1 in
+    rw (p.1, p.2) (reads_as whole_text (reads_then version_line behind_form form_of dump_seen c.in_ok-form.form c.in_ok-form.ensures.lines
+    (reads_stopped name_line (λ material. kind_line >>= λ kind. dump_behind_kind (form_of c.in_ok-form.form) material kind) (λ material. material) dump_seen c.in_err-material.field-0.0 c.in_err-material.ensures.lines)))
+
+pub returns-in_err-kind-clause-lines : goal.returns-in_err-kind-clause-lines
+returns-in_err-kind-clause-lines g c =
+    let p = err_from_is_err_and c.from_residual-in_err-kind.result c.from_residual-in_err-kind.ensures.1 in
+    rw (p.1, p.2) (reads_as whole_text (reads_then version_line behind_form form_of dump_seen c.in_ok-form.form c.in_ok-form.ensures.lines
+    (reads_then name_line (λ material. kind_line >>= λ kind. dump_behind_kind (form_of c.in_ok-form.form) material kind) (λ material. material) dump_seen c.in_ok-material.material c.in_ok-material.ensures.lines
+    (reads_stopped kind_line (λ kind. dump_behind_kind (form_of c.in_ok-form.form) c.in_ok-material.material kind) (λ kind. kind) dump_seen c.in_err-kind.field-0.0 c.in_err-kind.ensures.lines))))
+
+pub returns-clause-lines : goal.returns-clause-lines
+returns-clause-lines g c =
+    reads_as whole_text (reads_then version_line behind_form form_of dump_seen c.in_ok-form.form c.in_ok-form.ensures.lines
+    (reads_then name_line (λ material. kind_line >>= λ kind. dump_behind_kind (form_of c.in_ok-form.form) material kind) (λ material. material) dump_seen c.in_ok-material.material c.in_ok-material.ensures.lines
+    (reads_then kind_line (λ kind. dump_behind_kind (form_of c.in_ok-form.form) c.in_ok-material.material kind) (λ kind. kind) dump_seen c.in_ok-kind.kind c.in_ok-kind.ensures.lines c.read_behind_kind.ensures.lines)))

@@ -1,0 +1,5 @@
+use Rattle.szg_build.proofs.BuiltLaws.{built_is_found}
+use Rattle.szg_build.proofs.laws.built_is_found.Goals as goal
+
+pub returns : goal.returns
+returns c = built_is_found

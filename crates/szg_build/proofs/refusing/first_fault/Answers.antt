@@ -1,0 +1,78 @@
+use Rattle.std.proofs.Common.{ℕ, ◌≡◌, List, length, map, Option, Some, None, true, false, sym, ap, ◌∙◌}
+use Rattle.std.specs.Prelude.{◌==◌}
+use Rattle.std.proofs.lemmas.Bool.{ne_eqb, eq-eqb}
+use Rattle.std.proofs.lemmas.List.{length-map}
+use Rattle.szg_build.specs.Plan.{Plan, wrong_length, wrong_value, too_many_values}
+use Rattle.szg_build.specs.Shown.{plan_seen}
+use Rattle.szg_build.proofs.RefusalLaws as laws
+use Rattle.szg_build.proofs.refusing.first_fault.Goals as goal
+
+-- the number of lists that are lent
+count_is : {A : Type 0} (now : A → List ℕ) (sizes : List ℕ) (lists : List A) → length lists ≡ length sizes → (length (map now lists) == length sizes) ≡ true
+count_is now sizes lists e = eq-eqb (length (map now lists)) (length sizes) (length-map lists now ∙ e)
+
+count_fails : {A : Type 0} (now : A → List ℕ) (sizes : List ℕ) (lists : List A) → (length lists ≡ length sizes → ⊥) → (length (map now lists) == length sizes) ≡ false
+count_fails now sizes lists h = ne_eqb (length (map now lists)) (length sizes) (λ e. h (sym (length-map lists now) ∙ e))
+
+pub returns-then-not-bits_stand : goal.returns-then-not-bits_stand
+returns-then-not-bits_stand c =
+    laws.told_bits c.args.sizes.now (plan_seen c.args.plan.now) (map (λ list. list.now) c.args.lists.now) (sym c.if-not-bits_stand.ensures)
+
+pub returns-then-plan-gt-MAX_ROUNDS : goal.returns-then-plan-gt-MAX_ROUNDS
+returns-then-plan-gt-MAX_ROUNDS c =
+    laws.told_rounds c.args.sizes.now (plan_seen c.args.plan.now) (map (λ list. list.now) c.args.lists.now) (sym c.if-not-bits_stand.ensures)
+    (laws.too_many c.args.plan.now.rounds 4000 c.if-plan-gt-MAX_ROUNDS.true)
+
+pub returns-then-lists-sizes : goal.returns-then-lists-sizes
+returns-then-lists-sizes c =
+    laws.told_count c.args.sizes.now (plan_seen c.args.plan.now) (map (λ list. list.now) c.args.lists.now) (sym c.if-not-bits_stand.ensures)
+    (laws.few_enough c.args.plan.now.rounds 4000 c.if-plan-gt-MAX_ROUNDS.false)
+    (count_fails (λ list. list.now) c.args.sizes.now c.args.lists.now c.if-lists-sizes.true)
+
+pub returns-in-Some : goal.returns-in-Some
+returns-in-Some c =
+    laws.told_length c.args.sizes.now (plan_seen c.args.plan.now) (map (λ list. list.now) c.args.lists.now) c.in-Some.n (sym c.if-not-bits_stand.ensures)
+    (laws.few_enough c.args.plan.now.rounds 4000 c.if-plan-gt-MAX_ROUNDS.false)
+    (count_is (λ list. list.now) c.args.sizes.now c.args.lists.now c.if-lists-sizes.false)
+    (sym (laws.lengths_lent (λ list. list.now) c.args.sizes.now c.args.lists.now) ∙ sym c.in-Some.ensures)
+
+pub returns-in-Some-wrong_value : goal.returns-in-Some-wrong_value
+returns-in-Some-wrong_value c =
+    laws.told_value c.args.sizes.now (plan_seen c.args.plan.now) (map (λ list. list.now) c.args.lists.now) c.in-Some-wrong_value.n (sym c.if-not-bits_stand.ensures)
+    (laws.few_enough c.args.plan.now.rounds 4000 c.if-plan-gt-MAX_ROUNDS.false)
+    (count_is (λ list. list.now) c.args.sizes.now c.args.lists.now c.if-lists-sizes.false)
+    (sym (laws.lengths_lent (λ list. list.now) c.args.sizes.now c.args.lists.now) ∙ sym c.wrong_length.ensures ∙ laws.not_some c.wrong_length.result c.in_default.not-Some)
+    (sym (laws.values_lent (λ list. list.now) c.args.plan.now.kind c.args.lists.now) ∙ sym c.in-Some-wrong_value.ensures)
+
+pub too_many_values-requires : goal.too_many_values-requires
+too_many_values-requires c =
+    laws.lent_small (λ list. list.now) c.args.plan.now.kind c.args.lists.now (sym c.wrong_value.ensures ∙ laws.not_some c.wrong_value.result c.in_default-wrong_value.not-Some)
+
+pub returns-in-Some-too_many_values : goal.returns-in-Some-too_many_values
+returns-in-Some-too_many_values c =
+    laws.told_many c.args.sizes.now (plan_seen c.args.plan.now) (map (λ list. list.now) c.args.lists.now) c.in-Some-too_many_values.n (sym c.if-not-bits_stand.ensures)
+    (laws.few_enough c.args.plan.now.rounds 4000 c.if-plan-gt-MAX_ROUNDS.false)
+    (count_is (λ list. list.now) c.args.sizes.now c.args.lists.now c.if-lists-sizes.false)
+    (sym (laws.lengths_lent (λ list. list.now) c.args.sizes.now c.args.lists.now) ∙ sym c.wrong_length.ensures ∙ laws.not_some c.wrong_length.result c.in_default.not-Some)
+    (sym (laws.values_lent (λ list. list.now) c.args.plan.now.kind c.args.lists.now) ∙ sym c.wrong_value.ensures ∙ laws.not_some c.wrong_value.result c.in_default-wrong_value.not-Some)
+    (sym (laws.many_lent (λ list. list.now) c.args.lists.now) ∙ sym c.in-Some-too_many_values.ensures)
+
+pub returns-then-not-maps_stand : goal.returns-then-not-maps_stand
+returns-then-not-maps_stand c =
+    laws.told_map c.args.sizes.now (plan_seen c.args.plan.now) (map (λ list. list.now) c.args.lists.now) (sym c.if-not-bits_stand.ensures)
+    (laws.few_enough c.args.plan.now.rounds 4000 c.if-plan-gt-MAX_ROUNDS.false)
+    (count_is (λ list. list.now) c.args.sizes.now c.args.lists.now c.if-lists-sizes.false)
+    (sym (laws.lengths_lent (λ list. list.now) c.args.sizes.now c.args.lists.now) ∙ sym c.wrong_length.ensures ∙ laws.not_some c.wrong_length.result c.in_default.not-Some)
+    (sym (laws.values_lent (λ list. list.now) c.args.plan.now.kind c.args.lists.now) ∙ sym c.wrong_value.ensures ∙ laws.not_some c.wrong_value.result c.in_default-wrong_value.not-Some)
+    (sym (laws.many_lent (λ list. list.now) c.args.lists.now) ∙ sym c.too_many_values.ensures ∙ laws.not_some c.too_many_values.result c.in_default-too_many_values.not-Some)
+    (sym c.if-not-maps_stand.ensures)
+
+pub returns : goal.returns
+returns c =
+    laws.told_none c.args.sizes.now (plan_seen c.args.plan.now) (map (λ list. list.now) c.args.lists.now) (sym c.if-not-bits_stand.ensures)
+    (laws.few_enough c.args.plan.now.rounds 4000 c.if-plan-gt-MAX_ROUNDS.false)
+    (count_is (λ list. list.now) c.args.sizes.now c.args.lists.now c.if-lists-sizes.false)
+    (sym (laws.lengths_lent (λ list. list.now) c.args.sizes.now c.args.lists.now) ∙ sym c.wrong_length.ensures ∙ laws.not_some c.wrong_length.result c.in_default.not-Some)
+    (sym (laws.values_lent (λ list. list.now) c.args.plan.now.kind c.args.lists.now) ∙ sym c.wrong_value.ensures ∙ laws.not_some c.wrong_value.result c.in_default-wrong_value.not-Some)
+    (sym (laws.many_lent (λ list. list.now) c.args.lists.now) ∙ sym c.too_many_values.ensures ∙ laws.not_some c.too_many_values.result c.in_default-too_many_values.not-Some)
+    (sym c.if-not-maps_stand.ensures)

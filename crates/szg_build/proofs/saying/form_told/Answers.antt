@@ -1,0 +1,14 @@
+use Rattle.std.proofs.Common.{◌∙◌, List, ℕ, sym, ap, Some, None}
+use Rattle.std.specs.Prelude.{bytes_eq, codes}
+use Rattle.szg_build.specs.Grammar.{form_in}
+use Rattle.szg_build.proofs.SayingLaws.{version_unsaid, version_said, form_none}
+use Rattle.szg_build.proofs.saying.form_told.Goals as goal
+
+pub returns-in_default : goal.returns-in_default
+returns-in_default c = version_unsaid c.args.text.now c.in_default.ensures
+
+pub returns : goal.returns
+returns c =
+    let word = c.in-Some.word.now in
+    version_said c.args.text.now word None c.in-Some.ensures.0 c.in-Some.ensures.1
+    (form_none word (ap (bytes_eq word) (sym c.as_slice.ensures) ∙ sym c.eq.ensures ∙ c.if-eq.false) (ap (bytes_eq word) (sym c.as_slice-2.ensures) ∙ sym c.eq-2.ensures ∙ c.if-eq-2.false))

@@ -1,0 +1,23 @@
+use Rattle.std.proofs.Common.{option_map}
+use Rattle.std.proofs.lemmas.Result.{err_from_is_err_and}
+use Rattle.szg_file.specs.Held.{map_of}
+use Rattle.szg_build.specs.Rests.{sub_told}
+use Rattle.szg_build.specs.Shown.{form_of}
+use Rattle.szg_build.proofs.RestLaws.{flags_stopped, map_stopped, fields_read}
+use Rattle.szg_build.proofs.subreading.read_fields.Goals as goal
+
+pub returns-in_err-flags-clause-lines : goal.returns-in_err-flags-clause-lines
+returns-in_err-flags-clause-lines g c =
+    let p = err_from_is_err_and c.from_residual.result c.from_residual.ensures.1 in
+    rw (p.1, p.2) (flags_stopped (form_of c.args.form) c.args.kind (option_map (λ list. list.items) c.args.sizes.now) c.args.s sub_told c.in_err-flags.field-0.0 c.in_err-flags.ensures.lines)
+
+pub returns-in_err-map-clause-lines : goal.returns-in_err-map-clause-lines
+returns-in_err-map-clause-lines g c =
+    let p = err_from_is_err_and c.from_residual-in_err-map.result c.from_residual-in_err-map.ensures.1 in
+    rw (p.1, p.2) (map_stopped (form_of c.args.form) c.args.kind (option_map (λ list. list.items) c.args.sizes.now) c.args.s c.in_ok-flags.flags (option_map map_of) sub_told c.in_err-map.field-0.0
+    c.in_ok-flags.ensures.lines c.in_err-map.ensures.lines)
+
+pub returns-clause-lines : goal.returns-clause-lines
+returns-clause-lines g c =
+    fields_read (form_of c.args.form) c.args.kind (option_map (λ list. list.items) c.args.sizes.now) c.args.s c.in_ok-flags.flags (option_map map_of) c.in_ok-map.map sub_told
+    c.in_ok-flags.ensures.lines c.in_ok-map.ensures.lines c.read_counted.ensures.lines

@@ -1,0 +1,181 @@
+-- What the steps of the builder hand on to one another.
+use Rattle.std.specs.Prelude.{ℕ, suc, ◌≡◌, ◌+◌, ◌*◌, ◌/◌, ◌%◌, ◌^◌, ◌<◌, ◌≤◌, ◌==◌, Bool, false, IfSome, List, [], ◌∷◌, ◌++◌, length, map, Some, slice_get, slice_index, slice_index_or}
+use Rattle.std.specs.List.{AllByRecursion, concat, list_any}
+use Rattle.szg_pairs.specs.Dictionary.{IsDictionary}
+use Rattle.szg_pairs.specs.Expansion.{expansion_of}
+use Rattle.szg_code.specs.Bits.{bits}
+use Rattle.szg_code.specs.Canonical.{CanonicalCode, IsWord}
+use Rattle.szg_code.specs.Acceptance.{IsCode}
+use Rattle.szg_code.specs.Spelling.{Spells}
+use Rattle.szg_code.specs.Laws.{Appended}
+use Rattle.szg_block.specs.Layout.{Layout, SparseEntry}
+use Rattle.szg_block.specs.Block.{start, block_at}
+use Rattle.szg_block.specs.Sound.{entry_count, middle_of_span}
+use Rattle.szg_values.specs.declared.Kind.{Kind}
+use Rattle.szg_file.specs.Accepted.{AreNumbers, AreBytes, IsEntry, IsSubtable}
+use Rattle.szg_file.specs.File.{flags_of}
+use Rattle.szg_file.specs.Values.{values_in}
+use Rattle.szg_file.specs.Contents.{Head, Slot, Subtable, constant, pairs}
+use Rattle.szg_build.specs.Plan.{values_below, different_values}
+use Rattle.szg_build.specs.Built.{layout_in, packed_in, flags_byte}
+use Rattle.szg_build.specs.Pairing.{pair_count, values_of, pairs_in, IsUsed, IsFinished, IsPaired}
+
+-- ---- pairs
+
+-- the three bytes of an entry: the two numbers of twelve bits each
+abbrev pub entry_of : ℕ → ℕ → List ℕ
+entry_of left right = (left % 256) ∷ (left / 256 + 16 * (right % 16)) ∷ (right / 16) ∷ []
+
+-- how many values each symbol stands for
+pub record AreLens (entries : List (List ℕ)) (lens : List ℕ) : Type 0 where
+  pub count : length lens ≡ length entries
+  pub each : (s : ℕ) → s < length entries → slice_index lens s ≡ length (expansion_of entries s)
+
+-- a pair of two symbols that are there, that together have at most 256 values, and that stand side by side somewhere
+pub record IsCandidate (lens symbols : List ℕ) (left right : ℕ) : Type 0 where
+  pub left_there : left < length lens
+  pub right_there : right < length lens
+  pub short : slice_index lens left + slice_index lens right ≤ 256
+  pub some : 0 < pair_count left right symbols
+
+-- for each value up to 4,095 whether the list has it
+pub record AreMarks (values : List ℕ) (marks : List Bool) : Type 0 where
+  pub count : length marks ≡ 4096
+  pub each : (value : ℕ) → value < 4096 → slice_index_or marks value false ≡ list_any (λ v. v == value) values
+
+-- for each value up to 4,095 how many smaller ones the list has: the number of its symbol
+pub record AreNumbered (values numbers : List ℕ) : Type 0 where
+  pub count : length numbers ≡ 4096
+  pub each : (value : ℕ) → value < 4096 → slice_index numbers value ≡ length (values_below value values)
+
+-- the leaves of the values below a bound
+abbrev pub leaves_below : ℕ → List ℕ → List (List ℕ)
+leaves_below bound values = map (λ value. entry_of value 4095) (values_below bound values)
+
+-- a dictionary with a leaf for each different value, and a list of symbols that stand for these values, behind so many rounds
+pub record IsRound (values : List ℕ) (done : ℕ) (entries : List (List ℕ)) (symbols : List ℕ) : Type 0 where
+  pub dictionary : IsDictionary entries
+  pub triples : AllByRecursion (AreBytes 3) entries
+  pub few : length entries ≤ 4095
+  pub below : AllByRecursion (λ s. s < length entries) symbols
+  pub same : values_of entries symbols ≡ values
+  pub used : IsUsed entries symbols
+  pub pairs : length (pairs_in entries) ≡ done
+  pub leaves : length entries ≡ length (different_values values) + done
+
+-- the last round: no more pairs are to be made
+pub record IsPairing (values : List ℕ) (rounds : ℕ) (entries : List (List ℕ)) (symbols : List ℕ) : Type 0 where
+  pub done : ℕ
+  pub round : IsRound values done entries symbols
+  pub finished : IsFinished entries symbols rounds
+
+-- ---- words
+
+-- an accepted code of so many symbols, of which each has a word of at most twelve bits
+pub record IsChosen (count : ℕ) (code : CanonicalCode) : Type 0 where
+  pub accepted : IsCode code
+  pub symbols : code.symbols ≡ count
+  pub longest : code.max_length ≤ 12
+  pub fit : AreNumbers 2 code.lowest
+  pub words : (s : ℕ) → s < count → (word : List Bool) × IsWord code word s
+
+-- ---- blocks
+
+-- The blocks from the j-th on are filled by these lists: each block's bits begin with the words of its list, and its
+-- length tells how many values the list stands for.
+pub data AreFilled (layout : Layout) (packed : List ℕ) : ℕ → List (List ℕ) → Type 0 where
+  end : {j : ℕ} → j ≡ layout.blocks → AreFilled layout packed j []
+  next : {j : ℕ} {symbols : List ℕ} {lists : List (List ℕ)} → j < layout.blocks → Spells layout.code (bits (block_at layout.block_bits packed j)) symbols →
+      slice_index layout.lengths j + 1 ≡ length (values_of layout.entries symbols) → AreFilled layout packed (suc j) lists → AreFilled layout packed j (symbols ∷ lists)
+
+-- a subtable's parts before its sparse index is there
+abbrev pub blocks_layout : ℕ → CanonicalCode → List (List ℕ) → ℕ → List ℕ → Layout
+blocks_layout block_bits code entries blocks lengths = record {
+  block_bits = block_bits;
+  span_bits = 1;
+  extra = 0;
+  blocks = blocks;
+  code = code;
+  entries = entries;
+  sparse = [];
+  lengths = lengths;
+}
+
+-- a block whose bits begin with words
+pub record IsBlockOf (block_bits : ℕ) (words : List Bool) (block : List ℕ) : Type 0 where
+  pub size : length block ≡ 2 ^ block_bits
+  pub rest : List Bool
+  pub joined : bits block ≡ words ++ rest
+
+-- Symbols fill blocks that are closed, and begin another: its words so far, and how many values they stand for. In each
+-- closed block stand four symbols or more.
+pub record IsFilling (code : CanonicalCode) (entries : List (List ℕ)) (block_bits : ℕ) (symbols lengths packed : List ℕ) (words : List Bool) (values : ℕ) : Type 0 where
+  pub lists : List (List ℕ)
+  pub current : List ℕ
+  pub joined : concat lists ++ current ≡ symbols
+  pub filled : AreFilled (blocks_layout block_bits code entries (length lengths) lengths) packed 0 lists
+  pub whole : length packed ≡ length lengths * 2 ^ block_bits
+  pub written : Appended code current [] words
+  pub told : values ≡ length (values_of entries current)
+  pub fits : length words ≤ 8 * 2 ^ block_bits
+  pub most : values ≤ 65536
+  pub short_words : length words ≤ 12 * length current
+  pub short_symbols : values ≤ 256 * length current
+  pub some : length current ≤ values
+  pub many : 4 * length lengths ≤ length (concat lists)
+
+-- The symbols, cut into lists, fill so many blocks; each length is a length, each block is whole, and there are at most
+-- as many blocks as 32 bits number.
+pub record IsCut (code : CanonicalCode) (entries : List (List ℕ)) (block_bits : ℕ) (symbols : List ℕ) (blocks : ℕ) (lengths packed : List ℕ) : Type 0 where
+  pub lists : List (List ℕ)
+  pub joined : concat lists ≡ symbols
+  pub filled : AreFilled (blocks_layout block_bits code entries blocks lengths) packed 0 lists
+  pub count : length lengths ≡ blocks
+  pub few : blocks < 2 ^ 32
+  pub whole : AreBytes (blocks * 2 ^ block_bits) packed
+  pub fit : AreNumbers 2 lengths
+
+-- ---- the sparse index
+
+-- the entry leads to the middle of span j
+pub record IsEntryOf (lengths : List ℕ) (span_bits j : ℕ) (entry : SparseEntry) : Type 0 where
+  pub block : entry.block ≤ length lengths
+  pub place : start lengths entry.block + entry.offset ≡ middle_of_span span_bits j
+
+-- entries of these lengths' spans, which fit their fields
+pub record IsIndexOf (lengths : List ℕ) (span_bits : ℕ) (sparse : List SparseEntry) : Type 0 where
+  pub good : (j : ℕ) (entry : SparseEntry) → slice_get sparse j ≡ Some entry → IsEntryOf lengths span_bits j entry
+  pub fit : AllByRecursion IsEntry sparse
+
+-- ---- a subtable
+
+-- A subtable's head and lists, made of values by the steps above; behind the lengths of the blocks stand at most 255 more.
+pub record IsMade (values : List ℕ) (flags block_bits span_bits rounds : ℕ) (head : Head) (sparse : List SparseEntry) (lengths packed : List ℕ) : Type 0 where
+  pub symbols : List ℕ
+  pub own : List ℕ
+  pub extras : List ℕ
+  pub pairing : IsPairing values rounds head.entries symbols
+  pub chosen : IsChosen (length head.entries) head.code
+  pub cut : IsCut head.code head.entries block_bits symbols head.blocks own packed
+  pub index : IsIndexOf own span_bits sparse
+  pub index_count : length sparse ≡ entry_count span_bits (length values)
+  pub lengths_joined : lengths ≡ own ++ extras
+  pub extra_count : head.extra ≡ length extras
+  pub extra_few : head.extra < 256
+  pub extras_fit : AreNumbers 2 extras
+  pub flags_kept : head.flags ≡ flags
+  pub block_bits_kept : head.block_bits ≡ block_bits
+  pub span_bits_kept : head.span_bits ≡ span_bits
+
+abbrev pub IsMadeSub : List ℕ → ℕ → ℕ → ℕ → ℕ → Subtable → Type 0
+IsMadeSub values flags block_bits span_bits rounds (constant _ byte) = ⊥
+IsMadeSub values flags block_bits span_bits rounds (pairs head sparse lengths packed) = IsMade values flags block_bits span_bits rounds head sparse lengths packed
+
+-- A subtable of a list of values: it passes the checks of a file, and expands to the values; its flags byte has these
+-- flags; and if it isn't constant it is packed as it was asked for.
+pub record IsBuiltSub (kind : Kind) (flags : ℕ) (values : List ℕ) (block_bits span_bits rounds : ℕ) (subtable : Subtable) : Type 0 where
+  pub stands : (slot : Slot) → slot.size ≡ length values → IsSubtable slot subtable
+  pub expands : values_in kind (length values) subtable ≡ values
+  pub flags_kept : flags_of subtable ≡ flags_byte flags subtable
+  pub packed : IfSome (layout_in subtable) (λ layout. (layout.block_bits ≡ block_bits) × (layout.span_bits ≡ span_bits)
+      × IsPaired layout (packed_in subtable) (length values) rounds)

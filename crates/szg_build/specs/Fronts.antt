@@ -1,0 +1,60 @@
+-- How the fixed words and the values of a line stand in its text.
+use Rattle.std.specs.Prelude.{◌≡◌, ℕ, zero, suc, ◌==◌, Bool, false, List, [], ◌∷◌, ◌++◌, length, codes, Result, Ok, Err}
+use Rattle.std.specs.Fmt.{decimal}
+use Rattle.std.specs.List.{AllByRecursion, list_any}
+use Rattle.szg_build.specs.declared.dump.DumpFault.{DumpFault}
+use Rattle.szg_build.specs.declared.dump.DumpReadFault.{DumpReadFault}
+use Rattle.szg_build.specs.declared.dump.DumpReadFault.TheVariants.{Line}
+use Rattle.szg_build.specs.Text.{spaced, part_word}
+use Rattle.szg_build.specs.Lines.{Lines, means, refuses, line}
+use Rattle.szg_build.specs.Grammar.{Word, fixed, value, line_of}
+
+-- there is no space in it
+abbrev pub IsWord : List ℕ → Type 0
+IsWord word = list_any (λ byte. byte == 32) word ≡ false
+
+-- a pattern's fixed words have no spaces
+abbrev pub HasFixedWords : List Word → Type 0
+HasFixedWords [] = Unit {0}
+HasFixedWords (fixed text ∷ pattern) = IsWord text × HasFixedWords pattern
+HasFixedWords (value ∷ pattern) = HasFixedWords pattern
+
+-- how many words of a pattern tell values
+abbrev pub value_count : List Word → ℕ
+value_count [] = 0
+value_count (fixed text ∷ pattern) = value_count pattern
+value_count (value ∷ pattern) = suc (value_count pattern)
+
+-- the words of a line with these values
+abbrev pub filled : List Word → List (List ℕ) → List (List ℕ)
+filled [] values = []
+filled (fixed text ∷ pattern) values = text ∷ filled pattern values
+filled (value ∷ pattern) [] = [] ∷ filled pattern []
+filled (value ∷ pattern) (word ∷ values) = word ∷ filled pattern values
+
+-- a line of this pattern is these bytes and one value
+pub record IsFront (pattern : List Word) (front : List ℕ) : Type 0 where
+  pub words : HasFixedWords pattern
+  pub one : value_count pattern ≡ 1
+  pub text : (word : List ℕ) → spaced (filled pattern (word ∷ [])) ≡ front ++ word
+
+-- a line of this pattern is these bytes, a value, a space, the middle bytes and another value
+pub record IsPair (pattern : List Word) (front middle : List ℕ) : Type 0 where
+  pub words : HasFixedWords pattern
+  pub two : value_count pattern ≡ 2
+  pub text : (first second : List ℕ) → spaced (filled pattern (first ∷ second ∷ [])) ≡ front ++ (first ++ 32 ∷ (middle ++ second))
+
+-- what a line says by its words
+abbrev pub said : {A : Type 0} → Lines A → List (List ℕ) → Lines A
+said (line next) words = next words
+said (means a) words = means a
+said (refuses why) words = refuses why
+
+-- what the words of a line say is answered with the line's number
+abbrev pub in_line : {X : Type 0} → ℕ → Result X DumpFault → Result X DumpReadFault
+in_line number (Ok x) = Ok x
+in_line number (Err fault) = Err (Line number fault)
+
+-- the line that names a subtable
+abbrev pub sub_line : ℕ × ℕ → Lines (List (List ℕ))
+sub_line place = line_of (fixed (codes "sub") ∷ fixed (part_word place.0) ∷ fixed (decimal place.1) ∷ [])

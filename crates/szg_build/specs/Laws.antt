@@ -1,0 +1,96 @@
+-- Laws as types: the text of a dump is read back; a built table is found in its file.
+use Rattle.std.specs.Prelude.{◌≡◌, ℕ, suc, ◌+◌, ◌≤◌, false, true, List, [], ◌∷◌, ◌++◌, length, Option, Some, None, option_and_then, slice_index}
+use Rattle.std.specs.List.{AllByRecursion}
+use Rattle.szg_values.specs.Material.{Sides, IsMaterial}
+use Rattle.szg_values.specs.declared.Kind.{Kind}
+use Rattle.szg_values.specs.declared.Kind.TheVariants.{Wdl, Dtz}
+use Rattle.szg_file.specs.Format as file_format
+use Rattle.szg_file.specs.Contents.{Part, Map, narrow, wide, Contents, has_bit}
+use Rattle.szg_file.specs.File.{file}
+use Rattle.szg_file.specs.FileOf.{file_of}
+use Rattle.szg_file.specs.Values.{item, subtable_at, values_of}
+use Rattle.szg_file.specs.Accepted.{SideBySide, AreNumbers, IsAccepted}
+use Rattle.szg_build.specs.Plan.{Plan}
+use Rattle.szg_build.specs.Built.{IsBuilt, IsDumpOf, dump_plan}
+use Rattle.szg_build.specs.Dump.{Dump, SubDump, parts_of, places_of, subs_of, dump_of_subs}
+use Rattle.szg_build.specs.Text.{Form, single, runs, dump_text, dump_lines}
+use Rattle.szg_build.specs.Lines.{line_ends, verdict, good, ended}
+use Rattle.szg_build.specs.Grammar.{greatest_count, greatest_item, list_numbers, dump_with}
+
+-- ---- which dumps have a text that is read back
+
+abbrev pub AreUpTo : ℕ → List ℕ → Type 0
+AreUpTo greatest values = AllByRecursion (λ v. v ≤ greatest) values
+
+-- four lists, of items up to the greatest
+abbrev pub AreMapLists : ℕ → List (List ℕ) → Type 0
+AreMapLists greatest lists = SideBySide (λ j list. (length list ≤ greatest_count) × AreUpTo greatest list) list_numbers lists
+
+-- there is a map exactly with flag 2, a wide one exactly with flag 16
+abbrev pub IsMapTold : ℕ → Option Map → Type 0
+IsMapTold flags None = has_bit 1 flags ≡ false
+IsMapTold flags (Some (narrow lists)) = (has_bit 1 flags ≡ true) × (has_bit 4 flags ≡ false) × AreMapLists 255 lists
+IsMapTold flags (Some (wide lists)) = (has_bit 1 flags ≡ true) × (has_bit 4 flags ≡ true) × AreMapLists greatest_item lists
+
+abbrev pub AreFlagsTold : Kind → SubDump → Type 0
+AreFlagsTold Wdl sub = (sub.flags ≡ 0) × (sub.lists ≡ None)
+AreFlagsTold Dtz sub = (sub.flags ≤ 31) × IsMapTold sub.flags sub.lists
+
+-- with runs, subtable s has as many values as its size
+abbrev pub IsSized : Form → Option (List ℕ) → ℕ → ℕ → Type 0
+IsSized single sizes s count = Unit {0}
+IsSized runs None s count = ⊥
+IsSized runs (Some sizes) s count = slice_index sizes s ≡ count
+
+pub record IsSubTold (form : Form) (kind : Kind) (sizes : Option (List ℕ)) (s : ℕ) (sub : SubDump) : Type 0 where
+  pub flags : AreFlagsTold kind sub
+  pub count : length sub.values ≤ greatest_count
+  pub values : AreUpTo greatest_item sub.values
+  pub sized : IsSized form sizes s (length sub.values)
+
+abbrev pub AreSubsTold : Form → Kind → Option (List ℕ) → ℕ → List (ℕ × ℕ) → List SubDump → Type 0
+AreSubsTold form kind sizes s [] [] = Unit {0}
+AreSubsTold form kind sizes s (place ∷ places) (sub ∷ subs) = IsSubTold form kind sizes s sub × AreSubsTold form kind sizes (suc s) places subs
+AreSubsTold form kind sizes s _ _ = ⊥
+
+-- a part's bytes fit one line
+pub record IsPartTold (number : ℕ) (part : Part) : Type 0 where
+  pub order : AreNumbers 1 part.order
+  pub men : AreNumbers 1 part.men
+  pub short : length part.order + length part.men ≤ 31
+
+-- the dump of a material that a name may have, with as many parts, flags, maps and lists as material and kind say
+pub record IsTold (form : Form) (sizes : Sides → Kind → List Part → Option (List ℕ)) (dump : Dump) : Type 0 where
+  pub material : IsMaterial dump.material
+  pub last_bytes : AreNumbers 1 dump.last
+  pub last_count : length dump.last ≡ 16
+  pub parts : SideBySide IsPartTold (parts_of dump.material) dump.parts
+  pub subs : AreSubsTold form dump.kind (sizes dump.material dump.kind dump.parts) 0 (places_of dump.material dump.kind) (subs_of dump.kind dump.flags dump.maps dump.lists)
+  pub counts : dump_of_subs dump.material dump.kind dump.parts dump.last (subs_of dump.kind dump.flags dump.maps dump.lists) ≡ dump
+
+-- The text of a dump is read back as that dump, whatever follows it.
+abbrev pub TextIsRead : Type 0
+TextIsRead = (sizes : Sides → Kind → List Part → Option (List ℕ)) (form : Form) (dump : Dump) (rest : List ℕ) → IsTold form sizes dump →
+    verdict (dump_with sizes) 0 (dump_text form dump ++ rest) ≡ good dump (length (dump_lines form dump)) rest
+
+-- The text of a dump that is cut anywhere ends before the 0A of the line behind those that are whole.
+abbrev pub CutTextIsEnded : Type 0
+CutTextIsEnded = (sizes : Sides → Kind → List Part → Option (List ℕ)) (form : Form) (dump : Dump) (front : List ℕ) (byte : ℕ) (back : List ℕ) → IsTold form sizes dump →
+    dump_text form dump ≡ front ++ (byte ∷ back) → verdict (dump_with sizes) 0 front ≡ ended (1 + line_ends front)
+
+-- Two dumps of one text are equal.
+abbrev pub OneTextOneDump : Type 0
+OneTextOneDump = (sizes : Sides → Kind → List Part → Option (List ℕ)) (form form' : Form) (dump dump' : Dump) → IsTold form sizes dump → IsTold form' sizes dump' →
+    dump_text form dump ≡ dump_text form' dump' → dump ≡ dump'
+
+-- The table that a dump's plan builds has that dump.
+abbrev pub BuiltDumpStays : Type 0
+BuiltDumpStays = (dump : Dump) (block_bits span_bits rounds : ℕ) (t : Contents) → IsBuilt (dump_plan dump block_bits span_bits rounds) dump.lists t → IsDumpOf dump t
+
+-- Bytes that begin with the file of a built table have the verdict of that table; and value i of the subtable that is
+-- found for a part and a side is item i of the list that was handed in for them.
+abbrev pub BuiltIsFound : Type 0
+BuiltIsFound = (plan : Plan) (lists : List (List ℕ)) (t : Contents) (fill rest : List ℕ) → IsAccepted t fill → IsBuilt plan lists t →
+    (file_format.verdict (file plan.material plan.kind) 0 (file_of t fill ++ rest) ≡ file_format.good t fill rest)
+    × ((s part side i : ℕ) (list : List ℕ) → item (places_of plan.material plan.kind) s ≡ Some (part, side) → item lists s ≡ Some list →
+    option_and_then (λ found. item (values_of t.kind found) i) (subtable_at t part side) ≡ item list i)

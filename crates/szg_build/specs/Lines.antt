@@ -1,0 +1,89 @@
+-- What a text of lines is, and the verdict on bytes. Nothing here knows what a dump tells.
+use Rattle.std.specs.Prelude.{ℕ, zero, suc, ◌==◌, true, false, List, [], ◌∷◌}
+use Rattle.szg_build.specs.declared.dump.DumpFault.{DumpFault}
+use Rattle.szg_build.specs.declared.dump.DumpFault.TheVariants.{Field}
+use Rattle.szg_build.specs.declared.BuildFault.{BuildFault}
+
+-- why a text is refused: for the line that was read last, or for what the lines so far say of a table to be built
+pub data Refusal : Type 0 where
+  of_line : DumpFault → Refusal
+  of_plan : BuildFault → Refusal
+
+-- What stands from a line on, read from above.
+pub data Lines (A : Type 0) : Type 0 where
+  -- nothing more: what was read means this
+  means : A → Lines A
+  -- what was read is refused
+  refuses : Refusal → Lines A
+  -- a line; its words say what comes next
+  line : (List (List ℕ) → Lines A) → Lines A
+
+-- The first line of some bytes.
+pub data FirstLine : Type 0 where
+  -- its bytes before 0A, and those behind it
+  whole : List ℕ → List ℕ → FirstLine
+  -- there is no 0A within the room: the bytes behind the first one that has none
+  long : List ℕ → FirstLine
+  -- the bytes end before 0A
+  unended : FirstLine
+
+abbrev pub behind : ℕ → FirstLine → FirstLine
+behind byte (whole text rest) = whole (byte ∷ text) rest
+behind byte (long rest) = long rest
+behind byte unended = unended
+
+-- the first line, with room for so many bytes before 0A
+abbrev pub first_line : ℕ → List ℕ → FirstLine
+first_line room [] = unended
+first_line zero (byte ∷ bytes) = elim (byte == 10) [ true ↦ whole [] bytes | false ↦ long bytes ]
+first_line (suc room) (byte ∷ bytes) = elim (byte == 10) [ true ↦ whole [] bytes | false ↦ behind byte (first_line room bytes) ]
+
+-- a line has at most 80 bytes before 0A
+abbrev pub line_room : ℕ
+line_room = 80
+
+abbrev pub with_byte : ℕ → List (List ℕ) → List (List ℕ)
+with_byte byte [] = (byte ∷ []) ∷ []
+with_byte byte (word ∷ words) = (byte ∷ word) ∷ words
+
+-- the words of a line, cut at each space
+abbrev pub words_of : List ℕ → List (List ℕ)
+words_of [] = [] ∷ []
+words_of (byte ∷ bytes) = elim (byte == 32) [ true ↦ [] ∷ words_of bytes | false ↦ with_byte byte (words_of bytes) ]
+
+-- how many lines end in some bytes
+abbrev pub line_ends : List ℕ → ℕ
+line_ends [] = 0
+line_ends (byte ∷ bytes) = elim (byte == 10) [ true ↦ suc (line_ends bytes) | false ↦ line_ends bytes ]
+
+-- What the bytes from a line on are.
+pub data Verdict (A : Type 0) : Type 0 where
+  -- a whole text: what it means, how many lines there were up to its end, and the bytes behind it
+  good : A → ℕ → List ℕ → Verdict A
+  -- the first line that is refused, the reason, and the bytes behind it
+  refused : ℕ → Refusal → List ℕ → Verdict A
+  -- the text ends before the 0A of this line
+  ended : ℕ → Verdict A
+
+-- The verdict on the bytes behind `count` lines: line after line, each read whole. A line that is too long is refused.
+abbrev pub verdict : {A : Type 0} → Lines A → ℕ → List ℕ → Verdict A
+verdict (means a) count bytes = good a count bytes
+verdict (refuses why) count bytes = refused count why bytes
+verdict (line next) count bytes =
+    elim (first_line line_room bytes) [
+      | whole text rest ↦ verdict (next (words_of text)) (suc count) rest
+      | long rest ↦ refused (suc count) (of_line Field) rest
+      | unended ↦ ended (suc count)
+    ]
+
+-- one text after another
+infixl 10 ◌>>=◌
+abbrev pub ◌>>=◌ : {A B : Type 0} → Lines A → (A → Lines B) → Lines B
+(means a) >>= g = g a
+(refuses why) >>= g = refuses why
+(line next) >>= g = line (λ words. next words >>= g)
+
+-- a check or a line that tells nothing, and then the rest
+infixl 10 ◌>>◌
+abbrev pub ◌>>◌ : {A B : Type 0} → Lines A → Lines B → Lines B
+f >> g = f >>= λ _. g

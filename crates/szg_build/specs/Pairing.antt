@@ -1,0 +1,84 @@
+-- Which pairs a builder may leave in a dictionary, and when it may stop making them.
+use Rattle.std.specs.Prelude.{◌≡◌, ℕ, suc, ◌+◌, ◌<◌, ◌≤◌, ◌==◌, ◌&&◌, true, false, ◌⊎◌, List, [], ◌∷◌, length, filter, not, Some, slice_get}
+use Rattle.std.specs.List.{flat_map, concat}
+use Rattle.szg_code.specs.Bits.{bits}
+use Rattle.szg_code.specs.Canonical.{IsIn}
+use Rattle.szg_code.specs.Spelling.{Spells}
+use Rattle.szg_pairs.specs.Entry.{left_of, right_of, is_leaf}
+use Rattle.szg_pairs.specs.Expansion.{expansion_of}
+use Rattle.szg_block.specs.Layout.{Layout}
+use Rattle.szg_block.specs.Block.{needed, block_at}
+use Rattle.szg_block.specs.Expansion.{joined_values}
+use Rattle.szg_build.specs.Plan.{different_values}
+
+-- how often the pair stands in the symbols, counted from left to right without overlap
+abbrev pub pair_count : ℕ → ℕ → List ℕ → ℕ
+pair_count left right [] = 0
+pair_count left right (s ∷ []) = 0
+pair_count left right (s ∷ t ∷ symbols) =
+    elim ((s == left) && (t == right)) [ true ↦ suc (pair_count left right symbols) | false ↦ pair_count left right (t ∷ symbols) ]
+
+-- the symbols with the new symbol in place of the pair, from left to right
+abbrev pub replaced : ℕ → ℕ → ℕ → List ℕ → List ℕ
+replaced left right new [] = []
+replaced left right new (s ∷ []) = s ∷ []
+replaced left right new (s ∷ t ∷ symbols) =
+    elim ((s == left) && (t == right)) [ true ↦ new ∷ replaced left right new symbols | false ↦ s ∷ replaced left right new (t ∷ symbols) ]
+
+-- the entries that are pairs
+abbrev pub pairs_in : List (List ℕ) → List (List ℕ)
+pairs_in entries = filter (λ entry. not (is_leaf entry)) entries
+
+-- the values of symbols, joined
+abbrev pub values_of : List (List ℕ) → List ℕ → List ℕ
+values_of entries symbols = flat_map (expansion_of entries) symbols
+
+-- a list of symbols that the block's own bits begin with, with so many values or more, and no shorter one has them
+pub record IsShortest (layout : Layout) (block : List ℕ) (m : ℕ) (symbols : List ℕ) : Type 0 where
+  pub spelled : Spells layout.code (bits block) symbols
+  pub enough : m ≤ length (values_of layout.entries symbols)
+  pub least : (others : List ℕ) → Spells layout.code (bits block) others → m ≤ length (values_of layout.entries others) → length symbols ≤ length others
+
+-- for the blocks from the j-th on, so many of them, the shortest lists for their needed values
+abbrev pub AreShortest : Layout → List ℕ → ℕ → ℕ → List (List ℕ) → Type 0
+AreShortest layout packed size j [] = Unit {0}
+AreShortest layout packed size j (symbols ∷ lists) =
+    IsShortest layout (block_at layout.block_bits packed j) (needed layout.lengths size j) symbols
+    × AreShortest layout packed size (j + 1) lists
+
+-- a pair may be made where its two symbols together have at most 256 values
+abbrev pub IsShort : List (List ℕ) → ℕ → ℕ → Type 0
+IsShort entries left right = length (expansion_of entries left) + length (expansion_of entries right) ≤ 256
+
+-- no pair that may be made counts 4 or more
+abbrev pub IsExhausted : List (List ℕ) → List ℕ → Type 0
+IsExhausted entries symbols = (left right : ℕ) → IsShort entries left right → pair_count left right symbols < 4
+
+-- there are as many pairs as rounds, or fewer where there are 4,095 symbols or no pair is left to be made
+abbrev pub IsFinished : List (List ℕ) → List ℕ → ℕ → Type 0
+IsFinished entries symbols rounds =
+    (length (pairs_in entries) ≡ rounds)
+    ⊎ ((length (pairs_in entries) < rounds) × ((length entries ≡ 4095) ⊎ IsExhausted entries symbols))
+
+-- symbol s is one of another symbol's pair
+pub record IsInPair (entries : List (List ℕ)) (s : ℕ) : Type 0 where
+  pub other : ℕ
+  pub entry : List ℕ
+  pub there : slice_get entries other ≡ Some entry
+  pub pair : is_leaf entry ≡ false
+  pub half : (left_of entry ≡ s) ⊎ (right_of entry ≡ s)
+  pub another : ¬ (other ≡ s)
+
+-- each pair stands in the symbols or in another's pair
+abbrev pub IsUsed : List (List ℕ) → List ℕ → Type 0
+IsUsed entries symbols = (s : ℕ) (entry : List ℕ) → slice_get entries s ≡ Some entry → is_leaf entry ≡ false → IsIn symbols s ⊎ IsInPair entries s
+
+-- The entries of a subtable: beside the pairs there is one leaf for each different value. With the shortest lists of
+-- symbols for its blocks' needed values, joined, the pairs are all used, and no more could be made.
+pub record IsPaired (layout : Layout) (packed : List ℕ) (size rounds : ℕ) : Type 0 where
+  pub lists : List (List ℕ)
+  pub count : length lists ≡ layout.blocks
+  pub shortest : AreShortest layout packed size 0 lists
+  pub finished : IsFinished layout.entries (concat lists) rounds
+  pub used : IsUsed layout.entries (concat lists)
+  pub leaves : length layout.entries ≡ length (different_values (joined_values layout packed size)) + length (pairs_in layout.entries)

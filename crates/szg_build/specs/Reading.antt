@@ -1,0 +1,67 @@
+-- What a call that reads lines of a dump says of the reader, of the bytes that it holds back, and of its answer.
+use Rattle.std.specs.Prelude.{◌≡◌, ℕ, ◌-◌, ◌^◌, min, List, ◌++◌, Option, Result, Ok, Err, Bool, IsTrue}
+use Rattle.std.specs.Io.KnownBytes.{IsAtEnd}
+use Rattle.szg_io.specs.Device.{HasFailed}
+use Rattle.szg_io.specs.Moved.{Takes}
+use Rattle.szg_io.specs.declared.device.Input.{Ghosts}
+use Rattle.szg_build.specs.declared.incoming.Incoming.{Incoming}
+use Rattle.szg_build.specs.Held.{held_of}
+use Rattle.szg_build.specs.declared.dump.DumpFault.{DumpFault}
+use Rattle.szg_build.specs.declared.dump.DumpFault.TheVariants.{Ended}
+use Rattle.szg_build.specs.declared.BuildFault.{BuildFault}
+use Rattle.szg_build.specs.declared.dump.DumpReadFault.{DumpReadFault}
+use Rattle.szg_build.specs.declared.dump.DumpReadFault.TheVariants.{Line, Build, Device, Memory}
+use Rattle.szg_build.specs.Lines.{Lines, means, refuses, Verdict, good, refused, ended, of_line, of_plan, verdict}
+
+-- the number of a line as it is told: it stops at the last value of 64 bits
+abbrev pub told_line : ℕ → ℕ
+told_line number = min number (2 ^ 64 - 1)
+
+-- the verdict refuses a line, or the text ends before the 0A of one
+abbrev pub IsLineFault : {A : Type 0} → Verdict A → ℕ → DumpFault → Type 0
+IsLineFault (good a lines rest) number fault = ⊥
+IsLineFault (refused at why rest) number fault = (number ≡ told_line at) × (why ≡ of_line fault)
+IsLineFault (ended at) number fault = (number ≡ told_line at) × (fault ≡ Ended)
+
+-- the verdict refuses what the lines so far say
+abbrev pub IsPlanFault : {A : Type 0} → Verdict A → BuildFault → Type 0
+IsPlanFault (good a lines rest) fault = ⊥
+IsPlanFault (refused at why rest) fault = why ≡ of_plan fault
+IsPlanFault (ended at) fault = ⊥
+
+-- the reader is at its end where the verdict says that the text ends
+abbrev pub EndsWith : {A : Type 0} → Verdict A → Option (List ℕ) → Type 0
+EndsWith (good a lines rest) coming = Unit {0}
+EndsWith (refused at why rest) coming = Unit {0}
+EndsWith (ended at) coming = IsAtEnd coming
+
+-- What the answer says of the bytes that were held back and those that were taken, behind `count` lines. Where a
+-- value was read, the bytes behind its lines are held back for the next call. `Device` comes only where the reader
+-- may fail.
+abbrev pub LinesAnswer : {A X : Type 0} → Lines A → (X → A) → ℕ → Incoming → List ℕ → Option (List ℕ) → ℕ → ℕ → ℕ → Bool → Result X DumpReadFault → Type 0
+LinesAnswer f view count new bytes coming failures failures' row may_fail (Ok x) =
+    (count' : ℕ) × (told_line count' ≡ new.line) × (verdict f count bytes ≡ good (view x) count' (held_of new)) × (failures' ≡ failures)
+LinesAnswer f view count new bytes coming failures failures' row may_fail (Err (Line number fault)) =
+    IsLineFault (verdict f count bytes) number fault × EndsWith (verdict f count bytes) coming × (failures' ≡ failures)
+LinesAnswer f view count new bytes coming failures failures' row may_fail (Err (Build fault)) = IsPlanFault (verdict f count bytes) fault × (failures' ≡ failures)
+LinesAnswer f view count new bytes coming failures failures' row may_fail (Err Device) = HasFailed failures failures' row × IsTrue may_fail
+LinesAnswer f view count new bytes coming failures failures' row may_fail (Err Memory) = failures' ≡ failures
+
+-- a refused answer may have taken one more turn of retries
+abbrev pub turns_of : {X : Type 0} → Result X DumpReadFault → ℕ
+turns_of (Ok x) = 0
+turns_of (Err fault) = 1
+
+-- These bytes were taken, with few enough calls, and the answer is the verdict on the bytes held back before and on
+-- them, whatever number of lines the line number tells.
+pub record ReadsLines {A X R : Type 0} (f : Lines A) (view : X → A) (old new : Incoming)
+    (dev : Ghosts R) (input input' : R) (result : Result X DumpReadFault) : Type 0 where
+  pub bytes : List ℕ
+  pub taken : Takes dev input input' bytes (turns_of result)
+  pub answer : (count : ℕ) → told_line count ≡ old.line →
+      LinesAnswer f view count new (held_of old ++ bytes) (dev.coming input') (dev.failures input) (dev.failures input') (dev.interrupted input') (dev.may_fail input) result
+
+-- What the words of a line say: a value, or the fault of the line.
+abbrev pub Says : {A X : Type 0} → Lines A → (X → A) → Result X DumpFault → Type 0
+Says lines view (Ok x) = lines ≡ means (view x)
+Says lines view (Err fault) = lines ≡ refuses (of_line fault)

@@ -1,0 +1,81 @@
+-- What clauses see of plans and dumps, and what reading a dump answers.
+use Rattle.std.specs.Prelude.{◌≡◌, ℕ, ◌==◌, List, [], map, min, length, get_or, option_map, Option, Some, None, Result, Ok, Err, if◌then◌else◌}
+use Rattle.szg_values.specs.declared.Kind.{Kind}
+use Rattle.szg_values.specs.declared.Kind.TheVariants.{Wdl, Dtz}
+use Rattle.szg_file.specs.Contents as held
+use Rattle.szg_file.specs.Held.{part_of, map_of}
+use Rattle.szg_build.specs.declared.Plan.{Plan}
+use Rattle.szg_build.specs.declared.dump.Dump.{Dump}
+use Rattle.szg_build.specs.declared.dump.DumpReadFault.{DumpReadFault}
+use Rattle.szg_build.specs.declared.dump.DumpReadFault.TheVariants.{Line, Build, Device, Memory}
+use Rattle.szg_build.specs.Plan as seen
+use Rattle.szg_build.specs.Dump as told
+use Rattle.szg_build.specs.Text.{Form, single, runs}
+use Rattle.szg_build.specs.Reading.{IsLineFault, IsPlanFault, EndsWith}
+use Rattle.szg_build.specs.Lines.{Verdict, good}
+
+abbrev pub plan_seen : Plan → seen.Plan
+plan_seen plan = record {
+  material = plan.material;
+  kind = plan.kind;
+  parts = map part_of plan.parts.items;
+  block_bits = plan.block_bits;
+  span_bits = plan.span_bits;
+  rounds = plan.rounds;
+  flags = plan.flags.items;
+  maps = map (option_map map_of) plan.maps.items;
+  last = plan.last;
+}
+
+abbrev pub dump_seen : Dump → told.Dump
+dump_seen dump = record {
+  material = dump.material;
+  kind = dump.kind;
+  parts = map part_of dump.parts.items;
+  flags = dump.flags.items;
+  maps = map (option_map map_of) dump.maps.items;
+  last = dump.last;
+  lists = map (λ list. list.items) dump.lists.items;
+}
+
+-- the form of a dump by its number, 1 or 2
+abbrev pub form_of : ℕ → Form
+form_of number = if number == 2 then runs else single
+
+-- The answer is the verdict on the bytes that were to come; behind a dump that was read, the rest is still to come.
+abbrev pub FollowsLines : Verdict told.Dump → Result Dump DumpReadFault → Option (List ℕ) → Type 0
+FollowsLines v (Ok dump) coming = (lines : ℕ) × (rest : List ℕ) × (v ≡ good (dump_seen dump) lines rest) × (coming ≡ Some rest)
+FollowsLines v (Err (Line number fault)) coming = IsLineFault v number fault
+FollowsLines v (Err (Build fault)) coming = IsPlanFault v fault
+FollowsLines v (Err Device) coming = Unit {0}
+FollowsLines v (Err Memory) coming = Unit {0}
+
+-- The bytes that were taken are the dump's text, or have this verdict.
+abbrev pub TookLines : Verdict told.Dump → Result Dump DumpReadFault → Option (List ℕ) → Type 0
+TookLines v (Ok dump) coming = (lines : ℕ) × (v ≡ good (dump_seen dump) lines [])
+TookLines v (Err (Line number fault)) coming = IsLineFault v number fault × EndsWith v coming
+TookLines v (Err (Build fault)) coming = IsPlanFault v fault
+TookLines v (Err Device) coming = Unit {0}
+TookLines v (Err Memory) coming = Unit {0}
+
+-- ---- the subtables of a dump, by their place
+
+-- what a dump tells, subtable by subtable
+abbrev pub subs_seen : Dump → List told.SubDump
+subs_seen dump = told.subs_of dump.kind dump.flags.items (map (option_map map_of) dump.maps.items) (map (λ list. list.items) dump.lists.items)
+
+abbrev pub count_at : Kind → ℕ → ℕ → ℕ → ℕ
+count_at Wdl flags maps lists = lists
+count_at Dtz flags maps lists = min (min flags maps) lists
+
+-- how many these are
+abbrev pub sub_count : Dump → ℕ
+sub_count dump = count_at dump.kind (length dump.flags.items) (length dump.maps.items) (length dump.lists.items)
+
+abbrev pub sub_at : Kind → List ℕ → List (Option held.Map) → List (List ℕ) → ℕ → told.SubDump
+sub_at Wdl flags maps lists s = record { flags = 0; lists = None; values = get_or lists s [] }
+sub_at Dtz flags maps lists s = record { flags = get_or flags s 0; lists = get_or maps s None; values = get_or lists s [] }
+
+-- subtable s, where there is one
+abbrev pub sub_in : Dump → ℕ → told.SubDump
+sub_in dump s = sub_at dump.kind dump.flags.items (map (option_map map_of) dump.maps.items) (map (λ list. list.items) dump.lists.items) s

@@ -1,0 +1,40 @@
+-- What is left of a dump's text behind its first lines, and the subtables that were read so far.
+use Rattle.std.specs.Prelude.{◌≡◌, ℕ, List, [], ◌∷◌, map, option_map, Option}
+use Rattle.szg_values.specs.Material.{Sides}
+use Rattle.szg_values.specs.declared.Kind.{Kind}
+use Rattle.szg_values.specs.declared.Kind.TheVariants.{Wdl, Dtz}
+use Rattle.szg_file.specs.Contents.{Part}
+use Rattle.szg_file.specs.Held as held
+use Rattle.szg_build.specs.declared.subreading.SubText.{SubText}
+use Rattle.szg_build.specs.declared.dumpreading.Subs.{Subs}
+use Rattle.szg_file.specs.declared.table.Map.{Map}
+use Rattle.szg_build.specs.Dump.{Dump, SubDump, parts_of, places_of, flags_in, maps_in, dump_of_subs}
+use Rattle.szg_build.specs.Text.{Form}
+use Rattle.szg_build.specs.Plan.{sizes_told}
+use Rattle.szg_build.specs.Lines.{Lines, means, ◌>>=◌}
+use Rattle.szg_build.specs.Grammar.{each, end_line, part_line, subs_text}
+
+-- behind the parts
+abbrev pub dump_behind_parts : Form → Sides → Kind → List ℕ → List Part → Lines Dump
+dump_behind_parts form material kind last parts = do
+  subs ← subs_text form kind (sizes_told material kind parts) 0 (places_of material kind)
+  means (dump_of_subs material kind parts last subs)
+
+-- behind the kind
+abbrev pub dump_behind_kind : Form → Sides → Kind → Lines Dump
+dump_behind_kind form material kind = do
+  last ← end_line
+  parts ← each part_line (parts_of material)
+  dump_behind_parts form material kind last parts
+
+-- in DTZ one item a subtable, in WDL none
+abbrev pub told_in : {A : Type 0} → Kind → A → List A
+told_in Wdl item = []
+told_in Dtz item = item ∷ []
+
+-- these are the subtables that were read
+abbrev pub AreSubs : Kind → Subs → List SubDump → Type 0
+AreSubs kind subs read =
+    (subs.flags.items ≡ flags_in kind read)
+    × (map (option_map held.map_of) subs.maps.items ≡ maps_in kind read)
+    × (map (λ list. list.items) subs.lists.items ≡ map (λ sub. sub.values) read)

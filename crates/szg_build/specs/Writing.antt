@@ -1,0 +1,40 @@
+-- What a call that writes some text says of the writer, of how far it has come, and of its answer.
+use Rattle.std.specs.Prelude.{◌≡◌, ℕ, ◌+◌, ◌-◌, ◌^◌, ◌<◌, min, List, ◌++◌, length, Result, Ok, Err}
+use Rattle.szg_io.specs.Device.{HasFailed}
+use Rattle.szg_io.specs.Moved.{Gives}
+use Rattle.szg_io.specs.declared.device.Output.{Ghosts}
+use Rattle.szg_file.specs.declared.fault.WriteFault.{WriteFault}
+use Rattle.szg_build.specs.declared.outgoing.Outgoing.{Outgoing}
+
+-- a number as it is told in 64 bits: it stops at the last one
+abbrev pub told : ℕ → ℕ
+told number = min number (2 ^ 64 - 1)
+
+-- These bytes went out. With what is held now they are what was held and the text.
+pub record Writes (text : List ℕ) (old new : Outgoing) (bytes : List ℕ) : Type 0 where
+  pub counts : (count : ℕ) → old.out ≡ told count → new.out ≡ told (count + length bytes)
+  pub whole : bytes ++ new.held.items ≡ old.held.items ++ text
+
+-- These bytes went out, and they are not all of what was held and of the text.
+pub record Stops (text : List ℕ) (old : Outgoing) (out : ℕ) (bytes : List ℕ) : Type 0 where
+  pub counts : (count : ℕ) → old.out ≡ told count → out ≡ told (count + length bytes)
+  pub rest : List ℕ
+  pub some : 0 < length rest
+  pub begun : bytes ++ rest ≡ old.held.items ++ text
+
+-- A fault may have taken one more turn of retries.
+abbrev pub turns_of : {X : Type 0} → Result X WriteFault → ℕ
+turns_of (Ok x) = 0
+turns_of (Err fault) = 1
+
+-- What the answer says of the bytes that went out.
+abbrev pub Answer : {X : Type 0} → List ℕ → Outgoing → Outgoing → ℕ → ℕ → ℕ → List ℕ → Result X WriteFault → Type 0
+Answer text old new failures failures' row bytes (Ok x) = Writes text old new bytes × (failures' ≡ failures)
+Answer text old new failures failures' row bytes (Err fault) = Stops text old fault.out bytes × HasFailed failures failures' row
+
+-- Some bytes went out, with few enough calls, and the answer is true of them.
+pub record Writing {X W : Type 0} (text : List ℕ) (old new : Outgoing)
+    (dev : Ghosts W) (output output' : W) (result : Result X WriteFault) : Type 0 where
+  pub bytes : List ℕ
+  pub given : Gives dev output output' bytes (turns_of result)
+  pub answer : Answer text old new (dev.failures output) (dev.failures output') (dev.interrupted output') bytes result

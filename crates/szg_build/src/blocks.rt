@@ -1,0 +1,193 @@
+//! Blocks: the words of symbols, each block filled as far as whole words and 65,536 values go.
+ghost use Rattle.std.specs.Prelude.{ℕ, ◌≡◌, ◌+◌, ◌-◌, ◌*◌, ◌<◌, ◌≤◌, ◌^◌, ◌↔◌, ◌⊎◌, Bool, List, [], ◌∷◌, ◌++◌, length, replicate, IfOk, OnOk, IsTrue};
+ghost use Rattle.std.specs.List.{AllByRecursion};
+ghost use Rattle.szg_code.specs.Acceptance.{IsCode};
+ghost use Rattle.szg_code.specs.Canonical.{IsWord};
+ghost use Rattle.szg_pairs.specs.Expansion.{expansion_of};
+ghost use Rattle.szg_file.specs.Accepted.{AreNumbers};
+ghost use Rattle.szg_build.specs.Building.{IsBlockOf, IsChosen, IsCut, IsFilling};
+
+use std::alloc::{AllocError, Global};
+use szg_code::{BitBuf, Code, PutFault, put, word};
+use szg_pairs::Dict;
+
+/// The most values of a block.
+const MAX_VALUES: u32 = 65_536;
+
+/// Blocks with their lengths.
+#[derive(Drop)]
+pub(crate) struct Cut {
+    /// For each block its number of values less one.
+    pub lengths: Vec<u16>,
+    pub packed: Vec<u8>,
+}
+
+/// Blocks that are whole, and one that is being filled.
+#[derive(Drop)]
+struct Filling {
+    lengths: Vec<u16>,
+    packed: Vec<u8>,
+    /// The words of the block that is being filled.
+    buffer: BitBuf,
+    /// How many values they stand for.
+    values: u32,
+}
+
+/// How many bytes a block has.
+fn block_size(block_bits: u8) -> usize
+    requires { block_bits ≤ 10 }
+    ensures { result ≡ 2 ^ block_bits }
+{
+    1 << block_bits
+}
+
+/// How many bits the word of a symbol has.
+fn word_length(code: &Code, symbol: u16) -> u64
+    requires accepted { IsCode code.now }
+    requires there { (bits : List Bool) × IsWord code.now bits symbol }
+    ensures { (bits : List Bool) → IsWord code.now bits symbol → length bits ≡ result }
+{
+    match word(code, symbol) {
+        Some(word) => u64::from(word.length),
+        None => unreachable!(),
+    }
+}
+
+/// Appends the word of a symbol that has one.
+fn append(code: &Code, symbol: u16, buffer: &mut BitBuf) -> Result<(), AllocError>
+    requires there { (bits : List Bool) × IsWord code.now bits symbol }
+    requires room { length buffer.old.written < 2 ^ 62 }
+    ensures { OnOk result ((bits : List Bool) × IsWord code.now bits symbol × (buffer.new.written ≡ buffer.old.written ++ bits)) }
+{
+    match put(code, symbol, buffer) {
+        Ok(()) => Ok(()),
+        Err(PutFault::Memory) => Err(AllocError),
+        Err(PutFault::NoWord) => unreachable!(),
+    }
+}
+
+/// Appends so many zeros.
+pub(crate) fn pad(bytes: &mut Vec<u8>, count: usize) -> Result<(), AllocError>
+    ensures { OnOk result (bytes.new.items ≡ bytes.old.items ++ replicate count 0) }
+{
+    for done in 0..count {
+        bytes.push(0)?;
+    }
+    Ok(())
+}
+
+/// Appends a block of these words, with zeros behind them.
+fn push_block(packed: &mut Vec<u8>, words: &BitBuf, block_bits: u8) -> Result<(), AllocError>
+    requires bits { block_bits ≤ 10 }
+    requires fits { length words.now.written ≤ 8 * 2 ^ block_bits }
+    ensures { OnOk result ((block : List ℕ) × IsBlockOf block_bits words.now.written block × (packed.new.items ≡ packed.old.items ++ block)) }
+{
+    let bytes = words.bytes();
+    packed.extend_from_slice(bytes)?;
+    pad(packed, block_size(block_bits) - bytes.len())?;
+    Ok(())
+}
+
+/// Closes the block that is being filled.
+fn close(alloc: Global, filling: &mut Filling, block_bits: u8) -> Result<(), AllocError>
+    requires bits { block_bits ≤ 10 }
+    requires fits { length filling.old.buffer.written ≤ 8 * 2 ^ block_bits }
+    requires some { 0 < filling.old.values }
+    requires most { filling.old.values ≤ 65536 }
+    ensures lengths { OnOk result (filling.new.lengths.items ≡ filling.old.lengths.items ++ (filling.old.values - 1) ∷ []) }
+    ensures block { OnOk result ((block : List ℕ) × IsBlockOf block_bits filling.old.buffer.written block × (filling.new.packed.items ≡ filling.old.packed.items ++ block)) }
+    ensures buffer { OnOk result (filling.new.buffer.written ≡ []) }
+    ensures values { OnOk result (filling.new.values ≡ 0) }
+{
+    push_block(&mut filling.packed, &filling.buffer, block_bits)?;
+    filling.lengths.push((filling.values - 1) as u16)?;
+    filling.buffer = BitBuf::new(alloc);
+    filling.values = 0;
+    Ok(())
+}
+
+/// Whether a word of so many bits, which stands for so many values, begins a new block.
+fn is_full(filling: &Filling, bits: u64, values: u16, block_bits: u8) -> bool
+    requires bits { block_bits ≤ 10 }
+    requires fits { length filling.now.buffer.written ≤ 8 * 2 ^ block_bits }
+    requires most { filling.now.values ≤ 65536 }
+    requires short { bits ≤ 12 }
+    ensures { IsTrue result ↔ ((8 * 2 ^ block_bits < length filling.now.buffer.written + bits) ⊎ (65536 < filling.now.values + values)) }
+{
+    filling.buffer.bits() + bits > 8 * block_size(block_bits) as u64
+        || filling.values + u32::from(values) > MAX_VALUES
+}
+
+/// Puts the word of a symbol into the block that is being filled, or where it doesn't fit into the next one.
+fn add(
+    alloc: Global,
+    filling: &mut Filling,
+    code: &Code,
+    dict: &Dict,
+    symbol: u16,
+    block_bits: u8,
+) -> Result<(), AllocError>
+    requires least_bits { 5 ≤ block_bits }
+    requires most_bits { block_bits ≤ 10 }
+    requires chosen { IsChosen (length dict.now) code.now }
+    requires there { symbol < length dict.now }
+    requires filling { (symbols : List ℕ) × IsFilling code.now dict.now block_bits symbols filling.old.lengths.items filling.old.packed.items filling.old.buffer.written filling.old.values }
+    ensures more { OnOk result ((symbols : List ℕ) → IsFilling code.now dict.now block_bits symbols filling.old.lengths.items filling.old.packed.items filling.old.buffer.written filling.old.values →
+        IsFilling code.now dict.now block_bits (symbols ++ symbol ∷ []) filling.new.lengths.items filling.new.packed.items filling.new.buffer.written filling.new.values) }
+    ensures some { OnOk result (0 < filling.new.values) }
+{
+    let bits = word_length(code, symbol);
+    let values = dict.len(symbol);
+    if is_full(filling, bits, values, block_bits) {
+        close(alloc, filling, block_bits)?;
+    }
+    append(code, symbol, &mut filling.buffer)?;
+    filling.values += u32::from(values);
+    Ok(())
+}
+
+/// A proof's step that takes no time: what `u16` holds fits two bytes.
+fn fit_two_bytes(numbers: &[u16])
+    ensures { AreNumbers 2 numbers.now }
+{}
+
+/// A proof's step that takes no time: what `u8` holds fits one byte.
+fn fit_one_byte(numbers: &[u8])
+    ensures { AreNumbers 1 numbers.now }
+{}
+
+/// Fills blocks with the words of symbols.
+pub(crate) fn fill_blocks(
+    alloc: Global,
+    code: &Code,
+    dict: &Dict,
+    symbols: &[u16],
+    block_bits: u8,
+) -> Result<Cut, AllocError>
+    requires chosen { IsChosen (length dict.now) code.now }
+    requires below { AllByRecursion (λ s. s < length dict.now) symbols.now }
+    requires some { 0 < length symbols.now }
+    requires few { length symbols.now < 2 ^ 33 }
+    requires least_bits { 5 ≤ block_bits }
+    requires most_bits { block_bits ≤ 10 }
+    ensures { IfOk result (λ c. IsCut code.now dict.now block_bits symbols.now (length c.lengths.items) c.lengths.items c.packed.items) }
+{
+    let mut filling = Filling {
+        lengths: Vec::new(alloc),
+        packed: Vec::new(alloc),
+        buffer: BitBuf::new(alloc),
+        values: 0,
+    };
+    for symbol in symbols {
+        add(alloc, &mut filling, code, dict, *symbol, block_bits)?;
+    }
+    close(alloc, &mut filling, block_bits)?;
+    let Filling {
+        lengths,
+        packed,
+        ..
+    } = filling;
+    fit_two_bytes(&lengths);
+    fit_one_byte(&packed);
+    Ok(Cut { lengths, packed })
+}

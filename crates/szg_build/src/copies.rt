@@ -1,0 +1,145 @@
+//! What a dump takes over from a table.
+ghost use Rattle.std.specs.Prelude.{◌≡◌, ◌%◌, map, option_map, IfOk};
+ghost use Rattle.szg_values.specs.Material.{IsMaterial};
+ghost use Rattle.szg_file.specs.File.{flags_of};
+ghost use Rattle.szg_file.specs.Held.{part_of, map_of, subtable_of};
+ghost use Rattle.szg_build.specs.Built.{plan_flags, value_lists};
+
+use crate::places::places;
+use std::alloc::{AllocError, Global};
+use szg_block::Sub;
+use szg_file::{Map, PartBytes, Table};
+use szg_values::{Kind, Material};
+
+/// The same material.
+pub(crate) fn copy_material(material: &Material) -> Material
+    ensures { result ≡ material.now }
+{
+    let _men = material.men();
+    let name = material.name();
+    let Ok(same) = Material::parse(name.as_str()) else {
+        unreachable!()
+    };
+    same
+}
+
+/// The same part.
+fn copy_part(alloc: Global, part: &PartBytes) -> Result<PartBytes, AllocError>
+    ensures { IfOk result (λ copy. part_of copy ≡ part_of part.now) }
+{
+    let order = Vec::from_slice(alloc, &part.order)?;
+    let men = Vec::from_slice(alloc, &part.men)?;
+    Ok(PartBytes { order, men })
+}
+
+/// The same parts.
+pub(crate) fn copy_parts(alloc: Global, parts: &[PartBytes]) -> Result<Vec<PartBytes>, AllocError>
+    ensures { IfOk result (λ copies. map part_of copies.items ≡ map part_of parts.now) }
+{
+    let mut copies = Vec::new(alloc);
+    'parts: for part in parts {
+        let copy = copy_part(alloc, part)?;
+        copies.push(copy)?;
+    }
+    Ok(copies)
+}
+
+/// The same four lists of bytes.
+fn copy_byte_lists(alloc: Global, lists: &[Vec<u8>; 4]) -> Result<[Vec<u8>; 4], AllocError>
+    ensures { IfOk result (λ copies. map (λ list. list.items) copies ≡ map (λ list. list.items) lists.now) }
+{
+    let [wins, losses, cursed_wins, blessed_losses] = lists;
+    let wins = Vec::from_slice(alloc, wins)?;
+    let losses = Vec::from_slice(alloc, losses)?;
+    let cursed_wins = Vec::from_slice(alloc, cursed_wins)?;
+    let blessed_losses = Vec::from_slice(alloc, blessed_losses)?;
+    Ok([wins, losses, cursed_wins, blessed_losses])
+}
+
+/// The same four lists of numbers of two bytes.
+fn copy_wide_lists(alloc: Global, lists: &[Vec<u16>; 4]) -> Result<[Vec<u16>; 4], AllocError>
+    ensures { IfOk result (λ copies. map (λ list. list.items) copies ≡ map (λ list. list.items) lists.now) }
+{
+    let [wins, losses, cursed_wins, blessed_losses] = lists;
+    let wins = Vec::from_slice(alloc, wins)?;
+    let losses = Vec::from_slice(alloc, losses)?;
+    let cursed_wins = Vec::from_slice(alloc, cursed_wins)?;
+    let blessed_losses = Vec::from_slice(alloc, blessed_losses)?;
+    Ok([wins, losses, cursed_wins, blessed_losses])
+}
+
+/// The same map, or none.
+fn copy_map(alloc: Global, map: &Option<Map>) -> Result<Option<Map>, AllocError>
+    ensures { IfOk result (λ copy. option_map map_of copy ≡ option_map map_of map.now) }
+{
+    match map {
+        None => Ok(None),
+        Some(Map::Bytes(lists)) => {
+            let copies = copy_byte_lists(alloc, lists)?;
+            Ok(Some(Map::Bytes(copies)))
+        }
+        Some(Map::Wide(lists)) => {
+            let copies = copy_wide_lists(alloc, lists)?;
+            Ok(Some(Map::Wide(copies)))
+        }
+    }
+}
+
+/// The same maps.
+pub(crate) fn copy_maps(alloc: Global, maps: &[Option<Map>]) -> Result<Vec<Option<Map>>, AllocError>
+    ensures { IfOk result (λ copies. map (option_map map_of) copies.items ≡ map (option_map map_of) maps.now) }
+{
+    let mut copies = Vec::new(alloc);
+    'maps: for item in maps {
+        let copy = copy_map(alloc, item)?;
+        copies.push(copy)?;
+    }
+    Ok(copies)
+}
+
+/// The flags byte of a subtable.
+fn flags_byte(sub: &Sub) -> u8
+    ensures { result ≡ flags_of (subtable_of sub.now) }
+{
+    match sub {
+        Sub::Constant { flags, .. } | Sub::Pairs { flags, .. } => *flags,
+    }
+}
+
+/// The flags of a DTZ table's parts, without the one that says constant; none of a WDL table.
+pub(crate) fn copy_flags(alloc: Global, table: &Table) -> Result<Vec<u8>, AllocError>
+    ensures { IfOk result (λ flags. flags.items ≡ plan_flags table.now.contents) }
+{
+    match table.kind() {
+        Kind::Wdl => Ok(Vec::new(alloc)),
+        Kind::Dtz => copy_dtz_flags(alloc, table),
+    }
+}
+
+/// The flags of all subtables, without the one that says constant.
+fn copy_dtz_flags(alloc: Global, table: &Table) -> Result<Vec<u8>, AllocError>
+    ensures { IfOk result (λ flags. flags.items ≡ map (λ subtable. flags_of subtable % 32) table.now.contents.subtables) }
+{
+    let _fill = table.fill();
+    let mut flags = Vec::new(alloc);
+    'places: for place in places(table.material(), table.kind()) {
+        let Some(sub) = table.sub(place.0, place.1) else {
+            unreachable!()
+        };
+        flags.push(flags_byte(sub) % 32)?;
+    }
+    Ok(flags)
+}
+
+/// The values of all subtables, in the order of the file.
+pub(crate) fn copy_values(alloc: Global, table: &Table) -> Result<Vec<Vec<u16>>, AllocError>
+    ensures { IfOk result (λ lists. map (λ list. list.items) lists.items ≡ value_lists table.now.contents) }
+{
+    let _fill = table.fill();
+    let mut lists = Vec::new(alloc);
+    'places: for place in places(table.material(), table.kind()) {
+        let values = table.values(alloc, place.0, place.1)?;
+        lists.push(values)?;
+    }
+    Ok(lists)
+}

@@ -1,0 +1,104 @@
+//! What a dump tells, and why a text is no dump.
+ghost use Rattle.std.specs.Prelude.{◌≡◌};
+ghost use Rattle.szg_build.specs.declared.dump.DumpReadFault.TheVariants.{Memory};
+
+use crate::BuildFault;
+use crate::copies::{copy_flags, copy_maps, copy_material, copy_parts, copy_values};
+use std::alloc::{AllocError, AllocFailed, Global};
+use szg_file::{Map, PartBytes, Table};
+use szg_values::{Kind, Material};
+use thiserror::Error;
+
+/// What the text of a dump tells: a table without the way in which its values are packed.
+#[derive(Drop)]
+pub struct Dump {
+    pub material: Material,
+    pub kind: Kind,
+    pub parts: Vec<PartBytes>,
+    /// One item a part in DTZ, none in WDL; so is `maps`.
+    pub flags: Vec<u8>,
+    pub maps: Vec<Option<Map>>,
+    pub last: [u8; 16],
+    /// The values, subtable by subtable.
+    pub lists: Vec<Vec<u16>>,
+}
+
+impl Dump {
+    ghost use Rattle.std.specs.Prelude.{IfOk};
+    ghost use Rattle.szg_build.specs.Built.{IsDumpOf};
+    ghost use Rattle.szg_build.specs.Shown.{dump_seen};
+
+    /// What a table tells, with flags 1 to 16 alone. `AllocError` where memory was refused.
+    pub fn of(alloc: Global, table: &Table) -> Result<Dump, AllocError>
+        ensures { IfOk result (λ dump. IsDumpOf (dump_seen dump) table.now.contents) }
+    {
+        let parts = copy_parts(alloc, table.parts())?;
+        let flags = copy_flags(alloc, table)?;
+        let maps = copy_maps(alloc, table.maps())?;
+        let lists = copy_values(alloc, table)?;
+        Ok(Dump {
+            material: copy_material(table.material()),
+            kind: table.kind(),
+            parts,
+            flags,
+            maps,
+            last: *table.last(),
+            lists,
+        })
+    }
+}
+
+/// Why a line is refused. `as u8` gives the numbers, from 1.
+#[derive(Clone, Copy, Debug, PartialEq, Eq, Drop, Error)]
+pub enum DumpFault {
+    /// The first line names a version other than 1 and 2.
+    #[error("Version")]
+    Version = 1,
+    /// Another line than the one that is due, another kind of table, or more than 80 bytes before 0A.
+    #[error("Field")]
+    Field = 2,
+    /// A word that is no decimal without leading zeros, or one above its limit.
+    #[error("Number")]
+    Number = 3,
+    /// A word that is no lower-case hexadecimal of whole bytes; in the last bytes' line also another number of them.
+    #[error("Hex")]
+    Hex = 4,
+    /// A word that names no material.
+    #[error("Name")]
+    Name = 5,
+    /// The text ends before this line's 0A.
+    #[error("Ended")]
+    Ended = 6,
+    /// A run is longer than what is left of its subtable.
+    #[error("Run")]
+    Run = 7,
+}
+
+/// Why no dump was read.
+#[derive(Clone, Copy, Debug, PartialEq, Eq, Drop)]
+pub enum DumpReadFault {
+    /// The first line that is refused; lines are counted from 1, and the number stops at the last value of 64 bits.
+    Line { line: u64, fault: DumpFault },
+    /// What the lines so far say can't be built.
+    Build(BuildFault),
+    /// The reader failed.
+    Device,
+    /// A growth was refused.
+    Memory,
+}
+
+impl From<AllocError> for DumpReadFault {
+    ghost from_gives = { λ _ fault. fault ≡ Memory };
+
+    fn from(_failed: AllocError) -> DumpReadFault {
+        DumpReadFault::Memory
+    }
+}
+
+impl<T: Drop> From<AllocFailed<T>> for DumpReadFault {
+    ghost from_gives = { λ _ fault. fault ≡ Memory };
+
+    fn from(_failed: AllocFailed<T>) -> DumpReadFault {
+        DumpReadFault::Memory
+    }
+}

@@ -1,0 +1,168 @@
+//! A whole dump from a device.
+ghost use Rattle.std.specs.Prelude.{◌≡◌, ℕ, ◌+◌, ◌*◌, ◌<◌, ◌≤◌, List, [], ◌∷◌, ◌++◌, length, map, option_map, IfSome, IsErrOf, IsTrue, OnOk};
+ghost use Rattle.szg_io.specs.Device.{HasFailed};
+ghost use Rattle.szg_io.specs.Moved.{Takes};
+ghost use Rattle.szg_file.specs.Held.{part_of};
+ghost use Rattle.szg_build.specs.Dump.{places_of};
+ghost use Rattle.szg_build.specs.Grammar.{dump_format};
+ghost use Rattle.szg_build.specs.Held.{held_of};
+ghost use Rattle.szg_build.specs.Lines.{verdict};
+ghost use Rattle.szg_build.specs.Plan.{sizes_told};
+ghost use Rattle.szg_build.specs.Reading.{ReadsLines};
+ghost use Rattle.szg_build.specs.Shown.{dump_seen, form_of, FollowsLines, TookLines};
+ghost use Rattle.szg_build.specs.Wholes.{dump_behind_kind, dump_behind_parts, told_in};
+
+use crate::dump::{Dump, DumpReadFault};
+use crate::incoming::Incoming;
+use crate::lines::{read_end, read_form, read_kind, read_material};
+use crate::places::places;
+use crate::reading::read_parts;
+use crate::subreading::{SubText, read_sub};
+use crate::table::parts_fit;
+use arrayvec::ArrayVec;
+use std::alloc::{AllocError, Global};
+use szg_file::{Map, PartBytes, subtable_sizes};
+use szg_io::Input;
+use szg_values::{Kind, Material};
+
+/// What stands before the subtables.
+#[derive(Drop)]
+struct Front {
+    material: Material,
+    kind: Kind,
+    parts: Vec<PartBytes>,
+    last: [u8; 16],
+}
+
+/// The subtables that were read so far.
+#[derive(Drop)]
+struct Subs {
+    flags: Vec<u8>,
+    maps: Vec<Option<Map>>,
+    lists: Vec<Vec<u16>>,
+}
+
+/// The sizes of the subtables, where the parts stand.
+fn sizes_of(material: &Material, kind: Kind, parts: &[PartBytes]) -> Option<ArrayVec<u64, 8>>
+    ensures { option_map (λ list. list.items) result ≡ sizes_told material.now kind (map part_of parts.now) }
+{
+    parts_fit(parts);
+    subtable_sizes(material, kind, parts)
+}
+
+/// Adds a subtable; in WDL its flags and its map are dropped.
+fn add_sub(kind: Kind, subs: &mut Subs, sub: SubText) -> Result<(), AllocError>
+    ensures flags { OnOk result (subs.new.flags.items ≡ subs.old.flags.items ++ told_in kind sub.flags) }
+    ensures maps { OnOk result (subs.new.maps.items ≡ subs.old.maps.items ++ told_in kind sub.map) }
+    ensures lists { OnOk result (subs.new.lists.items ≡ subs.old.lists.items ++ sub.values ∷ []) }
+{
+    let SubText { flags, map, values } = sub;
+    match kind {
+        Kind::Wdl => {}
+        Kind::Dtz => {
+            subs.flags.push(flags)?;
+            subs.maps.push(map)?;
+        }
+    }
+    subs.lists.push(values)?;
+    Ok(())
+}
+
+/// The subtables, behind what stands before them.
+fn read_subs<R: Input>(
+    alloc: Global,
+    form: u8,
+    front: Front,
+    input: &mut R,
+    incoming: &mut Incoming,
+) -> Result<Dump, DumpReadFault>
+    requires { length (held_of incoming.old) ≤ 2 * length (places_of front.material front.kind) }
+    ensures lines { ReadsLines (dump_behind_parts (form_of form) front.material front.kind front.last (map part_of front.parts.items)) dump_seen incoming.old incoming.new R.Input input.old input.new result }
+    ensures held { OnOk result (held_of incoming.new ≡ []) }
+{
+    let sizes = sizes_of(&front.material, front.kind, &front.parts);
+    let places = places(&front.material, front.kind);
+    let count = places.len();
+    let mut subs = Subs {
+        flags: Vec::new(alloc),
+        maps: Vec::new(alloc),
+        lists: Vec::new(alloc),
+    };
+    'each: for s in 0..count {
+        let behind = 2 * (count - 1 - s) as u64;
+        let sub = read_sub(
+            alloc, form, front.kind, &sizes, s, places[s], behind, input, incoming,
+        )?;
+        add_sub(front.kind, &mut subs, sub)?;
+    }
+    Ok(Dump {
+        material: front.material,
+        kind: front.kind,
+        parts: front.parts,
+        flags: subs.flags,
+        maps: subs.maps,
+        last: front.last,
+        lists: subs.lists,
+    })
+}
+
+/// What follows the kind: the last bytes, the parts and the subtables.
+fn read_behind_kind<R: Input>(
+    alloc: Global,
+    form: u8,
+    material: Material,
+    kind: Kind,
+    input: &mut R,
+    incoming: &mut Incoming,
+) -> Result<Dump, DumpReadFault>
+    requires { length (held_of incoming.old) ≤ 2 }
+    ensures lines { ReadsLines (dump_behind_kind (form_of form) material kind) dump_seen incoming.old incoming.new R.Input input.old input.new result }
+    ensures held { OnOk result (held_of incoming.new ≡ []) }
+{
+    let due = 2 * places(&material, kind).len() as u64;
+    let last = read_end(due + 1, input, incoming)?;
+    let parts = read_parts(alloc, &material, due, input, incoming)?;
+    let front = Front {
+        material,
+        kind,
+        parts,
+        last,
+    };
+    read_subs(alloc, form, front, input, incoming)
+}
+
+/// The whole text.
+fn read_text<R: Input>(
+    alloc: Global,
+    input: &mut R,
+    incoming: &mut Incoming,
+) -> Result<Dump, DumpReadFault>
+    requires { held_of incoming.old ≡ [] }
+    ensures lines { ReadsLines dump_format dump_seen incoming.old incoming.new R.Input input.old input.new result }
+    ensures held { OnOk result (held_of incoming.new ≡ []) }
+{
+    let form = read_form(4, input, incoming)?;
+    let material = read_material(3, input, incoming)?;
+    let kind = read_kind(2, input, incoming)?;
+    read_behind_kind(alloc, form, material, kind, input, incoming)
+}
+
+/// Reads the text of a dump, in the form that its first line names, and nothing behind its last line.
+///
+/// `Line` tells the first line that is refused, from 1, and why; that number stops at the last value of 64 bits. A line
+/// is read whole, at most 80 bytes and its 0A; then its number of words and its fixed words are looked at, then its
+/// values from left to right. In form 2 alone `Build` tells that no table can be built of what was read so far: `Order`
+/// behind the first line `sub`, where the parts don't stand, `Length` behind a line `values` with another number than
+/// the subtable's size. `Device` where the reader failed, `Memory` where a growth was refused. Behind a refused line
+/// more bytes may have been taken; behind a dump that was read, none.
+pub fn read_dump<R: Input>(alloc: Global, input: &mut R) -> Result<Dump, DumpReadFault>
+    // Where the reader tells its bytes, the answer is their verdict, however they come in pieces.
+    ensures verdict { IfSome (R.coming input.old) (λ bytes. FollowsLines (verdict dump_format 0 bytes) result (R.coming input.new)) }
+    // Whatever the reader tells: which bytes were taken, and with how many calls.
+    ensures taken { (bytes : List ℕ) × Takes R.Input input.old input.new bytes 1 × TookLines (verdict dump_format 0 bytes) result (R.coming input.new) }
+    ensures device { IsErrOf result DumpReadFault.Device → HasFailed (R.failures input.old) (R.failures input.new) (R.interrupted input.new) × IsTrue (R.may_fail input.old) }
+    ensures quiet { (IsErrOf result DumpReadFault.Device → ⊥) → R.failures input.new ≡ R.failures input.old }
+{
+    let mut incoming = Incoming::new();
+    read_text(alloc, input, &mut incoming)
+}

@@ -1,0 +1,28 @@
+//! Laws over the definitions.
+ghost use Rattle.szg_build.specs.Laws.{TextIsRead, CutTextIsEnded, OneTextOneDump, BuiltDumpStays, BuiltIsFound};
+
+/// The text of a dump is read back as that dump, whatever follows it.
+pub fn text_is_read()
+    ensures { TextIsRead }
+{}
+
+/// The text of a dump that is cut anywhere ends before the end of the line behind those that are whole.
+pub fn cut_text_is_ended()
+    ensures { CutTextIsEnded }
+{}
+
+/// Two dumps of one text are equal.
+pub fn one_text_one_dump()
+    ensures { OneTextOneDump }
+{}
+
+/// The table that a dump's plan builds has that dump.
+pub fn built_dump_stays()
+    ensures { BuiltDumpStays }
+{}
+
+/// Bytes that begin with the file of a built table, whatever follows, are read as that table; and for each part and
+/// side, the values that are found there are the items of the list that was handed in for them.
+pub fn built_is_found()
+    ensures { BuiltIsFound }
+{}

@@ -1,0 +1,62 @@
+//! One line of text.
+ghost use Rattle.std.specs.Prelude.{◌≡◌, ◌≢◌, ℕ, ◌+◌, ◌<◌, ◌≤◌, length, slice_index, MatchOption, OnOk};
+ghost use Rattle.szg_build.specs.Held.{held_of};
+ghost use Rattle.szg_build.specs.Lines.{line, means, words_of};
+ghost use Rattle.szg_build.specs.Reading.{ReadsLines};
+
+use crate::dump::{DumpFault, DumpReadFault};
+use crate::incoming::Incoming;
+use arrayvec::ArrayVec;
+use szg_io::{DeviceFault, Input};
+
+/// How many bytes a line has before its 0A, at most.
+const LINE_ROOM: usize = 80;
+
+/// Where the first line of some bytes ends, if it does within its room.
+fn line_len(held: &[u8]) -> Option<usize>
+    ensures none { MatchOption result ((k : ℕ) → k < 81 → k < length held.now → slice_index held.now k ≢ 10)
+        (λ n. (n ≤ 80) × (n < length held.now)) }
+    ensures newline { MatchOption result (Unit {0}) (λ n. slice_index held.now n ≡ 10) }
+    ensures before { MatchOption result (Unit {0}) (λ n. (k : ℕ) → k < n → slice_index held.now k ≢ 10) }
+{
+    'bytes: for i in 0..held.len().min(LINE_ROOM + 1) {
+        if held[i] == b'\n' {
+            return Some(i);
+        }
+    }
+    None
+}
+
+/// Reads a line, where `behind` more lines at least are due after it. So many bytes may be taken at once as lines are
+/// due: each has its 0A. Nothing behind the last line is taken.
+///
+/// `Field` where the line has more than 80 bytes before its 0A, `Ended` where the bytes end before it.
+pub(crate) fn next_line<R: Input>(
+    behind: u64,
+    input: &mut R,
+    incoming: &mut Incoming,
+) -> Result<ArrayVec<u8, 80>, DumpReadFault>
+    requires { length (held_of incoming.old) ≤ behind + 1 }
+    ensures line { ReadsLines (line means) (λ text. words_of text.items) incoming.old incoming.new R.Input input.old input.new result }
+    ensures behind { OnOk result (length (held_of incoming.new) ≤ behind) }
+{
+    let line = incoming.line.saturating_add(1);
+    incoming.line = line;
+    'pieces: loop {
+        if let Some(size) = line_len(incoming.held()) {
+            return Ok(incoming.split_line(size));
+        }
+        if incoming.held().len() > LINE_ROOM {
+            let fault = DumpFault::Field;
+            return Err(DumpReadFault::Line { line, fault });
+        }
+        match incoming.refill(behind.saturating_add(1), input) {
+            Ok(0) => {
+                let fault = DumpFault::Ended;
+                return Err(DumpReadFault::Line { line, fault });
+            }
+            Ok(_) => {}
+            Err(DeviceFault) => return Err(DumpReadFault::Device),
+        }
+    }
+}

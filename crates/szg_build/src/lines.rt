@@ -1,0 +1,150 @@
+//! A dump's lines from a device, one at a time.
+ghost use Rattle.std.specs.Prelude.{◌≡◌, ◌+◌, ◌<◌, ◌≤◌, List, [], length, IfOk, OnOk};
+ghost use Rattle.szg_build.specs.Fronts.{IsFront, in_line, sub_line};
+ghost use Rattle.szg_build.specs.Grammar.{Word, version_line, name_line, kind_line, end_line, part_line, number_line, run_line};
+ghost use Rattle.szg_build.specs.Held.{held_of};
+ghost use Rattle.szg_build.specs.Reading.{ReadsLines};
+ghost use Rattle.szg_build.specs.Shown.{form_of};
+
+use crate::dump::{DumpFault, DumpReadFault};
+use crate::incoming::Incoming;
+use crate::line::next_line;
+use crate::saying::{
+    end_told, form_told, kind_told, material_told, number_told, part_told, place_told, run_told,
+};
+use arrayvec::ArrayVec;
+use szg_io::Input;
+use szg_values::{Kind, Material};
+
+/// What a line says, with its number where it is refused.
+fn with_line<T: Drop>(told: Result<T, DumpFault>, line: u64) -> Result<T, DumpReadFault>
+    ensures { result ≡ in_line line told }
+{
+    match told {
+        Ok(value) => Ok(value),
+        Err(fault) => Err(DumpReadFault::Line { line, fault }),
+    }
+}
+
+/// The line of the form.
+pub(crate) fn read_form<R: Input>(
+    behind: u64,
+    input: &mut R,
+    incoming: &mut Incoming,
+) -> Result<u8, DumpReadFault>
+    requires { length (held_of incoming.old) ≤ behind + 1 }
+    ensures lines { ReadsLines version_line form_of incoming.old incoming.new R.Input input.old input.new result }
+    ensures behind { OnOk result (length (held_of incoming.new) ≤ behind) }
+{
+    let text = next_line(behind, input, incoming)?;
+    with_line(form_told(text.as_slice()), incoming.line)
+}
+
+/// The line of the name.
+pub(crate) fn read_material<R: Input>(
+    behind: u64,
+    input: &mut R,
+    incoming: &mut Incoming,
+) -> Result<Material, DumpReadFault>
+    requires { length (held_of incoming.old) ≤ behind + 1 }
+    ensures lines { ReadsLines name_line (λ material. material) incoming.old incoming.new R.Input input.old input.new result }
+    ensures behind { OnOk result (length (held_of incoming.new) ≤ behind) }
+{
+    let text = next_line(behind, input, incoming)?;
+    with_line(material_told(text.as_slice()), incoming.line)
+}
+
+/// The line of the kind.
+pub(crate) fn read_kind<R: Input>(
+    behind: u64,
+    input: &mut R,
+    incoming: &mut Incoming,
+) -> Result<Kind, DumpReadFault>
+    requires { length (held_of incoming.old) ≤ behind + 1 }
+    ensures lines { ReadsLines kind_line (λ kind. kind) incoming.old incoming.new R.Input input.old input.new result }
+    ensures behind { OnOk result (length (held_of incoming.new) ≤ behind) }
+{
+    let text = next_line(behind, input, incoming)?;
+    with_line(kind_told(text.as_slice()), incoming.line)
+}
+
+/// The line of the last bytes.
+pub(crate) fn read_end<R: Input>(
+    behind: u64,
+    input: &mut R,
+    incoming: &mut Incoming,
+) -> Result<[u8; 16], DumpReadFault>
+    requires { length (held_of incoming.old) ≤ behind + 1 }
+    ensures lines { ReadsLines end_line (λ bytes. bytes) incoming.old incoming.new R.Input input.old input.new result }
+    ensures behind { OnOk result (length (held_of incoming.new) ≤ behind) }
+{
+    let text = next_line(behind, input, incoming)?;
+    with_line(end_told(text.as_slice()), incoming.line)
+}
+
+/// The line of a part.
+pub(crate) fn read_part<R: Input>(
+    number: u8,
+    behind: u64,
+    input: &mut R,
+    incoming: &mut Incoming,
+) -> Result<(ArrayVec<u8, 40>, ArrayVec<u8, 40>), DumpReadFault>
+    requires number { number < 4 }
+    requires held { length (held_of incoming.old) ≤ behind + 1 }
+    ensures lines { ReadsLines (part_line number) (λ part. record { order = part.0.items; men = part.1.items }) incoming.old incoming.new R.Input input.old input.new result }
+    ensures behind { OnOk result (length (held_of incoming.new) ≤ behind) }
+{
+    let text = next_line(behind, input, incoming)?;
+    with_line(part_told(number, text.as_slice()), incoming.line)
+}
+
+/// The line that names a subtable.
+pub(crate) fn read_place<R: Input>(
+    place: (u8, u8),
+    behind: u64,
+    input: &mut R,
+    incoming: &mut Incoming,
+) -> Result<(), DumpReadFault>
+    requires part { place.0 < 4 }
+    requires side { place.1 < 2 }
+    requires held { length (held_of incoming.old) ≤ behind + 1 }
+    ensures lines { ReadsLines (sub_line place) (λ _. []) incoming.old incoming.new R.Input input.old input.new result }
+    ensures behind { OnOk result (length (held_of incoming.new) ≤ behind) }
+{
+    let text = next_line(behind, input, incoming)?;
+    with_line(place_told(place, text.as_slice()), incoming.line)
+}
+
+/// The line of a run, of no more values than are left.
+pub(crate) fn read_run<R: Input>(
+    left: u64,
+    behind: u64,
+    input: &mut R,
+    incoming: &mut Incoming,
+) -> Result<(u64, u16), DumpReadFault>
+    requires { length (held_of incoming.old) ≤ behind + 1 }
+    ensures lines { ReadsLines (run_line left) (λ run. run) incoming.old incoming.new R.Input input.old input.new result }
+    ensures behind { OnOk result (length (held_of incoming.new) ≤ behind) }
+    ensures some { IfOk result (λ run. 0 < run.0) }
+    ensures within { IfOk result (λ run. run.0 ≤ left) }
+{
+    let text = next_line(behind, input, incoming)?;
+    with_line(run_told(left, text.as_slice()), incoming.line)
+}
+
+/// A line of one number, told with what stands before it.
+pub(crate) fn read_number<R: Input>(
+    front: &[u8],
+    limit: u64,
+    behind: u64,
+    input: &mut R,
+    incoming: &mut Incoming,
+) -> Result<u64, DumpReadFault>
+    requires { length (held_of incoming.old) ≤ behind + 1 }
+    ensures lines { (pattern : List Word) → IsFront pattern front.now → ReadsLines (number_line pattern limit) (λ number. number) incoming.old incoming.new R.Input input.old input.new result }
+    ensures behind { OnOk result (length (held_of incoming.new) ≤ behind) }
+    ensures within { IfOk result (λ number. number ≤ limit) }
+{
+    let text = next_line(behind, input, incoming)?;
+    with_line(number_told(front, limit, text.as_slice()), incoming.line)
+}

@@ -1,0 +1,85 @@
+//! Text on its way to a device, in large pieces and without memory.
+ghost use Rattle.std.specs.Prelude.{◌≡◌, ℕ, ◌+◌, ◌-◌, ◌<◌, ◌≤◌, ◌^◌, [], ◌++◌, length, take, min, IfOk, IfErr, OnOk, OnErr};
+ghost use Rattle.szg_io.specs.Device.{HasFailed};
+ghost use Rattle.szg_io.specs.Moved.{Gives};
+ghost use Rattle.szg_build.specs.Writing.{Writing};
+
+use arrayvec::ArrayVec;
+use szg_file::WriteFault;
+use szg_io::{Output, give_whole};
+
+/// How far the writing has come.
+#[derive(Drop)]
+pub(crate) struct Outgoing {
+    /// The number of bytes that went out; it stops at the last value of 64 bits.
+    pub out: u64,
+    /// The bytes behind them that wait to be given.
+    pub held: ArrayVec<u8, 4096>,
+}
+
+impl Outgoing {
+    /// Before the first byte.
+    pub fn new() -> Outgoing
+        ensures out { result.out ≡ 0 }
+        ensures held { result.held.items ≡ [] }
+    {
+        Outgoing {
+            out: 0,
+            held: ArrayVec::new(),
+        }
+    }
+}
+
+/// Gives a piece behind so many bytes, and tells how many bytes went out then.
+fn give<W: Output>(piece: &[u8], output: &mut W, out: u64) -> Result<u64, WriteFault>
+    ensures ok { IfOk result (λ now. now ≡ min (out + length piece.now) (2 ^ 64 - 1)) }
+    ensures given { OnOk result (Gives W.Output output.old output.new piece.now 0) }
+    ensures quiet { OnOk result (W.failures output.new ≡ W.failures output.old) }
+    ensures fault { IfErr result (λ fault. (n : ℕ) × (n < length piece.now) × (fault.out ≡ min (out + n) (2 ^ 64 - 1))
+        × Gives W.Output output.old output.new (take n piece.now) 1) }
+    ensures failed { OnErr result (HasFailed (W.failures output.old) (W.failures output.new) (W.interrupted output.new)) }
+{
+    match give_whole(output, piece) {
+        Ok(()) => Ok(out.saturating_add(piece.len() as u64)),
+        Err(n) => Err(WriteFault {
+            out: out.saturating_add(n as u64),
+        }),
+    }
+}
+
+/// Gives the bytes that are held.
+pub(crate) fn flush<W: Output>(output: &mut W, outgoing: &mut Outgoing) -> Result<(), WriteFault>
+    ensures none { Writing [] outgoing.old outgoing.new W.Output output.old output.new result }
+    ensures held { OnOk result (outgoing.new.held.items ≡ []) }
+{
+    outgoing.out = give(outgoing.held.as_slice(), output, outgoing.out)?;
+    outgoing.held.clear();
+    Ok(())
+}
+
+/// Holds a piece.
+fn hold(piece: &[u8], outgoing: &mut Outgoing)
+    requires { length outgoing.old.held.items + length piece.now ≤ 4096 }
+    ensures out { outgoing.new.out ≡ outgoing.old.out }
+    ensures held { outgoing.new.held.items ≡ outgoing.old.held.items ++ piece.now }
+{
+    let Ok(()) = outgoing.held.try_extend_from_slice(piece) else {
+        unreachable!()
+    };
+}
+
+/// Puts a short piece behind what is held. Only where there is no room for it is what is held given first.
+pub(crate) fn put<W: Output>(
+    piece: &[u8],
+    output: &mut W,
+    outgoing: &mut Outgoing,
+) -> Result<(), WriteFault>
+    requires { length piece.now ≤ 4096 }
+    ensures { Writing piece.now outgoing.old outgoing.new W.Output output.old output.new result }
+{
+    if outgoing.held.len() + piece.len() > 4096 {
+        flush(output, outgoing)?;
+    }
+    hold(piece, outgoing);
+    Ok(())
+}

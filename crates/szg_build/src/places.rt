@@ -1,0 +1,59 @@
+//! Which parts and sides a table has, in the order of its file.
+ghost use Rattle.std.specs.Prelude.{◌≡◌, ◌≤◌, ◌<◌, [], ◌∷◌, length, All, if◌then◌else◌};
+ghost use Rattle.std.specs.List.{range_with_len};
+ghost use Rattle.szg_file.specs.Contents.{part_numbers, side_numbers};
+ghost use Rattle.szg_build.specs.Dump.{places_of};
+
+use szg_values::{Kind, Material};
+
+/// Part and side of each subtable, where there is one part and one side, and so on.
+const ONE: &[(u8, u8)] = &[(0, 0)];
+
+const TWO_SIDES: &[(u8, u8)] = &[(0, 0), (0, 1)];
+
+const FOUR_PARTS: &[(u8, u8)] = &[(0, 0), (1, 0), (2, 0), (3, 0)];
+
+const EIGHT: &[(u8, u8)] = &[
+    (0, 0),
+    (0, 1),
+    (1, 0),
+    (1, 1),
+    (2, 0),
+    (2, 1),
+    (3, 0),
+    (3, 1),
+];
+
+/// How many parts a table has: four with pawns, else one.
+pub(crate) fn part_count(material: &Material) -> u8
+    ensures numbers { part_numbers material.now ≡ range_with_len 0 result }
+    ensures few { result ≤ 4 }
+    ensures some { 0 < result }
+{
+    if material.has_pawns() { 4 } else { 1 }
+}
+
+/// Whether subtables have two sides.
+fn has_two_sides(material: &Material, kind: Kind) -> bool
+    ensures { side_numbers material.now kind ≡ (if result then 0 ∷ 1 ∷ [] else 0 ∷ []) }
+{
+    match kind {
+        Kind::Wdl => !material.symmetric(),
+        Kind::Dtz => false,
+    }
+}
+
+/// Part and side of each subtable.
+pub(crate) fn places(material: &Material, kind: Kind) -> &'static [(u8, u8)]
+    ensures places { result.now ≡ places_of material.now kind }
+    ensures parts { All (λ place. place.0 < 4) result.now }
+    ensures sides { All (λ place. place.1 < 2) result.now }
+    ensures few { length result.now ≤ 8 }
+{
+    match (material.has_pawns(), has_two_sides(material, kind)) {
+        (false, false) => ONE,
+        (false, true) => TWO_SIDES,
+        (true, false) => FOUR_PARTS,
+        (true, true) => EIGHT,
+    }
+}

@@ -1,0 +1,268 @@
+//! A dump from a device.
+ghost use Rattle.std.specs.Prelude.{◌≡◌, ◌+◌, ◌<◌, ◌≤◌, ◌^◌, [], ◌∷◌, ◌++◌, length, map, option_map, replicate, OnOk};
+ghost use Rattle.szg_file.specs.Contents.{has_bit, part_numbers};
+ghost use Rattle.szg_file.specs.Held.{map_of, part_of};
+ghost use Rattle.szg_build.specs.Grammar.{each, list_numbers, map_list, map_of as map_text, part_line, value, values_lines, repeated, number_line, run_values, greatest_item};
+ghost use Rattle.szg_build.specs.Held.{held_of};
+ghost use Rattle.szg_build.specs.Reading.{ReadsLines};
+ghost use Rattle.szg_build.specs.Shown.{form_of};
+
+use crate::dump::DumpReadFault;
+use crate::incoming::Incoming;
+use crate::lines::{read_number, read_part, read_run};
+use crate::places::part_count;
+use crate::refusing::{is_mapped, is_wide};
+use crate::saying::{GREATEST_COUNT, GREATEST_ITEM};
+use std::alloc::{AllocError, AllocFailed, Global};
+use szg_file::{Map, PartBytes};
+use szg_io::Input;
+use szg_values::Material;
+
+// ---- values
+
+/// Bytes, one a line.
+fn read_bytes<R: Input>(
+    alloc: Global,
+    count: u64,
+    behind: u64,
+    input: &mut R,
+    incoming: &mut Incoming,
+) -> Result<Vec<u8>, DumpReadFault>
+    requires few { behind + count < 2 ^ 64 }
+    requires held { length (held_of incoming.old) ≤ behind + count }
+    ensures lines { ReadsLines (repeated count (number_line (value ∷ []) 255)) (λ list. list.items) incoming.old incoming.new R.Input input.old input.new result }
+    ensures behind { OnOk result (length (held_of incoming.new) ≤ behind) }
+{
+    let mut list = Vec::new(alloc);
+    'items: for i in 0..count {
+        let item = read_number(b"", 255, behind + (count - 1 - i), input, incoming)?;
+        list.push(item as u8)?;
+    }
+    Ok(list)
+}
+
+/// Values, one a line.
+fn read_singles<R: Input>(
+    alloc: Global,
+    count: u64,
+    behind: u64,
+    input: &mut R,
+    incoming: &mut Incoming,
+) -> Result<Vec<u16>, DumpReadFault>
+    requires few { behind + count < 2 ^ 64 }
+    requires held { length (held_of incoming.old) ≤ behind + count }
+    ensures lines { ReadsLines (repeated count (number_line (value ∷ []) greatest_item)) (λ list. list.items) incoming.old incoming.new R.Input input.old input.new result }
+    ensures behind { OnOk result (length (held_of incoming.new) ≤ behind) }
+{
+    let mut list = Vec::new(alloc);
+    'items: for i in 0..count {
+        let item = read_number(
+            b"",
+            GREATEST_ITEM,
+            behind + (count - 1 - i),
+            input,
+            incoming,
+        )?;
+        list.push(item as u16)?;
+    }
+    Ok(list)
+}
+
+/// Adds a run of equal values.
+fn add_run(list: &mut Vec<u16>, size: u64, value: u16) -> Result<(), AllocFailed<u16>>
+    ensures { OnOk result (list.new.items ≡ list.old.items ++ replicate size value) }
+{
+    'values: for _value in 0..size {
+        list.push(value)?;
+    }
+    Ok(())
+}
+
+/// Values in runs, a run a line, until so many are there.
+fn read_runs<R: Input>(
+    alloc: Global,
+    count: u64,
+    behind: u64,
+    input: &mut R,
+    incoming: &mut Incoming,
+) -> Result<Vec<u16>, DumpReadFault>
+    requires { length (held_of incoming.old) ≤ behind }
+    ensures lines { ReadsLines (run_values count count) (λ list. list.items) incoming.old incoming.new R.Input input.old input.new result }
+    ensures behind { OnOk result (length (held_of incoming.new) ≤ behind) }
+{
+    let mut list = Vec::new(alloc);
+    let mut left = count;
+    'runs: while left > 0 {
+        let (size, value) = read_run(left, behind, input, incoming)?;
+        add_run(&mut list, size, value)?;
+        left -= size;
+    }
+    Ok(list)
+}
+
+/// The values of a subtable, so many of them, in this form.
+pub(crate) fn read_values<R: Input>(
+    alloc: Global,
+    form: u8,
+    count: u64,
+    behind: u64,
+    input: &mut R,
+    incoming: &mut Incoming,
+) -> Result<Vec<u16>, DumpReadFault>
+    requires few { behind + count < 2 ^ 64 }
+    requires held { length (held_of incoming.old) ≤ behind }
+    ensures lines { ReadsLines (values_lines (form_of form) count) (λ list. list.items) incoming.old incoming.new R.Input input.old input.new result }
+    ensures behind { OnOk result (length (held_of incoming.new) ≤ behind) }
+{
+    if form == 2 {
+        read_runs(alloc, count, behind, input, incoming)
+    } else {
+        read_singles(alloc, count, behind, input, incoming)
+    }
+}
+
+// ---- maps
+
+/// List `j` of a map of bytes.
+fn read_byte_list<R: Input>(
+    alloc: Global,
+    j: u8,
+    behind: u64,
+    input: &mut R,
+    incoming: &mut Incoming,
+) -> Result<Vec<u8>, DumpReadFault>
+    requires list { j < 4 }
+    requires few { behind < 2 ^ 32 }
+    requires held { length (held_of incoming.old) ≤ behind + 1 }
+    ensures lines { ReadsLines (map_list 255 j) (λ list. list.items) incoming.old incoming.new R.Input input.old input.new result }
+    ensures behind { OnOk result (length (held_of incoming.new) ≤ behind) }
+{
+    let front = [b'm', b'a', b'p', b' ', b'0' + j, b' '];
+    let count = read_number(&front, GREATEST_COUNT, behind, input, incoming)?;
+    read_bytes(alloc, count, behind, input, incoming)
+}
+
+/// List `j` of a wide map.
+fn read_wide_list<R: Input>(
+    alloc: Global,
+    j: u8,
+    behind: u64,
+    input: &mut R,
+    incoming: &mut Incoming,
+) -> Result<Vec<u16>, DumpReadFault>
+    requires list { j < 4 }
+    requires few { behind < 2 ^ 32 }
+    requires held { length (held_of incoming.old) ≤ behind + 1 }
+    ensures lines { ReadsLines (map_list greatest_item j) (λ list. list.items) incoming.old incoming.new R.Input input.old input.new result }
+    ensures behind { OnOk result (length (held_of incoming.new) ≤ behind) }
+{
+    let front = [b'm', b'a', b'p', b' ', b'0' + j, b' '];
+    let count = read_number(&front, GREATEST_COUNT, behind, input, incoming)?;
+    read_singles(alloc, count, behind, input, incoming)
+}
+
+/// The four lists of a map of bytes.
+fn read_byte_lists<R: Input>(
+    alloc: Global,
+    behind: u64,
+    input: &mut R,
+    incoming: &mut Incoming,
+) -> Result<[Vec<u8>; 4], DumpReadFault>
+    requires few { behind < 2 ^ 31 }
+    requires held { length (held_of incoming.old) ≤ behind + 4 }
+    ensures lines { ReadsLines (each (map_list 255) list_numbers) (λ lists. map (λ list. list.items) lists) incoming.old incoming.new R.Input input.old input.new result }
+    ensures behind { OnOk result (length (held_of incoming.new) ≤ behind) }
+{
+    let wins = read_byte_list(alloc, 0, behind + 3, input, incoming)?;
+    let losses = read_byte_list(alloc, 1, behind + 2, input, incoming)?;
+    let cursed_wins = read_byte_list(alloc, 2, behind + 1, input, incoming)?;
+    let blessed_losses = read_byte_list(alloc, 3, behind, input, incoming)?;
+    Ok([wins, losses, cursed_wins, blessed_losses])
+}
+
+/// The four lists of a wide map.
+fn read_wide_lists<R: Input>(
+    alloc: Global,
+    behind: u64,
+    input: &mut R,
+    incoming: &mut Incoming,
+) -> Result<[Vec<u16>; 4], DumpReadFault>
+    requires few { behind < 2 ^ 31 }
+    requires held { length (held_of incoming.old) ≤ behind + 4 }
+    ensures lines { ReadsLines (each (map_list greatest_item) list_numbers) (λ lists. map (λ list. list.items) lists) incoming.old incoming.new R.Input input.old input.new result }
+    ensures behind { OnOk result (length (held_of incoming.new) ≤ behind) }
+{
+    let wins = read_wide_list(alloc, 0, behind + 3, input, incoming)?;
+    let losses = read_wide_list(alloc, 1, behind + 2, input, incoming)?;
+    let cursed_wins = read_wide_list(alloc, 2, behind + 1, input, incoming)?;
+    let blessed_losses = read_wide_list(alloc, 3, behind, input, incoming)?;
+    Ok([wins, losses, cursed_wins, blessed_losses])
+}
+
+/// The map that flags ask for, if they do.
+pub(crate) fn read_map<R: Input>(
+    alloc: Global,
+    flags: u8,
+    behind: u64,
+    input: &mut R,
+    incoming: &mut Incoming,
+) -> Result<Option<Map>, DumpReadFault>
+    requires few { behind < 2 ^ 31 }
+    requires held { length (held_of incoming.old) ≤ behind }
+    ensures lines { ReadsLines (map_text (has_bit 1 flags) (has_bit 4 flags)) (option_map map_of) incoming.old incoming.new R.Input input.old input.new result }
+    ensures behind { OnOk result (length (held_of incoming.new) ≤ behind) }
+{
+    if !is_mapped(flags) {
+        return Ok(None);
+    }
+    if is_wide(flags) {
+        let wide = read_wide_lists(alloc, behind, input, incoming)?;
+        return Ok(Some(Map::Wide(wide)));
+    }
+    let narrow = read_byte_lists(alloc, behind, input, incoming)?;
+    Ok(Some(Map::Bytes(narrow)))
+}
+
+// ---- the parts
+
+/// A part.
+fn read_part_bytes<R: Input>(
+    alloc: Global,
+    number: u8,
+    behind: u64,
+    input: &mut R,
+    incoming: &mut Incoming,
+) -> Result<PartBytes, DumpReadFault>
+    requires number { number < 4 }
+    requires held { length (held_of incoming.old) ≤ behind + 1 }
+    ensures lines { ReadsLines (part_line number) part_of incoming.old incoming.new R.Input input.old input.new result }
+    ensures behind { OnOk result (length (held_of incoming.new) ≤ behind) }
+{
+    let (order, men) = read_part(number, behind, input, incoming)?;
+    let order = Vec::from_slice(alloc, order.as_slice())?;
+    let men = Vec::from_slice(alloc, men.as_slice())?;
+    Ok(PartBytes { order, men })
+}
+
+/// The parts of a material.
+pub(crate) fn read_parts<R: Input>(
+    alloc: Global,
+    material: &Material,
+    behind: u64,
+    input: &mut R,
+    incoming: &mut Incoming,
+) -> Result<Vec<PartBytes>, DumpReadFault>
+    requires few { behind < 2 ^ 32 }
+    requires held { length (held_of incoming.old) ≤ behind + 1 }
+    ensures lines { ReadsLines (each part_line (part_numbers material.now)) (λ parts. map part_of parts.items) incoming.old incoming.new R.Input input.old input.new result }
+    ensures behind { OnOk result (length (held_of incoming.new) ≤ behind) }
+{
+    let mut parts = Vec::new(alloc);
+    let count = part_count(material);
+    'parts: for number in 0..count {
+        let left = u64::from(count - 1 - number);
+        let part = read_part_bytes(alloc, number, behind + left, input, incoming)?;
+        parts.push(part)?;
+    }
+    Ok(parts)
+}

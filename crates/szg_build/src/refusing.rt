@@ -1,0 +1,208 @@
+//! What of a plan and its lists is refused, behind the order of its parts.
+ghost use Rattle.std.specs.Prelude.{◌≡◌, ◌≤◌, ◌==◌, ◌&&◌, ◌^◌, not, nat_lt, nat_le, length, map, option_map, Some};
+ghost use Rattle.std.specs.List.{All, AllByRecursion, list_all, list_any, position, zip};
+ghost use Rattle.szg_file.specs.Contents.{has_bit, part_numbers};
+ghost use Rattle.szg_file.specs.Held.{map_of};
+ghost use Rattle.szg_build.specs.Plan.{different_values, fault_for, greatest_value, has_maps, is_map_of};
+ghost use Rattle.szg_build.specs.Shown.{plan_seen};
+
+use crate::leaves::count_different;
+use crate::places::part_count;
+use crate::{BuildFault, Plan};
+use szg_file::Map;
+use szg_values::Kind;
+
+/// The most rounds that a plan may ask for.
+const MAX_ROUNDS: u32 = 4000;
+
+/// The most different values of a list.
+const MAX_DIFFERENT: usize = 4095;
+
+/// Whether block bits and span bits are in their ranges.
+fn bits_stand(plan: &Plan) -> bool
+    ensures { result ≡ (nat_le 5 plan.now.block_bits && nat_le plan.now.block_bits 10 && nat_le 1 plan.now.span_bits && nat_le plan.now.span_bits 16) }
+{
+    5 <= plan.block_bits && plan.block_bits <= 10 && 1 <= plan.span_bits && plan.span_bits <= 16
+}
+
+/// The greatest value of a kind.
+fn greatest_of(kind: Kind) -> u16
+    ensures { result ≡ greatest_value kind }
+{
+    match kind {
+        Kind::Wdl => 4,
+        Kind::Dtz => 4095,
+    }
+}
+
+/// Whether a list has a value above this one.
+fn has_above(values: &[u16], greatest: u16) -> bool
+    ensures { result ≡ list_any (λ v. nat_lt greatest v) values.now }
+{
+    values.iter().any(|v| *v > greatest)
+}
+
+/// The first list that hasn't its size.
+fn wrong_length(sizes: &[u64], lists: &[&[u16]]) -> Option<usize>
+    ensures { result ≡ position (λ pair. not (length pair.1.now == pair.0)) (zip sizes.now lists.now) }
+{
+    sizes
+        .iter()
+        .zip(lists)
+        .position(|(size, list)| list.len() as u64 != *size)
+}
+
+/// The first list with a value that is too great.
+fn wrong_value(kind: Kind, lists: &[&[u16]]) -> Option<usize>
+    ensures { result ≡ position (λ list. list_any (λ v. nat_lt (greatest_value kind) v) list.now) lists.now }
+{
+    let greatest = greatest_of(kind);
+    lists.iter().position(|list| has_above(list, greatest))
+}
+
+/// The first list with more than 4,095 different values.
+fn too_many_values(lists: &[&[u16]]) -> Option<usize>
+    requires { All (λ list. AllByRecursion (λ v. v ≤ 4095) list.now) lists.now }
+    ensures { result ≡ position (λ list. nat_lt 4095 (length (different_values list.now))) lists.now }
+{
+    lists
+        .iter()
+        .position(|list| count_different(list) > MAX_DIFFERENT)
+}
+
+/// Whether flags ask for a map.
+pub(crate) fn is_mapped(flags: u8) -> bool
+    ensures { result ≡ has_bit 1 flags }
+{
+    (flags / 2) % 2 == 1
+}
+
+/// Whether flags say that a map's items have two bytes.
+pub(crate) fn is_wide(flags: u8) -> bool
+    ensures { result ≡ has_bit 4 flags }
+{
+    (flags / 16) % 2 == 1
+}
+
+/// Whether the length of each list of bytes fits a byte.
+fn are_short(lists: &[Vec<u8>]) -> bool
+    ensures { result ≡ list_all (λ list. nat_lt (length list.items) (2 ^ 8)) lists.now }
+{
+    lists.iter().all(|list| list.len() < 256)
+}
+
+/// Whether the length of each list of numbers of two bytes fits two bytes.
+fn are_short_wide(lists: &[Vec<u16>]) -> bool
+    ensures { result ≡ list_all (λ list. nat_lt (length list.items) (2 ^ 16)) lists.now }
+{
+    lists.iter().all(|list| list.len() < 65536)
+}
+
+/// Whether flags ask for a map of bytes, and its lists fit their length fields.
+fn is_narrow_for(flags: u8, lists: &[Vec<u8>]) -> bool
+    ensures { result ≡ (has_bit 1 flags && not (has_bit 4 flags) && list_all (λ list. nat_lt (length list) (2 ^ 8)) (map (λ list. list.items) lists.now)) }
+{
+    if !is_mapped(flags) {
+        return false;
+    }
+    if is_wide(flags) {
+        return false;
+    }
+    are_short(lists)
+}
+
+/// Whether flags ask for a map of numbers of two bytes, and its lists fit their length fields.
+fn is_wide_for(flags: u8, lists: &[Vec<u16>]) -> bool
+    ensures { result ≡ (has_bit 1 flags && has_bit 4 flags && list_all (λ list. nat_lt (length list) (2 ^ 16)) (map (λ list. list.items) lists.now)) }
+{
+    if !is_mapped(flags) {
+        return false;
+    }
+    if !is_wide(flags) {
+        return false;
+    }
+    are_short_wide(lists)
+}
+
+/// Whether a map is just what the flags ask for.
+fn is_map_for(flags: u8, item: &Option<Map>) -> bool
+    ensures { result ≡ is_map_of (flags, option_map map_of item.now) }
+{
+    match item {
+        None => !is_mapped(flags),
+        Some(Map::Bytes(lists)) => is_narrow_for(flags, lists),
+        Some(Map::Wide(lists)) => is_wide_for(flags, lists),
+    }
+}
+
+/// Whether no flags byte has another bit than 0 to 4.
+fn are_flags(flags: &[u8]) -> bool
+    ensures { result ≡ list_all (λ byte. nat_lt byte 32) flags.now }
+{
+    flags.iter().all(|byte| *byte < 32)
+}
+
+/// Whether each map is just what its flags ask for.
+fn are_maps_for(flags: &[u8], maps: &[Option<Map>]) -> bool
+    ensures { result ≡ list_all (λ pair. is_map_of (pair.0, option_map map_of pair.1)) (zip flags.now maps.now) }
+{
+    flags
+        .iter()
+        .zip(maps)
+        .all(|(byte, item)| is_map_for(*byte, item))
+}
+
+/// Whether a DTZ plan has flags and a map or none for each part, which fit each other.
+fn each_has_map(plan: &Plan) -> bool
+    ensures { result ≡ ((length plan.now.flags.items == length (part_numbers plan.now.material)) && (length plan.now.maps.items == length (part_numbers plan.now.material)) && list_all (λ byte. nat_lt byte 32) plan.now.flags.items && list_all (λ pair. is_map_of (pair.0, option_map map_of pair.1)) (zip plan.now.flags.items plan.now.maps.items)) }
+{
+    let parts = part_count(&plan.material) as usize;
+    if plan.flags.len() != parts {
+        return false;
+    }
+    if plan.maps.len() != parts {
+        return false;
+    }
+    if !are_flags(&plan.flags) {
+        return false;
+    }
+    are_maps_for(&plan.flags, &plan.maps)
+}
+
+/// Whether a plan has the flags and maps of its kind.
+fn maps_stand(plan: &Plan) -> bool
+    ensures { result ≡ has_maps (plan_seen plan.now) }
+{
+    match plan.kind {
+        Kind::Wdl => plan.flags.is_empty() && plan.maps.is_empty(),
+        Kind::Dtz => each_has_map(plan),
+    }
+}
+
+/// The first refusal of a plan and its lists, where the plan's parts stand and tell these sizes. It takes no memory.
+pub(crate) fn first_fault(plan: &Plan, sizes: &[u64], lists: &[&[u16]]) -> Option<BuildFault>
+    ensures { result ≡ fault_for (Some sizes.now) (plan_seen plan.now) (map (λ list. list.now) lists.now) }
+{
+    if !bits_stand(plan) {
+        return Some(BuildFault::Bits);
+    }
+    if plan.rounds > MAX_ROUNDS {
+        return Some(BuildFault::Rounds);
+    }
+    if lists.len() != sizes.len() {
+        return Some(BuildFault::Count);
+    }
+    if let Some(n) = wrong_length(sizes, lists) {
+        return Some(BuildFault::Length(n));
+    }
+    if let Some(n) = wrong_value(plan.kind, lists) {
+        return Some(BuildFault::Value(n));
+    }
+    if let Some(n) = too_many_values(lists) {
+        return Some(BuildFault::TooManyValues(n));
+    }
+    if !maps_stand(plan) {
+        return Some(BuildFault::Map);
+    }
+    None
+}

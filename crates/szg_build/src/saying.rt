@@ -1,0 +1,184 @@
+//! What the words of a dump's lines say.
+ghost use Rattle.std.specs.Prelude.{◌≡◌, ◌≤◌, ◌<◌, ◌^◌, ℕ, List, [], length, IfOk, IfSome};
+ghost use Rattle.szg_build.specs.Fronts.{IsFront, said, sub_line};
+ghost use Rattle.szg_build.specs.Grammar.{Word, version_line, name_line, kind_line, end_line, part_line, number_in, number_line, positive, greatest_count, run_line};
+ghost use Rattle.szg_build.specs.Lines.{words_of};
+ghost use Rattle.szg_build.specs.Reading.{Says};
+ghost use Rattle.szg_build.specs.Shown.{form_of};
+
+use crate::dump::DumpFault;
+use crate::word::{hex_bytes, number_of, one_word, two_words};
+use arrayvec::ArrayVec;
+use szg_values::{Kind, Material};
+
+/// The greatest number of values or of a map's items.
+pub(crate) const GREATEST_COUNT: u64 = 0x7fff_ffff_ffff_ffff;
+
+/// The greatest value.
+pub(crate) const GREATEST_ITEM: u64 = 65535;
+
+/// The form of a dump.
+pub(crate) fn form_told(text: &[u8]) -> Result<u8, DumpFault>
+    ensures { Says (said version_line (words_of text.now)) form_of result }
+{
+    let Some(word) = one_word(b"szg-dump ", text) else {
+        return Err(DumpFault::Field);
+    };
+    if word == b"1".as_slice() {
+        return Ok(1);
+    }
+    if word == b"2".as_slice() {
+        return Ok(2);
+    }
+    Err(DumpFault::Version)
+}
+
+/// The material that a name names.
+pub(crate) fn material_told(text: &[u8]) -> Result<Material, DumpFault>
+    ensures { Says (said name_line (words_of text.now)) (λ material. material) result }
+{
+    let Some(word) = one_word(b"name ", text) else {
+        return Err(DumpFault::Field);
+    };
+    let Ok(name) = str::from_utf8(word) else {
+        return Err(DumpFault::Name);
+    };
+    match Material::parse(name) {
+        Ok(material) => Ok(material),
+        Err(_fault) => Err(DumpFault::Name),
+    }
+}
+
+/// The kind of table.
+pub(crate) fn kind_told(text: &[u8]) -> Result<Kind, DumpFault>
+    ensures { Says (said kind_line (words_of text.now)) (λ kind. kind) result }
+{
+    let Some(word) = one_word(b"kind ", text) else {
+        return Err(DumpFault::Field);
+    };
+    if word == b"wdl".as_slice() {
+        return Ok(Kind::Wdl);
+    }
+    if word == b"dtz".as_slice() {
+        return Ok(Kind::Dtz);
+    }
+    Err(DumpFault::Field)
+}
+
+/// The last sixteen bytes.
+pub(crate) fn end_told(text: &[u8]) -> Result<[u8; 16], DumpFault>
+    requires { length text.now ≤ 80 }
+    ensures { Says (said end_line (words_of text.now)) (λ bytes. bytes) result }
+{
+    let Some(word) = one_word(b"end ", text) else {
+        return Err(DumpFault::Field);
+    };
+    let Some(bytes) = hex_bytes(word) else {
+        return Err(DumpFault::Hex);
+    };
+    if bytes.len() != 16 {
+        return Err(DumpFault::Hex);
+    }
+    let mut last = [0; 16];
+    last.copy_from_slice(&bytes);
+    Ok(last)
+}
+
+/// The number of a line of one number.
+pub(crate) fn number_told(front: &[u8], limit: u64, text: &[u8]) -> Result<u64, DumpFault>
+    ensures within { IfOk result (λ number. number ≤ limit) }
+    ensures number { (pattern : List Word) → IsFront pattern front.now → Says (said (number_line pattern limit) (words_of text.now)) (λ n. n) result }
+{
+    let Some(word) = one_word(front, text) else {
+        return Err(DumpFault::Field);
+    };
+    match number_of(word, limit) {
+        Some(number) => Ok(number),
+        None => Err(DumpFault::Number),
+    }
+}
+
+/// Whether a line names this subtable.
+pub(crate) fn place_told(place: (u8, u8), text: &[u8]) -> Result<(), DumpFault>
+    requires part { place.0 < 4 }
+    requires side { place.1 < 2 }
+    ensures { Says (said (sub_line place) (words_of text.now)) (λ _. []) result }
+{
+    let line = [b's', b'u', b'b', b' ', b'a' + place.0, b' ', b'0' + place.1];
+    if text == line.as_slice() {
+        Ok(())
+    } else {
+        Err(DumpFault::Field)
+    }
+}
+
+/// The bytes of the order and of the men of a part.
+pub(crate) fn part_told(
+    number: u8,
+    text: &[u8],
+) -> Result<(ArrayVec<u8, 40>, ArrayVec<u8, 40>), DumpFault>
+    requires number { number < 4 }
+    requires short { length text.now ≤ 80 }
+    ensures { Says (said (part_line number) (words_of text.now)) (λ part. record { order = part.0.items; men = part.1.items }) result }
+{
+    let front = [
+        b'p',
+        b'a',
+        b'r',
+        b't',
+        b' ',
+        b'a' + number,
+        b' ',
+        b'o',
+        b'r',
+        b'd',
+        b'e',
+        b'r',
+        b' ',
+    ];
+    let Some((order_word, men_word)) = two_words(&front, b"men ", text) else {
+        return Err(DumpFault::Field);
+    };
+    let Some(order) = hex_bytes(order_word) else {
+        return Err(DumpFault::Hex);
+    };
+    let Some(men) = hex_bytes(men_word) else {
+        return Err(DumpFault::Hex);
+    };
+    Ok((order, men))
+}
+
+/// How many values a run has, and which; no more than are left.
+pub(crate) fn run_told(left: u64, text: &[u8]) -> Result<(u64, u16), DumpFault>
+    ensures run { Says (said (run_line left) (words_of text.now)) (λ run. run) result }
+    ensures some { IfOk result (λ run. 0 < run.0) }
+    ensures within { IfOk result (λ run. run.0 ≤ left) }
+{
+    let Some((count_word, value_word)) = two_words(b"", b"", text) else {
+        return Err(DumpFault::Field);
+    };
+    let Some(count) = positive_of(count_word) else {
+        return Err(DumpFault::Number);
+    };
+    let Some(value) = number_of(value_word, GREATEST_ITEM) else {
+        return Err(DumpFault::Number);
+    };
+    if count > left {
+        return Err(DumpFault::Run);
+    }
+    Ok((count, value as u16))
+}
+
+/// A count that isn't 0.
+fn positive_of(word: &[u8]) -> Option<u64>
+    ensures value { result ≡ positive (number_in greatest_count word.now) }
+    ensures some { IfSome result (λ count. 0 < count) }
+{
+    let Some(count) = number_of(word, GREATEST_COUNT) else {
+        return None;
+    };
+    if count == 0 {
+        return None;
+    }
+    Some(count)
+}

@@ -1,0 +1,78 @@
+//! A subtable of its values: a constant one, or one of blocks.
+ghost use Rattle.std.specs.Prelude.{◌≡◌, ◌<◌, ◌≤◌, ◌^◌, length, replicate, false, true, IfNone, IfOk, IfSome};
+ghost use Rattle.std.specs.List.{AllByRecursion};
+ghost use Rattle.szg_file.specs.Held.{subtable_of};
+ghost use Rattle.szg_file.specs.Values.{constant_value};
+ghost use Rattle.szg_build.specs.Building.{IsBuiltSub};
+ghost use Rattle.szg_build.specs.Plan.{different_values, greatest_value};
+
+use crate::building::{Packing, build_pairs};
+use std::alloc::{AllocError, Global};
+use szg_block::Sub;
+use szg_values::Kind;
+
+/// The highest bit of a flags byte: set in a constant subtable and no other.
+const CONSTANT: u8 = 128;
+
+/// Whether all values are this one.
+fn are_all(values: &[u16], one: u16) -> bool
+    ensures same { result ≡ true → values.now ≡ replicate (length values.now) one }
+    ensures some { result ≡ false → 0 < length values.now }
+{
+    for value in values {
+        if *value != one {
+            return false;
+        }
+    }
+    true
+}
+
+/// The byte of the constant subtable that a list makes: in WDL where it has one value alone, in DTZ where it has zeros.
+/// A list without values makes one, too.
+fn constant_byte(kind: Kind, values: &[u16]) -> Option<u8>
+    requires small { AllByRecursion (λ v. v ≤ greatest_value kind) values.now }
+    ensures same { IfSome result (λ byte. values.now ≡ replicate (length values.now) (constant_value kind byte)) }
+    ensures some { IfNone result (0 < length values.now) }
+{
+    match kind {
+        Kind::Wdl => {
+            let Some(first) = values.first() else {
+                return Some(0);
+            };
+            if *first < 256 && are_all(values, *first) {
+                Some(*first as u8)
+            } else {
+                None
+            }
+        }
+        Kind::Dtz => if are_all(values, 0) { Some(0) } else { None },
+    }
+}
+
+/// The subtable of a list of values, with the plan's flags (0 in WDL).
+pub(crate) fn build_sub(
+    alloc: Global,
+    kind: Kind,
+    values: &[u16],
+    flags: u8,
+    packing: Packing,
+) -> Result<Sub, AllocError>
+    requires few { length values.now < 2 ^ 33 }
+    requires small { AllByRecursion (λ v. v ≤ greatest_value kind) values.now }
+    requires different { length (different_values values.now) ≤ 4095 }
+    requires flags { flags < 32 }
+    requires least_block { 5 ≤ packing.block_bits }
+    requires most_block { packing.block_bits ≤ 10 }
+    requires least_span { 1 ≤ packing.span_bits }
+    requires most_span { packing.span_bits ≤ 16 }
+    requires rounds { packing.rounds ≤ 4000 }
+    ensures { IfOk result (λ sub. IsBuiltSub kind flags values.now packing.block_bits packing.span_bits packing.rounds (subtable_of sub)) }
+{
+    if let Some(byte) = constant_byte(kind, values) {
+        return Ok(Sub::Constant {
+            flags: flags + CONSTANT,
+            byte,
+        });
+    }
+    build_pairs(alloc, values, flags, packing)
+}

@@ -1,0 +1,199 @@
+//! A table of a plan and of lists of values.
+ghost use Rattle.std.specs.Prelude.{◌≡◌, ◌<◌, not, length, map, option_map, slice_index, Err, IfOk, IfErr, MatchOption};
+ghost use Rattle.std.specs.List.{AllByRecursion};
+ghost use Rattle.szg_values.specs.Material.{has_pawns, is_symmetric};
+ghost use Rattle.szg_file.specs.Accepted.{AreNumbers, AreBytes, IsAccepted};
+ghost use Rattle.szg_file.specs.Assembled.{fields_shown};
+ghost use Rattle.szg_file.specs.Contents.{has_bit};
+ghost use Rattle.szg_file.specs.Held.{map_of, part_of, subtable_of};
+ghost use Rattle.szg_build.specs.Built.{IsBuilt};
+ghost use Rattle.szg_build.specs.Plan.{build_fault};
+ghost use Rattle.szg_build.specs.Shown.{plan_seen};
+ghost use Rattle.szg_build.specs.Tabling.{AreBuilt, IsBuildable, IsBuiltBare, IsInRange, IsOfBytes, IsOfItems, Stands};
+
+use crate::blocks::pad;
+use crate::building::Packing;
+use crate::copies::{copy_maps, copy_material, copy_parts};
+use crate::refusing::first_fault;
+use crate::subtables::build_sub;
+use crate::{BuildFault, Plan};
+use std::alloc::{AllocError, Global};
+use szg_block::Sub;
+use szg_file::{Fields, Map, PartBytes, Table, subtable_sizes};
+use szg_values::Material;
+
+// ---- what types say
+
+/// Bytes are below 256. It does nothing.
+pub(crate) fn bytes_fit(list: &[u8])
+    ensures { AreNumbers 1 list.now }
+{}
+
+/// Numbers of two bytes fit them. It does nothing.
+fn words_fit(list: &[u16])
+    ensures { AreNumbers 2 list.now }
+{}
+
+/// The sixteen bytes at the end, as they are: they are bytes.
+fn end_bytes(last: &[u8; 16]) -> [u8; 16]
+    ensures last { result ≡ last.now }
+    ensures bytes { AreBytes 16 last.now }
+{
+    bytes_fit(last);
+    *last
+}
+
+/// The numbers of parts are bytes.
+pub(crate) fn parts_fit(parts: &[PartBytes])
+    ensures { AllByRecursion IsOfBytes (map part_of parts.now) }
+{
+    'parts: for part in parts {
+        bytes_fit(&part.order);
+        bytes_fit(&part.men);
+    }
+}
+
+fn short_lists_fit(lists: &[Vec<u8>])
+    ensures { AllByRecursion (AreNumbers 1) (map (λ list. list.items) lists.now) }
+{
+    'lists: for list in lists {
+        bytes_fit(list);
+    }
+}
+
+fn wide_lists_fit(lists: &[Vec<u16>])
+    ensures { AllByRecursion (AreNumbers 2) (map (λ list. list.items) lists.now) }
+{
+    'lists: for list in lists {
+        words_fit(list);
+    }
+}
+
+/// The items of a map's lists fit their width.
+fn item_fits(item: &Option<Map>)
+    ensures { IsOfItems (option_map map_of item.now) }
+{
+    match item {
+        None => {}
+        Some(Map::Bytes(lists)) => short_lists_fit(lists),
+        Some(Map::Wide(lists)) => wide_lists_fit(lists),
+    }
+}
+
+/// The items of maps fit their widths.
+fn maps_fit(maps: &[Option<Map>])
+    ensures { AllByRecursion IsOfItems (map (option_map map_of) maps.now) }
+{
+    'maps: for item in maps {
+        item_fits(item);
+    }
+}
+
+// ---- the table
+
+/// Byte 4: bit 0 where the material isn't symmetric, bit 1 where it has pawns.
+fn byte4_of(material: &Material) -> u8
+    ensures split { has_bit 0 result ≡ not (is_symmetric material.now) }
+    ensures pawns { has_bit 1 result ≡ has_pawns material.now }
+{
+    match (material.symmetric(), material.has_pawns()) {
+        (true, false) => 0,
+        (false, false) => 1,
+        (true, true) => 2,
+        (false, true) => 3,
+    }
+}
+
+/// The flags at a place, 0 behind the last.
+fn flags_at(flags: &[u8], n: usize) -> u8
+    requires { AllByRecursion (λ byte. byte < 32) flags.now }
+    ensures flags { result ≡ slice_index flags.now n }
+    ensures small { result < 32 }
+{
+    if n < flags.len() { flags[n] } else { 0 }
+}
+
+/// The subtables of lists of values.
+fn build_subs(alloc: Global, plan: &Plan, lists: &[&[u16]]) -> Result<Vec<Sub>, AllocError>
+    requires range { IsInRange (plan_seen plan.now) }
+    requires lists { AllByRecursion (IsBuildable plan.now.kind) (map (λ list. list.now) lists.now) }
+    ensures { IfOk result (λ subs. AreBuilt (plan_seen plan.now) plan.now.flags.items (map (λ list. list.now) lists.now) (map subtable_of subs.items)) }
+{
+    let packing = Packing {
+        block_bits: plan.block_bits,
+        span_bits: plan.span_bits,
+        rounds: plan.rounds,
+    };
+    let mut subs = Vec::new(alloc);
+    'lists: for (n, list) in lists.iter().enumerate() {
+        let flags = flags_at(&plan.flags, n);
+        let sub = build_sub(alloc, plan.kind, list, flags, packing)?;
+        subs.push(sub)?;
+    }
+    Ok(subs)
+}
+
+/// All of a table but its fill.
+fn build_fields(alloc: Global, plan: &Plan, lists: &[&[u16]]) -> Result<Fields, AllocError>
+    requires { Stands (plan_seen plan.now) (map (λ list. list.now) lists.now) }
+    ensures { IfOk result (λ fields. IsBuiltBare (plan_seen plan.now) (map (λ list. list.now) lists.now) (fields_shown fields).contents) }
+{
+    maps_fit(&plan.maps);
+    let subs = build_subs(alloc, plan, lists)?;
+    let parts = copy_parts(alloc, &plan.parts)?;
+    let maps = copy_maps(alloc, &plan.maps)?;
+    let last = end_bytes(&plan.last);
+    Ok(Fields {
+        material: copy_material(&plan.material),
+        kind: plan.kind,
+        byte4: byte4_of(&plan.material),
+        parts,
+        subs,
+        maps,
+        fill: Vec::new(alloc),
+        last,
+    })
+}
+
+/// The table of a plan and lists of which nothing is refused.
+fn build_table(alloc: Global, plan: &Plan, lists: &[&[u16]]) -> Result<Table, AllocError>
+    requires { Stands (plan_seen plan.now) (map (λ list. list.now) lists.now) }
+    ensures built { IfOk result (λ t. IsBuilt (plan_seen plan.now) (map (λ list. list.now) lists.now) t.contents) }
+    ensures accepted { IfOk result (λ t. IsAccepted t.contents t.filled) }
+{
+    let mut fields = build_fields(alloc, plan, lists)?;
+    let asked = fields.fill_asked() as usize;
+    let mut fill = Vec::new(alloc);
+    pad(&mut fill, asked)?;
+    fields.fill = fill;
+    Ok(Table::assemble(fields))
+}
+
+/// Builds the table of a plan and of its subtables' values, in their order.
+///
+/// Refuses by the first of these that stands: `Order` (another number of parts, order bytes or men than the material
+/// has, or an order that no file may have), `Bits` (block bits not 5 to 10, span bits not 1 to 16), `Rounds` (above
+/// 4,000), `Count` (another number of lists than of subtables), `Length` (the first list that hasn't its subtable's
+/// size), `Value` (the first with a value above 4, in DTZ above 4,095), `TooManyValues` (the first with more than 4,095
+/// different values), `Map` (in DTZ another number of flags or of maps than of parts, flags above 31, flag 2 without a
+/// map or a map without flag 2, flag 16 on a map of bytes or a wide map without flag 16, or a list too long for its
+/// length field; in WDL any flags or maps at all). Else `Memory` where memory was refused.
+pub fn build(alloc: Global, plan: &Plan, lists: &[&[u16]]) -> Result<Table, BuildFault>
+    ensures refused { MatchOption (build_fault (plan_seen plan.now) (map (λ list. list.now) lists.now))
+        (IfErr result (λ fault. fault ≡ BuildFault.Memory))
+        (λ fault. result ≡ Err fault) }
+    ensures built { IfOk result (λ t. IsBuilt (plan_seen plan.now) (map (λ list. list.now) lists.now) t.contents) }
+    ensures accepted { IfOk result (λ t. IsAccepted t.contents t.filled) }
+{
+    parts_fit(&plan.parts);
+    let Some(sizes) = subtable_sizes(&plan.material, plan.kind, &plan.parts) else {
+        return Err(BuildFault::Order);
+    };
+    if let Some(fault) = first_fault(plan, sizes.as_slice(), lists) {
+        return Err(fault);
+    }
+    match build_table(alloc, plan, lists) {
+        Ok(table) => Ok(table),
+        Err(_failed) => Err(BuildFault::Memory),
+    }
+}

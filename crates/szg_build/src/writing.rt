@@ -1,0 +1,456 @@
+//! Writing the text of a dump, line by line.
+ghost use Rattle.std.specs.Prelude.{◌≡◌, ℕ, ◌+◌, ◌-◌, ◌<◌, ◌≤◌, ◌^◌, ◌⊎◌, [], ◌∷◌, ◌++◌, length, map, take, drop, min, slice_index, codes, Option, Some, option_map, IfErr, OnOk, OnErr};
+ghost use Rattle.std.specs.Fmt.{decimal};
+ghost use Rattle.hex.specs.Hex.{encode_lower};
+ghost use Rattle.szg_io.specs.Device.{HasFailed};
+ghost use Rattle.szg_io.specs.Moved.{Gives};
+ghost use Rattle.szg_values.specs.Material.{name_of};
+ghost use Rattle.szg_file.specs.Contents.{part_numbers};
+ghost use Rattle.szg_file.specs.Held.{part_of, map_of};
+ghost use Rattle.szg_build.specs.Dump.{places_of, subs_of};
+ghost use Rattle.szg_build.specs.Text.{runs_of, line_text, lines_text, kind_word, part_lines, map_list_lines, map_lines, flags_lines, value_lines, values_lines, sub_lines, front_lines, flat_map_beside, dump_lines, dump_text, part_word};
+ghost use Rattle.szg_build.specs.Writing.{Writing};
+ghost use Rattle.szg_build.specs.Shown.{dump_seen, form_of, sub_in, sub_count, subs_seen};
+
+use crate::dump::Dump;
+use crate::outgoing::{Outgoing, flush, put};
+use crate::places::{part_count, places};
+use arrayvec::ArrayVec;
+use itoa::Buffer;
+use szg_file::{Map, PartBytes, WriteFault};
+use szg_io::Output;
+use szg_values::{Kind, Material};
+
+/// A line with its 0A.
+type Line = ArrayVec<u8, 96>;
+
+// ---- lines
+
+/// Adds a piece to a line.
+fn add(line: &mut Line, piece: &[u8])
+    requires { length line.old.items + length piece.now ≤ 96 }
+    ensures { line.new.items ≡ line.old.items ++ piece.now }
+{
+    let Ok(()) = line.try_extend_from_slice(piece) else {
+        unreachable!()
+    };
+}
+
+/// Adds a decimal to a line.
+fn add_number(line: &mut Line, number: u64)
+    requires { length line.old.items ≤ 76 }
+    ensures text { line.new.items ≡ line.old.items ++ decimal number }
+    ensures short { length line.new.items ≤ length line.old.items + 20 }
+{
+    let mut buffer = Buffer::new();
+    let text = buffer.format(number);
+    add(line, text.as_bytes());
+}
+
+/// Puts a line of some words, told with the spaces behind them, and a decimal.
+fn put_number<W: Output>(
+    front: &[u8],
+    number: u64,
+    output: &mut W,
+    outgoing: &mut Outgoing,
+) -> Result<(), WriteFault>
+    requires { length front.now ≤ 16 }
+    ensures { Writing ((front.now ++ decimal number) ++ 10 ∷ []) outgoing.old outgoing.new W.Output output.old output.new result }
+{
+    let mut line = Line::new();
+    add(&mut line, front);
+    add_number(&mut line, number);
+    add(&mut line, b"\n");
+    put(line.as_slice(), output, outgoing)
+}
+
+/// Puts a line of some words, told with the spaces behind them, and two decimals.
+fn put_pair<W: Output>(
+    front: &[u8],
+    first: u64,
+    second: u64,
+    output: &mut W,
+    outgoing: &mut Outgoing,
+) -> Result<(), WriteFault>
+    requires { length front.now ≤ 16 }
+    ensures { Writing ((front.now ++ (decimal first ++ 32 ∷ decimal second)) ++ 10 ∷ []) outgoing.old outgoing.new W.Output output.old output.new result }
+{
+    let mut line = Line::new();
+    add(&mut line, front);
+    add_number(&mut line, first);
+    add(&mut line, b" ");
+    add_number(&mut line, second);
+    add(&mut line, b"\n");
+    put(line.as_slice(), output, outgoing)
+}
+
+/// Puts a line of a word, told with the space behind it, and a word.
+fn put_word<W: Output>(
+    front: &[u8],
+    word: &[u8],
+    output: &mut W,
+    outgoing: &mut Outgoing,
+) -> Result<(), WriteFault>
+    requires front { length front.now ≤ 16 }
+    requires word { length word.now ≤ 32 }
+    ensures { Writing ((front.now ++ word.now) ++ 10 ∷ []) outgoing.old outgoing.new W.Output output.old output.new result }
+{
+    let mut line = Line::new();
+    add(&mut line, front);
+    add(&mut line, word);
+    add(&mut line, b"\n");
+    put(line.as_slice(), output, outgoing)
+}
+
+/// The two lower-case digits of a byte.
+fn digits(byte: u8) -> [u8; 2]
+    ensures { result ≡ encode_lower (byte ∷ []) }
+{
+    let mut digits = [0; 2];
+    let Ok(()) = hex::encode_to_slice([byte], &mut digits) else {
+        unreachable!()
+    };
+    digits
+}
+
+/// Puts bytes as lower-case hexadecimal.
+fn put_hex<W: Output>(
+    bytes: &[u8],
+    output: &mut W,
+    outgoing: &mut Outgoing,
+) -> Result<(), WriteFault>
+    ensures { Writing (encode_lower bytes.now) outgoing.old outgoing.new W.Output output.old output.new result }
+{
+    'bytes: for byte in bytes {
+        put(&digits(*byte), output, outgoing)?;
+    }
+    Ok(())
+}
+
+// ---- values
+
+/// Puts a line for each byte.
+fn put_bytes<W: Output>(
+    list: &[u8],
+    output: &mut W,
+    outgoing: &mut Outgoing,
+) -> Result<(), WriteFault>
+    ensures { Writing (lines_text (map (λ v. decimal v ∷ []) list.now)) outgoing.old outgoing.new W.Output output.old output.new result }
+{
+    'bytes: for byte in list {
+        put_number(b"", u64::from(*byte), output, outgoing)?;
+    }
+    Ok(())
+}
+
+/// Puts a line for each value.
+fn put_values<W: Output>(
+    values: &[u16],
+    output: &mut W,
+    outgoing: &mut Outgoing,
+) -> Result<(), WriteFault>
+    ensures { Writing (lines_text (map (λ v. decimal v ∷ []) values.now)) outgoing.old outgoing.new W.Output output.old output.new result }
+{
+    'values: for value in values {
+        put_number(b"", u64::from(*value), output, outgoing)?;
+    }
+    Ok(())
+}
+
+/// How many values are equal at the beginning.
+fn run_length(values: &[u16]) -> usize
+    requires { 0 < length values.now }
+    ensures some { 0 < result }
+    ensures within { result ≤ length values.now }
+    ensures run { runs_of values.now ≡ (result, slice_index values.now 0) ∷ runs_of (drop result values.now) }
+{
+    'values: for (count, value) in values.iter().enumerate() {
+        if *value != values[0] {
+            return count;
+        }
+    }
+    values.len()
+}
+
+/// Puts a line for each longest run of equal values.
+fn put_runs<W: Output>(
+    values: &[u16],
+    output: &mut W,
+    outgoing: &mut Outgoing,
+) -> Result<(), WriteFault>
+    ensures { Writing (lines_text (map (λ run. decimal run.0 ∷ decimal run.1 ∷ []) (runs_of values.now))) outgoing.old outgoing.new W.Output output.old output.new result }
+{
+    let mut from = 0;
+    'runs: while from < values.len() {
+        let count = run_length(&values[from..]);
+        put_pair(b"", count as u64, u64::from(values[from]), output, outgoing)?;
+        from += count;
+    }
+    Ok(())
+}
+
+/// Puts how many values there are, and the values in this form.
+fn put_list<W: Output>(
+    form: u8,
+    values: &[u16],
+    output: &mut W,
+    outgoing: &mut Outgoing,
+) -> Result<(), WriteFault>
+    ensures { Writing (lines_text (values_lines (form_of form) values.now)) outgoing.old outgoing.new W.Output output.old output.new result }
+{
+    put_number(b"values ", values.len() as u64, output, outgoing)?;
+    if form == 2 {
+        put_runs(values, output, outgoing)
+    } else {
+        put_values(values, output, outgoing)
+    }
+}
+
+// ---- maps
+
+/// Puts list `j` of a map of bytes: how many there are, and a line for each.
+fn put_byte_list<W: Output>(
+    j: usize,
+    list: &[u8],
+    output: &mut W,
+    outgoing: &mut Outgoing,
+) -> Result<(), WriteFault>
+    ensures { Writing (lines_text (map_list_lines j list.now)) outgoing.old outgoing.new W.Output output.old output.new result }
+{
+    put_pair(b"map ", j as u64, list.len() as u64, output, outgoing)?;
+    put_bytes(list, output, outgoing)
+}
+
+/// Puts list `j` of a wide map.
+fn put_wide_list<W: Output>(
+    j: usize,
+    list: &[u16],
+    output: &mut W,
+    outgoing: &mut Outgoing,
+) -> Result<(), WriteFault>
+    ensures { Writing (lines_text (map_list_lines j list.now)) outgoing.old outgoing.new W.Output output.old output.new result }
+{
+    put_pair(b"map ", j as u64, list.len() as u64, output, outgoing)?;
+    put_values(list, output, outgoing)
+}
+
+/// Puts the four lists of a map of bytes.
+fn put_byte_lists<W: Output>(
+    lists: &[Vec<u8>; 4],
+    output: &mut W,
+    outgoing: &mut Outgoing,
+) -> Result<(), WriteFault>
+    ensures { Writing (lines_text (flat_map_beside map_list_lines (0 ∷ 1 ∷ 2 ∷ 3 ∷ []) (map (λ list. list.items) lists.now))) outgoing.old outgoing.new W.Output output.old output.new result }
+{
+    'lists: for j in 0..4 {
+        put_byte_list(j, &lists[j], output, outgoing)?;
+    }
+    Ok(())
+}
+
+/// Puts the four lists of a wide map.
+fn put_wide_lists<W: Output>(
+    lists: &[Vec<u16>; 4],
+    output: &mut W,
+    outgoing: &mut Outgoing,
+) -> Result<(), WriteFault>
+    ensures { Writing (lines_text (flat_map_beside map_list_lines (0 ∷ 1 ∷ 2 ∷ 3 ∷ []) (map (λ list. list.items) lists.now))) outgoing.old outgoing.new W.Output output.old output.new result }
+{
+    'lists: for j in 0..4 {
+        put_wide_list(j, &lists[j], output, outgoing)?;
+    }
+    Ok(())
+}
+
+/// Puts the map of a part, where it has one.
+fn put_map<W: Output>(
+    map: &Option<Map>,
+    output: &mut W,
+    outgoing: &mut Outgoing,
+) -> Result<(), WriteFault>
+    ensures { Writing (lines_text (map_lines (option_map map_of map.now))) outgoing.old outgoing.new W.Output output.old output.new result }
+{
+    match map {
+        None => Ok(()),
+        Some(Map::Bytes(lists)) => put_byte_lists(lists, output, outgoing),
+        Some(Map::Wide(lists)) => put_wide_lists(lists, output, outgoing),
+    }
+}
+
+// ---- subtables
+
+/// Puts the line that names a subtable's part and side.
+fn put_place<W: Output>(
+    place: (u8, u8),
+    output: &mut W,
+    outgoing: &mut Outgoing,
+) -> Result<(), WriteFault>
+    requires { place.0 < 4 }
+    ensures { Writing (line_text (codes "sub" ∷ part_word place.0 ∷ decimal place.1 ∷ [])) outgoing.old outgoing.new W.Output output.old output.new result }
+{
+    let front = [b's', b'u', b'b', b' ', b'a' + place.0, b' '];
+    put_number(&front, u64::from(place.1), output, outgoing)
+}
+
+/// Puts the flags and the map of a DTZ table's part; a WDL table has none.
+fn put_flags<W: Output>(
+    dump: &Dump,
+    s: usize,
+    output: &mut W,
+    outgoing: &mut Outgoing,
+) -> Result<(), WriteFault>
+    requires { s < sub_count dump.now }
+    ensures { Writing (lines_text (flags_lines dump.now.kind (sub_in dump.now s))) outgoing.old outgoing.new W.Output output.old output.new result }
+{
+    match dump.kind {
+        Kind::Wdl => Ok(()),
+        Kind::Dtz => {
+            put_number(b"flags ", u64::from(dump.flags[s]), output, outgoing)?;
+            put_map(&dump.maps[s], output, outgoing)
+        }
+    }
+}
+
+/// Puts a subtable.
+fn put_sub<W: Output>(
+    form: u8,
+    dump: &Dump,
+    s: usize,
+    place: (u8, u8),
+    output: &mut W,
+    outgoing: &mut Outgoing,
+) -> Result<(), WriteFault>
+    requires there { s < sub_count dump.now }
+    requires place { place.0 < 4 }
+    ensures { Writing (lines_text (sub_lines (form_of form) dump.now.kind place (sub_in dump.now s))) outgoing.old outgoing.new W.Output output.old output.new result }
+{
+    put_place(place, output, outgoing)?;
+    put_flags(dump, s, output, outgoing)?;
+    put_list(form, &dump.lists[s], output, outgoing)
+}
+
+/// How many subtables a dump tells of.
+fn count_subs(dump: &Dump) -> usize
+    ensures { result ≡ sub_count dump.now }
+{
+    match dump.kind {
+        Kind::Wdl => dump.lists.len(),
+        Kind::Dtz => dump.flags.len().min(dump.maps.len()).min(dump.lists.len()),
+    }
+}
+
+/// Puts the subtables.
+fn put_subs<W: Output>(
+    form: u8,
+    dump: &Dump,
+    output: &mut W,
+    outgoing: &mut Outgoing,
+) -> Result<(), WriteFault>
+    ensures { Writing (lines_text (flat_map_beside (sub_lines (form_of form) dump.now.kind) (places_of dump.now.material dump.now.kind) (subs_seen dump.now))) outgoing.old outgoing.new W.Output output.old output.new result }
+{
+    let places = places(&dump.material, dump.kind);
+    'subs: for s in 0..places.len().min(count_subs(dump)) {
+        put_sub(form, dump, s, places[s], output, outgoing)?;
+    }
+    Ok(())
+}
+
+// ---- the front
+
+/// Puts a part's line.
+fn put_part<W: Output>(
+    number: u8,
+    part: &PartBytes,
+    output: &mut W,
+    outgoing: &mut Outgoing,
+) -> Result<(), WriteFault>
+    requires { number < 4 }
+    ensures { Writing (lines_text (part_lines number (part_of part.now))) outgoing.old outgoing.new W.Output output.old output.new result }
+{
+    put(b"part ", output, outgoing)?;
+    put(&[b'a' + number], output, outgoing)?;
+    put(b" order ", output, outgoing)?;
+    put_hex(&part.order, output, outgoing)?;
+    put(b" men ", output, outgoing)?;
+    put_hex(&part.men, output, outgoing)?;
+    put(b"\n", output, outgoing)
+}
+
+/// Puts the parts.
+fn put_parts<W: Output>(
+    material: &Material,
+    parts: &[PartBytes],
+    output: &mut W,
+    outgoing: &mut Outgoing,
+) -> Result<(), WriteFault>
+    ensures { Writing (lines_text (flat_map_beside part_lines (part_numbers material.now) (map part_of parts.now))) outgoing.old outgoing.new W.Output output.old output.new result }
+{
+    'parts: for number in 0..usize::from(part_count(material)).min(parts.len()) {
+        put_part(number as u8, &parts[number], output, outgoing)?;
+    }
+    Ok(())
+}
+
+/// Puts version, name, kind and the last bytes.
+fn put_front<W: Output>(
+    form: u8,
+    dump: &Dump,
+    output: &mut W,
+    outgoing: &mut Outgoing,
+) -> Result<(), WriteFault>
+    requires { (form ≡ 1) ⊎ (form ≡ 2) }
+    ensures { Writing (lines_text (front_lines (form_of form) dump.now.material dump.now.kind dump.now.last)) outgoing.old outgoing.new W.Output output.old output.new result }
+{
+    put_number(b"szg-dump ", u64::from(form), output, outgoing)?;
+    let name = dump.material.name();
+    put_word(b"name ", name.as_str().as_bytes(), output, outgoing)?;
+    put_word(b"kind ", kind_bytes(dump.kind), output, outgoing)?;
+    put(b"end ", output, outgoing)?;
+    put_hex(&dump.last, output, outgoing)?;
+    put(b"\n", output, outgoing)
+}
+
+/// The word of a kind.
+fn kind_bytes(kind: Kind) -> &'static [u8]
+    ensures word { result.now ≡ kind_word kind }
+    ensures short { length result.now ≡ 3 }
+{
+    match kind {
+        Kind::Wdl => b"wdl",
+        Kind::Dtz => b"dtz",
+    }
+}
+
+// ---- the whole
+
+/// Puts a dump, and holds nothing back.
+fn put_dump<W: Output>(
+    form: u8,
+    dump: &Dump,
+    output: &mut W,
+    outgoing: &mut Outgoing,
+) -> Result<(), WriteFault>
+    requires { (form ≡ 1) ⊎ (form ≡ 2) }
+    ensures text { Writing (dump_text (form_of form) (dump_seen dump.now)) outgoing.old outgoing.new W.Output output.old output.new result }
+    ensures held { OnOk result (outgoing.new.held.items ≡ []) }
+{
+    put_front(form, dump, output, outgoing)?;
+    put_parts(&dump.material, &dump.parts, output, outgoing)?;
+    put_subs(form, dump, output, outgoing)?;
+    flush(output, outgoing)
+}
+
+/// Writes the text of a dump: in form 1 a line for each value, in form 2 a line for each longest run of equal values. Of
+/// a DTZ dump with fewer flags or maps than lists, the last subtables aren't written. It takes no memory. Where the
+/// writer fails, the fault tells how many bytes of the text went out; that number stops at the last value of 64 bits.
+pub fn write_dump<W: Output>(dump: &Dump, form: u8, output: &mut W) -> Result<(), WriteFault>
+    requires { (form ≡ 1) ⊎ (form ≡ 2) }
+    ensures ok { OnOk result (Gives W.Output output.old output.new (dump_text (form_of form) (dump_seen dump.now)) 0) }
+    ensures err { IfErr result (λ fault. (out : ℕ) × (out < length (dump_text (form_of form) (dump_seen dump.now))) × (fault.out ≡ min out (2 ^ 64 - 1))
+        × Gives W.Output output.old output.new (take out (dump_text (form_of form) (dump_seen dump.now))) 1) }
+    ensures failed { OnErr result (HasFailed (W.failures output.old) (W.failures output.new) (W.interrupted output.new)) }
+    ensures quiet { OnOk result (W.failures output.new ≡ W.failures output.old) }
+{
+    let mut outgoing = Outgoing::new();
+    put_dump(form, dump, output, &mut outgoing)
+}

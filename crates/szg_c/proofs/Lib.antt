@@ -1,0 +1,5 @@
+pub mod HandleValues
+pub mod Saying
+pub mod Sizes
+pub mod TooMany
+pub mod Values

@@ -1,0 +1,109 @@
+//! Placements, as C hands them in.
+ghost use Rattle.std.specs.Prelude.{◌≡◌, ◌≤◌, ◌&&◌, IsTrue, length, map, nat_lt};
+ghost use Rattle.std.specs.List.{list_all};
+ghost use Rattle.szg_c.specs.Men.{board_of, color_of as color_told, is_told, man_told, placement_status, standing_of};
+
+use crate::status::{MAN, MEN, PAWN_RANK, SAME_SQUARE};
+use arrayvec::ArrayVec;
+use szg_values::{Color, MAX_MEN, Man, Placement, PlacementFault, Square};
+
+/// A man on a square, by three numbers.
+#[repr(C)]
+#[derive(Clone, Copy)]
+pub struct CodedMan {
+    /// Pawn 1, knight 2, bishop 3, rook 4, queen 5, king 6, as in a file and in python-chess.
+    pub kind: u8,
+    /// White 0, Black 1.
+    pub color: u8,
+    /// a1 = 0, b1 = 1, .. h8 = 63.
+    pub square: u8,
+}
+
+/// The placement of these men with this mover (White 0, Black 1); else the status that tells why there is none, the
+/// first that stands: `MAN` for a number that tells nothing, `MEN`, `SAME_SQUARE`, `PAWN_RANK`.
+#[tactic(auto, unfolding(crate::specs::Men::board_of))]
+pub fn placement_of(men: &[CodedMan], mover: u8) -> Result<Placement, u32>
+    ensures { result ≡ board_of men.now mover }
+{
+    if mover >= 2 || !are_told(men) {
+        return Err(MAN);
+    }
+    if men.len() > MAX_MEN {
+        return Err(MEN);
+    }
+    let standing = standing(men);
+    match Placement::new(standing.as_slice(), color_of(mover)) {
+        Ok(placement) => Ok(placement),
+        Err(fault) => Err(placement_status(fault)),
+    }
+}
+
+/// Whether each man's numbers tell a kind, a colour and a square.
+fn are_told(men: &[CodedMan]) -> bool
+    ensures { result ≡ list_all is_told men.now }
+{
+    men.iter().all(|man| is_told(man))
+}
+
+fn is_told(man: &CodedMan) -> bool
+    ensures { result ≡ is_told man.now }
+{
+    0 < man.kind && man.kind < 7 && man.color < 2 && man.square < 64
+}
+
+/// The men that numbers tell.
+fn standing(men: &[CodedMan]) -> ArrayVec<(Man, Color, Square), MAX_MEN>
+    requires few { length men.now ≤ 6 }
+    requires told { IsTrue (list_all is_told men.now) }
+    ensures { result.items ≡ map standing_of men.now }
+{
+    let mut standing = ArrayVec::new();
+    for man in men {
+        standing.push(standing_of(man));
+    }
+    standing
+}
+
+fn standing_of(man: &CodedMan) -> (Man, Color, Square)
+    requires { IsTrue (is_told man.now) }
+    ensures { result ≡ standing_of man.now }
+{
+    let Some(square) = Square::new(man.square) else {
+        unreachable!()
+    };
+    (kind_of(man.kind), color_of(man.color), square)
+}
+
+fn kind_of(kind: u8) -> Man
+    ensures { result ≡ man_told kind }
+{
+    match kind {
+        1 => Man::Pawn,
+        2 => Man::Knight,
+        3 => Man::Bishop,
+        4 => Man::Rook,
+        5 => Man::Queen,
+        _ => Man::King,
+    }
+}
+
+fn color_of(color: u8) -> Color
+    ensures { result ≡ color_told color }
+{
+    if color == 0 {
+        Color::White
+    } else {
+        Color::Black
+    }
+}
+
+/// The status of a fault of men.
+fn placement_status(fault: PlacementFault) -> u32
+    ensures { result ≡ placement_status fault }
+{
+    match fault {
+        PlacementFault::Men => MEN,
+        PlacementFault::SameSquare => SAME_SQUARE,
+        PlacementFault::PawnRank => PAWN_RANK,
+    }
+}

@@ -1,0 +1,215 @@
+//! Calls on the placements of a table that C holds.
+ghost use Rattle.std.specs.Prelude.{◌≡◌, ℤ, pos, Result, Ok, Err, IfSome, MatchResult};
+ghost use Rattle.std.specs.declared.option.Option.TheVariants.{None, Some};
+ghost use Rattle.szg_c.specs.Men.{board_of};
+ghost use Rattle.szg_c.specs.Places.{IsSpot, is_class, map_status as map_told, number_or_status, outcome_of, outcome_told, place_status as place_told, spot_told};
+ghost use Rattle.szg_c.specs.Telling.{class_or_status, distance_or_status, spot_or_status};
+
+use crate::handle::Handle;
+use crate::men::{CodedMan, placement_of};
+use crate::status::{
+    CLOSED, DONE, DRAW, IRREGULAR, KINGS_TOUCH, NO_CLASS, OTHER_MATERIAL, OUTSIDE_MAP, RANGE,
+    WRONG_SIDE,
+};
+use std::alloc::Global;
+use szg_file::{MapFault, Table};
+use szg_place::{PlaceFault, ProbeFault, Spot, index_of, probe_dtz, probe_wdl};
+use szg_values::{Kind, Placement};
+
+/// Where a table tells of a placement.
+#[repr(C)]
+#[derive(Drop)]
+pub struct FoundSpot {
+    /// The part, 0 to 3.
+    pub part: u8,
+    /// The subtable's side, 0 or 1.
+    pub side: u8,
+    /// The index in the subtable.
+    pub index: u64,
+}
+
+/// Where the table tells of these men with this mover.
+///
+/// Refused are, the first that stands: what is no placement (`MAN`, `MEN`, `SAME_SQUARE`, `PAWN_RANK`), and a placement
+/// for which the table has no index (`OTHER_MATERIAL`, `IRREGULAR`, `KINGS_TOUCH`, `WRONG_SIDE`). Then the spot stays.
+#[unsafe(no_mangle)]
+pub extern "C" fn szg_index(
+    alloc: Global,
+    table: &mut Handle,
+    men: &[CodedMan],
+    mover: u8,
+    spot: &mut FoundSpot,
+) -> u32
+    ensures kept { table.new.value ≡ table.old.value }
+    ensures closed { table.old.value ≡ None → (result ≡ 5) × (spot.new ≡ spot.old) }
+    ensures told { IfSome table.old.value (λ t. MatchResult (spot_told t.contents (board_of men.now mover)) (λ found. (result ≡ 0) × IsSpot spot.new found) (λ status. (result ≡ status) × (spot.new ≡ spot.old))) }
+{
+    let Some(held) = table.take(alloc) else {
+        return CLOSED;
+    };
+    let told = spot_in(held.table(), men, mover);
+    table.put(held);
+    match told {
+        Ok(found) => {
+            spot.part = found.part;
+            spot.side = found.side;
+            spot.index = found.index;
+            DONE
+        }
+        Err(status) => status,
+    }
+}
+
+/// Where a table tells of men, else a status.
+fn spot_in(table: &Table, men: &[CodedMan], mover: u8) -> Result<Spot, u32>
+    ensures { result ≡ spot_told table.now.contents (board_of men.now mover) }
+{
+    match placement_of(men, mover) {
+        Ok(placement) => spot_of(table, &placement),
+        Err(status) => Err(status),
+    }
+}
+
+fn spot_of(table: &Table, placement: &Placement) -> Result<Spot, u32>
+    ensures { result ≡ spot_told table.now.contents (Ok placement.now) }
+{
+    spot_or_status(index_of(table, placement))
+}
+
+fn spot_or_status(told: Result<Spot, PlaceFault>) -> Result<Spot, u32>
+    ensures { result ≡ spot_or_status told }
+{
+    match told {
+        Ok(spot) => Ok(spot),
+        Err(fault) => Err(place_status(fault)),
+    }
+}
+
+/// What the table tells of these men with this mover: a WDL table the class (2, 1, 0, -1, -2), a DTZ table the number
+/// in a class (2 win, 1 cursed win, -1 blessed loss, -2 loss), of which a WDL table isn't asked.
+///
+/// Refused are, the first that stands: what is no placement, as `szg_index` refuses it; in a DTZ table a class below -2
+/// or above 2 (`RANGE`); a placement for which the table has no index, as `szg_index` refuses it; in a WDL table a value
+/// that is no class (`NO_CLASS`), in a DTZ table class 0 (`DRAW`) and a value that the map hasn't (`OUTSIDE_MAP`). Then
+/// the outcome stays.
+#[unsafe(no_mangle)]
+pub extern "C" fn szg_probe(
+    alloc: Global,
+    table: &mut Handle,
+    men: &[CodedMan],
+    mover: u8,
+    class: i8,
+    outcome: &mut i64,
+) -> u32
+    ensures kept { table.new.value ≡ table.old.value }
+    ensures closed { table.old.value ≡ None → (result ≡ 5) × (outcome.new ≡ outcome.old) }
+    ensures told { IfSome table.old.value (λ t. MatchResult (outcome_told t.contents class (board_of men.now mover)) (λ n. (result ≡ 0) × (outcome.new ≡ n)) (λ status. (result ≡ status) × (outcome.new ≡ outcome.old))) }
+{
+    let Some(held) = table.take(alloc) else {
+        return CLOSED;
+    };
+    let told = outcome_in(held.table(), men, mover, class);
+    table.put(held);
+    match told {
+        Ok(number) => {
+            *outcome = number;
+            DONE
+        }
+        Err(status) => status,
+    }
+}
+
+/// What a table tells of men, else a status.
+fn outcome_in(table: &Table, men: &[CodedMan], mover: u8, class: i8) -> Result<i64, u32>
+    ensures { result ≡ outcome_told table.now.contents class (board_of men.now mover) }
+{
+    match placement_of(men, mover) {
+        Ok(placement) => outcome_of(table, &placement, class),
+        Err(status) => Err(status),
+    }
+}
+
+fn outcome_of(table: &Table, placement: &Placement, class: i8) -> Result<i64, u32>
+    ensures { result ≡ outcome_of table.now.contents.kind table.now.contents class placement.now }
+{
+    match table.kind() {
+        Kind::Wdl => class_of(table, placement),
+        Kind::Dtz => distance_of(table, placement, class),
+    }
+}
+
+/// The class that a WDL table tells of a placement.
+fn class_of(table: &Table, placement: &Placement) -> Result<i64, u32>
+    requires { table.now.contents.kind ≡ Kind.Wdl }
+    ensures { result ≡ outcome_of Kind.Wdl table.now.contents (pos 0) placement.now }
+{
+    class_or_status(probe_wdl(table, placement))
+}
+
+fn class_or_status(told: Result<Option<i8>, PlaceFault>) -> Result<i64, u32>
+    ensures { result ≡ class_or_status told }
+{
+    match told {
+        Ok(Some(class)) => Ok(i64::from(class)),
+        Ok(None) => Err(NO_CLASS),
+        Err(fault) => Err(place_status(fault)),
+    }
+}
+
+/// The number that a DTZ table tells of a placement in a class.
+fn distance_of(table: &Table, placement: &Placement, class: i8) -> Result<i64, u32>
+    requires { table.now.contents.kind ≡ Kind.Dtz }
+    ensures { result ≡ outcome_of Kind.Dtz table.now.contents class placement.now }
+{
+    if !is_class(class) {
+        return Err(RANGE);
+    }
+    distance_or_status(probe_dtz(table, placement, class))
+}
+
+fn distance_or_status(told: Result<u32, ProbeFault>) -> Result<i64, u32>
+    ensures { result ≡ distance_or_status told }
+{
+    match told {
+        Ok(number) => Ok(i64::from(number)),
+        Err(ProbeFault::Place(fault)) => Err(place_status(fault)),
+        Err(ProbeFault::Map(fault)) => Err(map_status(fault)),
+    }
+}
+
+/// Whether this is a class, -2 to 2.
+pub fn is_class(class: i8) -> bool
+    ensures { result ≡ is_class class }
+{
+    !(class < -2 || 2 < class)
+}
+
+/// A number of a DTZ value, else the status that refuses it.
+pub fn number_or_status(told: Result<u32, MapFault>) -> Result<u32, u32>
+    ensures { result ≡ number_or_status told }
+{
+    match told {
+        Ok(number) => Ok(number),
+        Err(fault) => Err(map_status(fault)),
+    }
+}
+
+fn place_status(fault: PlaceFault) -> u32
+    ensures { result ≡ place_told fault }
+{
+    match fault {
+        PlaceFault::OtherMaterial => OTHER_MATERIAL,
+        PlaceFault::Irregular => IRREGULAR,
+        PlaceFault::KingsTouch => KINGS_TOUCH,
+        PlaceFault::WrongSide => WRONG_SIDE,
+    }
+}
+
+fn map_status(fault: MapFault) -> u32
+    ensures { result ≡ map_told fault }
+{
+    match fault {
+        MapFault::Draw => DRAW,
+        MapFault::OutsideMap => OUTSIDE_MAP,
+    }
+}

@@ -1,0 +1,49 @@
+use Rattle.std.proofs.Common.{◌≡◌, ℕ, List, refl, sym, ap, subst, ◌∙◌, drop, Some, Option, IsSome}
+use Rattle.szg_values.specs.declared.Kind.{Kind}
+use Rattle.szg_values.specs.Material.{Sides}
+use Rattle.szg_block.specs.Paging.{room_of, source_of}
+use Rattle.szg_file.specs.Contents.{Contents}
+use Rattle.szg_file.specs.File.{file}
+use Rattle.szg_file.specs.Format.{verdict}
+use Rattle.szg_file.specs.Forward.{Forward}
+use Rattle.szg_file.specs.Opened.{IsOpenRefusal}
+use Rattle.szg_file.specs.declared.opened.OpenFault.{OpenFault}
+use Rattle.szg_file.proofs.OpenedLaws.{forward_kept, opened_by, refusal_follows}
+use Rattle.szg_file.proofs.OutlinedLaws.{outlined_by}
+use Rattle.szg_file.proofs.opened.open.Goals as goal
+
+pub invariant_of-result : goal.invariant_of-result
+invariant_of-result g c =
+    let old : Forward = c.new-input.result in
+    let new : Forward = c.read_outline.new.input in
+    let h = c.in-Ok.ensures.outline in
+    let same = ap (g.S.Source.content) c.new.ensures.source ∙ c.into_source.ensures.content in (
+      opened_by c.args.material c.args.kind c.in-Ok.field-0 c.new-front.result c.read_outline.new.front old.place new.place old.content new.content h.bytes
+          (g.S.Source.content (source_of c.new.result)) _ (room_of c.new.result)
+          c.new-front.ensures.place c.new-front.ensures.fill c.new-input.ensures.place h.taken.bytes_moved h.answer.0 c.in-Ok.ensures.slots c.in-Ok.ensures.fits same c.new.ensures.room,
+      outlined_by c.args.material c.args.kind c.in-Ok.field-0 c.new-front.result c.read_outline.new.front old.place new.place old.content new.content h.bytes
+          (g.S.Source.content (source_of c.new.result))
+          c.new-front.ensures.place c.new-front.ensures.fill c.new-input.ensures.place h.taken.bytes_moved h.answer.0 same,
+    )
+
+pub returns-in-Ok-clause-table : goal.returns-in-Ok-clause-table
+returns-in-Ok-clause-table g c =
+    let old : Forward = c.new-input.result in
+    let new : Forward = c.read_outline.new.input in
+    let content : List ℕ = g.S.Source.content c.args.source in
+    let h = c.in-Ok.ensures.outline in
+    let kept : new.content ≡ old.content = forward_kept old.place new.place old.content new.content h.bytes c.new-input.ensures.place h.taken.bytes_gone h.taken.bytes_moved in
+    let opened = opened_by c.args.material c.args.kind c.in-Ok.field-0 c.new-front.result c.read_outline.new.front old.place new.place old.content new.content h.bytes
+    content _ _ c.new-front.ensures.place c.new-front.ensures.fill c.new-input.ensures.place h.taken.bytes_moved h.answer.0 c.in-Ok.ensures.slots c.in-Ok.ensures.fits
+    (sym c.new-input.ensures.content ∙ sym kept) refl in
+    subst (λ (o : Option Contents). IsSome o) (sym opened.there) refl
+
+pub returns-clause-refused : goal.returns-clause-refused
+returns-clause-refused g c =
+    let m : Sides = c.args.material in
+    let k : Kind = c.args.kind in
+    let old : Forward = c.new-input.result in
+    let content : List ℕ = g.S.Source.content c.args.source in
+    let told : Some (drop old.place old.content) ≡ Some content = ap (λ (n : ℕ). Some (drop n old.content)) c.new-input.ensures.place ∙ ap (λ (z : List ℕ). Some z) c.new-input.ensures.content in
+    subst (λ (e : OpenFault). IsOpenRefusal (verdict (file m k) 0 content) e) (sym c.open_fault.ensures)
+    (refusal_follows (file m k) _ c.in-Err.fault content c.new-front.ensures.place told c.in-Err.ensures.outline)

@@ -1,0 +1,93 @@
+use Rattle.std.proofs.Common.{◌≡◌, ◌+◌, ◌++◌, ℕ, List, length, map, sym, ap, ◌∙◌, Ok, Err, arith}
+use Rattle.std.proofs.lemmas.List.{length-append}
+use Rattle.std.proofs.lemmas.Result.{err_from_is_err_and}
+use Rattle.szg_values.specs.declared.Kind.{Kind}
+use Rattle.szg_values.specs.Material.{Sides}
+use Rattle.szg_file.specs.declared.dropping.PlacedSub.{PlacedSub}
+use Rattle.szg_file.specs.Contents.{Subtable, slots}
+use Rattle.szg_file.specs.File.{Begun, begun, file}
+use Rattle.szg_file.specs.Format.{means, ◌>>=◌}
+use Rattle.szg_file.specs.FilePieces.{Opened, opened, opening_field, packed_field, ending_field}
+use Rattle.szg_file.specs.Outline.{outlined}
+use Rattle.szg_file.specs.Placed.{whole_sub}
+use Rattle.szg_file.proofs.PassedBlocks.{stands_at}
+use Rattle.szg_file.proofs.PlacedSubs.{kept_whole, still_fit}
+use Rattle.szg_file.proofs.ReadingLaws.{reads_then, reads_stopped}
+use Rattle.szg_file.proofs.Taken.{reads_equal}
+use Rattle.szg_file.proofs.WholeReads.{reads_made, behind_opening, behind_packed, with_last, pieces_are_file}
+use Rattle.szg_file.proofs.outline.read_outline.Goals as goal
+
+pub returns-in_err-byte4-clause-outline : goal.returns-in_err-byte4-clause-outline
+returns-in_err-byte4-clause-outline g c =
+    let m : Sides = c.args.material.now in
+    let k : Kind = c.args.kind in
+    let p = err_from_is_err_and c.from_residual.result c.from_residual.ensures.1 in
+    rw (p.1, p.2)
+    (reads_equal (opening_field m k >>= behind_opening m k) (file m k) _ (Err c.in_err-byte4.field-0.0) (pieces_are_file m k)
+    (reads_stopped (opening_field m k) (behind_opening m k) opened _ c.in_err-byte4.field-0.0 c.in_err-byte4.ensures.opening))
+
+pub outline_subtables-requires-clause-at : goal.outline_subtables-requires-clause-at
+outline_subtables-requires-clause-at g c =
+    let none : length (g.R.Input.moved c.args.input.now) ≡ 0 = ap (λ (z : List ℕ). length z) c.requires.first in
+    stands_at (opening_field c.args.material.now c.args.kind) opened c.in_ok-byte4.field-0 (c.requires.place ∙ sym none) c.in_ok-byte4.ensures.opening
+
+pub returns-in_err-subs-clause-outline : goal.returns-in_err-subs-clause-outline
+returns-in_err-subs-clause-outline g c =
+    let m : Sides = c.args.material.now in
+    let k : Kind = c.args.kind in
+    let o : Opened = opened c.in_ok-byte4.field-0 in
+    let list : List Begun = begun (slots m k o.parts) o.heads in
+    let at : c.in_ok-byte4.field-0.heads.items ≡ list = c.in_ok-byte4.ensures.begun in
+    let p = err_from_is_err_and c.from_residual-in_err-subs.result c.from_residual-in_err-subs.ensures.1 in
+    rw (p.1, p.2)
+    (reads_equal (opening_field m k >>= behind_opening m k) (file m k) _ (Err c.in_err-subs.field-0.0) (pieces_are_file m k)
+    (reads_then (opening_field m k) (behind_opening m k) opened _ c.in_ok-byte4.field-0 c.in_ok-byte4.ensures.opening
+    (reads_stopped (packed_field list) (behind_packed m k o) _ _ c.in_err-subs.field-0.0
+    (reads_equal (packed_field c.in_ok-byte4.field-0.heads.items) (packed_field list) _ (Err c.in_err-subs.field-0.0) (ap packed_field at) c.in_err-subs.ensures.packed))))
+
+pub returns-in_err-last-clause-outline : goal.returns-in_err-last-clause-outline
+returns-in_err-last-clause-outline g c =
+    let m : Sides = c.args.material.now in
+    let k : Kind = c.args.kind in
+    let o : Opened = opened c.in_ok-byte4.field-0 in
+    let list : List Begun = begun (slots m k o.parts) o.heads in
+    let at : c.in_ok-byte4.field-0.heads.items ≡ list = c.in_ok-byte4.ensures.begun in
+    let shown : List Subtable = map (whole_sub (g.R.Input.moved c.outline_subtables.new.input)) c.in_ok-subs.subs.items in
+    let p = err_from_is_err_and c.from_residual-in_err-last.result c.from_residual-in_err-last.ensures.1 in
+    rw (p.1, p.2)
+    (reads_equal (opening_field m k >>= behind_opening m k) (file m k) _ (Err c.in_err-last.field-0.0) (pieces_are_file m k)
+    (reads_then (opening_field m k) (behind_opening m k) opened _ c.in_ok-byte4.field-0 c.in_ok-byte4.ensures.opening
+    (reads_then (packed_field list) (behind_packed m k o) _ _ c.in_ok-subs.subs
+    (reads_equal (packed_field c.in_ok-byte4.field-0.heads.items) (packed_field list) _ (Ok c.in_ok-subs.subs) (ap packed_field at) c.in_ok-subs.ensures.packed)
+    (reads_stopped ending_field (λ last. means (with_last m k o shown last)) (λ last. last) _ c.in_err-last.field-0.0
+    c.in_err-last.ensures.ending))))
+
+pub returns-clause-outline : goal.returns-clause-outline
+returns-clause-outline g c =
+    let m : Sides = c.args.material.now in
+    let k : Kind = c.args.kind in
+    let o : Opened = opened c.in_ok-byte4.field-0 in
+    let list : List Begun = begun (slots m k o.parts) o.heads in
+    let at : c.in_ok-byte4.field-0.heads.items ≡ list = c.in_ok-byte4.ensures.begun in
+    let subs : List PlacedSub = c.in_ok-subs.subs.items in
+    let before : List ℕ = g.R.Input.moved c.outline_subtables.new.input in
+    let behind : List ℕ = g.R.Input.moved c.read_ending.new.input in
+    let bytes : List ℕ = c.in_ok-last.ensures.ending.bytes in
+    let gone : behind ≡ before ++ bytes = c.in_ok-last.ensures.ending.taken.bytes_moved in
+    let kept : map (whole_sub behind) subs ≡ map (whole_sub before) subs =
+    ap (λ (z : List ℕ). map (whole_sub z) subs) gone ∙ kept_whole before bytes _ subs c.in_ok-subs.ensures.fits in
+    reads_equal (opening_field m k >>= behind_opening m k) (file m k) _ (Ok _) (pieces_are_file m k)
+    (reads_then (opening_field m k) (behind_opening m k) opened _ c.in_ok-byte4.field-0 c.in_ok-byte4.ensures.opening
+    (reads_then (packed_field list) (behind_packed m k o) (λ subs. map (whole_sub before) subs.items) _ c.in_ok-subs.subs
+    (reads_equal (packed_field c.in_ok-byte4.field-0.heads.items) (packed_field list) _ (Ok c.in_ok-subs.subs) (ap packed_field at) c.in_ok-subs.ensures.packed)
+    (reads_made ending_field (with_last m k o (map (whole_sub before) subs)) (λ last. last) (outlined m k behind) c.in_ok-last.last _ (ap (λ (l : List Subtable). with_last m k o l c.in_ok-last.last) kept)
+    c.in_ok-last.ensures.ending)))
+
+pub returns-clause-fits : goal.returns-clause-fits
+returns-clause-fits g c =
+    let before : List ℕ = g.R.Input.moved c.outline_subtables.new.input in
+    let behind : List ℕ = g.R.Input.moved c.read_ending.new.input in
+    let bytes : List ℕ = c.in_ok-last.ensures.ending.bytes in
+    let gone : behind ≡ before ++ bytes = c.in_ok-last.ensures.ending.taken.bytes_moved in
+    let more : length behind ≡ length before + length bytes = ap (λ (z : List ℕ). length z) gone ∙ length-append before bytes in
+    still_fit (length before) (length behind) _ _ c.in_ok-subs.subs.items (omega (arith, more)) (omega arith) c.in_ok-subs.ensures.fits

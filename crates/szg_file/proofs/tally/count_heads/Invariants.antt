@@ -1,0 +1,10 @@
+use Rattle.std.proofs.Common.{take}
+use Rattle.std.specs.Prelude.{flat_map}
+use Rattle.szg_file.specs.FileOf.{head_sections}
+use Rattle.szg_file.specs.Held.{subtable_of}
+use Rattle.szg_file.specs.Tally.{Counts}
+use Rattle.szg_file.proofs.tally.count_heads.Given as goal
+
+-- the items so far are counted
+abbrev pub invariant-heads : goal.invariant-heads
+invariant-heads l = Counts (flat_map (λ x. head_sections (subtable_of x)) (take l.sub-index l.subs)) l.initial.tally l.tally

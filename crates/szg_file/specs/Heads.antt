@@ -1,0 +1,31 @@
+-- What is kept of a table without its source.
+use Rattle.std.specs.Prelude.{ℕ, ◌≡◌, ◌<◌, ◌^◌, ◌&&◌, nat_eq, List, length, slice_get, position, Option, option_and_then}
+use Rattle.szg_values.specs.declared.Kind.{Kind}
+use Rattle.szg_values.specs.Material.{Sides}
+use Rattle.szg_file.specs.Contents.{Slot, Subtable}
+use Rattle.szg_file.specs.Opened.{table_in, IsOpened}
+use Rattle.szg_file.specs.Values.{subtable_at}
+use Rattle.szg_file.specs.declared.dropping.PlacedSub.{PlacedSub}
+
+-- its name and kind, the length of the source, and its subtables without their blocks, each with its slot
+pub record Kept : Type 0 where
+  pub material : Sides
+  pub kind : Kind
+  pub length : ℕ
+  pub placed : List Slot
+  pub subs : List PlacedSub
+
+-- they are of the table with whose file these bytes begin
+pub record IsKeptOf (kept : Kept) (content : List ℕ) : Type 0 where
+  pub long : length content ≡ kept.length
+  pub short : kept.length < 2 ^ 64
+  pub room : ℕ
+  pub opened : IsOpened kept.material kept.kind content room kept.placed kept.subs
+
+-- the first slot of this part and side
+abbrev pub slot_at : Kept → ℕ → ℕ → Option Slot
+slot_at kept part side = option_and_then (λ n. slice_get kept.placed n) (position (λ slot. nat_eq slot.part part && nat_eq slot.side side) kept.placed)
+
+-- the subtable of a part and side of the table with whose file the bytes begin
+abbrev pub kept_at : Kept → List ℕ → ℕ → ℕ → Option (Slot × Subtable)
+kept_at kept content part side = option_and_then (λ t. subtable_at t part side) (table_in kept.material kept.kind content)

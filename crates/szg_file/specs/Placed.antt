@@ -1,0 +1,28 @@
+-- Subtables whose blocks stand elsewhere.
+use Rattle.std.specs.Prelude.{ℕ, ◌+◌, ◌*◌, ◌^◌, ◌≤◌, List, length, drop, IfSome}
+use Rattle.szg_block.specs.Lending.{bytes_at}
+use Rattle.szg_block.specs.Subtable.{layout_of}
+use Rattle.szg_block.specs.declared.Sub.{Sub}
+use Rattle.szg_block.specs.declared.Sub.TheVariants.{Constant, Pairs}
+use Rattle.szg_file.specs.Blocks.{with_blocks}
+use Rattle.szg_file.specs.Contents.{Subtable}
+use Rattle.szg_file.specs.Held.{subtable_of}
+use Rattle.szg_file.specs.declared.dropping.PlacedSub.{PlacedSub}
+
+-- what was moved behind the bytes that had been moved before
+abbrev pub since : List ℕ → List ℕ → List ℕ
+since old new = drop (length old) new
+
+-- how many bytes the blocks of a subtable have
+abbrev pub blocks_size : Sub → ℕ
+blocks_size (Constant flags byte) = 0
+blocks_size (Pairs flags block_bits span_bits extra blocks code dict sparse lengths packed) = blocks * 2 ^ block_bits
+
+-- the subtable whose blocks stand at their place among these bytes
+abbrev pub whole_sub : List ℕ → PlacedSub → Subtable
+whole_sub bytes placed = with_blocks (subtable_of placed.sub) (bytes_at bytes placed.first (blocks_size placed.sub))
+
+-- its blocks end within so many bytes, and there is room for each of them
+pub record Fits (count room : ℕ) (placed : PlacedSub) : Type 0 where
+  pub inside : placed.first + blocks_size placed.sub ≤ count
+  pub roomy : IfSome (layout_of placed.sub) (λ layout. 2 ^ layout.block_bits ≤ room)

@@ -1,0 +1,188 @@
+//! Tables that are put together, not read: their fields, and the table that fields make.
+ghost use Rattle.std.specs.Prelude.{◌≡◌, ◌<◌, ◌^◌, ◌↔◌, IsTrue, map, IfNone, IfSome};
+ghost use Rattle.std.specs.List.{AllByRecursion};
+ghost use Rattle.szg_file.specs.Accepted.{SideBySide, IsPart, IsAccepted};
+ghost use Rattle.szg_file.specs.Assembled.{fields_shown};
+ghost use Rattle.szg_file.specs.Contents.{slots, part_slots, part_numbers, side_numbers};
+ghost use Rattle.szg_file.specs.FileOf.{fill_asked};
+ghost use Rattle.szg_file.specs.Held.{part_of};
+ghost use Rattle.szg_file.specs.Parts.{part_with, slots_with};
+ghost use Rattle.szg_count.specs.Groups as count;
+
+use crate::begun::Slot;
+use crate::parts::{SideSizes, man_count, order_count, part_count, part_sizes, push_slots};
+use crate::passing::{bytes_fit, end_bytes, maps_stand, subs_stand};
+use crate::start::{pawns_as, splits_as};
+use crate::table::{Map, PartBytes, Table};
+use crate::tally::{
+    Tally, count_all_blocks, count_all_lengths, count_heads, count_indexes, count_maps, count_parts,
+};
+use arrayvec::ArrayVec;
+use std::mem::size_of_val;
+use szg_block::Sub;
+use szg_values::{Kind, Material};
+
+/// What a table holds, field by field. Not every such value is a table: `passes` tells which are.
+#[derive(Drop)]
+pub struct Fields {
+    pub material: Material,
+    pub kind: Kind,
+    /// Bit 0 split, bit 1 pawns, all others carried.
+    pub byte4: u8,
+    /// Four parts with pawns, else one.
+    pub parts: Vec<PartBytes>,
+    /// In file order: part by part, side 0 then side 1.
+    pub subs: Vec<Sub>,
+    /// One item a part in DTZ, none in WDL.
+    pub maps: Vec<Option<Map>>,
+    /// As many bytes as `fill_asked` says.
+    pub fill: Vec<u8>,
+    /// Nobody checks them.
+    pub last: [u8; 16],
+}
+
+impl Fields {
+    /// How many fill bytes the file of these fields has: those up to even offsets, up to multiples of 64, and behind
+    /// dictionaries of an odd number of entries. It takes no memory.
+    pub fn fill_asked(&self) -> u64
+        ensures { result ≡ fill_asked (fields_shown self.now).contents }
+    {
+        // the sum fits, since memory holds so few subtables and maps
+        let _held = (
+            size_of_val(self.subs.as_slice()),
+            size_of_val(self.maps.as_slice()),
+        );
+        let mut tally = Tally::new();
+        tally.field(5);
+        count_parts(&self.parts, &mut tally);
+        tally.padding(2);
+        count_heads(&self.subs, &mut tally);
+        count_maps(self.kind, &self.maps, &mut tally);
+        count_indexes(&self.subs, &mut tally);
+        count_all_lengths(&self.subs, &mut tally);
+        count_all_blocks(&self.subs, &mut tally);
+        tally.padding(64);
+        tally.field(16);
+        tally.fill()
+    }
+
+    /// Whether these fields, with this fill, make a table that every check of the format accepts. It takes no memory.
+    pub fn passes(&self) -> bool
+        ensures { IsTrue result ↔ IsAccepted (fields_shown self.now).contents (fields_shown self.now).filled }
+    {
+        let Some(placed) = slots_of(&self.material, self.kind, &self.parts) else {
+            return false;
+        };
+        if !splits_as(&self.material, self.kind, self.byte4)
+            || !pawns_as(&self.material, self.byte4)
+        {
+            return false;
+        }
+        if !subs_stand(placed.as_slice(), &self.subs) {
+            return false;
+        }
+        if !maps_stand(self.kind, &self.subs, &self.maps) {
+            return false;
+        }
+        let last = end_bytes(self.byte4, &self.last);
+        bytes_fit(&last);
+        bytes_fit(&self.fill);
+        self.fill.len() as u64 == self.fill_asked()
+    }
+}
+
+/// The sizes of the sides of a part with these bytes that passes its checks: the bytes are as many as the material asks
+/// for, and each side's order stands.
+fn sizes_of(
+    material: &Material,
+    kind: Kind,
+    number: u8,
+    order: &[u8],
+    men: &[u8],
+) -> Option<SideSizes>
+    requires { count.IsPart material.now number }
+    ensures none { IfNone result (¬ IsPart material.now kind (part_with order.now men.now)) }
+    ensures part { IfSome result (λ sizes. IsPart material.now kind (part_with order.now men.now)) }
+    ensures slots { IfSome result (λ sizes. part_slots material.now (side_numbers material.now kind) number (part_with order.now men.now) ≡ slots_with number sizes.first sizes.second) }
+    ensures fits { IfSome result (λ sizes. (sizes.first < 2 ^ 33) × IfSome sizes.second (λ second. second < 2 ^ 33)) }
+{
+    if order.len() != order_count(material) || men.len() != man_count(material) {
+        return None;
+    }
+    match part_sizes(material, kind, number, 0, order, men) {
+        Ok(sizes) => Some(sizes),
+        Err(_) => None,
+    }
+}
+
+/// The slots of the subtables of parts that pass their checks.
+fn slots_of(material: &Material, kind: Kind, parts: &[PartBytes]) -> Option<ArrayVec<Slot, 8>>
+    ensures none { IfNone result (¬ SideBySide (λ _. IsPart material.now kind) (part_numbers material.now) (map part_of parts.now)) }
+    ensures parts { IfSome result (λ list. SideBySide (λ _. IsPart material.now kind) (part_numbers material.now) (map part_of parts.now)) }
+    ensures slots { IfSome result (λ list. list.items ≡ slots material.now kind (map part_of parts.now)) }
+{
+    if parts.len() != part_count(material) as usize {
+        return None;
+    }
+    let mut list = ArrayVec::new();
+    'parts: for (n, part) in parts.iter().enumerate() {
+        let sizes = sizes_of(material, kind, n as u8, &part.order, &part.men)?;
+        push_slots(&mut list, n as u8, sizes);
+    }
+    Some(list)
+}
+
+/// How many positions each subtable of these parts has, in file order: part by part, side 0 then side 1. `None` where
+/// there is another number of parts, or a part has another number of order bytes or of men than the material asks for,
+/// or an order that no file may have.
+/// It takes no memory.
+pub fn subtable_sizes(
+    material: &Material,
+    kind: Kind,
+    parts: &[PartBytes],
+) -> Option<ArrayVec<u64, 8>>
+    ensures none { IfNone result (¬ SideBySide (λ _. IsPart material.now kind) (part_numbers material.now) (map part_of parts.now)) }
+    ensures parts { IfSome result (λ sizes. SideBySide (λ _. IsPart material.now kind) (part_numbers material.now) (map part_of parts.now)) }
+    ensures sizes { IfSome result (λ sizes. sizes.items ≡ map (λ slot. slot.size) (slots material.now kind (map part_of parts.now))) }
+    ensures fits { IfSome result (λ sizes. AllByRecursion (λ size. size < 2 ^ 33) sizes.items) }
+{
+    let placed = slots_of(material, kind, parts)?;
+    let mut sizes = ArrayVec::new();
+    for slot in placed.as_slice() {
+        sizes.push(slot.size);
+    }
+    Some(sizes)
+}
+
+impl Table {
+    /// The table of fields that pass. It takes no memory.
+    pub fn assemble(fields: Fields) -> Table
+        requires { IsAccepted (fields_shown fields).contents (fields_shown fields).filled }
+        ensures { result ≡ fields_shown fields }
+    {
+        let Some(placed) = slots_of(&fields.material, fields.kind, &fields.parts) else {
+            unreachable!()
+        };
+        let Fields {
+            material,
+            kind,
+            byte4,
+            parts,
+            subs,
+            maps,
+            fill,
+            last,
+        } = fields;
+        Table {
+            material,
+            kind,
+            byte4,
+            parts,
+            placed,
+            subs,
+            maps,
+            filled: fill,
+            last,
+        }
+    }
+}

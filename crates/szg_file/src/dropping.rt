@@ -1,0 +1,187 @@
+//! Blocks that are checked and not kept: of a subtable's blocks only the first one's place is.
+ghost use Rattle.std.specs.Prelude.{◌≡◌, ◌+◌, ◌*◌, ◌≤◌, ◌<◌, ◌^◌, length, map, OnOk, IfOk, IfSome, IsSomeAnd, OnErr, Err};
+ghost use Rattle.std.specs.List.{AllByRecursion};
+ghost use Rattle.szg_code.specs.Acceptance.{IsCode};
+ghost use Rattle.szg_block.specs.Block.{start};
+ghost use Rattle.szg_block.specs.Subtable.{layout_of, IsShapedHead};
+ghost use Rattle.szg_file.specs.File.{each, block_field, blocks_from, blocks_of, blocks_field};
+ghost use Rattle.szg_file.specs.Held.{subtable_of};
+ghost use Rattle.szg_file.specs.Placed.{since, whole_sub, Fits};
+ghost use Rattle.szg_file.specs.Reading.{Reading};
+
+use crate::begun::{Measured, Slot};
+use crate::blocks::{block_bytes, is_constant};
+use crate::fault::{ReadFault, Reason};
+use crate::fields::append;
+use crate::front::Front;
+use crate::taking::{take_field, take_fill};
+use std::alloc::Global;
+use szg_block::{Sub, check_block_from};
+use szg_io::Input;
+
+/// A subtable without its blocks, and the place of the first of them, 0 where there is none.
+#[derive(Drop)]
+pub struct PlacedSub {
+    pub sub: Sub,
+    pub first: u64,
+}
+
+/// Takes the blocks of each subtable that isn't constant, and keeps their places. The buffer grows to the longest block.
+pub fn pass_subs<R: Input>(
+    alloc: Global,
+    list: Vec<Measured>,
+    buffer: &mut Vec<u8>,
+    input: &mut R,
+    front: &mut Front,
+) -> Result<Vec<PlacedSub>, ReadFault>
+    requires place { front.old.place < 2 ^ 60 }
+    requires few { length list.items ≤ 8 }
+    requires paid { front.old.held ≤ 2 * front.old.place + 2 ^ 14 }
+    requires at { front.old.place ≡ length (R.moved input.old) }
+    ensures blocks { Reading (each blocks_field list.items) (λ subs. map (whole_sub (R.moved input.new)) subs.items) front.old front.new R.Input input.old input.new result }
+    ensures fits { IfOk result (λ subs. AllByRecursion (Fits (length (R.moved input.new)) (length buffer.new.items)) subs.items) }
+    ensures place { OnOk result (front.new.place ≤ front.old.place + 2 ^ 55) }
+    ensures held { OnOk result (front.new.held + 2 * front.old.place ≤ front.old.held + 2 * front.new.place + 8) }
+{
+    let mut subs = Vec::new(alloc);
+    'subtables: for measured in list {
+        let sub = pass_sub(alloc, measured, buffer, input, front)?;
+        append(&mut subs, sub, front)?;
+    }
+    Ok(subs)
+}
+
+/// Takes one subtable's blocks.
+fn pass_sub<R: Input>(
+    alloc: Global,
+    measured: Measured,
+    buffer: &mut Vec<u8>,
+    input: &mut R,
+    front: &mut Front,
+) -> Result<PlacedSub, ReadFault>
+    requires place { front.old.place < 2 ^ 60 + 2 ^ 55 }
+    requires paid { front.old.held ≤ 2 * front.old.place + 2 ^ 15 }
+    requires at { front.old.place ≡ length (R.moved input.old) }
+    ensures blocks { Reading (blocks_field measured) (whole_sub (R.moved input.new)) front.old front.new R.Input input.old input.new result }
+    ensures fits { IfOk result (Fits (length (R.moved input.new)) (length buffer.new.items)) }
+    ensures room { OnOk result (length buffer.old.items ≤ length buffer.new.items) }
+    ensures place { OnOk result (front.new.place ≤ front.old.place + 2 ^ 51) }
+    ensures held { OnOk result (front.new.held + 2 * front.old.place ≤ front.old.held + 2 * front.new.place) }
+{
+    let Measured {
+        slot,
+        sub,
+        index: _,
+    } = measured;
+    place_sub(alloc, slot, sub, buffer, input, front)
+}
+
+/// Takes the blocks of a subtable behind their fill, and keeps their place; a constant one has none.
+fn place_sub<R: Input>(
+    alloc: Global,
+    slot: Slot,
+    sub: Sub,
+    buffer: &mut Vec<u8>,
+    input: &mut R,
+    front: &mut Front,
+) -> Result<PlacedSub, ReadFault>
+    requires place { front.old.place < 2 ^ 60 + 2 ^ 55 }
+    requires paid { front.old.held ≤ 2 * front.old.place + 2 ^ 15 }
+    requires at { front.old.place ≡ length (R.moved input.old) }
+    requires shaped { IsShapedHead sub slot.size }
+    ensures blocks { Reading (blocks_of slot (subtable_of sub)) (whole_sub (R.moved input.new)) front.old front.new R.Input input.old input.new result }
+    ensures fits { IfOk result (Fits (length (R.moved input.new)) (length buffer.new.items)) }
+    ensures room { OnOk result (length buffer.old.items ≤ length buffer.new.items) }
+    ensures place { OnOk result (front.new.place ≤ front.old.place + 2 ^ 51) }
+    ensures held { OnOk result (front.new.held + 2 * front.old.place ≤ front.old.held + 2 * front.new.place) }
+{
+    if is_constant(&sub) {
+        return Ok(PlacedSub { sub, first: 0 });
+    }
+    let size = block_bytes(&sub) as usize;
+    make_room(buffer, size)?;
+    take_fill(alloc, 64, input, front)?;
+    let first = front.place;
+    pass_blocks(&mut buffer[..size], &sub, slot.size, input, front)?;
+    Ok(PlacedSub { sub, first })
+}
+
+/// Makes a buffer at least so long.
+fn make_room(buffer: &mut Vec<u8>, size: usize) -> Result<(), ReadFault>
+    ensures room { OnOk result (size ≤ length buffer.new.items) }
+    ensures longer { OnOk result (length buffer.old.items ≤ length buffer.new.items) }
+    ensures memory { OnErr result (result ≡ Err ReadFault.Memory) }
+{
+    if buffer.len() < size && buffer.resize(size, 0).is_err() {
+        return Err(ReadFault::Memory);
+    }
+    Ok(())
+}
+
+/// Takes the blocks of a subtable one after another into a buffer as long as a block, each with its check.
+fn pass_blocks<R: Input>(
+    buffer: &mut [u8],
+    sub: &Sub,
+    size: u64,
+    input: &mut R,
+    front: &mut Front,
+) -> Result<(), ReadFault>
+    requires place { front.old.place < 2 ^ 61 }
+    requires room { IfSome (layout_of sub.now) (λ layout. length buffer.old ≡ 2 ^ layout.block_bits) }
+    requires short { length buffer.old ≤ 2 ^ 18 }
+    requires shaped { IsShapedHead sub.now size }
+    ensures blocks { IfSome (layout_of sub.now) (λ layout. Reading (blocks_from layout size 0 layout.blocks) (λ _. since (R.moved input.old) (R.moved input.new)) front.old front.new R.Input input.old input.new result) }
+    ensures count { IfSome (layout_of sub.now) (λ layout. OnOk result (front.new.place ≡ front.old.place + layout.blocks * 2 ^ layout.block_bits)) }
+    ensures place { OnOk result (front.new.place ≤ front.old.place + 2 ^ 50) }
+    ensures held { OnOk result (front.new.held ≡ front.old.held) }
+{
+    let Sub::Pairs {
+        blocks,
+        code,
+        lengths,
+        ..
+    } = sub
+    else {
+        return Ok(());
+    };
+    // what each block's check stands on: no word of the code begins another
+    let _symbols = code.symbols();
+    let mut before = 0;
+    'each_block: for n in 0..*blocks {
+        pass_block(buffer, sub, size, n, before, input, front)?;
+        before += lengths[n as usize] as u64 + 1;
+    }
+    Ok(())
+}
+
+/// Takes block n, before which so many values stand, into a buffer as long as a block, and checks it there.
+fn pass_block<R: Input>(
+    buffer: &mut [u8],
+    sub: &Sub,
+    size: u64,
+    n: u32,
+    before: u64,
+    input: &mut R,
+    front: &mut Front,
+) -> Result<(), ReadFault>
+    requires place { front.old.place < 2 ^ 61 + 2 ^ 50 }
+    requires room { IfSome (layout_of sub.now) (λ layout. length buffer.old ≡ 2 ^ layout.block_bits) }
+    requires short { length buffer.old ≤ 2 ^ 18 }
+    requires shaped { IsShapedHead sub.now size }
+    requires code { IfSome (layout_of sub.now) (λ layout. IsCode layout.code) }
+    requires there { IsSomeAnd (layout_of sub.now) (λ layout. n < layout.blocks) }
+    requires before { IsSomeAnd (layout_of sub.now) (λ layout. before ≡ start layout.lengths n) }
+    ensures block { IfSome (layout_of sub.now) (λ layout. Reading (block_field layout size n) (λ _. since (R.moved input.old) (R.moved input.new)) front.old front.new R.Input input.old input.new result) }
+    ensures place { OnOk result (front.new.place ≡ front.old.place + length buffer.old) }
+    ensures held { OnOk result (front.new.held ≡ front.old.held) }
+{
+    let place = front.place;
+    take_field(input, front, buffer)?;
+    match check_block_from(sub, size, n, before, buffer) {
+        Ok(()) => Ok(()),
+        Err(_) => Err(ReadFault::Refused {
+            place,
+            reason: Reason::Word,
+        }),
+    }
+}

@@ -1,0 +1,185 @@
+//! Tables by place: their heads and lengths in memory, their blocks in a source.
+ghost use Rattle.std.specs.Prelude.{◌≡◌, IsSome, IfOk, IfErr};
+ghost use Rattle.szg_block.specs.Lending.{Rose};
+ghost use Rattle.szg_file.specs.File.{file};
+ghost use Rattle.szg_file.specs.Format.{verdict};
+ghost use Rattle.szg_file.specs.Opened.{table_in, opened_fault, IsOpenRefusal};
+
+use crate::begun::Slot;
+use crate::blocks::{block_bytes, block_count};
+use crate::dropping::PlacedSub;
+use crate::fault::{ReadFault, Reason};
+use crate::forward::Forward;
+use crate::front::Front;
+use crate::lookup::{constant_value, slot_number};
+use crate::outline::{Outline, read_outline};
+use crate::table::{Map, PartBytes};
+use arrayvec::ArrayVec;
+use std::alloc::Global;
+use std::marker::Model;
+use szg_block::{Paged, Source, SourceFault, look_up};
+use szg_values::{Kind, Material};
+
+/// Why a table isn't opened.
+#[derive(Debug, Clone, Copy, PartialEq, Eq, Drop)]
+pub enum OpenFault {
+    /// The first check that fails, and its place.
+    Refused { place: u64, reason: Reason },
+    /// The source failed.
+    Source,
+    /// Memory was refused.
+    Memory,
+}
+
+/// A table that every check of the format accepts, whose blocks are read from a source when they are asked for.
+#[derive(Drop)]
+pub struct Opened<S: Source + Drop> {
+    pub(crate) material: Material,
+    pub(crate) kind: Kind,
+    pub(crate) parts: Vec<PartBytes>,
+    // the subtables' slots, in file order
+    pub(crate) placed: ArrayVec<Slot, 8>,
+    pub(crate) subs: Vec<PlacedSub>,
+    pub(crate) maps: Vec<Option<Map>>,
+    pub(crate) blocks: Paged<S>,
+}
+
+impl<S: Source + Drop> Model for Opened<S> {
+    ghost use Rattle.std.specs.Prelude.{map, option_map};
+    ghost use Rattle.szg_block.specs.Paging.{source_of, room_of};
+    ghost use Rattle.szg_file.specs.Held.{part_of, map_of};
+    ghost use Rattle.szg_file.specs.Opened.{Opened, IsOpened, IsOutlined};
+
+    ghost Value = { Opened };
+
+    ghost view = { λ o. record {
+      material = o.material;
+      kind = o.kind;
+      content = S.content (source_of o.blocks);
+      failed = S.failed (source_of o.blocks);
+      asked = S.asked (source_of o.blocks);
+    } };
+
+    ghost invariant = { λ o. IsOpened o.material o.kind (S.content (source_of o.blocks)) (room_of o.blocks) o.placed.items o.subs.items
+        × IsOutlined o.material o.kind (S.content (source_of o.blocks)) (map part_of o.parts.items) (map (option_map map_of) o.maps.items) };
+}
+
+impl<S: Source + Drop> Opened<S> {
+    ghost use Rattle.std.specs.Prelude.{◌≡◌, ◌<◌, IsSome, IfOk, IfSome, Some, option_map};
+    ghost use Rattle.szg_block.specs.Lending.{failed_after};
+    ghost use Rattle.szg_file.specs.Opened.{opened_at, asked_after};
+    ghost use Rattle.szg_file.specs.Values.{values_of, item};
+
+    /// The number of positions of a part's side, where there is one.
+    pub fn size(&self, part: u8, side: u8) -> Option<u64>
+        ensures { result ≡ option_map (λ found. found.0.size) (opened_at self.now part side) }
+    {
+        let placed = self.placed.as_slice();
+        let n = slot_number(placed, part, side)?;
+        let slot = placed[n];
+        Some(slot.size)
+    }
+
+    /// The source.
+    pub fn source(&self) -> &S
+        ensures content { S.content result.now ≡ self.now.content }
+        ensures failed { S.failed result.now ≡ self.now.failed }
+        ensures asked { S.asked result.now ≡ self.now.asked }
+    {
+        self.blocks.source()
+    }
+
+    /// Value i of a part's side. It takes no memory, and asks the source for one block, for none in a constant subtable.
+    ///
+    /// A fault comes only where the source failed; the next call is answered as if there had been none.
+    pub fn get(&mut self, part: u8, side: u8, i: u64) -> Result<u16, SourceFault>
+        requires there { IsSome (opened_at self.old part side) }
+        requires below { IfSome (opened_at self.old part side) (λ found. i < found.0.size) }
+        ensures value { IfOk result (λ value. IfSome (opened_at self.old part side) (λ found. item (values_of self.old.kind found) i ≡ Some value)) }
+        ensures asked { IfSome (opened_at self.old part side) (λ found. self.new.asked ≡ asked_after found.1 self.old.asked) }
+        ensures failed { self.new.failed ≡ failed_after result self.old.failed }
+        ensures material { self.new.material ≡ self.old.material }
+        ensures kind { self.new.kind ≡ self.old.kind }
+        ensures content { self.new.content ≡ self.old.content }
+    {
+        let placed = self.placed.as_slice();
+        let Some(n) = slot_number(placed, part, side) else {
+            unreachable!()
+        };
+        let slot = placed[n];
+        let held = &self.subs[n];
+        let constant = constant_value(self.kind, &held.sub);
+        self.blocks.turn_to(
+            held.first,
+            block_count(&held.sub),
+            block_bytes(&held.sub) as usize,
+        );
+        let (value, _) = look_up(&held.sub, slot.size, constant, i, &mut self.blocks)?;
+        Ok(value)
+    }
+}
+
+/// How many bytes are asked of the source at once while a table is opened.
+const PIECE: usize = 65536;
+
+/// Opens a table of this material and kind over a source: every check of `read` is made of the source's bytes from the
+/// first on, blocks and all, and no block is kept. It asks the source for at most 64 KiB at a time, one piece behind
+/// another. The last piece may reach past the table, but not past the source's end.
+///
+/// The source is handed back with a fault: `Refused` with the place and the reason that `read` tells, `Source` where the
+/// source failed, be it in what a last piece has past the table, `Memory` where memory was refused.
+pub fn open<S: Source + Drop>(
+    alloc: Global,
+    material: Material,
+    kind: Kind,
+    source: S,
+) -> Result<Opened<S>, (OpenFault, S)>
+    ensures table { IfOk result (λ o. IsSome (table_in material kind (S.content source))) }
+    ensures material { IfOk result (λ o. o.material ≡ material) }
+    ensures kind { IfOk result (λ o. o.kind ≡ kind) }
+    ensures content { IfOk result (λ o. o.content ≡ S.content source) }
+    ensures failed { IfOk result (λ o. o.failed ≡ S.failed source) }
+    ensures back { IfErr result (λ e. S.content e.1 ≡ S.content source) }
+    ensures refused { IfErr result (λ e. IsOpenRefusal (verdict (file material kind) 0 (S.content source)) e.0) }
+    ensures quiet { IfErr result (λ e. (e.0 ≡ OpenFault.Source → ⊥) → S.failed e.1 ≡ S.failed source) }
+    ensures fault { IfErr result (λ e. e.0 ≡ OpenFault.Source → Rose (S.failed source) (S.failed e.1)) }
+{
+    let mut piece = Vec::new(alloc);
+    if piece.resize(PIECE, 0).is_err() {
+        return Err((OpenFault::Memory, source));
+    }
+    let mut front = Front::new(alloc);
+    let mut buffer = Vec::new(alloc);
+    let mut input = Forward::new(source, piece);
+    match read_outline(alloc, &material, kind, &mut buffer, &mut input, &mut front) {
+        Ok(
+            Outline {
+                byte4: _,
+                parts,
+                subs,
+                maps,
+                last: _,
+            },
+        ) => Ok(Opened {
+            material,
+            kind,
+            parts: parts.bytes,
+            placed: parts.slots,
+            subs,
+            maps,
+            blocks: Paged::new(input.into_source(), buffer, 0, 0),
+        }),
+        Err(fault) => Err((open_fault(fault), input.into_source())),
+    }
+}
+
+/// What a fault of reading is where a source is opened.
+fn open_fault(fault: ReadFault) -> OpenFault
+    ensures { result ≡ opened_fault fault }
+{
+    match fault {
+        ReadFault::Refused { place, reason } => OpenFault::Refused { place, reason },
+        ReadFault::Device => OpenFault::Source,
+        ReadFault::Memory => OpenFault::Memory,
+    }
+}

@@ -1,0 +1,87 @@
+//! A whole file that is checked, with no block kept.
+ghost use Rattle.std.specs.Prelude.{◌≡◌, ◌+◌, ◌*◌, ◌^◌, ◌≤◌, ◌<◌, [], length, map, IfOk, OnOk};
+ghost use Rattle.std.specs.List.{AllByRecursion};
+ghost use Rattle.szg_file.specs.Contents.{slots};
+ghost use Rattle.szg_file.specs.File.{file};
+ghost use Rattle.szg_file.specs.FilePieces.{packed_field};
+ghost use Rattle.szg_file.specs.Held.{part_of};
+ghost use Rattle.szg_file.specs.Outline.{outlined};
+ghost use Rattle.szg_file.specs.Placed.{whole_sub, Fits};
+ghost use Rattle.szg_file.specs.Reading.{Reading};
+
+use crate::begun::Begun;
+use crate::dropping::{PlacedSub, pass_subs};
+use crate::fault::ReadFault;
+use crate::front::Front;
+use crate::index::{read_indexes, read_lengths};
+use crate::parts::Parts;
+use crate::reading::{Opening, read_ending, read_opening};
+use crate::table::Map;
+use std::alloc::Global;
+use szg_io::Input;
+use szg_values::{Kind, Material};
+
+/// A whole file, but for its name, its fill and its blocks.
+#[derive(Drop)]
+pub struct Outline {
+    pub byte4: u8,
+    pub parts: Parts,
+    pub subs: Vec<PlacedSub>,
+    pub maps: Vec<Option<Map>>,
+    pub last: [u8; 16],
+}
+
+/// Takes the sparse indexes, the lengths and the blocks, and keeps of the blocks their places.
+fn outline_subtables<R: Input>(
+    alloc: Global,
+    heads: Vec<Begun>,
+    buffer: &mut Vec<u8>,
+    input: &mut R,
+    front: &mut Front,
+) -> Result<Vec<PlacedSub>, ReadFault>
+    requires place { front.old.place < 2 ^ 24 }
+    requires paid { front.old.held ≤ 2 * front.old.place + 20 }
+    requires few { length heads.items ≤ 8 }
+    requires at { front.old.place ≡ length (R.moved input.old) }
+    ensures packed { Reading (packed_field heads.items) (λ subs. map (whole_sub (R.moved input.new)) subs.items) front.old front.new R.Input input.old input.new result }
+    ensures fits { IfOk result (λ subs. AllByRecursion (Fits (length (R.moved input.new)) (length buffer.new.items)) subs.items) }
+    ensures place { OnOk result (front.new.place < 2 ^ 56) }
+    ensures held { OnOk result (front.new.held ≤ 2 * front.new.place + 44) }
+{
+    let indexed = read_indexes(alloc, heads, input, front)?;
+    let measured = read_lengths(alloc, indexed, input, front)?;
+    pass_subs(alloc, measured, buffer, input, front)
+}
+
+/// Takes a whole file, each block into the buffer, which grows to the longest.
+pub fn read_outline<R: Input>(
+    alloc: Global,
+    material: &Material,
+    kind: Kind,
+    buffer: &mut Vec<u8>,
+    input: &mut R,
+    front: &mut Front,
+) -> Result<Outline, ReadFault>
+    requires place { front.old.place ≡ 0 }
+    requires held { front.old.held ≡ 0 }
+    requires first { R.moved input.old ≡ [] }
+    ensures outline { Reading (file material.now kind) (outlined material.now kind (R.moved input.new)) front.old front.new R.Input input.old input.new result }
+    ensures slots { IfOk result (λ o. o.parts.slots.items ≡ slots material.now kind (map part_of o.parts.bytes.items)) }
+    ensures fits { IfOk result (λ o. AllByRecursion (Fits (length (R.moved input.new)) (length buffer.new.items)) o.subs.items) }
+{
+    let Opening {
+        byte4,
+        parts,
+        heads,
+        maps,
+    } = read_opening(alloc, material, kind, input, front)?;
+    let subs = outline_subtables(alloc, heads, buffer, input, front)?;
+    let last = read_ending(alloc, input, front)?;
+    Ok(Outline {
+        byte4,
+        parts,
+        subs,
+        maps,
+        last,
+    })
+}

@@ -1,0 +1,228 @@
+//! How many fill bytes the fields of a table ask for: they are counted as they would be written, and nothing is written.
+ghost use Rattle.std.specs.Prelude.{◌≡◌, ◌+◌, ◌<◌, ◌%◌, ◌^◌, [], ◌∷◌, ◌++◌, length, map, flat_map, option_map, Some};
+ghost use Rattle.szg_file.specs.FileOf.{written, padding, spare, part_sections, head_sections, list_sections, map_sections, maps_sections, sparse_sections, lengths_sections, blocks_sections};
+ghost use Rattle.szg_file.specs.Held.{part_of, subtable_of, map_of};
+ghost use Rattle.szg_file.specs.Tally.{Counts};
+
+use crate::table::{Map, PartBytes};
+use szg_block::Sub;
+use szg_pairs::Dict;
+use szg_values::Kind;
+
+/// How far the count has come, both numbers modulo 2^64.
+#[derive(Clone, Copy)]
+pub struct Tally {
+    /// The bytes so far.
+    pub place: u64,
+    /// The fill bytes among them.
+    pub fill: u64,
+}
+
+impl Tally {
+    /// Before the first byte.
+    pub fn new() -> Tally
+        ensures place { result.place ≡ 0 }
+        ensures fill { result.fill ≡ 0 }
+    {
+        Tally { place: 0, fill: 0 }
+    }
+
+    /// The fill bytes so far.
+    pub fn fill(&self) -> u64
+        ensures { result ≡ self.now.fill }
+    {
+        self.fill
+    }
+
+    /// Counts a field of so many bytes.
+    pub fn field(&mut self, count: u64)
+        ensures place { self.new.place ≡ (self.old.place + count) % 2 ^ 64 }
+        ensures fill { self.new.fill ≡ self.old.fill }
+    {
+        self.place = self.place.wrapping_add(count);
+    }
+
+    /// Counts so many fill bytes.
+    pub fn spare(&mut self, count: u64)
+        ensures { Counts (spare count ∷ []) self.old self.new }
+    {
+        self.field(count);
+        self.fill = self.fill.wrapping_add(count);
+    }
+
+    /// Counts the fill up to a multiple of the unit, 2 or 64.
+    pub fn padding(&mut self, unit: u64)
+        requires some { 0 < unit }
+        requires whole { 2 ^ 64 % unit ≡ 0 }
+        ensures { Counts (padding unit ∷ []) self.old self.new }
+    {
+        self.spare((unit - self.place % unit) % unit);
+    }
+}
+
+// ---- parts
+
+fn count_part(part: &PartBytes, tally: &mut Tally)
+    ensures { Counts (part_sections (part_of part.now)) tally.old tally.new }
+{
+    tally.field(part.order.len() as u64);
+    tally.field(part.men.len() as u64);
+}
+
+/// Counts the parts.
+pub fn count_parts(parts: &[PartBytes], tally: &mut Tally)
+    ensures { Counts (flat_map part_sections (map part_of parts.now)) tally.old tally.new }
+{
+    'parts: for part in parts {
+        count_part(part, tally);
+    }
+}
+
+// ---- heads
+
+/// Counts the entries of a dictionary, three bytes each, and the fill byte behind an odd number of them.
+fn count_dictionary(dict: &Dict, tally: &mut Tally)
+    ensures { Counts (written (flat_map (λ entry. entry) dict.now) ∷ spare (length dict.now % 2) ∷ []) tally.old tally.new }
+{
+    'symbols: for symbol in 0..dict.symbols() {
+        tally.field(dict.entry(symbol).len() as u64);
+    }
+    tally.spare((dict.symbols() % 2) as u64);
+}
+
+fn count_head(sub: &Sub, tally: &mut Tally)
+    ensures { Counts (head_sections (subtable_of sub.now)) tally.old tally.new }
+{
+    match sub {
+        Sub::Constant { .. } => tally.field(2),
+        Sub::Pairs { code, dict, .. } => {
+            tally.field(12);
+            tally.field((code.lowest().len() as u64).wrapping_mul(2));
+            count_dictionary(dict, tally);
+        }
+    }
+}
+
+/// Counts the subtables' heads.
+pub fn count_heads(subs: &[Sub], tally: &mut Tally)
+    ensures { Counts (flat_map head_sections (map subtable_of subs.now)) tally.old tally.new }
+{
+    'heads: for sub in subs {
+        count_head(sub, tally);
+    }
+}
+
+// ---- maps
+
+fn count_short_lists(lists: &[Vec<u8>; 4], tally: &mut Tally)
+    ensures { Counts (flat_map (list_sections 1) (map (λ list. list.items) lists.now)) tally.old tally.new }
+{
+    'lists: for list in lists {
+        tally.field(1);
+        tally.field(list.len() as u64);
+    }
+}
+
+fn count_wide_lists(lists: &[Vec<u16>; 4], tally: &mut Tally)
+    ensures { Counts (flat_map (list_sections 2) (map (λ list. list.items) lists.now)) tally.old tally.new }
+{
+    'lists: for list in lists {
+        tally.field(2);
+        tally.field((list.len() as u64).wrapping_mul(2));
+    }
+}
+
+fn count_lists(map: &Map, tally: &mut Tally)
+    ensures { Counts (map_sections (Some (map_of map.now))) tally.old tally.new }
+{
+    match map {
+        Map::Bytes(lists) => count_short_lists(lists, tally),
+        Map::Wide(lists) => {
+            tally.padding(2);
+            count_wide_lists(lists, tally);
+        }
+    }
+}
+
+fn count_map(map: &Option<Map>, tally: &mut Tally)
+    ensures { Counts (map_sections (option_map map_of map.now)) tally.old tally.new }
+{
+    if let Some(map) = map {
+        count_lists(map, tally);
+    }
+}
+
+fn count_each_map(maps: &[Option<Map>], tally: &mut Tally)
+    ensures { Counts (flat_map map_sections (map (option_map map_of) maps.now)) tally.old tally.new }
+{
+    'maps: for map in maps {
+        count_map(map, tally);
+    }
+}
+
+/// Counts the maps of a DTZ table and the fill behind them.
+pub fn count_maps(kind: Kind, maps: &[Option<Map>], tally: &mut Tally)
+    ensures { Counts (maps_sections kind (map (option_map map_of) maps.now)) tally.old tally.new }
+{
+    match kind {
+        Kind::Wdl => {}
+        Kind::Dtz => {
+            count_each_map(maps, tally);
+            tally.padding(2);
+        }
+    }
+}
+
+// ---- sparse indexes, lengths, blocks
+
+fn count_index(sub: &Sub, tally: &mut Tally)
+    ensures { Counts (sparse_sections (subtable_of sub.now)) tally.old tally.new }
+{
+    if let Sub::Pairs { sparse, .. } = sub {
+        tally.field((sparse.len() as u64).wrapping_mul(6));
+    }
+}
+
+/// Counts the subtables' sparse indexes.
+pub fn count_indexes(subs: &[Sub], tally: &mut Tally)
+    ensures { Counts (flat_map sparse_sections (map subtable_of subs.now)) tally.old tally.new }
+{
+    'indexes: for sub in subs {
+        count_index(sub, tally);
+    }
+}
+
+fn count_lengths(sub: &Sub, tally: &mut Tally)
+    ensures { Counts (lengths_sections (subtable_of sub.now)) tally.old tally.new }
+{
+    if let Sub::Pairs { lengths, .. } = sub {
+        tally.field((lengths.len() as u64).wrapping_mul(2));
+    }
+}
+
+/// Counts the lengths of the subtables' blocks.
+pub fn count_all_lengths(subs: &[Sub], tally: &mut Tally)
+    ensures { Counts (flat_map lengths_sections (map subtable_of subs.now)) tally.old tally.new }
+{
+    'lengths: for sub in subs {
+        count_lengths(sub, tally);
+    }
+}
+
+fn count_blocks(sub: &Sub, tally: &mut Tally)
+    ensures { Counts (blocks_sections (subtable_of sub.now)) tally.old tally.new }
+{
+    if let Sub::Pairs { packed, .. } = sub {
+        tally.padding(64);
+        tally.field(packed.len() as u64);
+    }
+}
+
+/// Counts the subtables' blocks.
+pub fn count_all_blocks(subs: &[Sub], tally: &mut Tally)
+    ensures { Counts (flat_map blocks_sections (map subtable_of subs.now)) tally.old tally.new }
+{
+    'packed: for sub in subs {
+        count_blocks(sub, tally);
+    }
+}

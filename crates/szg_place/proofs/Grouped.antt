@@ -1,0 +1,191 @@
+-- The groups that a table's order cuts its men into, as the code walks them.
+use Rattle.std.proofs.Common.{◌≡◌, ℕ, zero, suc, ◌+◌, ◌<◌, ◌≤◌, inl, List, [], ◌∷◌, ◌++◌, length, map, take, drop, get_or, refl, sym, ap, ◌∙◌, subst, Bool, true, arith, length-append}
+use Rattle.std.specs.Prelude.{Some, None, slice_get, ◌==◌}
+use Rattle.std.specs.List.{concat, list_all}
+use Rattle.std.proofs.Math.Bool.{◌&&◌, ◌||◌}
+use Rattle.std.proofs.lemmas.Option.{unwrap_or-slice_get}
+use Rattle.szg_values.specs.Material.{Sides, IsMaterial, has_pawns, count_of}
+use Rattle.szg_count.specs.Leads.{squares_down}
+use Rattle.szg_count.specs.Groups.{Nibbles, counted, groups_of, order_fault, lead_length}
+use Rattle.szg_count.specs.Seen.{groups_told}
+use Rattle.szg_count.specs.declared.Group.{Group}
+use Rattle.szg_count.specs.Laws.{IsIn}
+use Rattle.szg_place.specs.Normal.{Piece, squares_with, lead_squares, squares_by_group}
+use Rattle.szg_place.specs.Spots.{is_regular}
+use Rattle.szg_place.proofs.Spotted.{ordered}
+use Rattle.szg_place.proofs.Codes.{IsRun, later_groups, later_runs, concat-groups}
+use Rattle.szg_place.proofs.Indexing.{group_is, groups_many, groups_are, squares_here, squares_room}
+use Rattle.szg_place.proofs.Slotted.{IsIn-at, run_squares}
+
+pub record IsCut (men : List ℕ) (sets : List (List ℕ)) (i : ℕ) (group : Group) : Type 0 where
+  pub inside : i < length sets
+  pub first : group.first ≡ length (concat (take i sets))
+  pub size : group.length ≡ length (get_or sets i [])
+  pub here : take group.length (drop group.first men) ≡ get_or sets i []
+  pub room : group.first + group.length ≤ length men
+
+pub cut_of : (sides : Sides) (part : ℕ) (n : Nibbles) (i : ℕ) (group : Group) (groups : List Group) → groups ≡ groups_told (counted sides part n) → i < length groups →
+    slice_get groups i ≡ Some group → IsCut n.men (groups_of sides n.men) i group
+cut_of sides part n i group groups e h g =
+    let c = counted sides part n in let sets = groups_of sides n.men in
+    let told = subst (λ (l : List Group). slice_get l i ≡ Some group) e g in
+    let all = groups_many c in let many = ap length e in let same = groups_are sides part n in let count = ap length same in
+    let inside : i < length c.groups = omega (arith, h, all, many) in
+    let there : i < length sets = omega (arith, inside, count) in
+    let is = group_is c i group inside told in
+    let first : group.first ≡ length (concat (take i sets)) = ap (λ (x : Group). x.first) is ∙ ap (λ (l : List (List ℕ)). length (concat (take i l))) same in
+    let size : group.length ≡ length (get_or sets i []) = ap (λ (x : Group). x.length) is ∙ ap length (unwrap_or-slice_get c.groups i []) ∙ ap (λ (l : List (List ℕ)). length (get_or l i [])) same in
+    let whole = concat-groups sides n.men in
+    let room = squares_room sets i there in let long = ap length whole in record {
+      inside = there;
+      first = first;
+      size = size;
+      here = ap (λ (l : List ℕ). take group.length (drop group.first l)) (sym whole) ∙ squares_here sets i group.first group.length there first size;
+      room = omega (arith, room, long, first, size);
+    }
+
+pub told_long : (sides : Sides) (part : ℕ) (n : Nibbles) (groups : List Group) → groups ≡ groups_told (counted sides part n) → length groups ≡ length (groups_of sides n.men)
+told_long sides part n groups e = ap length e ∙ groups_many (counted sides part n) ∙ ap length (groups_are sides part n)
+
+-- there is a lead group
+pub some_group : (sides : Sides) (men : List ℕ) → 0 < length (groups_of sides men)
+unfolding groups_of
+some_group sides men = omega arith
+
+-- ---- regular groups
+
+pub lead_first : (sides : Sides) (men : List ℕ) → get_or (groups_of sides men) 0 [] ≡ take (lead_length sides) men
+unfolding groups_of
+lead_first sides men = refl
+
+pub regular_is : (sides : Sides) (men : List ℕ) →
+    ((has_pawns sides || list_all (λ code. count_of code men == 1) (get_or (groups_of sides men) 0 [])) && list_all (λ group. list_all (λ code. count_of code men == length group) group) (drop 1 (groups_of sides men)))
+    ≡ is_regular sides (groups_of sides men)
+regular_is sides men = split (groups_of sides men) (some_group sides men) (concat-groups sides men) where
+  split : (groups : List (List ℕ)) → 0 < length groups → concat groups ≡ men →
+      ((has_pawns sides || list_all (λ code. count_of code men == 1) (get_or groups 0 [])) && list_all (λ group. list_all (λ code. count_of code men == length group) group) (drop 1 groups))
+      ≡ is_regular sides groups
+  split [] h e = absurd (omega (arith, h))
+  split (lead ∷ groups) h e =
+      ap (λ (l : List ℕ). (has_pawns sides || list_all (λ code. count_of code l == 1) lead) && list_all (λ group. list_all (λ code. count_of code l == length group) group) groups) (sym e)
+
+-- one group more of those that a test passes or not
+pub all_more : (test : List ℕ → Bool) (groups : List (List ℕ)) (i : ℕ) → i < length groups → list_all test (drop i groups) ≡ (test (get_or groups i []) && list_all test (drop (i + 1) groups))
+all_more test [] i h = absurd (omega (arith, h))
+all_more test (group ∷ groups) zero h = refl
+all_more test (group ∷ groups) (suc i) h =
+    let e : suc i + 1 ≡ suc (i + 1) = omega arith in
+    all_more test groups i (omega (arith, h)) ∙ ap (λ n. test (get_or groups i []) && list_all test (drop n (group ∷ groups))) (sym e)
+
+pub all_done : (test : List ℕ → Bool) (groups : List (List ℕ)) (i : ℕ) → length groups ≤ i → list_all test (drop i groups) ≡ true
+all_done test [] zero h = refl
+all_done test [] (suc i) h = refl
+all_done test (group ∷ groups) zero h = absurd (omega (arith, h))
+all_done test (group ∷ groups) (suc i) h = all_done test groups i (omega (arith, h))
+
+-- ---- squares, group after group
+
+concat_at : (sets : List (List ℕ)) (i : ℕ) → i < length sets → 0 < length (get_or sets i []) → IsIn (get_or (concat sets) (length (concat (take i sets))) 0) (get_or sets i [])
+concat_at [] i h s = absurd (omega (arith, h))
+concat_at ([] ∷ sets) zero h s = absurd (omega (arith, s))
+concat_at ((x ∷ set) ∷ sets) zero h s = inl refl
+concat_at (set ∷ sets) (suc i) h s =
+    let more = concat_at sets i (omega (arith, h)) s in
+    let n = length (concat (take i sets)) in
+    subst (λ (m : ℕ). IsIn m (get_or sets i [])) (sym (ap (λ k. get_or (set ++ concat sets) k 0) (length-append set (concat (take i sets))) ∙ behind set (concat sets) n)) more
+  where
+    behind : (xs ys : List ℕ) (n : ℕ) → get_or (xs ++ ys) (length xs + n) 0 ≡ get_or ys n 0
+    behind [] ys n = let e : 0 + n ≡ n = omega arith in ap (λ k. get_or ys k 0) e
+    behind (x ∷ xs) ys n = let e : suc (length xs) + n ≡ suc (length xs + n) = omega arith in ap (λ k. get_or (x ∷ xs ++ ys) k 0) e ∙ behind xs ys n
+
+concat_takes : (sets : List (List ℕ)) (i : ℕ) → i < length sets → concat (take (i + 1) sets) ≡ concat (take i sets) ++ get_or sets i []
+concat_takes [] i h = absurd (omega (arith, h))
+concat_takes (set ∷ sets) zero h = nothing set where
+  nothing : (xs : List ℕ) → xs ++ [] ≡ xs
+  nothing [] = refl
+  nothing (x ∷ xs) = ap (λ l. x ∷ l) (nothing xs)
+concat_takes (set ∷ sets) (suc i) h =
+    let e : suc i + 1 ≡ suc (i + 1) = omega arith in
+    ap (λ n. concat (take n (set ∷ sets))) e ∙ ap (λ l. set ++ l) (concat_takes sets i (omega (arith, h))) ∙ sym (joined set (concat (take i sets)) (get_or sets i []))
+  where
+    joined : (xs ys zs : List ℕ) → xs ++ ys ++ zs ≡ xs ++ (ys ++ zs)
+    joined [] ys zs = refl
+    joined (x ∷ xs) ys zs = ap (λ l. x ∷ l) (joined xs ys zs)
+
+in_tail : (sets : List (List ℕ)) (i : ℕ) → i < length sets → IsIn (get_or sets i []) sets
+in_tail sets i h = IsIn-at sets i [] h
+
+-- what is known of a later group
+pub record IsLater (men : List ℕ) (sets : List (List ℕ)) (groups : List (List ℕ)) (pieces : List Piece) (i : ℕ) (code : ℕ) : Type 0 where
+  pub some : 0 < length (get_or groups i [])
+  pub set : squares_with (code ∷ []) pieces squares_down ≡ get_or sets i []
+  pub more : concat (take (i + 1) sets) ≡ concat (take i sets) ++ get_or sets i []
+  pub room : length (concat (take i sets)) + length (get_or sets i []) ≤ length (concat sets)
+
+pub sets_long : (sides : Sides) (men : List ℕ) (pieces : List Piece) → length (squares_by_group sides (groups_of sides men) pieces) ≡ length (groups_of sides men)
+unfolding squares_by_group
+sets_long sides men pieces = each (groups_of sides men) where
+  mapped : (groups : List (List ℕ)) → length (map (λ group. squares_with group pieces squares_down) groups) ≡ length groups
+  mapped [] = refl
+  mapped (group ∷ groups) = ap suc (mapped groups)
+
+  each : (groups : List (List ℕ)) → length (squares_by_group sides groups pieces) ≡ length groups
+  each [] = refl
+  each (group ∷ groups) = ap suc (mapped groups)
+
+later_set : (sides : Sides) (groups : List (List ℕ)) (pieces : List Piece) (i : ℕ) → 0 < i → i < length groups → get_or (squares_by_group sides groups pieces) i [] ≡ squares_with (get_or groups i []) pieces squares_down
+unfolding squares_by_group
+later_set sides [] pieces i p h = absurd (omega (arith, h))
+later_set sides (lead ∷ groups) pieces zero p h = absurd (omega (arith, p))
+later_set sides (lead ∷ groups) pieces (suc i) p h = mapped groups i (omega (arith, h)) where
+  mapped : (groups : List (List ℕ)) (i : ℕ) → i < length groups → get_or (map (λ group. squares_with group pieces squares_down) groups) i [] ≡ squares_with (get_or groups i []) pieces squares_down
+  mapped [] i h = absurd (omega (arith, h))
+  mapped (group ∷ groups) zero h = refl
+  mapped (group ∷ groups) (suc i) h = mapped groups i (omega (arith, h))
+
+later_run : (sides : Sides) (n : Nibbles) (i : ℕ) → IsMaterial sides → order_fault sides n ≡ None → 0 < i → i < length (groups_of sides n.men) → IsRun (get_or (groups_of sides n.men) i [])
+unfolding groups_of
+later_run sides n zero m o p h = absurd (omega (arith, p))
+later_run sides n (suc i) m o p h = let k = ordered sides n o in
+    later_runs sides n.men m k.pieces k.pawns (get_or (later_groups sides n.men) i []) (in_tail (later_groups sides n.men) i (omega (arith, h)))
+
+some_in : (xs : List ℕ) (x : ℕ) → IsIn x xs → 0 < length xs
+some_in [] x h = absurd h
+some_in (y ∷ ys) x h = omega arith
+
+pub later_of : (sides : Sides) (n : Nibbles) (pieces : List Piece) (i first : ℕ) → IsMaterial sides → order_fault sides n ≡ None → 0 < i → i < length (groups_of sides n.men) →
+    first ≡ length (concat (take i (groups_of sides n.men))) →
+    IsLater n.men (squares_by_group sides (groups_of sides n.men) pieces) (groups_of sides n.men) pieces i (get_or n.men first 0)
+later_of sides n pieces i first m o p h f =
+    let groups = groups_of sides n.men in let sets = squares_by_group sides groups pieces in
+    let group = get_or groups i [] in
+    let run = later_run sides n i m o p h in
+    let some = some_in group run.code run.has in
+    let at : IsIn (get_or n.men first 0) group = subst (λ (l : List ℕ). IsIn (get_or l first 0) group) (concat-groups sides n.men)
+    (subst (λ (k : ℕ). IsIn (get_or (concat groups) k 0) group) (sym f) (concat_at groups i h some)) in
+    let code = run.only (get_or n.men first 0) at in
+    let long = sets_long sides n.men pieces in
+    let there : i < length sets = omega (arith, h, long) in record {
+      some = some;
+      set = run_squares group (get_or n.men first 0) pieces squares_down (λ x. (λ j. run.only x j ∙ sym code, λ e. subst (λ (k : ℕ). IsIn k group) (sym e) at)) ∙ sym (later_set sides groups pieces i p h);
+      more = concat_takes sets i there;
+      room = squares_room sets i there;
+    }
+
+-- before the first later group stands the lead group
+pub lead_squares-first : (sides : Sides) (men : List ℕ) (pieces : List Piece) → concat (take 1 (squares_by_group sides (groups_of sides men) pieces)) ≡ lead_squares sides (take (lead_length sides) men) pieces
+unfolding groups_of squares_by_group
+lead_squares-first sides men pieces = nothing (lead_squares sides (take (lead_length sides) men) pieces) where
+  nothing : (xs : List ℕ) → xs ++ [] ≡ xs
+  nothing [] = refl
+  nothing (x ∷ xs) = ap (λ l. x ∷ l) (nothing xs)
+
+pub takes_all : (sets : List (List ℕ)) (i : ℕ) → length sets ≤ i → take i sets ≡ sets
+takes_all [] zero h = refl
+takes_all [] (suc i) h = refl
+takes_all (set ∷ sets) zero h = absurd (omega (arith, h))
+takes_all (set ∷ sets) (suc i) h = ap (λ l. set ∷ l) (takes_all sets i (omega (arith, h)))
+
+pub lead_first_set : (sides : Sides) (men : List ℕ) (pieces : List Piece) → get_or (squares_by_group sides (groups_of sides men) pieces) 0 [] ≡ lead_squares sides (take (lead_length sides) men) pieces
+unfolding groups_of squares_by_group
+lead_first_set sides men pieces = refl

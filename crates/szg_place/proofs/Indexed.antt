@@ -1,0 +1,406 @@
+-- What the code knows of a placement where it looks for its index.
+use Rattle.std.proofs.Common.{◌≡◌, ℕ, ◌<◌, ◌≤◌, inl, inr, List, [], ◌∷◌, length, map, take, refl, sym, ap, ◌∙◌, subst, Bool, true, false, cond, arith, length-take}
+use Rattle.std.specs.Prelude.{◌==◌, Option, Some, None, IsNone, IfSome, IfOk, IsSomeAnd, Result, Ok, Err, slice_get, slice_index, unwrap_or}
+use Rattle.std.specs.List.{All, concat, list_all}
+use Rattle.std.proofs.lemmas.List.Elements.{All-head, All-tail}
+use Rattle.std.proofs.Math.Bool.{not, ◌&&◌}
+use Rattle.std.proofs.lemmas.Bool.{eq-eqb, and_from}
+use Rattle.szg_values.specs.Men.{is_color}
+use Rattle.szg_values.specs.Material.{Sides, IsMaterial, is_symmetric, has_pawns, man_codes, count_of, is_same_men}
+use Rattle.szg_values.specs.Placement.{Standing, Board, AreOnBoard, placement_fault, material_of}
+use Rattle.szg_values.specs.declared.Color.{Color}
+use Rattle.szg_values.specs.declared.Color.TheVariants.{White}
+use Rattle.szg_count.specs.Leads.{is_touching}
+use Rattle.szg_count.specs.Groups.{IsPart, Nibbles, order_fault, groups_of, lead_length, is_rearrangement, counted}
+use Rattle.szg_count.specs.Laws.{IsIn}
+use Rattle.szg_count.specs.Radix.{index_with}
+use Rattle.szg_count.proofs.Pawns.{peopled, lead_length-fits}
+use Rattle.szg_values.specs.declared.Kind.{Kind}
+use Rattle.szg_file.specs.Contents.{Contents, Part, Slot, Subtable}
+use Rattle.szg_file.specs.File.{flags_of}
+use Rattle.szg_file.specs.Accepted.{IsAccepted}
+use Rattle.szg_file.specs.Values.{subtable_at}
+use Rattle.szg_place.specs.Layout.{Layout, IsLayout, layout_in, is_dtz, nibbles_at, part_count, side_count}
+use Rattle.szg_place.specs.Normal.{Piece, pieces_of, part_of, subtable_side, asked_side, is_exchanged, exchanged_color, chosen_groups, normal_of, normal_pieces, lead_squares, squares_by_group}
+use Rattle.szg_place.specs.Slots.{AreReady}
+use Rattle.szg_place.specs.Spots.{place_fault, is_of_material, is_regular, is_kings_touching, is_wrong_side, spot_of, index_from, places_in_lists, size_at}
+use Rattle.szg_place.specs.Ranks.{EachInList}
+use Rattle.szg_place.specs.Laws.{IsOnBoard, IsAnswered}
+use Rattle.szg_place.specs.Known.{IsKnown, IsAsked, IsFound}
+use Rattle.szg_place.specs.Tables.{numbering_of}
+use Rattle.szg_place.specs.declared.Spot.{Spot}
+use Rattle.szg_place.specs.declared.PlaceFault.{PlaceFault}
+use Rattle.szg_place.specs.declared.PlaceFault.TheVariants as fault
+use Rattle.szg_place.proofs.Spotted.{none_is, ordered, order_none, part_below, side_below}
+use Rattle.szg_place.proofs.Pieces.{IsStood}
+use Rattle.szg_place.proofs.Codes.{rearranged_length, concat-groups}
+use Rattle.szg_place.proofs.Standing.{pieces_stood}
+use Rattle.szg_place.proofs.Normals.{fit, lead_only, in_lists, below_size}
+use Rattle.szg_place.proofs.Indexing.{sets_long, sets_many}
+use Rattle.szg_place.proofs.Grouped.{takes_all, some_group}
+use Rattle.szg_place.proofs.Found.{size_there}
+
+-- ---- the men
+
+all_true : (test : ℕ → Bool) (xs : List ℕ) → ((x : ℕ) → test x ≡ true) → list_all test xs ≡ true
+all_true test [] h = refl
+all_true test (x ∷ xs) h = and_from (test x) (list_all test xs) (h x) (all_true test xs h)
+
+own_men : (codes : List ℕ) → is_rearrangement codes codes ≡ true
+own_men codes = and_from (length codes == length codes) (list_all (λ code. count_of code codes == count_of code codes) codes) (eq-eqb (length codes) (length codes) refl)
+    (all_true (λ code. count_of code codes == count_of code codes) codes (λ code. eq-eqb (count_of code codes) (count_of code codes) refl))
+
+pub stood_first : (sides : Sides) (board : Board) → IsKnown sides board → IsStood sides (man_codes sides) (pieces_of sides board)
+stood_first sides board k = pieces_stood sides (man_codes sides) board k.material k.inside k.placement k.men (own_men (man_codes sides))
+
+pub ready_of : (sides : Sides) (n : Nibbles) (board : Board) → IsKnown sides board → order_fault sides n ≡ None → is_regular sides (groups_of sides n.men) ≡ true →
+    length (pieces_of sides board) ≤ 6 → AreReady sides (take (lead_length sides) n.men) (pieces_of sides board)
+ready_of sides n board k o reg few =
+    let m = k.material in
+    let ok = ordered sides n o in
+    let fits = fit sides n.men m ok.pieces ok.pawns reg in
+    let stood = pieces_stood sides n.men board m k.inside k.placement k.men ok.pieces in
+    let size = fits.lead_size in let lead = lead_length-fits sides m in let p = (peopled sides m).few in record {
+      few = few;
+      few_codes = omega (arith, size, lead, p);
+      some = omega (arith, size, lead);
+      differ = stood.differ;
+      inside = stood.inside;
+      pawns = stood.pawns;
+      single = λ e c i. stood.counts c ∙ fits.single e c i;
+      led = λ e c. lead_only sides n.men m e ok.pawns fits c;
+    }
+
+-- the lead group has all its men
+pub lead_size : (sides : Sides) (n : Nibbles) → IsMaterial sides → order_fault sides n ≡ None → length (take (lead_length sides) n.men) ≡ lead_length sides
+lead_size sides n m o =
+    let ok = ordered sides n o in let lead = lead_length-fits sides m in
+    let len = rearranged_length n.men (man_codes sides) ok.pieces in
+    let t = length-take (lead_length sides) n.men in omega (arith, lead, len, t)
+
+-- all groups together have at most six squares
+pub few_squares : (sides : Sides) (part : ℕ) (n : Nibbles) (sets : List (List ℕ)) → IsMaterial sides → order_fault sides n ≡ None → EachInList sides part [] (groups_of sides n.men) sets → length (concat sets) ≤ 6
+few_squares sides part n sets m o h =
+    let groups = groups_of sides n.men in let ok = ordered sides n o in
+    let many = sets_many sides part [] groups sets h in
+    let long = sets_long sides part [] groups sets (length sets) h in
+    let a = ap (λ (l : List (List ℕ)). length (concat l)) (takes_all sets (length sets) (omega arith)) in
+    let b = ap (λ (l : List (List ℕ)). length (concat l)) (takes_all groups (length sets) (omega (arith, many))) in
+    let c = ap length (concat-groups sides n.men) in
+    let len = rearranged_length n.men (man_codes sides) ok.pieces in let p = (peopled sides m).few in
+    omega (arith, long, a, b, c, len, p)
+
+-- ---- the refusals
+
+pub fault_material : (l : Layout) (board : Board) → is_of_material l.material board ≡ false → place_fault l board ≡ Some fault.OtherMaterial
+unfolding place_fault
+fault_material l board e = rw e refl
+
+pub fault_irregular : (l : Layout) (board : Board) → is_of_material l.material board ≡ true → is_regular l.material (chosen_groups l board) ≡ false → place_fault l board ≡ Some fault.Irregular
+unfolding place_fault
+fault_irregular l board e f = rw (e, f) refl
+
+pub fault_touch : (l : Layout) (board : Board) → is_of_material l.material board ≡ true → is_regular l.material (chosen_groups l board) ≡ true →
+    is_kings_touching l.material (normal_of l board).squares ≡ true → place_fault l board ≡ Some fault.KingsTouch
+unfolding place_fault
+fault_touch l board e f g = rw (e, f, g) refl
+
+pub fault_side : (l : Layout) (board : Board) → is_of_material l.material board ≡ true → is_regular l.material (chosen_groups l board) ≡ true →
+    is_kings_touching l.material (normal_of l board).squares ≡ false → is_wrong_side l (normal_of l board).part (asked_side l.material board) ≡ true → place_fault l board ≡ Some fault.WrongSide
+unfolding place_fault
+fault_side l board e f g h = rw (e, f, g, h) refl
+
+pub fault_none : (l : Layout) (board : Board) → is_of_material l.material board ≡ true → is_regular l.material (chosen_groups l board) ≡ true →
+    is_kings_touching l.material (normal_of l board).squares ≡ false → is_wrong_side l (normal_of l board).part (asked_side l.material board) ≡ false → place_fault l board ≡ None
+unfolding place_fault
+fault_none l board e f g h = rw (e, f, g, h) refl
+
+-- what the contract says of a refusal
+pub refused_is : (A : Type 0) (o : Option PlaceFault) (f : PlaceFault) → o ≡ Some f → IfSome o (λ x. ◌≡◌ {A = Result A PlaceFault} (Err f) (Err x))
+refused_is A None f e = cc
+refused_is A (Some x) f e = let k : f ≡ x = cc in ap (λ y. Err y) k
+
+pub refused_not : {X : Type 0} (o : Option PlaceFault) (f : PlaceFault) → o ≡ Some f → IsNone o → X
+refused_not None f e h = cc
+refused_not (Some x) f e h = cc
+
+pub answered_is : (P : PlaceFault → Type 0) (o : Option PlaceFault) → o ≡ None → IfSome o P
+answered_is P None e = tt
+answered_is P (Some x) e = cc
+
+-- ---- the normal form
+
+-- the lead group of the placement's groups
+pub lead_chosen : (l : Layout) (board : Board) → unwrap_or (slice_get (chosen_groups l board) 0) [] ≡
+    take (lead_length l.material) (nibbles_at l (part_of l.material (pieces_of l.material board)) (subtable_side l board)).men
+unfolding chosen_groups groups_of
+lead_chosen l board = refl
+
+pub squares_normal : (l : Layout) (board : Board) → (normal_of l board).squares ≡
+    squares_by_group l.material (chosen_groups l board) (normal_pieces l.material (unwrap_or (slice_get (chosen_groups l board) 0) []) (pieces_of l.material board))
+unfolding normal_of
+squares_normal l board = refl
+
+pub groups_chosen : (l : Layout) (board : Board) → chosen_groups l board ≡ groups_of l.material (nibbles_at l (part_of l.material (pieces_of l.material board)) (subtable_side l board)).men
+unfolding chosen_groups
+groups_chosen l board = refl
+
+pub part_normal : (l : Layout) (board : Board) → (normal_of l board).part ≡ part_of l.material (pieces_of l.material board)
+unfolding normal_of
+part_normal l board = refl
+
+first_squares : (sides : Sides) (groups : List (List ℕ)) (pieces : List Piece) → 0 < length groups →
+    unwrap_or (slice_get (squares_by_group sides groups pieces) 0) [] ≡ lead_squares sides (unwrap_or (slice_get groups 0) []) pieces
+unfolding squares_by_group
+first_squares sides [] pieces h = absurd (omega (arith, h))
+first_squares sides (lead ∷ groups) pieces h = refl
+
+-- what the code tests of the kings
+pub touching_is : (l : Layout) (board : Board) (lead squares : List ℕ) (pieces : List Piece) → lead ≡ unwrap_or (slice_get (chosen_groups l board) 0) [] →
+    pieces ≡ normal_pieces l.material lead (pieces_of l.material board) → squares ≡ lead_squares l.material lead pieces → 0 < length (chosen_groups l board) →
+    (not (has_pawns l.material) && lead_length l.material == 2 && is_touching (slice_index squares 0) (slice_index squares 1)) ≡ is_kings_touching l.material (normal_of l board).squares
+touching_is l board lead squares pieces e f g h =
+    let sides = l.material in
+    let test : List ℕ → Bool = λ ss. not (has_pawns sides) && lead_length sides == 2 && is_touching (slice_index ss 0) (slice_index ss 1) in
+    let raw = pieces_of sides board in
+    ap test (g ∙ ap (lead_squares sides lead) f ∙ ap (λ (x : List ℕ). lead_squares sides x (normal_pieces sides x raw)) e
+    ∙ sym (first_squares sides (chosen_groups l board) (normal_pieces sides (unwrap_or (slice_get (chosen_groups l board) 0) []) raw) h)
+    ∙ sym (ap (λ (x : List (List ℕ)). unwrap_or (slice_get x 0) []) (squares_normal l board)))
+
+-- the spot
+pub spot_is : (l : Layout) (board : Board) (part side index : ℕ) → part ≡ part_of l.material (pieces_of l.material board) → side ≡ subtable_side l board →
+    index ≡ index_with (places_in_lists l.material part [] (normal_of l board).squares) (counted l.material part (nibbles_at l part side)).factors →
+    (let spot : Spot = record { part = part; side = side; index = index } in spot) ≡ spot_of l board
+unfolding spot_of index_from normal_of
+spot_is l board part side index e f g =
+    let make : ℕ → ℕ → ℕ → Spot = λ p s i. record { part = p; side = s; index = i } in
+    let squares = (normal_of l board).squares in
+    ap (make part side) g
+    ∙ ap (λ (p : ℕ). make p side (index_with (places_in_lists l.material p [] squares) (counted l.material p (nibbles_at l p side)).factors)) e
+    ∙ ap (λ (s : ℕ). let p = part_of l.material (pieces_of l.material board) in make p s (index_with (places_in_lists l.material p [] squares) (counted l.material p (nibbles_at l p s)).factors)) f
+
+-- so the table has a value there
+pub spot_below : (t : Contents) (fill : List ℕ) (board : Board) → IsLayout (numbering_of t) → IsAccepted t fill → IsAnswered (numbering_of t) board →
+    (spot : Spot) → spot ≡ spot_of (numbering_of t) board → IsSomeAnd (subtable_at t spot.part spot.side) (λ found. spot.index < found.0.size)
+unfolding spot_of normal_of
+spot_below t fill board h a answered spot e =
+    let l = numbering_of t in
+    let there = size_there t fill (spot_of l board).part (spot_of l board).side a (part_below l.material (pieces_of l.material board)) (side_below l board) in
+    let below = below_size l board h answered in
+    subst (λ (s : Spot). IsSomeAnd (subtable_at t s.part s.side) (λ found. s.index < found.0.size)) (sym e)
+    (with_size (subtable_at t (spot_of l board).part (spot_of l board).side) (spot_of l board).index (size_at l (spot_of l board).part (spot_of l board).side) there below)
+  where
+    with_size : (o : Option (Slot × Subtable)) (i n : ℕ) → IsSomeAnd o (λ found. found.0.size ≡ n) → i < n → IsSomeAnd o (λ found. i < found.0.size)
+    with_size None i n e h = absurd e
+    with_size (Some x) i n e h = omega (arith, e, h)
+
+-- ---- what the code has found
+
+pub layout_same : (t : Contents) (kind : Kind) (m : Sides) (parts : List Part) (flags : List ℕ) → kind ≡ t.kind → m ≡ t.material → parts ≡ t.parts → flags ≡ map flags_of t.subtables →
+    numbering_of t ≡ layout_in kind m parts flags
+layout_same t kind m parts flags a b c d =
+    ap (λ (k : Kind). layout_in k t.material t.parts (map flags_of t.subtables)) (sym a)
+    ∙ ap (λ (s : Sides). layout_in kind s t.parts (map flags_of t.subtables)) (sym b)
+    ∙ ap (λ (p : List Part). layout_in kind m p (map flags_of t.subtables)) (sym c) ∙ ap (layout_in kind m parts) (sym d)
+
+pub below_answered : (t : Contents) (fill : List ℕ) (board : Board) (result : Result Spot PlaceFault) → IsLayout (numbering_of t) → IsAccepted t fill →
+    (IsNone (place_fault (numbering_of t) board) → result ≡ Ok (spot_of (numbering_of t) board)) → IfOk result (λ _. IsAnswered (numbering_of t) board) →
+    IfOk result (λ spot. IsSomeAnd (subtable_at t spot.part spot.side) (λ found. spot.index < found.0.size))
+below_answered t fill board (Err fault) h a told answered = tt
+below_answered t fill board (Ok spot) h a told answered =
+    let none = none_holds (place_fault (numbering_of t) board) answered.place in
+    let k : ◌≡◌ {A = Result Spot PlaceFault} (Ok spot) (Ok (spot_of (numbering_of t) board)) = told none in
+    spot_below t fill board h a answered spot (cc k)
+  where
+    none_holds : (o : Option PlaceFault) → o ≡ None → IsNone o
+    none_holds None e = refl
+    none_holds (Some x) e = cc
+
+all_in : (xs : List Standing) → All (λ (s : Standing). s.2 < 64) xs → (s : Standing) → IsIn s xs → s.2 < 64
+all_in [] h s i = absurd i
+all_in (x ∷ xs) h s (inl e) = subst (λ (y : Standing). y.2 < 64) (sym e) (All-head (λ (y : Standing). y.2 < 64) x xs h)
+all_in (x ∷ xs) h s (inr i) = all_in xs (All-tail (λ (y : Standing). y.2 < 64) x xs h) s i
+
+pub board_inside : (list : List Standing) (board : Board) → list ≡ board.standing → AreOnBoard list → IsOnBoard board
+board_inside list board e h = all_in board.standing (subst (λ (l : List Standing). AreOnBoard l) e h)
+
+pub known_of : (m : Sides) (board : Board) (list : List Standing) (other : Sides) (same : Bool) → IsMaterial m → IsOnBoard board → list ≡ board.standing → IsNone (placement_fault list) →
+    other ≡ material_of board.standing → same ≡ (is_same_men other.first m.first && is_same_men other.second m.second) → same ≡ true → IsKnown m board
+known_of m board list other same mat inside e h f g found = record {
+  material = mat;
+  inside = inside;
+  placement = none_is (placement_fault board.standing) (subst (λ (s : List Standing). IsNone (placement_fault s)) e h);
+  men = ap (λ (o : Sides). is_same_men o.first m.first && is_same_men o.second m.second) (sym f) ∙ sym g ∙ found;
+}
+
+pub other_men : (m : Sides) (board : Board) (other : Sides) (same : Bool) → other ≡ material_of board.standing → same ≡ (is_same_men other.first m.first && is_same_men other.second m.second) → same ≡ false →
+    is_of_material m board ≡ false
+other_men m board other same f g other' = ap (λ (o : Sides). is_same_men o.first m.first && is_same_men o.second m.second) (sym f) ∙ sym g ∙ other'
+
+pub stood_slice : (m : Sides) (board : Board) (slice items : List Piece) → IsKnown m board → slice ≡ items → items ≡ pieces_of m board → IsStood m (man_codes m) slice
+stood_slice m board slice items k e f = subst (λ (l : List Piece). IsStood m (man_codes m) l) (sym (e ∙ f)) (stood_first m board k)
+
+pub asked_by : (m : Sides) (board : Board) (slice items : List Piece) (part asked : ℕ) (exchanged : Bool) (mover : Color) → IsKnown m board → slice ≡ items → items ≡ pieces_of m board → length items ≤ 6 →
+    exchanged ≡ is_exchanged m board → mover ≡ board.mover → asked ≡ cond (is_color White (exchanged_color exchanged mover)) 0 1 → part ≡ part_of m slice → IsAsked m board items part asked
+asked_by m board slice items part asked exchanged mover k s i few x v a p = record {
+  known = k;
+  pieces_are = i;
+  few = few;
+  part_is = p ∙ ap (part_of m) (s ∙ i);
+  asked_is = a ∙ ap (λ (y : Bool). number (is_color White (exchanged_color y mover))) x ∙ ap (λ (y : Color). number (is_color White (exchanged_color (is_exchanged m board) y))) v;
+}
+  where
+    number : Bool → ℕ
+    number b = cond b 0 1
+
+pub found_asked : (l : Layout) (board : Board) (pieces : List Piece) (part side asked : ℕ) (n : Nibbles) → IsLayout l → IsAsked l.material board pieces part asked → side ≡ cond (is_dtz l.kind) 0 asked →
+    n ≡ nibbles_at l part side → IsFound l board part side asked n
+found_asked l board pieces part side asked n h a b o =
+    let side' : side ≡ subtable_side l board = b ∙ ap (zero_if (is_dtz l.kind)) a.asked_is in record {
+      layout = h;
+      known = a.known;
+      part_is = a.part_is;
+      side_is = side';
+      asked_is = a.asked_is;
+      nibbles = o ∙ ap (λ (y : ℕ). nibbles_at l y side) a.part_is ∙ ap (nibbles_at l (part_of l.material (pieces_of l.material board))) side';
+      at = o;
+    }
+  where
+    zero_if : Bool → ℕ → ℕ
+    zero_if b n = cond b 0 n
+
+-- the part and the side that are asked are there
+pub record IsThere (l : Layout) (part side : ℕ) : Type 0 where
+  pub has_part : part < length l.parts
+  pub is_part : IsPart l.material part
+  pub two : side < 2
+  pub few : length (nibbles_at l part side).men ≤ 6
+  pub ordered : order_fault l.material (nibbles_at l part side) ≡ None
+
+sides_two : (dtz symmetric : Bool) (side : ℕ) → side < cond dtz 1 (cond symmetric 1 2) → side < 2
+sides_two true b side h = omega (arith, h)
+sides_two false true side h = omega (arith, h)
+sides_two false false side h = h
+
+pub few_men : (sides : Sides) (n : Nibbles) → IsMaterial sides → order_fault sides n ≡ None → length n.men ≤ 6
+few_men sides n m o =
+    let ok = ordered sides n o in let len = rearranged_length n.men (man_codes sides) ok.pieces in let p = (peopled sides m).few in omega (arith, len, p)
+
+pub there_of : (l : Layout) (part side : ℕ) → IsLayout l → part < part_count l → side < side_count l → IsThere l part side
+there_of l part side h p s =
+    let many = h.parts in let none = order_none l part side h p s in record {
+      has_part = omega (arith, many, p);
+      is_part = p;
+      two = sides_two (is_dtz l.kind) (is_symmetric l.material) side s;
+      few = few_men l.material (nibbles_at l part side) h.material none;
+      ordered = none;
+    }
+
+pub there_asked : (l : Layout) (board : Board) (pieces : List Piece) (part side asked : ℕ) → IsLayout l → IsAsked l.material board pieces part asked → side ≡ cond (is_dtz l.kind) 0 asked → IsThere l part side
+there_asked l board pieces part side asked h a b =
+    let f = found_asked l board pieces part side asked (nibbles_at l part side) h a b refl in
+    there_of l part side h (subst (λ (p : ℕ). p < part_count l) (sym a.part_is) (part_below l.material (pieces_of l.material board)))
+    (subst (λ (k : ℕ). k < side_count l) (sym f.side_is) (side_below l board))
+
+pub ordered_found : (l : Layout) (board : Board) (part side asked : ℕ) (n : Nibbles) → IsFound l board part side asked n → order_fault l.material n ≡ None
+ordered_found l board part side asked n f =
+    ap (order_fault l.material) f.nibbles
+    ∙ order_none l (part_of l.material (pieces_of l.material board)) (subtable_side l board) f.layout (part_below l.material (pieces_of l.material board)) (side_below l board)
+
+pub groups_found : (l : Layout) (board : Board) (part side asked : ℕ) (n : Nibbles) → IsFound l board part side asked n → groups_of l.material n.men ≡ chosen_groups l board
+groups_found l board part side asked n f = ap (λ (x : Nibbles). groups_of l.material x.men) f.nibbles ∙ sym (groups_chosen l board)
+
+lead_found : (l : Layout) (board : Board) (part side asked : ℕ) (n : Nibbles) → IsFound l board part side asked n → take (lead_length l.material) n.men ≡ unwrap_or (slice_get (chosen_groups l board) 0) []
+lead_found l board part side asked n f = ap (λ (x : Nibbles). take (lead_length l.material) x.men) f.nibbles ∙ sym (lead_chosen l board)
+
+regular_found : (l : Layout) (board : Board) (part side asked : ℕ) (n : Nibbles) (regular b : Bool) → IsFound l board part side asked n → regular ≡ is_regular l.material (groups_of l.material n.men) → regular ≡ b →
+    is_regular l.material (chosen_groups l board) ≡ b
+regular_found l board part side asked n regular b f r e = ap (is_regular l.material) (sym (groups_found l board part side asked n f)) ∙ sym r ∙ e
+
+pub irregular_found : (l : Layout) (board : Board) (part side asked : ℕ) (n : Nibbles) (regular : Bool) → IsFound l board part side asked n → regular ≡ is_regular l.material (groups_of l.material n.men) → regular ≡ false →
+    place_fault l board ≡ Some fault.Irregular
+irregular_found l board part side asked n regular f r e = fault_irregular l board f.known.men (regular_found l board part side asked n regular false f r e)
+
+pub ready_found : (l : Layout) (board : Board) (part side asked : ℕ) (n : Nibbles) (items : List Piece) (lead : List ℕ) (regular : Bool) → IsFound l board part side asked n →
+    regular ≡ is_regular l.material (groups_of l.material n.men) → regular ≡ true → items ≡ pieces_of l.material board → length items ≤ 6 → lead ≡ take (lead_length l.material) n.men → AreReady l.material lead items
+ready_found l board part side asked n items lead regular f r e i few s =
+    let size = ap length i in
+    let ready = ready_of l.material n board f.known (ordered_found l board part side asked n f) (sym r ∙ e) (omega (arith, few, size)) in
+    subst (λ (x : List ℕ). AreReady l.material x items) (sym s) (subst (λ (x : List Piece). AreReady l.material (take (lead_length l.material) n.men) x) (sym i) ready)
+
+-- and then the regular groups, the men after the flips and the lead squares
+pub record IsLed (l : Layout) (board : Board) (part side asked : ℕ) (n : Nibbles) (lead leads : List ℕ) (normal : List Piece) : Type 0 where
+  pub found : IsFound l board part side asked n
+  pub regular : is_regular l.material (chosen_groups l board) ≡ true
+  pub lead_is : lead ≡ take (lead_length l.material) n.men
+  pub normal_is : normal ≡ normal_pieces l.material lead (pieces_of l.material board)
+  pub leads_is : leads ≡ lead_squares l.material lead normal
+
+pub led_of : (l : Layout) (board : Board) (part side asked : ℕ) (n : Nibbles) (items : List Piece) (regular : Bool) (lead leads leads' : List ℕ) (normal slice : List Piece) → IsFound l board part side asked n →
+    regular ≡ is_regular l.material (groups_of l.material n.men) → regular ≡ true → items ≡ pieces_of l.material board → lead ≡ take (lead_length l.material) n.men →
+    normal ≡ normal_pieces l.material lead items → slice ≡ normal → leads ≡ lead_squares l.material lead slice → leads' ≡ leads → IsLed l board part side asked n lead leads' normal
+led_of l board part side asked n items regular lead leads leads' normal slice f r e i s m q g h = record {
+  found = f;
+  regular = regular_found l board part side asked n regular true f r e;
+  lead_is = s;
+  normal_is = m ∙ ap (normal_pieces l.material lead) i;
+  leads_is = h ∙ g ∙ ap (lead_squares l.material lead) q;
+}
+
+touching_led : (l : Layout) (board : Board) (part side asked : ℕ) (n : Nibbles) (lead leads : List ℕ) (normal : List Piece) (touching b : Bool) → IsLed l board part side asked n lead leads normal →
+    touching ≡ (not (has_pawns l.material) && lead_length l.material == 2 && is_touching (slice_index leads 0) (slice_index leads 1)) → touching ≡ b → is_kings_touching l.material (normal_of l board).squares ≡ b
+touching_led l board part side asked n lead leads normal touching b d t e =
+    let some = some_group l.material n.men in let size = ap length (groups_found l board part side asked n d.found) in
+    sym (touching_is l board lead leads normal (d.lead_is ∙ lead_found l board part side asked n d.found) d.normal_is d.leads_is (omega (arith, some, size))) ∙ sym t ∙ e
+
+pub touch_led : (l : Layout) (board : Board) (part side asked : ℕ) (n : Nibbles) (lead leads : List ℕ) (normal : List Piece) (touching : Bool) → IsLed l board part side asked n lead leads normal →
+    touching ≡ (not (has_pawns l.material) && lead_length l.material == 2 && is_touching (slice_index leads 0) (slice_index leads 1)) → touching ≡ true → place_fault l board ≡ Some fault.KingsTouch
+touch_led l board part side asked n lead leads normal touching d t e =
+    fault_touch l board d.found.known.men d.regular (touching_led l board part side asked n lead leads normal touching true d t e)
+
+wrong_led : (l : Layout) (board : Board) (part side asked : ℕ) (n : Nibbles) (wrong b : Bool) → IsFound l board part side asked n → wrong ≡ is_wrong_side l part asked → wrong ≡ b →
+    is_wrong_side l (normal_of l board).part (asked_side l.material board) ≡ b
+wrong_led l board part side asked n wrong b f w e =
+    ap (λ (p : ℕ). is_wrong_side l p (asked_side l.material board)) (part_normal l board ∙ sym f.part_is) ∙ ap (is_wrong_side l part) (sym f.asked_is) ∙ sym w ∙ e
+
+pub side_led : (l : Layout) (board : Board) (part side asked : ℕ) (n : Nibbles) (lead leads : List ℕ) (normal : List Piece) (touching wrong : Bool) → IsLed l board part side asked n lead leads normal →
+    touching ≡ (not (has_pawns l.material) && lead_length l.material == 2 && is_touching (slice_index leads 0) (slice_index leads 1)) → touching ≡ false →
+    wrong ≡ is_wrong_side l part asked → wrong ≡ true → place_fault l board ≡ Some fault.WrongSide
+side_led l board part side asked n lead leads normal touching wrong d t e w f =
+    fault_side l board d.found.known.men d.regular (touching_led l board part side asked n lead leads normal touching false d t e) (wrong_led l board part side asked n wrong true d.found w f)
+
+pub none_led : (l : Layout) (board : Board) (part side asked : ℕ) (n : Nibbles) (lead leads : List ℕ) (normal : List Piece) (touching wrong : Bool) → IsLed l board part side asked n lead leads normal →
+    touching ≡ (not (has_pawns l.material) && lead_length l.material == 2 && is_touching (slice_index leads 0) (slice_index leads 1)) → touching ≡ false →
+    wrong ≡ is_wrong_side l part asked → wrong ≡ false → place_fault l board ≡ None
+none_led l board part side asked n lead leads normal touching wrong d t e w f =
+    fault_none l board d.found.known.men d.regular (touching_led l board part side asked n lead leads normal touching false d t e) (wrong_led l board part side asked n wrong false d.found w f)
+
+-- the squares of the groups are the normal form's
+sets_led : (l : Layout) (board : Board) (part side asked : ℕ) (n : Nibbles) (lead leads : List ℕ) (normal slice : List Piece) → IsLed l board part side asked n lead leads normal → slice ≡ normal →
+    squares_by_group l.material (groups_of l.material n.men) slice ≡ (normal_of l board).squares
+sets_led l board part side asked n lead leads normal slice d e =
+    ap (squares_by_group l.material (groups_of l.material n.men)) (e ∙ d.normal_is)
+    ∙ ap (λ (x : List (List ℕ)). squares_by_group l.material x (normal_pieces l.material lead (pieces_of l.material board))) (groups_found l board part side asked n d.found)
+    ∙ ap (λ (x : List ℕ). squares_by_group l.material (chosen_groups l board) (normal_pieces l.material x (pieces_of l.material board))) (d.lead_is ∙ lead_found l board part side asked n d.found)
+    ∙ sym (squares_normal l board)
+
+pub answered_led : (l : Layout) (board : Board) (part side asked : ℕ) (n : Nibbles) → IsFound l board part side asked n → place_fault l board ≡ None → IsAnswered l board
+answered_led l board part side asked n f e = record { inside = f.known.inside; placement = f.known.placement; place = e }
+
+pub listed_led : (l : Layout) (board : Board) (part side asked : ℕ) (n : Nibbles) (lead leads : List ℕ) (normal slice : List Piece) → IsLed l board part side asked n lead leads normal → slice ≡ normal →
+    place_fault l board ≡ None → EachInList l.material part [] (groups_of l.material n.men) (squares_by_group l.material (groups_of l.material n.men) slice)
+unfolding normal_of
+listed_led l board part side asked n lead leads normal slice d e none =
+    let m = l.material in let p = part_of m (pieces_of m board) in let s = subtable_side l board in
+    let lists : EachInList m p [] (groups_of m (nibbles_at l p s).men) (normal_of l board).squares = in_lists l board d.found.layout (answered_led l board part side asked n d.found none) in
+    subst (λ (x : List (List ℕ)). EachInList m part [] (groups_of m n.men) x) (sym (sets_led l board part side asked n lead leads normal slice d e))
+    (subst (λ (x : Nibbles). EachInList m part [] (groups_of m x.men) (normal_of l board).squares) (sym d.found.nibbles)
+    (subst (λ (x : ℕ). EachInList m x [] (groups_of m (nibbles_at l p s).men) (normal_of l board).squares) (sym d.found.part_is) lists))
+
+pub spot_led : (l : Layout) (board : Board) (part side asked : ℕ) (n : Nibbles) (lead leads : List ℕ) (normal slice : List Piece) (index : ℕ) → IsLed l board part side asked n lead leads normal → slice ≡ normal →
+    index ≡ index_with (places_in_lists l.material part [] (squares_by_group l.material (groups_of l.material n.men) slice)) (counted l.material part n).factors →
+    (let spot : Spot = record { part = part; side = side; index = index } in spot) ≡ spot_of l board
+spot_led l board part side asked n lead leads normal slice index d e g =
+    spot_is l board part side index d.found.part_is d.found.side_is
+    (g ∙ ap (λ (x : List (List ℕ)). index_with (places_in_lists l.material part [] x) (counted l.material part n).factors) (sets_led l board part side asked n lead leads normal slice d e)
+    ∙ ap (λ (x : Nibbles). index_with (places_in_lists l.material part [] (normal_of l board).squares) (counted l.material part x).factors) d.found.at)

@@ -1,0 +1,247 @@
+-- An index, group by group.
+use Rattle.std.proofs.Common.{◌≡◌, ℕ, zero, suc, ◌+◌, ◌*◌, ◌<◌, ◌≤◌, inl, inr, List, [], ◌∷◌, ◌++◌, length, map, get_or, take, drop, refl, sym, ap, ◌∙◌, subst, Bool, true, false, cond, arith, append_assoc, drop-cons, add-one, length-append}
+use Rattle.std.specs.Prelude.{Some, None, slice_get, unwrap_or, ◌==◌, ◌&&◌, ◌^◌}
+use Rattle.std.specs.List.{zip, concat, range_with_len}
+use Rattle.std.proofs.lemmas.Bool.{cases_Bool, and_parts, eqb-true}
+use Rattle.std.proofs.lemmas.List.{length-map}
+use Rattle.std.proofs.lemmas.List.FromFn.{get_or-map-range_with_len, length-map-range_with_len}
+use Rattle.std.proofs.lemmas.Option.{slice_get-get_or, unwrap_or-slice_get}
+use Rattle.std.proofs.lemmas.List.{take_more, take_at, drop_at}
+use Rattle.std.proofs.lemmas.List.Sums.{sum_by-cons}
+use Rattle.szg_values.specs.Material.{Sides, IsMaterial}
+use Rattle.szg_count.specs.Leads.{place_in}
+use Rattle.szg_count.specs.Groups.{IsPart, Nibbles, Counted, order_fault, groups_of, counted, factors_of, has_other_pawns}
+use Rattle.szg_count.specs.Seen.{group_at, groups_told}
+use Rattle.szg_count.specs.declared.Group.{Group}
+use Rattle.szg_count.proofs.Free.{places_order}
+use Rattle.szg_count.proofs.Sizes.{size_below}
+use Rattle.szg_count.proofs.Places.{place_in-slice_get}
+use Rattle.szg_count.specs.Laws.{IsIn}
+use Rattle.szg_count.specs.Radix.{index_with}
+use Rattle.szg_place.specs.Spots.{ordered_sets, places_in_lists}
+use Rattle.szg_place.specs.Ranks.{EachInList}
+use Rattle.szg_place.proofs.Ranking.{AllDiffer-ordered_sets}
+use Rattle.szg_place.proofs.Ways.{IsLaid, laid_more, laid_none, IsIn-squares_down}
+use Rattle.szg_place.proofs.Spotted.{ordered, index_inside}
+use Rattle.szg_place.proofs.FreeSquares.{base_of}
+
+index_more : (d f : ℕ) (ds fs : List ℕ) → index_with (d ∷ ds) (f ∷ fs) ≡ d * f + index_with ds fs
+index_more d f ds fs = sum_by-cons (λ (n : ℕ). n) (d * f) (map (λ x. x.0 * x.1) (zip ds fs))
+
+places_more : (sides : Sides) (part : ℕ) (before : List (List ℕ)) (set : List ℕ) (sets : List (List ℕ)) →
+    places_in_lists sides part before (set ∷ sets) ≡ place_in (ordered_sets sides part before (length set)) set ∷ places_in_lists sides part (before ++ set ∷ []) sets
+unfolding places_in_lists
+places_more sides part before set sets = refl
+
+places_done : (sides : Sides) (part : ℕ) (before : List (List ℕ)) → places_in_lists sides part before [] ≡ []
+unfolding places_in_lists
+places_done sides part before = refl
+
+-- what the groups from the i-th on add to an index
+abbrev pub index_behind : Sides → ℕ → List (List ℕ) → List ℕ → ℕ → ℕ
+index_behind sides part sets factors i = index_with (places_in_lists sides part (take i sets) (drop i sets)) (drop i factors)
+
+abbrev pub place_at : Sides → ℕ → List (List ℕ) → ℕ → ℕ
+place_at sides part sets i = place_in (ordered_sets sides part (take i sets) (length (get_or sets i []))) (get_or sets i [])
+
+pub index_step : (sides : Sides) (part : ℕ) (sets : List (List ℕ)) (factors : List ℕ) (i : ℕ) → i < length sets → length factors ≡ length sets →
+    index_behind sides part sets factors i ≡ place_at sides part sets i * get_or factors i 0 + index_behind sides part sets factors (i + 1)
+index_step sides part sets factors i h e =
+    let s : drop i sets ≡ get_or sets i [] ∷ drop (i + 1) sets = rw add-one (drop-cons sets i [] h) in
+    let f : drop i factors ≡ get_or factors i 0 ∷ drop (i + 1) factors = rw add-one (drop-cons factors i 0 (omega (arith, h, e))) in
+    let t : take i sets ++ get_or sets i [] ∷ [] ≡ take (i + 1) sets = sym (take_more sets i [] h) in
+    ap (λ (l : List (List ℕ)). index_with (places_in_lists sides part (take i sets) l) (drop i factors)) s
+    ∙ ap (λ (l : List ℕ). index_with (places_in_lists sides part (take i sets) (get_or sets i [] ∷ drop (i + 1) sets)) l) f
+    ∙ ap (λ (l : List ℕ). index_with l (get_or factors i 0 ∷ drop (i + 1) factors)) (places_more sides part (take i sets) (get_or sets i []) (drop (i + 1) sets))
+    ∙ index_more (place_at sides part sets i) (get_or factors i 0) (places_in_lists sides part (take i sets ++ get_or sets i [] ∷ []) (drop (i + 1) sets)) (drop (i + 1) factors)
+    ∙ ap (λ (l : List (List ℕ)). place_at sides part sets i * get_or factors i 0 + index_with (places_in_lists sides part l (drop (i + 1) sets)) (drop (i + 1) factors)) t
+
+-- what is known where the i-th group's turn comes
+pub record IsTurn (sides : Sides) (part : ℕ) (before groups sets : List (List ℕ)) (i : ℕ) : Type 0 where
+  pub laid : IsLaid sides (before ++ take i sets)
+  pub listed : IsIn (get_or sets i []) (ordered_sets sides part (before ++ take i sets) (length (get_or sets i [])))
+  pub size : length (get_or sets i []) ≡ length (get_or groups i [])
+
+pub turn : (sides : Sides) (part : ℕ) (before groups sets : List (List ℕ)) (i : ℕ) → IsMaterial sides → IsPart sides part → IsLaid sides before →
+    EachInList sides part before groups sets → i < length sets → IsTurn sides part before groups sets i
+turn sides part before groups [] i m p laid h k = absurd (omega (arith, k))
+turn sides part before [] (set ∷ sets) i m p laid h k = absurd h
+turn sides part before (group ∷ groups) (set ∷ sets) zero m p laid h k =
+    let e : before ≡ before ++ [] = sym (nothing before) in record {
+      laid = subst (λ (l : List (List ℕ)). IsLaid sides l) e laid;
+      listed = subst (λ (l : List (List ℕ)). IsIn set (ordered_sets sides part l (length set))) e h.0;
+      size = h.1;
+    } where
+      nothing : (xs : List (List ℕ)) → xs ++ [] ≡ xs
+      nothing [] = refl
+      nothing (x ∷ xs) = ap (λ l. x ∷ l) (nothing xs)
+turn sides part before (group ∷ groups) (set ∷ sets) (suc i) m p laid h k =
+    let r = turn sides part (before ++ set ∷ []) groups sets i m p (laid_more sides part before (length set) set m p laid h.0) h.2 (omega (arith, k)) in
+    let e : before ++ set ∷ [] ++ take i sets ≡ before ++ (set ∷ take i sets) = append_assoc before (set ∷ []) (take i sets) in record {
+      laid = subst (λ (l : List (List ℕ)). IsLaid sides l) e r.laid;
+      listed = subst (λ (l : List (List ℕ)). IsIn (get_or sets i []) (ordered_sets sides part l (length (get_or sets i [])))) e r.listed;
+      size = r.size;
+    }
+
+-- ---- the squares of groups, one group after the other
+
+whole : (sets : List (List ℕ)) (i : ℕ) → i < length sets → concat sets ≡ concat (take i sets) ++ (get_or sets i [] ++ concat (drop (suc i) sets))
+whole [] i h = absurd (omega (arith, h))
+whole (set ∷ sets) zero h = refl
+whole (set ∷ sets) (suc i) h =
+    ap (λ (l : List ℕ). set ++ l) (whole sets i (omega (arith, h)))
+    ∙ sym (append_assoc set (concat (take i sets)) (get_or sets i [] ++ concat (drop (suc i) sets)))
+
+pub squares_before : (sets : List (List ℕ)) (i n : ℕ) → i < length sets → n ≡ length (concat (take i sets)) → take n (concat sets) ≡ concat (take i sets)
+squares_before sets i n h e =
+    ap (λ (l : List ℕ). take n l) (whole sets i h) ∙ take_at (concat (take i sets)) (get_or sets i [] ++ concat (drop (suc i) sets)) n (sym e)
+
+pub squares_here : (sets : List (List ℕ)) (i n m : ℕ) → i < length sets → n ≡ length (concat (take i sets)) → m ≡ length (get_or sets i []) → take m (drop n (concat sets)) ≡ get_or sets i []
+squares_here sets i n m h e f =
+    ap (λ (l : List ℕ). take m l) (ap (λ (l : List ℕ). drop n l) (whole sets i h) ∙ drop_at (concat (take i sets)) (get_or sets i [] ++ concat (drop (suc i) sets)) n (sym e))
+    ∙ take_at (get_or sets i []) (concat (drop (suc i) sets)) m (sym f)
+
+pub squares_room : (sets : List (List ℕ)) (i : ℕ) → i < length sets → length (concat (take i sets)) + length (get_or sets i []) ≤ length (concat sets)
+squares_room sets i h =
+    let a = ap length (whole sets i h) in
+    let b = length-append (concat (take i sets)) (get_or sets i [] ++ concat (drop (suc i) sets)) in
+    let c = length-append (get_or sets i []) (concat (drop (suc i) sets)) in omega (arith, a, b, c)
+
+pub sets_many : (sides : Sides) (part : ℕ) (before groups sets : List (List ℕ)) → EachInList sides part before groups sets → length sets ≡ length groups
+sets_many sides part before [] [] h = refl
+sets_many sides part before [] (set ∷ sets) h = absurd h
+sets_many sides part before (group ∷ groups) [] h = absurd h
+sets_many sides part before (group ∷ groups) (set ∷ sets) h = ap suc (sets_many sides part (before ++ set ∷ []) groups sets h.2)
+
+pub sets_long : (sides : Sides) (part : ℕ) (before groups sets : List (List ℕ)) (i : ℕ) → EachInList sides part before groups sets →
+    length (concat (take i sets)) ≡ length (concat (take i groups))
+sets_long sides part before [] [] i h = refl
+sets_long sides part before [] (set ∷ sets) i h = absurd h
+sets_long sides part before (group ∷ groups) [] i h = absurd h
+sets_long sides part before (group ∷ groups) (set ∷ sets) zero h = refl
+sets_long sides part before (group ∷ groups) (set ∷ sets) (suc i) h =
+    let a = sets_long sides part (before ++ set ∷ []) groups sets i h.2 in
+    let b = length-append set (concat (take i sets)) in let c = length-append group (concat (take i groups)) in let e = h.1 in omega (arith, a, b, c, e)
+
+-- ---- the groups that are told
+
+pub group_is : (c : Counted) (i : ℕ) (group : Group) → i < length c.groups → slice_get (groups_told c) i ≡ Some group → group ≡ group_at c i
+unfolding groups_told
+group_is c i group h e =
+    let all = map (group_at c) (range_with_len 0 (length c.groups)) in
+    let n : length all ≡ length c.groups = length-map-range_with_len (group_at c) 0 (length c.groups) in
+    let x : slice_get all i ≡ Some (get_or all i (group_at c 0)) = slice_get-get_or all i (group_at c 0) (omega (arith, n, h)) in
+    let z : 0 + i ≡ i = omega arith in
+    let y : get_or all i (group_at c 0) ≡ group_at c i = get_or-map-range_with_len (group_at c) 0 (length c.groups) i i (group_at c 0) h z in
+    let s : Some group ≡ Some (group_at c i) = sym e ∙ x ∙ ap Some y in cc
+
+pub groups_many : (c : Counted) → length (groups_told c) ≡ length c.groups
+unfolding groups_told
+groups_many c = length-map-range_with_len (group_at c) 0 (length c.groups)
+
+pub groups_are : (sides : Sides) (part : ℕ) (n : Nibbles) → (counted sides part n).groups ≡ groups_of sides n.men
+unfolding counted
+groups_are sides part n = refl
+
+factors_many : (sides : Sides) (part : ℕ) (n : Nibbles) → order_fault sides n ≡ None → length (counted sides part n).factors ≡ length (groups_of sides n.men)
+unfolding counted factors_of
+factors_many sides part n o = simp length-map (places_order sides n (ordered sides n o).places).1
+
+-- what is known at a step
+pub record IsStep (sides : Sides) (part : ℕ) (n : Nibbles) (sets : List (List ℕ)) (i : ℕ) (group : Group) : Type 0 where
+  pub count : i < length sets
+  pub many : length (counted sides part n).factors ≡ length sets
+  pub first : group.first ≡ length (concat (take i sets))
+  pub size : group.length ≡ length (get_or sets i [])
+  pub factor : group.factor ≡ get_or (counted sides part n).factors i 0
+  pub ways : group.ways ≡ get_or (counted sides part n).ways i 0
+  pub turn : IsTurn sides part [] (groups_of sides n.men) sets i
+
+pub step_of : (sides : Sides) (part : ℕ) (n : Nibbles) (sets : List (List ℕ)) (i : ℕ) (group : Group) → IsMaterial sides → IsPart sides part → order_fault sides n ≡ None →
+    EachInList sides part [] (groups_of sides n.men) sets → i < length (groups_told (counted sides part n)) → slice_get (groups_told (counted sides part n)) i ≡ Some group →
+    IsStep sides part n sets i group
+step_of sides part n sets i group m p o h k e =
+    let c = counted sides part n in
+    let all = groups_many c in
+    let groups = groups_are sides part n in
+    let many = sets_many sides part [] (groups_of sides n.men) sets h in
+    let same = ap length groups in
+    let inside : i < length c.groups = omega (arith, k, all) in
+    let here : i < length sets = omega (arith, inside, same, many) in
+    let g = group_is c i group inside e in
+    let t = turn sides part [] (groups_of sides n.men) sets i m p (laid_none sides) h here in
+    let long = sets_long sides part [] (groups_of sides n.men) sets i h in
+    let taken = ap (λ (l : List (List ℕ)). length (concat (take i l))) groups in
+    let own : length (unwrap_or (slice_get c.groups i) []) ≡ length (get_or (groups_of sides n.men) i []) =
+    ap length (unwrap_or-slice_get c.groups i []) ∙ ap (λ (l : List (List ℕ)). length (get_or l i [])) groups in
+    record {
+      count = here;
+      many = factors_many sides part n o ∙ sym many;
+      first = ap (λ (x : Group). x.first) g ∙ taken ∙ sym long;
+      size = ap (λ (x : Group). x.length) g ∙ own ∙ sym t.size;
+      factor = ap (λ (x : Group). x.factor) g;
+      ways = ap (λ (x : Group). x.ways) g;
+      turn = t;
+    }
+
+-- the squares that groups in front leave to a later one
+pub left_to : (sides : Sides) (before : List (List ℕ)) (i : ℕ) → length before ≡ i → IsLaid sides before → (x : ℕ) → IsIn x (concat before) →
+    IsIn x (base_of (has_other_pawns sides && i == 1))
+left_to sides before i e laid x h = elim (cases_Bool (has_other_pawns sides && i == 1)) [
+  | inl t ↦ let p = and_parts (has_other_pawns sides) (i == 1) t in let q = eqb-true i 1 p.1 in
+      rw t (laid.pawns p.0 (omega (arith, e, q)) x h)
+  | inr f ↦ rw f (IsIn-squares_down x (laid.inside x h))
+]
+
+-- the whole index
+pub index_start : (sides : Sides) (part : ℕ) (sets : List (List ℕ)) (factors : List ℕ) → index_behind sides part sets factors 0 ≡ index_with (places_in_lists sides part [] sets) factors
+index_start sides part [] [] = refl
+index_start sides part [] (f ∷ fs) = refl
+index_start sides part (s ∷ ss) [] = refl
+index_start sides part (s ∷ ss) (f ∷ fs) = refl
+
+pub index_end : (sides : Sides) (part : ℕ) (sets : List (List ℕ)) (factors : List ℕ) (i : ℕ) → length sets ≤ i → index_behind sides part sets factors i ≡ 0
+index_end sides part sets factors i h =
+    ap (λ (l : List (List ℕ)). index_with (places_in_lists sides part (take i sets) l) (drop i factors)) (nothing i sets h)
+    ∙ ap (λ (l : List ℕ). index_with l (drop i factors)) (places_done sides part (take i sets)) where
+      nothing : (i : ℕ) (xs : List (List ℕ)) → length xs ≤ i → drop i xs ≡ []
+      nothing zero [] h = refl
+      nothing (suc i) [] h = refl
+      nothing zero (x ∷ xs) h = absurd (omega (arith, h))
+      nothing (suc i) (x ∷ xs) h = nothing i xs (omega (arith, h))
+
+pub index_fits : (sides : Sides) (part : ℕ) (n : Nibbles) (sets : List (List ℕ)) → IsMaterial sides → IsPart sides part → order_fault sides n ≡ None →
+    EachInList sides part [] (groups_of sides n.men) sets → index_behind sides part sets (counted sides part n).factors 0 < 2 ^ 33
+index_fits sides part n sets m p o h =
+    let a = index_start sides part sets (counted sides part n).factors in
+    let b = index_inside sides part n sets m p (ordered sides n o).places h in
+    let c = size_below sides part n m p o in omega (arith, a, b, c)
+
+-- a place that the code finds is the group's
+pub place_is : (sides : Sides) (part : ℕ) (sets : List (List ℕ)) (i place : ℕ) (set : List ℕ) → part < 4 → set ≡ get_or sets i [] →
+    slice_get (ordered_sets sides part (take i sets) (length set)) place ≡ Some set → place_at sides part sets i ≡ place
+place_is sides part sets i place set p e h =
+    let k = subst (λ (s : List ℕ). slice_get (ordered_sets sides part (take i sets) (length s)) place ≡ Some s) e h in
+    place_in-slice_get (ordered_sets sides part (take i sets) (length (get_or sets i []))) place (get_or sets i [])
+    (AllDiffer-ordered_sets sides part (take i sets) (length (get_or sets i [])) p) k
+
+pub told_many : (sides : Sides) (part : ℕ) (n : Nibbles) (sets : List (List ℕ)) → EachInList sides part [] (groups_of sides n.men) sets →
+    length (groups_told (counted sides part n)) ≡ length sets
+told_many sides part n sets h =
+    let a = groups_many (counted sides part n) in let b = ap length (groups_are sides part n) in
+    let d = sets_many sides part [] (groups_of sides n.men) sets h in omega (arith, a, b, d)
+
+pub part_small : (b : Bool) (part : ℕ) → part < cond b 4 1 → part < 4
+part_small true part h = h
+part_small false part h = omega (arith, h)
+
+-- one group more
+pub gained : (sides : Sides) (part : ℕ) (n : Nibbles) (sets : List (List ℕ)) (i place index : ℕ) (group : Group) → IsStep sides part n sets i group → place_at sides part sets i ≡ place →
+    index + index_behind sides part sets (counted sides part n).factors i ≡ index_behind sides part sets (counted sides part n).factors 0 →
+    (index + place * group.factor) + index_behind sides part sets (counted sides part n).factors (i + 1) ≡ index_behind sides part sets (counted sides part n).factors 0
+gained sides part n sets i place index group s e h =
+    let factors = (counted sides part n).factors in
+    let t = index_step sides part sets factors i s.count s.many in
+    let f = s.factor in
+    let k : place_at sides part sets i * get_or factors i 0 ≡ place * group.factor = ap (λ x. x * get_or factors i 0) e ∙ ap (λ x. place * x) (sym f) in
+    omega (arith, t, k, h)

@@ -1,0 +1,211 @@
+-- The men that an index tells, as the code finds them.
+use Rattle.std.proofs.Common.{◌≡◌, ℕ, zero, suc, ◌<◌, ◌≤◌, List, [], ◌∷◌, ◌++◌, length, get_or, refl, sym, ap, ◌∙◌, subst, Bool, true, false, cond, arith, length-append}
+use Rattle.std.specs.Prelude.{◌==◌, Option, Some, None, Result, Ok, IsNone, IsSome, IfSome, IsSomeAnd}
+use Rattle.std.specs.List.{concat}
+use Rattle.std.proofs.Math.Bool.{◌&&◌}
+use Rattle.szg_values.specs.Material.{Sides, IsMaterial, is_symmetric, has_pawns}
+use Rattle.szg_values.specs.Placement.{Standing, Board, placement_fault}
+use Rattle.szg_values.specs.declared.Kind.{Kind}
+use Rattle.szg_values.specs.declared.Color.{Color}
+use Rattle.szg_values.specs.declared.Color.TheVariants.{White, Black}
+use Rattle.szg_values.specs.declared.PlacementFault.{PlacementFault}
+use Rattle.szg_count.specs.Groups.{IsPart, Nibbles, order_fault, groups_of, counted, product}
+use Rattle.szg_count.specs.Laws.{IsIn}
+use Rattle.szg_file.specs.Contents.{Contents, Slot, Subtable}
+use Rattle.szg_file.specs.Accepted.{IsAccepted}
+use Rattle.szg_file.specs.Values.{subtable_at}
+use Rattle.szg_place.specs.Layout.{IsLayout, is_dtz, nibbles_at, stored_side, part_count, side_count}
+use Rattle.szg_place.specs.Spots.{man_at, color_at, standing_on, standing_by_group, counted_at, size_at, is_regular, placement_refusal, board_at, mover_at}
+use Rattle.szg_place.specs.Laws.{IsAnswered}
+use Rattle.szg_place.specs.Tables.{numbering_of}
+use Rattle.szg_place.specs.declared.PlaceFault.TheVariants as fault
+use Rattle.szg_place.proofs.Spotted.{order_none}
+use Rattle.szg_place.proofs.Codes.{concat-groups}
+use Rattle.szg_place.proofs.Told.{Sized, sized}
+use Rattle.szg_place.proofs.BoardTold.{spot_of_placement}
+use Rattle.szg_place.proofs.Accepted.{accepted_numbering}
+use Rattle.szg_place.proofs.Found.{size_there, there_below}
+use Rattle.szg_place.proofs.Indexing.{groups_are}
+use Rattle.szg_place.proofs.Telling.{sets_told, telling}
+use Rattle.szg_place.proofs.Indexed.{few_squares}
+
+-- ---- men on squares
+
+pub standing-long : (codes squares : List ℕ) → length squares ≡ length codes → length (standing_on codes squares) ≡ length codes
+standing-long [] squares e = refl
+standing-long (c ∷ cs) [] e = absurd (omega (arith, e))
+standing-long (c ∷ cs) (s ∷ ss) e = ap suc (standing-long cs ss (omega (arith, e)))
+
+pub standing-at : (codes squares : List ℕ) (i : ℕ) (d : Standing) → i < length codes → length squares ≡ length codes →
+    get_or (standing_on codes squares) i d ≡ (man_at (get_or codes i 0), color_at (get_or codes i 0), get_or squares i 0)
+standing-at [] squares i d h e = absurd (omega (arith, h))
+standing-at (c ∷ cs) [] i d h e = absurd (omega (arith, e))
+standing-at (c ∷ cs) (s ∷ ss) zero d h e = refl
+standing-at (c ∷ cs) (s ∷ ss) (suc i) d h e = standing-at cs ss i d (omega (arith, h)) (omega (arith, e))
+
+standing-joined : (codes more squares others : List ℕ) → length squares ≡ length codes → standing_on (codes ++ more) (squares ++ others) ≡ standing_on codes squares ++ standing_on more others
+standing-joined [] more [] others e = refl
+standing-joined [] more (s ∷ ss) others e = absurd (omega (arith, e))
+standing-joined (c ∷ cs) more [] others e = absurd (omega (arith, e))
+standing-joined (c ∷ cs) more (s ∷ ss) others e = ap (λ (l : List Standing). (man_at c, color_at c, s) ∷ l) (standing-joined cs more ss others (omega (arith, e)))
+
+standing-groups : (groups sets : List (List ℕ)) → Sized groups sets → standing_on (concat groups) (concat sets) ≡ standing_by_group groups sets
+unfolding standing_by_group
+standing-groups [] [] h = refl
+standing-groups [] (set ∷ sets) h = absurd h
+standing-groups (group ∷ groups) [] h = absurd h
+standing-groups (group ∷ groups) (set ∷ sets) h =
+    standing-joined group (concat groups) set (concat sets) h.0 ∙ ap (λ (l : List Standing). standing_on group set ++ l) (standing-groups groups sets h.1)
+
+concat-sized : (groups sets : List (List ℕ)) → Sized groups sets → length (concat sets) ≡ length (concat groups)
+concat-sized [] [] h = refl
+concat-sized [] (set ∷ sets) h = absurd h
+concat-sized (group ∷ groups) [] h = absurd h
+concat-sized (group ∷ groups) (set ∷ sets) h =
+    let a = length-append set (concat sets) in let b = length-append group (concat groups) in
+    let r = concat-sized groups sets h.1 in let e = h.0 in omega (arith, a, b, r, e)
+
+-- the men of the groups that an index tells
+abbrev pub men_told : Sides → ℕ → Nibbles → ℕ → List Standing
+men_told sides part n index = standing_by_group (counted sides part n).groups (sets_told sides part n index)
+
+pub record IsManned (sides : Sides) (part : ℕ) (n : Nibbles) (index : ℕ) : Type 0 where
+  pub few : length (concat (sets_told sides part n index)) ≤ 6
+  pub same : length (concat (sets_told sides part n index)) ≡ length n.men
+  pub men : standing_on n.men (concat (sets_told sides part n index)) ≡ men_told sides part n index
+
+pub manned : (sides : Sides) (part : ℕ) (n : Nibbles) (index : ℕ) → IsMaterial sides → IsPart sides part → order_fault sides n ≡ None → index < product (counted sides part n).ways →
+    IsManned sides part n index
+manned sides part n index m p o h =
+    let sets = sets_told sides part n index in let groups = groups_of sides n.men in
+    let lists = (telling sides part n index sets m p o h refl).lists in
+    let long = sized sides part [] groups sets lists in record {
+      few = few_squares sides part n sets m o lists;
+      same = concat-sized groups sets long ∙ ap length (concat-groups sides n.men);
+      men = ap (λ (l : List ℕ). standing_on l (concat sets)) (sym (concat-groups sides n.men)) ∙ standing-groups groups sets long
+          ∙ ap (λ (g : List (List ℕ)). standing_by_group g sets) (sym (groups_are sides part n));
+    }
+
+-- ---- a table's part and side
+
+-- what the code knows where it looks for the placement of an index
+pub record IsAt (t : Contents) (part side index : ℕ) (m : Sides) (n : Nibbles) : Type 0 where
+  pub layout : IsLayout (numbering_of t)
+  pub material : IsMaterial m
+  pub same : m ≡ t.material
+  pub has_part : part < part_count (numbering_of t)
+  pub has_side : side < side_count (numbering_of t)
+  pub below : index < size_at (numbering_of t) part side
+  pub nibbles : n ≡ nibbles_at (numbering_of t) part side
+
+size_below : (o : Option (Slot × Subtable)) (i n : ℕ) → IsSomeAnd o (λ found. found.0.size ≡ n) → IfSome o (λ found. i < found.0.size) → i < n
+size_below None i n e h = absurd e
+size_below (Some x) i n e h = omega (arith, e, h)
+
+pub at_of : (t : Contents) (fill : List ℕ) (part side index : ℕ) (m : Sides) (n : Nibbles) → IsAccepted t fill → m ≡ t.material → IsMaterial m → IsSome (subtable_at t part side) →
+    IfSome (subtable_at t part side) (λ found. index < found.0.size) → n ≡ nibbles_at (numbering_of t) part side → IsAt t part side index m n
+at_of t fill part side index m n a e k some below o =
+    let r = there_below t fill part side a some in record {
+      layout = accepted_numbering t fill (subst (λ (x : Sides). IsMaterial x) e k) a;
+      material = k;
+      same = e;
+      has_part = r.0;
+      has_side = r.1;
+      below = size_below (subtable_at t part side) index (size_at (numbering_of t) part side) (size_there t fill part side a r.0 r.1) below;
+      nibbles = o;
+    }
+
+pub part_at : (t : Contents) (part side index : ℕ) (m : Sides) (n : Nibbles) → IsAt t part side index m n → IsPart m part
+part_at t part side index m n a = subst (λ (x : Sides). IsPart x part) (sym a.same) a.has_part
+
+pub ordered_at : (t : Contents) (part side index : ℕ) (m : Sides) (n : Nibbles) → IsAt t part side index m n → order_fault m n ≡ None
+ordered_at t part side index m n a =
+    ap (λ (x : Sides). order_fault x n) a.same ∙ ap (λ (y : Nibbles). order_fault t.material y) a.nibbles ∙ order_none (numbering_of t) part side a.layout a.has_part a.has_side
+
+pub below_at : (t : Contents) (part side index : ℕ) (m : Sides) (n : Nibbles) → IsAt t part side index m n → index < product (counted m part n).ways
+below_at t part side index m n a =
+    let e : product (counted m part n).ways ≡ size_at (numbering_of t) part side =
+    ap (λ (x : Sides). product (counted x part n).ways) a.same ∙ ap (λ (y : Nibbles). product (counted t.material part y).ways) a.nibbles in
+    subst (λ (k : ℕ). index < k) (sym e) a.below
+
+men_at : (t : Contents) (part side index : ℕ) (m : Sides) (n : Nibbles) → IsAt t part side index m n → men_told m part n index ≡ (board_at (numbering_of t) part side index).standing
+unfolding board_at
+men_at t part side index m n a = ap (λ (x : Sides). men_told x part n index) a.same ∙ ap (λ (y : Nibbles). men_told t.material part y index) a.nibbles
+
+answered_at : (t : Contents) (part side index : ℕ) (m : Sides) (n : Nibbles) → IsAt t part side index m n → placement_refusal (numbering_of t) part side ≡ None →
+    IsAnswered (numbering_of t) (board_at (numbering_of t) part side index)
+answered_at t part side index m n a none =
+    (spot_of_placement (numbering_of t) part side index a.layout (record { has_part = a.has_part; has_side = a.has_side; below = a.below; allowed = none })).0
+
+pub inside_at : (t : Contents) (part side index : ℕ) (m : Sides) (n : Nibbles) → IsAt t part side index m n → placement_refusal (numbering_of t) part side ≡ None →
+    (s : Standing) → IsIn s (men_told m part n index) → s.2 < 64
+inside_at t part side index m n a none s i =
+    (answered_at t part side index m n a none).inside s (subst (λ (l : List Standing). IsIn s l) (men_at t part side index m n a) i)
+
+pub placed_at : (t : Contents) (part side index : ℕ) (m : Sides) (n : Nibbles) (slice items : List Standing) → IsAt t part side index m n → placement_refusal (numbering_of t) part side ≡ None →
+    slice ≡ items → items ≡ men_told m part n index → placement_fault slice ≡ None
+placed_at t part side index m n slice items a none e f =
+    ap placement_fault (e ∙ f ∙ men_at t part side index m n a) ∙ (answered_at t part side index m n a none).placement
+
+pub board_same : (t : Contents) (part side index : ℕ) (m : Sides) (n : Nibbles) (slice items : List Standing) (mover : Color) → IsAt t part side index m n →
+    slice ≡ items → items ≡ men_told m part n index → mover ≡ mover_at (numbering_of t) part side →
+    (let board : Board = record { standing = slice; mover = mover } in board) ≡ board_at (numbering_of t) part side index
+unfolding board_at
+board_same t part side index m n slice items mover a e f v =
+    let make : List Standing → Color → Board = λ s x. record { standing = s; mover = x } in
+    ap (λ (s : List Standing). make s mover) (e ∙ f ∙ men_at t part side index m n a) ∙ ap (λ (x : Color). make (board_at (numbering_of t) part side index).standing x) v
+
+-- ---- the refusals
+
+regular_at : (t : Contents) (part side index : ℕ) (m : Sides) (n : Nibbles) (regular b : Bool) → IsAt t part side index m n → regular ≡ is_regular m (groups_of m n.men) → regular ≡ b →
+    is_regular t.material (counted_at (numbering_of t) part side).groups ≡ b
+regular_at t part side index m n regular b a r e =
+    let test : Sides → Nibbles → Bool = λ x y. is_regular x (groups_of x y.men) in
+    ap (is_regular t.material) (groups_are t.material part (nibbles_at (numbering_of t) part side))
+    ∙ sym (ap (λ (x : Sides). test x n) a.same ∙ ap (λ (y : Nibbles). test t.material y) a.nibbles) ∙ sym r ∙ e
+
+pub refused_irregular : (t : Contents) (part side index : ℕ) (m : Sides) (n : Nibbles) (regular : Bool) → IsAt t part side index m n → regular ≡ is_regular m (groups_of m n.men) → regular ≡ false →
+    placement_refusal (numbering_of t) part side ≡ Some fault.Irregular
+unfolding placement_refusal
+refused_irregular t part side index m n regular a r e = let k = regular_at t part side index m n regular false a r e in rw k refl
+
+-- a DTZ subtable with pawns that stores Black where both sides have the same men
+abbrev pub is_untold : Contents → ℕ → Bool
+is_untold t part = is_dtz t.kind && is_symmetric t.material && has_pawns t.material && stored_side (numbering_of t) part == 1
+
+pub untold_is : (t : Contents) (m : Sides) (part : ℕ) (kind : Kind) (stored : ℕ) (untold : Bool) → untold ≡ (is_dtz kind && is_symmetric m && has_pawns m && stored == 1) → kind ≡ t.kind → m ≡ t.material →
+    stored ≡ stored_side (numbering_of t) part → untold ≡ is_untold t part
+untold_is t m part kind stored untold e a b d =
+    e ∙ ap (λ (k : Kind). is_dtz k && is_symmetric m && has_pawns m && stored == 1) a
+    ∙ ap (λ (s : Sides). is_dtz t.kind && is_symmetric s && has_pawns s && stored == 1) b
+    ∙ ap (λ (k : ℕ). is_dtz t.kind && is_symmetric t.material && has_pawns t.material && k == 1) d
+
+abbrev pub mover_by : Bool → Bool → ℕ → ℕ → Color
+mover_by symmetric dtz stored side = cond symmetric White (cond (cond dtz stored side == 0) White Black)
+
+pub mover_is : (t : Contents) (m : Sides) (part side : ℕ) (kind : Kind) (stored : ℕ) (mover : Color) → mover ≡ mover_by (is_symmetric m) (is_dtz kind) stored side → kind ≡ t.kind → m ≡ t.material →
+    stored ≡ stored_side (numbering_of t) part → mover ≡ mover_at (numbering_of t) part side
+mover_is t m part side kind stored mover e a b d =
+    e ∙ ap (λ (k : Kind). mover_by (is_symmetric m) (is_dtz k) stored side) a
+    ∙ ap (λ (s : Sides). mover_by (is_symmetric s) (is_dtz t.kind) stored side) b
+    ∙ ap (λ (k : ℕ). mover_by (is_symmetric t.material) (is_dtz t.kind) k side) d
+
+pub refused_untold : (t : Contents) (part side index : ℕ) (m : Sides) (n : Nibbles) (regular untold : Bool) → IsAt t part side index m n → regular ≡ is_regular m (groups_of m n.men) → regular ≡ true →
+    untold ≡ is_untold t part → untold ≡ true → placement_refusal (numbering_of t) part side ≡ Some fault.WrongSide
+unfolding placement_refusal
+refused_untold t part side index m n regular untold a r e u f =
+    let k = regular_at t part side index m n regular true a r e in let j : is_untold t part ≡ true = sym u ∙ f in rw (k, j) refl
+
+pub refused_none : (t : Contents) (part side index : ℕ) (m : Sides) (n : Nibbles) (regular untold : Bool) → IsAt t part side index m n → regular ≡ is_regular m (groups_of m n.men) → regular ≡ true →
+    untold ≡ is_untold t part → untold ≡ false → placement_refusal (numbering_of t) part side ≡ None
+unfolding placement_refusal
+refused_none t part side index m n regular untold a r e u f =
+    let k = regular_at t part side index m n regular true a r e in let j : is_untold t part ≡ false = sym u ∙ f in rw (k, j) refl
+
+pub none_holds : {A : Type 0} (o : Option A) → o ≡ None → IsNone o
+none_holds None e = refl
+none_holds (Some x) e = cc
+
+-- one answer tells one placement
+pub told_same : (r : Result Board PlacementFault) (x y : Board) → r ≡ Ok x → r ≡ Ok y → x ≡ y
+told_same r x y e f = let k : ◌≡◌ {A = Result Board PlacementFault} (Ok x) (Ok y) = sym e ∙ f in cc

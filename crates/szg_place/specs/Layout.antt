@@ -1,0 +1,46 @@
+-- What a table tells of how its subtables number placements.
+use Rattle.std.specs.Prelude.{◌≡◌, ℕ, ◌%◌, ◌<◌, Bool, true, false, List, [], length, slice_get, slice_index, unwrap_or, IsNone, if◌then◌else◌}
+use Rattle.szg_values.specs.Material.{Sides, has_pawns, is_symmetric, IsMaterial}
+use Rattle.szg_values.specs.declared.Kind.{Kind}
+use Rattle.szg_values.specs.declared.Kind.TheVariants.{Wdl, Dtz}
+use Rattle.szg_count.specs.Groups.{Nibbles, nibbles_of, order_fault}
+use Rattle.szg_file.specs.Contents.{Part}
+
+-- a table's kind and material, the bytes of each part, and in DTZ the flags of each part's subtable
+pub record Layout : Type 0 where
+  pub kind : Kind
+  pub material : Sides
+  pub parts : List Part
+  pub flags : List ℕ
+
+abbrev pub is_dtz : Kind → Bool
+is_dtz Wdl = false
+is_dtz Dtz = true
+
+-- a layout of these
+abbrev pub layout_in : Kind → Sides → List Part → List ℕ → Layout
+layout_in kind material parts flags = record { kind = kind; material = material; parts = parts; flags = flags }
+
+-- the nibbles of a part's side
+abbrev pub nibbles_in_part : List Part → ℕ → ℕ → Nibbles
+nibbles_in_part parts part side = let p = unwrap_or (slice_get parts part) (record { order = []; men = [] }) in nibbles_of side p.order p.men
+
+abbrev pub nibbles_at : Layout → ℕ → ℕ → Nibbles
+nibbles_at l part side = nibbles_in_part l.parts part side
+
+-- WDL tables have two sides unless both sides have the same men, DTZ tables one
+abbrev pub side_count : Layout → ℕ
+side_count l = if is_dtz l.kind then 1 else if is_symmetric l.material then 1 else 2
+
+abbrev pub part_count : Layout → ℕ
+part_count l = if has_pawns l.material then 4 else 1
+
+-- the side that a DTZ subtable stores: its flag 1
+abbrev pub stored_side : Layout → ℕ → ℕ
+stored_side l part = slice_index l.flags part % 2
+
+-- the parts are there, and each side of each orders its groups without a fault
+pub record IsLayout (l : Layout) : Type 0 where
+  pub material : IsMaterial l.material
+  pub parts : length l.parts ≡ part_count l
+  pub ordered : (part side : ℕ) → part < part_count l → side < side_count l → IsNone (order_fault l.material (nibbles_at l part side))

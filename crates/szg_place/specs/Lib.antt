@@ -1,0 +1,11 @@
+pub mod Layout
+pub mod Normal
+pub mod Spots
+pub mod Ranks
+pub mod Laws
+pub mod Tables
+pub mod Numbers
+pub mod Slots
+pub mod Known
+pub mod Opened
+pub mod Prepared

@@ -1,0 +1,192 @@
+//! How a table numbers the placements of a part and side: its order, its groups, and the side that it stores.
+
+ghost use Rattle.std.specs.Prelude.{◌≡◌, ◌≤◌, ◌<◌, ◌%◌, ◌==◌, ◌&&◌, ◌||◌, not, [], length, map, None, drop, slice_index, slice_index_or, if◌then◌else◌};
+ghost use Rattle.std.specs.List.{list_all};
+ghost use Rattle.szg_values.specs.Material.{count_of, has_pawns, is_symmetric};
+ghost use Rattle.szg_count.specs.Groups.{IsPart, nibble, nibbles_of, order_fault, counted, groups_of};
+ghost use Rattle.szg_count.specs.Seen.{nibbles_in, groups_told};
+ghost use Rattle.szg_file.specs.Held.{part_of};
+ghost use Rattle.szg_place.specs.Layout.{is_dtz, layout_in, nibbles_in_part};
+ghost use Rattle.szg_place.specs.Spots.{is_regular, is_wrong_side};
+
+use crate::men::code_count;
+use arrayvec::ArrayVec;
+use szg_count::{Groups, Order};
+use szg_file::PartBytes;
+use szg_values::{Kind, Material};
+
+/// The subtable's side where this side is asked: a DTZ table has one for both.
+pub fn side_at(kind: Kind, asked: u8) -> u8
+    ensures { result ≡ (if is_dtz kind then 0 else asked) }
+{
+    match kind {
+        Kind::Wdl => asked,
+        Kind::Dtz => 0,
+    }
+}
+
+/// The nibbles of a part's side.
+pub fn order_in(parts: &[PartBytes], part: u8, side: u8) -> Order
+    requires part { part < length parts.now }
+    requires side { side < 2 }
+    requires few { length (nibbles_in_part (map part_of parts.now) part side).men ≤ 6 }
+    ensures { nibbles_in result ≡ nibbles_in_part (map part_of parts.now) part side }
+{
+    let bytes = &parts[usize::from(part)];
+    order_of(side, &bytes.order, &bytes.men)
+}
+
+fn order_of(side: u8, order: &[u8], men: &[u8]) -> Order
+    requires side { side < 2 }
+    requires men { length men.now ≤ 6 }
+    ensures { nibbles_in result ≡ nibbles_of side order.now men.now }
+{
+    let other = if order.len() > 1 {
+        Some(nibble_of(side, order[1]))
+    } else {
+        None
+    };
+    let mut used = ArrayVec::new();
+    'men: for man in men {
+        used.push(nibble_of(side, *man));
+    }
+    Order {
+        lead: nibble_of(side, byte_at(order, 0)),
+        other,
+        men: used,
+    }
+}
+
+// A byte of a list; 0 behind its end.
+fn byte_at(bytes: &[u8], i: usize) -> u8
+    ensures { result ≡ slice_index bytes.now i }
+{
+    if i < bytes.len() { bytes[i] } else { 0 }
+}
+
+// A side's nibble of a byte: side 0 has the low one.
+fn nibble_of(side: u8, byte: u8) -> u8
+    requires { side < 2 }
+    ensures { result ≡ nibble side byte }
+{
+    if side == 0 { byte % 16 } else { byte / 16 }
+}
+
+/// The groups of an order without a fault.
+pub fn groups_of(material: &Material, part: u8, order: &Order) -> Groups
+    requires part { IsPart material.now part }
+    requires ordered { order_fault material.now (nibbles_in order.now) ≡ None }
+    ensures { result ≡ groups_told (counted material.now part (nibbles_in order.now)) }
+{
+    let Ok(groups) = Groups::of(material, part, order) else {
+        unreachable!()
+    };
+    groups
+}
+
+/// The men of a part's side, cut into groups.
+#[derive(Drop)]
+pub struct SideGroups {
+    /// Its nibbles.
+    pub order: Order,
+    /// Its groups.
+    pub groups: Groups,
+    /// Whether its groups number placements.
+    pub regular: bool,
+}
+
+/// The groups of an order without a fault, and whether they number placements.
+pub fn grouped_by(material: &Material, part: u8, order: Order) -> SideGroups
+    requires part { IsPart material.now part }
+    requires ordered { order_fault material.now (nibbles_in order) ≡ None }
+    ensures order { nibbles_in result.order ≡ nibbles_in order }
+    ensures groups { result.groups ≡ groups_told (counted material.now part (nibbles_in order)) }
+    ensures regular { result.regular ≡ is_regular material.now (groups_of material.now order.men.items) }
+{
+    let groups = groups_of(material, part, &order);
+    let regular = is_regular(material, part, &order, &groups);
+    SideGroups {
+        order,
+        groups,
+        regular,
+    }
+}
+
+/// Whether without pawns each man of the lead group is the only one of its kind and colour, and each
+/// later group has all men of its kind and colour.
+pub fn is_regular(material: &Material, part: u8, order: &Order, groups: &Groups) -> bool
+    requires { groups.now ≡ groups_told (counted material.now part (nibbles_in order.now)) }
+    ensures { result ≡ is_regular material.now (groups_of material.now order.now.men.items) }
+{
+    is_lead_single(material, part, order, groups) && are_later_whole(material, part, order, groups)
+}
+
+fn is_lead_single(material: &Material, part: u8, order: &Order, groups: &Groups) -> bool
+    requires { groups.now ≡ groups_told (counted material.now part (nibbles_in order.now)) }
+    ensures { result ≡ (has_pawns material.now || list_all (λ code. count_of code order.now.men.items == 1) (slice_index_or (groups_of material.now order.now.men.items) 0 [])) }
+{
+    material.has_pawns() || is_group_counted(material, part, order, groups, 0, 1)
+}
+
+fn are_later_whole(material: &Material, part: u8, order: &Order, groups: &Groups) -> bool
+    requires { groups.now ≡ groups_told (counted material.now part (nibbles_in order.now)) }
+    ensures { result ≡ list_all (λ group. list_all (λ code. count_of code order.now.men.items == length group) group) (drop 1 (groups_of material.now order.now.men.items)) }
+{
+    for i in 1..groups.count() {
+        let number = groups.group(i).length;
+        if !is_group_counted(material, part, order, groups, i, usize::from(number)) {
+            return false;
+        }
+    }
+    true
+}
+
+// Whether there are so many men of each code of a group.
+fn is_group_counted(
+    material: &Material,
+    part: u8,
+    order: &Order,
+    groups: &Groups,
+    i: usize,
+    number: usize,
+) -> bool
+    requires told { groups.now ≡ groups_told (counted material.now part (nibbles_in order.now)) }
+    requires there { i < length groups.now }
+    ensures { result ≡ list_all (λ code. count_of code order.now.men.items == number) (slice_index_or (groups_of material.now order.now.men.items) i []) }
+{
+    let men = order.men.as_slice();
+    let group = groups.group(i);
+    let (_, rest) = men.split_at(usize::from(group.first));
+    let (codes, _) = rest.split_at(usize::from(group.length));
+    are_counted(codes, men, number)
+}
+
+fn are_counted(codes: &[u8], men: &[u8], number: usize) -> bool
+    ensures { result ≡ list_all (λ code. count_of code men.now == number) codes.now }
+{
+    codes.iter().all(|code| code_count(*code, men) == number)
+}
+
+/// Whether a DTZ subtable stores the other side than the one asked, unless the sides are alike and
+/// without pawns.
+pub fn is_wrong_side(material: &Material, kind: Kind, flags: &[u8], part: u8, asked: u8) -> bool
+    ensures { result ≡ is_wrong_side (layout_in kind material.now [] flags.now) part asked }
+{
+    match kind {
+        Kind::Wdl => false,
+        Kind::Dtz => !is_alike(material) && stored_side(flags, part) != asked,
+    }
+}
+
+fn is_alike(material: &Material) -> bool
+    ensures { result ≡ (is_symmetric material.now && not (has_pawns material.now)) }
+{
+    material.symmetric() && !material.has_pawns()
+}
+
+/// The side that a DTZ table stores of a part: the lowest bit of its flags.
+pub fn stored_side(flags: &[u8], part: u8) -> u8
+    ensures { result ≡ slice_index flags.now part % 2 }
+{
+    byte_at(flags, usize::from(part)) % 2
+}

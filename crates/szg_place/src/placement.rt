@@ -1,0 +1,162 @@
+//! The placement of an index.
+
+ghost use Rattle.std.specs.Prelude.{◌≡◌, ◌<◌, ◌≤◌, ◌==◌, ◌&&◌, [], length, None, IsNone, IsSome, IfSome, Ok, Err, if◌then◌else◌};
+ghost use Rattle.std.specs.List.{zip};
+ghost use Rattle.szg_count.specs.Groups.{Nibbles, IsPart, order_fault, counted, product};
+ghost use Rattle.szg_count.specs.Seen.{nibbles_in, groups_told};
+ghost use Rattle.szg_count.specs.Laws.{IsIn};
+ghost use Rattle.szg_file.specs.Values.{subtable_at};
+ghost use Rattle.szg_values.specs.Material.{has_pawns, is_symmetric};
+ghost use Rattle.szg_values.specs.Placement.{Standing};
+ghost use Rattle.szg_place.specs.Layout.{is_dtz, stored_side};
+ghost use Rattle.szg_place.specs.Spots.{placement_refusal, board_at, places_told, squares_told, standing_by_group, standing_on, man_at, color_at};
+ghost use Rattle.szg_place.specs.Tables.{numbering_of};
+
+use crate::PlaceFault;
+use crate::index::squares_at;
+use crate::numbering::{groups_of, is_regular, order_in, stored_side};
+use arrayvec::ArrayVec;
+use szg_count::{Groups, Order};
+use szg_file::Table;
+use szg_values::{Color, Kind, MAX_MEN, Man, Material, Placement, Square};
+
+/// The placement that an index of a part's side tells of: what `index_of` answers there, taken back.
+/// The name's first side is White, the mover the subtable's side (in DTZ the stored one; White where
+/// both sides have the same men), the men slot by slot, those of a later group from the greatest square down,
+/// the lead pawns from the greatest by the value P down, other lead men as their ordered list has them. It takes no memory.
+///
+/// Refused are, the first that stands: `Irregular`, and `WrongSide` for a DTZ subtable with pawns that
+/// stores Black where both sides have the same men.
+pub fn placement_of(table: &Table, part: u8, side: u8, index: u64) -> Result<Placement, PlaceFault>
+    requires there { IsSome (subtable_at table.now.contents part side) }
+    requires below { IfSome (subtable_at table.now.contents part side) (λ found. index < found.0.size) }
+    // The first reason that stands is answered.
+    ensures refused { IfSome (placement_refusal (numbering_of table.now.contents) part side) (λ fault. result ≡ Err fault) }
+    ensures placed { IsNone (placement_refusal (numbering_of table.now.contents) part side) → result ≡ Ok (board_at (numbering_of table.now.contents) part side index) }
+{
+    // The fill tells that this is a table, and the men that they are a material's.
+    let _fill = table.fill();
+    let material = table.material();
+    let _men = material.men();
+    let order = order_in(table.parts(), part, side);
+    let groups = groups_of(material, part, &order);
+    if !is_regular(material, part, &order, &groups) {
+        return Err(PlaceFault::Irregular);
+    }
+    let stored = stored_at(table, part);
+    if is_untold(material, table.kind(), stored) {
+        return Err(PlaceFault::WrongSide);
+    }
+    let men = men_at(material, part, &order, &groups, index);
+    let mover = mover_at(material, table.kind(), stored, side);
+    let Ok(placement) = Placement::new(men.as_slice(), mover) else {
+        unreachable!()
+    };
+    Ok(placement)
+}
+
+// The men that an index tells, slot by slot.
+fn men_at(
+    material: &Material,
+    part: u8,
+    order: &Order,
+    groups: &Groups,
+    index: u64,
+) -> ArrayVec<(Man, Color, Square), MAX_MEN>
+    ghost given: { Nibbles }
+    requires part { IsPart material.now part }
+    requires nibbles { nibbles_in order.now ≡ given }
+    requires ordered { order_fault material.now given ≡ None }
+    requires groups { groups.now ≡ groups_told (counted material.now part given) }
+    requires below { index < product (counted material.now part given).ways }
+    requires inside { (standing : Standing) → IsIn standing (standing_by_group (counted material.now part given).groups (squares_told material.now part [] (zip (counted material.now part given).groups (places_told (counted material.now part given) index)))) → standing.2 < 64 }
+    ensures { result.items ≡ standing_by_group (counted material.now part given).groups (squares_told material.now part [] (zip (counted material.now part given).groups (places_told (counted material.now part given) index))) }
+{
+    // Its men tell that this is a material.
+    let _men = material.men();
+    let squares = squares_at(material, part, groups, index);
+    standing_on(order.men.as_slice(), squares.as_slice())
+}
+
+// Men of these codes on these squares.
+fn standing_on(codes: &[u8], squares: &[u8]) -> ArrayVec<(Man, Color, Square), MAX_MEN>
+    requires few { length codes.now ≤ 6 }
+    requires same { length squares.now ≡ length codes.now }
+    requires inside { (standing : Standing) → IsIn standing (standing_on codes.now squares.now) → standing.2 < 64 }
+    ensures { result.items ≡ standing_on codes.now squares.now }
+{
+    let mut men = ArrayVec::new();
+    for (i, code) in codes.iter().enumerate() {
+        men.push(man_on(*code, squares[i]));
+    }
+    men
+}
+
+fn man_on(code: u8, square: u8) -> (Man, Color, Square)
+    requires { square < 64 }
+    ensures { result ≡ (man_at code, color_at code, square) }
+{
+    let Some(square) = Square::new(square) else {
+        unreachable!()
+    };
+    (man_at(code), color_at(code), square)
+}
+
+fn man_at(code: u8) -> Man
+    ensures { result ≡ man_at code }
+{
+    match code % 8 {
+        1 => Man::Pawn,
+        2 => Man::Knight,
+        3 => Man::Bishop,
+        4 => Man::Rook,
+        5 => Man::Queen,
+        _ => Man::King,
+    }
+}
+
+fn color_at(code: u8) -> Color
+    ensures { result ≡ color_at code }
+{
+    if code < 8 { Color::White } else { Color::Black }
+}
+
+// The side that a DTZ table stores of a part.
+fn stored_at(table: &Table, part: u8) -> u8
+    ensures { result ≡ stored_side (numbering_of table.now.contents) part }
+{
+    let flags = table.flags();
+    stored_side(flags.as_slice(), part)
+}
+
+// Whether a DTZ subtable with pawns stores Black where both sides have the same men: with colours
+// exchanged it is the placement's twin that it tells of.
+fn is_untold(material: &Material, kind: Kind, stored: u8) -> bool
+    ensures { result ≡ (is_dtz kind && is_symmetric material.now && has_pawns material.now && stored == 1) }
+{
+    match kind {
+        Kind::Wdl => false,
+        Kind::Dtz => material.symmetric() && material.has_pawns() && stored == 1,
+    }
+}
+
+// Who moves: the subtable's side, in DTZ the one that it stores; White where both sides have the same men.
+fn mover_at(material: &Material, kind: Kind, stored: u8, side: u8) -> Color
+    ensures { result ≡ (if is_symmetric material.now then Color.White else if (if is_dtz kind then stored else side) == 0 then Color.White else Color.Black) }
+{
+    if material.symmetric() || told_side(kind, stored, side) == 0 {
+        Color::White
+    } else {
+        Color::Black
+    }
+}
+
+// The side that a subtable tells of: in DTZ the one that it stores.
+fn told_side(kind: Kind, stored: u8, side: u8) -> u8
+    ensures { result ≡ (if is_dtz kind then stored else side) }
+{
+    match kind {
+        Kind::Wdl => side,
+        Kind::Dtz => stored,
+    }
+}

@@ -1,0 +1,66 @@
+//! What a table tells of a placement.
+
+ghost use Rattle.std.specs.Prelude.{◌≡◌, ◌≤ℤ◌, pos, neg_ℤ, IsNone, IfSome, IsSomeAnd, MatchResult, Ok, Err};
+ghost use Rattle.szg_place.specs.Spots.{place_fault, spot_of};
+ghost use Rattle.szg_place.specs.Tables.{numbering_of, value_at, class_of, mapped_number};
+
+use crate::spots::index_of;
+use crate::{PlaceFault, ProbeFault};
+use szg_file::Table;
+use szg_values::{Kind, Placement};
+
+/// What a WDL table tells of a placement: 2 a win, 1 a cursed win, 0 a draw, -1 a blessed loss, -2 a
+/// loss for the side to move; None for a value that is no class. Nothing is asked of captures or of
+/// en passant. (`probe_wdl_table` in the probing code.)
+///
+/// Refused is what `index_of` refuses, and as it does.
+pub fn probe_wdl(table: &Table, placement: &Placement) -> Result<Option<i8>, PlaceFault>
+    requires { table.now.contents.kind ≡ Kind.Wdl }
+    ensures refused { IfSome (place_fault (numbering_of table.now.contents) placement.now) (λ fault. result ≡ Err fault) }
+    ensures class { IsNone (place_fault (numbering_of table.now.contents) placement.now) →
+        IsSomeAnd (value_at table.now.contents (spot_of (numbering_of table.now.contents) placement.now)) (λ v. result ≡ Ok (class_of v)) }
+{
+    match index_of(table, placement) {
+        Ok(spot) => Ok(class_of(table.get(spot.part, spot.side, spot.index))),
+        Err(fault) => Err(fault),
+    }
+}
+
+// The class of a WDL value: less two, up to 4.
+pub(crate) fn class_of(value: u16) -> Option<i8>
+    ensures { result ≡ class_of value }
+{
+    if value < 5 {
+        Some(value as i8 - 2)
+    } else {
+        None
+    }
+}
+
+/// What a DTZ table tells of a placement of this class (2 win, 1 cursed win, -1 blessed loss, -2 loss):
+/// a number of plies without sign, doubled where the table counts moves. (`probe_dtz_table` in the
+/// probing code.)
+///
+/// Refused is `Place` for what `index_of` refuses, then `Map` where the class has no list or the list
+/// no such item.
+pub fn probe_dtz(table: &Table, placement: &Placement, class: i8) -> Result<u32, ProbeFault>
+    requires kind { table.now.contents.kind ≡ Kind.Dtz }
+    requires lowest { neg_ℤ (pos 2) ≤ℤ class }
+    requires highest { class ≤ℤ pos 2 }
+    ensures refused { IfSome (place_fault (numbering_of table.now.contents) placement.now) (λ fault. result ≡ Err (ProbeFault.Place fault)) }
+    // The table's map is asked only for a placement that the table answers.
+    ensures number { IsNone (place_fault (numbering_of table.now.contents) placement.now) →
+        (let spot = spot_of (numbering_of table.now.contents) placement.now in
+        IsSomeAnd (value_at table.now.contents spot) (λ v. MatchResult (mapped_number table.now.contents spot.part class v)
+        (λ number. result ≡ Ok number) (λ fault. result ≡ Err (ProbeFault.Map fault)))) }
+{
+    let spot = match index_of(table, placement) {
+        Ok(spot) => spot,
+        Err(fault) => return Err(ProbeFault::Place(fault)),
+    };
+    let value = table.get(spot.part, spot.side, spot.index);
+    match table.map_value(spot.part, class, value) {
+        Ok(number) => Ok(number),
+        Err(fault) => Err(ProbeFault::Map(fault)),
+    }
+}

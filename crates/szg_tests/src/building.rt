@@ -1,0 +1,391 @@
+//! Tables built of values, byte for byte, and what of a plan and its lists is refused.
+
+use crate::files::{changed, check_written, material};
+use crate::fixtures::{self, Fixture};
+use std::alloc::{AllocError, Global};
+use std::process::Abort;
+use std::test::Fail;
+use szg_build::{BuildFault, Plan, build};
+use szg_file::{Map, PartBytes, file_len, write};
+use szg_io::Std;
+use szg_values::{Kind, Material};
+
+/// How many values a side of king and a man against king has.
+const THREE_MEN: usize = 31332;
+
+/// How many values a part's side of king and pawn against king has.
+const PAWN: usize = 23436;
+
+/// The lists of all subtables, one behind another, each as some values again and again.
+fn values(alloc: Global, lists: &[(&[u16], usize)]) -> Result<Vec<u16>, AllocError> {
+    let mut all = Vec::new(alloc);
+    for (pattern, times) in lists {
+        for _ in 0..*times {
+            all.extend_from_slice(pattern)?;
+        }
+    }
+    Ok(all)
+}
+
+/// So many parts of the same men in the order of their groups.
+fn parts(alloc: Global, count: u8, men: &[u8]) -> Result<Vec<PartBytes>, AllocError> {
+    let mut parts = Vec::new(alloc);
+    for _ in 0..count {
+        parts.push(PartBytes {
+            order: Vec::from_slice(alloc, &[0])?,
+            men: Vec::from_slice(alloc, men)?,
+        })?;
+    }
+    Ok(parts)
+}
+
+/// A plan of outcomes, each part with these men.
+fn outcomes(
+    alloc: Global,
+    material: Material,
+    men: &[u8],
+    bits: (u8, u8),
+    rounds: u32,
+) -> Result<Plan, AllocError> {
+    let count = if material.has_pawns() { 4 } else { 1 };
+    Ok(Plan {
+        parts: parts(alloc, count, men)?,
+        material,
+        kind: Kind::Wdl,
+        block_bits: bits.0,
+        span_bits: bits.1,
+        rounds,
+        flags: Vec::new(alloc),
+        maps: Vec::new(alloc),
+        last: [0, 1, 2, 3, 4, 5, 6, 7, 8, 9, 10, 11, 12, 13, 14, 15],
+    })
+}
+
+/// A plan of distances without pawns, flags and map.
+fn distances(
+    alloc: Global,
+    material: Material,
+    men: &[u8],
+    bits: (u8, u8),
+    rounds: u32,
+) -> Result<Plan, AllocError> {
+    let mut plan = outcomes(alloc, material, men, bits, rounds)?;
+    plan.kind = Kind::Dtz;
+    plan.flags.push(0)?;
+    plan.maps.push(None)?;
+    Ok(plan)
+}
+
+/// A plan of distances of king and queen against king, in blocks of 32 bytes.
+fn queen_distances(alloc: Global, rounds: u32) -> Result<Plan, Fail> {
+    let material = Material::parse("KQvK")?;
+    Ok(distances(alloc, material, &[6, 5, 14], (5, 16), rounds)?)
+}
+
+/// The values as lists of so many each.
+fn lists_of<'a>(
+    alloc: Global,
+    values: &'a [u16],
+    size: usize,
+) -> Result<Vec<&'a [u16]>, AllocError> {
+    let mut lists = Vec::new(alloc);
+    for list in values.chunks(size.max(1)) {
+        lists.push(list)?;
+    }
+    Ok(lists)
+}
+
+/// The plan and these lists of so many values each make this file.
+fn check_built(
+    rt: &(impl Abort + Alloc<A = Global>),
+    plan: &Plan,
+    values: &[u16],
+    size: usize,
+    file: &Fixture,
+) -> Result<(), Fail> {
+    let lists = lists_of(rt.alloc(), values, size)?;
+    let table = build(rt.alloc(), plan, &lists)?;
+    check_written(rt, &table, &file.bytes);
+    Ok(())
+}
+
+/// The plan and this one list make a file that begins with these bytes.
+fn check_front(
+    rt: &(impl Abort + Alloc<A = Global>),
+    plan: &Plan,
+    values: &[u16],
+    front: &[u8],
+) -> Result<(), Fail> {
+    let table = build(rt.alloc(), plan, &[values])?;
+    let mut output = Std::new(Vec::new(rt.alloc()));
+    assert!(rt; write(&table, &mut output).is_ok());
+    assert!(rt; output.inner().as_slice().starts_with(front));
+    Ok(())
+}
+
+/// A plan with these men, bits and rounds and these lists for both sides make the file.
+fn check_outcomes(
+    rt: &(impl Abort + Alloc<A = Global>),
+    file: &Fixture,
+    men: [u8; 3],
+    (block_bits, span_bits, rounds): (u8, u8, u32),
+    lists: &[(&[u16], usize)],
+) -> Result<(), Fail> {
+    let plan = outcomes(
+        rt.alloc(),
+        material(file)?,
+        &men,
+        (block_bits, span_bits),
+        rounds,
+    )?;
+    let values = values(rt.alloc(), lists)?;
+    check_built(rt, &plan, &values, THREE_MEN, file)
+}
+
+const KNIGHT: [u8; 3] = [0x66, 0x22, 0xee];
+
+const QUEEN: [u8; 3] = [0x66, 0x55, 0xee];
+
+#[test]
+fn outcomes_without_pairs(rt: HostRuntime) -> Result<(), Fail> {
+    let (draws, turns) = ((&[2][..], 31332), (&[2, 4][..], 15666));
+    let file = fixtures::knvk_wdl_constant(rt.alloc())?;
+    check_outcomes(&rt, &file, KNIGHT, (6, 12, 0), &[draws, draws])?;
+    let file = fixtures::kqvk_wdl_unpaired(rt.alloc())?;
+    check_outcomes(&rt, &file, QUEEN, (5, 16, 0), &[turns, draws])?;
+    let file = fixtures::kqvk_wdl_both_sides(rt.alloc())?;
+    check_outcomes(&rt, &file, QUEEN, (5, 16, 0), &[turns, turns])
+}
+
+/// Of as many pairs as the plan allows eight are made where no ninth counts four.
+#[test]
+fn outcomes_with_pairs(rt: HostRuntime) -> Result<(), Fail> {
+    let file = fixtures::kqvk_wdl_paired(rt.alloc())?;
+    for rounds in [8, 200] {
+        let lists = [(&[2, 4][..], 15666), (&[2][..], 31332)];
+        check_outcomes(&rt, &file, QUEEN, (5, 10, rounds), &lists)?;
+    }
+    Ok(())
+}
+
+/// Eight lists, each of one value.
+#[test]
+fn outcomes_of_parts_in_their_order(rt: HostRuntime) -> Result<(), Fail> {
+    let mut all = Vec::new(rt.alloc());
+    let mut changes = [(0, 0); 8];
+    for (n, change) in changes.iter_mut().enumerate() {
+        let value = n % 5;
+        *change = (23 + 2 * n, value as u8);
+        all.resize((n + 1) * PAWN, value as u16)?;
+    }
+    let file = changed(
+        rt.alloc(),
+        &fixtures::kpvk_wdl_constant(rt.alloc())?,
+        &changes,
+    )?;
+    let plan = outcomes(
+        rt.alloc(),
+        Material::parse("KPvK")?,
+        &[0x11, 0x66, 0xee],
+        (6, 12),
+        0,
+    )?;
+    check_built(&rt, &plan, &all, PAWN, &file)
+}
+
+/// A list of one value that isn't 0 has a dictionary and blocks.
+#[test]
+fn distances_of_one_value(rt: HostRuntime) -> Result<(), Fail> {
+    let plan = queen_distances(rt.alloc(), 0)?;
+    let values = values(rt.alloc(), &[(&[3], THREE_MEN)])?;
+    let file = fixtures::kqvk_dtz_packed(rt.alloc())?;
+    check_built(&rt, &plan, &values, THREE_MEN, &file)
+}
+
+/// The lists for the four classes, of which only the first has items.
+fn lists_with<T>(alloc: Global, first: Vec<T>) -> [Vec<T>; 4] {
+    [first, Vec::new(alloc), Vec::new(alloc), Vec::new(alloc)]
+}
+
+#[test]
+fn distances_with_maps(rt: HostRuntime) -> Result<(), Fail> {
+    let mut plan = outcomes(
+        rt.alloc(),
+        Material::parse("KPvK")?,
+        &[1, 6, 14],
+        (6, 12),
+        0,
+    )?;
+    plan.kind = Kind::Dtz;
+    plan.flags.extend_from_slice(&[2, 18, 0, 0])?;
+    let short = Vec::from_slice(rt.alloc(), &[7])?;
+    let wide = Vec::from_slice(rt.alloc(), &[300])?;
+    plan.maps
+        .push(Some(Map::Bytes(lists_with(rt.alloc(), short))))?;
+    plan.maps
+        .push(Some(Map::Wide(lists_with(rt.alloc(), wide))))?;
+    plan.maps.push(None)?;
+    plan.maps.push(None)?;
+    let values = values(rt.alloc(), &[(&[0], 4 * PAWN)])?;
+    let file = fixtures::kpvk_dtz_mapped(rt.alloc())?;
+    check_built(&rt, &plan, &values, PAWN, &file)
+}
+
+/// Symbols 0 0 0 1 0 1, again and again: 0 1 counts most; then 0 0, 0 2 and 2 2 count the same, and the least goes first.
+#[test]
+fn the_most_frequent_pair_goes_first(rt: HostRuntime) -> Result<(), Fail> {
+    let plan = queen_distances(rt.alloc(), 2)?;
+    let values = values(rt.alloc(), &[(&[1, 1, 1, 2, 1, 2], 5222)])?;
+    let front = [
+        0xd7, 0x66, 0x0c, 0xa5, 0x01, 0x00, 0x06, 0x05, 0x0e, 0x00, 0x00, 0x05, 0x10, 0x01, 0x7b,
+        0x00, 0x00, 0x00, 0x02, 0x02, 0x00, 0x00, 0x04, 0x00, 0x01, 0xf0, 0xff, 0x02, 0xf0, 0xff,
+        0x00, 0x10, 0x00, 0x00, 0x00, 0x00, 0x7b, 0x00, 0x00, 0x00, 0x9c, 0x05, 0xff, 0x00,
+    ];
+    check_front(&rt, &plan, &values, &front)
+}
+
+/// The front of a file of 873,642 values in blocks of 65,536, which would have room for more bits.
+fn front_of_full_blocks(alloc: Global) -> Result<Vec<u8>, AllocError> {
+    let mut front = Vec::from_slice(
+        alloc,
+        &[
+            0xd7, 0x66, 0x0c, 0xa5, 0x01, 0x00, 0x06, 0x0e, 0x03, 0x03, 0x00, 0x07, 0x10, 0x01,
+            0x0e, 0x00, 0x00, 0x00, 0x04, 0x03, 0x04, 0x00, 0x00, 0x00, 0x0a, 0x00, 0x02, 0xf0,
+            0xff, 0x04, 0xf0, 0xff, 0x00, 0x10, 0x00,
+        ],
+    )?;
+    for child in 2..9u8 {
+        front.extend_from_slice(&[child, child * 16, 0x00])?;
+    }
+    for block in 0..13 {
+        front.extend_from_slice(&[block, 0x00, 0x00, 0x00, 0x00, 0x80])?;
+    }
+    front.extend_from_slice(&[0x0e, 0x00, 0x00, 0x00, 0x56, 0x2b])?;
+    front.resize(front.len() + 26, 0xff)?;
+    front.extend_from_slice(&[0xa9, 0x54, 0xff, 0xff])?;
+    Ok(front)
+}
+
+#[test]
+fn blocks_of_as_many_values_as_may_be(rt: HostRuntime) -> Result<(), Fail> {
+    let plan = distances(
+        rt.alloc(),
+        Material::parse("KBBvK")?,
+        &[6, 14, 3, 3],
+        (7, 16),
+        8,
+    )?;
+    let values = values(rt.alloc(), &[(&[2, 4], 436821)])?;
+    check_front(&rt, &plan, &values, &front_of_full_blocks(rt.alloc())?)
+}
+
+/// The plan and these values, in lists of so many each, are refused.
+fn check_refused(
+    rt: &(impl Abort + Alloc<A = Global>),
+    plan: &Plan,
+    values: &[u16],
+    size: usize,
+    want: BuildFault,
+) -> Result<(), Fail> {
+    let lists = lists_of(rt.alloc(), values, size)?;
+    assert!(rt;
+        build(rt.alloc(), plan, &lists).err() == Some(want),
+        "{want}"
+    );
+    Ok(())
+}
+
+/// A plan with a fault of each kind, of which so many were made good.
+fn mended(alloc: Global, good: u8) -> Result<Plan, Fail> {
+    let men = if good < 1 { [6, 5, 5] } else { [6, 5, 14] };
+    let block_bits = if good < 2 { 4 } else { 5 };
+    let rounds = if good < 3 { 4001 } else { 4000 };
+    let flags = if good < 4 { &[0, 0][..] } else { &[2][..] };
+    let material = Material::parse("KQvK")?;
+    let mut plan = distances(alloc, material, &men, (block_bits, 16), rounds)?;
+    plan.flags = Vec::from_slice(alloc, flags)?;
+    Ok(plan)
+}
+
+/// So many values: so many different ones from 0 on, and then zeros.
+fn different(alloc: Global, count: u16, size: usize) -> Result<Vec<u16>, AllocError> {
+    let mut list = Vec::new(alloc);
+    for value in 0..count {
+        list.push(value)?;
+    }
+    list.resize(size, 0)?;
+    Ok(list)
+}
+
+/// A plan with so many faults made good is refused with a list of so many different values.
+fn check_mended(
+    rt: &(impl Abort + Alloc<A = Global>),
+    good: u8,
+    (count, size): (u16, usize),
+    want: BuildFault,
+) -> Result<(), Fail> {
+    let list = different(rt.alloc(), count, size)?;
+    check_refused(rt, &mended(rt.alloc(), good)?, &list, size, want)
+}
+
+/// All is wrong at first, and is made good from the first fault on.
+#[test]
+fn faults_in_their_order(rt: HostRuntime) -> Result<(), Fail> {
+    for (good, list, want) in [
+        (0, (0, 0), BuildFault::Order),
+        (1, (0, 0), BuildFault::Bits),
+        (2, (0, 0), BuildFault::Rounds),
+        (3, (0, 0), BuildFault::Count),
+        (3, (4097, 31331), BuildFault::Length(0)),
+        (3, (4097, 31332), BuildFault::Value(0)),
+        (3, (4096, 31332), BuildFault::TooManyValues(0)),
+        (3, (4095, 31332), BuildFault::Map),
+        (4, (4095, 31332), BuildFault::Map),
+    ] {
+        check_mended(&rt, good, list, want)?;
+    }
+    Ok(())
+}
+
+#[test]
+fn faults_of_the_second_list(rt: HostRuntime) -> Result<(), Fail> {
+    let plan = outcomes(rt.alloc(), Material::parse("KNvK")?, &KNIGHT, (6, 12), 0)?;
+    let list = values(rt.alloc(), &[(&[2], 62663), (&[5], 1)])?;
+    check_refused(&rt, &plan, &list, THREE_MEN, BuildFault::Value(1))?;
+    check_refused(&rt, &plan, &list, THREE_MEN + 1, BuildFault::Length(0))?;
+    let list = values(rt.alloc(), &[(&[2], 62663)])?;
+    check_refused(&rt, &plan, &list, THREE_MEN, BuildFault::Length(1))
+}
+
+/// A plan of pairs and of a map with one item.
+fn pairs_and_a_map(alloc: Global, material: Material) -> Result<Plan, AllocError> {
+    let mut plan = distances(alloc, material, &[6, 5, 14], (5, 10), 8)?;
+    plan.flags = Vec::from_slice(alloc, &[2])?;
+    let short = Vec::from_slice(alloc, &[7])?;
+    plan.maps.clear();
+    plan.maps.push(Some(Map::Bytes(lists_with(alloc, short))))?;
+    Ok(plan)
+}
+
+/// The plan and this list make a file of so many bytes, or memory was refused.
+fn check_memory(rt: &(impl Abort + Alloc<A = Global>), plan: &Plan, list: &[u16], length: u64) {
+    match build(rt.alloc(), plan, &[list]) {
+        Ok(table) => assert!(rt; file_len(&table) == length),
+        Err(fault) => assert!(rt; fault == BuildFault::Memory),
+    }
+}
+
+/// To be run with each allocation refused in turn: nothing but want of memory is answered.
+#[test]
+fn refused_growths_are_want_of_memory(rt: HostRuntime) {
+    let Ok(material) = Material::parse("KQvK") else {
+        return;
+    };
+    let Ok(plan) = pairs_and_a_map(rt.alloc(), material) else {
+        return;
+    };
+    let Ok(list) = values(rt.alloc(), &[(&[2, 4], 15666)]) else {
+        return;
+    };
+    check_memory(&rt, &plan, &list, 336);
+}

@@ -1,0 +1,233 @@
+//! Codes: words, refusals, reading and writing on small codes, and `next` beside a reader of single bits.
+use std::alloc::Global;
+use std::process::Abort;
+use std::test::Fail;
+use szg_code::{BitBuf, Bits, Code, CodeFault, PutFault, next, put, word};
+
+fn code(alloc: Global, min: u8, max: u8, lowest: &[u16], n: u16) -> Result<Code, Fail> {
+    Ok(Code::new(min, max, lowest.to_vec(alloc)?, n)?)
+}
+
+/// The symbol's word: its length and its number.
+fn check_word(rt: &impl Abort, code: &Code, symbol: u16, want: Option<(u8, u32)>) {
+    let found = word(code, symbol).map(|word| (word.length, word.number));
+    assert_eq!(rt; found, want);
+}
+
+#[test]
+fn words_of_symbols(rt: HostRuntime) -> Result<(), Fail> {
+    let three = code(rt.alloc(), 1, 2, &[2, 0], 3)?;
+    let words = [Some((2, 0)), Some((2, 1)), Some((1, 1)), None];
+    for (symbol, word) in words.iter().enumerate() {
+        check_word(&rt, &three, symbol as u16, *word);
+    }
+    let two = code(rt.alloc(), 1, 2, &[1, 0], 2)?;
+    check_word(&rt, &two, 1, Some((1, 0)));
+    check_word(&rt, &two, 0, None);
+    assert!(rt; two.min() == 1 && two.max() == 2 && two.symbols() == 2);
+    assert!(rt; two.lowest() == [1, 0].as_slice());
+    Ok(())
+}
+
+#[test]
+fn refused_codes(rt: HostRuntime) -> Result<(), Fail> {
+    for (min, max, lowest, n, want) in [
+        (0, 1, &[1, 0][..], 2, CodeFault::Lengths),
+        (2, 1, &[][..], 2, CodeFault::Lengths),
+        (32, 33, &[0, 0][..], 2, CodeFault::Lengths),
+        (1, 2, &[0][..], 2, CodeFault::Lengths),
+        (1, 2, &[0, 2][..], 2, CodeFault::LowestOrder(1)),
+        (1, 2, &[4, 0][..], 4, CodeFault::TooFull(0)),
+        (1, 3, &[2, 2, 0][..], 4, CodeFault::TooFull(0)),
+        (1, 4, &[3, 2, 2, 0][..], 4, CodeFault::TooFull(1)),
+        (1, 2, &[65535, 0][..], 65535, CodeFault::TooFull(0)),
+    ] {
+        let answer = Code::new(min, max, lowest.to_vec(rt.alloc())?, n);
+        assert_eq!(rt; answer.err(), Some(want));
+    }
+    Ok(())
+}
+
+fn check_symbols(rt: &impl Abort, code: &Code, bytes: &[u8], symbols: &[u16], place: u64) {
+    assert!(rt; bytes.len() <= 64);
+    let mut bits = Bits::new(bytes);
+    for symbol in symbols {
+        assert_eq!(rt; next(code, &mut bits), Some(*symbol), "in {bytes:?}");
+    }
+    assert!(rt;
+        next(code, &mut bits).is_none() && bits.place() == place,
+        "behind the symbols of {bytes:?}"
+    );
+}
+
+#[test]
+fn symbols_of_bytes(rt: HostRuntime) -> Result<(), Fail> {
+    let three = code(rt.alloc(), 1, 2, &[2, 0], 3)?;
+    check_symbols(&rt, &three, &[0x88], &[2, 0, 1, 0], 7);
+    let zeros = code(rt.alloc(), 1, 32, &[0; 32], 2)?;
+    check_symbols(&rt, &zeros, &[0x40], &[0, 1, 0, 0, 0, 0, 0, 0], 8);
+    Ok(())
+}
+
+#[test]
+fn symbols_of_long_words(rt: HostRuntime) -> Result<(), Fail> {
+    let long = code(rt.alloc(), 32, 32, &[0], 2)?;
+    check_symbols(&rt, &long, &[0, 0, 0, 1, 0, 0, 0, 0], &[1, 0], 64);
+    let neighbours = code(rt.alloc(), 31, 32, &[2, 0], 3)?;
+    let bytes = [0, 0, 0, 1, 0, 0, 0, 2, 0, 0, 0, 2, 0, 0, 0, 0];
+    for (length, symbols, place) in [
+        (16, &[1, 2, 1, 0][..], 127),
+        (8, &[1, 2][..], 63),
+        (7, &[1][..], 32),
+    ] {
+        check_symbols(&rt, &neighbours, &bytes[..length], symbols, place);
+    }
+    Ok(())
+}
+
+#[test]
+fn symbols_of_the_largest_code(rt: HostRuntime) -> Result<(), Fail> {
+    let many = code(rt.alloc(), 15, 16, &[65535, 0], 65535)?;
+    check_symbols(&rt, &many, &[0xff, 0xfd], &[65533], 16);
+    check_symbols(&rt, &many, &[0xff, 0xfe], &[], 0);
+    check_symbols(&rt, &many, &[0xff, 0xff], &[], 0);
+    Ok(())
+}
+
+/// Putting a symbol answers this, and then the buffer has so many bits and these bytes.
+fn check_put(
+    rt: &impl Abort,
+    code: &Code,
+    symbol: u16,
+    buffer: &mut BitBuf,
+    want: Result<(), PutFault>,
+    bits: u64,
+    bytes: &[u8],
+) {
+    assert!(rt; buffer.bits() < 64);
+    assert_eq!(rt; put(code, symbol, buffer), want);
+    assert!(rt; buffer.bits() == bits && buffer.bytes() == bytes);
+}
+
+#[test]
+fn bytes_of_symbols(rt: HostRuntime) -> Result<(), Fail> {
+    let three = code(rt.alloc(), 1, 2, &[2, 0], 3)?;
+    let two = code(rt.alloc(), 1, 2, &[1, 0], 2)?;
+    let mut buffer = BitBuf::new(rt.alloc());
+    for (symbol, bits, byte) in [(2, 1, 0x80), (0, 3, 0x80), (1, 5, 0x88)] {
+        check_put(&rt, &three, symbol, &mut buffer, Ok(()), bits, &[byte]);
+    }
+    check_put(&rt, &two, 0, &mut buffer, Err(PutFault::NoWord), 5, &[0x88]);
+    Ok(())
+}
+
+/// Puts words of 32 bits until there is no memory, which leaves the buffer as it was.
+#[test]
+fn refused_growth(rt: HostRuntime) {
+    let Ok(lowest) = [7].to_vec(rt.alloc()) else {
+        return
+    };
+    let Ok(long) = Code::new(32, 32, lowest, 9) else {
+        return
+    };
+    let mut buffer = BitBuf::new(rt.alloc());
+    for count in 0..64u64 {
+        assert!(rt; buffer.bits() == 32 * count);
+        if let Err(fault) = put(&long, 8, &mut buffer) {
+            assert!(rt; fault == PutFault::Memory && buffer.bits() == 32 * count);
+            assert!(rt; buffer.bytes().len() as u64 == 4 * count);
+            return;
+        }
+    }
+    for (at, byte) in buffer.bytes().iter().enumerate() {
+        assert!(rt; *byte == (at % 4 == 3) as u8, "at {at}");
+    }
+}
+
+/// The word at a place of some bytes, taken bit by bit: its symbol and its length. No word: None.
+fn next_by_bits(code: &Code, bytes: &[u8], place: u64) -> Option<(u16, u64)> {
+    let mut number = 0u64;
+    for length in 1..=code.max() {
+        let at = place.wrapping_add(u64::from(length) - 1);
+        let byte = u64::from(*bytes.get((at / 8) as usize)?);
+        number = number
+            .wrapping_mul(2)
+            .wrapping_add(byte >> (7 - at % 8) & 1);
+        let base = base_of(code, length);
+        if length >= code.min() && number >= base {
+            let lowest = lowest_of(code, length);
+            let symbol = lowest.wrapping_add(number - base);
+            return if symbol < u64::from(code.symbols()) {
+                Some((symbol as u16, u64::from(length)))
+            } else {
+                None
+            };
+        }
+    }
+    None
+}
+
+fn lowest_of(code: &Code, length: u8) -> u64 {
+    let place = usize::from(length.wrapping_sub(code.min()));
+    u64::from(code.lowest().get(place).copied().unwrap_or(0))
+}
+
+fn base_of(code: &Code, length: u8) -> u64 {
+    let mut base = 0u64;
+    for below in 1..=code.max().wrapping_sub(length) {
+        let here = code.max().wrapping_sub(below);
+        base = base
+            .wrapping_add(lowest_of(code, here))
+            .wrapping_sub(lowest_of(code, here.wrapping_add(1)))
+            / 2;
+    }
+    base
+}
+
+/// Bytes of which about a quarter are not 0, from one state of a generator to the next.
+fn sparse_bytes(state: &mut u64) -> [u8; 48] {
+    let mut bytes = [0u8; 48];
+    for byte in bytes.iter_mut() {
+        *state = state
+            .wrapping_mul(6364136223846793005)
+            .wrapping_add(1442695040888963407);
+        *byte = (*state >> 56) as u8 & if *state >> 40 & 3 == 0 { 255 } else { 0 };
+    }
+    bytes
+}
+
+/// Up to the first place where no word begins, `next` takes what single bits tell.
+fn check_agrees(rt: &impl Abort, code: &Code, bytes: &[u8]) {
+    assert!(rt; bytes.len() <= 48);
+    let mut bits = Bits::new(bytes);
+    for _ in 0..400 {
+        let place = bits.place();
+        let want = next_by_bits(code, bytes, place);
+        let found = next(code, &mut bits);
+        assert_eq!(rt;
+            found.map(|symbol| (symbol, bits.place().wrapping_sub(place))),
+            want,
+            "at {place} of {bytes:?}"
+        );
+        if found.is_none() {
+            return;
+        }
+    }
+}
+
+#[test]
+fn agrees_with_single_bits(rt: HostRuntime) -> Result<(), Fail> {
+    let codes = [
+        code(rt.alloc(), 1, 2, &[1, 0], 2)?,
+        code(rt.alloc(), 31, 32, &[2, 0], 3)?,
+        code(rt.alloc(), 1, 32, &[0; 32], 2)?,
+        code(rt.alloc(), 3, 7, &[40, 37, 30, 20, 0], 45)?,
+    ];
+    for code in &codes {
+        let mut state = 1;
+        for length in 0..48usize {
+            check_agrees(&rt, code, &sparse_bytes(&mut state)[..length]);
+        }
+    }
+    Ok(())
+}

@@ -1,0 +1,216 @@
+//! What tables hold, and the look-ups in them.
+
+use crate::files::accepted;
+use crate::fixtures::{self, Fixture};
+use std::alloc::Global;
+use std::process::Abort;
+use std::test::Fail;
+use szg_block::Sub;
+use szg_file::{Map, MapFault, PartBytes, Table};
+use szg_values::Kind;
+
+/// A value, where the table has it.
+fn value(table: &Table, part: u8, side: u8, i: u64) -> Option<u16> {
+    match table.size(part, side) {
+        Some(size) if i < size => Some(table.get(part, side, i)),
+        _ => None,
+    }
+}
+
+/// The number of a value in a class, where the table is DTZ and has the part.
+fn number(table: &Table, part: u8, class: i8, v: u16) -> Option<Result<u32, MapFault>> {
+    if class < -2 || class > 2 {
+        return None;
+    }
+    match (table.kind(), table.size(part, 0)) {
+        (Kind::Dtz, Some(_)) => Some(table.map_value(part, class, v)),
+        _ => None,
+    }
+}
+
+#[test]
+fn pawns_on_both_sides(rt: HostRuntime) -> Result<(), Fail> {
+    let file = fixtures::kpvkp_wdl_constant(rt.alloc())?;
+    assert!(rt; file.bytes.len() == 80);
+    let table = accepted(&rt, &file, &[])?;
+    for part in 0..4 {
+        assert!(rt; value(&table, part, 0, 0) == Some(2) && table.size(part, 1) == None);
+    }
+    Ok(())
+}
+
+#[test]
+fn packed_distances(rt: HostRuntime) -> Result<(), Fail> {
+    let file = fixtures::kqvk_dtz_packed(rt.alloc())?;
+    assert!(rt; file.bytes.len() == 4304);
+    let table = accepted(&rt, &file, &[])?;
+    assert_eq!(rt; table.size(0, 0), Some(31332));
+    for i in [0, 255, 31331] {
+        assert!(rt; value(&table, 0, 0, i) == Some(3), "at {i}");
+    }
+    Ok(())
+}
+
+#[test]
+fn two_packed_sides(rt: HostRuntime) -> Result<(), Fail> {
+    let file = fixtures::kqvk_wdl_both_sides(rt.alloc())?;
+    assert!(rt; file.bytes.len() == 8528);
+    let table = accepted(&rt, &file, &[])?;
+    for side in 0..2 {
+        assert!(rt; value(&table, 0, side, 31330) == Some(2));
+        assert!(rt; value(&table, 0, side, 31331) == Some(4));
+    }
+    Ok(())
+}
+
+/// Side 0 has 2, 4, 2, 4 .., and side 1 is all 2.
+fn check_queen(rt: &impl Abort, table: &Table) {
+    for k in 0..4476 {
+        let i = 7 * k;
+        let want = if i % 2 == 0 { 2 } else { 4 };
+        assert!(rt; value(table, 0, 0, i) == Some(want), "at {i}");
+    }
+    for (part, side, i, want) in [
+        (0, 0, 0, Some(2)),
+        (0, 0, 255, Some(4)),
+        (0, 0, 31331, Some(4)),
+        (0, 0, 31332, None),
+        (0, 1, 31331, Some(2)),
+        (1, 0, 0, None),
+    ] {
+        assert!(rt; value(table, part, side, i) == want, "{part} {side} at {i}");
+    }
+}
+
+/// The table has so many parts of two sides with so many positions each.
+fn check_sizes(
+    rt: &(impl Abort + Alloc<A = Global>),
+    file: &Fixture,
+    parts: u8,
+    size: u64,
+) -> Result<(), Fail> {
+    let table = accepted(rt, file, &[])?;
+    for part in 0..parts {
+        let sizes = (table.size(part, 0), table.size(part, 1));
+        assert!(rt; sizes == (Some(size), Some(size)), "part {part}");
+    }
+    assert!(rt; table.size(0, 2) == None && table.size(parts, 0) == None);
+    Ok(())
+}
+
+#[test]
+fn sizes_of_sides(rt: HostRuntime) -> Result<(), Fail> {
+    check_sizes(&rt, &fixtures::knvk_wdl_constant(rt.alloc())?, 1, 31332)?;
+    check_sizes(&rt, &fixtures::kpvk_wdl_constant(rt.alloc())?, 4, 23436)?;
+    let six = fixtures::kqrbvkn_wdl_constant(rt.alloc())?;
+    check_sizes(&rt, &six, 1, 6765832080)
+}
+
+#[test]
+fn values_of_constant_sides(rt: HostRuntime) -> Result<(), Fail> {
+    let table = accepted(&rt, &fixtures::knvk_wdl_constant(rt.alloc())?, &[])?;
+    for side in 0..2 {
+        assert!(rt; value(&table, 0, side, 31331) == Some(2));
+        assert!(rt;
+            matches!(
+                table.sub(0, side),
+                Some(Sub::Constant {
+                    flags: 128,
+                    byte: 2
+                })
+            )
+        );
+    }
+    Ok(())
+}
+
+#[test]
+fn values_of_pairs(rt: HostRuntime) -> Result<(), Fail> {
+    let table = accepted(&rt, &fixtures::kqvk_wdl_paired(rt.alloc())?, &[])?;
+    check_queen(&rt, &table);
+    Ok(())
+}
+
+/// A last length that no value needs, extra lengths, and entries that lead into them.
+#[test]
+fn values_under_other_lengths(rt: HostRuntime) -> Result<(), Fail> {
+    let file = fixtures::kqvk_wdl_unpaired(rt.alloc())?;
+    let needless = [(282, 0xff), (283, 0xff), (32, 0x7a), (36, 0x00), (37, 0x06)];
+    let small_extra = [(284, 0), (285, 0)];
+    let beyond = [(284, 0), (285, 0), (32, 0x7c), (36, 0x9b)];
+    for changes in [&[][..], &needless[..], &small_extra[..], &beyond[..]] {
+        check_queen(&rt, &accepted(&rt, &file, changes)?);
+    }
+    Ok(())
+}
+
+/// Whether the table tells what stands in its file's first bytes, in its fill and at its end.
+fn has_ends(table: &Table, name: &str) -> bool {
+    table.material().name().as_str() == name
+        && table.kind() == Kind::Dtz
+        && table.byte4() == 3
+        && table.fill().len() == 20
+        && table.last()[15] == 15
+}
+
+/// Whether each part has these bytes.
+fn has_parts(parts: &[PartBytes], order: &[u8], men: &[u8]) -> bool {
+    for part in parts {
+        if part.order.as_slice() != order || part.men.as_slice() != men {
+            return false;
+        }
+    }
+    true
+}
+
+/// Whether a part's subtable has these flags, and the value 0 throughout.
+fn is_zero(table: &Table, part: u8, want: u8) -> bool {
+    let Some(Sub::Constant { flags, byte: 0 }) = table.sub(part, 0) else {
+        return false;
+    };
+    *flags == want && value(table, part, 0, 0) == Some(0)
+}
+
+#[test]
+fn contents_of_a_file_of_distances(rt: HostRuntime) -> Result<(), Fail> {
+    let table = accepted(&rt, &fixtures::kpvk_dtz_mapped(rt.alloc())?, &[])?;
+    assert!(rt; has_ends(&table, "KPvK") && table.parts().len() == 4);
+    assert!(rt; has_parts(table.parts(), &[0], &[1, 6, 14]));
+    assert!(rt;
+        matches!(
+            table.maps(),
+            [Some(Map::Bytes(_)), Some(Map::Wide(_)), None, None]
+        )
+    );
+    for (part, flags) in [(0, 130), (1, 146), (2, 128), (3, 128)] {
+        assert!(rt; is_zero(&table, part, flags), "part {part}");
+    }
+    Ok(())
+}
+
+#[test]
+fn distances_of_values(rt: HostRuntime) -> Result<(), Fail> {
+    let table = accepted(&rt, &fixtures::kpvk_dtz_mapped(rt.alloc())?, &[])?;
+    for (part, class, v, want) in [
+        (0, 2, 0, Ok(14)),
+        (1, 2, 0, Ok(600)),
+        (2, 2, 0, Ok(0)),
+        (2, -2, 5, Ok(10)),
+        (0, -1, 0, Err(MapFault::OutsideMap)),
+        (0, 0, 0, Err(MapFault::Draw)),
+    ] {
+        let found = number(&table, part, class, v);
+        assert!(rt; found == Some(want), "part {part} class {class}");
+    }
+    Ok(())
+}
+
+#[test]
+fn distances_of_losses(rt: HostRuntime) -> Result<(), Fail> {
+    for (flags, want) in [(0x82, 18), (0x8a, 9)] {
+        let table = accepted(&rt, &fixtures::kpvk_dtz_losses(rt.alloc(), flags)?, &[])?;
+        assert!(rt; number(&table, 0, -2, 1) == Some(Ok(want)));
+        assert!(rt; number(&table, 0, -2, 2) == Some(Err(MapFault::OutsideMap)));
+    }
+    Ok(())
+}

@@ -1,0 +1,162 @@
+//! Binomials, groups, sizes and sets: the format's worked rows, by tables, and the order of sets.
+
+use arrayvec::ArrayVec;
+use std::process::Abort;
+use szg_count::{Groups, Order, OrderFault, choose, lead_ways, subset_at, subset_place};
+use szg_values::Material;
+
+fn material(rt: &impl Abort, name: &str) -> Material {
+    match Material::parse(name) {
+        Ok(material) => material,
+        Err(_) => panic!(rt; "no material: {name}"),
+    }
+}
+
+/// The groups of a part: with the lead group's place, that of the other pawns, and the used men.
+fn groups(
+    rt: &impl Abort,
+    name: &str,
+    part: u8,
+    places: (u8, Option<u8>),
+    used: &[u8],
+) -> Result<Groups, OrderFault> {
+    let material = material(rt, name);
+    let parts = if material.has_pawns() { 4 } else { 1 };
+    assert!(rt; part < parts);
+    let mut men = ArrayVec::new();
+    assert!(rt; men.try_extend_from_slice(used).is_ok());
+    let (lead, other) = places;
+    Groups::of(&material, part, &Order { lead, other, men })
+}
+
+#[test]
+fn binomials(rt: HostRuntime) {
+    assert!(rt; choose(48, 4) == 194580 && choose(64, 6) == 74974368 && choose(3, 5) == 0);
+}
+
+/// Where b1 and d1 are taken, c1 and e1 are the numbers 1 and 2 of the free squares, and g8 and h8 the
+/// last two of 62.
+#[test]
+fn places_of_sets(rt: HostRuntime) {
+    assert!(rt; subset_place(&[]) == 0 && subset_place(&[2, 1]) == 2);
+    assert!(rt; subset_place(&[61, 60]) == 1890);
+    assert!(rt; subset_place(&[63, 62, 61, 60, 59, 58]) == 74974367);
+    assert!(rt; 1890 < choose(62, 2));
+    assert!(rt; subset_at(62, 2, 1890).as_slice() == [61, 60].as_slice());
+}
+
+/// The members of a set as bits.
+fn mask_of(set: &[u8]) -> u32 {
+    let mut mask = 0;
+    for number in set {
+        mask |= 1u32.wrapping_shl(u32::from(*number));
+    }
+    mask
+}
+
+/// Sets of as many numbers stand in the order of their masks.
+#[test]
+fn sets_in_the_order_of_masks(rt: HostRuntime) {
+    for size in 0..=6u8 {
+        let mut place = 0u64;
+        for mask in 0..1024u32 {
+            if mask.count_ones() == u32::from(size) {
+                assert!(rt; place < choose(64, u64::from(size)));
+                let set = subset_at(64, size, place);
+                assert!(rt; mask_of(set.as_slice()) == mask, "{mask}");
+                assert!(rt; subset_place(set.as_slice()) == place, "{mask}");
+                place = place.wrapping_add(1);
+            }
+        }
+    }
+}
+
+#[test]
+fn lead_pawns_by_file(rt: HostRuntime) {
+    for (name, want) in [
+        ("KPPPvK", [5201, 2645, 953, 125]),
+        ("KPPPPvK", [70315, 25375, 5491, 295]),
+    ] {
+        let material = material(&rt, name);
+        assert!(rt; material.has_pawns());
+        for part in 0..4u8 {
+            let ways = lead_ways(&material, part);
+            assert!(rt; ways == want[usize::from(part)], "{name} {part}");
+        }
+    }
+}
+
+#[test]
+fn factors(rt: HostRuntime) {
+    let rows: [(&str, (u8, Option<u8>), &[u8], &[u64]); 4] = [
+        ("KBBvK", (0, None), &[6, 14, 3, 3], &[1, 462]),
+        ("KBBvK", (1, None), &[6, 14, 3, 3], &[1891, 1]),
+        ("KPvKP", (0, Some(1)), &[1, 9, 6, 14], &[1, 6, 282, 17484]),
+        (
+            "KPvKP",
+            (3, Some(0)),
+            &[1, 9, 6, 14],
+            &[177754, 1, 47, 2914],
+        ),
+    ];
+    for (name, places, men, want) in rows {
+        let Ok(groups) = groups(&rt, name, 0, places, men) else {
+            panic!(rt; "refused: {name}");
+        };
+        assert_eq!(rt; groups.count(), want.len());
+        for (i, factor) in want.iter().enumerate() {
+            assert!(rt; groups.group(i).factor == *factor, "{name} {i}");
+        }
+    }
+}
+
+#[test]
+fn refusals(rt: HostRuntime) {
+    let rows: [(&str, (u8, Option<u8>), &[u8], OrderFault); 8] = [
+        ("KNvK", (0, None), &[6, 2, 6], OrderFault::Pieces),
+        ("KPvK", (0, None), &[6, 1, 14], OrderFault::PawnsFirst),
+        ("KNvK", (1, None), &[6, 2, 14], OrderFault::OrderPlace),
+        ("KPvK", (3, None), &[1, 6, 14], OrderFault::OrderPlace),
+        (
+            "KPvKP",
+            (0, Some(0)),
+            &[1, 9, 6, 14],
+            OrderFault::OrderPlace,
+        ),
+        ("KPvKP", (0, None), &[1, 9, 6, 14], OrderFault::OrderPlace),
+        ("KPvK", (0, Some(1)), &[1, 6, 14], OrderFault::OrderPlace),
+        (
+            "KPPvKP",
+            (0, Some(1)),
+            &[1, 1, 9, 6, 14],
+            OrderFault::PawnsFirst,
+        ),
+    ];
+    for (name, places, men, want) in rows {
+        let fault = groups(&rt, name, 0, places, men).err();
+        assert!(rt; fault == Some(want), "{name}");
+    }
+}
+
+#[test]
+fn sizes(rt: HostRuntime) {
+    let rows: [(&str, u8, (u8, Option<u8>), &[u8], u64); 13] = [
+        ("KQvK", 0, (0, None), &[6, 5, 14], 31332),
+        ("KBBvK", 0, (0, None), &[6, 14, 3, 3], 873642),
+        ("KQRvK", 0, (0, None), &[6, 5, 14, 4], 1911252),
+        ("KPvK", 0, (0, None), &[1, 6, 14], 23436),
+        ("KPvK", 3, (0, None), &[1, 6, 14], 23436),
+        ("KPvKP", 2, (0, Some(1)), &[1, 9, 6, 14], 1066524),
+        ("KPPvK", 0, (0, None), &[1, 1, 6, 14], 953064),
+        ("KPPPPvK", 0, (0, None), &[1, 1, 1, 1, 6, 14], 248915100),
+        ("KPPvKPP", 0, (0, Some(1)), &[1, 1, 9, 9, 6, 14], 923302800),
+        ("KRRvKRR", 0, (0, None), &[6, 14, 4, 4, 12, 12], 1546346340),
+        ("KQRBvKN", 0, (0, None), &[6, 5, 14, 4, 3, 10], 6765832080),
+        ("KQvKP", 0, (0, None), &[9, 6, 5, 14], 1429596),
+        ("KPPvKP", 0, (0, Some(1)), &[9, 1, 1, 6, 14], 23738760),
+    ];
+    for (name, part, places, men, want) in rows {
+        let size = groups(&rt, name, part, places, men).map(|groups| groups.size());
+        assert!(rt; size == Ok(want), "{name} {part}");
+    }
+}

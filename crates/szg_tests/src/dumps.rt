@@ -1,0 +1,119 @@
+//! Dumps that are written, read back and built again, and texts that are no dumps.
+
+use crate::files::{answer, check_written, fixtures_of_all_sections};
+use crate::fixtures;
+use std::alloc::{AllocError, Global};
+use std::process::Abort;
+use std::test::Fail;
+use szg_build::{BuildFault, Dump, DumpFault, DumpReadFault, Plan, build, read_dump, write_dump};
+use szg_io::{Bytes, Std};
+
+/// The first six lines of a dump of the outcomes of king and queen against king.
+const FRONT: &[u8] =
+    b"szg-dump 2\nname KQvK\nkind wdl\nend 000102030405060708090a0b0c0d0e0f\npart a order 00 men 6655ee\nsub a 0\n";
+
+/// The text of a dump, in runs or with a line for each value.
+fn text_of(
+    rt: &(impl Abort + Alloc<A = Global>),
+    dump: &Dump,
+    in_runs: bool,
+) -> Result<Vec<u8>, Fail> {
+    let mut output = Std::new(Vec::new(rt.alloc()));
+    let written = if in_runs {
+        write_dump(dump, 2, &mut output)
+    } else {
+        write_dump(dump, 1, &mut output)
+    };
+    assert!(rt; written.is_ok());
+    Ok(Vec::from_slice(rt.alloc(), output.inner().as_slice())?)
+}
+
+/// The dump of a text, and nothing is left of it.
+fn dump_of(rt: &(impl Abort + Alloc<A = Global>), text: &[u8]) -> Result<Dump, Fail> {
+    let mut input = Bytes::new(text);
+    let dump = read_dump(rt.alloc(), &mut input).ok().ok_or("no dump")?;
+    assert!(rt; input.left().is_empty());
+    Ok(dump)
+}
+
+#[test]
+fn dumps_in_both_forms_are_read_back(rt: HostRuntime) -> Result<(), Fail> {
+    for file in fixtures_of_all_sections(rt.alloc())?.iter() {
+        let table = answer(rt.alloc(), file)??;
+        let dump = Dump::of(rt.alloc(), &table)?;
+        let runs = text_of(&rt, &dump, true)?;
+        let singles = text_of(&rt, &dump, false)?;
+        let of_runs = text_of(&rt, &dump_of(&rt, &runs)?, false)?;
+        let of_singles = text_of(&rt, &dump_of(&rt, &singles)?, true)?;
+        assert!(rt; of_runs == singles && of_singles == runs, "{}", file.name);
+    }
+    Ok(())
+}
+
+#[test]
+fn a_dump_builds_its_file_again(rt: HostRuntime) -> Result<(), Fail> {
+    let file = fixtures::kqvk_wdl_paired(rt.alloc())?;
+    let table = answer(rt.alloc(), &file)??;
+    let text = text_of(&rt, &Dump::of(rt.alloc(), &table)?, true)?;
+    let dump = dump_of(&rt, &text)?;
+    let plan = Plan {
+        material: dump.material,
+        kind: dump.kind,
+        parts: dump.parts,
+        block_bits: 5,
+        span_bits: 10,
+        rounds: 8,
+        flags: dump.flags,
+        maps: dump.maps,
+        last: dump.last,
+    };
+    let lists = dump.lists;
+    let first = lists.get(0).ok_or("no list")?;
+    let second = lists.get(1).ok_or("no list")?;
+    let built = build(rt.alloc(), &plan, &[first.as_slice(), second.as_slice()])?;
+    check_written(&rt, &built, &file.bytes);
+    Ok(())
+}
+
+/// The text is refused.
+fn check_refused(rt: &(impl Abort + Alloc<A = Global>), text: &[u8], fault: DumpReadFault) {
+    let mut input = Bytes::new(text);
+    assert!(rt; read_dump(rt.alloc(), &mut input).err() == Some(fault));
+}
+
+/// This line of the text is refused.
+fn check_line(rt: &(impl Abort + Alloc<A = Global>), text: &[u8], line: u64, fault: DumpFault) {
+    check_refused(rt, text, DumpReadFault::Line { line, fault });
+}
+
+/// The first six lines of a dump, and these bytes.
+fn behind_front(alloc: Global, rest: &[u8]) -> Result<Vec<u8>, AllocError> {
+    let mut text = Vec::from_slice(alloc, FRONT)?;
+    text.extend_from_slice(rest)?;
+    Ok(text)
+}
+
+#[test]
+fn first_lines_that_are_refused(rt: HostRuntime) {
+    check_line(&rt, b"szg-dump 3\n", 1, DumpFault::Version);
+    check_line(&rt, b"szg-dump 1\nkind wdl\n", 2, DumpFault::Field);
+    check_line(&rt, b"szg-dump 1\nname KQvX\n", 2, DumpFault::Name);
+    check_line(&rt, b"szg-dump 1\nname KQvK", 2, DumpFault::Ended);
+    check_line(
+        &rt,
+        b"szg-dump 2\nname KQvK\nkind wdl\nend 000102030405060708090A0b0c0d0e0f\n",
+        4,
+        DumpFault::Hex,
+    );
+}
+
+#[test]
+fn lines_of_values_that_are_refused(rt: HostRuntime) -> Result<(), Fail> {
+    let number = behind_front(rt.alloc(), b"values 031332\n")?;
+    check_line(&rt, &number, 7, DumpFault::Number);
+    let run = behind_front(rt.alloc(), b"values 31332\n31333 2\n")?;
+    check_line(&rt, &run, 8, DumpFault::Run);
+    let length = behind_front(rt.alloc(), b"values 31331\n")?;
+    check_refused(&rt, &length, DumpReadFault::Build(BuildFault::Length(0)));
+    Ok(())
+}

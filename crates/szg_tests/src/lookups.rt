@@ -1,0 +1,252 @@
+//! Look-ups: their steps by the sparse index, and tables whose blocks a source gives.
+
+use crate::files::{accepted, changed, fixtures_of_all_sections, material};
+use crate::fixtures::{self, Fixture};
+use std::alloc::Global;
+use std::process::Abort;
+use std::test::Fail;
+use szg_block::{Image, Source, SourceFault, Steps, Watch};
+use szg_file::{Heads, OpenFault, Opened, Reason, Table, open};
+
+/// Value `i` of a side, and the steps to it.
+fn counted(rt: &impl Abort, table: &Table, side: u8, i: u64) -> (u16, Steps) {
+    match table.size(0, side) {
+        Some(size) if i < size => table.get_counted(0, side, i),
+        _ => panic!(rt; "there is no value {i}"),
+    }
+}
+
+/// Value `i` of a side.
+fn value(rt: &impl Abort, table: &Table, side: u8, i: u64) -> u16 {
+    match table.size(0, side) {
+        Some(size) if i < size => table.get(0, side, i),
+        _ => panic!(rt; "there is no value {i}"),
+    }
+}
+
+/// Value `i` of a side, by the source.
+fn looked_up<S: Source + Drop>(
+    rt: &impl Abort,
+    opened: &mut Opened<S>,
+    side: u8,
+    i: u64,
+) -> Result<u16, SourceFault> {
+    match opened.size(0, side) {
+        Some(size) if i < size => opened.get(0, side, i),
+        _ => panic!(rt; "there is no value {i}"),
+    }
+}
+
+/// The table of a file, over a source that fails at this call.
+fn opened<'a>(
+    rt: &(impl Abort + Alloc<A = Global>),
+    file: &'a Fixture,
+    fails_at: u64,
+) -> Result<Opened<Watch<Image<'a>>>, Fail> {
+    let source = Watch::new(Image::new(&file.bytes), fails_at);
+    match open(rt.alloc(), material(file)?, file.kind, source) {
+        Ok(opened) => Ok(opened),
+        Err(_) => panic!(rt; "it is not opened"),
+    }
+}
+
+/// In the table with these changes, value `i` of side 0 is this one, found by so many moves, words and descents.
+fn check_steps(
+    rt: &(impl Abort + Alloc<A = Global>),
+    file: &Fixture,
+    changes: &[(usize, u8)],
+    i: u64,
+    want: (u16, u64, u64, u64),
+) -> Result<(), Fail> {
+    let table = accepted(rt, file, changes)?;
+    let (value, moves, words, descents) = want;
+    let steps = Steps {
+        moves,
+        words,
+        descents,
+        fetches: 1,
+    };
+    assert!(rt; counted(rt, &table, 0, i) == (value, steps), "at {i}");
+    Ok(())
+}
+
+/// From an entry past the size and from one of the first block, and over a length that no block has.
+#[test]
+fn steps_from_sparse_entries(rt: HostRuntime) -> Result<(), Fail> {
+    let file = fixtures::kqvk_wdl_unpaired(rt.alloc())?;
+    let first = [(32, 0), (36, 0), (37, 0x80)];
+    let short = [(284, 0), (285, 0)];
+    let last = [(284, 0), (285, 0), (32, 0x7c), (36, 0x9b)];
+    for (changes, i, want) in [
+        (&[][..], 31331, (4, 1, 100, 0)),
+        (&[][..], 0, (2, 123, 1, 0)),
+        (&first[..], 31331, (4, 122, 100, 0)),
+        (&first[..], 0, (2, 0, 1, 0)),
+        (&short[..], 31331, (4, 1, 100, 0)),
+        (&last[..], 31331, (4, 2, 100, 0)),
+    ] {
+        check_steps(&rt, &file, changes, i, want)?;
+    }
+    let paired = fixtures::kqvk_wdl_paired(rt.alloc())?;
+    check_steps(&rt, &paired, &[], 31331, (4, 0, 40, 2))?;
+    check_steps(&rt, &paired, &[], 0, (2, 0, 1, 8))
+}
+
+#[test]
+fn files_of_all_sections_are_opened(rt: HostRuntime) -> Result<(), Fail> {
+    for file in &fixtures_of_all_sections(rt.alloc())? {
+        let table = accepted(&rt, file, &[])?;
+        let mut opened = opened(&rt, file, 0)?;
+        assert!(rt; looked_up(&rt, &mut opened, 0, 7) == Ok(value(&rt, &table, 0, 7)));
+    }
+    Ok(())
+}
+
+/// The values by the source are the table's. The file was read at once, and each value of side 0 asks for a block of 32
+/// bytes; side 1 is constant, and asks for none.
+fn check_values(rt: &(impl Abort + Alloc<A = Global>), file: &Fixture) -> Result<(), Fail> {
+    let table = accepted(rt, file, &[])?;
+    let mut opened = opened(rt, file, 0)?;
+    for i in 0..31332 {
+        let found = looked_up(rt, &mut opened, 0, i);
+        assert!(rt; found == Ok(value(rt, &table, 0, i)), "at {i}");
+        let source = opened.source();
+        assert!(rt;
+            source.calls() == i + 2 && source.last_length() == 32,
+            "at {i}"
+        );
+    }
+    for i in 0..31332 {
+        let found = looked_up(rt, &mut opened, 1, i);
+        assert!(rt; found == Ok(value(rt, &table, 1, i)), "at {i}");
+    }
+    assert!(rt; opened.source().calls() == 31333);
+    Ok(())
+}
+
+#[test]
+fn values_by_a_source(rt: HostRuntime) -> Result<(), Fail> {
+    check_values(&rt, &fixtures::kqvk_wdl_unpaired(rt.alloc())?)?;
+    check_values(&rt, &fixtures::kqvk_wdl_paired(rt.alloc())?)
+}
+
+/// The block that has value `i` stands at this place.
+fn check_place<'a>(rt: &impl Abort, opened: &mut Opened<Watch<Image<'a>>>, i: u64, place: u64) {
+    assert!(rt; looked_up(rt, opened, 0, i).is_ok(), "at {i}");
+    assert!(rt; opened.source().last_place() == place, "at {i}");
+}
+
+#[test]
+fn places_of_blocks(rt: HostRuntime) -> Result<(), Fail> {
+    let file = fixtures::kqvk_wdl_unpaired(rt.alloc())?;
+    let mut opened = opened(&rt, &file, 0)?;
+    for (i, place) in [(31331, 4224), (0, 320), (255, 320), (256, 352)] {
+        check_place(&rt, &mut opened, i, place);
+    }
+    Ok(())
+}
+
+/// The file is read in three pieces, and its one block at once; a fault is told, and the next call is answered.
+#[test]
+fn a_source_that_fails_once(rt: HostRuntime) -> Result<(), Fail> {
+    let file = fixtures::kqvk_wdl_one_block(rt.alloc())?;
+    let source = Watch::new(Image::new(&file.bytes), 3);
+    let source = match open(rt.alloc(), material(&file)?, file.kind, source) {
+        Err((OpenFault::Source, source)) => source,
+        _ => panic!(rt; "its fault is not told"),
+    };
+    assert!(rt; source.calls() == 3);
+    assert!(rt; open(rt.alloc(), material(&file)?, file.kind, source).is_ok());
+    let mut opened = opened(&rt, &file, 4)?;
+    assert!(rt; looked_up(&rt, &mut opened, 0, 31331) == Err(SourceFault));
+    assert!(rt; looked_up(&rt, &mut opened, 0, 31331) == Ok(4));
+    let source = opened.source();
+    assert!(rt; source.calls() == 5 && source.last_length() == 131072);
+    Ok(())
+}
+
+/// Over a source of these bytes a table of the file's name is refused at this place.
+fn check_not_opened(
+    rt: &(impl Abort + Alloc<A = Global>),
+    file: &Fixture,
+    bytes: &[u8],
+    place: u64,
+    reason: Reason,
+) -> Result<(), Fail> {
+    match open(rt.alloc(), material(file)?, file.kind, Image::new(bytes)) {
+        Ok(_) => panic!(rt; "it is opened"),
+        Err((fault, _)) => assert!(rt; fault == OpenFault::Refused { place, reason }, "at {place}"),
+    }
+    Ok(())
+}
+
+#[test]
+fn changed_files_are_not_opened(rt: HostRuntime) -> Result<(), Fail> {
+    let file = fixtures::kqvk_wdl_unpaired(rt.alloc())?;
+    for (at, byte, place, reason) in [
+        (0, 0x70, 0, Reason::Magic),
+        (11, 0x13, 11, Reason::BlockBits),
+        (25, 0x00, 24, Reason::Child),
+        (282, 0x62, 38, Reason::ShortTotal),
+        (36, 0x9d, 32, Reason::SparseEntry),
+    ] {
+        let other = changed(rt.alloc(), &file, &[(at, byte)])?;
+        check_not_opened(&rt, &other, &other.bytes, place, reason)?;
+    }
+    Ok(())
+}
+
+/// Each beginning of the file is refused at its end.
+fn check_cuts(rt: &(impl Abort + Alloc<A = Global>), file: &Fixture) -> Result<(), Fail> {
+    for n in 0..file.bytes.len() {
+        check_not_opened(rt, file, &file.bytes[..n], n as u64, Reason::Truncated)?;
+    }
+    Ok(())
+}
+
+#[test]
+fn cut_files_are_not_opened(rt: HostRuntime) -> Result<(), Fail> {
+    check_cuts(&rt, &fixtures::knvk_wdl_constant(rt.alloc())?)?;
+    check_cuts(&rt, &fixtures::kqvk_wdl_paired(rt.alloc())?)?;
+    check_cuts(&rt, &fixtures::kpvk_dtz_mapped(rt.alloc())?)
+}
+
+/// Value `i` of a side, out of these bytes.
+fn in_piece(heads: &Heads, side: u8, i: u64, piece: &[u8]) -> Option<u16> {
+    if i < heads.size(0, side)? {
+        heads.value_in(0, side, i, piece)
+    } else {
+        None
+    }
+}
+
+/// Value `i` of a side, out of the bytes of the file that it wants.
+fn brought(heads: &Heads, bytes: &[u8], side: u8, i: u64) -> Option<u16> {
+    if i >= heads.size(0, side)? {
+        return None;
+    }
+    let piece = match heads.find(0, side, i) {
+        Some(wanted) => bytes
+            .get(wanted.place as usize..)?
+            .get(..wanted.count as usize)?,
+        None => &[],
+    };
+    in_piece(heads, side, i, piece)
+}
+
+/// All values of both sides are found so; without bytes only those of the constant side.
+#[test]
+fn values_in_bytes_that_are_brought(rt: HostRuntime) -> Result<(), Fail> {
+    let file = fixtures::kqvk_wdl_unpaired(rt.alloc())?;
+    let table = accepted(&rt, &file, &[])?;
+    let heads = opened(&rt, &file, 0)?.into_heads();
+    for i in 0..31332 {
+        for side in [0, 1] {
+            let found = brought(&heads, &file.bytes, side, i);
+            assert!(rt; found == Some(value(&rt, &table, side, i)), "at {i}");
+        }
+    }
+    assert!(rt; in_piece(&heads, 0, 31331, &[]).is_none());
+    assert!(rt; in_piece(&heads, 1, 31331, &[]) == Some(2));
+    Ok(())
+}

@@ -1,0 +1,206 @@
+//! The placements of indexes: the format's worked rows, and each index of a table there and back. What a table by
+//! place tells of placements.
+
+use crate::files::{accepted, material};
+use crate::fixtures;
+use crate::standing::placement;
+use std::process::Abort;
+use std::test::Fail;
+use szg_block::{Image, Source, Watch};
+use szg_file::{Opened, Table, open};
+use szg_place::{
+    OpenedProbeFault, PlaceFault, Prepared, ProbeFault, index_of, index_of_opened, placement_of,
+    probe_dtz, probe_dtz_opened, probe_wdl, probe_wdl_opened,
+};
+use szg_values::Color::{Black, White};
+use szg_values::{Color, Kind, Placement};
+
+/// The placement of an index that a part's side has.
+fn found(
+    rt: &impl Abort,
+    table: &Table,
+    part: u8,
+    side: u8,
+    index: u64,
+) -> Result<Placement, PlaceFault> {
+    match table.size(part, side) {
+        Some(size) if index < size => placement_of(table, part, side, index),
+        _ => panic!(rt; "no index: {part} {side} {index}"),
+    }
+}
+
+/// The index tells these men, in the order of the table's slots.
+fn check_placement(
+    rt: &impl Abort,
+    table: &Table,
+    (part, side, index): (u8, u8, u64),
+    mover: Color,
+    men: &str,
+) {
+    let found = found(rt, table, part, side, index);
+    assert!(rt; found == Ok(placement(rt, mover, men)), "{men}");
+}
+
+#[test]
+fn placements_of_indexes(rt: HostRuntime) -> Result<(), Fail> {
+    let queen = accepted(&rt, &fixtures::kqvk_wdl_unpaired(rt.alloc())?, &[])?;
+    check_placement(&rt, &queen, (0, 0, 11711), White, "Kd1 Qh8 ka8");
+    check_placement(&rt, &queen, (0, 1, 11711), Black, "Kd1 Qh8 ka8");
+    let pawn = accepted(&rt, &fixtures::kpvk_wdl_constant(rt.alloc())?, &[])?;
+    check_placement(&rt, &pawn, (3, 0, 21564), White, "Pd2 Kd1 kd8");
+    let pawns = accepted(&rt, &fixtures::kppvk_wdl_constant(rt.alloc())?, &[])?;
+    check_placement(&rt, &pawns, (0, 0, 891622), White, "Pa2 Ph2 Ke1 ke8");
+    Ok(())
+}
+
+#[test]
+fn indexes_without_a_placement(rt: HostRuntime) -> Result<(), Fail> {
+    let irregular = accepted(&rt, &fixtures::kbbvk_wdl_bishop_leads(rt.alloc())?, &[])?;
+    assert!(rt; found(&rt, &irregular, 0, 0, 0).err() == Some(PlaceFault::Irregular));
+    let wrong = accepted(&rt, &fixtures::kpvkp_dtz_constant(rt.alloc(), 0x81)?, &[])?;
+    assert!(rt; found(&rt, &wrong, 0, 0, 0).err() == Some(PlaceFault::WrongSide));
+    Ok(())
+}
+
+/// The placement of an index has that index.
+fn check_return(rt: &impl Abort, table: &Table, part: u8, side: u8, index: u64) {
+    let Ok(placement) = found(rt, table, part, side, index) else {
+        panic!(rt; "no placement: {part} {side} {index}");
+    };
+    let spot = index_of(table, &placement).map(|spot| (spot.part, spot.side, spot.index));
+    assert!(rt; spot == Ok((part, side, index)), "at {part} {side} {index}");
+}
+
+/// Of the samples one stands this far behind the other.
+const STRIDE: u64 = 9973;
+
+/// Samples of a part's side 0, spread over all its indexes, have the indexes that they were told by.
+fn check_samples(rt: &impl Abort, table: &Table, part: u8) {
+    let Some(size) = table.size(part, 0) else {
+        panic!(rt; "no part: {part}");
+    };
+    for number in 0..size / STRIDE {
+        check_return(rt, table, part, 0, number * STRIDE);
+    }
+}
+
+#[test]
+fn indexes_there_and_back(rt: HostRuntime) -> Result<(), Fail> {
+    let table = accepted(&rt, &fixtures::kqvk_wdl_unpaired(rt.alloc())?, &[])?;
+    for index in 0..31332u64 {
+        check_return(&rt, &table, 0, 0, index);
+    }
+    let kings = accepted(&rt, &fixtures::kbbvk_wdl_kings_lead(rt.alloc())?, &[])?;
+    check_samples(&rt, &kings, 0);
+    let two = accepted(&rt, &fixtures::kppvk_wdl_constant(rt.alloc())?, &[])?;
+    check_samples(&rt, &two, 2);
+    let both = accepted(&rt, &fixtures::kpvkp_wdl_constant(rt.alloc())?, &[])?;
+    check_samples(&rt, &both, 3);
+    Ok(())
+}
+
+/// Over a source the index is that of the table in memory, and in WDL the class is.
+fn check_wdl<S: Source + Drop>(
+    rt: &impl Abort,
+    table: &Table,
+    opened: &mut Opened<S>,
+    placement: &Placement,
+) {
+    assert!(rt; index_of_opened(opened, placement) == index_of(table, placement));
+    assert!(rt; table.kind() == Kind::Wdl && opened.kind() == Kind::Wdl);
+    let want = probe_wdl(table, placement).map_err(|fault| OpenedProbeFault::Probe(
+        ProbeFault::Place(fault),
+    ));
+    assert!(rt; probe_wdl_opened(opened, placement) == want);
+}
+
+/// Over a source the index is that of the table in memory, and in DTZ the number for a class is.
+fn check_dtz<S: Source + Drop>(
+    rt: &impl Abort,
+    table: &Table,
+    opened: &mut Opened<S>,
+    placement: &Placement,
+    class: i8,
+) {
+    assert!(rt; index_of_opened(opened, placement) == index_of(table, placement));
+    assert!(rt; table.kind() == Kind::Dtz && opened.kind() == Kind::Dtz);
+    assert!(rt; -2 <= class && class <= 2);
+    let want = probe_dtz(table, placement, class).map_err(OpenedProbeFault::Probe);
+    assert!(rt; probe_dtz_opened(opened, placement, class) == want);
+}
+
+#[test]
+fn outcomes_by_a_source(rt: HostRuntime) -> Result<(), Fail> {
+    let file = fixtures::kqvk_wdl_unpaired(rt.alloc())?;
+    let table = accepted(&rt, &file, &[])?;
+    let source = Image::new(&file.bytes);
+    let Ok(mut opened) = open(rt.alloc(), material(&file)?, file.kind, source) else {
+        panic!(rt; "it is not opened");
+    };
+    for (mover, men) in [
+        (White, "Ke8 Qa1 kh1"),
+        (Black, "Ke8 Qa1 kh1"),
+        (White, "Kd4 Qh8 kg7"),
+        (White, "Ke8 Na1 kh1"),
+    ] {
+        check_wdl(&rt, &table, &mut opened, &placement(&rt, mover, men));
+    }
+    Ok(())
+}
+
+#[test]
+fn distances_by_a_source(rt: HostRuntime) -> Result<(), Fail> {
+    let file = fixtures::kpvk_dtz_mapped(rt.alloc())?;
+    let table = accepted(&rt, &file, &[])?;
+    let source = Image::new(&file.bytes);
+    let Ok(mut opened) = open(rt.alloc(), material(&file)?, file.kind, source) else {
+        panic!(rt; "it is not opened");
+    };
+    for (mover, men, class) in [
+        (White, "Ke1 Pa2 ke8", 2),
+        (White, "Ke1 Pb2 ke8", 2),
+        (White, "Ke1 Pa2 ke8", -1),
+        (Black, "Ke1 Pa2 ke8", 2),
+    ] {
+        check_dtz(&rt, &table, &mut opened, &placement(&rt, mover, men), class);
+    }
+    Ok(())
+}
+
+/// The file is read at once. Its source fails at the next call, and the one behind it is answered.
+#[test]
+fn a_source_that_fails_once_under_a_placement(rt: HostRuntime) -> Result<(), Fail> {
+    let file = fixtures::kqvk_wdl_unpaired(rt.alloc())?;
+    let source = Watch::new(Image::new(&file.bytes), 2);
+    let Ok(mut opened) = open(rt.alloc(), material(&file)?, file.kind, source) else {
+        panic!(rt; "it is not opened");
+    };
+    let placement = placement(&rt, White, "Ke8 Qa1 kh1");
+    assert!(rt; index_of_opened(&opened, &placement).is_ok() && opened.source().calls() == 1);
+    assert!(rt; opened.kind() == Kind::Wdl);
+    assert!(rt; probe_wdl_opened(&mut opened, &placement) == Err(OpenedProbeFault::Source));
+    assert!(rt; opened.kind() == Kind::Wdl);
+    assert!(rt; probe_wdl_opened(&mut opened, &placement) == Ok(Some(2)));
+    assert!(rt; opened.source().calls() == 3);
+    Ok(())
+}
+
+/// A part's side that was prepared tells its own placements and those of the other sides of the table.
+fn check_prepared(rt: &impl Abort, table: &Table, part: u8, side: u8, placement: &Placement) {
+    assert!(rt; table.size(part, side).is_some());
+    let prepared = Prepared::of(table, part, side);
+    assert!(rt; prepared.index_of(table, placement) == index_of(table, placement));
+}
+
+#[test]
+fn placements_by_a_prepared_side(rt: HostRuntime) -> Result<(), Fail> {
+    let table = accepted(&rt, &fixtures::kqvk_wdl_unpaired(rt.alloc())?, &[])?;
+    for (mover, men) in [
+        (White, "Ke8 Qa1 kh1"),
+        (Black, "Ke8 Qa1 kh1"),
+        (White, "Ke8 Na1 kh1"),
+    ] {
+        check_prepared(&rt, &table, 0, 0, &placement(&rt, mover, men));
+    }
+    Ok(())
+}

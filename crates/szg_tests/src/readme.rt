@@ -1,0 +1,47 @@
+//! The examples of the README, word for word, on sample tables.
+
+use crate::files::accepted;
+use crate::fixtures;
+use crate::standing::placement;
+use std::alloc::Global;
+use std::test::Fail;
+use szg_file::{Table, read};
+use szg_io::Std;
+use szg_place::probe_dtz;
+use szg_values::Color::White;
+use szg_values::{Kind, Material, Placement};
+
+/// Value i of part a, side 0, of the WDL table of this name, where the bytes begin with its file.
+pub fn value(alloc: Global, name: &str, bytes: &[u8], i: u64) -> Option<u16> {
+    let material = Material::parse(name).ok()?;
+    let table = read(alloc, material, Kind::Wdl, &mut Std::new(bytes)).ok()?;
+    if i < table.size(0, 0)? {
+        Some(table.get(0, 0, i))
+    } else {
+        None
+    }
+}
+
+/// The number of a placement in a DTZ table, for the class that it has: 2 a win, -2 a loss.
+pub fn number(table: &Table, placement: &Placement, class: i8) -> Option<u32> {
+    if table.kind() != Kind::Dtz || class < -2 || 2 < class {
+        return None;
+    }
+    probe_dtz(table, placement, class).ok()
+}
+
+#[test]
+fn examples_of_the_readme(rt: HostRuntime) -> Result<(), Fail> {
+    let queen = fixtures::kqvk_wdl_unpaired(rt.alloc())?;
+    for (i, want) in [(31331, Some(4)), (31332, None)] {
+        let found = value(rt.alloc(), queen.name, &queen.bytes, i);
+        assert!(rt; found == want, "at {i}");
+    }
+    let pawn = accepted(&rt, &fixtures::kpvk_dtz_mapped(rt.alloc())?, &[])?;
+    let men = placement(&rt, White, "Ke1 Pa2 ke8");
+    for (class, want) in [(2, Some(14)), (-1, None), (3, None)] {
+        let found = number(&pawn, &men, class);
+        assert!(rt; found == want, "{class}");
+    }
+    Ok(())
+}

@@ -1,0 +1,5 @@
+use Rattle.std.proofs.Common.{rules, ◌≡◌, ◌++◌, refl}
+use Rattle.szg_tool.proofs.placements.spot_line.Goals as goal
+
+pub returns : goal.returns
+returns c = rw (c.part_letter-letter.ensures) at c.format.ensures.ok

@@ -1,0 +1,58 @@
+-- Men as words.
+use Rattle.std.specs.Prelude.{ℕ, Bool, not, ◌+◌, ◌-◌, ◌*◌, ◌&&◌, nat_le, List, [], ◌∷◌, map, Option, Some, None, Result, Ok, Err, is_some, unwrap_or, option_map, option_and_then, if◌then◌else◌}
+use Rattle.std.specs.Borrow.{Bor}
+use Rattle.std.specs.List.{list_all}
+use Rattle.std.specs.Char.{to_ascii_uppercase, to_ascii_lowercase}
+use Rattle.szg_values.specs.Men.{man_of, letter_of}
+use Rattle.szg_values.specs.Placement.{Standing, Board, placement_fault}
+use Rattle.szg_values.specs.declared.Man.{Man}
+use Rattle.szg_values.specs.declared.Man.TheVariants.{King}
+use Rattle.szg_values.specs.declared.PlacementFault.{PlacementFault}
+use Rattle.szg_tool.specs.declared.refusal.Refusal.{Refusal}
+use Rattle.szg_tool.specs.declared.refusal.Refusal.TheVariants as why
+use Rattle.szg_values.specs.declared.Color.{Color}
+use Rattle.szg_values.specs.declared.Color.TheVariants.{White, Black}
+
+-- upper case letters are White's
+abbrev pub color_told : ℕ → Color
+color_told letter = if nat_le 65 letter && nat_le letter 90 then White else Black
+
+-- a file from a to h and a rank from 1 to 8
+abbrev pub square_told : ℕ → ℕ → Option ℕ
+square_told file rank = if nat_le 97 file && nat_le file 104 && nat_le 49 rank && nat_le rank 56 then Some ((rank - 49) * 8 + (file - 97)) else None
+
+-- a man's letter, upper case for White and lower case for Black, his file and his rank
+abbrev pub man_told : List ℕ → Option Standing
+man_told (letter ∷ file ∷ rank ∷ []) = option_and_then (λ square. option_map (λ man. (man, color_told letter, square)) (man_of (to_ascii_uppercase letter))) (square_told file rank)
+man_told word = None
+
+-- ---- placements
+
+abbrev pub is_told : List ℕ → Bool
+is_told word = is_some (man_told word)
+
+-- the man of a word that tells one
+abbrev pub standing_of : List ℕ → Standing
+standing_of word = unwrap_or (man_told word) (King, White, 0)
+
+-- a board, unless its men have a fault
+abbrev pub board_unless : Option PlacementFault → Board → Result Board Refusal
+board_unless None board = Ok board
+board_unless (Some fault) board = Err (why.Placement fault)
+
+-- all men that words tell
+abbrev pub standing_in : List (Bor (List ℕ)) → List Standing
+standing_in words = map (λ word. standing_of word.now) words
+
+-- the placement of these men, or why there is none
+unfoldable pub placement_told : List (Bor (List ℕ)) → Color → Result Board Refusal
+placement_told words mover =
+    if not (list_all (λ word. is_told word.now) words) then Err why.Man else
+    board_unless (placement_fault (standing_in words)) (record { standing = standing_in words; mover = mover })
+
+-- ---- writing
+
+-- a man's letter as it is written
+abbrev pub letter_shown : Man → Color → ℕ
+letter_shown man White = letter_of man
+letter_shown man Black = to_ascii_lowercase (letter_of man)

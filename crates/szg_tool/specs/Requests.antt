@@ -1,0 +1,98 @@
+-- What carrying a task out does to the reader and to the writer.
+use Rattle.std.specs.Prelude.{◌≡◌, ◌⊎◌, List, [], ◌∷◌, ◌++◌, codes, ℕ, Option, Some, None, Result, Ok, Err}
+use Rattle.szg_io.specs.Moved.{Takes, Gives}
+use Rattle.szg_io.specs.declared.device.Input as input
+use Rattle.szg_io.specs.declared.device.Output as output
+use Rattle.szg_values.specs.Material.{IsMaterial, Sides, name_of, parsed}
+use Rattle.szg_values.specs.declared.NameFault.{NameFault}
+use Rattle.szg_file.specs.Accepted.{IsAccepted}
+use Rattle.szg_file.specs.File.{file}
+use Rattle.szg_file.specs.Format.{verdict}
+use Rattle.szg_file.specs.Held.{Shown, file_bytes}
+use Rattle.szg_file.specs.Reading.{IsRefusal}
+use Rattle.szg_file.specs.declared.fault.Reason.{Reason}
+use Rattle.szg_tool.specs.Answers.{IsAnswer}
+use Rattle.szg_tool.specs.Builds.{IsMade, IsUnmade}
+use Rattle.szg_tool.specs.Refusals.{IsRefused}
+use Rattle.szg_tool.specs.declared.refusal.Refusal.{Refusal}
+use Rattle.szg_tool.specs.declared.refusal.Refusal.TheVariants as why
+use Rattle.szg_tool.specs.declared.request.Action.{Action}
+use Rattle.szg_tool.specs.declared.request.Action.TheVariants.{Unplaced}
+use Rattle.szg_tool.specs.declared.request.Request.{Request}
+use Rattle.szg_tool.specs.declared.request.Task.{Task}
+use Rattle.szg_tool.specs.declared.request.Task.TheVariants.{OnTable, Build}
+
+-- The table has the name and the kind that are asked, and passes every check.
+pub record IsTableOf (request : Request) (t : Shown) : Type 0 where
+  pub material : IsMaterial t.contents.material
+  pub name : name_of t.contents.material ≡ request.name.now
+  pub kind : t.contents.kind ≡ request.kind
+  pub accepted : IsAccepted t.contents t.filled
+
+-- Just the file of such a table was taken from the reader, and just the answer was given to the writer.
+pub record IsAnswered {R W : Type 0} (reading : input.Ghosts R) (writing : output.Ghosts W) (request : Request)
+    (reader reader' : R) (writer writer' : W) : Type 0 where
+  pub table : Shown
+  pub asked : IsTableOf request table
+  pub taken : Takes reading reader reader' (file_bytes table) 1
+  pub text : List ℕ
+  pub answers : IsAnswer request.action request.part request.side table text
+  pub given : Gives writing writer writer' text 0
+
+-- Why a request is refused before anything is read: its name is none, or its words tell no placement.
+abbrev pub unplaced_refusal : Action → Option Refusal
+unplaced_refusal (Unplaced refusal) = Some refusal
+unplaced_refusal action = None
+
+abbrev pub first_check : Result Sides NameFault → Action → Option Refusal
+first_check (Err fault) action = Some (why.Name fault)
+first_check (Ok material) action = unplaced_refusal action
+
+-- The words tell all that is asked, the bytes that were taken are no table of that name and kind, and the refusal is the
+-- verdict's.
+pub record IsRefusedFile {R : Type 0} (reading : input.Ghosts R) (request : Request) (reader reader' : R) (refusal : Refusal) : Type 0 where
+  pub placed : unplaced_refusal request.action ≡ None
+  pub material : Sides
+  pub named : parsed request.name.now ≡ Ok material
+  pub place : ℕ
+  pub reason : Reason
+  pub told : refusal ≡ why.At place reason
+  pub bytes : List ℕ
+  pub taken : Takes reading reader reader' bytes 1
+  pub refused : IsRefusal (verdict (file material request.kind) 0 bytes) place reason (reading.coming reader')
+
+-- No table was read: nothing was, or the file is refused.
+abbrev pub IsUnread : {R : Type 0} → input.Ghosts R → Request → R → R → Refusal → Type 0
+IsUnread reading request reader reader' refusal =
+    ((first_check (parsed request.name.now) request.action ≡ Some refusal) × (reader' ≡ reader)) ⊎ IsRefusedFile reading request reader reader' refusal
+
+-- The words tell all that is asked, a table was read, and what is asked of it is refused.
+pub record IsRefusedOf {R : Type 0} (reading : input.Ghosts R) (request : Request) (reader reader' : R) (refusal : Refusal) : Type 0 where
+  pub placed : unplaced_refusal request.action ≡ None
+  pub table : Shown
+  pub asked : IsTableOf request table
+  pub taken : Takes reading reader reader' (file_bytes table) 1
+  pub refused : IsRefused request.action request.part request.side table.contents refusal
+
+-- The task was carried out.
+abbrev pub IsCarriedOut : {R W : Type 0} → input.Ghosts R → output.Ghosts W → Task → R → R → W → W → Type 0
+IsCarriedOut reading writing (OnTable request) reader reader' writer writer' = IsAnswered reading writing request reader reader' writer writer'
+IsCarriedOut reading writing (Build sizes) reader reader' writer writer' = IsMade reading writing sizes reader reader' writer writer'
+
+-- The task meets this refusal.
+abbrev pub Meets : {R : Type 0} → input.Ghosts R → Task → R → R → Refusal → Type 0
+Meets reading (OnTable request) reader reader' refusal = IsUnread reading request reader reader' refusal ⊎ IsRefusedOf reading request reader reader' refusal
+Meets reading (Build sizes) reader reader' refusal = IsUnmade reading sizes reader reader' refusal
+
+-- the line that tells a refusal
+abbrev pub IsRefusalLine : List ℕ → Type 0
+IsRefusalLine text = (reason : List ℕ) × (text ≡ codes "refused " ++ (reason ++ 10 ∷ []))
+
+-- The task meets a refusal, and just its line was given to the writer.
+pub record IsRefusedWith {R W : Type 0} (reading : input.Ghosts R) (writing : output.Ghosts W) (task : Task)
+    (reader reader' : R) (writer writer' : W) : Type 0 where
+  pub refusal : Refusal
+  pub met : Meets reading task reader reader' refusal
+  pub text : List ℕ
+  pub line : IsRefusalLine text
+  pub given : Gives writing writer writer' text 0

@@ -1,0 +1,142 @@
+//! The commands that look values up.
+
+ghost use Rattle.std.specs.Prelude.{◌≡◌, ℕ, ◌<◌, List, ◌++◌, flat_map, Some, None, IsSome, IfSome, IfErr, OnOk, OnErr, IfOk, Err, IsErrOf, string_bytes};
+ghost use Rattle.szg_io.specs.Device.{HasFailed};
+ghost use Rattle.szg_io.specs.Moved.{Gives};
+ghost use Rattle.szg_file.specs.Values.{subtable_at};
+ghost use Rattle.szg_tool.specs.Answers.{IsAnswer, counted_line, number_line};
+ghost use Rattle.szg_tool.specs.Refusals.{IsRefused, index_refusal, size_at};
+ghost use Rattle.szg_tool.specs.declared.refusal.Refusal.{Refusal};
+
+use crate::refusal::{Refusal, Stop};
+use crate::request::{Action, Request};
+use crate::saying::say;
+use itoa::Buffer;
+use std::alloc::{AllocError, Global};
+use szg_block::Steps;
+use szg_file::Table;
+use szg_io::Output;
+
+/// How many bytes of values are written at a time, or a little more.
+const PIECE: usize = 65536;
+
+/// Whether the table has the index: `Part` where there is no such part or side, `Index` where it has fewer positions.
+pub fn check_index(table: &Table, request: &Request, index: u64) -> Result<(), Refusal>
+    ensures there { OnOk result (IsSome (subtable_at table.now.contents request.now.part request.now.side)) }
+    ensures below { OnOk result (IfSome (subtable_at table.now.contents request.now.part request.now.side) (λ found. index < found.0.size)) }
+    ensures passed { OnOk result (index_refusal (size_at table.now.contents request.now.part request.now.side) index ≡ None) }
+    ensures refused { IfErr result (λ refusal. index_refusal (size_at table.now.contents request.now.part request.now.side) index ≡ Some refusal) }
+{
+    let Some(size) = table.size(request.part, request.side) else {
+        return Err(Refusal::Part);
+    };
+    if index < size {
+        Ok(())
+    } else {
+        Err(Refusal::Index)
+    }
+}
+
+/// Writes the value at an index.
+pub fn tell_value<W: Output>(
+    alloc: Global,
+    table: &Table,
+    request: &Request,
+    index: u64,
+    writer: &mut W,
+) -> Result<(), Stop>
+    ensures told { OnOk result ((text : List ℕ) × IsAnswer (Action.Get index) request.now.part request.now.side table.now text × Gives W.Output writer.old writer.new text 0) }
+    ensures device { IsErrOf result Stop.Device → HasFailed (W.failures writer.old) (W.failures writer.new) (W.interrupted writer.new) }
+    ensures refused { (refusal : Refusal) → IsErrOf result (Stop.Refused refusal) → (writer.new ≡ writer.old) × IsRefused (Action.Get index) request.now.part request.now.side table.now.contents refusal }
+{
+    check_index(table, request, index)?;
+    let value = table.get(request.part, request.side, index);
+    let text = format!(in alloc; "{value}\n")?;
+    say(writer, text.as_bytes())
+}
+
+/// Writes the value at an index, and the steps by which it is found.
+pub fn tell_counted<W: Output>(
+    alloc: Global,
+    table: &Table,
+    request: &Request,
+    index: u64,
+    writer: &mut W,
+) -> Result<(), Stop>
+    ensures told { OnOk result ((text : List ℕ) × IsAnswer (Action.GetCounted index) request.now.part request.now.side table.now text × Gives W.Output writer.old writer.new text 0) }
+    ensures device { IsErrOf result Stop.Device → HasFailed (W.failures writer.old) (W.failures writer.new) (W.interrupted writer.new) }
+    ensures refused { (refusal : Refusal) → IsErrOf result (Stop.Refused refusal) → (writer.new ≡ writer.old) × IsRefused (Action.GetCounted index) request.now.part request.now.side table.now.contents refusal }
+{
+    check_index(table, request, index)?;
+    let (value, steps) = table.get_counted(request.part, request.side, index);
+    let text = counted_line(alloc, value, steps)?;
+    say(writer, text.as_bytes())
+}
+
+/// A line of a value and the steps to it.
+fn counted_line(alloc: Global, value: u16, steps: Steps) -> Result<String, AllocError>
+    ensures { IfOk result (λ line. string_bytes line ≡ counted_line value steps) }
+{
+    let Steps {
+        moves,
+        words,
+        descents,
+        fetches,
+    } = steps;
+    format!(in alloc; "{value} moves {moves} words {words} descents {descents} fetches {fetches}\n")
+}
+
+/// Writes each value of a subtable on a line.
+pub fn tell_values<W: Output>(
+    alloc: Global,
+    table: &Table,
+    request: &Request,
+    writer: &mut W,
+) -> Result<(), Stop>
+    ensures told { OnOk result ((text : List ℕ) × IsAnswer Action.Values request.now.part request.now.side table.now text × Gives W.Output writer.old writer.new text 0) }
+    ensures device { IsErrOf result Stop.Device → HasFailed (W.failures writer.old) (W.failures writer.new) (W.interrupted writer.new) }
+    ensures refused { (refusal : Refusal) → IsErrOf result (Stop.Refused refusal) → (writer.new ≡ writer.old) × IsRefused Action.Values request.now.part request.now.side table.now.contents refusal }
+{
+    if table.size(request.part, request.side).is_none() {
+        return Err(Stop::Refused(Refusal::Part));
+    }
+    let values = table.values(alloc, request.part, request.side)?;
+    say_lines(alloc, &values, writer)
+}
+
+/// Writes each value on a line, in large pieces.
+fn say_lines<W: Output>(alloc: Global, values: &[u16], writer: &mut W) -> Result<(), Stop>
+    ensures given { OnOk result (Gives W.Output writer.old writer.new (flat_map number_line values.now) 0) }
+    ensures device { IsErrOf result Stop.Device → HasFailed (W.failures writer.old) (W.failures writer.new) (W.interrupted writer.new) }
+    ensures only { (refusal : Refusal) → IsErrOf result (Stop.Refused refusal) → ⊥ }
+{
+    let mut text = Vec::new(alloc);
+    'values: for value in values {
+        add_line(&mut text, *value)?;
+        say_piece(writer, &mut text)?;
+    }
+    say(writer, &text)
+}
+
+/// Adds a number on a line.
+fn add_line(text: &mut Vec<u8>, number: u16) -> Result<(), AllocError>
+    ensures { OnOk result (text.new.items ≡ text.old.items ++ number_line number) }
+{
+    text.extend_from_slice(Buffer::new().format(number).as_bytes())?;
+    Ok(text.push(b'\n')?)
+}
+
+/// Writes the text that is held where it is long enough, and then holds none.
+fn say_piece<W: Output>(writer: &mut W, text: &mut Vec<u8>) -> Result<(), Stop>
+    ensures given { OnOk result ((out : List ℕ) × Gives W.Output writer.old writer.new out 0 × (out ++ text.new.items ≡ text.old.items)) }
+    ensures failed { OnErr result (HasFailed (W.failures writer.old) (W.failures writer.new) (W.interrupted writer.new)) }
+    ensures device { OnErr result (result ≡ Err Stop.Device) }
+    ensures quiet { OnOk result (W.failures writer.new ≡ W.failures writer.old) }
+{
+    if text.len() < PIECE {
+        return Ok(());
+    }
+    say(writer, text)?;
+    text.clear();
+    Ok(())
+}

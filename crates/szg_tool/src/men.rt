@@ -1,0 +1,174 @@
+//! Men as words: a letter, upper case for White, a file and a rank, as `Ke1` and `pa7`.
+
+ghost use Rattle.std.specs.Prelude.{◌≡◌, ◌<◌, ◌≤◌, IsTrue, length};
+ghost use Rattle.std.specs.List.{list_all};
+ghost use Rattle.szg_tool.specs.Men.{color_told, is_told, letter_shown, man_told, placement_told, square_told, standing_in, standing_of};
+
+use crate::refusal::Refusal;
+use arrayvec::ArrayVec;
+use std::alloc::AllocError;
+use szg_values::{Color, MAX_MEN, Man, Placement, PlacementFault, Square};
+
+/// The colours in the order in which men are written.
+static COLORS: [Color; 2] = [Color::White, Color::Black];
+
+/// The kinds of men in the order of a name.
+static KINDS: [Man; 6] = [
+    Man::King,
+    Man::Queen,
+    Man::Rook,
+    Man::Bishop,
+    Man::Knight,
+    Man::Pawn,
+];
+
+/// The placement that these words tell, with this mover.
+///
+/// `Man` where a word is no man's, else `Placement` where the men make none.
+#[tactic(auto, unfolding(crate::specs::Men::placement_told))]
+pub fn placement_in(words: &[&str], mover: Color) -> Result<Placement, Refusal>
+    ensures { result ≡ placement_told words.now mover }
+{
+    if !are_told(words) {
+        return Err(Refusal::Man);
+    }
+    if words.len() > MAX_MEN {
+        return Err(Refusal::Placement(PlacementFault::Men));
+    }
+    let men = men_in(words);
+    match Placement::new(men.as_slice(), mover) {
+        Ok(placement) => Ok(placement),
+        Err(fault) => Err(Refusal::Placement(fault)),
+    }
+}
+
+/// Whether each word tells a man.
+fn are_told(words: &[&str]) -> bool
+    ensures { result ≡ list_all (λ word. is_told word.now) words.now }
+{
+    words.iter().all(|word| is_told(word))
+}
+
+/// Whether a word tells a man.
+fn is_told(word: &str) -> bool
+    ensures { result ≡ is_told word.now }
+{
+    man_in(word).is_some()
+}
+
+/// The men that words tell.
+fn men_in(words: &[&str]) -> ArrayVec<(Man, Color, Square), MAX_MEN>
+    requires few { length words.now ≤ 6 }
+    requires told { IsTrue (list_all (λ word. is_told word.now) words.now) }
+    ensures { result.items ≡ standing_in words.now }
+{
+    let mut men = ArrayVec::new();
+    'words: for word in words {
+        men.push(standing_of(word));
+    }
+    men
+}
+
+/// The man of a word that tells one.
+fn standing_of(word: &str) -> (Man, Color, Square)
+    requires { IsTrue (is_told word.now) }
+    ensures { result ≡ standing_of word.now }
+{
+    let Some(man) = man_in(word) else {
+        unreachable!()
+    };
+    man
+}
+
+/// The man of a word.
+fn man_in(word: &str) -> Option<(Man, Color, Square)>
+    ensures { result ≡ man_told word.now }
+{
+    let [letter, file, rank] = word.as_bytes() else {
+        return None;
+    };
+    let square = square_in(*file, *rank)?;
+    let man = Man::of_letter(letter.to_ascii_uppercase())?;
+    Some((man, color_in(*letter), square))
+}
+
+/// The colour of a letter.
+fn color_in(letter: u8) -> Color
+    ensures { result ≡ color_told letter }
+{
+    if letter.is_ascii_uppercase() {
+        Color::White
+    } else {
+        Color::Black
+    }
+}
+
+/// The square of a file's letter and a rank's digit.
+fn square_in(file: u8, rank: u8) -> Option<Square>
+    ensures { result ≡ square_told file rank }
+{
+    if file < b'a' || b'h' < file || rank < b'1' || b'8' < rank {
+        return None;
+    }
+    Square::new((rank - b'1') * 8 + (file - b'a'))
+}
+
+/// Adds a word for each man, White's before Black's, each in the order of a name, equal men by square.
+pub fn add_men(placement: &Placement, text: &mut String) -> Result<(), AllocError> {
+    'colors: for color in COLORS {
+        add_side(placement.men(), color, text)?;
+    }
+    Ok(())
+}
+
+/// Adds a word for each man of a colour.
+fn add_side(
+    men: &[(Man, Color, Square)],
+    color: Color,
+    text: &mut String,
+) -> Result<(), AllocError> {
+    'kinds: for kind in KINDS {
+        add_kind(men, kind, color, text)?;
+    }
+    Ok(())
+}
+
+/// Adds a word for each man of a kind and a colour, by square.
+fn add_kind(
+    men: &[(Man, Color, Square)],
+    kind: Man,
+    color: Color,
+    text: &mut String,
+) -> Result<(), AllocError> {
+    'squares: for number in 0..64 {
+        if stands(men, kind, color, number) {
+            add_man(kind, color, number, text)?;
+        }
+    }
+    Ok(())
+}
+
+/// Whether a man of a kind and a colour stands on the square of a number.
+fn stands(men: &[(Man, Color, Square)], kind: Man, color: Color, number: u8) -> bool {
+    men.iter().any(|man| man.0 == kind && man.1 == color && man.2.number() == number)
+}
+
+/// Adds a man's word, behind a space.
+fn add_man(kind: Man, color: Color, number: u8, text: &mut String) -> Result<(), AllocError>
+    requires { number < 64 }
+{
+    let letter = letter_of(kind, color) as char;
+    let file = (b'a' + number % 8) as char;
+    let rank = 1 + number / 8;
+    write!(text, " {letter}{file}{rank}")
+}
+
+/// A man's letter: upper case for White, lower case for Black.
+fn letter_of(kind: Man, color: Color) -> u8
+    ensures { result ≡ letter_shown kind color }
+{
+    match color {
+        Color::White => kind.letter(),
+        Color::Black => kind.letter().to_ascii_lowercase(),
+    }
+}
