@@ -1,5 +1,8 @@
 /* Looks values up in one subtable of a table file, checks its blocks and lists its values, each by szg_block and by
- * plain C of the form of de Man's probing code, and prints the ratios of times. */
+ * plain C of the form of de Man's probing code, and prints the ratios of times; then looks the same values up by the
+ * calls of the C library. */
+#include "../bindings/szg.h"
+#include <dlfcn.h>
 #include <inttypes.h>
 #include <stdbool.h>
 #include <stdint.h>
@@ -334,13 +337,81 @@ static struct times time_blocks(const struct table *t, bool lists)
     return (struct times){plain / 8, (whole - begun) / 8};
 }
 
+/* The calls of the C library, which is a shared one here: szg_bench brings the same runtime. */
+struct library {
+    __typeof__(szg_open) *open;
+    __typeof__(szg_get) *get;
+    __typeof__(szg_open_heads) *open_heads;
+    __typeof__(szg_find) *find;
+    __typeof__(szg_value) *value;
+};
+
+static void *call(void *library, const char *name)
+{
+    void *found = library ? dlsym(library, name) : NULL;
+    if (!found) {
+        fprintf(stderr, "%s isn't in the C library\n", name);
+        exit(2);
+    }
+    return found;
+}
+
+static struct library library_at(const char *path)
+{
+    void *library = dlopen(path, RTLD_NOW | RTLD_LOCAL);
+    return (struct library){call(library, "szg_open"), call(library, "szg_get"), call(library, "szg_open_heads"),
+                            call(library, "szg_find"), call(library, "szg_value")};
+}
+
+/* the least times of a look-up by szg_get, and by szg_find and szg_value out of the file in memory */
+struct called {
+    double get, by_place;
+};
+
+static struct called time_calls(const struct table *t, const uint32_t *indexes, struct library szg, const uint8_t *file,
+                                size_t length)
+{
+    struct called best = {1e9, 1e9};
+    szg_table table = SZG_NO_TABLE;
+    szg_heads heads = SZG_NO_HEADS;
+    szg_answer answer;
+    if (szg.open("KQRvK", 5, false, file, length, &table, &answer) != SZG_DONE ||
+        szg.open_heads("KQRvK", 5, false, file, length, &heads, &answer) != SZG_DONE)
+        fail("the files");
+    for (int round = 0; round < ROUNDS; round++) {
+        uint64_t mix = 0, held = 0, placed = 0;
+        uint16_t value = 0;
+        szg_wanted wanted = {0, 0};
+        for (size_t k = 0; k < LOOK_UPS; k++)
+            mix = 31 * mix + look_up(t, indexes[k]);
+        double t0 = now();
+        for (size_t k = 0; k < LOOK_UPS; k++) {
+            szg.get(&table, 0, 0, indexes[k], &value);
+            held = 31 * held + value;
+        }
+        double t1 = now();
+        for (size_t k = 0; k < LOOK_UPS; k++) {
+            szg.find(&heads, 0, 0, indexes[k], &wanted);
+            szg.value(&heads, 0, 0, indexes[k], file + wanted.place, wanted.count, &value);
+            placed = 31 * placed + value;
+        }
+        double t2 = now();
+        if (mix != held || mix != placed)
+            fail("the look-ups of the C library");
+        least(&best.get, t1 - t0);
+        least(&best.by_place, t2 - t1);
+    }
+    return best;
+}
+
 int main(int argc, char **argv)
 {
-    FILE *f = argc > 2 ? fopen(argv[1], "rb") : NULL;
+    FILE *f = argc > 3 ? fopen(argv[1], "rb") : NULL;
     if (!f)
         return 2;
     uint8_t *file = calloc(1, 1 << 26);
-    if (!file || fread(file, 1, 1 << 25, f) == 0)
+    size_t length = file ? fread(file, 1, 1 << 25, f) : 0;
+    if (length == 0)
         return 2;
     fclose(f);
     static struct table t, other;
@@ -352,9 +423,11 @@ int main(int argc, char **argv)
         indexes[k] = (state >> 16) % t.n.size;
     }
     struct times memory = time_look_ups(&t, indexes);
+    struct called library = time_calls(&t, indexes, library_at(argv[3]), file, length);
     struct times check = time_blocks(&t, false), list = time_blocks(&t, true);
     printf("%" PRIu64 " values, %u blocks, %u symbols\n", t.n.size, t.n.blocks, t.n.symbols);
     printf("look-up:             C %6.1f ns, szg_block %6.1f ns, ratio %.2f\n", memory.plain / LOOK_UPS * 1e9, memory.szg / LOOK_UPS * 1e9, memory.szg / memory.plain);
+    printf("by the C library:    szg_get %6.1f ns, ratio %.2f; szg_find and szg_value %6.1f ns, ratio %.2f\n", library.get / LOOK_UPS * 1e9, library.get / memory.plain, library.by_place / LOOK_UPS * 1e9, library.by_place / memory.plain);
     printf("check of all blocks: C %6.0f million values a second, szg_block %6.0f, ratio of times %.2f\n", t.n.size / check.plain / 1e6, t.n.size / check.szg / 1e6, check.szg / check.plain);
     printf("list of all values:  C %6.0f million values a second, szg_block %6.0f, ratio of times %.2f\n", t.n.size / list.plain / 1e6, t.n.size / list.szg / 1e6, list.szg / list.plain);
     return 0;

@@ -1,13 +1,13 @@
 /* szg: Syzygy tables, read with proof.
  *
- * Threads: a szg_table serves one call at a time. Threads that ask one table take a szg_table each, made by szg_share:
- * the table stays in memory once, and no call waits for another. A szg_table may go from one thread to another by a lock
- * or by a thread's start or join. The calls that hold nothing (szg_check, szg_size, szg_values, szg_values_at) may run
- * side by side.
+ * Threads: a szg_table or szg_heads serves one call at a time, szg_get, szg_find and szg_value too. Threads that ask one
+ * table take one each, made by szg_share or szg_share_heads: the table or its heads stay in memory once, and no call
+ * waits for another. It may go from one thread to another by a lock or by a thread's start or join. The calls that hold
+ * nothing (szg_check, szg_size, szg_values, szg_values_at) may run side by side.
  *
  * A call takes the name of a material, as "KQvKR" (its length is told beside it, and no zero byte is wanted), whether
  * the table is a DTZ table (else WDL), and the bytes of its file in memory. What follows the file is not looked at. Each
- * call but szg_close answers a status of enum szg_status.
+ * call but szg_close and szg_close_heads answers a status of enum szg_status.
  *
  * What is behind a call is proved to give these answers for every name, all bytes and all men. What a caller owes is
  * checked by nobody: each pointer leads to as many items as the length behind it says, and is not NULL even where that
@@ -48,7 +48,9 @@ enum szg_status {
     /* the table has an index, and nothing to tell there */
     SZG_NO_CLASS = 14,   /* the value is none of the five classes of a WDL table */
     SZG_DRAW = 15,       /* a draw has no number in a DTZ table */
-    SZG_OUTSIDE_MAP = 16 /* the DTZ table's map hasn't the value */
+    SZG_OUTSIDE_MAP = 16, /* the DTZ table's map hasn't the value */
+
+    SZG_CHANGED = 17 /* the bytes handed in can't be those of the file that szg_find told */
 };
 
 enum szg_reason {
@@ -139,6 +141,47 @@ uint32_t szg_probe(szg_table *table, const szg_man *men, size_t count, uint8_t m
 
 /* Lets the table go. A second call does nothing. */
 void szg_close(szg_table *table);
+
+/* ---- Tables by place: the caller maps or reads the file, and no table lies in memory whole.
+ *
+ * szg_open_heads makes every check of the file's bytes once, and keeps of them what look-ups need: the codes, the
+ * dictionaries, the sparse indexes and the lengths of the blocks, and no block. From then on a value costs three steps:
+ * szg_find tells which bytes of the file it wants (one block, 1 byte to 256 KiB), the caller has them (in a map at
+ * once, else by pread), and szg_value takes the value out of them. Where they are the file's, as szg_open_heads saw
+ * them, the value is that of szg_get. Both take no memory and look at nothing but their arguments. */
+
+/* The heads of a table. They begin as SZG_NO_HEADS, are changed by the calls alone, are not copied, and are given to one
+ * call at a time. */
+typedef struct szg_heads { void *held; } szg_heads;
+#define SZG_NO_HEADS {0}
+
+/* Bytes of a file: `count` of them from `place` on, all within the bytes that szg_open_heads was given. */
+typedef struct szg_wanted {
+    uint64_t place;
+    uint64_t count; /* 0 where the subtable is constant: a value wants no bytes */
+} szg_wanted;
+
+/* Opens the heads of a table out of the bytes of its whole file, which may go afterwards. What was held before is let go,
+ * also where the call is refused, as szg_open refuses. */
+uint32_t szg_open_heads(const char *name, size_t name_length, bool dtz, const uint8_t *bytes, size_t length,
+                        szg_heads *heads, szg_answer *answer);
+
+/* Makes `second`, another szg_heads, hold what `heads` holds, without a copy, as szg_share does. */
+uint32_t szg_share_heads(szg_heads *heads, szg_heads *second);
+
+/* Which bytes of the file the value at an index of a part's side wants. With another status than SZG_DONE *wanted
+ * stays. */
+uint32_t szg_find(szg_heads *heads, uint8_t part, uint8_t side, uint64_t index, szg_wanted *wanted);
+
+/* The value at an index of a part's side, out of the `count` bytes that szg_find told for this index; with the count 0
+ * no byte is read. SZG_CHANGED tells that they can't be the file's: there are more or fewer of them, or their words spell
+ * too few values. As many other bytes may also give another value; nothing worse comes of them. With another status
+ * than SZG_DONE *value stays. */
+uint32_t szg_value(szg_heads *heads, uint8_t part, uint8_t side, uint64_t index, const uint8_t *bytes, size_t count,
+                   uint16_t *value);
+
+/* Lets the heads go. A second call does nothing. */
+void szg_close_heads(szg_heads *heads);
 
 #ifdef __cplusplus
 }

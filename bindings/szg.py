@@ -5,16 +5,18 @@
     table.get(11711)
     table.probe_wdl(board)
     table.probe_wdl([(KING, WHITE, 60), (QUEEN, WHITE, 0), (KING, BLACK, 7)], WHITE)
+    MappedTable("KQvK.rtbw").get(11711)
 
 A board is anything with python-chess's `piece_map()` and `turn`; this module doesn't import it. Men are numbered as
 there: kinds 1 (pawn) to 6 (king), White True and Black False, squares 0 (a1) to 63 (h8).
 
 The library is found by SZG_LIBRARY (a path), else as libszg.so beside this file, else by the system's search. A Table
-is used by one thread at a time; `share` makes another one for the same table in memory, for another thread.
+or MappedTable is used by one thread at a time; `share` makes another one of the same table, for another thread.
 """
 import ctypes
+import mmap
 import os
-from ctypes import POINTER, byref, c_bool, c_char_p, c_int8, c_int64, c_size_t, c_void_p
+from ctypes import POINTER, addressof, byref, c_bool, c_char, c_char_p, c_int8, c_int64, c_size_t, c_void_p
 from ctypes import c_uint8, c_uint16, c_uint32, c_uint64
 from pathlib import Path
 from typing import Any, Iterable, Mapping, NamedTuple, Optional, Protocol, Tuple, Union
@@ -27,6 +29,7 @@ REASONS = (
     "Child Cycle LongSymbol ShortTotal SparseEntry Word"
 ).split()
 DONE, NAME, REFUSED, MEMORY, RANGE, CLOSED = range(6)
+CHANGED = 17
 UNTOLD = dict(enumerate(
     "Man Men SameSquare PawnRank OtherMaterial Irregular KingsTouch WrongSide NoClass Draw OutsideMap".split(), 6))
 
@@ -64,6 +67,10 @@ class Untold(LookupError):
         self.reason = reason
 
 
+class Changed(ValueError):
+    """The file of a MappedTable was changed: the bytes that a value wants can't be those that were opened."""
+
+
 class Spot(NamedTuple):
     """Where a table tells of a placement."""
 
@@ -78,6 +85,10 @@ class _Answer(ctypes.Structure):
 
 class _Held(ctypes.Structure):
     _fields_ = [("held", c_void_p)]
+
+
+class _Wanted(ctypes.Structure):
+    _fields_ = [("place", c_uint64), ("count", c_uint64)]
 
 
 class _Man(ctypes.Structure):
@@ -116,13 +127,50 @@ def _load() -> ctypes.CDLL:
         "szg_index": [held, POINTER(_Man), c_size_t, c_uint8, POINTER(_Spot)],
         "szg_probe": [held, POINTER(_Man), c_size_t, c_uint8, c_int8, POINTER(c_int64)],
         "szg_close": [held],
+        "szg_open_heads": [c_char_p, c_size_t, c_bool, c_void_p, c_size_t, held, POINTER(_Answer)],
+        "szg_share_heads": [held, held],
+        "szg_find": [held, *where, c_uint64, POINTER(_Wanted)],
+        "szg_value": [held, *where, c_uint64, c_void_p, c_size_t, POINTER(c_uint16)],
+        "szg_close_heads": [held],
     }.items():
         call = getattr(library, name)
-        call.argtypes, call.restype = words, None if name == "szg_close" else c_uint32
+        call.argtypes, call.restype = words, None if "close" in name else c_uint32
     return library
 
 
 _library = None
+
+
+def _kind_of(path: Path) -> str:
+    if path.suffix not in KINDS:
+        raise ValueError(f"{path.name} is named neither .rtbw nor .rtbz")
+    return KINDS[path.suffix]
+
+
+def _open(call: str, name: str, kind: str, data, length: int, held: _Held) -> None:
+    global _library
+    _library = _library or _load()
+    text, answer = name.encode(errors="replace"), _Answer()
+    status = getattr(_library, call)(text, len(text), kind == "dtz", data, length, byref(held), byref(answer))
+    if status == REFUSED:
+        raise Refused(answer.place, REASONS[answer.reason - 1])
+    if status == NAME:
+        raise ValueError(f"{name!r} is no material's name")
+    if status:
+        raise MemoryError("no memory for the table")
+
+
+def _judge(status: int) -> None:
+    if status == CLOSED:
+        raise ValueError("the table is closed")
+    if status == MEMORY:
+        raise MemoryError("a growth was refused")
+    if status == CHANGED:
+        raise Changed("the table's file was changed")
+    if status in UNTOLD:
+        raise Untold(UNTOLD[status])
+    if status:
+        raise IndexError("the table has no such part, side, index or class")
 
 
 class Table:
@@ -132,34 +180,23 @@ class Table:
         """The table of this name (as "KQvKR") and kind ("wdl" or "dtz") that the bytes begin with.
 
         Raises Refused where the bytes are no table's, ValueError for another name or kind, MemoryError."""
-        global _library
-        _library = _library or _load()
-        self._table, answer = _Held(), _Answer()
-        text = name.encode(errors="replace")
+        self._table = _Held()
         if kind not in KINDS.values():
             raise ValueError(f"{kind!r} is neither 'wdl' nor 'dtz'")
         self.name, self.kind = name, kind
-        status = _library.szg_open(text, len(text), kind == "dtz", data, len(data), byref(self._table), byref(answer))
-        if status == REFUSED:
-            raise Refused(answer.place, REASONS[answer.reason - 1])
-        if status == NAME:
-            raise ValueError(f"{name!r} is no material's name")
-        if status:
-            raise MemoryError("no memory for the table")
+        _open("szg_open", name, kind, data, len(data), self._table)
 
     @classmethod
     def open(cls, path: Union[str, Path]) -> "Table":
         """The table of a file whose name tells the material and the kind, as KQvKR.rtbw."""
         path = Path(path)
-        if path.suffix not in KINDS:
-            raise ValueError(f"{path.name} is named neither .rtbw nor .rtbz")
-        return cls(path.stem, KINDS[path.suffix], path.read_bytes())
+        return cls(path.stem, _kind_of(path), path.read_bytes())
 
     def share(self) -> "Table":
         """Another Table for the same table in memory, as for another thread. Each is closed by itself."""
         other = Table.__new__(Table)
         other._table, other.name, other.kind = _Held(), self.name, self.kind
-        self._judge(_library.szg_share(byref(self._table), byref(other._table)))
+        _judge(_library.szg_share(byref(self._table), byref(other._table)))
         return other
 
     def size(self, part: int = 0, side: int = 0) -> int:
@@ -245,25 +282,67 @@ class Table:
             turn = board.turn if hasattr(board, "turn") else None
         if turn is None:
             raise TypeError("men that are no board want `turn`, the side that moves")
-        self._judge(call(byref(self._table), men, len(men), 0 if turn else 1, *words))
+        _judge(call(byref(self._table), men, len(men), 0 if turn else 1, *words))
 
     def _ask(self, call, part: int, *words) -> None:
         # a number that is no byte would be cut to one
         if not 0 <= part < 256:
             raise IndexError(part)
-        self._judge(call(byref(self._table), part, *words))
+        _judge(call(byref(self._table), part, *words))
 
     def _ask_side(self, call, part: int, side: int, *words) -> None:
         if not 0 <= side < 256:
             raise IndexError(side)
         self._ask(call, part, side, *words)
 
-    def _judge(self, status: int) -> None:
-        if status == CLOSED:
-            raise ValueError("the table is closed")
-        if status == MEMORY:
-            raise MemoryError("a growth was refused")
-        if status in UNTOLD:
-            raise Untold(UNTOLD[status])
-        if status:
-            raise IndexError("the table has no such part, side, index or class")
+
+class MappedTable:
+    """A table whose file is mapped. Its heads are in memory, and a look-up reads one block of the file.
+
+    The file is to stay as it is. Where it is changed, a value may be another or raise Changed; where it is cut, the
+    system may end the program."""
+
+    def __init__(self, path: Union[str, Path]):
+        """The table of a file whose name tells the material and the kind, as KQvKR.rtbw. All of it is read and checked
+        once.
+
+        Raises Refused where the file is no table's, ValueError for another name or an empty file, MemoryError."""
+        self._heads, path = _Held(), Path(path)
+        self.name, self.kind = path.stem, _kind_of(path)
+        with path.open("rb") as file:
+            # a map of one's own, which ctypes wants; nothing writes it
+            self._map = mmap.mmap(file.fileno(), 0, access=mmap.ACCESS_COPY)
+        self._bytes = (c_char * len(self._map)).from_buffer(self._map)
+        _open("szg_open_heads", self.name, self.kind, self._bytes, len(self._bytes), self._heads)
+
+    def share(self) -> "MappedTable":
+        """Another MappedTable of the same table, as for another thread. Each is closed by itself."""
+        other = MappedTable.__new__(MappedTable)
+        other._heads, other.name, other.kind = _Held(), self.name, self.kind
+        other._map, other._bytes = self._map, self._bytes
+        _judge(_library.szg_share_heads(byref(self._heads), byref(other._heads)))
+        return other
+
+    def get(self, index: int, part: int = 0, side: int = 0) -> int:
+        """The value at an index. IndexError where there is none."""
+        if not (0 <= index < 1 << 64 and 0 <= part < 256 and 0 <= side < 256):
+            raise IndexError(index)
+        wanted, value = _Wanted(), c_uint16()
+        _judge(_library.szg_find(byref(self._heads), part, side, index, byref(wanted)))
+        place = addressof(self._bytes) + wanted.place
+        _judge(_library.szg_value(byref(self._heads), part, side, index, place, wanted.count, byref(value)))
+        return value.value
+
+    def close(self) -> None:
+        """Lets the heads go. Later calls raise ValueError. The map goes with the last MappedTable that shares it."""
+        _library.szg_close_heads(byref(self._heads))
+
+    def __enter__(self) -> "MappedTable":
+        return self
+
+    def __exit__(self, *_) -> None:
+        self.close()
+
+    def __del__(self) -> None:
+        if _library is not None:
+            _library.szg_close_heads(byref(self._heads))

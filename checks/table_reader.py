@@ -4,6 +4,7 @@ from math import comb, prod
 
 MAGIC = {"wdl": bytes.fromhex("71e8235d"), "dtz": bytes.fromhex("d7660ca5")}
 CODES = {"P": 1, "N": 2, "B": 3, "R": 4, "Q": 5, "K": 6}
+ORDER = "KQRBNP"
 LEAF = 4095
 
 
@@ -22,6 +23,19 @@ class Refused(Exception):
         super().__init__(f"refused at {place}: {reason}")
         self.place = place
         self.reason = reason
+
+
+def is_name(text):
+    """Whether a text is the name of a material (section 1)."""
+    sides = text.split("v")
+    if len(sides) != 2 or not all(letter in ORDER for side in sides for letter in side):
+        return False
+    for side in sides:
+        places = [ORDER.index(letter) for letter in side]
+        if not side.startswith("K") or side.count("K") != 1 or places != sorted(places):
+            return False
+    first, second = ([ORDER.index(letter) for letter in side] for side in sides)
+    return (-len(first), first) <= (-len(second), second) and 3 <= len(first) + len(second) <= 6
 
 
 class Material:
@@ -92,6 +106,34 @@ class Subtable:
 
     def value(self, index):
         return self.values[index] if self.constant is None else self.constant
+
+    def steps(self, index):
+        """How a look-up by the sparse index finds a value (section 6): its moves, words, descents and fetches."""
+        if self.constant is not None:
+            return 0, 0, 0, 0
+        span = 1 << self.span_bits
+        block, offset = self.sparse[index // span]
+        number, moves = offset + index % span - span // 2, 0
+        while number < 0:
+            block, moves = block - 1, moves + 1
+            number += self.starts[block + 1] - self.starts[block]
+        while number >= self.starts[block + 1] - self.starts[block]:
+            number -= self.starts[block + 1] - self.starts[block]
+            block, moves = block + 1, moves + 1
+        for words, symbol in enumerate(self.words[block], 1):
+            if number < len(self.expansions[symbol]):
+                return moves, words, self.descents(symbol, number), 1
+            number -= len(self.expansions[symbol])
+
+    def descents(self, symbol, number):
+        """How many pairs stand above a value of a symbol."""
+        count = 0
+        while self.pairs[symbol][1] != LEAF:
+            left, right = self.pairs[symbol]
+            symbol, count = left, count + 1
+            if number >= len(self.expansions[left]):
+                symbol, number = right, number - len(self.expansions[left])
+        return count
 
     def all_values(self):
         return self.values if self.constant is None else [self.constant] * self.size
@@ -200,7 +242,7 @@ class Reader:
         for s in range(count):
             x, y, z = taken[3 * s : 3 * s + 3]
             pairs.append((x + 256 * (y % 16), 16 * z + y // 16))
-        sub.symbols = count
+        sub.symbols, sub.pairs = count, pairs
         sub.expansions, faults = expansions_of(pairs)
         if faults:
             symbol, reason = faults

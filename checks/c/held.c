@@ -1,30 +1,8 @@
 /* Look-ups on a held table: held FOLDER. */
-#include "szg.h"
-#include <stdio.h>
-#include <stdlib.h>
-#include <string.h>
-#include <time.h>
-
-static uint8_t bytes[1 << 20];
-static int failed;
-
-static void want(const char *what, uint64_t got, uint64_t wanted) {
-    if (got != wanted) { printf("%s: %llu, not %llu\n", what, (unsigned long long)got, (unsigned long long)wanted); failed = 1; }
-}
-
-static double now(void) {
-    struct timespec t;
-    clock_gettime(CLOCK_MONOTONIC, &t);
-    return t.tv_sec + t.tv_nsec / 1e9;
-}
+#include "trying.h"
 
 static void table(const char *folder, const char *file, const char *name, bool dtz) {
-    char path[4096];
-    snprintf(path, sizeof path, "%s/%s", folder, file);
-    FILE *f = fopen(path, "rb");
-    if (!f) { perror(path); exit(2); }
-    size_t n = fread(bytes, 1, sizeof bytes, f);
-    fclose(f);
+    size_t n = load(folder, file);
     szg_answer answer = {0, 0};
     szg_table t = SZG_NO_TABLE;
     uint16_t value = 77;
@@ -73,10 +51,7 @@ static void table(const char *folder, const char *file, const char *name, bool d
 
 int main(int count, char **words) {
     const char *folder = count > 1 ? words[1] : "data";
-    table(folder, "knvk_wdl_constant.rtbw", "KNvK", false);
-    table(folder, "kqvk_wdl_unpaired.rtbw", "KQvK", false);
-    table(folder, "kqvk_wdl_paired.rtbw", "KQvK", false);
-    table(folder, "kpvk_dtz_mapped.rtbz", "KPvK", true);
+    each_sample(folder, table);
     if (!failed) puts("all as expected");
     return failed;
 }

@@ -1,12 +1,14 @@
 """Holds the Python module against the second reader of tables, on the sample tables: library.py ROOT"""
+import shutil
 import sys
+import tempfile
 import threading
 import time
 from pathlib import Path
 
 root = Path(sys.argv[1])
 sys.path.insert(0, str(root / "checks"))
-from szg import BLACK, KING, KNIGHT, PAWN, QUEEN, WHITE, Refused, Spot, Table, Untold  # noqa: E402
+from szg import BLACK, KING, KNIGHT, PAWN, QUEEN, WHITE, MappedTable, Refused, Spot, Table, Untold  # noqa: E402
 from table_reader import Reader  # noqa: E402
 
 SAMPLES = [
@@ -55,6 +57,21 @@ for name, kind, file in SAMPLES:
     raises(ValueError, table.get, 0)
     cut = raises(Refused, Table, name, kind, data[:-1])
     assert (cut.place, cut.reason) == (len(data) - 1, "Truncated")
+    with tempfile.TemporaryDirectory() as folder:
+        path = Path(folder) / f"{name}.{'rtbw' if kind == 'wdl' else 'rtbz'}"
+        shutil.copy(root / "data" / file, path)
+        with MappedTable(path) as table, table.share() as shared:
+            for sub in read.subs:
+                for index in range(0, sub.size, 101):
+                    assert table.get(index, sub.part, sub.side) == sub.value(index)
+                raises(IndexError, shared.get, sub.size, sub.part, sub.side)
+            raises(IndexError, table.get, 0, 4)
+            table.close()
+            raises(ValueError, table.get, 0)
+            assert shared.get(0) == read.subs[0].value(0)
+        path.write_bytes(data[:-1])
+        cut = raises(Refused, MappedTable, path)
+        assert (cut.place, cut.reason) == (len(data) - 1, "Truncated")
 raises(ValueError, Table, "KvKQ", "wdl", b"")
 with Table("KPvK", "dtz", (root / "data/kpvk_dtz_mapped.rtbz").read_bytes()) as table:
     assert [table.number(0, 2, part) for part in range(3)] == [14, 600, 0]

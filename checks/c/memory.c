@@ -1,9 +1,6 @@
 /* Calls whose growths are refused, each in turn: memory FOLDER. Linked with malloc, realloc and free wrapped. The status
  * is 0 where each such call tells SZG_MEMORY or does without, leaves its handle closed, and keeps no memory. */
-#include "szg.h"
-#include <stdio.h>
-#include <stdlib.h>
-#include <string.h>
+#include "trying.h"
 
 void *__real_malloc(size_t size);
 void *__real_realloc(void *block, size_t size);
@@ -30,13 +27,7 @@ void __wrap_free(void *block) {
     __real_free(block);
 }
 
-static uint8_t bytes[1 << 20];
 static uint16_t values[1 << 15];
-static int failed;
-
-static void want(const char *what, long got, long wanted) {
-    if (got != wanted) { printf("%s: %ld, not %ld\n", what, got, wanted); failed = 1; }
-}
 
 /* Opens with growth n refused, and closes. Whether it was opened. */
 static bool opens(const char *name, bool dtz, size_t length, long n) {
@@ -51,6 +42,24 @@ static bool opens(const char *name, bool dtz, size_t length, long n) {
     want("held", szg_positions(&table, 0, 0, &size), done ? SZG_DONE : SZG_CLOSED);
     szg_close(&table);
     want("blocks kept by open", held, 0);
+    return done;
+}
+
+/* Opens the heads and shares them, with growth n refused, and closes both. Whether nothing was refused. */
+static bool opens_heads(const char *name, bool dtz, size_t length, long n) {
+    szg_heads heads = SZG_NO_HEADS, second = SZG_NO_HEADS;
+    szg_answer answer;
+    allowed = n;
+    uint32_t opened = szg_open_heads(name, strlen(name), dtz, bytes, length, &heads, &answer);
+    uint32_t shared = opened == SZG_DONE ? szg_share_heads(&heads, &second) : SZG_CLOSED;
+    bool done = allowed >= 0;
+    allowed = -1;
+    want("open heads", opened == SZG_DONE ? shared : opened, done ? SZG_DONE : SZG_MEMORY);
+    want("heads", heads.held != NULL, opened == SZG_DONE);
+    want("second heads", second.held != NULL, shared == SZG_DONE);
+    szg_close_heads(&heads);
+    szg_close_heads(&second);
+    want("blocks kept by open_heads", held, 0);
     return done;
 }
 
@@ -69,15 +78,11 @@ static bool serves(szg_table *table, size_t size, long n) {
 }
 
 static void table(const char *folder, const char *file, const char *name, bool dtz) {
-    char path[4096];
-    snprintf(path, sizeof path, "%s/%s", folder, file);
-    FILE *f = fopen(path, "rb");
-    if (!f) { perror(path); exit(2); }
-    size_t length = fread(bytes, 1, sizeof bytes, f);
-    fclose(f);
+    size_t length = load(folder, file);
     held = 0;
-    long opening = 0, serving = 0;
+    long opening = 0, heads = 0, serving = 0;
     while (!opens(name, dtz, length, opening) && !failed) opening++;
+    while (!opens_heads(name, dtz, length, heads) && !failed) heads++;
     szg_table table = SZG_NO_TABLE;
     szg_answer answer;
     uint64_t size = 0;
@@ -86,7 +91,8 @@ static void table(const char *folder, const char *file, const char *name, bool d
     while (!serves(&table, (size_t)size, serving) && !failed) serving++;
     szg_close(&table);
     want("blocks kept", held, 0);
-    printf("%s: %ld growths of szg_open and %ld of szg_all and szg_share refused in turn\n", file, opening, serving);
+    printf("%s: refused in turn were %ld growths of szg_open, %ld of szg_open_heads and szg_share_heads, %ld of szg_all and szg_share\n",
+           file, opening, heads, serving);
 }
 
 int main(int count, char **words) {

@@ -1,27 +1,7 @@
 /* Placements in held tables: places FOLDER. The status is 0 where all is as expected. */
-#include "szg.h"
-#include <stdio.h>
-#include <stdlib.h>
-#include <string.h>
-#include <time.h>
+#include "trying.h"
 
-static uint8_t bytes[1 << 20];
-static int failed;
 static szg_table table = SZG_NO_TABLE;
-
-static void want(const char *what, int64_t got, int64_t wanted) {
-    if (got != wanted) { printf("%s: %lld, not %lld\n", what, (long long)got, (long long)wanted); failed = 1; }
-}
-
-static size_t load(const char *folder, const char *file) {
-    char path[4096];
-    snprintf(path, sizeof path, "%s/%s", folder, file);
-    FILE *f = fopen(path, "rb");
-    if (!f) { perror(path); exit(2); }
-    size_t n = fread(bytes, 1, sizeof bytes, f);
-    fclose(f);
-    return n;
-}
 
 static void hold(const char *name, bool dtz, size_t n) {
     szg_answer answer;

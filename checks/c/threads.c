@@ -1,13 +1,10 @@
 /* Threads that ask one table at once, each by a handle of its own: threads FOLDER. The status is 0 where all is as
  * expected. */
-#include "szg.h"
+#include "trying.h"
 #include <pthread.h>
-#include <stdio.h>
-#include <stdlib.h>
 
 enum { THREADS = 4, ROUNDS = 20 };
 
-static uint8_t bytes[1 << 20];
 static uint16_t *values;
 static uint64_t size;
 
@@ -33,12 +30,7 @@ static void *ask(void *given) {
 }
 
 int main(int count, char **words) {
-    char path[4096];
-    snprintf(path, sizeof path, "%s/kqvk_wdl_unpaired.rtbw", count > 1 ? words[1] : "data");
-    FILE *file = fopen(path, "rb");
-    if (!file) return perror(path), 2;
-    size_t length = fread(bytes, 1, sizeof bytes, file);
-    fclose(file);
+    size_t length = load(count > 1 ? words[1] : "data", "kqvk_wdl_unpaired.rtbw");
 
     szg_table table = SZG_NO_TABLE, none = SZG_NO_TABLE;
     szg_answer answer;

@@ -1,5 +1,5 @@
 -- Readers of many lines: how far the reading of a text has come, and what is left of it.
-use Rattle.std.proofs.Common.{◌≡◌, ℕ, zero, suc, ◌+◌, ◌-◌, ◌<◌, ◌≤◌, Bool, List, [], ◌∷◌, ◌++◌, refl, sym, ap, subst, ◌∙◌, append_assoc, append-nil, arith, Ok, Err}
+use Rattle.std.proofs.Common.{◌≡◌, ℕ, zero, suc, ◌+◌, ◌-◌, ◌<◌, ◌≤◌, Bool, List, [], ◌∷◌, ◌++◌, refl, sym, ap, subst, ◌∙◌, append_assoc, append-nil, arith, inl, Ok, Err}
 use Rattle.std.specs.Prelude.{Result, replicate}
 use Rattle.std.specs.List.{range_with_len}
 use Rattle.szg_file.specs.Contents.{Part}
@@ -13,16 +13,29 @@ use Rattle.szg_build.specs.Held.{held_of}
 use Rattle.szg_build.specs.Lines.{Lines, means, Verdict, good, refused, ended, verdict, ◌>>=◌}
 use Rattle.szg_build.specs.Grammar.{each, repeated, run_line, run_values}
 use Rattle.szg_build.specs.Reading.{LinesAnswer, turns_of, ReadsLines, told_line}
-use Rattle.szg_build.proofs.LinesLaws.{continued, verdict-then}
+use Rattle.szg_build.specs.Lacks.{AreWhole}
+use Rattle.szg_build.proofs.CutLaws.{cut, whole_joined}
+use Rattle.szg_build.proofs.LinesLaws.{continued, verdict-then, good-more}
 use Rattle.szg_build.proofs.ReadingLaws.{answer_on, behind_text, reads_stopped, reads_nothing}
 
--- These bytes were taken, and no line was refused: whatever follows, the verdict of f on all is that of g behind the
--- lines that were read.
+-- In front of what is held stand whole lines, none of which was refused: whatever follows them, the verdict of f on all
+-- is that of g on it.
+pub record Went {A : Type 0} (f g : Lines A) (count count' : ℕ) (bytes held : List ℕ) : Type 0 where
+  pub lines : List ℕ
+  pub split : bytes ≡ lines ++ held
+  pub whole : AreWhole lines
+  pub on : (y : List ℕ) → verdict f count (lines ++ y) ≡ verdict g count' y
+
+pub went_on : {A : Type 0} {f g : Lines A} {count count' : ℕ} {bytes held : List ℕ} → Went f g count count' bytes held → (y : List ℕ) → verdict f count (bytes ++ y) ≡ verdict g count' (held ++ y)
+went_on {f = f} {count = count} {held = held} w y =
+    ap (λ (z : List ℕ). verdict f count (z ++ y)) w.split ∙ ap (λ (z : List ℕ). verdict f count z) (append_assoc w.lines held y) ∙ w.on (held ++ y)
+
+-- These bytes were taken, and no line was refused: what is left is g.
 pub record GoesOn {A R : Type 0} (f g : Lines A) (old new : Incoming) (dev : Ghosts R) (input input' : R) : Type 0 where
   pub bytes : List ℕ
   pub taken : Takes dev input input' bytes 0
   pub goes : (count : ℕ) → told_line count ≡ old.line → (count' : ℕ) × (told_line count' ≡ new.line) × (dev.failures input' ≡ dev.failures input)
-      × ((y : List ℕ) → verdict f count ((held_of old ++ bytes) ++ y) ≡ verdict g count' (held_of new ++ y))
+      × Went f g count count' (held_of old ++ bytes) (held_of new)
 
 -- a text of which the value is taken further
 abbrev pub mapped : {A B : Type 0} → (A → B) → Lines A → Lines B
@@ -32,7 +45,7 @@ pub goes_here : {A R : Type 0} {f g : Lines A} {o : Incoming} {dev : Ghosts R} {
 goes_here {f = f} {g = g} {o = o} {dev = dev} {i = i} same = record {
   bytes = [];
   taken = Takes-none dev i 0;
-  goes = λ count told. (count, told, refl, λ y. ap (λ (z : List ℕ). verdict f count (z ++ y)) (append-nil (held_of o)) ∙ same count (held_of o ++ y));
+  goes = λ count told. (count, told, refl, record { lines = []; split = append-nil (held_of o); whole = inl refl; on = λ y. same count y });
 }
 
 pub goes_then : {A R : Type 0} {f g h : Lines A} {o m n : Incoming} {dev : Ghosts R} {i j k : R} → GoesOn f g o m dev i j → GoesOn g h m n dev j k → GoesOn f h o n dev i k
@@ -41,15 +54,19 @@ goes_then {f = f} {g = g} {h = h} {o = o} {m = m} {n = n} {dev = dev} {i = i} {j
   taken = Takes-on a.bytes b.bytes 0 a.taken b.taken;
   goes = λ count told.
       let x = a.goes count told in
-      let z = b.goes x.0 x.1 in (
+      let z = b.goes x.0 x.1 in
+      let v = x.3 in
+      let w = z.3 in (
         z.0,
         z.1,
         z.2 ∙ x.2,
-        λ y. ap (λ (w : List ℕ). verdict f count (w ++ y)) (sym (append_assoc (held_of o) a.bytes b.bytes))
-            ∙ ap (λ (w : List ℕ). verdict f count w) (append_assoc (held_of o ++ a.bytes) b.bytes y)
-            ∙ x.3 (b.bytes ++ y)
-            ∙ ap (λ (w : List ℕ). verdict g x.0 w) (sym (append_assoc (held_of m) b.bytes y))
-            ∙ z.3 y,
+        record {
+          lines = v.lines ++ w.lines;
+          split = sym (append_assoc (held_of o) a.bytes b.bytes) ∙ ap (λ (l : List ℕ). l ++ b.bytes) v.split ∙ append_assoc v.lines (held_of m) b.bytes
+              ∙ ap (λ (l : List ℕ). v.lines ++ l) w.split ∙ sym (append_assoc v.lines w.lines (held_of n));
+          whole = whole_joined v.lines w.lines v.whole w.whole;
+          on = λ y. ap (λ (l : List ℕ). verdict f count l) (append_assoc v.lines w.lines y) ∙ v.on (w.lines ++ y) ∙ w.on y;
+        },
       );
 }
 
@@ -58,7 +75,21 @@ pub goes_first : {A B X R : Type 0} (f : Lines A) (g : A → Lines B) (view : X 
 goes_first f g view v {o = o} {n = n} {dev = dev} {i = i} {k = k} first = record {
   bytes = first.bytes;
   taken = first.taken;
-  goes = λ count told. let a = first.answer count told in (a.0, a.1, a.3, λ y. behind_text f g count a.0 (held_of o ++ first.bytes) y (held_of n) (view v) a.2);
+  goes = λ count told.
+      let a = first.answer count told in
+      let c = cut f count (held_of o ++ first.bytes) (view v) a.0 (held_of n) a.2 in
+      (a.0, a.1, a.3, record { lines = c.front; split = c.split; whole = c.whole; on = λ y. behind_text f g count a.0 c.front y [] (view v) c.alone });
+}
+
+-- a text that was read whole
+pub goes_whole : {A X R : Type 0} (f : Lines A) (view : X → A) (v : X) {o n : Incoming} {dev : Ghosts R} {i k : R} → ReadsLines f view o n dev i k (Ok v) → GoesOn f (means (view v)) o n dev i k
+goes_whole f view v {o = o} {n = n} first = record {
+  bytes = first.bytes;
+  taken = first.taken;
+  goes = λ count told.
+      let a = first.answer count told in
+      let c = cut f count (held_of o ++ first.bytes) (view v) a.0 (held_of n) a.2 in
+      (a.0, a.1, a.3, record { lines = c.front; split = c.split; whole = c.whole; on = λ y. good-more f count c.front y (view v) a.0 [] c.alone });
 }
 
 -- the last reader's answer is that of all
@@ -69,7 +100,7 @@ goes_ends {f = f} {g = g} view {o = o} {m = m} {n = n} {dev = dev} {i = i} {j = 
   answer = λ count told.
       let x = a.goes count told in
       let joint : verdict f count (held_of o ++ (a.bytes ++ second.bytes)) ≡ verdict g x.0 (held_of m ++ second.bytes) =
-      ap (λ (z : List ℕ). verdict f count z) (sym (append_assoc (held_of o) a.bytes second.bytes)) ∙ x.3 second.bytes in
+      ap (λ (z : List ℕ). verdict f count z) (sym (append_assoc (held_of o) a.bytes second.bytes)) ∙ went_on x.3 second.bytes in
       answer_on f g view count x.0 n (held_of o ++ (a.bytes ++ second.bytes)) (held_of m ++ second.bytes) (dev.coming k) (dev.failures i) (dev.failures k) (dev.interrupted k) (dev.may_fail i) r joint
       (subst (λ (may : Bool). LinesAnswer g view x.0 n (held_of m ++ second.bytes) (dev.coming k) (dev.failures i) (dev.failures k) (dev.interrupted k) may r) a.taken.stays
       (subst (λ (fs : ℕ). LinesAnswer g view x.0 n (held_of m ++ second.bytes) (dev.coming k) fs (dev.failures k) (dev.interrupted k) (dev.may_fail j) r) x.2 (second.answer x.0 x.1)));
@@ -115,15 +146,21 @@ goes_step lines rest g F view v {o = o} {n = n} first = record {
   bytes = first.bytes;
   taken = first.taken;
   goes = λ count told.
-      let a = first.answer count told in (
+      let a = first.answer count told in
+      let c = cut lines count (held_of o ++ first.bytes) (view v) a.0 (held_of n) a.2 in (
         a.0,
         a.1,
         a.3,
-        λ y. verdict-then (lines >>= λ x. rest x >>= λ xs. means (g x xs)) (λ s. means (F s)) count ((held_of o ++ first.bytes) ++ y)
-            ∙ ap (continued (λ s. means (F s)))
-            (behind_text lines (λ x. rest x >>= λ xs. means (g x xs)) count a.0 (held_of o ++ first.bytes) y (held_of n) (view v) a.2 ∙ verdict-then (rest (view v)) (λ xs. means (g (view v) xs)) a.0 (held_of n ++ y))
-            ∙ twice F (g (view v)) (verdict (rest (view v)) a.0 (held_of n ++ y))
-            ∙ sym (verdict-then (rest (view v)) (λ xs. means (F (g (view v) xs))) a.0 (held_of n ++ y)),
+        record {
+          lines = c.front;
+          split = c.split;
+          whole = c.whole;
+          on = λ y. verdict-then (lines >>= λ x. rest x >>= λ xs. means (g x xs)) (λ s. means (F s)) count (c.front ++ y)
+              ∙ ap (continued (λ s. means (F s)))
+              (behind_text lines (λ x. rest x >>= λ xs. means (g x xs)) count a.0 c.front y [] (view v) c.alone ∙ verdict-then (rest (view v)) (λ xs. means (g (view v) xs)) a.0 y)
+              ∙ twice F (g (view v)) (verdict (rest (view v)) a.0 y)
+              ∙ sym (verdict-then (rest (view v)) (λ xs. means (F (g (view v) xs))) a.0 y);
+        },
       );
 }
 

@@ -33,7 +33,10 @@ pub mod NumberWords
 pub mod HexWords
 pub mod SayingLaws
 pub mod LineSays
+pub mod CutLaws
 pub mod GoingLaws
+pub mod LackLaws
+pub mod LeastLaws
 pub mod MapReads
 pub mod RestLaws
 pub mod WholeLaws

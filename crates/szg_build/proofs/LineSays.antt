@@ -1,10 +1,11 @@
 -- A line that was read says what its words say.
 use Rattle.std.proofs.Common.{◌≡◌, ℕ, List, sym, subst, ◌∙◌, Ok, Err}
-use Rattle.std.specs.Prelude.{Result}
+use Rattle.std.specs.Prelude.{Result, IfOk, OnOk, IsErrOf}
 use Rattle.szg_io.specs.declared.device.Input.{Ghosts}
 use Rattle.szg_build.specs.declared.incoming.Incoming.{Incoming}
 use Rattle.szg_build.specs.declared.dump.DumpFault.{DumpFault}
 use Rattle.szg_build.specs.declared.dump.DumpReadFault.{DumpReadFault}
+use Rattle.szg_build.specs.declared.dump.DumpReadFault.TheVariants.{Memory}
 use Rattle.szg_build.specs.Fronts.{in_line}
 use Rattle.szg_build.specs.Lines.{Lines, line, words_of}
 use Rattle.szg_build.specs.Reading.{ReadsLines, Says}
@@ -26,3 +27,13 @@ reads_said next view words seen text {o = o} {m = m} {dev = dev} {i = i} {k = k}
 pub reads_unread : {A X T R : Type 0} (next : List (List ℕ) → Lines A) (words : T → List (List ℕ)) (view : X → A) {o m n : Incoming} {dev : Ghosts R} {i k : R} (fault : DumpReadFault) →
     ReadsLines words_line words o m dev i k (Err fault) → ReadsLines (line next) view o n dev i k (Err fault)
 reads_unread next words view fault first = reads_stopped words_line next words view fault first
+
+-- a line takes no memory
+pub no_memory : {X : Type 0} (number : ℕ) (r : Result X DumpFault) (answer : Result X DumpReadFault) → answer ≡ in_line number r → IsErrOf answer Memory → ⊥
+no_memory number (Ok x) answer same e = absurd cc
+no_memory number (Err fault) answer same e = absurd cc
+
+-- what holds of a long line holds where the line was told
+pub short_behind : {X : Type 0} {P Q : Type 0} (number : ℕ) (r : Result X DumpFault) (answer : Result X DumpReadFault) → answer ≡ in_line number r → IfOk r (λ _. P) → (P → Q) → OnOk answer Q
+short_behind {Q = Q} number (Ok x) answer same long after = subst (λ a. OnOk a Q) (sym same) (after long)
+short_behind {Q = Q} number (Err fault) answer same long after = subst (λ a. OnOk a Q) (sym same) tt

@@ -1,5 +1,5 @@
 -- The map that flags ask for, as it is read.
-use Rattle.std.proofs.Common.{◌≡◌, ℕ, Bool, true, false, List, refl, sym, ap, subst, Option, Some, None, Ok, Err}
+use Rattle.std.proofs.Common.{◌≡◌, ℕ, Bool, true, false, List, refl, sym, ap, subst, arith, Option, Some, None, Ok, Err}
 use Rattle.std.specs.Prelude.{Result}
 use Rattle.szg_file.specs.Contents.{Map, narrow, wide}
 use Rattle.szg_io.specs.declared.device.Input.{Ghosts}
@@ -8,7 +8,9 @@ use Rattle.szg_build.specs.declared.dump.DumpReadFault.{DumpReadFault}
 use Rattle.szg_build.specs.Lines.{Lines, means, ◌>>=◌}
 use Rattle.szg_build.specs.Grammar.{each, list_numbers, map_list, map_of, greatest_item}
 use Rattle.szg_build.specs.Reading.{ReadsLines}
+use Rattle.szg_build.specs.Lacks.{LacksLines}
 use Rattle.szg_build.proofs.ReadingLaws.{reads_then, reads_stopped, reads_nothing}
+use Rattle.szg_build.proofs.LackLaws.{lacks_first, lacks_as, asks_means}
 
 no_map : (b c : Bool) → b ≡ false → map_of b c ≡ means None
 no_map b c e = rw e refl
@@ -42,3 +44,11 @@ wide_stopped b c view view' fault e e' read = as_text (wide_map b c e e') (reads
 pub narrow_stopped : {X Y R : Type 0} (b c : Bool) (view : X → List (List ℕ)) (view' : Y → Option Map) (fault : DumpReadFault) {o n n' : Incoming} {dev : Ghosts R} {i k : R} → b ≡ true → c ≡ false →
     ReadsLines (each (map_list 255) list_numbers) view o n dev i k (Err fault) → ReadsLines (map_of b c) view' o n' dev i k (Err fault)
 narrow_stopped b c view view' fault e e' read = as_text (narrow_map b c e e') (reads_stopped (each (map_list 255) list_numbers) (λ lists. means (Some (narrow lists))) view view' fault read)
+
+pub wide_lacks : {R : Type 0} (b c : Bool) (behind : ℕ) {o : Incoming} {dev : Ghosts R} {i k : R} → b ≡ true → c ≡ true → LacksLines (each (map_list greatest_item) list_numbers) behind o dev i k → LacksLines (map_of b c) behind o dev i k
+wide_lacks b c behind e e' lacks =
+    lacks_as (wide_map b c e e') (lacks_first (each (map_list greatest_item) list_numbers) (λ lists. means (Some (wide lists))) behind behind 0 (omega arith) (λ lists. asks_means (Some (wide lists))) lacks)
+
+pub narrow_lacks : {R : Type 0} (b c : Bool) (behind : ℕ) {o : Incoming} {dev : Ghosts R} {i k : R} → b ≡ true → c ≡ false → LacksLines (each (map_list 255) list_numbers) behind o dev i k → LacksLines (map_of b c) behind o dev i k
+narrow_lacks b c behind e e' lacks =
+    lacks_as (narrow_map b c e e') (lacks_first (each (map_list 255) list_numbers) (λ lists. means (Some (narrow lists))) behind behind 0 (omega arith) (λ lists. asks_means (Some (narrow lists))) lacks)

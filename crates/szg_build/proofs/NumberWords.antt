@@ -1,14 +1,14 @@
 -- When a word is a number.
-use Rattle.std.proofs.Common.{◌≡◌, ℕ, ◌<◌, ◌≤◌, ◌^◌, Bool, true, false, List, refl, sym, ap, subst, ◌∙◌, arith, Option, Some, None, Ok, Err}
+use Rattle.std.proofs.Common.{◌≡◌, ℕ, zero, suc, ◌<◌, ◌≤◌, ◌^◌, Bool, true, false, List, [], ◌∷◌, ◌++◌, length, length-append, refl, sym, ap, subst, ◌∙◌, arith, Option, Some, None, Ok, Err}
 use Rattle.std.specs.Prelude.{◌&&◌, Result, bytes_eq, nat_le, if◌then◌else◌}
 use Rattle.std.specs.Fmt.{decimal}
 use Rattle.std.specs.Str.Parse.{digits_value, ParsesUnsigned}
 use Rattle.std.specs.Str.{IsUtf8}
 use Rattle.std.proofs.lemmas.Bool.{leb-true}
-use Rattle.std.proofs.lemmas.Fmt.{parse-decimal, IsAscii-decimal}
+use Rattle.std.proofs.lemmas.Fmt.{parse-decimal, IsAscii-decimal, decimal_nonempty}
 use Rattle.std.proofs.lemmas.Slice.Eq.{bytes_eq-Decides}
 use Rattle.std.proofs.lemmas.Str.{IsUtf8-from_ascii}
-use Rattle.szg_build.specs.Grammar.{number_in}
+use Rattle.szg_build.specs.Grammar.{number_in, positive, greatest_count, greatest_item}
 use Rattle.szg_build.proofs.Words.{number_in-decimal}
 
 pub number_there : (limit n : ℕ) (word : List ℕ) → word ≡ decimal n → n ≤ limit → n < 2 ^ 64 → number_in limit word ≡ Some n
@@ -47,3 +47,22 @@ number_of_another limit n word r small is h never = number_none limit word (λ m
     let same : Ok n ≡ Ok m = sym is ∙ parsed_as m word r (omega (arith, small, le)) e h in
     let number : n ≡ m = cc same in
     never (omega (arith, le, number)) (e ∙ ap decimal (sym number)))
+
+-- ---- the length of a run's line
+
+word_there : (limit n : ℕ) (word : List ℕ) → limit < 2 ^ 64 → number_in limit word ≡ Some n → 0 < length word
+word_there limit n (byte ∷ word) small e = omega arith
+word_there limit n [] small e =
+    let none : number_in limit [] ≡ None = number_none limit [] (λ m le e'. absurd (omega (arith, decimal_nonempty m (omega (arith, small, le)), ap length e'))) in
+    let no : None ≡ Some n = sym none ∙ e in
+    absurd cc
+
+number_there_of : (o : Option ℕ) (n : ℕ) → positive o ≡ Some n → (m : ℕ) × (o ≡ Some m)
+number_there_of None n e = absurd cc
+number_there_of (Some zero) n e = absurd cc
+number_there_of (Some (suc m)) n e = (suc m, refl)
+
+pub run_length : (text first second : List ℕ) (n v : ℕ) → text ≡ [] ++ (first ++ 32 ∷ ([] ++ second)) → positive (number_in greatest_count first) ≡ Some n → number_in greatest_item second ≡ Some v → 3 ≤ length text
+run_length text first second n v e is is' =
+    let p = number_there_of (number_in greatest_count first) n is in
+    omega (arith, ap length e, length-append first (32 ∷ second), word_there greatest_count p.0 first (omega arith) p.1, word_there greatest_item v second (omega arith) is')

@@ -49,6 +49,14 @@ answer_on f g view count count' new x y coming fs fs' row may (Err (Build fault)
 answer_on f g view count count' new x y coming fs fs' row may (Err Device) e p = p
 answer_on f g view count count' new x y coming fs fs' row may (Err Memory) e p = p
 
+-- an error is the same in an answer of another type
+abbrev error_in : {X E : Type 0} → E → Result X E → E
+error_in other (Ok x) = other
+error_in other (Err fault) = fault
+
+pub same_error : {X Y E : Type 0} {x y : E} → let r : Result X E = Err x in let s : Result Y E = Err x in IsErrOf r y → IsErrOf s y
+same_error {x = x} e = ap Err (ap (error_in x) e)
+
 -- One reader after another that gave a value.
 pub reads_then : {A B X Y R : Type 0} (f : Lines A) (g : A → Lines B) (view : X → A) (view' : Y → B) {o m n : Incoming}
     {dev : Ghosts R} {i j k : R} (v : X) {r : Result Y DumpReadFault} →

@@ -1,5 +1,5 @@
 -- A subtable's text behind its first lines, as it is read.
-use Rattle.std.proofs.Common.{◌≡◌, ℕ, Bool, true, false, List, [], ◌∷◌, sym, ap, subst, Option, Ok, Err}
+use Rattle.std.proofs.Common.{◌≡◌, ℕ, ◌+◌, arith, Bool, true, false, List, [], ◌∷◌, sym, ap, subst, Option, Ok, Err}
 use Rattle.std.specs.Prelude.{Result, codes}
 use Rattle.szg_values.specs.declared.Kind.{Kind}
 use Rattle.szg_values.specs.declared.Kind.TheVariants.{Dtz}
@@ -16,8 +16,11 @@ use Rattle.szg_build.specs.Text.{Form}
 use Rattle.szg_build.specs.Lines.{Lines, means, ◌>>=◌}
 use Rattle.szg_build.specs.Grammar.{fixed, value, number_line, greatest_count, demand, order_check, length_check, values_lines, flags_line, map_of, sub_text}
 use Rattle.szg_build.specs.Reading.{ReadsLines}
+use Rattle.szg_build.specs.Lacks.{LacksLines}
 use Rattle.szg_build.specs.Rests.{counted_text, fields_text}
 use Rattle.szg_build.proofs.ReadingLaws.{reads_then, reads_stopped, reads_nothing, reads_unbuilt}
+use Rattle.szg_build.proofs.LackLaws.{lacks_first, lacks_then, lacks_as, asks_means}
+use Rattle.szg_build.proofs.LeastLaws.{asks_counted}
 
 -- a text that is another one
 pub reads_as : {A X R : Type 0} {f g : Lines A} {view : X → A} {o n : Incoming} {dev : Ghosts R} {i k : R} {r : Result X DumpReadFault} → f ≡ g → ReadsLines g view o n dev i k r → ReadsLines f view o n dev i k r
@@ -110,3 +113,31 @@ pub sub_read : {X Y R : Type 0} (form : Form) (kind : Kind) (sizes : Option (Lis
 sub_read form kind sizes s place view x view' fault e read rest =
     reads_then (sub_line place) (λ _. behind_place form kind sizes s) view view' x read
     (reads_as (ap (λ (z : Lines (Unit {0})). z >>= λ _. fields_text form kind sizes s) e) rest)
+
+-- ---- a growth is refused
+
+pub values_lack : {R : Type 0} (form : Form) (sizes : Option (List ℕ)) (s flags : ℕ) (lists : Option Map) (count : ℕ) (fault : BuildFault) (behind : ℕ) {o m : Incoming} {dev : Ghosts R} {i j k : R} →
+    length_check form sizes s count ≡ demand true fault → ReadsLines count_line (λ (n : ℕ). n) o m dev i j (Ok count) → LacksLines (values_lines form count) behind m dev j k → LacksLines (counted_text form sizes s flags lists) behind o dev i k
+values_lack form sizes s flags lists count fault behind e read lacks =
+    lacks_then count_line (behind_count form sizes s flags lists) behind (λ (n : ℕ). n) count read
+    (lacks_as (ap (λ (z : Lines (Unit {0})). z >>= λ _. valued form flags lists count) e)
+    (lacks_first (values_lines form count) (λ values. means (a_sub flags lists values)) behind behind 0 (omega arith) (λ values. asks_means (a_sub flags lists values)) lacks))
+
+pub map_lacks : {R : Type 0} (form : Form) (kind : Kind) (sizes : Option (List ℕ)) (s flags behind : ℕ) {o m : Incoming} {dev : Ghosts R} {i j k : R} →
+    ReadsLines (flags_line kind) (λ (n : ℕ). n) o m dev i j (Ok flags) → LacksLines (map_of (has_bit 1 flags) (has_bit 4 flags)) (behind + 1) m dev j k → LacksLines (fields_text form kind sizes s) behind o dev i k
+map_lacks form kind sizes s flags behind read lacks =
+    lacks_then (flags_line kind) (behind_flags form sizes s) behind (λ (n : ℕ). n) flags read
+    (lacks_first (map_of (has_bit 1 flags) (has_bit 4 flags)) (λ lists. counted_text form sizes s flags lists) (behind + 1) behind 1 (omega arith) (λ lists. asks_counted form sizes s flags lists) lacks)
+
+pub counted_lacks : {X R : Type 0} (form : Form) (kind : Kind) (sizes : Option (List ℕ)) (s flags : ℕ) (view : X → Option Map) (x : X) (behind : ℕ) {o m l : Incoming} {dev : Ghosts R} {i j h k : R} →
+    ReadsLines (flags_line kind) (λ (n : ℕ). n) o m dev i j (Ok flags) → ReadsLines (map_of (has_bit 1 flags) (has_bit 4 flags)) view m l dev j h (Ok x) →
+    LacksLines (counted_text form sizes s flags (view x)) behind l dev h k → LacksLines (fields_text form kind sizes s) behind o dev i k
+counted_lacks form kind sizes s flags view x behind read second lacks =
+    lacks_then (flags_line kind) (behind_flags form sizes s) behind (λ (n : ℕ). n) flags read
+    (lacks_then (map_of (has_bit 1 flags) (has_bit 4 flags)) (λ lists. counted_text form sizes s flags lists) behind view x second lacks)
+
+pub fields_lack : {X R : Type 0} (form : Form) (kind : Kind) (sizes : Option (List ℕ)) (s : ℕ) (place : ℕ × ℕ) (view : X → List (List ℕ)) (x : X) (fault : BuildFault) (behind : ℕ) {o m : Incoming} {dev : Ghosts R} {i j k : R} →
+    order_check form sizes ≡ demand true fault → ReadsLines (sub_line place) view o m dev i j (Ok x) → LacksLines (fields_text form kind sizes s) behind m dev j k → LacksLines (sub_text form kind sizes s place) behind o dev i k
+fields_lack form kind sizes s place view x fault behind e read lacks =
+    lacks_then (sub_line place) (λ _. behind_place form kind sizes s) behind view x read
+    (lacks_as (ap (λ (z : Lines (Unit {0})). z >>= λ _. fields_text form kind sizes s) e) lacks)

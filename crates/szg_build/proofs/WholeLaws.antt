@@ -80,11 +80,11 @@ pub subs_begun : {R : Type 0} (form : Form) (material : Sides) (kind : Kind) (la
     GoesOn (dump_behind_parts form material kind last parts) (subs_left form material kind last parts [] 0) o o dev i i
 subs_begun form material kind last parts = goes_here (λ count bytes. refl)
 
-abbrev left_of : Form → Sides → Kind → List ℕ → List Part → List SubDump → ℕ → List (ℕ × ℕ) → Lines Dump
+abbrev pub left_of : Form → Sides → Kind → List ℕ → List Part → List SubDump → ℕ → List (ℕ × ℕ) → Lines Dump
 left_of form material kind last parts read s places =
     mapped (λ rest. dump_of_subs material kind parts last (read ++ rest)) (subs_text form kind (sizes_told material kind parts) s places)
 
-next_place : (places : List (ℕ × ℕ)) (s : ℕ) (place : ℕ × ℕ) → s < length places → place ≡ get_or places s (0, 0) → drop s places ≡ place ∷ drop (suc s) places
+pub next_place : (places : List (ℕ × ℕ)) (s : ℕ) (place : ℕ × ℕ) → s < length places → place ≡ get_or places s (0, 0) → drop s places ≡ place ∷ drop (suc s) places
 next_place places s place few same = drop-cons places s (0, 0) few ∙ ap (λ (p : ℕ × ℕ). p ∷ drop (suc s) places) (sym same)
 
 pub subs_more : {X R : Type 0} {f : Lines Dump} (form : Form) (material : Sides) (kind : Kind) (last : List ℕ) (parts : List Part) (read : List SubDump) (s next : ℕ) (place : ℕ × ℕ) (sizes : Option (List ℕ)) (view : X → SubDump) (v : X)

@@ -9,6 +9,7 @@ pub mod Text
 pub mod Lines
 pub mod Grammar
 pub mod Reading
+pub mod Lacks
 pub mod Shown
 pub mod Laws
 pub mod Writing

@@ -6,6 +6,7 @@ ghost use Rattle.szg_file.specs.Held.{part_of};
 ghost use Rattle.szg_build.specs.Dump.{places_of};
 ghost use Rattle.szg_build.specs.Grammar.{dump_format};
 ghost use Rattle.szg_build.specs.Held.{held_of};
+ghost use Rattle.szg_build.specs.Lacks.{LacksLines, StopsShort};
 ghost use Rattle.szg_build.specs.Lines.{verdict};
 ghost use Rattle.szg_build.specs.Plan.{sizes_told};
 ghost use Rattle.szg_build.specs.Reading.{ReadsLines};
@@ -79,6 +80,7 @@ fn read_subs<R: Input>(
     requires { length (held_of incoming.old) ≤ 2 * length (places_of front.material front.kind) }
     ensures lines { ReadsLines (dump_behind_parts (form_of form) front.material front.kind front.last (map part_of front.parts.items)) dump_seen incoming.old incoming.new R.Input input.old input.new result }
     ensures held { OnOk result (held_of incoming.new ≡ []) }
+    ensures memory { IsErrOf result DumpReadFault.Memory → LacksLines (dump_behind_parts (form_of form) front.material front.kind front.last (map part_of front.parts.items)) 0 incoming.old R.Input input.old input.new }
 {
     let sizes = sizes_of(&front.material, front.kind, &front.parts);
     let places = places(&front.material, front.kind);
@@ -118,6 +120,7 @@ fn read_behind_kind<R: Input>(
     requires { length (held_of incoming.old) ≤ 2 }
     ensures lines { ReadsLines (dump_behind_kind (form_of form) material kind) dump_seen incoming.old incoming.new R.Input input.old input.new result }
     ensures held { OnOk result (held_of incoming.new ≡ []) }
+    ensures memory { IsErrOf result DumpReadFault.Memory → LacksLines (dump_behind_kind (form_of form) material kind) 0 incoming.old R.Input input.old input.new }
 {
     let due = 2 * places(&material, kind).len() as u64;
     let last = read_end(due + 1, input, incoming)?;
@@ -140,6 +143,7 @@ fn read_text<R: Input>(
     requires { held_of incoming.old ≡ [] }
     ensures lines { ReadsLines dump_format dump_seen incoming.old incoming.new R.Input input.old input.new result }
     ensures held { OnOk result (held_of incoming.new ≡ []) }
+    ensures memory { IsErrOf result DumpReadFault.Memory → LacksLines dump_format 0 incoming.old R.Input input.old input.new }
 {
     let form = read_form(4, input, incoming)?;
     let material = read_material(3, input, incoming)?;
@@ -154,12 +158,16 @@ fn read_text<R: Input>(
 /// values from left to right. In form 2 alone `Build` tells that no table can be built of what was read so far: `Order`
 /// behind the first line `sub`, where the parts don't stand, `Length` behind a line `values` with another number than
 /// the subtable's size. `Device` where the reader failed, `Memory` where a growth was refused. Behind a refused line
-/// more bytes may have been taken; behind a dump that was read, none.
+/// more bytes may have been taken, and where memory was refused no more than a dump with the lines so far still has;
+/// behind a dump that was read, none.
 pub fn read_dump<R: Input>(alloc: Global, input: &mut R) -> Result<Dump, DumpReadFault>
     // Where the reader tells its bytes, the answer is their verdict, however they come in pieces.
     ensures verdict { IfSome (R.coming input.old) (λ bytes. FollowsLines (verdict dump_format 0 bytes) result (R.coming input.new)) }
     // Whatever the reader tells: which bytes were taken, and with how many calls.
     ensures taken { (bytes : List ℕ) × Takes R.Input input.old input.new bytes 1 × TookLines (verdict dump_format 0 bytes) result (R.coming input.new) }
+    // Where memory is refused: the lines that were read stand, and no more bytes were taken ahead of them than any dump
+    // that begins with these lines still has.
+    ensures memory { IsErrOf result DumpReadFault.Memory → (bytes : List ℕ) × Takes R.Input input.old input.new bytes 1 × StopsShort dump_format 0 0 bytes }
     ensures device { IsErrOf result DumpReadFault.Device → HasFailed (R.failures input.old) (R.failures input.new) (R.interrupted input.new) × IsTrue (R.may_fail input.old) }
     ensures quiet { (IsErrOf result DumpReadFault.Device → ⊥) → R.failures input.new ≡ R.failures input.old }
 {

@@ -1,5 +1,5 @@
 //! One line of text.
-ghost use Rattle.std.specs.Prelude.{◌≡◌, ◌≢◌, ℕ, ◌+◌, ◌<◌, ◌≤◌, length, slice_index, MatchOption, OnOk};
+ghost use Rattle.std.specs.Prelude.{◌≡◌, ◌≢◌, ℕ, ◌+◌, ◌<◌, ◌≤◌, length, slice_index, MatchOption, IfOk, IsErrOf, OnOk};
 ghost use Rattle.szg_build.specs.Held.{held_of};
 ghost use Rattle.szg_build.specs.Lines.{line, means, words_of};
 ghost use Rattle.szg_build.specs.Reading.{ReadsLines};
@@ -27,18 +27,20 @@ fn line_len(held: &[u8]) -> Option<usize>
     None
 }
 
-/// Reads a line, where `behind` more lines at least are due after it. So many bytes may be taken at once as lines are
-/// due: each has its 0A. Nothing behind the last line is taken.
+/// Reads a line of `least` bytes at least with its 0A, where `behind` more bytes at least are due after it. So many may
+/// be taken at once. Of a line that is long enough no byte behind those is taken.
 ///
 /// `Field` where the line has more than 80 bytes before its 0A, `Ended` where the bytes end before it.
-pub(crate) fn next_line<R: Input>(
+pub(crate) fn next_line_of<R: Input>(
+    least: usize,
     behind: u64,
     input: &mut R,
     incoming: &mut Incoming,
 ) -> Result<ArrayVec<u8, 80>, DumpReadFault>
     requires { length (held_of incoming.old) ≤ behind + 1 }
     ensures line { ReadsLines (line means) (λ text. words_of text.items) incoming.old incoming.new R.Input input.old input.new result }
-    ensures behind { OnOk result (length (held_of incoming.new) ≤ behind) }
+    ensures behind { IfOk result (λ text. least ≤ length text.items + 1 → length (held_of incoming.new) ≤ behind) }
+    ensures memory { IsErrOf result DumpReadFault.Memory → ⊥ }
 {
     let line = incoming.line.saturating_add(1);
     incoming.line = line;
@@ -50,7 +52,8 @@ pub(crate) fn next_line<R: Input>(
             let fault = DumpFault::Field;
             return Err(DumpReadFault::Line { line, fault });
         }
-        match incoming.refill(behind.saturating_add(1), input) {
+        let own = least.saturating_sub(incoming.held().len()).max(1) as u64;
+        match incoming.refill(behind.saturating_add(own), input) {
             Ok(0) => {
                 let fault = DumpFault::Ended;
                 return Err(DumpReadFault::Line { line, fault });
@@ -59,4 +62,18 @@ pub(crate) fn next_line<R: Input>(
             Err(DeviceFault) => return Err(DumpReadFault::Device),
         }
     }
+}
+
+/// Reads a line of any length, where `behind` more bytes at least are due after it.
+pub(crate) fn next_line<R: Input>(
+    behind: u64,
+    input: &mut R,
+    incoming: &mut Incoming,
+) -> Result<ArrayVec<u8, 80>, DumpReadFault>
+    requires { length (held_of incoming.old) ≤ behind + 1 }
+    ensures line { ReadsLines (line means) (λ text. words_of text.items) incoming.old incoming.new R.Input input.old input.new result }
+    ensures behind { OnOk result (length (held_of incoming.new) ≤ behind) }
+    ensures memory { IsErrOf result DumpReadFault.Memory → ⊥ }
+{
+    next_line_of(1, behind, input, incoming)
 }

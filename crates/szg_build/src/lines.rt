@@ -1,5 +1,5 @@
 //! A dump's lines from a device, one at a time.
-ghost use Rattle.std.specs.Prelude.{◌≡◌, ◌+◌, ◌<◌, ◌≤◌, List, [], length, IfOk, OnOk};
+ghost use Rattle.std.specs.Prelude.{◌≡◌, ◌+◌, ◌<◌, ◌≤◌, List, [], length, IfOk, IsErrOf, OnOk};
 ghost use Rattle.szg_build.specs.Fronts.{IsFront, in_line, sub_line};
 ghost use Rattle.szg_build.specs.Grammar.{Word, version_line, name_line, kind_line, end_line, part_line, number_line, run_line};
 ghost use Rattle.szg_build.specs.Held.{held_of};
@@ -8,13 +8,16 @@ ghost use Rattle.szg_build.specs.Shown.{form_of};
 
 use crate::dump::{DumpFault, DumpReadFault};
 use crate::incoming::Incoming;
-use crate::line::next_line;
+use crate::line::{next_line, next_line_of};
 use crate::saying::{
     end_told, form_told, kind_told, material_told, number_told, part_told, place_told, run_told,
 };
 use arrayvec::ArrayVec;
 use szg_io::Input;
 use szg_values::{Kind, Material};
+
+/// The bytes of a run's line, with its 0A, at least.
+const LEAST_RUN: usize = 4;
 
 /// What a line says, with its number where it is refused.
 fn with_line<T: Drop>(told: Result<T, DumpFault>, line: u64) -> Result<T, DumpReadFault>
@@ -35,6 +38,7 @@ pub(crate) fn read_form<R: Input>(
     requires { length (held_of incoming.old) ≤ behind + 1 }
     ensures lines { ReadsLines version_line form_of incoming.old incoming.new R.Input input.old input.new result }
     ensures behind { OnOk result (length (held_of incoming.new) ≤ behind) }
+    ensures memory { IsErrOf result DumpReadFault.Memory → ⊥ }
 {
     let text = next_line(behind, input, incoming)?;
     with_line(form_told(text.as_slice()), incoming.line)
@@ -49,6 +53,7 @@ pub(crate) fn read_material<R: Input>(
     requires { length (held_of incoming.old) ≤ behind + 1 }
     ensures lines { ReadsLines name_line (λ material. material) incoming.old incoming.new R.Input input.old input.new result }
     ensures behind { OnOk result (length (held_of incoming.new) ≤ behind) }
+    ensures memory { IsErrOf result DumpReadFault.Memory → ⊥ }
 {
     let text = next_line(behind, input, incoming)?;
     with_line(material_told(text.as_slice()), incoming.line)
@@ -63,6 +68,7 @@ pub(crate) fn read_kind<R: Input>(
     requires { length (held_of incoming.old) ≤ behind + 1 }
     ensures lines { ReadsLines kind_line (λ kind. kind) incoming.old incoming.new R.Input input.old input.new result }
     ensures behind { OnOk result (length (held_of incoming.new) ≤ behind) }
+    ensures memory { IsErrOf result DumpReadFault.Memory → ⊥ }
 {
     let text = next_line(behind, input, incoming)?;
     with_line(kind_told(text.as_slice()), incoming.line)
@@ -77,6 +83,7 @@ pub(crate) fn read_end<R: Input>(
     requires { length (held_of incoming.old) ≤ behind + 1 }
     ensures lines { ReadsLines end_line (λ bytes. bytes) incoming.old incoming.new R.Input input.old input.new result }
     ensures behind { OnOk result (length (held_of incoming.new) ≤ behind) }
+    ensures memory { IsErrOf result DumpReadFault.Memory → ⊥ }
 {
     let text = next_line(behind, input, incoming)?;
     with_line(end_told(text.as_slice()), incoming.line)
@@ -93,6 +100,7 @@ pub(crate) fn read_part<R: Input>(
     requires held { length (held_of incoming.old) ≤ behind + 1 }
     ensures lines { ReadsLines (part_line number) (λ part. record { order = part.0.items; men = part.1.items }) incoming.old incoming.new R.Input input.old input.new result }
     ensures behind { OnOk result (length (held_of incoming.new) ≤ behind) }
+    ensures memory { IsErrOf result DumpReadFault.Memory → ⊥ }
 {
     let text = next_line(behind, input, incoming)?;
     with_line(part_told(number, text.as_slice()), incoming.line)
@@ -110,6 +118,7 @@ pub(crate) fn read_place<R: Input>(
     requires held { length (held_of incoming.old) ≤ behind + 1 }
     ensures lines { ReadsLines (sub_line place) (λ _. []) incoming.old incoming.new R.Input input.old input.new result }
     ensures behind { OnOk result (length (held_of incoming.new) ≤ behind) }
+    ensures memory { IsErrOf result DumpReadFault.Memory → ⊥ }
 {
     let text = next_line(behind, input, incoming)?;
     with_line(place_told(place, text.as_slice()), incoming.line)
@@ -125,10 +134,11 @@ pub(crate) fn read_run<R: Input>(
     requires { length (held_of incoming.old) ≤ behind + 1 }
     ensures lines { ReadsLines (run_line left) (λ run. run) incoming.old incoming.new R.Input input.old input.new result }
     ensures behind { OnOk result (length (held_of incoming.new) ≤ behind) }
+    ensures memory { IsErrOf result DumpReadFault.Memory → ⊥ }
     ensures some { IfOk result (λ run. 0 < run.0) }
     ensures within { IfOk result (λ run. run.0 ≤ left) }
 {
-    let text = next_line(behind, input, incoming)?;
+    let text = next_line_of(LEAST_RUN, behind, input, incoming)?;
     with_line(run_told(left, text.as_slice()), incoming.line)
 }
 
@@ -143,6 +153,7 @@ pub(crate) fn read_number<R: Input>(
     requires { length (held_of incoming.old) ≤ behind + 1 }
     ensures lines { (pattern : List Word) → IsFront pattern front.now → ReadsLines (number_line pattern limit) (λ number. number) incoming.old incoming.new R.Input input.old input.new result }
     ensures behind { OnOk result (length (held_of incoming.new) ≤ behind) }
+    ensures memory { IsErrOf result DumpReadFault.Memory → ⊥ }
     ensures within { IfOk result (λ number. number ≤ limit) }
 {
     let text = next_line(behind, input, incoming)?;

@@ -1,9 +1,10 @@
 //! A dump from a device.
-ghost use Rattle.std.specs.Prelude.{◌≡◌, ◌+◌, ◌<◌, ◌≤◌, ◌^◌, [], ◌∷◌, ◌++◌, length, map, option_map, replicate, OnOk};
+ghost use Rattle.std.specs.Prelude.{◌≡◌, ◌+◌, ◌<◌, ◌≤◌, ◌^◌, [], ◌∷◌, ◌++◌, length, map, option_map, replicate, IsErrOf, OnOk};
 ghost use Rattle.szg_file.specs.Contents.{has_bit, part_numbers};
 ghost use Rattle.szg_file.specs.Held.{map_of, part_of};
 ghost use Rattle.szg_build.specs.Grammar.{each, list_numbers, map_list, map_of as map_text, part_line, value, values_lines, repeated, number_line, run_values, greatest_item};
 ghost use Rattle.szg_build.specs.Held.{held_of};
+ghost use Rattle.szg_build.specs.Lacks.{LacksLines};
 ghost use Rattle.szg_build.specs.Reading.{ReadsLines};
 ghost use Rattle.szg_build.specs.Shown.{form_of};
 
@@ -32,6 +33,7 @@ fn read_bytes<R: Input>(
     requires held { length (held_of incoming.old) ≤ behind + count }
     ensures lines { ReadsLines (repeated count (number_line (value ∷ []) 255)) (λ list. list.items) incoming.old incoming.new R.Input input.old input.new result }
     ensures behind { OnOk result (length (held_of incoming.new) ≤ behind) }
+    ensures memory { IsErrOf result DumpReadFault.Memory → LacksLines (repeated count (number_line (value ∷ []) 255)) behind incoming.old R.Input input.old input.new }
 {
     let mut list = Vec::new(alloc);
     'items: for i in 0..count {
@@ -53,6 +55,7 @@ fn read_singles<R: Input>(
     requires held { length (held_of incoming.old) ≤ behind + count }
     ensures lines { ReadsLines (repeated count (number_line (value ∷ []) greatest_item)) (λ list. list.items) incoming.old incoming.new R.Input input.old input.new result }
     ensures behind { OnOk result (length (held_of incoming.new) ≤ behind) }
+    ensures memory { IsErrOf result DumpReadFault.Memory → LacksLines (repeated count (number_line (value ∷ []) greatest_item)) behind incoming.old R.Input input.old input.new }
 {
     let mut list = Vec::new(alloc);
     'items: for i in 0..count {
@@ -89,6 +92,7 @@ fn read_runs<R: Input>(
     requires { length (held_of incoming.old) ≤ behind }
     ensures lines { ReadsLines (run_values count count) (λ list. list.items) incoming.old incoming.new R.Input input.old input.new result }
     ensures behind { OnOk result (length (held_of incoming.new) ≤ behind) }
+    ensures memory { IsErrOf result DumpReadFault.Memory → LacksLines (run_values count count) behind incoming.old R.Input input.old input.new }
 {
     let mut list = Vec::new(alloc);
     let mut left = count;
@@ -113,6 +117,7 @@ pub(crate) fn read_values<R: Input>(
     requires held { length (held_of incoming.old) ≤ behind }
     ensures lines { ReadsLines (values_lines (form_of form) count) (λ list. list.items) incoming.old incoming.new R.Input input.old input.new result }
     ensures behind { OnOk result (length (held_of incoming.new) ≤ behind) }
+    ensures memory { IsErrOf result DumpReadFault.Memory → LacksLines (values_lines (form_of form) count) behind incoming.old R.Input input.old input.new }
 {
     if form == 2 {
         read_runs(alloc, count, behind, input, incoming)
@@ -136,6 +141,7 @@ fn read_byte_list<R: Input>(
     requires held { length (held_of incoming.old) ≤ behind + 1 }
     ensures lines { ReadsLines (map_list 255 j) (λ list. list.items) incoming.old incoming.new R.Input input.old input.new result }
     ensures behind { OnOk result (length (held_of incoming.new) ≤ behind) }
+    ensures memory { IsErrOf result DumpReadFault.Memory → LacksLines (map_list 255 j) behind incoming.old R.Input input.old input.new }
 {
     let front = [b'm', b'a', b'p', b' ', b'0' + j, b' '];
     let count = read_number(&front, GREATEST_COUNT, behind, input, incoming)?;
@@ -155,6 +161,7 @@ fn read_wide_list<R: Input>(
     requires held { length (held_of incoming.old) ≤ behind + 1 }
     ensures lines { ReadsLines (map_list greatest_item j) (λ list. list.items) incoming.old incoming.new R.Input input.old input.new result }
     ensures behind { OnOk result (length (held_of incoming.new) ≤ behind) }
+    ensures memory { IsErrOf result DumpReadFault.Memory → LacksLines (map_list greatest_item j) behind incoming.old R.Input input.old input.new }
 {
     let front = [b'm', b'a', b'p', b' ', b'0' + j, b' '];
     let count = read_number(&front, GREATEST_COUNT, behind, input, incoming)?;
@@ -172,6 +179,7 @@ fn read_byte_lists<R: Input>(
     requires held { length (held_of incoming.old) ≤ behind + 4 }
     ensures lines { ReadsLines (each (map_list 255) list_numbers) (λ lists. map (λ list. list.items) lists) incoming.old incoming.new R.Input input.old input.new result }
     ensures behind { OnOk result (length (held_of incoming.new) ≤ behind) }
+    ensures memory { IsErrOf result DumpReadFault.Memory → LacksLines (each (map_list 255) list_numbers) behind incoming.old R.Input input.old input.new }
 {
     let wins = read_byte_list(alloc, 0, behind + 3, input, incoming)?;
     let losses = read_byte_list(alloc, 1, behind + 2, input, incoming)?;
@@ -191,6 +199,7 @@ fn read_wide_lists<R: Input>(
     requires held { length (held_of incoming.old) ≤ behind + 4 }
     ensures lines { ReadsLines (each (map_list greatest_item) list_numbers) (λ lists. map (λ list. list.items) lists) incoming.old incoming.new R.Input input.old input.new result }
     ensures behind { OnOk result (length (held_of incoming.new) ≤ behind) }
+    ensures memory { IsErrOf result DumpReadFault.Memory → LacksLines (each (map_list greatest_item) list_numbers) behind incoming.old R.Input input.old input.new }
 {
     let wins = read_wide_list(alloc, 0, behind + 3, input, incoming)?;
     let losses = read_wide_list(alloc, 1, behind + 2, input, incoming)?;
@@ -211,6 +220,7 @@ pub(crate) fn read_map<R: Input>(
     requires held { length (held_of incoming.old) ≤ behind }
     ensures lines { ReadsLines (map_text (has_bit 1 flags) (has_bit 4 flags)) (option_map map_of) incoming.old incoming.new R.Input input.old input.new result }
     ensures behind { OnOk result (length (held_of incoming.new) ≤ behind) }
+    ensures memory { IsErrOf result DumpReadFault.Memory → LacksLines (map_text (has_bit 1 flags) (has_bit 4 flags)) behind incoming.old R.Input input.old input.new }
 {
     if !is_mapped(flags) {
         return Ok(None);
@@ -237,6 +247,7 @@ fn read_part_bytes<R: Input>(
     requires held { length (held_of incoming.old) ≤ behind + 1 }
     ensures lines { ReadsLines (part_line number) part_of incoming.old incoming.new R.Input input.old input.new result }
     ensures behind { OnOk result (length (held_of incoming.new) ≤ behind) }
+    ensures memory { IsErrOf result DumpReadFault.Memory → LacksLines (part_line number) behind incoming.old R.Input input.old input.new }
 {
     let (order, men) = read_part(number, behind, input, incoming)?;
     let order = Vec::from_slice(alloc, order.as_slice())?;
@@ -256,6 +267,7 @@ pub(crate) fn read_parts<R: Input>(
     requires held { length (held_of incoming.old) ≤ behind + 1 }
     ensures lines { ReadsLines (each part_line (part_numbers material.now)) (λ parts. map part_of parts.items) incoming.old incoming.new R.Input input.old input.new result }
     ensures behind { OnOk result (length (held_of incoming.new) ≤ behind) }
+    ensures memory { IsErrOf result DumpReadFault.Memory → LacksLines (each part_line (part_numbers material.now)) behind incoming.old R.Input input.old input.new }
 {
     let mut parts = Vec::new(alloc);
     let count = part_count(material);

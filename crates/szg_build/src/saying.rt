@@ -153,6 +153,7 @@ pub(crate) fn run_told(left: u64, text: &[u8]) -> Result<(u64, u16), DumpFault>
     ensures run { Says (said (run_line left) (words_of text.now)) (λ run. run) result }
     ensures some { IfOk result (λ run. 0 < run.0) }
     ensures within { IfOk result (λ run. run.0 ≤ left) }
+    ensures long { IfOk result (λ _run. 3 ≤ length text.now) }
 {
     let Some((count_word, value_word)) = two_words(b"", b"", text) else {
         return Err(DumpFault::Field);

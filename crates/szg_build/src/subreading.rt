@@ -1,8 +1,9 @@
 //! A dump's subtables from a device.
-ghost use Rattle.std.specs.Prelude.{◌≡◌, ◌+◌, ◌<◌, ◌≤◌, ◌^◌, length, option_map, OnOk};
+ghost use Rattle.std.specs.Prelude.{◌≡◌, ◌+◌, ◌<◌, ◌≤◌, ◌^◌, length, option_map, IsErrOf, OnOk};
 ghost use Rattle.szg_file.specs.Held.{map_of};
 ghost use Rattle.szg_build.specs.Grammar.{demand, flags_line, length_check, order_check, sub_text};
 ghost use Rattle.szg_build.specs.Held.{held_of};
+ghost use Rattle.szg_build.specs.Lacks.{LacksLines};
 ghost use Rattle.szg_build.specs.Reading.{ReadsLines};
 ghost use Rattle.szg_build.specs.Rests.{counted_text, fields_text, sub_told};
 ghost use Rattle.szg_build.specs.Shown.{form_of};
@@ -38,6 +39,7 @@ fn read_flags<R: Input>(
     requires { length (held_of incoming.old) ≤ behind }
     ensures lines { ReadsLines (flags_line kind) (λ flags. flags) incoming.old incoming.new R.Input input.old input.new result }
     ensures behind { OnOk result (length (held_of incoming.new) ≤ behind) }
+    ensures memory { IsErrOf result DumpReadFault.Memory → ⊥ }
 {
     match kind {
         Kind::Wdl => Ok(0),
@@ -87,6 +89,7 @@ fn read_counted<R: Input>(
     requires held { length (held_of incoming.old) ≤ behind + 1 }
     ensures lines { ReadsLines (counted_text (form_of form) (option_map (λ list. list.items) sizes.now) s flags (option_map map_of map)) sub_told incoming.old incoming.new R.Input input.old input.new result }
     ensures behind { OnOk result (length (held_of incoming.new) ≤ behind) }
+    ensures memory { IsErrOf result DumpReadFault.Memory → LacksLines (counted_text (form_of form) (option_map (λ list. list.items) sizes.now) s flags (option_map map_of map)) behind incoming.old R.Input input.old input.new }
 {
     let count = read_number(b"values ", GREATEST_COUNT, behind, input, incoming)?;
     if !may_have(form, sizes, s, count) {
@@ -111,6 +114,7 @@ fn read_fields<R: Input>(
     requires held { length (held_of incoming.old) ≤ behind + 1 }
     ensures lines { ReadsLines (fields_text (form_of form) kind (option_map (λ list. list.items) sizes.now) s) sub_told incoming.old incoming.new R.Input input.old input.new result }
     ensures behind { OnOk result (length (held_of incoming.new) ≤ behind) }
+    ensures memory { IsErrOf result DumpReadFault.Memory → LacksLines (fields_text (form_of form) kind (option_map (λ list. list.items) sizes.now) s) behind incoming.old R.Input input.old input.new }
 {
     let flags = read_flags(kind, behind + 1, input, incoming)?;
     let map = read_map(alloc, flags, behind + 1, input, incoming)?;
@@ -135,6 +139,7 @@ pub(crate) fn read_sub<R: Input>(
     requires held { length (held_of incoming.old) ≤ behind + 2 }
     ensures lines { ReadsLines (sub_text (form_of form) kind (option_map (λ list. list.items) sizes.now) s place) sub_told incoming.old incoming.new R.Input input.old input.new result }
     ensures behind { OnOk result (length (held_of incoming.new) ≤ behind) }
+    ensures memory { IsErrOf result DumpReadFault.Memory → LacksLines (sub_text (form_of form) kind (option_map (λ list. list.items) sizes.now) s place) behind incoming.old R.Input input.old input.new }
 {
     read_place(place, behind + 1, input, incoming)?;
     if !may_stand(form, sizes) {

@@ -1,4 +1,8 @@
 pub mod HandleValues
+pub mod HeadsHandleValues
+pub mod HeldValues
+pub mod HeadsTold
+pub mod ByPlace
 pub mod Saying
 pub mod Sizes
 pub mod TooMany

@@ -7,6 +7,7 @@ ghost use Rattle.std.specs.Coded.{coded_option};
 ghost use Rattle.std.specs.contracts.impls.GlobalAllocator.TheImpl.{ghosts};
 ghost use Rattle.szg_c.specs.contracts.shared.Shared.{the_row};
 ghost use Rattle.szg_file.specs.Held.{Shown};
+ghost use Rattle.szg_place.specs.contracts.prepared.PreparedTable.{the_row as table_row};
 ghost use Rattle.szg_c.specs.Owned.{held};
 
 use crate::loose::Loose;
@@ -15,17 +16,18 @@ use std::alloc::Global;
 use std::marker::Model;
 use std::mem::replace;
 use std::ptr::null_mut;
+use szg_place::PreparedTable;
 
 /// A table that C holds, or none.
 #[repr(C)]
 pub struct Handle {
     at: *mut u8,
     alloc: Global,
-    pub ghost value: { Option Shown } by { coded_option the_row.coded },
+    pub ghost value: { Option Shown } by { coded_option (the_row table_row).coded },
 }
 
 impl Model for Handle {
-    ghost also_owns = { λ h. held (ghosts.dealloc_token h.alloc) the_row h.at h.value };
+    ghost also_owns = { λ h. held (ghosts.dealloc_token h.alloc) (the_row table_row) h.at h.value };
 }
 
 impl Handle {
@@ -40,7 +42,7 @@ impl Handle {
     }
 
     /// Holds a table.
-    pub(crate) fn of(table: Loose<Shared, Global>) -> Handle
+    pub(crate) fn of(table: Loose<Shared<PreparedTable>, Global>) -> Handle
         ensures { result.value ≡ Some table.value }
     {
         let Loose { at, alloc } = table;
@@ -51,7 +53,7 @@ impl Handle {
     }
 
     /// The table, where there is one.
-    pub(crate) fn into_loose(self) -> Option<Loose<Shared, Global>>
+    pub(crate) fn into_loose(self) -> Option<Loose<Shared<PreparedTable>, Global>>
         ensures { MatchOption result (self.value ≡ None) (λ table. self.value ≡ Some table.value) }
     {
         let Handle { at, alloc } = self;
@@ -59,14 +61,14 @@ impl Handle {
             None
         } else {
             Some(Loose {
-                at: at as *mut Shared,
+                at: at as *mut Shared<PreparedTable>,
                 alloc,
             })
         }
     }
 
     /// Takes the table out, where there is one.
-    pub fn take(&mut self, alloc: Global) -> Option<Box<Shared>>
+    pub fn take(&mut self, alloc: Global) -> Option<Box<Shared<PreparedTable>>>
         ensures table { MatchOption result (self.old.value ≡ None) (λ table. self.old.value ≡ Some table.value) }
         ensures empty { self.new.value ≡ None }
     {
@@ -78,7 +80,7 @@ impl Handle {
     }
 
     /// Holds this table, and no other.
-    pub fn put(&mut self, table: Box<Shared>)
+    pub fn put(&mut self, table: Box<Shared<PreparedTable>>)
         ensures { self.new.value ≡ Some table.value }
     {
         *self = Handle::of(Loose::of(table));

@@ -12,6 +12,7 @@ use crate::shared::Shared;
 use crate::status::{CLOSED, DONE, MEMORY, RANGE};
 use std::alloc::Global;
 use szg_file::Table;
+use szg_place::PreparedTable;
 use szg_values::Kind;
 
 /// Opens the table of this name and kind that the bytes begin with. What the handle held before is let go.
@@ -30,7 +31,7 @@ pub extern "C" fn szg_open(
     table.shut(alloc);
     match open(alloc, name, dtz, bytes, answer) {
         Ok(opened) => {
-            let Ok(shared) = Shared::new(alloc, opened) else {
+            let Ok(shared) = Shared::new(alloc, PreparedTable::of(opened)) else {
                 return MEMORY;
             };
             hold(alloc, table, shared)
@@ -40,7 +41,7 @@ pub extern "C" fn szg_open(
 }
 
 /// Holds a table, where there is memory for it, in a handle that holds none.
-fn hold(alloc: Global, table: &mut Handle, shared: Shared) -> u32
+fn hold(alloc: Global, table: &mut Handle, shared: Shared<PreparedTable>) -> u32
     ensures done { (result ≡ 0) → table.new.value ≡ Some shared }
     ensures kept { (result ≡ 0 → ⊥) → table.new.value ≡ table.old.value }
     ensures statuses { (result ≡ 0) ⊎ (result ≡ 3) }
@@ -123,7 +124,7 @@ pub extern "C" fn szg_get(
     let Some(held) = table.take(alloc) else {
         return CLOSED;
     };
-    let status = value_in(held.table(), part, side, index, value);
+    let status = value_in(held.value().table(), part, side, index, value);
     table.put(held);
     status
 }
@@ -163,7 +164,7 @@ pub extern "C" fn szg_positions(
     let Some(held) = table.take(alloc) else {
         return CLOSED;
     };
-    let status = size_in(held.table(), part, side, size);
+    let status = size_in(held.value().table(), part, side, size);
     table.put(held);
     status
 }
@@ -214,7 +215,7 @@ pub extern "C" fn szg_all(
     let Some(held) = table.take(alloc) else {
         return CLOSED;
     };
-    let status = values_in(alloc, held.table(), part, side, values);
+    let status = values_in(alloc, held.value().table(), part, side, values);
     table.put(held);
     status
 }
@@ -249,7 +250,7 @@ pub extern "C" fn szg_number(
     let Some(held) = table.take(alloc) else {
         return CLOSED;
     };
-    let told = number_in(held.table(), part, class, value);
+    let told = number_in(held.value().table(), part, class, value);
     table.put(held);
     match told {
         Ok(found) => {

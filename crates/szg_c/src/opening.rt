@@ -19,14 +19,14 @@ pub struct Answer {
 }
 
 /// The kind that a flag tells.
-fn kind_of(dtz: bool) -> Kind
+pub fn kind_of(dtz: bool) -> Kind
     ensures { result ≡ kind_told dtz }
 {
     if dtz { Kind::Dtz } else { Kind::Wdl }
 }
 
 /// The material of a name.
-fn material_of(name: &[u8]) -> Option<Material>
+pub fn material_of(name: &[u8]) -> Option<Material>
     ensures { MatchOption result (IsNoName name.now) (λ material. parsed name.now ≡ Ok material) }
 {
     let Ok(text) = str::from_utf8(name) else {

@@ -12,8 +12,8 @@ use crate::status::{
     WRONG_SIDE,
 };
 use std::alloc::Global;
-use szg_file::{MapFault, Table};
-use szg_place::{PlaceFault, ProbeFault, Spot, index_of, probe_dtz, probe_wdl};
+use szg_file::MapFault;
+use szg_place::{PlaceFault, PreparedTable, ProbeFault, Spot};
 use szg_values::{Kind, Placement};
 
 /// Where a table tells of a placement.
@@ -47,7 +47,7 @@ pub extern "C" fn szg_index(
     let Some(held) = table.take(alloc) else {
         return CLOSED;
     };
-    let told = spot_in(held.table(), men, mover);
+    let told = spot_in(held.value(), men, mover);
     table.put(held);
     match told {
         Ok(found) => {
@@ -61,7 +61,7 @@ pub extern "C" fn szg_index(
 }
 
 /// Where a table tells of men, else a status.
-fn spot_in(table: &Table, men: &[CodedMan], mover: u8) -> Result<Spot, u32>
+fn spot_in(table: &PreparedTable, men: &[CodedMan], mover: u8) -> Result<Spot, u32>
     ensures { result ≡ spot_told table.now.contents (board_of men.now mover) }
 {
     match placement_of(men, mover) {
@@ -70,10 +70,10 @@ fn spot_in(table: &Table, men: &[CodedMan], mover: u8) -> Result<Spot, u32>
     }
 }
 
-fn spot_of(table: &Table, placement: &Placement) -> Result<Spot, u32>
+fn spot_of(table: &PreparedTable, placement: &Placement) -> Result<Spot, u32>
     ensures { result ≡ spot_told table.now.contents (Ok placement.now) }
 {
-    spot_or_status(index_of(table, placement))
+    spot_or_status(table.index_of(placement))
 }
 
 fn spot_or_status(told: Result<Spot, PlaceFault>) -> Result<Spot, u32>
@@ -108,7 +108,7 @@ pub extern "C" fn szg_probe(
     let Some(held) = table.take(alloc) else {
         return CLOSED;
     };
-    let told = outcome_in(held.table(), men, mover, class);
+    let told = outcome_in(held.value(), men, mover, class);
     table.put(held);
     match told {
         Ok(number) => {
@@ -120,7 +120,7 @@ pub extern "C" fn szg_probe(
 }
 
 /// What a table tells of men, else a status.
-fn outcome_in(table: &Table, men: &[CodedMan], mover: u8, class: i8) -> Result<i64, u32>
+fn outcome_in(table: &PreparedTable, men: &[CodedMan], mover: u8, class: i8) -> Result<i64, u32>
     ensures { result ≡ outcome_told table.now.contents class (board_of men.now mover) }
 {
     match placement_of(men, mover) {
@@ -129,21 +129,21 @@ fn outcome_in(table: &Table, men: &[CodedMan], mover: u8, class: i8) -> Result<i
     }
 }
 
-fn outcome_of(table: &Table, placement: &Placement, class: i8) -> Result<i64, u32>
+fn outcome_of(table: &PreparedTable, placement: &Placement, class: i8) -> Result<i64, u32>
     ensures { result ≡ outcome_of table.now.contents.kind table.now.contents class placement.now }
 {
-    match table.kind() {
+    match table.table().kind() {
         Kind::Wdl => class_of(table, placement),
         Kind::Dtz => distance_of(table, placement, class),
     }
 }
 
 /// The class that a WDL table tells of a placement.
-fn class_of(table: &Table, placement: &Placement) -> Result<i64, u32>
+fn class_of(table: &PreparedTable, placement: &Placement) -> Result<i64, u32>
     requires { table.now.contents.kind ≡ Kind.Wdl }
     ensures { result ≡ outcome_of Kind.Wdl table.now.contents (pos 0) placement.now }
 {
-    class_or_status(probe_wdl(table, placement))
+    class_or_status(table.probe_wdl(placement))
 }
 
 fn class_or_status(told: Result<Option<i8>, PlaceFault>) -> Result<i64, u32>
@@ -157,14 +157,14 @@ fn class_or_status(told: Result<Option<i8>, PlaceFault>) -> Result<i64, u32>
 }
 
 /// The number that a DTZ table tells of a placement in a class.
-fn distance_of(table: &Table, placement: &Placement, class: i8) -> Result<i64, u32>
+fn distance_of(table: &PreparedTable, placement: &Placement, class: i8) -> Result<i64, u32>
     requires { table.now.contents.kind ≡ Kind.Dtz }
     ensures { result ≡ outcome_of Kind.Dtz table.now.contents class placement.now }
 {
     if !is_class(class) {
         return Err(RANGE);
     }
-    distance_or_status(probe_dtz(table, placement, class))
+    distance_or_status(table.probe_dtz(placement, class))
 }
 
 fn distance_or_status(told: Result<u32, ProbeFault>) -> Result<i64, u32>

@@ -1,49 +1,47 @@
-//! A table that several handles hold.
+//! What several handles hold.
 ghost use Rattle.std.specs.Prelude.{◌≡◌, IfOk};
 
 use std::alloc::{AllocError, Global};
 use std::marker::Model;
 use std::sync::Arc;
-use szg_file::Table;
 
-/// One of the owners of a table in memory.
+/// One of the owners of a value in memory.
 #[derive(Drop)]
-pub struct Shared {
-    table: Arc<Table, Global>,
+pub struct Shared<T: Drop> {
+    value: Arc<T, Global>,
 }
 
-impl Model for Shared {
+impl<T: Drop> Model for Shared<T> {
     ghost use Rattle.std.specs.Arc.{arc_value};
-    ghost use Rattle.szg_file.specs.Held.{Shown};
 
-    ghost Value = { Shown };
+    ghost Value = { T };
 
-    ghost view = { λ shared. arc_value shared.table };
+    ghost view = { λ shared. arc_value shared.value };
 }
 
-impl Shared {
-    /// The first owner of a table.
-    pub fn new(alloc: Global, table: Table) -> Result<Shared, AllocError>
-        ensures { IfOk result (λ shared. shared ≡ table) }
+impl<T: Drop> Shared<T> {
+    /// The first owner of a value.
+    pub fn new(alloc: Global, value: T) -> Result<Shared<T>, AllocError>
+        ensures { IfOk result (λ shared. shared ≡ value) }
     {
-        match Arc::new(alloc, table) {
-            Ok(table) => Ok(Shared { table }),
+        match Arc::new(alloc, value) {
+            Ok(value) => Ok(Shared { value }),
             Err(_) => Err(AllocError),
         }
     }
 
-    /// The table.
-    pub fn table(&self) -> &Table
+    /// The value.
+    pub fn value(&self) -> &T
         ensures { result.now ≡ self.now }
     {
-        &self.table
+        &self.value
     }
 
     /// One more owner.
-    pub fn again(&self) -> Result<Shared, AllocError>
+    pub fn again(&self) -> Result<Shared<T>, AllocError>
         ensures { IfOk result (λ shared. shared ≡ self.now) }
     {
-        let table = Arc::try_clone(&self.table)?;
-        Ok(Shared { table })
+        let value = Arc::try_clone(&self.value)?;
+        Ok(Shared { value })
     }
 }

@@ -38,6 +38,8 @@ pub const NO_CLASS: u32 = 14;
 pub const DRAW: u32 = 15;
 /// The table's map has no such item.
 pub const OUTSIDE_MAP: u32 = 16;
+/// The bytes that are handed in can't be those of the file that are wanted.
+pub const CHANGED: u32 = 17;
 
 /// A reason's number.
 pub fn number_of(reason: Reason) -> u32

@@ -2,6 +2,7 @@ pub mod AssembledLaws
 pub mod BlockReads
 pub mod Bytes
 pub mod CompleteLaws
+pub mod Counted
 pub mod CutLaws
 pub mod EachLaws
 pub mod FileLaws
@@ -11,13 +12,13 @@ pub mod ForwardLaws
 pub mod GoodHeads
 pub mod GoodLaws
 pub mod GoodWhole
+pub mod Grown
 pub mod HeadLaws
 pub mod HeadReads
 pub mod IndexChecks
 pub mod ItemsRead
 pub mod KeptLaws
 pub mod LackingReads
-pub mod ListLengths
 pub mod LoopReads
 pub mod MapReads
 pub mod OpenedLaws

@@ -45,6 +45,11 @@ nothing_wanted content (Constant flags byte) first i told none block = refl
 nothing_wanted content (Pairs flags block_bits span_bits extra blocks code dict sparse lengths packed) first i told none block =
     let no : None ≡ Some _ = sym none ∙ block in absurd (cc no)
 
+-- what holds of a constant subtable holds where no block is wanted
+pub constant_holds : (P : Type 0) (content : List ℕ) (sub : Sub) (first i : ℕ) → IfNone (layout_of sub) P → wanted_block (whole_sub content (placed_at sub first)) i ≡ None → P
+constant_holds P content (Constant flags byte) first i holds none = holds
+constant_holds P content (Pairs flags block_bits span_bits extra blocks code dict sparse lengths packed) first i holds none = absurd (cc none)
+
 -- a block among the bytes
 pub record IsThere (content : List ℕ) (subtable : Subtable) (i place count : ℕ) : Type 0 where
   pub is : wanted_block subtable i ≡ Some (bytes_at content place count)

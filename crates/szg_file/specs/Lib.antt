@@ -7,6 +7,7 @@ pub mod Laws
 pub mod Values
 pub mod Reading
 pub mod Reads
+pub mod Grown
 pub mod Held
 pub mod Parts
 pub mod HeadPieces

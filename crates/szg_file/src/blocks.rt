@@ -1,4 +1,4 @@
-ghost use Rattle.std.specs.Prelude.{◌≡◌, ◌+◌, ◌*◌, ◌≤◌, ◌<◌, ◌^◌, length, map, take, drop, OnOk, IfSome, IfNone, IsSomeAnd, IsTrue, ◌↔◌, None};
+ghost use Rattle.std.specs.Prelude.{◌≡◌, ◌+◌, ◌*◌, ◌≤◌, ◌<◌, ◌^◌, length, map, take, drop, OnOk, IfSome, IfNone, IsSomeAnd, IsTrue, ◌↔◌, None, IfOk};
 ghost use Rattle.szg_code.specs.Acceptance.{IsCode};
 ghost use Rattle.szg_block.specs.Block.{start};
 ghost use Rattle.szg_block.specs.Subtable.{layout_of, IsShapedHead};
@@ -6,6 +6,8 @@ ghost use Rattle.szg_file.specs.File.{each, block_field, blocks_from, blocks_of,
 ghost use Rattle.szg_file.specs.Blocks.{with_blocks};
 ghost use Rattle.szg_file.specs.Held.{subtable_of};
 ghost use Rattle.szg_file.specs.Reading.{Reading};
+ghost use Rattle.szg_file.specs.Grown.{HasCounted, begun_lengths, subs_lengths};
+ghost use Rattle.szg_file.specs.Reads.{sub_lengths};
 
 use crate::begun::{Measured, Slot};
 use crate::fault::{ReadFault, Reason};
@@ -29,6 +31,8 @@ pub fn read_blocks<R: Input>(
     ensures blocks { Reading (each blocks_field list.items) (λ subs. map subtable_of subs.items) front.old front.new R.Input input.old input.new result }
     ensures place { OnOk result (front.new.place ≤ front.old.place + 2 ^ 55) }
     ensures held { OnOk result (front.new.held + 2 * front.old.place ≤ front.old.held + 2 * front.new.place + 8) }
+    ensures count { IfOk result (λ subs. length subs.items ≡ length list.items) }
+    ensures grown { IfOk result (λ subs. HasCounted front.old front.new (begun_lengths list.items) (length subs.items + subs_lengths subs.items)) }
 {
     let mut subs = Vec::new(alloc);
     'subtables: for measured in list {
@@ -50,6 +54,7 @@ fn read_sub<R: Input>(
     ensures blocks { Reading (blocks_field measured) subtable_of front.old front.new R.Input input.old input.new result }
     ensures place { OnOk result (front.new.place ≤ front.old.place + 2 ^ 51) }
     ensures held { OnOk result (front.new.held + 2 * front.old.place ≤ front.old.held + 2 * front.new.place) }
+    ensures grown { IfOk result (λ sub. HasCounted front.old front.new (sub_lengths measured.subtable) (sub_lengths (subtable_of sub))) }
 {
     let Measured {
         slot,
@@ -73,6 +78,7 @@ fn pack_sub<R: Input>(
     ensures blocks { Reading (blocks_of slot (subtable_of sub)) subtable_of front.old front.new R.Input input.old input.new result }
     ensures place { OnOk result (front.new.place ≤ front.old.place + 2 ^ 51) }
     ensures held { OnOk result (front.new.held + 2 * front.old.place ≤ front.old.held + 2 * front.new.place) }
+    ensures grown { IfOk result (λ packed. HasCounted front.old front.new (sub_lengths (subtable_of sub)) (sub_lengths (subtable_of packed))) }
 {
     if is_constant(&sub) {
         return Ok(sub);
@@ -115,6 +121,7 @@ fn take_packed<R: Input>(
     ensures blocks { IfSome (layout_of sub.now) (λ layout. Reading (blocks_from layout size 0 layout.blocks) (λ packed. packed.items) front.old front.new R.Input input.old input.new result) }
     ensures place { OnOk result (front.new.place ≤ front.old.place + 2 ^ 50) }
     ensures held { OnOk result (front.new.held + 2 * front.old.place ≤ front.old.held + 2 * front.new.place) }
+    ensures grown { IfOk result (λ packed. HasCounted front.old front.new 0 (length packed.items)) }
 {
     let mut packed = Vec::new(alloc);
     let Sub::Pairs {
@@ -156,6 +163,7 @@ fn take_block<R: Input>(
     ensures kept { OnOk result (take (length packed.old.items) packed.new.items ≡ packed.old.items) }
     ensures place { OnOk result (front.new.place ≤ front.old.place + 2 ^ 18) }
     ensures held { OnOk result (front.new.held + 2 * front.old.place ≤ front.old.held + 2 * front.new.place) }
+    ensures grown { OnOk result (HasCounted front.old front.new (length packed.old.items) (length packed.new.items)) }
 {
     let place = front.place;
     let at = packed.len();

@@ -10,9 +10,10 @@ ghost use Rattle.szg_file.specs.Placed.{since, whole_sub, Fits};
 ghost use Rattle.szg_file.specs.Reading.{Reading};
 
 use crate::begun::{Measured, Slot};
-use crate::blocks::{block_bytes, is_constant};
+use crate::blocks::{block_bytes, block_count, is_constant};
 use crate::fault::{ReadFault, Reason};
 use crate::fields::append;
+use crate::forward::Ahead;
 use crate::front::Front;
 use crate::taking::{take_field, take_fill};
 use std::alloc::Global;
@@ -27,7 +28,7 @@ pub struct PlacedSub {
 }
 
 /// Takes the blocks of each subtable that isn't constant, and keeps their places. The buffer grows to the longest block.
-pub fn pass_subs<R: Input>(
+pub fn pass_subs<R: Input + Ahead>(
     alloc: Global,
     list: Vec<Measured>,
     buffer: &mut Vec<u8>,
@@ -52,7 +53,7 @@ pub fn pass_subs<R: Input>(
 }
 
 /// Takes one subtable's blocks.
-fn pass_sub<R: Input>(
+fn pass_sub<R: Input + Ahead>(
     alloc: Global,
     measured: Measured,
     buffer: &mut Vec<u8>,
@@ -77,7 +78,7 @@ fn pass_sub<R: Input>(
 }
 
 /// Takes the blocks of a subtable behind their fill, and keeps their place; a constant one has none.
-fn place_sub<R: Input>(
+fn place_sub<R: Input + Ahead>(
     alloc: Global,
     slot: Slot,
     sub: Sub,
@@ -102,6 +103,7 @@ fn place_sub<R: Input>(
     make_room(buffer, size)?;
     take_fill(alloc, 64, input, front)?;
     let first = front.place;
+    input.expect(u64::from(block_count(&sub)) * block_bytes(&sub));
     pass_blocks(&mut buffer[..size], &sub, slot.size, input, front)?;
     Ok(PlacedSub { sub, first })
 }

@@ -3,6 +3,7 @@ ghost use Rattle.std.specs.Prelude.{◌≡◌, ◌+◌, ◌*◌, ◌≤◌, ◌<
 ghost use Rattle.szg_file.specs.Contents.{has_bit};
 ghost use Rattle.szg_file.specs.File.{number_field};
 ghost use Rattle.szg_file.specs.Reading.{Reading};
+ghost use Rattle.szg_file.specs.Grown.{HasCounted};
 
 use crate::fault::ReadFault;
 use crate::front::{Front, grow};
@@ -16,6 +17,7 @@ pub fn read_byte<R: Input>(input: &mut R, front: &mut Front) -> Result<u8, ReadF
     ensures byte { Reading (number_field 1) (λ byte. byte) front.old front.new R.Input input.old input.new result }
     ensures place { OnOk result (front.new.place ≡ front.old.place + 1) }
     ensures held { OnOk result (front.new.held ≡ front.old.held) }
+    ensures grown { OnOk result (HasCounted front.old front.new 0 0) }
 {
     let mut piece = [0; 1];
     take_field(input, front, &mut piece)?;
@@ -28,6 +30,7 @@ pub fn read_number<R: Input>(input: &mut R, front: &mut Front) -> Result<u16, Re
     ensures number { Reading (number_field 2) (λ number. number) front.old front.new R.Input input.old input.new result }
     ensures place { OnOk result (front.new.place ≡ front.old.place + 2) }
     ensures held { OnOk result (front.new.held ≡ front.old.held) }
+    ensures grown { OnOk result (HasCounted front.old front.new 0 0) }
 {
     let mut piece = [0; 2];
     take_field(input, front, &mut piece)?;

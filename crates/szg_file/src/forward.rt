@@ -8,15 +8,25 @@ use std::marker::Model;
 use szg_block::{Source, SourceFault};
 use szg_io::{Input, IoFault};
 
-/// A device that takes the bytes of a source from the first on. It asks for a piece of them at a time, as long as its
-/// own piece, never past the source's end, and only once it has handed on all that it has. It is never interrupted.
+/// A reader that may be told how much will be asked of it.
+pub trait Ahead {
+    /// So many bytes will be taken next, or a check of them fails: the reader may read as far ahead.
+    fn expect(&mut self, bytes: u64)
+        ensures same { self.new ≡ self.old };
+}
+
+/// A device that takes the bytes of a source from the first on. It asks for those that are taken of it and no others; of
+/// those that are expected for as many at a time as its piece has room for. It never asks past the source's end, and only
+/// once it has handed on all that it has. It is never interrupted.
 #[derive(Drop)]
 pub struct Forward<S: Source + Drop> {
     source: S,
     // the place of the next byte
     place: u64,
     end: u64,
-    // the bytes from there on that were read: those of the piece from `from` up to `to`
+    // up to this place it may read ahead
+    ahead: u64,
+    // the bytes from its place on that were read: those of the piece from `from` up to `to`
     piece: Vec<u8>,
     from: usize,
     to: usize,
@@ -43,8 +53,8 @@ impl<S: Source + Drop> Model for Forward<S> {
 impl<S: Source + Drop> Forward<S> {
     ghost use Rattle.std.specs.Prelude.{◌≡◌, ◌<◌, length};
 
-    /// A reader before the source's first byte, by pieces as long as this one. Its failures are the source's; its calls
-    /// begin at 0.
+    /// A reader before the source's first byte, by pieces of at most this one's length. Its failures are the source's; its
+    /// calls begin at 0.
     pub fn new(source: S, piece: Vec<u8>) -> Forward<S>
         requires { 0 < length piece.items }
         ensures content { result.content ≡ S.content source }
@@ -56,6 +66,7 @@ impl<S: Source + Drop> Forward<S> {
             source,
             place: 0,
             end,
+            ahead: 0,
             piece,
             from: 0,
             to: 0,
@@ -72,29 +83,29 @@ impl<S: Source + Drop> Forward<S> {
     }
 }
 
-/// Reads bytes from a place on, of which there are some, into the front of a piece: as many as fit and are there.
+/// Reads bytes from a place up to another, of which there are some, into the front of a piece: as many as fit.
 fn read_piece<S: Source>(
     source: &mut S,
     place: u64,
-    end: u64,
+    last: u64,
     piece: &mut [u8],
 ) -> Result<usize, SourceFault>
-    requires end { end ≡ length (S.content source.old) }
-    requires some { place < end }
+    requires last { last ≤ length (S.content source.old) }
+    requires some { place < last }
     requires room { 0 < length piece.old }
     ensures read { IfOk result (λ n. take n piece.new ≡ take n (drop place (S.content source.old))) }
     ensures some { IfOk result (λ n. 0 < n) }
     ensures within { IfOk result (λ n. n ≤ length piece.new) }
-    ensures inside { IfOk result (λ n. place + n ≤ end) }
+    ensures inside { IfOk result (λ n. place + n ≤ last) }
     ensures same_bytes { S.content source.new ≡ S.content source.old }
     ensures failed { S.failed source.new ≡ failed_after result (S.failed source.old) }
 {
-    let size = (end - place).min(piece.len() as u64) as usize;
+    let size = (last - place).min(piece.len() as u64) as usize;
     source.read_at(place, &mut piece[..size])
 }
 
-/// Where the bytes of the piece stand that are to be handed on next: those that are left in it, else those of the next
-/// piece. There are none only at the source's end.
+/// Where the bytes of the piece stand that are to be handed on next: those that are left in it, else at most so many that
+/// are read now. There are none only at the source's end.
 fn next_bytes<S: Source>(
     source: &mut S,
     place: u64,
@@ -102,18 +113,20 @@ fn next_bytes<S: Source>(
     piece: &mut [u8],
     from: usize,
     to: usize,
+    most: u64,
 ) -> Result<(usize, usize), SourceFault>
     requires { IsForward (S.content source.old) place end piece.old from to }
     ensures held { IfOk result (λ left. IsForward (S.content source.old) place end piece.new left.0 left.1) }
-    ensures some { IfOk result (λ left. left.0 ≡ left.1 → place ≡ end) }
+    ensures some { IfOk result (λ left. left.0 ≡ left.1 → 0 < most → place ≡ end) }
     ensures none_held { OnErr result (IsForward (S.content source.old) place end piece.new from to) }
     ensures same_bytes { S.content source.new ≡ S.content source.old }
     ensures failed { S.failed source.new ≡ failed_after result (S.failed source.old) }
 {
-    if from < to || place == end {
+    if from < to || place == end || most == 0 {
         return Ok((from, to));
     }
-    let count = read_piece(source, place, end, piece)?;
+    let last = place.saturating_add(most).min(end);
+    let count = read_piece(source, place, last, piece)?;
     Ok((0, count))
 }
 
@@ -144,6 +157,8 @@ impl<S: Source + Drop> Input for Forward<S> {
 
     fn take(&mut self, piece: &mut [u8]) -> Result<usize, IoFault> {
         self.calls = self.calls.saturating_add(1);
+        let expected = self.ahead.saturating_sub(self.place);
+        let most = expected.max(piece.len() as u64);
         let (from, to) = match next_bytes(
             &mut self.source,
             self.place,
@@ -151,6 +166,7 @@ impl<S: Source + Drop> Input for Forward<S> {
             &mut self.piece,
             self.from,
             self.to,
+            most,
         ) {
             Ok(left) => left,
             Err(_) => return Err(IoFault::Failed),
@@ -160,5 +176,11 @@ impl<S: Source + Drop> Input for Forward<S> {
         self.to = to;
         self.place += n as u64;
         Ok(n)
+    }
+}
+
+impl<S: Source + Drop> Ahead for Forward<S> {
+    fn expect(&mut self, bytes: u64) {
+        self.ahead = self.place.saturating_add(bytes);
     }
 }

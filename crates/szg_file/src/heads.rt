@@ -6,6 +6,8 @@ ghost use Rattle.szg_file.specs.File.{each, head_field, packed_head, byte_where,
 ghost use Rattle.szg_file.specs.HeadPieces.{sizes_field, entries_field, Refuses, lowest_refusal, entries_refusal};
 ghost use Rattle.szg_file.specs.Held.{subtable_of, IsHeaded};
 ghost use Rattle.szg_file.specs.Reading.{Reading};
+ghost use Rattle.szg_file.specs.Grown.{HasCounted, begun_lengths};
+ghost use Rattle.szg_file.specs.Reads.{sub_lengths};
 
 use crate::begun::{Begun, Slot};
 use crate::fault::{ReadFault, Reason};
@@ -38,6 +40,7 @@ pub fn read_heads<R: Input>(
     ensures count { IfOk result (λ list. length list.items ≡ length slots.now) }
     ensures place { OnOk result (front.new.place ≤ front.old.place + 2 ^ 22) }
     ensures held { OnOk result (front.new.held + 2 * front.old.place ≤ front.old.held + 2 * front.new.place + 8) }
+    ensures grown { IfOk result (λ list. HasCounted front.old front.new 0 (length list.items + begun_lengths list.items)) }
 {
     let mut list = Vec::new(alloc);
     'slots: for slot in slots {
@@ -60,6 +63,7 @@ fn read_head<R: Input>(
     ensures slot { IfOk result (λ begun. begun ≡ record { slot = slot; subtable = begun.subtable; index = 0 }) }
     ensures place { OnOk result (front.new.place ≤ front.old.place + 2 ^ 18) }
     ensures held { OnOk result (front.new.held + 2 * front.old.place ≤ front.old.held + 2 * front.new.place) }
+    ensures grown { IfOk result (λ begun. HasCounted front.old front.new 0 (sub_lengths begun.subtable)) }
 {
     let flags = read_byte(input, front)?;
     if has_flag(7, flags) {
@@ -87,6 +91,7 @@ fn read_packed_head<R: Input>(
     ensures headed { IfOk result IsHeaded }
     ensures place { OnOk result (front.new.place ≤ front.old.place + 200000) }
     ensures held { OnOk result (front.new.held + 2 * front.old.place ≤ front.old.held + 2 * front.new.place) }
+    ensures grown { IfOk result (λ sub. HasCounted front.old front.new 0 (sub_lengths (subtable_of sub))) }
 {
     let block_bits = read_block_bits(input, front)?;
     let span_bits = read_span_bits(input, front)?;
@@ -115,6 +120,7 @@ fn read_block_bits<R: Input>(input: &mut R, front: &mut Front) -> Result<u8, Rea
     ensures most { IfOk result (λ bits. bits ≤ 18) }
     ensures place { OnOk result (front.new.place ≡ front.old.place + 1) }
     ensures held { OnOk result (front.new.held ≡ front.old.held) }
+    ensures grown { OnOk result (HasCounted front.old front.new 0 0) }
 {
     let place = front.place;
     let bits = read_byte(input, front)?;
@@ -135,6 +141,7 @@ fn read_span_bits<R: Input>(input: &mut R, front: &mut Front) -> Result<u8, Read
     ensures most { IfOk result (λ bits. bits ≤ 31) }
     ensures place { OnOk result (front.new.place ≡ front.old.place + 1) }
     ensures held { OnOk result (front.new.held ≡ front.old.held) }
+    ensures grown { OnOk result (HasCounted front.old front.new 0 0) }
 {
     let place = front.place;
     let bits = read_byte(input, front)?;
@@ -173,6 +180,7 @@ fn read_sizes<R: Input>(input: &mut R, front: &mut Front) -> Result<HeadSizes, R
     ensures most { IfOk result (λ sizes. sizes.max ≤ 32) }
     ensures place { OnOk result (front.new.place ≡ front.old.place + 7) }
     ensures held { OnOk result (front.new.held ≡ front.old.held) }
+    ensures grown { OnOk result (HasCounted front.old front.new 0 0) }
 {
     let place = front.place + 5;
     let mut piece = [0; 7];
@@ -210,6 +218,7 @@ fn read_lowest<R: Input>(
     ensures accepted { IfOk result IsCode }
     ensures place { OnOk result (front.new.place ≡ front.old.place + 2 * (max + 1 - min)) }
     ensures held { OnOk result (front.new.held ≡ front.old.held + 3 * (max + 1 - min)) }
+    ensures grown { IfOk result (λ code. HasCounted front.old front.new 0 (length code.lowest)) }
 {
     let place = front.place;
     let lowest = take_numbers(alloc, u64::from(max + 1 - min), input, front)?;
@@ -291,6 +300,7 @@ fn read_dictionary<R: Input>(
     ensures dictionary { Reading dictionary (λ dict. dict) front.old front.new R.Input input.old input.new result }
     ensures place { OnOk result (front.new.place ≤ front.old.place + 196608) }
     ensures held { OnOk result (front.new.held + 2 * front.old.place ≤ front.old.held + 2 * front.new.place) }
+    ensures grown { IfOk result (λ dict. HasCounted front.old front.new 0 (2 * length dict)) }
 {
     let count = read_number(input, front)?;
     let dict = read_entries(alloc, count, input, front)?;
@@ -310,6 +320,7 @@ fn read_entries<R: Input>(
     ensures entries { Reading (entries_field count) (λ dict. dict) front.old front.new R.Input input.old input.new result }
     ensures place { OnOk result (front.new.place ≡ front.old.place + 3 * count) }
     ensures held { OnOk result (front.new.held ≡ front.old.held + 4 * count) }
+    ensures grown { IfOk result (λ dict. HasCounted front.old front.new 0 (2 * length dict)) }
 {
     let place = front.place;
     let entries = take_entries(alloc, u64::from(count), input, front)?;

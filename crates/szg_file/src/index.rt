@@ -4,6 +4,8 @@ ghost use Rattle.szg_block.specs.Subtable.{layout_of, IsShapedHead};
 ghost use Rattle.szg_file.specs.File.{each, sparse_of, sparse_field, lengths_of, lengths_field, index_check};
 ghost use Rattle.szg_file.specs.Held.{subtable_of, IsHeaded, IsIndexed};
 ghost use Rattle.szg_file.specs.Reading.{Reading, Checks};
+ghost use Rattle.szg_file.specs.Grown.{HasCounted, begun_lengths};
+ghost use Rattle.szg_file.specs.Reads.{sub_lengths};
 
 use crate::begun::{Begun, Indexed, Measured, Slot};
 use crate::fault::{ReadFault, Reason};
@@ -28,6 +30,7 @@ pub fn read_indexes<R: Input>(
     ensures count { IfOk result (λ indexed. length indexed.items ≡ length list.items) }
     ensures place { OnOk result (front.new.place ≤ front.old.place + 2 ^ 40) }
     ensures held { OnOk result (front.new.held + 2 * front.old.place ≤ front.old.held + 2 * front.new.place + 8) }
+    ensures grown { IfOk result (λ indexed. HasCounted front.old front.new (begun_lengths list.items) (length indexed.items + begun_lengths indexed.items)) }
 {
     let mut indexed = Vec::new(alloc);
     'indexes: for begun in list {
@@ -49,6 +52,7 @@ fn read_index<R: Input>(
     ensures index { Reading (sparse_field begun) (λ indexed. indexed) front.old front.new R.Input input.old input.new result }
     ensures place { OnOk result (front.new.place ≤ front.old.place + 2 ^ 36) }
     ensures held { OnOk result (front.new.held + 2 * front.old.place ≤ front.old.held + 2 * front.new.place) }
+    ensures grown { IfOk result (λ indexed. HasCounted front.old front.new (sub_lengths begun.subtable) (sub_lengths indexed.subtable)) }
 {
     let Begun { slot, sub } = begun;
     let (sub, index) = index_sub(alloc, slot, sub, input, front)?;
@@ -71,6 +75,7 @@ fn index_sub<R: Input>(
     ensures stands { IfOk result (λ found. found.1 < 2 ^ 61) }
     ensures place { OnOk result (front.new.place ≤ front.old.place + 2 ^ 36) }
     ensures held { OnOk result (front.new.held + 2 * front.old.place ≤ front.old.held + 2 * front.new.place) }
+    ensures grown { IfOk result (λ found. HasCounted front.old front.new (sub_lengths (subtable_of sub)) (sub_lengths (subtable_of found.0))) }
 {
     match sub {
         Sub::Constant { flags, byte } => Ok((Sub::Constant { flags, byte }, 0)),
@@ -132,6 +137,7 @@ pub fn read_lengths<R: Input>(
     ensures count { IfOk result (λ measured. length measured.items ≡ length list.items) }
     ensures place { OnOk result (front.new.place ≤ front.old.place + 2 ^ 40) }
     ensures held { OnOk result (front.new.held + 2 * front.old.place ≤ front.old.held + 2 * front.new.place + 8) }
+    ensures grown { IfOk result (λ measured. HasCounted front.old front.new (begun_lengths list.items) (length measured.items + begun_lengths measured.items)) }
 {
     let mut measured = Vec::new(alloc);
     'lengths: for indexed in list {
@@ -153,6 +159,7 @@ fn read_measured<R: Input>(
     ensures lengths { Reading (lengths_field indexed) (λ measured. measured) front.old front.new R.Input input.old input.new result }
     ensures place { OnOk result (front.new.place ≤ front.old.place + 2 ^ 36) }
     ensures held { OnOk result (front.new.held + 2 * front.old.place ≤ front.old.held + 2 * front.new.place) }
+    ensures grown { IfOk result (λ measured. HasCounted front.old front.new (sub_lengths indexed.subtable) (sub_lengths measured.subtable)) }
 {
     let Indexed { slot, sub, index } = indexed;
     let sub = measure_sub(alloc, slot, index, sub, input, front)?;
@@ -176,6 +183,7 @@ fn measure_sub<R: Input>(
     ensures shaped { IfOk result (λ found. IsShapedHead found slot.size) }
     ensures place { OnOk result (front.new.place ≤ front.old.place + 2 ^ 36) }
     ensures held { OnOk result (front.new.held + 2 * front.old.place ≤ front.old.held + 2 * front.new.place) }
+    ensures grown { IfOk result (λ found. HasCounted front.old front.new (sub_lengths (subtable_of sub)) (sub_lengths (subtable_of found))) }
 {
     match sub {
         Sub::Constant { flags, byte } => Ok(Sub::Constant { flags, byte }),

@@ -1,7 +1,10 @@
-ghost use Rattle.std.specs.Prelude.{◌≡◌, ◌+◌, ◌*◌, ◌≤◌, ◌<◌, ◌^◌, ◌∷◌, [], length, map, option_map, OnOk};
+ghost use Rattle.std.specs.Prelude.{◌≡◌, ◌+◌, ◌*◌, ◌≤◌, ◌<◌, ◌^◌, ◌∷◌, [], length, map, option_map, OnOk, IfOk, Some};
+ghost use Rattle.std.specs.List.{sum_by};
 ghost use Rattle.szg_file.specs.File.{each, list_field, map_lists, map_field, maps_field};
 ghost use Rattle.szg_file.specs.Held.{map_of};
 ghost use Rattle.szg_file.specs.Reading.{Reading};
+ghost use Rattle.szg_file.specs.Grown.{HasCounted, maps_lengths};
+ghost use Rattle.szg_file.specs.Reads.{map_lengths};
 
 use crate::begun::Begun;
 use crate::fault::ReadFault;
@@ -28,6 +31,7 @@ pub fn read_maps<R: Input>(
     ensures maps { Reading (maps_field kind (map (λ begun. begun.subtable) heads.now)) (λ list. map (option_map map_of) list.items) front.old front.new R.Input input.old input.new result }
     ensures place { OnOk result (front.new.place ≤ front.old.place + 2 ^ 23) }
     ensures held { OnOk result (front.new.held + 2 * front.old.place ≤ front.old.held + 2 * front.new.place + 8) }
+    ensures grown { IfOk result (λ list. HasCounted front.old front.new 0 (length list.items + maps_lengths list.items)) }
 {
     match kind {
         Kind::Wdl => Ok(Vec::new(alloc)),
@@ -48,6 +52,7 @@ fn read_dtz_maps<R: Input>(
     ensures maps { Reading (maps_field Kind.Dtz (map (λ begun. begun.subtable) heads.now)) (λ list. map (option_map map_of) list.items) front.old front.new R.Input input.old input.new result }
     ensures place { OnOk result (front.new.place ≤ front.old.place + 2 ^ 23) }
     ensures held { OnOk result (front.new.held + 2 * front.old.place ≤ front.old.held + 2 * front.new.place + 8) }
+    ensures grown { IfOk result (λ list. HasCounted front.old front.new 0 (length list.items + maps_lengths list.items)) }
 {
     let maps = read_each(alloc, heads, input, front)?;
     take_fill(alloc, 2, input, front)?;
@@ -67,6 +72,7 @@ fn read_each<R: Input>(
     ensures maps { Reading (each map_field (map (λ begun. begun.subtable) heads.now)) (λ list. map (option_map map_of) list.items) front.old front.new R.Input input.old input.new result }
     ensures place { OnOk result (front.new.place ≤ front.old.place + 8 * 600000) }
     ensures held { OnOk result (front.new.held + 2 * front.old.place ≤ front.old.held + 2 * front.new.place + 8) }
+    ensures grown { IfOk result (λ list. HasCounted front.old front.new 0 (length list.items + maps_lengths list.items)) }
 {
     let mut list = Vec::new(alloc);
     'heads: for head in heads {
@@ -88,6 +94,7 @@ fn read_map<R: Input>(
     ensures lists { Reading (map_field begun.now.subtable) (option_map map_of) front.old front.new R.Input input.old input.new result }
     ensures place { OnOk result (front.new.place ≤ front.old.place + 600000) }
     ensures held { OnOk result (front.new.held + 2 * front.old.place ≤ front.old.held + 2 * front.new.place) }
+    ensures grown { IfOk result (λ found. HasCounted front.old front.new 0 (map_lengths (option_map map_of found))) }
 {
     let flags = flags_of(&begun.sub);
     if !has_flag(1, flags) {
@@ -109,6 +116,7 @@ fn read_lists<R: Input>(
     ensures lists { Reading (map_lists flags) map_of front.old front.new R.Input input.old input.new result }
     ensures place { OnOk result (front.new.place ≤ front.old.place + 600000) }
     ensures held { OnOk result (front.new.held + 2 * front.old.place ≤ front.old.held + 2 * front.new.place) }
+    ensures grown { IfOk result (λ lists. HasCounted front.old front.new 0 (map_lengths (Some (map_of lists)))) }
 {
     if has_flag(4, flags) {
         take_fill(alloc, 2, input, front)?;
@@ -130,6 +138,7 @@ fn read_byte_lists<R: Input>(
     ensures lists { Reading (each list_field (1 ∷ 1 ∷ 1 ∷ 1 ∷ [])) (map (λ list. list.items)) front.old front.new R.Input input.old input.new result }
     ensures place { OnOk result (front.new.place ≤ front.old.place + 4 * 256) }
     ensures held { OnOk result (front.new.held + 2 * front.old.place ≤ front.old.held + 2 * front.new.place) }
+    ensures grown { IfOk result (λ lists. HasCounted front.old front.new 0 (sum_by (λ list. length list.items) lists)) }
 {
     let wins = read_bytes(alloc, input, front)?;
     let losses = read_bytes(alloc, input, front)?;
@@ -149,6 +158,7 @@ fn read_wide_lists<R: Input>(
     ensures lists { Reading (each list_field (2 ∷ 2 ∷ 2 ∷ 2 ∷ [])) (map (λ list. list.items)) front.old front.new R.Input input.old input.new result }
     ensures place { OnOk result (front.new.place ≤ front.old.place + 4 * 131072) }
     ensures held { OnOk result (front.new.held + 2 * front.old.place ≤ front.old.held + 2 * front.new.place) }
+    ensures grown { IfOk result (λ lists. HasCounted front.old front.new 0 (sum_by (λ list. length list.items) lists)) }
 {
     let wins = read_numbers(alloc, input, front)?;
     let losses = read_numbers(alloc, input, front)?;
@@ -168,6 +178,7 @@ fn read_bytes<R: Input>(
     ensures list { Reading (list_field 1) (λ list. list.items) front.old front.new R.Input input.old input.new result }
     ensures place { OnOk result (front.new.place ≤ front.old.place + 256) }
     ensures held { OnOk result (front.new.held + 2 * front.old.place ≤ front.old.held + 2 * front.new.place) }
+    ensures grown { IfOk result (λ list. HasCounted front.old front.new 0 (length list.items)) }
 {
     let count = read_byte(input, front)?;
     take_bytes(alloc, u64::from(count), input, front)
@@ -184,6 +195,7 @@ fn read_numbers<R: Input>(
     ensures list { Reading (list_field 2) (λ list. list.items) front.old front.new R.Input input.old input.new result }
     ensures place { OnOk result (front.new.place ≤ front.old.place + 131072) }
     ensures held { OnOk result (front.new.held + 2 * front.old.place ≤ front.old.held + 2 * front.new.place) }
+    ensures grown { IfOk result (λ list. HasCounted front.old front.new 0 (length list.items)) }
 {
     let count = read_number(input, front)?;
     take_numbers(alloc, u64::from(count), input, front)

@@ -65,10 +65,11 @@ impl<S: Source + Drop> Model for Opened<S> {
 }
 
 impl<S: Source + Drop> Opened<S> {
-    ghost use Rattle.std.specs.Prelude.{◌≡◌, ◌<◌, IsSome, IfOk, IfSome, Some, option_map};
+    ghost use Rattle.std.specs.Prelude.{◌≡◌, ◌<◌, IsSome, IfOk, IsOk, IfSome, Some, None, option_map};
     ghost use Rattle.szg_block.specs.Lending.{failed_after};
     ghost use Rattle.szg_file.specs.Opened.{opened_at, asked_after};
     ghost use Rattle.szg_file.specs.Values.{values_of, item};
+    ghost use Rattle.szg_file.specs.Wanted.{wanted_block};
 
     /// The number of positions of a part's side, where there is one.
     pub fn size(&self, part: u8, side: u8) -> Option<u64>
@@ -91,11 +92,13 @@ impl<S: Source + Drop> Opened<S> {
 
     /// Value i of a part's side. It takes no memory, and asks the source for one block, for none in a constant subtable.
     ///
-    /// A fault comes only where the source failed; the next call is answered as if there had been none.
+    /// A fault comes only where the source failed, in a constant subtable never; the next call is answered as if there had
+    /// been none.
     pub fn get(&mut self, part: u8, side: u8, i: u64) -> Result<u16, SourceFault>
         requires there { IsSome (opened_at self.old part side) }
         requires below { IfSome (opened_at self.old part side) (λ found. i < found.0.size) }
         ensures value { IfOk result (λ value. IfSome (opened_at self.old part side) (λ found. item (values_of self.old.kind found) i ≡ Some value)) }
+        ensures constant { IfSome (opened_at self.old part side) (λ found. wanted_block found.1 i ≡ None → IsOk result) }
         ensures asked { IfSome (opened_at self.old part side) (λ found. self.new.asked ≡ asked_after found.1 self.old.asked) }
         ensures failed { self.new.failed ≡ failed_after result self.old.failed }
         ensures material { self.new.material ≡ self.old.material }
@@ -119,15 +122,16 @@ impl<S: Source + Drop> Opened<S> {
     }
 }
 
-/// How many bytes are asked of the source at once while a table is opened.
+/// How many bytes of a subtable's blocks are asked of the source at once while a table is opened.
 const PIECE: usize = 65536;
 
 /// Opens a table of this material and kind over a source: every check of `read` is made of the source's bytes from the
-/// first on, blocks and all, and no block is kept. It asks the source for at most 64 KiB at a time, one piece behind
-/// another. The last piece may reach past the table, but not past the source's end.
+/// first on, blocks and all, and no block is kept. It asks the source for one field behind another, and for the blocks of
+/// a subtable, 64 KiB at a time; for no byte behind the table, nor behind a field whose check fails. Only behind a block
+/// whose check fails it may have asked for later blocks of its subtable.
 ///
 /// The source is handed back with a fault: `Refused` with the place and the reason that `read` tells, `Source` where the
-/// source failed, be it in what a last piece has past the table, `Memory` where memory was refused.
+/// source failed, `Memory` where memory was refused.
 pub fn open<S: Source + Drop>(
     alloc: Global,
     material: Material,

@@ -12,6 +12,7 @@ ghost use Rattle.szg_file.specs.Reading.{Reading};
 use crate::begun::Begun;
 use crate::dropping::{PlacedSub, pass_subs};
 use crate::fault::ReadFault;
+use crate::forward::Ahead;
 use crate::front::Front;
 use crate::index::{read_indexes, read_lengths};
 use crate::parts::Parts;
@@ -32,7 +33,7 @@ pub struct Outline {
 }
 
 /// Takes the sparse indexes, the lengths and the blocks, and keeps of the blocks their places.
-fn outline_subtables<R: Input>(
+fn outline_subtables<R: Input + Ahead>(
     alloc: Global,
     heads: Vec<Begun>,
     buffer: &mut Vec<u8>,
@@ -54,7 +55,7 @@ fn outline_subtables<R: Input>(
 }
 
 /// Takes a whole file, each block into the buffer, which grows to the longest.
-pub fn read_outline<R: Input>(
+pub fn read_outline<R: Input + Ahead>(
     alloc: Global,
     material: &Material,
     kind: Kind,

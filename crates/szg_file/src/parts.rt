@@ -9,6 +9,8 @@ ghost use Rattle.szg_file.specs.Format.{means, refuses};
 ghost use Rattle.szg_file.specs.Held.{part_of};
 ghost use Rattle.szg_file.specs.Parts.{part_with, slots_with};
 ghost use Rattle.szg_file.specs.Reading.{Reading, Checks};
+ghost use Rattle.szg_file.specs.Grown.{HasCounted, parts_lengths};
+ghost use Rattle.szg_file.specs.Lengths.{part_length};
 
 use crate::begun::Slot;
 use crate::fault::{ReadFault, Reason};
@@ -204,6 +206,7 @@ fn read_part<R: Input>(
     ensures fits { IfOk result (λ read. (read.1.first < 2 ^ 33) × IfSome read.1.second (λ second. second < 2 ^ 33)) }
     ensures place { OnOk result (front.new.place ≤ front.old.place + 8) }
     ensures held { OnOk result (front.new.held + front.old.place ≡ front.old.held + front.new.place) }
+    ensures grown { IfOk result (λ read. HasCounted front.old front.new 0 (part_length (part_of read.0))) }
 {
     let place = front.place;
     let orders = order_count(material);
@@ -294,6 +297,7 @@ pub fn read_parts<R: Input>(
     ensures few { IfOk result (λ parts. length parts.slots.items ≤ 8) }
     ensures place { OnOk result (front.new.place ≤ front.old.place + 32) }
     ensures held { OnOk result (front.new.held + 2 * front.old.place ≤ front.old.held + 2 * front.new.place + 4) }
+    ensures grown { IfOk result (λ parts. HasCounted front.old front.new 0 (length parts.bytes.items + parts_lengths parts.bytes.items)) }
 {
     let mut parts = Parts {
         bytes: Vec::new(alloc),

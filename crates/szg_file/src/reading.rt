@@ -9,6 +9,7 @@ ghost use Rattle.szg_file.specs.Held.{file_bytes, part_of, subtable_of};
 ghost use Rattle.szg_file.specs.Reading.{Reading, Lacking};
 ghost use Rattle.szg_file.specs.Reads.{FollowsVerdict, TookBytes, list_lengths};
 ghost use Rattle.szg_file.specs.FilePieces.{opening_field, packed_field, ending_field, opened, contents_of};
+ghost use Rattle.szg_file.specs.Grown.{HasCounted, begun_lengths, subs_lengths, opening_lengths, pieces_lengths};
 
 use crate::begun::Begun;
 use crate::blocks::read_blocks;
@@ -61,6 +62,7 @@ pub fn read_opening<R: Input>(
     ensures few { IfOk result (λ o. length o.heads.items ≤ 8) }
     ensures place { OnOk result (front.new.place < 2 ^ 24) }
     ensures held { OnOk result (front.new.held ≤ 2 * front.new.place + 20) }
+    ensures grown { IfOk result (λ o. HasCounted front.old front.new 0 (opening_lengths o)) }
 {
     let byte4 = read_start(material, kind, input, front)?;
     let parts = read_parts(alloc, material, kind, input, front)?;
@@ -88,6 +90,7 @@ fn read_subtables<R: Input>(
     ensures packed { Reading (packed_field heads.items) (λ subs. map subtable_of subs.items) front.old front.new R.Input input.old input.new result }
     ensures place { OnOk result (front.new.place < 2 ^ 56) }
     ensures held { OnOk result (front.new.held ≤ 2 * front.new.place + 44) }
+    ensures grown { IfOk result (λ subs. HasCounted front.old front.new (begun_lengths heads.items) (2 * length subs.items + subs_lengths subs.items)) }
 {
     let indexed = read_indexes(alloc, heads, input, front)?;
     let measured = read_lengths(alloc, indexed, input, front)?;
@@ -103,6 +106,7 @@ pub fn read_ending<R: Input>(
     requires place { front.old.place < 2 ^ 56 }
     requires paid { front.old.held ≤ 2 * front.old.place + 44 }
     ensures ending { Reading ending_field (λ last. last) front.old front.new R.Input input.old input.new result }
+    ensures grown { OnOk result (HasCounted front.old front.new 0 0) }
     ensures memory { IsErrOf result ReadFault.Memory → Lacking ending_field front.old R.Input input.old input.new }
 {
     take_fill(alloc, 64, input, front)?;
@@ -124,6 +128,7 @@ fn read_pieces<R: Input>(
     ensures pieces { Reading (file material.now kind) (contents_of material.now kind) front.old front.new R.Input input.old input.new result }
     ensures memory { IsErrOf result ReadFault.Memory → Lacking (file material.now kind) front.old R.Input input.old input.new }
     ensures slots { IfOk result (λ p. p.parts.slots.items ≡ slots material.now kind (map part_of p.parts.bytes.items)) }
+    ensures grown { IfOk result (λ p. HasCounted front.old front.new 0 (pieces_lengths p)) }
 {
     let Opening {
         byte4,

@@ -3,6 +3,7 @@ ghost use Rattle.szg_values.specs.Material.{has_pawns};
 ghost use Rattle.szg_file.specs.Contents.{has_bit};
 ghost use Rattle.szg_file.specs.File.{magic_of, magic_field, byte4_field, split_agrees, agrees};
 ghost use Rattle.szg_file.specs.Reading.{Reading, start_field};
+ghost use Rattle.szg_file.specs.Grown.{HasCounted};
 
 use crate::fault::{ReadFault, Reason};
 use crate::fields::has_flag;
@@ -33,6 +34,7 @@ fn read_magic<R: Input>(kind: Kind, input: &mut R, front: &mut Front) -> Result<
     ensures magic { Reading (magic_field kind) (λ _. tt) front.old front.new R.Input input.old input.new result }
     ensures place { OnOk result (front.new.place ≡ 4) }
     ensures held { OnOk result (front.new.held ≡ front.old.held) }
+    ensures grown { OnOk result (HasCounted front.old front.new 0 0) }
 {
     let mut piece = [0; 4];
     take_field(input, front, &mut piece)?;
@@ -72,6 +74,7 @@ fn read_byte4<R: Input>(
     ensures byte { Reading (byte4_field material.now kind) (λ byte. byte) front.old front.new R.Input input.old input.new result }
     ensures place { OnOk result (front.new.place ≡ 5) }
     ensures held { OnOk result (front.new.held ≡ front.old.held) }
+    ensures grown { OnOk result (HasCounted front.old front.new 0 0) }
 {
     let mut piece = [0];
     take_field(input, front, &mut piece)?;
@@ -102,6 +105,7 @@ pub fn read_start<R: Input>(
     ensures start { Reading (start_field material.now kind) (λ byte. byte) front.old front.new R.Input input.old input.new result }
     ensures place { OnOk result (front.new.place ≡ 5) }
     ensures held { OnOk result (front.new.held ≡ front.old.held) }
+    ensures grown { OnOk result (HasCounted front.old front.new 0 0) }
 {
     read_magic(kind, input, front)?;
     read_byte4(material, kind, input, front)

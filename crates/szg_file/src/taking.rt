@@ -4,6 +4,7 @@ ghost use Rattle.szg_file.specs.Contents.{number_of, items};
 ghost use Rattle.szg_file.specs.File.{filled_to, rows_field, entry_of_bytes};
 ghost use Rattle.szg_file.specs.Held.{sparse_of, numbers_field, sparse_rows, spare_field};
 ghost use Rattle.szg_file.specs.Reading.{Reading};
+ghost use Rattle.szg_file.specs.Grown.{HasCounted};
 
 use crate::fault::{ReadFault, Reason};
 use crate::front::{Front, grow};
@@ -23,6 +24,7 @@ pub fn take_field<R: Input>(
     ensures field { Reading (field (length piece.new) means) (λ _. piece.new) front.old front.new R.Input input.old input.new result }
     ensures place { OnOk result (front.new.place ≡ front.old.place + length piece.new) }
     ensures held { OnOk result (front.new.held ≡ front.old.held) }
+    ensures grown { OnOk result (HasCounted front.old front.new 0 0) }
     ensures memory { IsErrOf result ReadFault.Memory → ⊥ }
 {
     let Ok(got) = take_whole(input, piece) else {
@@ -58,6 +60,7 @@ fn take_piece<R: Input>(
     ensures longer { OnOk result (length list.new.items ≡ length list.old.items + size) }
     ensures place { OnOk result (front.new.place ≡ front.old.place + size) }
     ensures held { OnOk result (front.new.held ≡ front.old.held + size) }
+    ensures grown { OnOk result (HasCounted front.old front.new (length list.old.items) (length list.new.items)) }
 {
     grow(list, size, front)?;
     let at = list.len();
@@ -81,6 +84,7 @@ pub fn take_bytes<R: Input>(
     ensures count { IfOk result (λ list. length list.items ≡ count) }
     ensures place { OnOk result (front.new.place ≡ front.old.place + count) }
     ensures held { OnOk result (front.new.held ≡ front.old.held + count) }
+    ensures grown { IfOk result (λ list. HasCounted front.old front.new 0 (length list.items)) }
 {
     let mut list = Vec::new(alloc);
     take_more(&mut list, count, input, front)?;
@@ -101,6 +105,7 @@ pub fn take_more<R: Input>(
     ensures longer { OnOk result (length list.new.items ≡ length list.old.items + count) }
     ensures place { OnOk result (front.new.place ≡ front.old.place + count) }
     ensures held { OnOk result (front.new.held ≡ front.old.held + count) }
+    ensures grown { OnOk result (HasCounted front.old front.new (length list.old.items) (length list.new.items)) }
 {
     let mut left = count;
     'pieces: while left > 0 {
@@ -124,6 +129,7 @@ pub fn take_spare<R: Input>(
     ensures fill { Reading (spare_field count) (λ _. tt) front.old front.new R.Input input.old input.new result }
     ensures place { OnOk result (front.new.place ≡ front.old.place + count) }
     ensures held { OnOk result (front.new.held ≡ front.old.held + count) }
+    ensures grown { OnOk result (HasCounted front.old front.new 0 0) }
 {
     let size = count as usize;
     let mut piece = [0; 64];
@@ -151,6 +157,7 @@ pub fn take_fill<R: Input>(
     ensures fill { Reading (filled_to unit) (λ _. tt) front.old front.new R.Input input.old input.new result }
     ensures place { OnOk result (front.new.place < front.old.place + 64) }
     ensures held { OnOk result (front.new.held + front.old.place ≡ front.old.held + front.new.place) }
+    ensures grown { OnOk result (HasCounted front.old front.new 0 0) }
 {
     let rest = (front.place % unit as u64) as u8;
     take_spare(alloc, (unit - rest) % unit, input, front)
@@ -189,6 +196,7 @@ pub fn take_numbers<R: Input>(
     ensures place { OnOk result (front.new.place ≡ front.old.place + 2 * count) }
     ensures count { IfOk result (λ list. length list.items ≡ count) }
     ensures held { OnOk result (front.new.held ≡ front.old.held + 3 * count) }
+    ensures grown { IfOk result (λ list. HasCounted front.old front.new 0 (length list.items)) }
 {
     let bytes = take_bytes(alloc, 2 * count, input, front)?;
     numbers(alloc, &bytes, front)
@@ -227,6 +235,7 @@ pub fn take_entries<R: Input>(
     ensures place { OnOk result (front.new.place ≡ front.old.place + 3 * count) }
     ensures count { IfOk result (λ list. length list.items ≡ count) }
     ensures held { OnOk result (front.new.held ≡ front.old.held + 4 * count) }
+    ensures grown { IfOk result (λ list. HasCounted front.old front.new 0 (2 * length list.items)) }
 {
     let bytes = take_bytes(alloc, 3 * count, input, front)?;
     entries(alloc, &bytes, front)
@@ -267,6 +276,7 @@ pub fn take_sparse<R: Input>(
     ensures place { OnOk result (front.new.place ≡ front.old.place + 6 * count) }
     ensures count { IfOk result (λ list. length list.items ≡ count) }
     ensures held { OnOk result (front.new.held ≡ front.old.held + 7 * count) }
+    ensures grown { IfOk result (λ list. HasCounted front.old front.new 0 (length list.items)) }
 {
     let bytes = take_bytes(alloc, 6 * count, input, front)?;
     sparse_entries(alloc, &bytes, front)

@@ -224,18 +224,13 @@ all_in (x ∷ xs) h s (inr i) = all_in xs (All-tail (λ (y : Standing). y.2 < 64
 pub board_inside : (list : List Standing) (board : Board) → list ≡ board.standing → AreOnBoard list → IsOnBoard board
 board_inside list board e h = all_in board.standing (subst (λ (l : List Standing). AreOnBoard l) e h)
 
-pub known_of : (m : Sides) (board : Board) (list : List Standing) (other : Sides) (same : Bool) → IsMaterial m → IsOnBoard board → list ≡ board.standing → IsNone (placement_fault list) →
-    other ≡ material_of board.standing → same ≡ (is_same_men other.first m.first && is_same_men other.second m.second) → same ≡ true → IsKnown m board
-known_of m board list other same mat inside e h f g found = record {
+pub known_by : (m : Sides) (board : Board) (list : List Standing) → IsMaterial m → IsOnBoard board → list ≡ board.standing → IsNone (placement_fault list) → is_of_material m board ≡ true → IsKnown m board
+known_by m board list mat inside e h found = record {
   material = mat;
   inside = inside;
   placement = none_is (placement_fault board.standing) (subst (λ (s : List Standing). IsNone (placement_fault s)) e h);
-  men = ap (λ (o : Sides). is_same_men o.first m.first && is_same_men o.second m.second) (sym f) ∙ sym g ∙ found;
+  men = found;
 }
-
-pub other_men : (m : Sides) (board : Board) (other : Sides) (same : Bool) → other ≡ material_of board.standing → same ≡ (is_same_men other.first m.first && is_same_men other.second m.second) → same ≡ false →
-    is_of_material m board ≡ false
-other_men m board other same f g other' = ap (λ (o : Sides). is_same_men o.first m.first && is_same_men o.second m.second) (sym f) ∙ sym g ∙ other'
 
 pub stood_slice : (m : Sides) (board : Board) (slice items : List Piece) → IsKnown m board → slice ≡ items → items ≡ pieces_of m board → IsStood m (man_codes m) slice
 stood_slice m board slice items k e f = subst (λ (l : List Piece). IsStood m (man_codes m) l) (sym (e ∙ f)) (stood_first m board k)

@@ -30,3 +30,6 @@ pub mod Indexed
 pub mod Probed
 pub mod OpenedProbes
 pub mod Placed
+pub mod Keys
+pub mod Binomials
+pub mod Turns

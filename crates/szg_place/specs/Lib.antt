@@ -9,3 +9,4 @@ pub mod Slots
 pub mod Known
 pub mod Opened
 pub mod Prepared
+pub mod Traits

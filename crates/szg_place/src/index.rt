@@ -10,7 +10,8 @@ ghost use Rattle.szg_count.specs.Radix.{index_with};
 ghost use Rattle.szg_place.specs.Spots.{places_in_lists, squares_told, places_told};
 ghost use Rattle.szg_place.specs.Ranks.{EachInList};
 
-use crate::places::{set_at, set_place};
+use crate::places::{set_at_by, set_place_by};
+use crate::traits::Traits;
 use arrayvec::ArrayVec;
 use szg_count::Groups;
 use szg_values::{MAX_MEN, Material};
@@ -28,14 +29,29 @@ pub fn index_with(material: &Material, part: u8, groups: &Groups, squares: &[u8]
     ensures index { result ≡ index_with (places_in_lists material.now part [] given.1) (counted material.now part given.0).factors }
     ensures fits { result < 2 ^ 33 }
 {
-    // Its men tell that this is a material.
-    let _men = material.men();
+    index_by(&Traits::of(material), part, groups, squares)
+}
+
+/// The same for a caller that knows what the material tells.
+pub(crate) fn index_by(material: &Traits, part: u8, groups: &Groups, squares: &[u8]) -> u64
+    ghost given: { Nibbles × List (List ℕ) }
+    requires part { IsPart material.now part }
+    requires ordered { order_fault material.now given.0 ≡ None }
+    requires groups { groups.now ≡ groups_told (counted material.now part given.0) }
+    requires squares { squares.now ≡ concat given.1 }
+    requires few { length squares.now ≤ 6 }
+    requires listed { EachInList material.now part [] (groups_of material.now given.0.men) given.1 }
+    ensures index { result ≡ index_with (places_in_lists material.now part [] given.1) (counted material.now part given.0).factors }
+    ensures fits { result < 2 ^ 33 }
+{
+    // It tells that it is a name's.
+    let _material = material.material();
     let mut index = 0;
     for i in 0..groups.count() {
         let group = groups.group(i);
         let (taken, rest) = squares.split_at(usize::from(group.first));
         let (set, _) = rest.split_at(usize::from(group.length));
-        index += set_place(material, part, i, taken, set) * group.factor;
+        index += set_place_by(material, part, i, taken, set) * group.factor;
     }
     index
 }
@@ -56,13 +72,32 @@ pub fn squares_at(
     requires few { length (concat given.1) ≤ 6 }
     ensures { result.items ≡ concat given.1 }
 {
-    // Its men tell that this is a material.
-    let _men = material.men();
+    squares_by(&Traits::of(material), part, groups, index)
+}
+
+/// The same for a caller that knows what the material tells.
+pub(crate) fn squares_by(
+    material: &Traits,
+    part: u8,
+    groups: &Groups,
+    index: u64,
+) -> ArrayVec<u8, MAX_MEN>
+    ghost given: { Nibbles × List (List ℕ) }
+    requires part { IsPart material.now part }
+    requires ordered { order_fault material.now given.0 ≡ None }
+    requires groups { groups.now ≡ groups_told (counted material.now part given.0) }
+    requires below { index < product (counted material.now part given.0).ways }
+    requires told { given.1 ≡ squares_told material.now part [] (zip (counted material.now part given.0).groups (places_told (counted material.now part given.0) index)) }
+    requires few { length (concat given.1) ≤ 6 }
+    ensures { result.items ≡ concat given.1 }
+{
+    // It tells that it is a name's.
+    let _material = material.material();
     let mut squares = ArrayVec::new();
     for i in 0..groups.count() {
         let group = groups.group(i);
         let place = index / group.factor % group.ways;
-        let set = set_at(material, part, i, squares.as_slice(), group.length, place);
+        let set = set_at_by(material, part, i, squares.as_slice(), group.length, place);
         append(&mut squares, set.as_slice());
     }
     squares

@@ -6,8 +6,9 @@ ghost use Rattle.szg_count.specs.Sets.{choose};
 ghost use Rattle.szg_count.specs.Leads.{lead_pawn_sets};
 ghost use Rattle.szg_count.specs.Laws.{IsIn};
 
+use crate::choices::place_of_set;
 use arrayvec::ArrayVec;
-use szg_count::{subset_at, subset_place};
+use szg_count::subset_at;
 use szg_values::MAX_MEN;
 
 /// The value P of a square: how many squares come after it in the order of pawn squares.
@@ -44,7 +45,7 @@ pub fn lead_pawns_place(squares: &[u8], file: u8) -> u64
     let first = squares[0];
     let before = ways_before(squares.len(), file, first / 8);
     let numbers = pawn_numbers(&squares[1..]);
-    before + subset_place(numbers.as_slice())
+    before + place_of_set(numbers.as_slice())
 }
 
 // How many sets have their first pawn on an earlier rank.

@@ -5,6 +5,7 @@
 use szg_file::MapFault;
 use thiserror::Error;
 
+mod choices;
 pub mod free_squares;
 pub mod index;
 pub mod kings;
@@ -16,14 +17,17 @@ mod numbering;
 mod opened;
 mod placement;
 pub mod places;
+mod prepared;
 mod probes;
 mod slots;
 mod spots;
+mod traits;
 pub mod triples;
 
 pub use numbering::SideGroups;
 pub use opened::{index_of_opened, probe_dtz_opened, probe_wdl_opened};
 pub use placement::placement_of;
+pub use prepared::PreparedTable;
 pub use probes::{probe_dtz, probe_wdl};
 pub use spots::{Prepared, index_of};
 

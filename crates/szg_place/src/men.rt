@@ -1,29 +1,20 @@
 //! The men of a placement as a file codes them: which colour is the name's first side, and where its men stand.
 
-ghost use Rattle.std.specs.Prelude.{◌≡◌, ◌≤◌, ◌<◌, ◌&&◌, ◌==◌, length, map, if◌then◌else◌};
-ghost use Rattle.std.specs.List.{list_all};
+ghost use Rattle.std.specs.Prelude.{◌≡◌, ◌≤◌, ◌<◌, ◌↔◌, ◌&&◌, IsTrue, true, false, IfNone, IfSome, length, map, if◌then◌else◌};
 ghost use Rattle.szg_count.specs.Laws.{IsIn};
-ghost use Rattle.szg_values.specs.Men.{code_of, is_man, is_color, name_order};
-ghost use Rattle.szg_values.specs.Material.{has_pawns, is_same_men, count_of};
-ghost use Rattle.szg_values.specs.Placement.{number_of, side_of};
-ghost use Rattle.szg_place.specs.Normal.{Piece as Coded, is_exchanged, exchanged_color, colored_code, pieces_of, moved, flip_rank};
+ghost use Rattle.szg_values.specs.Men.{is_color};
+ghost use Rattle.szg_values.specs.Material.{has_pawns, is_symmetric, count_of};
+ghost use Rattle.szg_place.specs.Normal.{Piece as Coded, is_exchanged, exchanged_color, colored_code, pieces_of, moved};
 ghost use Rattle.szg_place.specs.Slots.{flip_by, piece_from};
+ghost use Rattle.szg_place.specs.Spots.{is_of_material};
+ghost use Rattle.szg_place.specs.Traits.{men_key};
 
+use crate::traits::{Traits, men_key};
 use arrayvec::ArrayVec;
-use szg_values::{Color, MAX_MEN, Man, Material, Placement, Square};
+use szg_values::{Color, MAX_MEN, Man, Placement, Square};
 
 /// The codes of the name's second side are those of the first side and this.
 const SECOND_SIDE: u8 = 8;
-
-/// The kinds in the order in which a name has them.
-const KINDS: [Man; 6] = [
-    Man::King,
-    Man::Queen,
-    Man::Rook,
-    Man::Bishop,
-    Man::Knight,
-    Man::Pawn,
-];
 
 /// A man as a file codes it, and its square.
 #[derive(Clone, Copy, Debug, Default, PartialEq, Eq)]
@@ -76,43 +67,38 @@ pub fn moved(flip: Flip, pieces: &[Piece]) -> ArrayVec<Piece, MAX_MEN>
 }
 
 /// Whether colours are exchanged: with the same men on both sides where Black moves, else where White
-/// is not the name's first side.
-pub fn is_exchanged(material: &Material, placement: &Placement) -> bool
-    ensures { result ≡ is_exchanged material.now placement.now }
+/// is not the name's first side. None where the men are another material's.
+pub fn exchange_of(material: &Traits, placement: &Placement) -> Option<bool>
+    ensures other { IfNone result (is_of_material material.now placement.now ≡ false) }
+    ensures men { IfSome result (λ exchanged. is_of_material material.now placement.now ≡ true) }
+    ensures exchanged { IfSome result (λ exchanged. exchanged ≡ is_exchanged material.now placement.now) }
 {
-    if material.symmetric() {
-        placement.mover() == Color::Black
-    } else {
-        !is_white_first(material, placement.men())
+    // It tells that it is a name's.
+    let _material = material.material();
+    let men = placement.men();
+    let key = material.key();
+    if has_key(men, false, key) {
+        return Some(is_twin(material, placement));
     }
+    if has_key(men, true, key) {
+        return Some(true);
+    }
+    None
 }
 
-// Whether White has as many men of each kind as the name's first side.
-fn is_white_first(material: &Material, men: &[(Man, Color, Square)]) -> bool
-    ensures { result ≡ is_same_men (side_of Color.White men.now) material.now.first }
+// Whether men have this key, colours exchanged or not.
+fn has_key(men: &[(Man, Color, Square)], exchanged: bool, key: u64) -> bool
+    requires { length men.now ≤ 6 }
+    ensures { IsTrue result ↔ (men_key exchanged men.now ≡ key) }
 {
-    let codes = material.men();
-    has_counts(codes.as_slice(), men)
+    men_key(men, exchanged) == key
 }
 
-// Whether White has as many men of each kind as there are codes.
-fn has_counts(codes: &[u8], men: &[(Man, Color, Square)]) -> bool
-    ensures { result ≡ list_all (λ kind. number_of kind Color.White men.now == count_of (code_of kind) codes.now) name_order }
+// Whether both sides have the same men and Black moves.
+fn is_twin(material: &Traits, placement: &Placement) -> bool
+    ensures { result ≡ (is_symmetric material.now && is_color Color.Black placement.now.mover) }
 {
-    KINDS.iter().all(|kind| white_count(*kind, men) == code_count(kind.code(), codes))
-}
-
-// How many men of a kind White has.
-fn white_count(kind: Man, men: &[(Man, Color, Square)]) -> usize
-    ensures { result ≡ number_of kind Color.White men.now }
-{
-    men.iter().filter(|man| is_white(kind, man)).count()
-}
-
-fn is_white(kind: Man, man: &(Man, Color, Square)) -> bool
-    ensures { result ≡ (is_man kind man.now.0 && is_color Color.White man.now.1) }
-{
-    man.0 == kind && man.1 == Color::White
+    material.symmetric() && placement.mover() == Color::Black
 }
 
 /// How many codes are this one.
@@ -132,7 +118,8 @@ pub fn asked_side(exchanged: bool, mover: Color) -> u8
     }
 }
 
-fn exchanged_color(exchanged: bool, color: Color) -> Color
+/// A colour, exchanged or not.
+pub fn exchanged_color(exchanged: bool, color: Color) -> Color
     ensures { result ≡ exchanged_color exchanged color }
 {
     if !exchanged {
@@ -146,7 +133,7 @@ fn exchanged_color(exchanged: bool, color: Color) -> Color
 
 /// The men of a placement, colours exchanged or not; with pawns the exchange flips the ranks.
 pub fn pieces_of(
-    material: &Material,
+    material: &Traits,
     placement: &Placement,
     exchanged: bool,
 ) -> ArrayVec<Piece, MAX_MEN>
@@ -157,7 +144,7 @@ pub fn pieces_of(
     coded(placement.men(), exchanged, flips_ranks(material, exchanged))
 }
 
-fn flips_ranks(material: &Material, exchanged: bool) -> bool
+fn flips_ranks(material: &Traits, exchanged: bool) -> bool
     ensures { result ≡ (exchanged && has_pawns material.now) }
 {
     exchanged && material.has_pawns()
@@ -180,23 +167,21 @@ fn piece_of(man: &(Man, Color, Square), exchanged: bool, flips: bool) -> Piece
     let square = man.2.number();
     Piece {
         code: colored_code(man.0, exchanged_color(exchanged, man.1)),
-        square: flipped_if(flips, square),
+        square: flipped_if(flips, Flip::Ranks, square),
     }
 }
 
-fn flipped_if(flips: bool, square: u8) -> u8
+/// A square after a flip that is made or not.
+pub fn flipped_if(flips: bool, flip: Flip, square: u8) -> u8
     requires { square < 64 }
-    ensures { result ≡ (if flips then flip_rank square else square) }
+    ensures value { result ≡ (if flips then flip_by flip square else square) }
+    ensures inside { result < 64 }
 {
-    if flips {
-        flipped(Flip::Ranks, square)
-    } else {
-        square
-    }
+    if flips { flipped(flip, square) } else { square }
 }
 
-// The men of the name's second side, which are now Black's, add 8.
-fn colored_code(man: Man, color: Color) -> u8
+/// A man's code: the men of the name's second side, which are now Black's, add 8.
+pub fn colored_code(man: Man, color: Color) -> u8
     ensures { result ≡ colored_code man color }
 {
     match color {

@@ -10,6 +10,7 @@ ghost use Rattle.szg_place.specs.Layout.{is_dtz, layout_in, nibbles_in_part};
 ghost use Rattle.szg_place.specs.Spots.{is_regular, is_wrong_side};
 
 use crate::men::code_count;
+use crate::traits::Traits;
 use arrayvec::ArrayVec;
 use szg_count::{Groups, Order};
 use szg_file::PartBytes;
@@ -112,6 +113,17 @@ pub fn grouped_by(material: &Material, part: u8, order: Order) -> SideGroups
     }
 }
 
+/// The same for a caller that knows what the material tells.
+pub fn grouped_of(material: &Traits, part: u8, order: Order) -> SideGroups
+    requires part { IsPart material.now part }
+    requires ordered { order_fault material.now (nibbles_in order) ≡ None }
+    ensures order { nibbles_in result.order ≡ nibbles_in order }
+    ensures groups { result.groups ≡ groups_told (counted material.now part (nibbles_in order)) }
+    ensures regular { result.regular ≡ is_regular material.now (groups_of material.now order.men.items) }
+{
+    grouped_by(material.material(), part, order)
+}
+
 /// Whether without pawns each man of the lead group is the only one of its kind and colour, and each
 /// later group has all men of its kind and colour.
 pub fn is_regular(material: &Material, part: u8, order: &Order, groups: &Groups) -> bool
@@ -169,7 +181,7 @@ fn are_counted(codes: &[u8], men: &[u8], number: usize) -> bool
 
 /// Whether a DTZ subtable stores the other side than the one asked, unless the sides are alike and
 /// without pawns.
-pub fn is_wrong_side(material: &Material, kind: Kind, flags: &[u8], part: u8, asked: u8) -> bool
+pub fn is_wrong_side(material: &Traits, kind: Kind, flags: &[u8], part: u8, asked: u8) -> bool
     ensures { result ≡ is_wrong_side (layout_in kind material.now [] flags.now) part asked }
 {
     match kind {
@@ -178,7 +190,7 @@ pub fn is_wrong_side(material: &Material, kind: Kind, flags: &[u8], part: u8, as
     }
 }
 
-fn is_alike(material: &Material) -> bool
+fn is_alike(material: &Traits) -> bool
     ensures { result ≡ (is_symmetric material.now && not (has_pawns material.now)) }
 {
     material.symmetric() && !material.has_pawns()

@@ -8,6 +8,7 @@ ghost use Rattle.szg_place.specs.Tables.{mapped_number, numbering_of};
 
 use crate::probes::class_of;
 use crate::spots::index_in;
+use crate::traits::Traits;
 use crate::{OpenedProbeFault, PlaceFault, ProbeFault, Spot};
 use szg_block::Source;
 use szg_file::{MapFault, Opened};
@@ -25,12 +26,10 @@ pub fn index_of_opened<S: Source + Drop>(
     // So the table has a value there.
     ensures below { IfOk result (λ spot. IsSomeAnd (opened_at opened.now spot.part spot.side) (λ found. spot.index < found.0.size)) }
 {
-    // The men tell that they are a material's.
-    let material = opened.material();
-    let _men = material.men();
+    let material = Traits::of(opened.material());
     let flags = opened.flags();
     let (kind, parts) = (opened.kind(), opened.parts());
-    index_in(material, kind, parts, flags.as_slice(), placement)
+    index_in(&material, kind, parts, flags.as_slice(), placement)
 }
 
 // A placement's spot, and its value.

@@ -6,6 +6,7 @@ use std::alloc::{AllocError, Global};
 use std::process::Abort;
 use std::test::Fail;
 use szg_build::{BuildFault, Dump, DumpFault, DumpReadFault, Plan, build, read_dump, write_dump};
+use szg_file::{ReadFault, Table};
 use szg_io::{Bytes, Std};
 
 /// The first six lines of a dump of the outcomes of king and queen against king.
@@ -107,6 +108,14 @@ fn first_lines_that_are_refused(rt: HostRuntime) {
     );
 }
 
+/// As many values as a dump may tell of, and none of them there.
+#[test]
+fn a_cut_dump_of_many_values(rt: HostRuntime) {
+    let text =
+        b"szg-dump 1\nname KNvK\nkind wdl\nend 000102030405060708090a0b0c0d0e0f\npart a order 00 men 6622ee\nsub a 0\nvalues 9223372036854775807\n";
+    check_line(&rt, text, 8, DumpFault::Ended);
+}
+
 #[test]
 fn lines_of_values_that_are_refused(rt: HostRuntime) -> Result<(), Fail> {
     let number = behind_front(rt.alloc(), b"values 031332\n")?;
@@ -115,5 +124,35 @@ fn lines_of_values_that_are_refused(rt: HostRuntime) -> Result<(), Fail> {
     check_line(&rt, &run, 8, DumpFault::Run);
     let length = behind_front(rt.alloc(), b"values 31331\n")?;
     check_refused(&rt, &length, DumpReadFault::Build(BuildFault::Length(0)));
+    Ok(())
+}
+
+/// The table's dump is taken, written and read back; any of it may be refused for want of memory.
+fn check_memory(rt: &(impl Abort + Alloc<A = Global>), table: &Table) {
+    let Ok(dump) = Dump::of(rt.alloc(), table) else {
+        return;
+    };
+    let mut output = Std::new(Vec::new(rt.alloc()));
+    if write_dump(&dump, 2, &mut output).is_err() {
+        return;
+    }
+    match read_dump(rt.alloc(), &mut Bytes::new(output.inner().as_slice())) {
+        Ok(same) => assert!(rt; same.lists.len() == dump.lists.len()),
+        Err(fault) => assert!(rt; fault == DumpReadFault::Memory),
+    }
+}
+
+/// To be run with each allocation refused in turn: nothing but want of memory is answered.
+#[test]
+fn refused_growths_are_want_of_memory(rt: HostRuntime) -> Result<(), Fail> {
+    let Ok(files) = fixtures_of_all_sections(rt.alloc()) else {
+        return Ok(());
+    };
+    for file in &files {
+        match answer(rt.alloc(), file)? {
+            Ok(table) => check_memory(&rt, &table),
+            Err(fault) => assert!(rt; fault == ReadFault::Memory),
+        }
+    }
     Ok(())
 }

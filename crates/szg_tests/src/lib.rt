@@ -25,6 +25,8 @@ mod files;
 #[cfg(test)]
 mod fixtures;
 #[cfg(test)]
+mod hostile;
+#[cfg(test)]
 mod lookups;
 #[cfg(test)]
 mod pairs;

@@ -38,7 +38,7 @@ fn looked_up<S: Source + Drop>(
 }
 
 /// The table of a file, over a source that fails at this call.
-fn opened<'a>(
+pub fn opened<'a>(
     rt: &(impl Abort + Alloc<A = Global>),
     file: &'a Fixture,
     fails_at: u64,
@@ -102,17 +102,19 @@ fn files_of_all_sections_are_opened(rt: HostRuntime) -> Result<(), Fail> {
     Ok(())
 }
 
-/// The values by the source are the table's. The file was read at once, and each value of side 0 asks for a block of 32
-/// bytes; side 1 is constant, and asks for none.
+/// The values by the source are the table's. The file's 123 blocks were read together, and each value of side 0 asks for a
+/// block of 32 bytes; side 1 is constant, and asks for none.
 fn check_values(rt: &(impl Abort + Alloc<A = Global>), file: &Fixture) -> Result<(), Fail> {
     let table = accepted(rt, file, &[])?;
     let mut opened = opened(rt, file, 0)?;
+    let calls = opened.source().calls();
+    assert!(rt; calls < 32);
     for i in 0..31332 {
         let found = looked_up(rt, &mut opened, 0, i);
         assert!(rt; found == Ok(value(rt, &table, 0, i)), "at {i}");
         let source = opened.source();
         assert!(rt;
-            source.calls() == i + 2 && source.last_length() == 32,
+            source.calls() == calls + i + 1 && source.last_length() == 32,
             "at {i}"
         );
     }
@@ -120,7 +122,7 @@ fn check_values(rt: &(impl Abort + Alloc<A = Global>), file: &Fixture) -> Result
         let found = looked_up(rt, &mut opened, 1, i);
         assert!(rt; found == Ok(value(rt, &table, 1, i)), "at {i}");
     }
-    assert!(rt; opened.source().calls() == 31333);
+    assert!(rt; opened.source().calls() == calls + 31332);
     Ok(())
 }
 
@@ -146,7 +148,7 @@ fn places_of_blocks(rt: HostRuntime) -> Result<(), Fail> {
     Ok(())
 }
 
-/// The file is read in three pieces, and its one block at once; a fault is told, and the next call is answered.
+/// A fault is told, and the next call is answered; a look-up asks for its one block at once.
 #[test]
 fn a_source_that_fails_once(rt: HostRuntime) -> Result<(), Fail> {
     let file = fixtures::kqvk_wdl_one_block(rt.alloc())?;
@@ -157,41 +159,99 @@ fn a_source_that_fails_once(rt: HostRuntime) -> Result<(), Fail> {
     };
     assert!(rt; source.calls() == 3);
     assert!(rt; open(rt.alloc(), material(&file)?, file.kind, source).is_ok());
-    let mut opened = opened(&rt, &file, 4)?;
+    let calls = opened(&rt, &file, 0)?.source().calls();
+    assert!(rt; calls < 32);
+    let mut opened = opened(&rt, &file, calls + 1)?;
     assert!(rt; looked_up(&rt, &mut opened, 0, 31331) == Err(SourceFault));
     assert!(rt; looked_up(&rt, &mut opened, 0, 31331) == Ok(4));
     let source = opened.source();
-    assert!(rt; source.calls() == 5 && source.last_length() == 131072);
+    assert!(rt; source.calls() == calls + 2 && source.last_length() == 131072);
     Ok(())
 }
 
-/// Over a source of these bytes a table of the file's name is refused at this place.
+/// A source of bytes in memory that has no more than its first `told` bytes to tell: where it is asked for others, it fails.
+#[derive(Drop)]
+struct Beginning<'a> {
+    image: Image<'a>,
+    told: u64,
+    failed: u64,
+}
+
+impl<'a> Beginning<'a> {
+    /// A source of these bytes that tells the first so many of them.
+    fn new(bytes: &'a [u8], told: u64) -> Beginning<'a> {
+        Beginning {
+            image: Image::new(bytes),
+            told,
+            failed: 0,
+        }
+    }
+}
+
+impl<'a> Source for Beginning<'a> {
+    ghost content = { λ beginning. beginning.image.content };
+
+    ghost failed = { λ beginning. beginning.failed };
+
+    ghost asked = { λ beginning. beginning.image.asked };
+
+    fn len(&self) -> u64 {
+        self.image.len()
+    }
+
+    fn read_at(&mut self, at: u64, out: &mut [u8]) -> Result<usize, SourceFault> {
+        let last = at.saturating_add(out.len() as u64);
+        let answer = self.image.read_at(at, out);
+        if last <= self.told {
+            return answer;
+        }
+        self.failed = self.failed.saturating_add(1);
+        Err(SourceFault)
+    }
+}
+
+/// Behind each table stands a byte that the source fails to tell.
+#[test]
+fn no_byte_behind_a_table_is_asked_for(rt: HostRuntime) -> Result<(), Fail> {
+    for file in &fixtures_of_all_sections(rt.alloc())? {
+        let mut bytes = file.bytes.clone()?;
+        bytes.push(0)?;
+        let source = Beginning::new(&bytes, file.bytes.len() as u64);
+        assert!(rt; open(rt.alloc(), material(file)?, file.kind, source).is_ok());
+    }
+    Ok(())
+}
+
+/// Over a source of these bytes, which fails behind the first so many, a table of the file's name is refused at this place.
 fn check_not_opened(
     rt: &(impl Abort + Alloc<A = Global>),
     file: &Fixture,
     bytes: &[u8],
+    told: u64,
     place: u64,
     reason: Reason,
 ) -> Result<(), Fail> {
-    match open(rt.alloc(), material(file)?, file.kind, Image::new(bytes)) {
+    let source = Beginning::new(bytes, told);
+    match open(rt.alloc(), material(file)?, file.kind, source) {
         Ok(_) => panic!(rt; "it is opened"),
         Err((fault, _)) => assert!(rt; fault == OpenFault::Refused { place, reason }, "at {place}"),
     }
     Ok(())
 }
 
+/// No byte is asked for behind the field whose check fails, which ends at `told`.
 #[test]
 fn changed_files_are_not_opened(rt: HostRuntime) -> Result<(), Fail> {
     let file = fixtures::kqvk_wdl_unpaired(rt.alloc())?;
-    for (at, byte, place, reason) in [
-        (0, 0x70, 0, Reason::Magic),
-        (11, 0x13, 11, Reason::BlockBits),
-        (25, 0x00, 24, Reason::Child),
-        (282, 0x62, 38, Reason::ShortTotal),
-        (36, 0x9d, 32, Reason::SparseEntry),
+    for (at, byte, told, place, reason) in [
+        (0, 0x70, 4, 0, Reason::Magic),
+        (11, 0x13, 12, 11, Reason::BlockBits),
+        (25, 0x00, 30, 24, Reason::Child),
+        (282, 0x62, 286, 38, Reason::ShortTotal),
+        (36, 0x9d, 286, 32, Reason::SparseEntry),
     ] {
         let other = changed(rt.alloc(), &file, &[(at, byte)])?;
-        check_not_opened(&rt, &other, &other.bytes, place, reason)?;
+        check_not_opened(&rt, &other, &other.bytes, told, place, reason)?;
     }
     Ok(())
 }
@@ -199,7 +259,8 @@ fn changed_files_are_not_opened(rt: HostRuntime) -> Result<(), Fail> {
 /// Each beginning of the file is refused at its end.
 fn check_cuts(rt: &(impl Abort + Alloc<A = Global>), file: &Fixture) -> Result<(), Fail> {
     for n in 0..file.bytes.len() {
-        check_not_opened(rt, file, &file.bytes[..n], n as u64, Reason::Truncated)?;
+        let place = n as u64;
+        check_not_opened(rt, file, &file.bytes[..n], place, place, Reason::Truncated)?;
     }
     Ok(())
 }

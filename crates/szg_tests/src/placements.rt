@@ -3,10 +3,11 @@
 
 use crate::files::{accepted, material};
 use crate::fixtures;
+use crate::lookups::opened;
 use crate::standing::placement;
 use std::process::Abort;
 use std::test::Fail;
-use szg_block::{Image, Source, Watch};
+use szg_block::{Image, Source};
 use szg_file::{Opened, Table, open};
 use szg_place::{
     OpenedProbeFault, PlaceFault, Prepared, ProbeFault, index_of, index_of_opened, placement_of,
@@ -167,21 +168,20 @@ fn distances_by_a_source(rt: HostRuntime) -> Result<(), Fail> {
     Ok(())
 }
 
-/// The file is read at once. Its source fails at the next call, and the one behind it is answered.
+/// The source fails at the first call behind those that open the file, and answers the one behind it.
 #[test]
 fn a_source_that_fails_once_under_a_placement(rt: HostRuntime) -> Result<(), Fail> {
     let file = fixtures::kqvk_wdl_unpaired(rt.alloc())?;
-    let source = Watch::new(Image::new(&file.bytes), 2);
-    let Ok(mut opened) = open(rt.alloc(), material(&file)?, file.kind, source) else {
-        panic!(rt; "it is not opened");
-    };
+    let calls = opened(&rt, &file, 0)?.source().calls();
+    assert!(rt; calls < 32);
+    let mut opened = opened(&rt, &file, calls + 1)?;
     let placement = placement(&rt, White, "Ke8 Qa1 kh1");
-    assert!(rt; index_of_opened(&opened, &placement).is_ok() && opened.source().calls() == 1);
+    assert!(rt; index_of_opened(&opened, &placement).is_ok() && opened.source().calls() == calls);
     assert!(rt; opened.kind() == Kind::Wdl);
     assert!(rt; probe_wdl_opened(&mut opened, &placement) == Err(OpenedProbeFault::Source));
     assert!(rt; opened.kind() == Kind::Wdl);
     assert!(rt; probe_wdl_opened(&mut opened, &placement) == Ok(Some(2)));
-    assert!(rt; opened.source().calls() == 3);
+    assert!(rt; opened.source().calls() == calls + 2);
     Ok(())
 }
 

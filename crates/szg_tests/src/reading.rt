@@ -213,22 +213,24 @@ fn check_failing_call(
     let mut input = Cut::new(Std::new(file.bytes.as_slice()), 1, 0, call);
     let fault = read(rt.alloc(), material, file.kind, &mut input).err();
     let left = input.inner().inner().len() as u64;
-    assert!(rt; left.wrapping_add(call) == 81, "at call {call}");
+    let behind = file.bytes.len() as u64 + 1;
+    assert!(rt; left.wrapping_add(call) == behind, "at call {call}");
     let waiting = input.take(&mut [0]) == Err(IoFault::Failed);
     let wanted = if waiting {
         fault == None
     } else {
         fault == Some(ReadFault::Device)
     };
-    assert!(rt; wanted && waiting == (call == 81), "at call {call}");
+    assert!(rt; wanted && waiting == (call == behind), "at call {call}");
     Ok(())
 }
 
 #[test]
 fn readers_that_fail(rt: HostRuntime) -> Result<(), Fail> {
-    let file = fixtures::knvk_wdl_constant(rt.alloc())?;
-    for call in 1..=81 {
-        check_failing_call(&rt, &file, call)?;
+    for file in &fixtures_of_all_sections(rt.alloc())? {
+        for call in 1..=file.bytes.len() as u64 + 1 {
+            check_failing_call(&rt, file, call)?;
+        }
     }
     Ok(())
 }

@@ -1,7 +1,6 @@
 //! Files written to writers that take little, or fail.
 
-use crate::files::answer;
-use crate::fixtures;
+use crate::files::{answer, fixtures_of_all_sections};
 use std::alloc::Global;
 use std::io::{Error, ErrorKind, Write};
 use std::process::Abort;
@@ -47,12 +46,13 @@ fn check_narrow(rt: &(impl Abort + Alloc<A = Global>), table: &Table, bytes: &[u
 
 #[test]
 fn writers_that_fail(rt: HostRuntime) -> Result<(), Fail> {
-    let file = fixtures::knvk_wdl_constant(rt.alloc())?;
-    let table = answer(rt.alloc(), &file)??;
-    for room in 0..80 {
-        check_narrow(&rt, &table, &file.bytes, room);
+    for file in &fixtures_of_all_sections(rt.alloc())? {
+        let table = answer(rt.alloc(), file)??;
+        for room in 0..file.bytes.len() {
+            check_narrow(&rt, &table, &file.bytes, room);
+        }
+        let mut full = Cut::new(Std::new(Vec::new(rt.alloc())), 0, 0, 0);
+        assert!(rt; write(&table, &mut full) == Err(WriteFault { out: 0 }));
     }
-    let mut full = Cut::new(Std::new(Vec::new(rt.alloc())), 0, 0, 0);
-    assert!(rt; write(&table, &mut full) == Err(WriteFault { out: 0 }));
     Ok(())
 }

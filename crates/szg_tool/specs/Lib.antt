@@ -2,5 +2,6 @@ pub mod Outcome
 pub mod Men
 pub mod Answers
 pub mod Builds
+pub mod RefusalLines
 pub mod Requests
 pub mod Refusals

@@ -14,7 +14,7 @@ use Rattle.szg_tool.specs.declared.request.Class.{Class}
 use Rattle.szg_tool.specs.declared.refusal.Refusal.{Refusal}
 use Rattle.szg_tool.specs.declared.refusal.Refusal.TheVariants as why
 use Rattle.szg_tool.specs.declared.request.Action.{Action}
-use Rattle.szg_tool.specs.declared.request.Action.TheVariants.{Check, Show, Get, GetCounted, Values, Copy, Dump, Index, Probe, Placement, Unplaced}
+use Rattle.szg_tool.specs.declared.request.Action.TheVariants.{Get, GetCounted, Values, Index, Probe, Placement, Unplaced}
 
 -- how many positions a part and side have, where they are there
 abbrev pub size_at : Contents → ℕ → ℕ → Option ℕ

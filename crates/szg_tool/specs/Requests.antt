@@ -1,5 +1,5 @@
 -- What carrying a task out does to the reader and to the writer.
-use Rattle.std.specs.Prelude.{◌≡◌, ◌⊎◌, List, [], ◌∷◌, ◌++◌, codes, ℕ, Option, Some, None, Result, Ok, Err}
+use Rattle.std.specs.Prelude.{◌≡◌, ◌⊎◌, List, ℕ, Option, Some, None, Result, Ok, Err}
 use Rattle.szg_io.specs.Moved.{Takes, Gives}
 use Rattle.szg_io.specs.declared.device.Input as input
 use Rattle.szg_io.specs.declared.device.Output as output
@@ -13,6 +13,7 @@ use Rattle.szg_file.specs.Reading.{IsRefusal}
 use Rattle.szg_file.specs.declared.fault.Reason.{Reason}
 use Rattle.szg_tool.specs.Answers.{IsAnswer}
 use Rattle.szg_tool.specs.Builds.{IsMade, IsUnmade}
+use Rattle.szg_tool.specs.RefusalLines.{refusal_line}
 use Rattle.szg_tool.specs.Refusals.{IsRefused}
 use Rattle.szg_tool.specs.declared.refusal.Refusal.{Refusal}
 use Rattle.szg_tool.specs.declared.refusal.Refusal.TheVariants as why
@@ -84,15 +85,9 @@ abbrev pub Meets : {R : Type 0} → input.Ghosts R → Task → R → R → Refu
 Meets reading (OnTable request) reader reader' refusal = IsUnread reading request reader reader' refusal ⊎ IsRefusedOf reading request reader reader' refusal
 Meets reading (Build sizes) reader reader' refusal = IsUnmade reading sizes reader reader' refusal
 
--- the line that tells a refusal
-abbrev pub IsRefusalLine : List ℕ → Type 0
-IsRefusalLine text = (reason : List ℕ) × (text ≡ codes "refused " ++ (reason ++ 10 ∷ []))
-
 -- The task meets a refusal, and just its line was given to the writer.
 pub record IsRefusedWith {R W : Type 0} (reading : input.Ghosts R) (writing : output.Ghosts W) (task : Task)
     (reader reader' : R) (writer writer' : W) : Type 0 where
   pub refusal : Refusal
   pub met : Meets reading task reader reader' refusal
-  pub text : List ℕ
-  pub line : IsRefusalLine text
-  pub given : Gives writing writer writer' text 0
+  pub given : Gives writing writer writer' (refusal_line refusal) 0

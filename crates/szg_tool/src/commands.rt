@@ -1,11 +1,12 @@
-ghost use Rattle.std.specs.Prelude.{◌≡◌, ℕ, ◌⊎◌, List, None, OnOk, IfOk, IsErrOf, string_bytes};
+ghost use Rattle.std.specs.Prelude.{◌≡◌, ℕ, ◌⊎◌, List, None, OnOk, IfOk, IsErrOf};
 ghost use Rattle.szg_io.specs.Device.{HasFailed};
 ghost use Rattle.szg_io.specs.Moved.{Gives, Takes};
 ghost use Rattle.szg_file.specs.Held.{file_bytes};
 ghost use Rattle.szg_tool.specs.Answers.{IsAnswer, IsDumpText};
 ghost use Rattle.szg_tool.specs.Outcome.{OnDone, OnRefused, OnWords};
+ghost use Rattle.szg_tool.specs.RefusalLines.{refusal_line};
 ghost use Rattle.szg_tool.specs.Refusals.{IsRefused};
-ghost use Rattle.szg_tool.specs.Requests.{IsAnswered, IsCarriedOut, IsRefusalLine, IsRefusedWith, IsTableOf, IsUnread, IsRefusedOf, Meets, unplaced_refusal};
+ghost use Rattle.szg_tool.specs.Requests.{IsAnswered, IsCarriedOut, IsRefusedWith, IsTableOf, IsUnread, IsRefusedOf, Meets, unplaced_refusal};
 ghost use Rattle.szg_tool.specs.declared.refusal.Refusal.{Refusal};
 ghost use Rattle.szg_tool.specs.declared.request.Task.{Task};
 
@@ -15,10 +16,11 @@ use crate::lookups::{tell_counted, tell_value, tell_values};
 use crate::outcome::Outcome;
 use crate::placements::{tell_outcome, tell_placement, tell_spot};
 use crate::refusal::{Refusal, Stop};
+use crate::refusal_lines::refusal_line;
 use crate::request::{Action, Form, Request, Task, parse};
 use crate::saying::say;
 use clap::error::ErrorKind;
-use std::alloc::{AllocError, Global};
+use std::alloc::Global;
 use szg_build::{Dump, write_dump};
 use szg_file::{ReadFault, Table, file_len, read, write};
 use szg_io::{Input, Output};
@@ -39,7 +41,7 @@ pub fn run<R: Input, W: Output>(
     // A request was answered: just the file of an accepted table was read, and just its answer was written. Or a table
     // was built: just the text of a dump was read, and just the file of an accepted table that is built of it was written.
     ensures told { OnDone result ((task : Task) × IsCarriedOut R.Input W.Output task reader.old reader.new writer.old writer.new) }
-    // It was refused: it meets a refusal, and just the line that tells one was written.
+    // It was refused: it meets a refusal, and just the line that tells this one was written.
     ensures refused { OnRefused result ((task : Task) × IsRefusedWith R.Input W.Output task reader.old reader.new writer.old writer.new) }
     ensures words { OnWords result ((reader.new ≡ reader.old) × (writer.new ≡ writer.old)) }
     // Whatever the outcome: bytes were taken with at most 1,001 calls for each of them and for one more.
@@ -67,7 +69,7 @@ pub fn run<R: Input, W: Output>(
 /// Writes why a command is refused.
 fn refuse<W: Output>(alloc: Global, refusal: Refusal, writer: &mut W) -> Outcome
     ensures done { OnDone result ⊥ }
-    ensures refused { OnRefused result ((text : List ℕ) × IsRefusalLine text × Gives W.Output writer.old writer.new text 0) }
+    ensures refused { OnRefused result (Gives W.Output writer.old writer.new (refusal_line refusal) 0) }
     ensures words { OnWords result ⊥ }
     ensures device { (result ≡ Outcome.Device) → HasFailed (W.failures writer.old) (W.failures writer.new) (W.interrupted writer.new) }
 {
@@ -78,14 +80,6 @@ fn refuse<W: Output>(alloc: Global, refusal: Refusal, writer: &mut W) -> Outcome
         Ok(()) => Outcome::Refused,
         Err(_) => Outcome::Device,
     }
-}
-
-/// The line that tells a refusal.
-fn refusal_line(alloc: Global, refusal: Refusal) -> Result<String, AllocError>
-    ensures { IfOk result (λ line. IsRefusalLine (string_bytes line)) }
-{
-    let reason = format!(in alloc; "{refusal}")?;
-    format!(in alloc; "refused {reason}\n")
 }
 
 /// Does what is asked for, or tells why not; where it is refused nothing was written.

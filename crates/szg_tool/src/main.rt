@@ -2,13 +2,16 @@
 #![tactic(auto)]
 
 mod building;
+mod command_line;
 mod commands;
 mod description;
 mod lookups;
 mod men;
+mod numbers;
 mod outcome;
 mod placements;
 mod refusal;
+mod refusal_lines;
 mod request;
 mod saying;
 #[cfg(test)]

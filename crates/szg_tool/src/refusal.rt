@@ -1,5 +1,4 @@
 use std::alloc::{AllocError, AllocFailed};
-use std::fmt;
 use szg_build::{BuildFault, DumpFault};
 use szg_file::{MapFault, Reason};
 use szg_place::PlaceFault;
@@ -28,23 +27,6 @@ pub enum Refusal {
     Place(PlaceFault),
     /// The table has no number for the placement in the class.
     Map(MapFault),
-}
-
-impl fmt::Display for Refusal {
-    fn fmt<W: fmt::Write>(&self, f: &mut fmt::Formatter<W>) -> fmt::Result {
-        match self {
-            Refusal::Name(fault) => write!(f, "name: {fault}"),
-            Refusal::Man => write!(f, "man"),
-            Refusal::Placement(fault) => write!(f, "placement: {fault}"),
-            Refusal::At(place, reason) => write!(f, "at {place}: {reason}"),
-            Refusal::Line(line, fault) => write!(f, "line {line}: {fault}"),
-            Refusal::Build(fault) => write!(f, "build: {fault}"),
-            Refusal::Part => write!(f, "part"),
-            Refusal::Index => write!(f, "index"),
-            Refusal::Place(fault) => write!(f, "place: {fault}"),
-            Refusal::Map(fault) => write!(f, "map: {fault}"),
-        }
-    }
 }
 
 /// Why a command wasn't carried out.

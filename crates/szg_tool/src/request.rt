@@ -1,11 +1,14 @@
-ghost use Rattle.std.specs.Prelude.{◌≡◌, ◌⊎◌, ◌≤◌, IfSome};
+ghost use Rattle.std.specs.Prelude.{◌≡◌, ◌⊎◌};
 ghost use Rattle.szg_tool.specs.Answers.{number_of_class, number_of_form};
 
+use crate::command_line::{command_of, program};
 use crate::men::placement_in;
+use crate::numbers::{
+    BLOCK, FORM, INDEX, NumberArgument, NumberFault, ROUNDS, SIDE, SPAN, number_of,
+};
 use crate::refusal::Refusal;
-use clap::builder::ValueRange;
 use clap::error::ErrorKind;
-use clap::{Arg, ArgAction, ArgMatches, Command, Error};
+use clap::{ArgMatches, Error};
 use std::alloc::{AllocError, Global};
 use szg_values::{Color, Kind, Placement};
 
@@ -111,11 +114,8 @@ pub struct Request<'a> {
 /// The program's name, where no word is given.
 static ALONE: [&str; 1] = ["szg"];
 
-static KINDS: [&str; 2] = ["wdl", "dtz"];
-
-static MOVERS: [&str; 2] = ["w", "b"];
-
-static CLASSES: [&str; 5] = ["win", "cursed", "draw", "blessed", "loss"];
+/// The end of `clap`'s texts of errors.
+const HINT: &str = "\n\nFor more information, try '--help'.\n";
 
 /// The letters of the parts.
 pub static PARTS: [&str; 4] = ["a", "b", "c", "d"];
@@ -123,255 +123,115 @@ pub static PARTS: [&str; 4] = ["a", "b", "c", "d"];
 /// The words of a command.
 pub fn parse<'a>(alloc: Global, words: &'a [&'a str]) -> Result<Task<'a>, Error> {
     let words = if words.is_empty() { &ALONE[..] } else { words };
-    let matches = program(alloc)?.try_get_matches_from(words)?;
-    match task_in(&matches) {
-        Some(task) => Ok(task),
-        None => Err(number_fault(program(alloc)?)?),
+    let matches = match program(alloc)?.try_get_matches_from(words) {
+        Ok(matches) => matches,
+        Err(error) => return Err(with_usage(alloc, words, error)?),
+    };
+    let Some((command, chosen)) = matches.subcommand() else {
+        return Err(program(alloc)?.error(ErrorKind::MissingSubcommand, "a command is missing")?);
+    };
+    match task_in(command, chosen) {
+        Ok(task) => Ok(task),
+        Err(fault) => Err(number_error(alloc, command, fault)?),
     }
 }
 
-/// The fault of a number that isn't one.
-fn number_fault(mut program: Command<'_>) -> Result<Error, AllocError> {
-    program.error(
-        ErrorKind::ValueValidation,
-        "an INDEX is a number below 2^63, a side is 0 or 1, a form 1 or 2, the bits of a block 5 to 10, of a span 1 to 16, the rounds at most 4000",
-    )
+/// An error of a word that is none of its argument's values, with its command's usage, which `clap` leaves out; any
+/// other error as it is.
+fn with_usage(alloc: Global, words: &[&str], error: Error) -> Result<Error, AllocError> {
+    if !matches!(error.kind(), ErrorKind::InvalidValue) {
+        return Ok(error);
+    }
+    let text = format!(in alloc; "{error}")?;
+    let Some(message) = message_in(text.as_str()) else {
+        return Ok(error);
+    };
+    match words.get(1) {
+        Some(command) => usage_error(alloc, command, ErrorKind::InvalidValue, message),
+        None => Ok(error),
+    }
 }
 
-/// The command line: a command and its words.
-fn program<'a>(alloc: Global) -> Result<Command<'a>, AllocError> {
-    let program = add_readers(alloc, described(alloc)?)?;
-    let program = add_look_ups(alloc, program)?;
-    let program = add_placements(alloc, program)?;
-    let program = add_writers(alloc, program)?;
-    add_builder(alloc, program)
+/// The message in an error's text, between its first word and the hint at its end.
+fn message_in(text: &str) -> Option<&str> {
+    text.strip_prefix("error: ")?.strip_suffix(HINT)
 }
 
-/// The program before its commands.
-fn described<'a>(alloc: Global) -> Result<Command<'a>, AllocError> {
-    let program = Command::new(alloc, "szg").bin_name("szg")?.version("0.1.0");
-    let program = program.about(
-        "Checks, shows, copies, dumps and builds Syzygy table files, and looks values and placements up in them. Reads the file, or the dump, from standard input.",
-    );
-    Ok(
-        program
-            .subcommand_required(true)
-            .arg_required_else_help(true),
-    )
-}
-
-/// The commands that tell of a whole file.
-fn add_readers<'a>(alloc: Global, program: Command<'a>) -> Result<Command<'a>, AllocError> {
-    let check = on_table(
-        alloc,
-        "check",
-        "Reads a file and every check: prints its length",
+/// What is told of a word that is none of its argument's numbers.
+fn number_error(alloc: Global, command: &str, fault: NumberFault<'_>) -> Result<Error, AllocError> {
+    let NumberArgument {
+        shown,
+        least,
+        greatest,
+        ..
+    } = fault.argument;
+    let word = fault.word;
+    let message = format!(in alloc;
+        "invalid value '{word}' for '{shown}': not a number from {least} to {greatest}"
     )?;
-    let show = on_table(alloc, "show", "Prints what a file holds but its values")?;
-    program.subcommand(check)?.subcommand(show)
+    usage_error(alloc, command, ErrorKind::ValueValidation, message.as_str())
 }
 
-/// The commands that write a whole table.
-fn add_writers<'a>(alloc: Global, program: Command<'a>) -> Result<Command<'a>, AllocError> {
-    let copy = on_table(alloc, "copy", "Reads a file and writes it back")?;
-    let dump = on_table(alloc, "dump", "Prints a table as text")?.arg(form_option(alloc))?;
-    program.subcommand(copy)?.subcommand(dump)
-}
-
-/// The command that builds a table of a dump.
-fn add_builder<'a>(alloc: Global, program: Command<'a>) -> Result<Command<'a>, AllocError> {
-    let build = Command::new(alloc, "build").about("Reads a dump and writes its table's file");
-    let build = build.arg(block_option(alloc))?.arg(span_option(alloc))?;
-    program.subcommand(build.arg(rounds_option(alloc))?)
-}
-
-/// The commands that tell of the values of one subtable.
-fn add_look_ups<'a>(alloc: Global, program: Command<'a>) -> Result<Command<'a>, AllocError> {
-    let get = on_side(alloc, "get", "Prints the value at an index")?.arg(word(alloc, "INDEX"))?;
-    let get = get.arg(steps_flag(alloc))?;
-    let values = on_side(alloc, "values", "Prints each value of a subtable on a line")?;
-    program.subcommand(get)?.subcommand(values)
-}
-
-/// The commands on placements.
-fn add_placements<'a>(alloc: Global, program: Command<'a>) -> Result<Command<'a>, AllocError> {
-    let index = on_placement(alloc, "index", "Prints where a table tells of a placement")?;
-    let probe = on_placement(alloc, "probe", "Prints what a table tells of a placement")?;
-    let probe = probe.arg(class_option(alloc))?;
-    let placement = on_side(alloc, "placement", "Prints the placement of an index")?;
-    let placement = placement.arg(word(alloc, "INDEX"))?;
-    let program = program.subcommand(index)?.subcommand(probe)?;
-    program.subcommand(placement)
-}
-
-/// A required word.
-fn word<'a>(alloc: Global, id: &'a str) -> Arg<'a> {
-    Arg::new(alloc, id).required(true).action(ArgAction::Set)
-}
-
-/// A command on a table of a name and a kind.
-fn on_table<'a>(alloc: Global, name: &'a str, about: &'a str) -> Result<Command<'a>, AllocError> {
-    let command = Command::new(alloc, name).about(about);
-    command.arg(name_word(alloc))?.arg(kind_word(alloc))
-}
-
-/// The table's name.
-fn name_word<'a>(alloc: Global) -> Arg<'a> {
-    word(alloc, "NAME").help("The material, as KQvKR")
-}
-
-/// The table's kind.
-fn kind_word<'a>(alloc: Global) -> Arg<'a> {
-    word(alloc, "KIND")
-        .value_parser(&KINDS[..])
-        .help("wdl or dtz")
-}
-
-/// A command on one subtable of a table.
-fn on_side<'a>(alloc: Global, name: &'a str, about: &'a str) -> Result<Command<'a>, AllocError> {
-    let command = on_table(alloc, name, about)?;
-    command.arg(part_option(alloc))?.arg(side_option(alloc))
-}
-
-/// A command on a placement.
-fn on_placement<'a>(
+/// An error with the usage of a command.
+fn usage_error(
     alloc: Global,
-    name: &'a str,
-    about: &'a str,
-) -> Result<Command<'a>, AllocError> {
-    let command = on_table(alloc, name, about)?;
-    command.arg(mover_word(alloc))?.arg(men_words(alloc))
+    command: &str,
+    kind: ErrorKind,
+    message: &str,
+) -> Result<Error, AllocError> {
+    let name = format!(in alloc; "szg {command}")?;
+    let mut command = command_of(alloc, command)?.bin_name(name.as_str())?;
+    command.error(kind, message)
 }
 
-/// Who moves.
-fn mover_word<'a>(alloc: Global) -> Arg<'a> {
-    word(alloc, "MOVER")
-        .value_parser(&MOVERS[..])
-        .help("w or b: who moves")
-}
-
-/// The men, one or more words.
-fn men_words<'a>(alloc: Global) -> Arg<'a> {
-    Arg::new(alloc, "MAN")
-        .required(true)
-        .action(ArgAction::Append)
-        .num_args(ValueRange::from(1usize..))
-        .help("A man's letter, upper case for White, and a square, as Ke1")
-}
-
-/// The class in which a DTZ table is asked.
-fn class_option<'a>(alloc: Global) -> Arg<'a> {
-    option(alloc, "class", "win")
-        .value_parser(&CLASSES[..])
-        .help("The class that the placement has: a DTZ table is asked in it")
-}
-
-/// An option with a value, which has a default.
-fn option<'a>(alloc: Global, id: &'a str, default: &'a str) -> Arg<'a> {
-    Arg::new(alloc, id)
-        .long(id)
-        .action(ArgAction::Set)
-        .default_value(default)
-}
-
-/// The part of a table.
-fn part_option<'a>(alloc: Global) -> Arg<'a> {
-    option(alloc, "part", "a").value_parser(&PARTS[..]).help(
-        "The part: the lead pawn's files a and h, b and g, c and f, d and e",
-    )
-}
-
-/// The side of a part.
-fn side_option<'a>(alloc: Global) -> Arg<'a> {
-    option(alloc, "side", "0").help(
-        "0 or 1: in a WDL table with two sides, 0 is where the name's first side moves",
-    )
-}
-
-/// The form of a dump.
-fn form_option<'a>(alloc: Global) -> Arg<'a> {
-    option(alloc, "form", "2").help("1 for a line a value, 2 for a line a run of equal values")
-}
-
-/// The bits of a block.
-fn block_option<'a>(alloc: Global) -> Arg<'a> {
-    option(alloc, "block", "6").help("A block has 2 to this power bytes, 5 to 10")
-}
-
-/// The bits of a span.
-fn span_option<'a>(alloc: Global) -> Arg<'a> {
-    option(alloc, "span", "12").help("An entry of the index serves 2 to this power values, 1 to 16")
-}
-
-/// The rounds of pairing.
-fn rounds_option<'a>(alloc: Global) -> Arg<'a> {
-    option(alloc, "rounds", "256").help("The most pairs of a dictionary, at most 4000")
-}
-
-/// Whether the steps to a value are told.
-fn steps_flag<'a>(alloc: Global) -> Arg<'a> {
-    Arg::new(alloc, "steps")
-        .long("steps")
-        .action(ArgAction::SetTrue)
-        .help("Also prints the steps by which the value is found")
-}
-
-/// The task that these words make; none where a number isn't one.
-fn task_in<'a>(matches: &ArgMatches<'a>) -> Option<Task<'a>> {
-    let (command, chosen) = matches.subcommand()?;
+/// The task that a command and its words make.
+fn task_in<'a>(command: &str, chosen: &ArgMatches<'a>) -> Result<Task<'a>, NumberFault<'a>> {
     if command == "build" {
-        return Some(Task::Build(sizes_of(chosen)?));
+        return Ok(Task::Build(sizes_in(chosen)?));
     }
-    Some(Task::OnTable(request_in(command, chosen)?))
+    Ok(Task::OnTable(request_in(command, chosen)?))
 }
 
-/// The sizes that the words tell; none where one is out of its range.
-fn sizes_of(chosen: &ArgMatches<'_>) -> Option<Sizes> {
-    let block_bits = within(number(chosen.get_str("block")?)?, 5, 10)?;
-    let span_bits = within(number(chosen.get_str("span")?)?, 1, 16)?;
-    let rounds = within(number(chosen.get_str("rounds")?)?, 0, 4000)?;
-    Some(Sizes {
-        block_bits: block_bits as u8,
-        span_bits: span_bits as u8,
-        rounds: rounds as u32,
+/// The sizes that the words tell.
+fn sizes_in<'a>(chosen: &ArgMatches<'a>) -> Result<Sizes, NumberFault<'a>> {
+    Ok(Sizes {
+        block_bits: number_of(chosen, BLOCK)? as u8,
+        span_bits: number_of(chosen, SPAN)? as u8,
+        rounds: number_of(chosen, ROUNDS)? as u32,
     })
 }
 
-/// A number from a least to a greatest; none for another.
-fn within(number: u64, least: u64, greatest: u64) -> Option<u64>
-    ensures { IfSome result (λ n. (least ≤ n) × (n ≤ greatest)) }
-{
-    if number < least || greatest < number {
-        None
-    } else {
-        Some(number)
-    }
-}
-
-/// What is asked of a table; none where a number isn't one.
-fn request_in<'a>(command: &str, chosen: &ArgMatches<'a>) -> Option<Request<'a>> {
-    let action = action_of(command, chosen)?;
-    let side = side_of(chosen)?;
-    let kind = kind_of(chosen.get_str("KIND")?);
-    Some(Request {
-        name: chosen.get_str("NAME")?,
-        kind,
+/// What is asked of a table.
+fn request_in<'a>(command: &str, chosen: &ArgMatches<'a>) -> Result<Request<'a>, NumberFault<'a>> {
+    let action = action_in(command, chosen)?;
+    let side = side_in(command, chosen)?;
+    Ok(Request {
+        name: chosen.get_str("NAME").unwrap_or(""),
+        kind: kind_of(chosen.get_str("KIND")),
         part: part_of(chosen.get_str("part")),
         side,
         action,
     })
 }
 
-/// What a command asks of a table; none where an index or a form isn't one.
-fn action_of(command: &str, chosen: &ArgMatches<'_>) -> Option<Action> {
-    Some(match command {
+/// The side that is asked, 0 for a command that asks for none.
+fn side_in<'a>(command: &str, chosen: &ArgMatches<'a>) -> Result<u8, NumberFault<'a>> {
+    match command {
+        "get" | "values" | "placement" => Ok(number_of(chosen, SIDE)? as u8),
+        _ => Ok(0),
+    }
+}
+
+/// What a command asks of a table.
+fn action_in<'a>(command: &str, chosen: &ArgMatches<'a>) -> Result<Action, NumberFault<'a>> {
+    Ok(match command {
         "check" => Action::Check,
         "show" => Action::Show,
-        "get" => look_up(number(chosen.get_str("INDEX")?)?, chosen),
+        "get" => look_up(number_of(chosen, INDEX)?, chosen),
         "values" => Action::Values,
-        "placement" => Action::Placement(number(chosen.get_str("INDEX")?)?),
-        "index" | "probe" => action_on_men(command, chosen)?,
-        "dump" => Action::Dump(form_of(number(chosen.get_str("form")?)?)?),
+        "placement" => Action::Placement(number_of(chosen, INDEX)?),
+        "index" | "probe" => action_on_men(command, chosen),
+        "dump" => Action::Dump(form_of(number_of(chosen, FORM)?)),
         _ => Action::Copy,
     })
 }
@@ -386,55 +246,42 @@ fn look_up(index: u64, chosen: &ArgMatches<'_>) -> Action {
 }
 
 /// What is asked of the placement that the words tell, or why they tell none.
-fn action_on_men(command: &str, chosen: &ArgMatches<'_>) -> Option<Action> {
-    let mover = mover_of(chosen.get_str("MOVER")?);
-    let placement = match placement_in(chosen.get_strs("MAN")?, mover) {
-        Ok(placement) => placement,
-        Err(refusal) => return Some(Action::Unplaced(refusal)),
-    };
-    Some(if command == "index" {
-        Action::Index(placement)
+fn action_on_men(command: &str, chosen: &ArgMatches<'_>) -> Action {
+    let mover = mover_of(chosen.get_str("MOVER"));
+    let men = chosen.get_strs("MAN").unwrap_or(&[]);
+    match placement_in(men, mover) {
+        Ok(placement) if command == "index" => Action::Index(placement),
+        Ok(placement) => Action::Probe(placement, class_of(chosen.get_str("class"))),
+        Err(refusal) => Action::Unplaced(refusal),
+    }
+}
+
+/// The kind of a word.
+fn kind_of(word: Option<&str>) -> Kind {
+    match word {
+        Some("wdl") => Kind::Wdl,
+        _ => Kind::Dtz,
+    }
+}
+
+/// The form of a number.
+fn form_of(number: u64) -> Form {
+    if number == 1 {
+        Form::Values
     } else {
-        Action::Probe(placement, class_of(chosen.get_str("class")))
-    })
-}
-
-/// The side: 0 where none is told, and none where it isn't 0 or 1.
-fn side_of(chosen: &ArgMatches<'_>) -> Option<u8> {
-    let Some(text) = chosen.get_str("side") else {
-        return Some(0);
-    };
-    match number(text)? {
-        0 => Some(0),
-        1 => Some(1),
-        _ => None,
+        Form::Runs
     }
 }
 
-/// The kind that a word of `KINDS` tells.
-fn kind_of(word: &str) -> Kind {
-    if word == "wdl" { Kind::Wdl } else { Kind::Dtz }
-}
-
-/// The form of a number, where it has one.
-fn form_of(number: u64) -> Option<Form> {
-    match number {
-        1 => Some(Form::Values),
-        2 => Some(Form::Runs),
-        _ => None,
+/// The mover of a word.
+fn mover_of(word: Option<&str>) -> Color {
+    match word {
+        Some("w") => Color::White,
+        _ => Color::Black,
     }
 }
 
-/// The mover that a word of `MOVERS` tells.
-fn mover_of(word: &str) -> Color {
-    if word == "w" {
-        Color::White
-    } else {
-        Color::Black
-    }
-}
-
-/// The class that a word of `CLASSES` tells; a win where there is none.
+/// The class of a word; a win where there is none.
 fn class_of(word: Option<&str>) -> Class {
     match word {
         Some("cursed") => Class::Cursed,
@@ -453,20 +300,4 @@ fn part_of(letter: Option<&str>) -> u8 {
         Some("d") => 3,
         _ => 0,
     }
-}
-
-/// The number below 2^63 that decimal digits tell, leading zeros among them; none for another text.
-fn number(text: &str) -> Option<u64> {
-    if text.is_empty() {
-        return None;
-    }
-    let mut value = 0u64;
-    'digits: for byte in text.as_bytes() {
-        if !byte.is_ascii_digit() {
-            return None;
-        }
-        let digit = (*byte - b'0') as u64;
-        value = value.checked_mul(10)?.checked_add(digit)?;
-    }
-    if value < 1 << 63 { Some(value) } else { None }
 }

@@ -3,6 +3,7 @@ mod dumps;
 mod fixtures;
 mod placements;
 mod shapes;
+mod words;
 
 use crate::commands::run;
 use crate::outcome::Outcome;

@@ -1,13 +1,15 @@
-use Rattle.std.proofs.Common.{ℕ, List, map}
+use Rattle.std.proofs.Common.{ℕ, ◌*◌, List, length, map, ap, arith}
 use Rattle.std.proofs.lemmas.Result.{err_from_is_err_and}
 use Rattle.szg_file.specs.Contents.{Part}
 use Rattle.szg_file.specs.Held.{part_of}
-use Rattle.szg_build.specs.Dump.{parts_of}
+use Rattle.szg_build.specs.Dump.{parts_of, places_of}
 use Rattle.szg_build.specs.Lines.{◌>>=◌}
 use Rattle.szg_build.specs.Grammar.{each, end_line, part_line}
 use Rattle.szg_build.specs.Shown.{dump_seen, form_of}
 use Rattle.szg_build.specs.Wholes.{dump_behind_parts}
-use Rattle.szg_build.proofs.ReadingLaws.{reads_then, reads_stopped}
+use Rattle.szg_build.proofs.ReadingLaws.{reads_then, reads_stopped, same_error}
+use Rattle.szg_build.proofs.LackLaws.{lacks_first, lacks_then}
+use Rattle.szg_build.proofs.LeastLaws.{asks_behind_parts}
 use Rattle.szg_build.proofs.dumpreading.read_behind_kind.Goals as goal
 
 pub returns-in_err-last-clause-lines : goal.returns-in_err-last-clause-lines
@@ -28,3 +30,23 @@ returns-clause-lines g c =
     reads_then end_line (λ last. each part_line (parts_of c.args.material) >>= λ parts. dump_behind_parts (form_of c.args.form) c.args.material c.args.kind last parts) (λ bytes. bytes) dump_seen c.in_ok-last.last c.in_ok-last.ensures.lines
     (reads_then (each part_line (parts_of c.args.material)) (λ parts. dump_behind_parts (form_of c.args.form) c.args.material c.args.kind c.in_ok-last.last parts) (λ parts. map part_of parts.items) dump_seen c.in_ok-parts.parts
     c.in_ok-parts.ensures.lines c.read_subs.ensures.lines)
+
+pub returns-in_err-last-clause-memory : goal.returns-in_err-last-clause-memory
+returns-in_err-last-clause-memory g c =
+    let p = err_from_is_err_and c.from_residual.result c.from_residual.ensures.1 in
+    rw (p.1, p.2) (λ e. absurd (c.in_err-last.ensures.memory (same_error e)))
+
+pub returns-in_err-parts-clause-memory : goal.returns-in_err-parts-clause-memory
+returns-in_err-parts-clause-memory g c =
+    let p = err_from_is_err_and c.from_residual-in_err-parts.result c.from_residual-in_err-parts.ensures.1 in
+    let form = form_of c.args.form in
+    let due : ℕ = 2 * length (places_of c.args.material c.args.kind) in
+    rw (p.1, p.2) (λ e. lacks_then end_line (λ last. each part_line (parts_of c.args.material) >>= λ parts. dump_behind_parts form c.args.material c.args.kind last parts) 0 (λ bytes. bytes) c.in_ok-last.last c.in_ok-last.ensures.lines
+    (lacks_first (each part_line (parts_of c.args.material)) (λ parts. dump_behind_parts form c.args.material c.args.kind c.in_ok-last.last parts) _ 0 due (omega (arith, ap length c.places.ensures.places))
+    (λ parts. asks_behind_parts form c.args.material c.args.kind c.in_ok-last.last parts) (c.in_err-parts.ensures.memory (same_error e))))
+
+pub returns-clause-memory : goal.returns-clause-memory
+returns-clause-memory g c = λ e.
+    lacks_then end_line (λ last. each part_line (parts_of c.args.material) >>= λ parts. dump_behind_parts (form_of c.args.form) c.args.material c.args.kind last parts) 0 (λ bytes. bytes) c.in_ok-last.last c.in_ok-last.ensures.lines
+    (lacks_then (each part_line (parts_of c.args.material)) (λ parts. dump_behind_parts (form_of c.args.form) c.args.material c.args.kind c.in_ok-last.last parts) 0 (λ parts. map part_of parts.items) c.in_ok-parts.parts
+    c.in_ok-parts.ensures.lines (c.read_subs.ensures.memory e))

@@ -1,4 +1,6 @@
+use Rattle.std.proofs.Common.{ℕ, List, ◌++◌, sym, subst}
 use Rattle.szg_build.specs.Grammar.{dump_format}
+use Rattle.szg_build.specs.Lacks.{StopsShort}
 use Rattle.szg_build.specs.Lines.{verdict}
 use Rattle.szg_build.specs.Shown.{FollowsLines}
 use Rattle.szg_build.proofs.ReadingLaws.{reads_told, reads_taken, reads_device}
@@ -19,3 +21,8 @@ returns-clause-device g c = (reads_device dump_format c.read_text.ensures.lines 
 
 pub returns-clause-quiet : goal.returns-clause-quiet
 returns-clause-quiet g c = (reads_device dump_format c.read_text.ensures.lines c.new-incoming.ensures.line).1
+
+pub returns-clause-memory : goal.returns-clause-memory
+returns-clause-memory g c = λ e.
+    let l = c.read_text.ensures.memory e in
+    (l.bytes, l.taken, subst (λ (z : List ℕ). StopsShort dump_format 0 0 (z ++ l.bytes)) c.new-incoming.ensures.held (l.short 0 (sym c.new-incoming.ensures.line)))

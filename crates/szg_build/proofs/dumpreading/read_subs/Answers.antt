@@ -1,4 +1,4 @@
-use Rattle.std.proofs.Common.{ℕ, suc, ◌≡◌, ◌+◌, ◌<◌, ◌≤◌, List, [], ◌∷◌, ◌++◌, length, map, option_map, get_or, ap, sym, refl, ◌∙◌, arith}
+use Rattle.std.proofs.Common.{ℕ, suc, ◌≡◌, ◌+◌, ◌-◌, ◌*◌, ◌<◌, ◌≤◌, List, [], ◌∷◌, ◌++◌, length, map, option_map, get_or, ap, sym, refl, ◌∙◌, arith}
 use Rattle.std.proofs.lemmas.Result.{err_from_is_err_and}
 use Rattle.szg_file.specs.Held.{part_of}
 use Rattle.szg_build.specs.Dump.{places_of}
@@ -7,6 +7,9 @@ use Rattle.szg_build.specs.Rests.{sub_told}
 use Rattle.szg_build.specs.Shown.{dump_seen, form_of}
 use Rattle.szg_build.proofs.GoingLaws.{goes_unheld}
 use Rattle.szg_build.proofs.WholeLaws.{are_more, none_read, same_dump, subs_begun, subs_more, subs_stopped, subs_ended}
+use Rattle.szg_build.proofs.LackLaws.{lacks_here}
+use Rattle.szg_build.proofs.LeastLaws.{asks_subs_left, lacks_subs}
+use Rattle.szg_build.proofs.ReadingLaws.{same_error}
 use Rattle.szg_build.proofs.dumpreading.read_subs.Goals as goal
 
 pub each-init : goal.each-init
@@ -60,3 +63,28 @@ returns-clause-lines g c =
     let v = c.each.invariant in
     subs_ended (form_of c.args.form) front.material front.kind front.last (map part_of front.parts.items) v.0 c.each.s dump_seen _
     (omega (arith, c.each-test.false, ap length c.places-places.ensures.places)) (same_dump front.material front.kind (map part_of front.parts.items) front.last c.each.subs v.0 v.1) v.2
+
+pub returns-in_err-sub-clause-memory : goal.returns-in_err-sub-clause-memory
+returns-in_err-sub-clause-memory g c =
+    let p = err_from_is_err_and c.from_residual.result c.from_residual.ensures.1 in
+    let front = c.args.front in
+    let v = c.each.invariant in
+    let same = c.places-places.ensures.places in
+    let few : c.each.s < length (places_of front.material front.kind) = omega (arith, c.each-test.true, ap length same) in
+    let sizes = c.sizes_of-sizes.ensures ∙ ap (λ z. sizes_told front.material front.kind (map part_of z)) c.deref.ensures.value in
+    rw (p.1, p.2) (λ e. lacks_subs (form_of c.args.form) front.material front.kind front.last (map part_of front.parts.items) v.0 c.each.s (get_or c.places-places.result.now c.each.s (0, 0))
+    (option_map (λ list. list.items) c.sizes_of-sizes.result) _ 0 few (ap (λ z. get_or z c.each.s (0, 0)) same) sizes (omega (arith, c.each-test.true, ap length same)) v.2 (c.in_err-sub.ensures.memory (same_error e)))
+
+pub returns-in_err-add_sub-clause-memory : goal.returns-in_err-add_sub-clause-memory
+returns-in_err-add_sub-clause-memory g c =
+    let p = err_from_is_err_and c.from_residual-in_err-add_sub.result c.from_residual-in_err-add_sub.ensures.1 in
+    let front = c.args.front in
+    let v = c.each.invariant in
+    let same = c.places-places.ensures.places in
+    let few : c.each.s < length (places_of front.material front.kind) = omega (arith, c.each-test.true, ap length same) in
+    let sizes = c.sizes_of-sizes.ensures ∙ ap (λ z. sizes_told front.material front.kind (map part_of z)) c.deref.ensures.value in
+    let left : ℕ = 2 * (length (places_of front.material front.kind) - suc c.each.s) in
+    rw (p.1, p.2) (λ e. lacks_here 0 left (subs_more (form_of c.args.form) front.material front.kind front.last (map part_of front.parts.items) v.0 c.each.s (suc c.each.s) (get_or c.places-places.result.now c.each.s (0, 0))
+    (option_map (λ list. list.items) c.sizes_of-sizes.result) sub_told c.in_ok-sub.sub refl few (ap (λ z. get_or z c.each.s (0, 0)) same) sizes v.2 c.in_ok-sub.ensures.lines)
+    (asks_subs_left (form_of c.args.form) front.material front.kind front.last (map part_of front.parts.items) (v.0 ++ sub_told c.in_ok-sub.sub ∷ []) (suc c.each.s) left (omega arith))
+    (omega (arith, c.in_ok-sub.ensures.behind, c.each-test.true, ap length same)))

@@ -1,8 +1,11 @@
-use Rattle.std.proofs.Common.{ℕ, List, [], ◌∷◌, ◌++◌, map, refl, arith}
+use Rattle.std.proofs.Common.{ℕ, ◌+◌, List, [], ◌∷◌, ◌++◌, map, refl, arith}
 use Rattle.std.proofs.lemmas.Result.{err_from_is_err_and}
 use Rattle.szg_build.specs.Lines.{Lines}
 use Rattle.szg_build.specs.Grammar.{each, map_list, greatest_item}
 use Rattle.szg_build.proofs.GoingLaws.{each_begun, each_more, each_stopped, each_ended}
+use Rattle.szg_build.proofs.LackLaws.{lacks_each}
+use Rattle.szg_build.proofs.LeastLaws.{asks_map_list}
+use Rattle.szg_build.proofs.ReadingLaws.{same_error}
 use Rattle.szg_build.proofs.reading.read_byte_lists.Goals as goal
 
 abbrev list_lines : ℕ → Lines (List ℕ)
@@ -46,3 +49,33 @@ returns-clause-lines g c =
     (each_more list_lines (c.in_ok-wins.wins.items ∷ []) (c.in_ok-wins.wins.items ∷ c.in_ok-losses.losses.items ∷ []) 1 2 3 2 (λ list. list.items) c.in_ok-losses.losses refl refl refl
     (each_more list_lines [] (c.in_ok-wins.wins.items ∷ []) 0 1 4 3 (λ list. list.items) c.in_ok-wins.wins refl refl refl
     (each_begun list_lines [] 4 4 refl refl) c.in_ok-wins.ensures.lines) c.in_ok-losses.ensures.lines) c.in_ok-cursed_wins.ensures.lines) c.in_ok-blessed_losses.ensures.lines)
+
+pub returns-in_err-wins-clause-memory : goal.returns-in_err-wins-clause-memory
+returns-in_err-wins-clause-memory g c =
+    let p = err_from_is_err_and c.from_residual.result c.from_residual.ensures.1 in
+    rw (p.1, p.2) (λ e. lacks_each list_lines [] 0 4 3 (c.args.behind + 3) c.args.behind refl (omega arith) (λ j. asks_map_list 255 j)
+    (each_begun list_lines [] 4 4 refl refl) (c.in_err-wins.ensures.memory (same_error e)))
+
+pub returns-in_err-losses-clause-memory : goal.returns-in_err-losses-clause-memory
+returns-in_err-losses-clause-memory g c =
+    let p = err_from_is_err_and c.from_residual-in_err-losses.result c.from_residual-in_err-losses.ensures.1 in
+    rw (p.1, p.2) (λ e. lacks_each list_lines (c.in_ok-wins.wins.items ∷ []) 1 3 2 (c.args.behind + 2) c.args.behind refl (omega arith) (λ j. asks_map_list 255 j)
+    (each_more list_lines [] (c.in_ok-wins.wins.items ∷ []) 0 1 4 3 (λ list. list.items) c.in_ok-wins.wins refl refl refl
+    (each_begun list_lines [] 4 4 refl refl) c.in_ok-wins.ensures.lines) (c.in_err-losses.ensures.memory (same_error e)))
+
+pub returns-in_err-cursed_wins-clause-memory : goal.returns-in_err-cursed_wins-clause-memory
+returns-in_err-cursed_wins-clause-memory g c =
+    let p = err_from_is_err_and c.from_residual-in_err-cursed_wins.result c.from_residual-in_err-cursed_wins.ensures.1 in
+    rw (p.1, p.2) (λ e. lacks_each list_lines (c.in_ok-wins.wins.items ∷ c.in_ok-losses.losses.items ∷ []) 2 2 1 (c.args.behind + 1) c.args.behind refl (omega arith) (λ j. asks_map_list 255 j)
+    (each_more list_lines (c.in_ok-wins.wins.items ∷ []) (c.in_ok-wins.wins.items ∷ c.in_ok-losses.losses.items ∷ []) 1 2 3 2 (λ list. list.items) c.in_ok-losses.losses refl refl refl
+    (each_more list_lines [] (c.in_ok-wins.wins.items ∷ []) 0 1 4 3 (λ list. list.items) c.in_ok-wins.wins refl refl refl
+    (each_begun list_lines [] 4 4 refl refl) c.in_ok-wins.ensures.lines) c.in_ok-losses.ensures.lines) (c.in_err-cursed_wins.ensures.memory (same_error e)))
+
+pub returns-in_err-blessed_losses-clause-memory : goal.returns-in_err-blessed_losses-clause-memory
+returns-in_err-blessed_losses-clause-memory g c =
+    let p = err_from_is_err_and c.from_residual-in_err-blessed_losses.result c.from_residual-in_err-blessed_losses.ensures.1 in
+    rw (p.1, p.2) (λ e. lacks_each list_lines (c.in_ok-wins.wins.items ∷ c.in_ok-losses.losses.items ∷ c.in_ok-cursed_wins.cursed_wins.items ∷ []) 3 1 0 c.args.behind c.args.behind refl (omega arith) (λ j. asks_map_list 255 j)
+    (each_more list_lines (c.in_ok-wins.wins.items ∷ c.in_ok-losses.losses.items ∷ []) (c.in_ok-wins.wins.items ∷ c.in_ok-losses.losses.items ∷ c.in_ok-cursed_wins.cursed_wins.items ∷ []) 2 3 2 1 (λ list. list.items) c.in_ok-cursed_wins.cursed_wins refl refl refl
+    (each_more list_lines (c.in_ok-wins.wins.items ∷ []) (c.in_ok-wins.wins.items ∷ c.in_ok-losses.losses.items ∷ []) 1 2 3 2 (λ list. list.items) c.in_ok-losses.losses refl refl refl
+    (each_more list_lines [] (c.in_ok-wins.wins.items ∷ []) 0 1 4 3 (λ list. list.items) c.in_ok-wins.wins refl refl refl
+    (each_begun list_lines [] 4 4 refl refl) c.in_ok-wins.ensures.lines) c.in_ok-losses.ensures.lines) c.in_ok-cursed_wins.ensures.lines) (c.in_err-blessed_losses.ensures.memory (same_error e)))

@@ -1,5 +1,9 @@
 use Rattle.std.proofs.Common.{◌∙◌, sym}
 use Rattle.szg_build.proofs.GoingLaws.{reads_seen, same_part}
+use Rattle.std.proofs.lemmas.Result.{err_from_is_err_and}
+use Rattle.szg_build.specs.Grammar.{part_line}
+use Rattle.szg_build.proofs.LackLaws.{lacks_whole}
+use Rattle.szg_build.proofs.ReadingLaws.{same_error}
 use Rattle.szg_build.proofs.reading.read_part_bytes.Goals as goal
 
 pub returns-clause-lines : goal.returns-clause-lines
@@ -7,3 +11,18 @@ returns-clause-lines g c =
     reads_seen c.in_ok-order.ensures.lines
     (same_part c.in_ok-order.order.items c.in_ok-order-2.order.items c.in_ok-order.men.items c.in_ok-men.men.items
     (sym (c.in_ok-order-2.ensures.items ∙ c.as_slice.ensures.value)) (sym (c.in_ok-men.ensures.items ∙ c.as_slice-2.ensures.value)))
+
+pub returns-in_err-order-clause-memory : goal.returns-in_err-order-clause-memory
+returns-in_err-order-clause-memory g c =
+    let p = err_from_is_err_and c.from_residual.result c.from_residual.ensures.1 in
+    rw (p.1, p.2) (λ e. absurd (c.in_err-order.ensures.memory (same_error e)))
+
+pub returns-in_err-order-2-clause-memory : goal.returns-in_err-order-2-clause-memory
+returns-in_err-order-2-clause-memory g c =
+    let p = err_from_is_err_and c.from_residual-in_err-order-2.result c.from_residual-in_err-order-2.ensures.1 in
+    rw (p.1, p.2) (λ e. lacks_whole (part_line c.args.number) c.args.behind (λ part. record { order = part.0.items; men = part.1.items }) (c.in_ok-order.order, c.in_ok-order.men) c.in_ok-order.ensures.lines c.in_ok-order.ensures.behind)
+
+pub returns-in_err-men-clause-memory : goal.returns-in_err-men-clause-memory
+returns-in_err-men-clause-memory g c =
+    let p = err_from_is_err_and c.from_residual-in_err-men.result c.from_residual-in_err-men.ensures.1 in
+    rw (p.1, p.2) (λ e. lacks_whole (part_line c.args.number) c.args.behind (λ part. record { order = part.0.items; men = part.1.items }) (c.in_ok-order.order, c.in_ok-order.men) c.in_ok-order.ensures.lines c.in_ok-order.ensures.behind)

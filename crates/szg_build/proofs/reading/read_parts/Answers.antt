@@ -5,6 +5,10 @@ use Rattle.szg_file.specs.Held.{part_of}
 use Rattle.szg_build.specs.Grammar.{each, part_line}
 use Rattle.szg_build.specs.Reading.{ReadsLines}
 use Rattle.szg_build.proofs.GoingLaws.{each_begun, each_more, each_stopped, each_ended, goes_unheld}
+use Rattle.std.specs.List.{range_with_len}
+use Rattle.szg_build.proofs.LackLaws.{lacks_left, lacks_each, asks_range}
+use Rattle.szg_build.proofs.LeastLaws.{asks_part}
+use Rattle.szg_build.proofs.ReadingLaws.{same_error}
 use Rattle.szg_build.proofs.reading.read_parts.Goals as goal
 
 pub parts-init : goal.parts-init
@@ -45,3 +49,22 @@ returns-clause-lines g c =
     let n = c.part_count-count.result in
     let i = c.parts.number in
     rw c.part_count-count.ensures.numbers (each_ended part_line (map part_of c.parts.parts.items) i (n - i) (λ parts. map part_of parts.items) c.parts.parts (omega (arith, c.parts-test.false)) refl c.parts.invariant.0)
+
+pub returns-in_err-part-clause-memory : goal.returns-in_err-part-clause-memory
+returns-in_err-part-clause-memory g c =
+    let p = err_from_is_err_and c.from_residual.result c.from_residual.ensures.1 in
+    let n = c.part_count-count.result in
+    let i = c.parts.number in
+    rw (p.1, p.2, c.part_count-count.ensures.numbers) (λ e. lacks_each part_line (map part_of c.parts.parts.items) i (n - i) (n - (i + 1)) (c.args.behind + c.from-left.result) c.args.behind
+    (omega (arith, c.parts-test.true)) (omega (arith, c.from-left.ensures, c.parts-test.true)) asks_part c.parts.invariant.0 (c.in_err-part.ensures.memory (same_error e)))
+
+pub returns-in_err-push-clause-memory : goal.returns-in_err-push-clause-memory
+returns-in_err-push-clause-memory g c =
+    let p = err_from_is_err_and c.from_residual-in_err-push.result c.from_residual-in_err-push.ensures.1 in
+    let n = c.part_count-count.result in
+    let i = c.parts.number in
+    let more = map part_of c.parts.parts.items ++ part_of c.in_ok-part.part ∷ [] in
+    rw (p.1, p.2, c.part_count-count.ensures.numbers) (λ e. lacks_left (λ ys. more ++ ys) (each part_line (range_with_len (i + 1) (n - (i + 1)))) c.args.behind (n - (i + 1))
+    (each_more part_line (map part_of c.parts.parts.items) more i (i + 1) (n - i) (n - (i + 1)) part_of c.in_ok-part.part (omega arith) (omega (arith, c.parts-test.true)) refl
+    c.parts.invariant.0 c.in_ok-part.ensures.lines)
+    (asks_range part_line (i + 1) (n - (i + 1)) asks_part) (omega (arith, c.in_ok-part.ensures.behind, c.from-left.ensures, c.parts-test.true)))

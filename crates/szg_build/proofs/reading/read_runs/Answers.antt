@@ -1,6 +1,10 @@
-use Rattle.std.proofs.Common.{◌≡◌, ◌+◌, ◌-◌, ◌<◌, ◌≤◌, ◌++◌, ℕ, refl, arith}
+use Rattle.std.proofs.Common.{◌≡◌, ◌+◌, ◌-◌, ◌<◌, ◌≤◌, ◌++◌, ℕ, replicate, refl, arith}
 use Rattle.std.proofs.lemmas.Result.{err_from_is_err_and}
 use Rattle.szg_build.proofs.GoingLaws.{runs_begun, run_more, run_stopped, runs_ended}
+use Rattle.szg_build.specs.Grammar.{run_values}
+use Rattle.szg_build.proofs.LackLaws.{lacks_left}
+use Rattle.szg_build.proofs.LeastLaws.{asks_runs}
+use Rattle.szg_build.proofs.ReadingLaws.{same_error}
 use Rattle.szg_build.proofs.reading.read_runs.Goals as goal
 
 pub runs-init : goal.runs-init
@@ -22,3 +26,17 @@ pub returns-clause-lines : goal.returns-clause-lines
 returns-clause-lines g c =
     let v = c.runs.invariant in
     runs_ended c.runs.list.items v.0 c.runs.left (λ list. list.items) c.runs.list (omega (arith, c.runs-test.false)) refl v.2
+
+pub returns-in_err-size-clause-memory : goal.returns-in_err-size-clause-memory
+returns-in_err-size-clause-memory g c =
+    let p = err_from_is_err_and c.from_residual.result c.from_residual.ensures.1 in
+    rw (p.1, p.2) (λ e. absurd (c.in_err-size.ensures.memory (same_error e)))
+
+pub returns-in_err-add_run-clause-memory : goal.returns-in_err-add_run-clause-memory
+returns-in_err-add_run-clause-memory g c =
+    let p = err_from_is_err_and c.from_residual-in_err-add_run.result c.from_residual-in_err-add_run.ensures.1 in
+    let v = c.runs.invariant in
+    let run : ℕ × ℕ = (c.in_ok-size.size, c.in_ok-size.value) in
+    let more = c.runs.list.items ++ replicate run.0 run.1 in
+    let r = run_more c.runs.list.items more v.0 c.runs.left run (omega (arith, c.runs-test.true)) v.1 c.in_ok-size.ensures.some refl v.2 c.in_ok-size.ensures.lines in
+    rw (p.1, p.2) (λ e. lacks_left (λ xs. more ++ xs) (run_values r.0 (c.runs.left - run.0)) c.args.behind 0 r.2 (asks_runs r.0 (c.runs.left - run.0)) (omega (arith, c.in_ok-size.ensures.behind)))

@@ -2,6 +2,7 @@ use Rattle.std.proofs.Common.{◌∙◌, ℕ, Option, Some, None, refl, sym, ap,
 use Rattle.szg_build.specs.declared.dump.DumpFault.TheVariants.{Run}
 use Rattle.szg_build.specs.Grammar.{or_fault, number_in, greatest_item}
 use Rattle.szg_build.proofs.SayingLaws.{run_said, run_unsaid, fits, too_long}
+use Rattle.szg_build.proofs.NumberWords.{run_length}
 use Rattle.szg_build.proofs.saying.run_told.Goals as goal
 
 pub returns-in_default-clause-run : goal.returns-in_default-clause-run
@@ -27,3 +28,8 @@ returns-clause-run c =
     run_said c.args.left c.args.text.now c.in-Some.count_word.now c.in-Some.value_word.now (Some c.in-Some-positive_of.count) (Some c.in-Some-number_of.value)
     c.in-Some.ensures.0 c.in-Some.ensures.1 c.in-Some.ensures.2 (sym c.in-Some-positive_of.ensures.value) (sym c.in-Some-number_of.ensures.value)
     ∙ ap (λ (o : Option (ℕ × ℕ)). or_fault Run o) (fits c.args.left (c.in-Some-positive_of.count, c.in-Some-number_of.value) (omega arith))
+
+pub returns-clause-long : goal.returns-clause-long
+returns-clause-long c =
+    run_length c.args.text.now c.in-Some.count_word.now c.in-Some.value_word.now c.in-Some-positive_of.count c.in-Some-number_of.value
+    c.in-Some.ensures.2 (sym c.in-Some-positive_of.ensures.value) (sym c.in-Some-number_of.ensures.value)

@@ -7,7 +7,8 @@ use Rattle.szg_build.specs.Grammar.{fixed, value}
 use Rattle.szg_build.specs.Rests.{sub_told}
 use Rattle.szg_build.specs.Shown.{form_of}
 use Rattle.szg_build.proofs.SayingLaws.{values_front}
-use Rattle.szg_build.proofs.RestLaws.{count_stopped, count_refused, values_behind, values_stopped, values_read}
+use Rattle.szg_build.proofs.RestLaws.{count_stopped, count_refused, values_behind, values_stopped, values_read, values_lack}
+use Rattle.szg_build.proofs.ReadingLaws.{same_error}
 use Rattle.szg_build.proofs.subreading.read_counted.Goals as goal
 
 pub returns-in_err-count-clause-lines : goal.returns-in_err-count-clause-lines
@@ -33,3 +34,14 @@ returns-clause-lines g c =
     values_behind (form_of c.args.form) (option_map (λ list. list.items) c.args.sizes.now) c.args.s c.args.flags (option_map map_of c.args.map) sub_told c.in_ok-count.count (Length c.args.s)
     c.if-not-may_have.ensures (c.in_ok-count.ensures.lines (fixed (codes "values") ∷ value ∷ []) values_front)
     (values_read (form_of c.args.form) c.args.flags (option_map map_of c.args.map) (λ list. list.items) sub_told c.in_ok-count.count c.in_ok-values.values _ refl c.in_ok-values.ensures.lines)
+
+pub returns-in_err-count-clause-memory : goal.returns-in_err-count-clause-memory
+returns-in_err-count-clause-memory g c =
+    let p = err_from_is_err_and c.from_residual.result c.from_residual.ensures.1 in
+    rw (p.1, p.2) (λ e. absurd (c.in_err-count.ensures.memory (same_error e)))
+
+pub returns-in_err-values-clause-memory : goal.returns-in_err-values-clause-memory
+returns-in_err-values-clause-memory g c =
+    let p = err_from_is_err_and c.from_residual-in_err-values.result c.from_residual-in_err-values.ensures.1 in
+    rw (p.1, p.2) (λ e. values_lack (form_of c.args.form) (option_map (λ list. list.items) c.args.sizes.now) c.args.s c.args.flags (option_map map_of c.args.map) c.in_ok-count.count (Length c.args.s) c.args.behind
+    c.if-not-may_have.ensures (c.in_ok-count.ensures.lines (fixed (codes "values") ∷ value ∷ []) values_front) (c.in_err-values.ensures.memory (same_error e)))

@@ -3,7 +3,8 @@ use Rattle.std.proofs.lemmas.Result.{err_from_is_err_and}
 use Rattle.szg_file.specs.Held.{map_of}
 use Rattle.szg_build.specs.Rests.{sub_told}
 use Rattle.szg_build.specs.Shown.{form_of}
-use Rattle.szg_build.proofs.RestLaws.{flags_stopped, map_stopped, fields_read}
+use Rattle.szg_build.proofs.RestLaws.{flags_stopped, map_stopped, fields_read, map_lacks, counted_lacks}
+use Rattle.szg_build.proofs.ReadingLaws.{same_error}
 use Rattle.szg_build.proofs.subreading.read_fields.Goals as goal
 
 pub returns-in_err-flags-clause-lines : goal.returns-in_err-flags-clause-lines
@@ -21,3 +22,19 @@ pub returns-clause-lines : goal.returns-clause-lines
 returns-clause-lines g c =
     fields_read (form_of c.args.form) c.args.kind (option_map (λ list. list.items) c.args.sizes.now) c.args.s c.in_ok-flags.flags (option_map map_of) c.in_ok-map.map sub_told
     c.in_ok-flags.ensures.lines c.in_ok-map.ensures.lines c.read_counted.ensures.lines
+
+pub returns-in_err-flags-clause-memory : goal.returns-in_err-flags-clause-memory
+returns-in_err-flags-clause-memory g c =
+    let p = err_from_is_err_and c.from_residual.result c.from_residual.ensures.1 in
+    rw (p.1, p.2) (λ e. absurd (c.in_err-flags.ensures.memory (same_error e)))
+
+pub returns-in_err-map-clause-memory : goal.returns-in_err-map-clause-memory
+returns-in_err-map-clause-memory g c =
+    let p = err_from_is_err_and c.from_residual-in_err-map.result c.from_residual-in_err-map.ensures.1 in
+    rw (p.1, p.2) (λ e. map_lacks (form_of c.args.form) c.args.kind (option_map (λ list. list.items) c.args.sizes.now) c.args.s c.in_ok-flags.flags c.args.behind
+    c.in_ok-flags.ensures.lines (c.in_err-map.ensures.memory (same_error e)))
+
+pub returns-clause-memory : goal.returns-clause-memory
+returns-clause-memory g c = λ e.
+    counted_lacks (form_of c.args.form) c.args.kind (option_map (λ list. list.items) c.args.sizes.now) c.args.s c.in_ok-flags.flags (option_map map_of) c.in_ok-map.map c.args.behind
+    c.in_ok-flags.ensures.lines c.in_ok-map.ensures.lines (c.read_counted.ensures.memory e)

@@ -3,7 +3,8 @@ use Rattle.std.proofs.lemmas.Result.{err_from_is_err_and}
 use Rattle.szg_build.specs.declared.BuildFault.TheVariants.{Order}
 use Rattle.szg_build.specs.Rests.{sub_told}
 use Rattle.szg_build.specs.Shown.{form_of}
-use Rattle.szg_build.proofs.RestLaws.{place_stopped, order_refused, sub_read}
+use Rattle.szg_build.proofs.RestLaws.{place_stopped, order_refused, sub_read, fields_lack}
+use Rattle.szg_build.proofs.ReadingLaws.{same_error}
 use Rattle.szg_build.proofs.subreading.read_sub.Goals as goal
 
 pub returns-in_err-read_place-clause-lines : goal.returns-in_err-read_place-clause-lines
@@ -19,3 +20,13 @@ pub returns-clause-lines : goal.returns-clause-lines
 returns-clause-lines g c =
     sub_read (form_of c.args.form) c.args.kind (option_map (λ list. list.items) c.args.sizes.now) c.args.s c.args.place (λ _. []) c.in_ok-read_place.field-0 sub_told Order c.if-not-may_stand.ensures
     c.in_ok-read_place.ensures.lines c.read_fields.ensures.lines
+
+pub returns-in_err-read_place-clause-memory : goal.returns-in_err-read_place-clause-memory
+returns-in_err-read_place-clause-memory g c =
+    let p = err_from_is_err_and c.from_residual.result c.from_residual.ensures.1 in
+    rw (p.1, p.2) (λ e. absurd (c.in_err-read_place.ensures.memory (same_error e)))
+
+pub returns-clause-memory : goal.returns-clause-memory
+returns-clause-memory g c = λ e.
+    fields_lack (form_of c.args.form) c.args.kind (option_map (λ list. list.items) c.args.sizes.now) c.args.s c.args.place (λ _. []) c.in_ok-read_place.field-0 Order c.args.behind c.if-not-may_stand.ensures
+    c.in_ok-read_place.ensures.lines (c.read_fields.ensures.memory e)

@@ -17,6 +17,7 @@ each_block-init g c = record {
   few = omega arith;
   place = omega arith;
   held = omega arith;
+  grown = omega (arith, ap length c.new-packed.ensures.items);
 }
 
 pub returns-in_err-take_block-clause-blocks : goal.returns-in_err-take_block-clause-blocks
@@ -46,4 +47,5 @@ each_block-preserved g c =
       few = omega (arith, c.each_block.invariant.few);
       place = omega (arith, c.each_block.invariant.place, c.in_ok-take_block.ensures.place);
       held = omega (arith, c.each_block.invariant.held, c.in_ok-take_block.ensures.held);
+      grown = omega (arith, c.each_block.invariant.grown, c.in_ok-take_block.ensures.grown);
     }

@@ -1,9 +1,10 @@
-use Rattle.std.proofs.Common.{◌≡◌, ◌+◌, ◌*◌, ◌≤◌, ◌^◌, Ok}
+use Rattle.std.proofs.Common.{◌≡◌, ◌+◌, ◌*◌, ◌≤◌, ◌^◌, Ok, length}
 use Rattle.std.specs.Prelude.{IfSome}
 use Rattle.szg_block.specs.Block.{start}
 use Rattle.szg_block.specs.Subtable.{layout_of}
 use Rattle.szg_file.specs.File.{blocks_from}
 use Rattle.szg_file.specs.Reading.{Reading}
+use Rattle.szg_file.specs.Grown.{HasCounted}
 use Rattle.szg_file.proofs.blocks.take_packed.Given as goal
 
 abbrev pub invariant-each_block : goal.invariant-each_block
@@ -13,4 +14,5 @@ invariant-each_block g l = record {
   few : l.before ≤ l.n * 65536;
   place : l.front.place ≤ l.fn.front.place + l.n * 2 ^ 18;
   held : l.front.held + 2 * l.fn.front.place ≤ l.fn.front.held + 2 * l.front.place;
+  grown : HasCounted l.fn.front l.front 0 (length l.packed.items);
 }

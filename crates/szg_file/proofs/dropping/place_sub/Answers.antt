@@ -33,7 +33,8 @@ returns-in_err-pass_blocks-clause-blocks g c =
     let p = err_from_is_err_and c.from_residual-in_err-pass_blocks.result c.from_residual-in_err-pass_blocks.ensures.1 in
     let sized : c.slot.inside.size ≡ c.args.slot.size = ap (λ (s : Slot). s.size) c.slot.view_is in
     let some : layout_of c.args.sub ≡ None → ⊥ = λ e. let t = c.is_constant.ensures.1 e in cc in
-    rw (p.1, p.2) (reads_placed_stopped c.args.slot c.slot.inside.size c.args.sub c.in_err-pass_blocks.field-0.0 _ _ sized some c.in_ok-take_fill.ensures.fill c.in_err-pass_blocks.ensures.blocks)
+    let read = rw c.expect.ensures.same at c.in_err-pass_blocks.ensures.blocks in
+    rw (p.1, p.2) (reads_placed_stopped c.args.slot c.slot.inside.size c.args.sub c.in_err-pass_blocks.field-0.0 _ _ sized some c.in_ok-take_fill.ensures.fill read)
 
 pub pass_blocks-requires-clause-room : goal.pass_blocks-requires-clause-room
 pass_blocks-requires-clause-room g c =
@@ -46,14 +47,16 @@ returns-clause-blocks g c =
     let sized : c.slot.inside.size ≡ c.args.slot.size = ap (λ (s : Slot). s.size) c.slot.view_is in
     let some : layout_of c.args.sub ≡ None → ⊥ = λ e. let t = c.is_constant.ensures.1 e in cc in
     let at = stands_at (filled_to 64) _ _ c.requires.at c.in_ok-take_fill.ensures.fill in
-    let ends = ends_at c.slot.inside.size c.args.sub c.take_fill.new.front c.pass_blocks.new.front g.R.Input c.take_fill.new.input c.pass_blocks.new.input at c.in_ok-pass_blocks.ensures.count c.in_ok-pass_blocks.ensures.blocks in
-    reads_placed c.args.slot c.slot.inside.size c.args.sub sized some at ends c.in_ok-take_fill.ensures.fill c.in_ok-pass_blocks.ensures.blocks
+    let read = rw c.expect.ensures.same at c.in_ok-pass_blocks.ensures.blocks in
+    let ends = ends_at c.slot.inside.size c.args.sub c.take_fill.new.front c.pass_blocks.new.front g.R.Input c.take_fill.new.input c.pass_blocks.new.input at c.in_ok-pass_blocks.ensures.count read in
+    reads_placed c.args.slot c.slot.inside.size c.args.sub sized some at ends c.in_ok-take_fill.ensures.fill read
 
 pub returns-clause-fits : goal.returns-clause-fits
 returns-clause-fits g c =
     let some : layout_of c.args.sub ≡ None → ⊥ = λ e. let t = c.is_constant.ensures.1 e in cc in
     let at = stands_at (filled_to 64) _ _ c.requires.at c.in_ok-take_fill.ensures.fill in
-    let ends = ends_at c.slot.inside.size c.args.sub c.take_fill.new.front c.pass_blocks.new.front g.R.Input c.take_fill.new.input c.pass_blocks.new.input at c.in_ok-pass_blocks.ensures.count c.in_ok-pass_blocks.ensures.blocks in
+    let read = rw c.expect.ensures.same at c.in_ok-pass_blocks.ensures.blocks in
+    let ends = ends_at c.slot.inside.size c.args.sub c.take_fill.new.front c.pass_blocks.new.front g.R.Input c.take_fill.new.input c.pass_blocks.new.input at c.in_ok-pass_blocks.ensures.count read in
     let long = still_long c.make_room.new.buffer.len c.buffer-1.given c.make_room.new.buffer.items (sym c.make_room.new.buffer.ok.0) in
     placed_fits _ _ c.take_fill.new.front.place c.args.sub some ends
     (roomy_for c.args.sub c.block_bytes-size.result _ c.block_bytes-size.ensures.bytes (omega (arith, long, c.in_ok-make_room.ensures.room)))

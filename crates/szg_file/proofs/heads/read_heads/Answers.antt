@@ -8,6 +8,8 @@ use Rattle.szg_file.proofs.HeadReads.{memory_is}
 use Rattle.szg_file.proofs.ReadingLaws.{reads_nothing}
 use Rattle.szg_file.proofs.Taken.{reads_as}
 use Rattle.szg_file.proofs.LoopReads.{each_next, each_stops, reads_lacking, taken_next, begun_more}
+use Rattle.szg_file.specs.Reads.{sub_lengths}
+use Rattle.szg_file.proofs.Grown.{none_yet, one_more}
 use Rattle.szg_file.proofs.heads.read_heads.Goals as goal
 
 pub slots-init : goal.slots-init
@@ -17,6 +19,7 @@ slots-init g c = record {
   count = ap length c.new-list.ensures.items;
   place = omega arith;
   held = omega arith;
+  grown = omega (arith, none_yet (λ (b : Begun). sub_lengths b.subtable) c.new-list.result.items c.new-list.ensures.items);
 }
 
 pub returns-in_err-begun-clause-heads : goal.returns-in_err-begun-clause-heads
@@ -61,4 +64,12 @@ slots-preserved g c =
       count = omega (arith, ap length more, length-append old (b ∷ []), c.slots.invariant.count);
       place = omega (arith, c.slots.invariant.place, c.in_ok-begun.ensures.place, c.in_ok-append.ensures.place);
       held = omega (arith, c.slots.invariant.held, c.in_ok-begun.ensures.held, c.in_ok-append.ensures.held, c.in_ok-append.ensures.place);
+      grown = omega (
+        arith,
+        one_more (λ (b : Begun). sub_lengths b.subtable) old c.append.new.list.items b more,
+        c.slots.invariant.grown,
+        c.in_ok-begun.ensures.grown,
+        c.in_ok-append.ensures.held,
+        ap length c.in_ok-append.ensures.fill,
+      );
     }

@@ -1,6 +1,7 @@
 use Rattle.std.proofs.Common.{◌≡◌, ◌+◌, ◌*◌, ◌≤◌, ◌^◌, length, map, take, Ok}
 use Rattle.szg_file.specs.File.{Begun, each, head_field, begun}
 use Rattle.szg_file.specs.Reading.{Reading}
+use Rattle.szg_file.specs.Grown.{HasCounted, begun_lengths}
 use Rattle.szg_file.proofs.heads.read_heads.Given as goal
 
 abbrev pub invariant-slots : goal.invariant-slots
@@ -10,4 +11,5 @@ invariant-slots g l = record {
   count : length l.list.items ≡ l.slot-index;
   place : l.front.place ≤ l.fn.front.place + l.slot-index * 2 ^ 18;
   held : l.front.held + 2 * l.fn.front.place ≤ l.fn.front.held + 2 * l.front.place + l.slot-index;
+  grown : HasCounted l.fn.front l.front 0 (length l.list.items + begun_lengths l.list.items);
 }

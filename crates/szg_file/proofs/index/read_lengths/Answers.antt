@@ -9,6 +9,9 @@ use Rattle.szg_file.specs.File.{Begun, each, lengths_field}
 use Rattle.szg_file.proofs.ReadingLaws.{reads_nothing}
 use Rattle.szg_file.proofs.Taken.{reads_as, reads_equal}
 use Rattle.szg_file.proofs.LoopReads.{each_next, each_stops, reads_lacking}
+use Rattle.szg_file.specs.Reads.{sub_lengths}
+use Rattle.std.proofs.lemmas.List.Sums.{sum_by_push}
+use Rattle.szg_file.proofs.Grown.{none_yet, one_more}
 use Rattle.szg_file.proofs.index.read_lengths.Goals as goal
 
 pub lengths-init : goal.lengths-init
@@ -17,6 +20,7 @@ lengths-init g c = record {
   count = ap length c.new-measured.ensures.items;
   place = omega arith;
   held = omega arith;
+  grown = omega (arith, none_yet (λ (b : Begun). sub_lengths b.subtable) c.new-measured.result.items c.new-measured.ensures.items);
 }
 
 pub returns-in_err-next-clause-lengths : goal.returns-in_err-next-clause-lengths
@@ -53,4 +57,13 @@ lengths-preserved g c =
       count = ap length c.in_ok-append.ensures.items ∙ kept ∙ omega (arith, c.lengths.invariant.count, longer);
       place = omega (arith, c.lengths.invariant.place, c.in_ok-next.ensures.place, c.in_ok-append.ensures.place, longer);
       held = omega (arith, c.lengths.invariant.held, c.in_ok-next.ensures.held, c.in_ok-append.ensures.held, c.in_ok-append.ensures.place, longer);
+      grown = omega (
+        arith,
+        one_more (λ (b : Begun). sub_lengths b.subtable) c.lengths.measured.items c.append.new.list.items c.in_ok-next.next c.in_ok-append.ensures.items,
+        sum_by_push (λ (b : Begun). sub_lengths b.subtable) c.lengths.yielded c.in-Some.indexed,
+        c.lengths.invariant.grown,
+        c.in_ok-next.ensures.grown,
+        c.in_ok-append.ensures.held,
+        ap length c.in_ok-append.ensures.fill,
+      );
     }

@@ -10,6 +10,8 @@ use Rattle.szg_file.proofs.HeadReads.{memory_is}
 use Rattle.szg_file.proofs.ReadingLaws.{reads_nothing}
 use Rattle.szg_file.proofs.Taken.{reads_as}
 use Rattle.szg_file.proofs.LoopReads.{each_next, each_stops, reads_lacking}
+use Rattle.szg_file.specs.Reads.{map_lengths}
+use Rattle.szg_file.proofs.Grown.{none_yet, one_more}
 use Rattle.szg_file.proofs.maps.read_each.Goals as goal
 
 abbrev subtables : List Begun → List Subtable
@@ -22,11 +24,16 @@ there heads i lt = omega (arith, lt, length-map heads (λ (b : Begun). b.subtabl
 is_item : (heads : List Begun) (i : ℕ) (x : Begun) → i < length heads → x ≡ get_or heads i x → x.subtable ≡ get_or (subtables heads) i x.subtable
 is_item heads i x lt e = ap (λ (b : Begun). b.subtable) e ∙ sym (get_or-map (λ (b : Begun). b.subtable) heads i x x.subtable lt)
 
+-- the items of a map
+abbrev items_of : Option Map → ℕ
+items_of found = map_lengths (option_map map_of found)
+
 pub heads-init : goal.heads-init
 heads-init g c = record {
   read = reads_nothing (means []) (λ list. map (option_map map_of) list.items) c.new-list.result (ap (λ (l : List (Option Map)). means (map (option_map map_of) l)) (sym c.new-list.ensures.items));
   place = omega arith;
   held = omega arith;
+  grown = omega (arith, none_yet items_of c.new-list.result.items c.new-list.ensures.items);
 }
 
 pub returns-in_err-lists-clause-maps : goal.returns-in_err-lists-clause-maps
@@ -65,4 +72,12 @@ heads-preserved g c =
           (reads_as (map_field x.subtable) (map_field x.subtable) (option_map map_of) (option_map map_of) c.in_ok-lists.lists c.in_ok-lists.lists refl refl c.in_ok-append.ensures.place c.in_ok-append.ensures.fill c.in_ok-lists.ensures.lists);
       place = omega (arith, c.heads.invariant.place, c.in_ok-lists.ensures.place, c.in_ok-append.ensures.place);
       held = omega (arith, c.heads.invariant.held, c.in_ok-lists.ensures.held, c.in_ok-append.ensures.held, c.in_ok-append.ensures.place);
+      grown = omega (
+        arith,
+        one_more items_of old c.append.new.list.items c.in_ok-lists.lists c.in_ok-append.ensures.items,
+        c.heads.invariant.grown,
+        c.in_ok-lists.ensures.grown,
+        c.in_ok-append.ensures.held,
+        ap length c.in_ok-append.ensures.fill,
+      );
     }

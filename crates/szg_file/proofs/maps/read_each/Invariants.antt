@@ -1,7 +1,8 @@
-use Rattle.std.proofs.Common.{◌+◌, ◌*◌, ◌≤◌, map, take, Ok, option_map}
+use Rattle.std.proofs.Common.{◌+◌, ◌*◌, ◌≤◌, map, take, Ok, option_map, length}
 use Rattle.szg_file.specs.File.{Begun, each, map_field}
 use Rattle.szg_file.specs.Held.{map_of}
 use Rattle.szg_file.specs.Reading.{Reading}
+use Rattle.szg_file.specs.Grown.{HasCounted, maps_lengths}
 use Rattle.szg_file.proofs.maps.read_each.Given as goal
 
 abbrev pub invariant-heads : goal.invariant-heads
@@ -9,4 +10,5 @@ invariant-heads g l = record {
   read : Reading (each map_field (take l.head-index (map (λ (b : Begun). b.subtable) l.heads))) (λ list. map (option_map map_of) list.items) l.fn.front l.front g.R.Input l.fn.input l.input (Ok l.list);
   place : l.front.place ≤ l.fn.front.place + l.head-index * 600000;
   held : l.front.held + 2 * l.fn.front.place ≤ l.fn.front.held + 2 * l.front.place + l.head-index;
+  grown : HasCounted l.fn.front l.front 0 (length l.list.items + maps_lengths l.list.items);
 }

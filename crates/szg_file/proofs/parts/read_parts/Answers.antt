@@ -17,6 +17,8 @@ use Rattle.szg_file.proofs.ReadingLaws.{reads_nothing, reads_more, reads_more_st
 use Rattle.szg_file.proofs.LoopReads.{reads_lacking}
 use Rattle.szg_file.proofs.Taken.{reads_as, reads_equal}
 use Rattle.szg_file.proofs.PartLaws.{slots_few, slots-more, numbers-more, numbers-split}
+use Rattle.szg_file.specs.Lengths.{part_length}
+use Rattle.szg_file.proofs.Grown.{none_yet, one_more}
 use Rattle.szg_file.proofs.parts.read_parts.Goals as goal
 
 -- all numbers below an end: those before one, that one, those behind it
@@ -31,6 +33,10 @@ numbers_at numbers end part e h =
 -- a part that was read
 abbrev read_as : PartBytes × SideSizes → Part
 read_as read = part_of read.0
+
+-- the bytes of a part
+abbrev bytes_of_part : PartBytes → ℕ
+bytes_of_part part = part_length (part_of part)
 
 fault_of : Result (Unit {0}) ReadFault → ReadFault
 fault_of (Ok x) = Memory
@@ -49,6 +55,7 @@ parts-init g c =
       omega (arith, ap length c.new-2.ensures),
       omega arith,
       omega arith,
+      omega (arith, none_yet bytes_of_part c.new.result.items none),
     )
 
 pub read_part-requires-clause-part : goal.read_part-requires-clause-part
@@ -107,4 +114,12 @@ parts-preserved g c =
       ),
       omega (arith, c.parts.invariant.4, c.in_ok-bytes.ensures.place, c.in_ok-push_part.ensures.place),
       omega (arith, c.parts.invariant.5, c.in_ok-bytes.ensures.held, c.in_ok-push_part.ensures.held, c.in_ok-push_part.ensures.place, c.in_ok-bytes.ensures.part.answer.0.place),
+      omega (
+        arith,
+        one_more bytes_of_part c.parts.parts.bytes.items c.push_part.new.parts.bytes.items c.in_ok-bytes.bytes c.in_ok-push_part.ensures.bytes,
+        c.parts.invariant.6,
+        c.in_ok-bytes.ensures.grown,
+        c.in_ok-push_part.ensures.held,
+        ap length c.in_ok-push_part.ensures.fill,
+      ),
     )

@@ -4,6 +4,7 @@ use Rattle.szg_file.specs.Contents.{slots_from, side_numbers}
 use Rattle.szg_file.specs.File.{each, part_field}
 use Rattle.szg_file.specs.Held.{part_of}
 use Rattle.szg_file.specs.Reading.{Reading}
+use Rattle.szg_file.specs.Grown.{HasCounted, parts_lengths}
 use Rattle.szg_file.proofs.parts.read_parts.Given as goal
 
 -- the parts so far, and their slots
@@ -16,3 +17,4 @@ invariant-parts g l =
     × (length l.parts.slots.items ≤ 2 * l.part)
     × (l.front.place ≤ l.initial.front.place + 8 * l.part)
     × (l.front.held + 2 * l.initial.front.place ≤ l.initial.front.held + 2 * l.front.place + l.part)
+    × HasCounted l.initial.front l.front 0 (length l.parts.bytes.items + parts_lengths l.parts.bytes.items)

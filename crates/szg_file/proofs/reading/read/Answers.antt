@@ -5,7 +5,9 @@ use Rattle.szg_values.specs.Material.{Sides}
 use Rattle.szg_file.specs.File.{file}
 use Rattle.szg_file.specs.Held.{Shown}
 use Rattle.szg_file.specs.FilePieces.{contents_of}
-use Rattle.szg_file.proofs.ListLengths.{lists_are_paid}
+use Rattle.szg_file.specs.declared.front.Front.{Front}
+use Rattle.szg_file.specs.declared.reading.Pieces.{Pieces}
+use Rattle.szg_file.proofs.Counted.{lists_were_counted}
 use Rattle.szg_file.proofs.ReadAnswers.{follows_good, fault_follows, fault_took, whole_file}
 use Rattle.szg_file.proofs.reading.read.Goals as goal
 
@@ -56,11 +58,14 @@ returns-clause-accepted g c =
     let w = whole_file m k (contents_of m k c.in_ok-byte4.field-0) c.new-front.result c.read_pieces.new.front h.bytes c.new-front.ensures.place c.new-front.ensures.fill h.answer.0 in
     w.accepted
 
+-- what was counted is below the bound of the front at the file's end
 pub returns-clause-lists : goal.returns-clause-lists
 returns-clause-lists g c =
     let m : Sides = c.args.material in
     let k : Kind = c.args.kind in
-    let t : Shown = record { contents = contents_of m k c.in_ok-byte4.field-0; filled = c.read_pieces.new.front.fill.items } in
+    let p : Pieces = c.in_ok-byte4.field-0 in
+    let first : Front = c.new-front.result in
+    let last : Front = c.read_pieces.new.front in
     let h = c.in_ok-byte4.ensures.pieces in
-    let w = whole_file m k t.contents c.new-front.result c.read_pieces.new.front h.bytes c.new-front.ensures.place c.new-front.ensures.fill h.answer.0 in
-    lists_are_paid t w.accepted
+    let w = whole_file m k (contents_of m k p) first last h.bytes c.new-front.ensures.place c.new-front.ensures.fill h.answer.0 in
+    lists_were_counted m k p first last (h.bytes) c.new-front.ensures.place c.new-front.ensures.held c.new-front.ensures.fill h.answer.0.place w.file_is c.in_ok-byte4.ensures.grown

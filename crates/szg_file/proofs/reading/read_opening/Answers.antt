@@ -1,4 +1,4 @@
-use Rattle.std.proofs.Common.{◌≡◌, ℕ, List, map, option_map, refl, ap, ◌∙◌, Ok, Err}
+use Rattle.std.proofs.Common.{◌≡◌, ℕ, List, map, option_map, refl, ap, ◌∙◌, arith, Ok, Err}
 use Rattle.std.proofs.lemmas.Result.{err_from_is_err_and}
 use Rattle.szg_values.specs.declared.Kind.{Kind}
 use Rattle.szg_values.specs.Material.{Sides}
@@ -91,3 +91,6 @@ returns-clause-opening g c =
     (reads_equal (each head_field c.as_slice.result.now) (each head_field (slots m k parts)) _ (Ok c.in_ok-heads.heads) (ap (each head_field) at) c.in_ok-heads.ensures.heads)
     (reads_made (maps_field k heads) (λ found. record { byte4 = byte; parts = parts; heads = heads; maps = found }) (λ list. map (option_map map_of) list.items) opened c.in_ok-maps.maps _ refl
     (reads_equal _ (maps_field k heads) _ (Ok c.in_ok-maps.maps) (ap (λ (z : List Begun). maps_field k (map (λ (begun : Begun). begun.subtable) z)) c.deref.ensures.value) c.in_ok-maps.ensures.maps)))))
+
+pub returns-clause-grown : goal.returns-clause-grown
+returns-clause-grown g c = omega (arith, c.in_ok-byte4.ensures.grown, c.in_ok-parts.ensures.grown, c.in_ok-take_fill.ensures.grown, c.in_ok-heads.ensures.grown, c.in_ok-maps.ensures.grown)

@@ -13,6 +13,7 @@ pieces-init g c = (
   omega arith,
   omega arith,
   omega arith,
+  omega arith,
 )
 
 pub returns-in_err-take_piece-clause-field : goal.returns-in_err-take_piece-clause-field
@@ -38,4 +39,5 @@ pieces-preserved g c =
       omega (arith, c.in_ok-take_piece.ensures.longer, first.3, sum),
       omega (arith, c.in_ok-take_piece.ensures.place, first.4, sum),
       omega (arith, c.in_ok-take_piece.ensures.held, first.5, sum),
+      omega (arith, c.in_ok-take_piece.ensures.grown, first.6),
     )

@@ -1,6 +1,7 @@
 use Rattle.std.proofs.Common.{◌≡◌, ◌+◌, ◌≤◌, ◌-◌, length, take, drop, Ok}
 use Rattle.szg_file.specs.Format.{field, means}
 use Rattle.szg_file.specs.Reading.{Reading}
+use Rattle.szg_file.specs.Grown.{HasCounted}
 use Rattle.szg_file.proofs.taking.take_more.Given as goal
 
 -- the front of the field was taken, and stands at the end of the list
@@ -13,6 +14,7 @@ invariant-pieces g l =
     × (length l.list.items ≡ length l.initial.list.items + (l.count - l.left))
     × (l.front.place ≡ l.initial.front.place + (l.count - l.left))
     × (l.front.held ≡ l.initial.front.held + (l.count - l.left))
+    × HasCounted l.initial.front l.front (length l.initial.list.items) (length l.list.items)
 
 abbrev pub decreases-pieces : goal.decreases-pieces
 decreases-pieces g l = l.left

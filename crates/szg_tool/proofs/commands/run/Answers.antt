@@ -14,5 +14,5 @@ returns-in-Err-Refused-clause-refused g c =
     let met = c.in-Err-Refused.ensures.refused c.in-Err-Refused.refusal (cc) in
     let kept : c.carry_out.new.writer ≡ c.args.writer.now = met.0 in
     OnRefused-then c.refuse.result
-    (λ told. (c.in-Ok.task, record { refusal = c.in-Err-Refused.refusal; met = met.1; text = told.0; line = told.1; given = rw (← kept) told.2 }))
+    (λ told. (c.in-Ok.task, record { refusal = c.in-Err-Refused.refusal; met = met.1; given = rw (← kept) told }))
     c.refuse.ensures.refused

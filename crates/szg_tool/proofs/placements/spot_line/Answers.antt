@@ -1,4 +1,3 @@
-use Rattle.std.proofs.Common.{rules, ◌≡◌, ◌++◌, refl}
 use Rattle.szg_tool.proofs.placements.spot_line.Goals as goal
 
 pub returns : goal.returns

@@ -11,15 +11,17 @@ use Rattle.std.specs.declared.option.Option.TheVariants.{None, Some}
 use Rattle.std.proofs.Crossing as heap
 use Rattle.std_alloc.proofs.SendSync.{quiet, lies}
 use Rattle.std.proofs.alloc.Global.TheSendSync as allocator
-use Rattle.szg_c.proofs.HandleValues.{R, Z, holds}
-use Rattle.szg_c.proofs.shared.Shared.TheSendSync.{the_send as shared_send}
+use Rattle.szg_place.proofs.prepared.PreparedTable.TheSendSync as table
+use Rattle.szg_c.proofs.HeldValues.{Z, holds}
+use Rattle.szg_c.proofs.HandleValues.{R}
+use Rattle.szg_c.proofs.shared.Shared.TheSendSync as shared
 use Rattle.szg_c.specs.contracts.handle.Handle.{the_row, the_type}
 
-held_keyless : (a : Z.Denot) (p : Ptr) (value : Option R.Denot) → Keyless (holds a p value)
+held_keyless : (a : Z.Denot) (p : Ptr) (value : Option R.Denot) → Keyless (holds R a p value)
 held_keyless a null_ptr None = tt
 held_keyless a null_ptr (Some x) = tt
 held_keyless a (block_ptr b o) None = tt
-held_keyless a (block_ptr b o) (Some x) = (lies R shared_send (block_ptr b o) x, heap.frees.frees a (raw (lone R.mir)) (block_ptr b o))
+held_keyless a (block_ptr b o) (Some x) = (lies R (shared.the_send _ table.the_send table.the_sync) (block_ptr b o) x, heap.frees.frees a (raw (lone R.mir)) (block_ptr b o))
 
 pub send : IsSend the_row
 send =

@@ -24,10 +24,10 @@ returns-clause-bytes g c =
     let gone = bytes_gone content c.next_bytes.new.piece c.deref.result.now out place c.self.inside.end c.in-Ok.left.0 c.in-Ok.left.1 n (length c.args.piece.now)
     c.in-Ok.ensures.held (c.deref.ensures.value ∙ back) c.copy_front-n.ensures.count c.copy_front-n.ensures.copied in
     let none = bytes_end content c.next_bytes.new.piece c.deref.result.now out place c.self.inside.end c.in-Ok.left.0 c.in-Ok.left.1 n (length c.args.piece.now)
-    c.in-Ok.ensures.held (c.deref.ensures.value ∙ back) c.copy_front-n.ensures.count c.copy_front-n.ensures.copied c.in-Ok.ensures.some in
+    c.in-Ok.ensures.held (c.deref.ensures.value ∙ back) c.copy_front-n.ensures.count c.copy_front-n.ensures.copied in
     subst (λ (f : Forward). (drop f.place f.content ≡ take n out ++ drop (place + n) (g.S.Source.content c.next_bytes.new.source)) × (n ≡ 0 → 0 < length out → drop (place + n) (g.S.Source.content c.next_bytes.new.source) ≡ [])) c.self.view_is
     (subst (λ (u : List ℕ). (drop place content ≡ take n out ++ drop (place + n) u) × (n ≡ 0 → 0 < length out → drop (place + n) u ≡ [])) (sym c.in-Ok.ensures.same_bytes)
-    (gone, λ z r. none z (omega (arith, r, c.copy_front-n.auto.out))))
+    (gone, λ z r. let some : 0 < length out = r in none (λ e. c.in-Ok.ensures.some e (omega (arith, some, c.copy_front-n.auto.out, c.max-most.ensures))) z (omega (arith, r, c.copy_front-n.auto.out))))
 
 pub returns-clause-moved : goal.returns-clause-moved
 returns-clause-moved g c =

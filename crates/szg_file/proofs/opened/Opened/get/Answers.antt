@@ -1,5 +1,5 @@
 use Rattle.std.proofs.Common.{◌≡◌, ◌<◌, ◌+◌, ◌*◌, ℕ, ap, ◌∙◌, sym, subst, None, Some, List, Option, arith, IsSome}
-use Rattle.std.specs.Prelude.{position, slice_get, IfSome}
+use Rattle.std.specs.Prelude.{position, slice_get, IfSome, false, true}
 use Rattle.std.proofs.lemmas.List.Quantifiers.{position-Some}
 use Rattle.szg_values.specs.declared.Kind.{Kind}
 use Rattle.szg_block.specs.Lending.{bytes_at, packed_blocks}
@@ -14,6 +14,7 @@ use Rattle.szg_file.specs.Values.{item, values_of, constant_value}
 use Rattle.szg_file.specs.declared.dropping.PlacedSub.{PlacedSub}
 use Rattle.szg_file.proofs.TableFinds.{is_at}
 use Rattle.szg_file.proofs.OpenedLaws.{IsKept, opened_absent, found_kept, as_many_kept, few_bits, room_enough, turned_ready, turned_value, asked_placed}
+use Rattle.szg_file.proofs.WantedLaws.{constant_holds}
 use Rattle.szg_file.proofs.opened.Opened.get.Goals as goal
 
 pub unreachable-requires : goal.unreachable-requires
@@ -87,6 +88,16 @@ returns-in_err-value-clause-asked g c =
     let before = ap (g.S.Source.asked) c.turn_to.ensures.source ∙ ap (λ (o : Opened). o.asked) c.self.view_is in
     rw kept.is (asked_placed content held.sub held.first _ _ (size_of c.turn_to.new.self) c.block_bytes.result c.block_bytes.ensures.bytes c.look_up.ensures.asked_none c.look_up.ensures.asked_one c.turn_to.ensures.size
     ∙ ap (λ (k : ℕ). asked_after (whole_sub content held) k) before)
+
+pub returns-in_err-value-clause-constant : goal.returns-in_err-value-clause-constant
+returns-in_err-value-clause-constant g c =
+    let placed : List Slot = c.self.inside.placed.items in
+    let held : PlacedSub = c.index-held.result.now in
+    let content : List ℕ = g.S.Source.content c.self.inside.blocks.source in
+    let kept : IsKept content (room_of c.self.inside.blocks) (opened_at c.args.self.now c.args.part c.args.side) c.index-placed-n.result held =
+    found_kept _ c.args.self.now (room_of c.self.inside.blocks) placed c.as_slice-placed.result.now c.self.inside.subs.items c.args.part c.args.side c.in-Some.n c.index-placed-n.result held
+    c.slot_number.result c.self.invariant.0 c.self.view_is c.as_slice-placed.ensures.value c.slot_number.ensures c.in-Some.is c.index-placed-n.is c.index-held.ensures in
+    rw kept.is (λ none. let no : false ≡ true = constant_holds (false ≡ true) content held.sub held.first c.args.i c.in_err-value.ensures.constant none in absurd (cc no))
 
 pub returns-clause-value : goal.returns-clause-value
 returns-clause-value g c =

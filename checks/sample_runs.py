@@ -1,0 +1,66 @@
+"""What `checks/refuse_memory` and `checks/fail_devices` share: each command of the program on each sample table, run with
+`checks/refuse.c` before the C library."""
+import os
+import subprocess
+import sys
+from pathlib import Path
+
+ROOT = Path(__file__).resolve().parent.parent
+PROGRAM = ROOT / "crates/szg_tool/out/szg_tool"
+SAMPLES = [
+    ("KNvK", "wdl", "knvk_wdl_constant.rtbw", ["w", "Kb1", "Na1", "kc1"]),
+    ("KQvK", "wdl", "kqvk_wdl_unpaired.rtbw", ["w", "Ke8", "Qa1", "kh1"]),
+    ("KQvK", "wdl", "kqvk_wdl_paired.rtbw", ["b", "Ke8", "Qa1", "kh1"]),
+    ("KPvK", "dtz", "kpvk_dtz_mapped.rtbz", ["w", "Ke1", "Pa2", "ke8"]),
+]
+COMMANDS = [
+    ["check"], ["show"], ["get", "0"], ["get", "0", "--steps"], ["values"], ["copy"], ["placement", "0"]
+]
+COMMANDS_OF_MEN = ["index", "probe"]
+FORMS = ["1", "2"]
+
+
+def compiler(name):
+    return os.environ.get("CC", name)
+
+
+class Preloaded:
+    """Runs programs with the library before the C library, by the library's settings."""
+
+    def __init__(self, folder):
+        self.library = folder / "refuse.so"
+        self.told = folder / "asked"
+        source = ROOT / "checks/refuse.c"
+        subprocess.run([compiler("cc"), "-O2", "-shared", "-fPIC", "-o", self.library, source, "-ldl"], check=True)
+
+    def run(self, words, data, **settings):
+        """The status, the output and the errors; `data` is bytes, or a file that is open."""
+        numbers = {name: str(number) for name, number in settings.items()}
+        env = {**os.environ, "LD_PRELOAD": str(self.library), "ASKED": str(self.told), **numbers}
+        source = {"input": data} if isinstance(data, bytes) else {"stdin": data}
+        ran = subprocess.run(words, **source, capture_output=True, env=env)
+        return ran.returncode, ran.stdout, ran.stderr
+
+    def counts(self):
+        """How many allocations the last run made, and how many reads and writes."""
+        return tuple(map(int, self.told.read_text().split()))
+
+
+def run_plain(words, data):
+    """The output of a run without the library, which must be carried out."""
+    ran = subprocess.run(words, input=data, capture_output=True)
+    if ran.returncode:
+        sys.exit(f"{words}: status {ran.returncode}")
+    return ran.stdout
+
+
+def runs_of_samples():
+    """For each command on each sample a label, the words and the input; `build` on the sample's dump in both forms."""
+    for name, kind, sample, men in SAMPLES:
+        table = (ROOT / "data" / sample).read_bytes()
+        commands = COMMANDS + [["dump", "--form", form] for form in FORMS] + [[command, *men] for command in COMMANDS_OF_MEN]
+        for command, *more in commands:
+            yield f"{' '.join([command, *more])} {sample}", [PROGRAM, command, name, kind, *more], table
+        for form in FORMS:
+            dump = run_plain([PROGRAM, "dump", name, kind, "--form", form], table)
+            yield f"build, from form {form}, {sample}", [PROGRAM, "build"], dump

@@ -1,0 +1,34 @@
+-- What the answer for want of memory says of the bytes that were taken.
+use Rattle.std.specs.Prelude.{◌≡◌, ℕ, ◌+◌, ◌≤◌, ◌⊎◌, List, [], ◌∷◌, ◌++◌, length}
+use Rattle.szg_io.specs.Moved.{Takes}
+use Rattle.szg_io.specs.declared.device.Input.{Ghosts}
+use Rattle.szg_build.specs.declared.incoming.Incoming.{Incoming}
+use Rattle.szg_build.specs.Held.{held_of}
+use Rattle.szg_build.specs.Lines.{Lines, Verdict, good, refused, ended, verdict}
+use Rattle.szg_build.specs.Reading.{told_line}
+
+-- there is no line, or the last one has its 0A
+abbrev pub AreWhole : List ℕ → Type 0
+AreWhole lines = (lines ≡ []) ⊎ ((front : List ℕ) × (lines ≡ front ++ 10 ∷ []))
+
+-- no line is refused, and nothing stands behind a text
+abbrev pub IsUnrefused : {A : Type 0} → Verdict A → Type 0
+IsUnrefused (good a count rest) = rest ≡ []
+IsUnrefused (refused at why rest) = ⊥
+IsUnrefused (ended at) = Unit {0}
+
+-- These bytes are whole lines of which none is refused, and then bytes that were taken ahead: no more than stand behind
+-- these lines in each text that begins with them, and `behind` more.
+pub record StopsShort {A : Type 0} (f : Lines A) (count behind : ℕ) (bytes : List ℕ) : Type 0 where
+  pub lines : List ℕ
+  pub ahead : List ℕ
+  pub split : bytes ≡ lines ++ ahead
+  pub whole : AreWhole lines
+  pub unrefused : IsUnrefused (verdict f count lines)
+  pub due : (more : List ℕ) (a : A) (n : ℕ) (rest : List ℕ) → verdict f count (lines ++ more) ≡ good a n rest → length ahead + length rest ≤ behind + length more
+
+-- The bytes that were taken, with those that were held back, stop so short.
+pub record LacksLines {A R : Type 0} (f : Lines A) (behind : ℕ) (old : Incoming) (dev : Ghosts R) (input input' : R) : Type 0 where
+  pub bytes : List ℕ
+  pub taken : Takes dev input input' bytes 1
+  pub short : (count : ℕ) → told_line count ≡ old.line → StopsShort f count behind (held_of old ++ bytes)

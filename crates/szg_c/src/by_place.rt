@@ -1,0 +1,238 @@
+//! Calls on a table whose file C reads itself.
+ghost use Rattle.std.specs.Prelude.{◌≡◌, ◌+◌, ◌≤◌, ◌<◌, ◌⊎◌, ℕ, List, is_some, IsTrue, IfSome, IsSomeAnd, MatchOption, IfOk, IfErr};
+ghost use Rattle.std.specs.declared.option.Option.TheVariants.{None, Some};
+ghost use Rattle.szg_file.specs.Heads.{IsKeptOf, slot_at, kept_at};
+ghost use Rattle.szg_file.specs.Values.{values_of, item};
+ghost use Rattle.szg_file.specs.Wanted.{wanted_block};
+ghost use Rattle.szg_c.specs.ByPlace.{AreHeads, AreHeadsOf, AreWanted, with_index};
+ghost use Rattle.szg_c.specs.Told.{Says, Stops};
+
+use crate::heads_handle::HeadsHandle;
+use crate::opening::{Answer, kind_of, material_of};
+use crate::shared::Shared;
+use crate::status::{CHANGED, CLOSED, DONE, MEMORY, NAME, RANGE, REFUSED, number_of};
+use std::alloc::Global;
+use szg_block::Image;
+use szg_file::{Heads, OpenFault, Wanted, open};
+
+/// Bytes of a file.
+#[repr(C)]
+#[derive(Drop)]
+pub struct WantedBytes {
+    /// The place of the first of them.
+    pub place: u64,
+    /// How many they are.
+    pub count: u64,
+}
+
+/// The heads of the table of this name and kind that the bytes begin with; else the status that tells why there is none.
+fn open_heads(
+    alloc: Global,
+    name: &[u8],
+    dtz: bool,
+    bytes: &[u8],
+    answer: &mut Answer,
+) -> Result<Heads, u32>
+    ensures heads { IfOk result (AreHeads name.now dtz bytes.now) }
+    ensures stops { IfErr result (λ status. Stops name.now dtz bytes.now status answer.new.place answer.new.reason) }
+{
+    let Some(material) = material_of(name) else {
+        return Err(NAME);
+    };
+    match open(alloc, material, kind_of(dtz), Image::new(bytes)) {
+        Ok(opened) => Ok(opened.into_heads()),
+        Err((OpenFault::Refused { place, reason }, _)) => {
+            answer.place = place;
+            answer.reason = number_of(reason);
+            Err(REFUSED)
+        }
+        Err((OpenFault::Memory, _)) => Err(MEMORY),
+        // bytes in memory never fail
+        Err((OpenFault::Source, _)) => unreachable!(),
+    }
+}
+
+/// Opens the heads of the table of this name and kind that the bytes begin with. What the handle held before is let go.
+#[unsafe(no_mangle)]
+pub extern "C" fn szg_open_heads(
+    alloc: Global,
+    name: &[u8],
+    dtz: bool,
+    bytes: &[u8],
+    heads: &mut HeadsHandle,
+    answer: &mut Answer,
+) -> u32
+    ensures says { Says name.now dtz bytes.now (λ t. IsSomeAnd heads.new.value (AreHeadsOf bytes.now t)) (λ t. ⊥) result answer.new.place answer.new.reason }
+    ensures shut { (result ≡ 0 → ⊥) → heads.new.value ≡ None }
+{
+    heads.shut(alloc);
+    match open_heads(alloc, name, dtz, bytes, answer) {
+        Ok(opened) => {
+            let Ok(shared) = Shared::new(alloc, opened) else {
+                return MEMORY;
+            };
+            hold(alloc, heads, shared)
+        }
+        Err(status) => status,
+    }
+}
+
+/// Holds heads, where there is memory for them, in a handle that holds none.
+fn hold(alloc: Global, heads: &mut HeadsHandle, shared: Shared<Heads>) -> u32
+    ensures done { (result ≡ 0) → heads.new.value ≡ Some shared }
+    ensures kept { (result ≡ 0 → ⊥) → heads.new.value ≡ heads.old.value }
+    ensures statuses { (result ≡ 0) ⊎ (result ≡ 3) }
+{
+    let Ok(shared) = Box::new(alloc, shared) else {
+        return MEMORY;
+    };
+    heads.put(shared);
+    DONE
+}
+
+/// A second handle on the heads of a table: both hold them, and they go when the last is closed. What the second held
+/// before is let go.
+///
+/// `CLOSED` where the first holds none, `MEMORY` where a growth was refused; then the second holds none.
+#[unsafe(no_mangle)]
+pub extern "C" fn szg_share_heads(
+    alloc: Global,
+    heads: &mut HeadsHandle,
+    second: &mut HeadsHandle,
+) -> u32
+    ensures kept { heads.new.value ≡ heads.old.value }
+    ensures closed { heads.old.value ≡ None → result ≡ 5 }
+    ensures statuses { IfSome heads.old.value (λ h. (result ≡ 0) ⊎ (result ≡ 3)) }
+    ensures done { (result ≡ 0) → second.new.value ≡ heads.old.value }
+    ensures shut { (result ≡ 0 → ⊥) → second.new.value ≡ None }
+{
+    second.shut(alloc);
+    let Some(held) = heads.take(alloc) else {
+        return CLOSED;
+    };
+    let again = held.again();
+    heads.put(held);
+    match again {
+        Ok(shared) => hold(alloc, second, shared),
+        Err(_) => MEMORY,
+    }
+}
+
+/// Lets the heads go.
+#[unsafe(no_mangle)]
+pub extern "C" fn szg_close_heads(alloc: Global, heads: &mut HeadsHandle)
+    ensures { heads.new.value ≡ None }
+{
+    heads.shut(alloc);
+}
+
+/// Whether a table has this index.
+fn has_index(heads: &Heads, part: u8, side: u8, index: u64) -> bool
+    ensures slot { IsTrue result → IsSomeAnd (slot_at heads.now part side) (λ slot. index < slot.size) }
+    ensures told { (content : List ℕ) → IsKeptOf heads.now content → result ≡ is_some (with_index (kept_at heads.now content part side) index) }
+{
+    match heads.size(part, side) {
+        Some(size) => index < size,
+        None => false,
+    }
+}
+
+/// What is found, in C's words.
+fn bytes_of(found: Option<Wanted>) -> WantedBytes
+    ensures { MatchOption found ((result.place ≡ 0) × (result.count ≡ 0)) (λ wanted. (result.place ≡ wanted.place) × (result.count ≡ wanted.count)) }
+{
+    match found {
+        Some(wanted) => WantedBytes {
+            place: wanted.place,
+            count: wanted.count,
+        },
+        None => WantedBytes { place: 0, count: 0 },
+    }
+}
+
+/// The bytes that a value wants, where the table has its index.
+fn find_in(heads: &Heads, part: u8, side: u8, index: u64, wanted: &mut WantedBytes) -> u32
+    ensures told { (content : List ℕ) → IsKeptOf heads.now content → MatchOption (with_index (kept_at heads.now content part side) index) (result ≡ 4) (λ found. (result ≡ 0) × AreWanted (wanted_block found.1 index) content wanted.new.place wanted.new.count) }
+    ensures inside { (result ≡ 0) → wanted.new.place + wanted.new.count ≤ heads.now.length }
+    ensures stays { (result ≡ 0 → ⊥) → wanted.new ≡ wanted.old }
+{
+    if !has_index(heads, part, side, index) {
+        return RANGE;
+    }
+    *wanted = bytes_of(heads.find(part, side, index));
+    DONE
+}
+
+/// Which bytes of the file the value at an index wants. In a constant subtable it wants none: then place and count are 0.
+///
+/// `CLOSED` where the handle holds no heads, `RANGE` where the table has no such part, side or index. Then what is wanted
+/// stays.
+#[unsafe(no_mangle)]
+pub extern "C" fn szg_find(
+    alloc: Global,
+    heads: &mut HeadsHandle,
+    part: u8,
+    side: u8,
+    index: u64,
+    wanted: &mut WantedBytes,
+) -> u32
+    ensures kept { heads.new.value ≡ heads.old.value }
+    ensures closed { heads.old.value ≡ None → result ≡ 5 }
+    ensures told { IfSome heads.old.value (λ h. (content : List ℕ) → IsKeptOf h content → MatchOption (with_index (kept_at h content part side) index) (result ≡ 4) (λ found. (result ≡ 0) × AreWanted (wanted_block found.1 index) content wanted.new.place wanted.new.count)) }
+    ensures inside { IfSome heads.old.value (λ h. (result ≡ 0) → wanted.new.place + wanted.new.count ≤ h.length) }
+    ensures stays { (result ≡ 0 → ⊥) → wanted.new ≡ wanted.old }
+{
+    let Some(held) = heads.take(alloc) else {
+        return CLOSED;
+    };
+    let status = find_in(held.value(), part, side, index, wanted);
+    heads.put(held);
+    status
+}
+
+/// The value at an index, out of the bytes that it wants.
+fn value_in(heads: &Heads, part: u8, side: u8, index: u64, piece: &[u8], value: &mut u16) -> u32
+    ensures statuses { (content : List ℕ) → IsKeptOf heads.now content → MatchOption (with_index (kept_at heads.now content part side) index) (result ≡ 4) (λ found. (result ≡ 0) ⊎ (result ≡ 17)) }
+    ensures done { (content : List ℕ) → IsKeptOf heads.now content → IfSome (with_index (kept_at heads.now content part side) index) (λ found. IfSome (wanted_block found.1 index) (λ block. block ≡ piece.now) → (result ≡ 0) × (item (values_of heads.now.kind found) index ≡ Some value.new)) }
+    ensures stays { (result ≡ 0 → ⊥) → value.new ≡ value.old }
+{
+    if !has_index(heads, part, side, index) {
+        return RANGE;
+    }
+    match heads.value_in(part, side, index, piece) {
+        Some(found) => {
+            *value = found;
+            DONE
+        }
+        None => CHANGED,
+    }
+}
+
+/// The value at an index, out of the bytes of the file that `szg_find` tells; of a constant subtable out of any.
+///
+/// `CLOSED` where the handle holds no heads, `RANGE` where the table has no such part, side or index, `CHANGED` where the
+/// bytes can't be the file's: they aren't as many as are wanted, or their words spell too few values. Then the value
+/// stays. Other bytes than the file's may have another value.
+#[unsafe(no_mangle)]
+pub extern "C" fn szg_value(
+    alloc: Global,
+    heads: &mut HeadsHandle,
+    part: u8,
+    side: u8,
+    index: u64,
+    piece: &[u8],
+    value: &mut u16,
+) -> u32
+    ensures kept { heads.new.value ≡ heads.old.value }
+    ensures closed { heads.old.value ≡ None → result ≡ 5 }
+    ensures statuses { IfSome heads.old.value (λ h. (content : List ℕ) → IsKeptOf h content → MatchOption (with_index (kept_at h content part side) index) (result ≡ 4) (λ found. (result ≡ 0) ⊎ (result ≡ 17))) }
+    ensures done { IfSome heads.old.value (λ h. (content : List ℕ) → IsKeptOf h content → IfSome (with_index (kept_at h content part side) index) (λ found. IfSome (wanted_block found.1 index) (λ block. block ≡ piece.now) → (result ≡ 0) × (item (values_of h.kind found) index ≡ Some value.new))) }
+    ensures stays { (result ≡ 0 → ⊥) → value.new ≡ value.old }
+{
+    let Some(held) = heads.take(alloc) else {
+        return CLOSED;
+    };
+    let status = value_in(held.value(), part, side, index, piece, value);
+    heads.put(held);
+    status
+}

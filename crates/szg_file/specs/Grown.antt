@@ -1,0 +1,44 @@
+-- What the readers say of the lists that they give: `grow` counted them.
+use Rattle.std.specs.Prelude.{ℕ, ◌+◌, ◌*◌, ◌≤◌, List, length, option_map, Option}
+use Rattle.std.specs.List.{sum_by}
+use Rattle.szg_block.specs.declared.Sub.{Sub}
+use Rattle.szg_file.specs.declared.front.Front.{Front}
+use Rattle.szg_file.specs.declared.reading.Opening.{Opening}
+use Rattle.szg_file.specs.declared.reading.Pieces.{Pieces}
+use Rattle.szg_file.specs.declared.table.PartBytes.{PartBytes}
+use Rattle.szg_file.specs.declared.table.Map.{Map}
+use Rattle.szg_file.specs.File.{Begun}
+use Rattle.szg_file.specs.Held.{part_of, subtable_of, map_of}
+use Rattle.szg_file.specs.Lengths.{part_length}
+use Rattle.szg_file.specs.Reads.{sub_lengths, map_lengths}
+
+-- The lists handed in have `before` items, those given `after`: with the fill they have grown by no more than was counted.
+abbrev pub HasCounted : Front → Front → ℕ → ℕ → Type 0
+HasCounted old new before after = old.held + after + length new.fill.items ≤ new.held + before + length old.fill.items
+
+-- ---- the lengths of the lists within an item of these lists
+
+abbrev pub parts_lengths : List PartBytes → ℕ
+parts_lengths parts = sum_by (λ part. part_length (part_of part)) parts
+
+abbrev pub begun_lengths : List Begun → ℕ
+begun_lengths list = sum_by (λ begun. sub_lengths begun.subtable) list
+
+abbrev pub subs_lengths : List Sub → ℕ
+subs_lengths subs = sum_by (λ sub. sub_lengths (subtable_of sub)) subs
+
+abbrev pub maps_lengths : List (Option Map) → ℕ
+maps_lengths maps = sum_by (λ found. map_lengths (option_map map_of found)) maps
+
+-- ---- the lengths of all lists
+
+abbrev pub opening_lengths : Opening → ℕ
+opening_lengths o =
+    length o.parts.bytes.items + parts_lengths o.parts.bytes.items + length o.heads.items + begun_lengths o.heads.items
+    + length o.maps.items + maps_lengths o.maps.items
+
+-- beside the subtables stand their slots
+abbrev pub pieces_lengths : Pieces → ℕ
+pieces_lengths p =
+    length p.parts.bytes.items + parts_lengths p.parts.bytes.items + 2 * length p.subs.items + subs_lengths p.subs.items
+    + length p.maps.items + maps_lengths p.maps.items

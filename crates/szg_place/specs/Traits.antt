@@ -1,0 +1,25 @@
+-- What a material tells, kept for many placements.
+use Rattle.std.specs.Prelude.{◌≡◌, ℕ, ◌^◌, Bool, List}
+use Rattle.std.specs.List.{sum_by}
+use Rattle.szg_values.specs.Material.{Sides, IsMaterial, is_symmetric, has_pawns, lead_pawns, other_pawns, lead_pawn_code, has_single_lead, man_codes}
+use Rattle.szg_values.specs.Placement.{Standing}
+use Rattle.szg_place.specs.Normal.{colored_code, exchanged_color}
+
+-- A key tells how many men of each code there are: each code has a digit of base 8, since there are at most six men.
+abbrev pub key_of : List ℕ → ℕ
+key_of codes = sum_by (λ code. 8 ^ code) codes
+
+-- the key of men on squares, colours exchanged or not
+abbrev pub men_key : Bool → List Standing → ℕ
+men_key exchanged standing = sum_by (λ s. 8 ^ colored_code s.0 (exchanged_color exchanged s.1)) standing
+
+-- what is kept of a material
+pub record AreTraits (sides : Sides) (symmetric pawns single : Bool) (lead other code key : ℕ) : Type 0 where
+  pub material : IsMaterial sides
+  pub symmetric_is : symmetric ≡ is_symmetric sides
+  pub pawns_is : pawns ≡ has_pawns sides
+  pub single_is : single ≡ has_single_lead sides
+  pub lead_is : lead ≡ lead_pawns sides
+  pub other_is : other ≡ other_pawns sides
+  pub code_is : code ≡ lead_pawn_code sides
+  pub key_is : key ≡ key_of (man_codes sides)

@@ -1,0 +1,144 @@
+//! Tables that are prepared for many placements.
+
+ghost use Rattle.std.specs.Prelude.{Some, IfSome};
+ghost use Rattle.szg_count.specs.Laws.{IsIn};
+ghost use Rattle.szg_place.specs.Prepared.{IsPrepared};
+ghost use Rattle.szg_place.specs.Tables.{numbering_of};
+ghost use Rattle.szg_place.specs.declared.spots.Prepared.{Prepared as PreparedSide};
+
+use crate::probes::class_of;
+use crate::spots::{Prepared, index_among};
+use crate::traits::Traits;
+use crate::{PlaceFault, ProbeFault, Spot};
+use arrayvec::ArrayVec;
+use std::marker::Model;
+use szg_file::Table;
+use szg_values::{Kind, Placement};
+
+/// A table with what depends on it alone and many placements ask for: what its material tells, and the groups of each
+/// part and side.
+#[derive(Drop)]
+pub struct PreparedTable {
+    table: Table,
+    material: Traits,
+    flags: ArrayVec<u8, 8>,
+    sides: ArrayVec<Option<Prepared>, 8>,
+}
+
+impl Model for PreparedTable {
+    ghost use Rattle.szg_file.specs.Held.{Shown};
+    ghost use Rattle.szg_place.specs.Prepared.{ArePrepared};
+
+    ghost Value = { Shown };
+
+    ghost view = { λ p. p.table };
+
+    ghost invariant = { λ p. ArePrepared p.table.contents p.material p.flags.items p.sides.items };
+}
+
+impl PreparedTable {
+    ghost use Rattle.std.specs.Prelude.{◌≡◌, ◌<◌, ◌≤ℤ◌, pos, neg_ℤ, IsNone, IfSome, IfOk, IsSomeAnd, MatchResult, Ok, Err};
+    ghost use Rattle.szg_file.specs.Values.{subtable_at};
+    ghost use Rattle.szg_place.specs.Spots.{place_fault, spot_of};
+    ghost use Rattle.szg_place.specs.Tables.{numbering_of, value_at, class_of, mapped_number};
+
+    /// Prepares a table. It takes no memory.
+    pub fn of(table: Table) -> PreparedTable
+        ensures { result ≡ table }
+    {
+        let material = Traits::of(table.material());
+        let flags = table.flags();
+        let sides = sides_of(&table);
+        PreparedTable {
+            table,
+            material,
+            flags,
+            sides,
+        }
+    }
+
+    /// The table.
+    pub fn table(&self) -> &Table
+        ensures { result.now ≡ self.now }
+    {
+        &self.table
+    }
+
+    /// What `index_of` answers and refuses for the table. Nothing of the table is worked out again.
+    pub fn index_of(&self, placement: &Placement) -> Result<Spot, PlaceFault>
+        ensures refused { IfSome (place_fault (numbering_of self.now.contents) placement.now) (λ fault. result ≡ Err fault) }
+        ensures spot { IsNone (place_fault (numbering_of self.now.contents) placement.now) → result ≡ Ok (spot_of (numbering_of self.now.contents) placement.now) }
+        // So the table has a value there.
+        ensures below { IfOk result (λ spot. IsSomeAnd (subtable_at self.now.contents spot.part spot.side) (λ found. spot.index < found.0.size)) }
+    {
+        // The fill tells that this is a table, and the material that it is a name's.
+        let _fill = self.table.fill();
+        let _material = self.material.material();
+        let (kind, parts) = (self.table.kind(), self.table.parts());
+        index_among(
+            &self.material,
+            kind,
+            parts,
+            self.flags.as_slice(),
+            self.sides.as_slice(),
+            placement,
+        )
+    }
+
+    /// What `probe_wdl` answers and refuses for the table.
+    pub fn probe_wdl(&self, placement: &Placement) -> Result<Option<i8>, PlaceFault>
+        requires { self.now.contents.kind ≡ Kind.Wdl }
+        ensures refused { IfSome (place_fault (numbering_of self.now.contents) placement.now) (λ fault. result ≡ Err fault) }
+        ensures class { IsNone (place_fault (numbering_of self.now.contents) placement.now) →
+            IsSomeAnd (value_at self.now.contents (spot_of (numbering_of self.now.contents) placement.now)) (λ v. result ≡ Ok (class_of v)) }
+    {
+        match self.index_of(placement) {
+            Ok(spot) => Ok(class_of(self.table().get(spot.part, spot.side, spot.index))),
+            Err(fault) => Err(fault),
+        }
+    }
+
+    /// What `probe_dtz` answers and refuses for the table.
+    pub fn probe_dtz(&self, placement: &Placement, class: i8) -> Result<u32, ProbeFault>
+        requires kind { self.now.contents.kind ≡ Kind.Dtz }
+        requires lowest { neg_ℤ (pos 2) ≤ℤ class }
+        requires highest { class ≤ℤ pos 2 }
+        ensures refused { IfSome (place_fault (numbering_of self.now.contents) placement.now) (λ fault. result ≡ Err (ProbeFault.Place fault)) }
+        // The table's map is asked only for a placement that the table answers.
+        ensures number { IsNone (place_fault (numbering_of self.now.contents) placement.now) →
+            (let spot = spot_of (numbering_of self.now.contents) placement.now in
+            IsSomeAnd (value_at self.now.contents spot) (λ v. MatchResult (mapped_number self.now.contents spot.part class v)
+            (λ number. result ≡ Ok number) (λ fault. result ≡ Err (ProbeFault.Map fault)))) }
+    {
+        let spot = match self.index_of(placement) {
+            Ok(spot) => spot,
+            Err(fault) => return Err(ProbeFault::Place(fault)),
+        };
+        let value = self.table().get(spot.part, spot.side, spot.index);
+        match self.table().map_value(spot.part, class, value) {
+            Ok(number) => Ok(number),
+            Err(fault) => Err(ProbeFault::Map(fault)),
+        }
+    }
+}
+
+// The numbering of each part's side that the table has.
+fn sides_of(table: &Table) -> ArrayVec<Option<Prepared>, 8>
+    ensures { (p : PreparedSide) → IsIn (Some p) result.items → IsPrepared (numbering_of table.now.contents) p }
+{
+    let mut sides = ArrayVec::new();
+    for place in 0..8 {
+        sides.push(side_of(table, place / 2, place % 2));
+    }
+    sides
+}
+
+// The numbering of a part's side, where the table has it.
+fn side_of(table: &Table, part: u8, side: u8) -> Option<Prepared>
+    ensures { IfSome result (λ prepared. IsPrepared (numbering_of table.now.contents) prepared) }
+{
+    if table.size(part, side).is_none() {
+        return None;
+    }
+    Some(Prepared::of(table, part, side))
+}

@@ -1,0 +1,198 @@
+//! What a material tells, kept for many placements.
+
+ghost use Rattle.std.specs.Prelude.{◌≡◌, ◌<◌, ◌≤◌, ◌^◌, ◌==◌, ◌&&◌, ◌||◌, ℕ, nat_lt, nat_le, length, if◌then◌else◌};
+ghost use Rattle.szg_count.specs.Laws.{IsIn};
+ghost use Rattle.szg_values.specs.Material.{count_of};
+ghost use Rattle.szg_place.specs.Normal.{colored_code};
+ghost use Rattle.szg_place.specs.Traits.{key_of, men_key};
+
+use crate::men::{code_count, colored_code, exchanged_color};
+use std::marker::Model;
+use szg_values::{Color, Man, Material, Square};
+
+/// What a man adds to a key, by his code.
+const KEYS: [u64; 16] = [
+    1,
+    8,
+    64,
+    512,
+    4096,
+    32768,
+    262144,
+    2097152,
+    16777216,
+    134217728,
+    1073741824,
+    8589934592,
+    68719476736,
+    549755813888,
+    4398046511104,
+    35184372088832,
+];
+
+/// A material, and what it tells.
+#[derive(Drop)]
+pub struct Traits {
+    material: Material,
+    symmetric: bool,
+    pawns: bool,
+    single: bool,
+    lead: u8,
+    other: u8,
+    code: u8,
+    key: u64,
+}
+
+impl Model for Traits {
+    ghost use Rattle.szg_values.specs.Material.{Sides};
+    ghost use Rattle.szg_place.specs.Traits.{AreTraits};
+
+    ghost Value = { Sides };
+
+    ghost view = { λ t. t.material };
+
+    ghost invariant = { λ t. AreTraits t.material t.symmetric t.pawns t.single t.lead t.other t.code t.key };
+}
+
+impl Traits {
+    ghost use Rattle.std.specs.Prelude.{◌≡◌};
+    ghost use Rattle.szg_values.specs.Material.{IsMaterial, is_symmetric, has_pawns, lead_pawns, other_pawns, lead_pawn_code, has_single_lead, man_codes};
+    ghost use Rattle.szg_place.specs.Traits.{key_of};
+
+    /// What this material tells.
+    pub fn of(material: &Material) -> Traits
+        ensures same { result ≡ material.now }
+        ensures named { IsMaterial material.now }
+    {
+        let codes = material.men();
+        Traits {
+            material: material.copy(),
+            symmetric: material.symmetric(),
+            pawns: material.has_pawns(),
+            single: material.single_lead(),
+            lead: material.lead_pawns(),
+            other: material.other_pawns(),
+            code: lead_pawn_code(codes.as_slice()),
+            key: codes_key(codes.as_slice()),
+        }
+    }
+
+    /// The material.
+    pub fn material(&self) -> &Material
+        ensures material { result.now ≡ self.now }
+        ensures named { IsMaterial self.now }
+    {
+        &self.material
+    }
+
+    /// Whether both sides have the same men.
+    pub fn symmetric(&self) -> bool
+        ensures { result ≡ is_symmetric self.now }
+    {
+        self.symmetric
+    }
+
+    /// Whether some man is a pawn.
+    pub fn has_pawns(&self) -> bool
+        ensures { result ≡ has_pawns self.now }
+    {
+        self.pawns
+    }
+
+    /// Whether some man other than a king is the only one of its kind and colour.
+    pub fn single_lead(&self) -> bool
+        ensures { result ≡ has_single_lead self.now }
+    {
+        self.single
+    }
+
+    /// The number of pawns of the lead colour; 0 without pawns.
+    pub fn lead_pawns(&self) -> u8
+        ensures { result ≡ lead_pawns self.now }
+    {
+        self.lead
+    }
+
+    /// The number of pawns of the other colour; 0 without pawns.
+    pub fn other_pawns(&self) -> u8
+        ensures { result ≡ other_pawns self.now }
+    {
+        self.other
+    }
+
+    /// The lead pawns' code.
+    pub fn lead_pawn_code(&self) -> u8
+        ensures { result ≡ lead_pawn_code self.now }
+    {
+        self.code
+    }
+
+    /// The key of its men.
+    pub fn key(&self) -> u64
+        ensures { result ≡ key_of (man_codes self.now) }
+    {
+        self.key
+    }
+}
+
+// The lead pawns' code, of a material with these codes.
+fn lead_pawn_code(codes: &[u8]) -> u8
+    ensures { result ≡ (if nat_lt 0 (count_of 1 codes.now) && (count_of 9 codes.now == 0 || nat_le (count_of 1 codes.now) (count_of 9 codes.now)) then 1 else 9) }
+{
+    let first = code_count(1, codes);
+    let second = code_count(9, codes);
+    if is_first_leading(first, second) {
+        1
+    } else {
+        9
+    }
+}
+
+// Whether the first side's pawns lead: it has some, and the second side has none or as many or more.
+fn is_first_leading(first: usize, second: usize) -> bool
+    ensures { result ≡ (nat_lt 0 first && (second == 0 || nat_le first second)) }
+{
+    0 < first && (second == 0 || first <= second)
+}
+
+// The key of codes.
+fn codes_key(codes: &[u8]) -> u64
+    requires few { length codes.now ≤ 6 }
+    requires small { (code : ℕ) → IsIn code codes.now → code < 16 }
+    ensures { result ≡ key_of codes.now }
+{
+    let mut key = 0;
+    for code in codes {
+        key += code_key(*code);
+    }
+    key
+}
+
+// What a man of a code adds to a key.
+fn code_key(code: u8) -> u64
+    requires { code < 16 }
+    ensures key { result ≡ 8 ^ code }
+    ensures small { result < 2 ^ 60 }
+{
+    KEYS[usize::from(code)]
+}
+
+/// The key of men on squares, colours exchanged or not.
+pub fn men_key(men: &[(Man, Color, Square)], exchanged: bool) -> u64
+    requires { length men.now ≤ 6 }
+    ensures { result ≡ men_key exchanged men.now }
+{
+    let mut key = 0;
+    for man in men {
+        key += man_key(man.0, exchanged_color(exchanged, man.1));
+    }
+    key
+}
+
+// What a man adds to a key.
+fn man_key(man: Man, color: Color) -> u64
+    ensures key { result ≡ 8 ^ colored_code man color }
+    ensures small { result < 2 ^ 60 }
+{
+    code_key(colored_code(man, color))
+}
