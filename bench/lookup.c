@@ -31,6 +31,9 @@ uint64_t szg_bench_subtable(const struct work *work, const struct numbers *numbe
                             size_t lengths_len, const uint8_t *packed, size_t packed_len, const uint32_t *indexes,
                             size_t indexes_len);
 
+uint64_t szg_bench_opened(const uint8_t *name, size_t name_len, const uint8_t *bytes, size_t bytes_len,
+                          const uint32_t *indexes, size_t indexes_len);
+
 /* side 0 of a table, as the probing code keeps it */
 struct table {
     struct numbers n;
@@ -363,6 +366,28 @@ static struct library library_at(const char *path)
                             call(library, "szg_find"), call(library, "szg_value")};
 }
 
+/* the least time of the look-ups in a table that stays in a source over memory, its opening left out */
+static double time_source(const struct table *t, const uint32_t *indexes, const uint8_t *file, size_t length)
+{
+    const uint8_t name[] = {'K', 'Q', 'R', 'v', 'K'};
+    double whole = 1e9, begun = 1e9;
+    uint64_t mix = 0;
+    for (size_t k = 0; k < LOOK_UPS; k++)
+        mix = 31 * mix + look_up(t, indexes[k]);
+    for (int round = 0; round < ROUNDS; round++) {
+        double t0 = now();
+        uint64_t other = szg_bench_opened(name, sizeof name, file, length, indexes, LOOK_UPS);
+        double t1 = now();
+        szg_bench_opened(name, sizeof name, file, length, indexes, 0);
+        double t2 = now();
+        if (mix != other)
+            fail("the look-ups by a source");
+        least(&whole, t1 - t0);
+        least(&begun, t2 - t1);
+    }
+    return whole - begun;
+}
+
 /* the least times of a look-up by szg_get, and by szg_find and szg_value out of the file in memory */
 struct called {
     double get, by_place;
@@ -423,10 +448,12 @@ int main(int argc, char **argv)
         indexes[k] = (state >> 16) % t.n.size;
     }
     struct times memory = time_look_ups(&t, indexes);
+    double source = time_source(&t, indexes, file, length);
     struct called library = time_calls(&t, indexes, library_at(argv[3]), file, length);
     struct times check = time_blocks(&t, false), list = time_blocks(&t, true);
     printf("%" PRIu64 " values, %u blocks, %u symbols\n", t.n.size, t.n.blocks, t.n.symbols);
     printf("look-up:             C %6.1f ns, szg_block %6.1f ns, ratio %.2f\n", memory.plain / LOOK_UPS * 1e9, memory.szg / LOOK_UPS * 1e9, memory.szg / memory.plain);
+    printf("by a source:         Opened  %6.1f ns, ratio %.2f\n", source / LOOK_UPS * 1e9, source / memory.plain);
     printf("by the C library:    szg_get %6.1f ns, ratio %.2f; szg_find and szg_value %6.1f ns, ratio %.2f\n", library.get / LOOK_UPS * 1e9, library.get / memory.plain, library.by_place / LOOK_UPS * 1e9, library.by_place / memory.plain);
     printf("check of all blocks: C %6.0f million values a second, szg_block %6.0f, ratio of times %.2f\n", t.n.size / check.plain / 1e6, t.n.size / check.szg / 1e6, check.szg / check.plain);
     printf("list of all values:  C %6.0f million values a second, szg_block %6.0f, ratio of times %.2f\n", t.n.size / list.plain / 1e6, t.n.size / list.szg / 1e6, list.szg / list.plain);

@@ -2,6 +2,7 @@
 #![tactic(auto)]
 
 mod building;
+mod opened;
 
 ghost use Rattle.std.specs.Prelude.{◌^◌, ◌≤◌, length};
 ghost use Rattle.szg_block.specs.Subtable.{packed_of, IsShaped, IsSoundOver};
