@@ -1,5 +1,6 @@
 -- What a sound subtable shows: the subtable, its size, the value that a constant one stands for, the blocks that it
--- reads, one behind another, and how often their source failed.
+-- reads, one behind another, how often their source failed, how many bytes were asked of it, and how many a block asks
+-- for.
 use Rattle.std.specs.Prelude.{ℕ, ◌≡◌, ◌<◌, ◌^◌, List, length, IfSome}
 use Rattle.szg_code.specs.Acceptance.{IsCode}
 use Rattle.szg_block.specs.Lending.{packed_blocks}
@@ -13,6 +14,8 @@ pub record Shown : Type 0 where
   pub constant : ℕ
   pub packed : List ℕ
   pub failures : ℕ
+  pub asked : ℕ
+  pub cost : ℕ
 
 -- a sound subtable over the blocks that it reads: so many blocks, which are whole
 pub record IsReady (sub : Sub) (size : ℕ) (count : ℕ) (bytes : ℕ → List ℕ) : Type 0 where

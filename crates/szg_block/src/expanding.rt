@@ -1,8 +1,8 @@
 //! The values of sound subtables.
 
-ghost use Rattle.std.specs.Prelude.{◌≡◌, ◌<◌, ◌≤◌, ◌+◌, ◌^◌, ◌*◌, IfOk, IfSome, IsOkAnd, Some, length, slice_get};
+ghost use Rattle.std.specs.Prelude.{◌≡◌, ◌<◌, ◌≤◌, ◌+◌, ◌^◌, ◌*◌, IfNone, IfOk, IfSome, IsOk, IsOkAnd, Some, length, slice_get};
 ghost use Rattle.szg_block.specs.Subtable.{layout_of, packed_of, IsShaped, IsShapedHead, IsSoundOver};
-ghost use Rattle.szg_block.specs.Lending.{failed_after, bytes_at};
+ghost use Rattle.szg_block.specs.Lending.{raised, failed_after, bytes_at};
 ghost use Rattle.szg_block.specs.Paging.{source_of, first_of, count_of, size_of};
 ghost use Rattle.szg_block.specs.Shown.{values_shown, steps_shown};
 
@@ -38,6 +38,8 @@ impl<'a, B: Blocks> Model for Sound<'a, B> {
       constant = sound.constant;
       packed = packed_blocks (B.bytes sound.blocks) (B.count sound.blocks);
       failures = B.failures sound.blocks;
+      asked = B.asked sound.blocks;
+      cost = B.cost sound.blocks;
     } };
 
     ghost invariant = { λ sound. IsReady sound.sub.now sound.size (B.count sound.blocks) (B.bytes sound.blocks) };
@@ -59,7 +61,7 @@ impl<'a> Sound<'a, Whole<'a>> {
     pub fn of(sub: &'a Sub, size: u64, constant: u16) -> Sound<'a, Whole<'a>>
         requires shaped { IsShaped sub.now size }
         requires sound { IsSoundOver sub.now (packed_of sub.now) size }
-        ensures { result ≡ record { sub = sub.now; size = size; constant = constant; packed = packed_of sub.now; failures = 0 } }
+        ensures { result ≡ record { sub = sub.now; size = size; constant = constant; packed = packed_of sub.now; failures = 0; asked = 0; cost = 0 } }
     {
         Sound {
             sub,
@@ -139,6 +141,8 @@ impl<'a, S: Source + Drop> Sound<'a, Paged<S>> {
         ensures constant { result.constant ≡ constant }
         ensures packed { result.packed ≡ bytes_at (S.content (source_of blocks)) (first_of blocks) (count_of blocks * size_of blocks) }
         ensures failures { result.failures ≡ S.failed (source_of blocks) }
+        ensures asked { result.asked ≡ S.asked (source_of blocks) }
+        ensures cost { result.cost ≡ size_of blocks }
     {
         // what a look-up stands on: no word of the code begins another
         let _held = blocks_in(sub);
@@ -155,7 +159,12 @@ impl<'a, S: Source + Drop> Sound<'a, Paged<S>> {
     pub fn get(&mut self, i: u64) -> Result<u16, SourceFault>
         requires { i < self.old.size }
         ensures value { IfOk result (λ value. slice_get (values_shown self.old) i ≡ Some value) }
+        ensures constant_answers { IfNone (layout_of self.old.sub) (IsOk result) }
         ensures failures { self.new.failures ≡ failed_after result self.old.failures }
+        // one block is asked for, and none for a constant subtable
+        ensures asked_none { IfNone (layout_of self.old.sub) (self.new.asked ≡ self.old.asked) }
+        ensures asked_one { IfSome (layout_of self.old.sub) (λ _. self.new.asked ≡ raised self.old.asked self.old.cost) }
+        ensures cost { self.new.cost ≡ self.old.cost }
         ensures sub { self.new.sub ≡ self.old.sub }
         ensures size { self.new.size ≡ self.old.size }
         ensures constant { self.new.constant ≡ self.old.constant }
@@ -170,7 +179,12 @@ impl<'a, S: Source + Drop> Sound<'a, Paged<S>> {
         requires { i < self.old.size }
         ensures value { IfOk result (λ found. slice_get (values_shown self.old) i ≡ Some found.0) }
         ensures steps { IfOk result (λ found. found.1 ≡ steps_shown self.old i) }
+        ensures constant_answers { IfNone (layout_of self.old.sub) (IsOk result) }
         ensures failures { self.new.failures ≡ failed_after result self.old.failures }
+        // one block is asked for, and none for a constant subtable
+        ensures asked_none { IfNone (layout_of self.old.sub) (self.new.asked ≡ self.old.asked) }
+        ensures asked_one { IfSome (layout_of self.old.sub) (λ _. self.new.asked ≡ raised self.old.asked self.old.cost) }
+        ensures cost { self.new.cost ≡ self.old.cost }
         ensures sub { self.new.sub ≡ self.old.sub }
         ensures size { self.new.size ≡ self.old.size }
         ensures constant { self.new.constant ≡ self.old.constant }

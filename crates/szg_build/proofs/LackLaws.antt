@@ -1,17 +1,16 @@
 -- Where memory is refused, how far the reading has come, and how many bytes may have been taken ahead.
-use Rattle.std.proofs.Common.{◌≡◌, ℕ, suc, ◌+◌, ◌≤◌, List, [], ◌∷◌, ◌++◌, length, refl, sym, ap, subst, ◌∙◌, append_assoc, append-nil, arith, length-append, Ok, Err}
-use Rattle.std.specs.Prelude.{Result}
+use Rattle.std.proofs.Common.{◌≡◌, ℕ, suc, ◌+◌, ◌≤◌, List, [], ◌∷◌, ◌++◌, length, refl, sym, ap, subst, ◌∙◌, append_assoc, append-nil, arith, length-append, Ok}
 use Rattle.std.specs.List.{range_with_len}
 use Rattle.std.proofs.lemmas.List.FromFn.{length-range_with_len}
 use Rattle.szg_io.specs.declared.device.Input.{Ghosts}
 use Rattle.szg_io.proofs.DeviceLaws.{Takes-on, Takes-more}
 use Rattle.szg_build.specs.declared.incoming.Incoming.{Incoming}
 use Rattle.szg_build.specs.Held.{held_of}
-use Rattle.szg_build.specs.Lines.{Lines, means, refuses, line, FirstLine, whole, long, unended, first_line, line_room, words_of, Verdict, good, refused, ended, verdict, ◌>>=◌}
+use Rattle.szg_build.specs.Lines.{Lines, means, line, FirstLine, whole, long, unended, first_line, line_room, words_of, Verdict, good, refused, ended, verdict, ◌>>=◌}
 use Rattle.szg_build.specs.Grammar.{each}
 use Rattle.szg_build.specs.Reading.{ReadsLines}
-use Rattle.szg_build.specs.Lacks.{IsUnrefused, StopsShort, LacksLines}
-use Rattle.szg_build.proofs.CutLaws.{cut, line_split, no_more, whole_joined}
+use Rattle.szg_build.specs.Lacks.{IsUnrefused, LacksLines}
+use Rattle.szg_build.proofs.CutLaws.{line_split, no_more, whole_joined}
 use Rattle.szg_build.proofs.LinesLaws.{continued, verdict-then, line-whole, line-long, line-unended}
 use Rattle.szg_build.proofs.GoingLaws.{GoesOn, mapped, each_left, goes_first, goes_whole}
 

@@ -4,6 +4,7 @@ use Rattle.std.proofs.Common.{ℕ, suc, ◌≡◌, ◌≢◌, ◌+◌, ◌*◌, 
 use Rattle.std.specs.Prelude.{◌==◌, ◌&&◌, ◌||◌, ◌⊎◌}
 use Rattle.std.proofs.Math.Nat.{mul-le-mul_right}
 use Rattle.std.proofs.lemmas.Bool.{eq-eqb, ne_eqb, eqb-true, cases_order}
+use Rattle.std.proofs.Math.Bool.{and-false, and-true}
 use Rattle.szg_build.specs.Pairing.{pair_count}
 use Rattle.szg_build.specs.Counting.{is_pair, is_free}
 use Rattle.szg_build.proofs.Tallying.{Tally, tallied, tally, tally-last, none_yet, tally-pair_count}
@@ -70,21 +71,13 @@ pub step_waits : (left right s last : ℕ) (begun free : Bool) (t : Tally) → t
 step_waits left right s last begun free t h =
     waits_cond left right t s (t.waits && (s == right)) refl ∙ waits_by left right s last begun free t h (s == left) (left == right) refl refl
 
-and_false : (a : Bool) → (a && false) ≡ false
-and_false true = refl
-and_false false = refl
-
-and_true : (a : Bool) → (a && true) ≡ a
-and_true true = refl
-and_true false = refl
-
 -- the pair of the last symbol and this one is counted where it is one
 pub step_here : (s last : ℕ) (begun free : Bool) (t : Tally) → t.waits ≡ waits_of begun last free last s →
     (tallied last s t s).count ≡ cond (is_pair begun last free s) (t.count + 1) t.count
 step_here s last begun free t h =
     let r : (s == s) ≡ true = eq-eqb s s refl in
     let l : (last == last) ≡ true = eq-eqb last last refl in
-    let w : (t.waits && (s == s)) ≡ is_pair begun last free s = rw (r, and_true t.waits, h, l, and_true begun) refl in
+    let w : (t.waits && (s == s)) ≡ is_pair begun last free s = rw (r, and-true t.waits, h, l, and-true begun) refl in
     count_cond last s t s (is_pair begun last free s) w
 
 -- no other pair is
@@ -92,11 +85,11 @@ pub step_elsewhere : (left right s last : ℕ) (begun free : Bool) (t : Tally) �
     (tallied left right t s).count ≡ t.count
 step_elsewhere left right s last begun free t h (inl other) =
     let l : (last == left) ≡ false = ne_eqb last left other in
-    let w : t.waits ≡ false = h ∙ rw (l, and_false begun) refl in
+    let w : t.waits ≡ false = h ∙ rw (l, and-false begun) refl in
     count_cond left right t s false (rw w refl)
 step_elsewhere left right s last begun free t h (inr other) =
     let r : (s == right) ≡ false = ne_eqb s right other in
-    count_cond left right t s false (rw (r, and_false t.waits) refl)
+    count_cond left right t s false (rw (r, and-false t.waits) refl)
 
 -- ---- places in the table
 

@@ -6,6 +6,7 @@ use Rattle.std.proofs.lemmas.Bool.{cases_order, eq-eqb, ne_eqb}
 use Rattle.std.proofs.lemmas.List.{length-map, map-append}
 use Rattle.std.proofs.lemmas.List.Elements.{filter-append}
 use Rattle.std.proofs.lemmas.List.Folds.{list_any_more}
+use Rattle.std.proofs.Math.Bool.{or-true, or-false}
 use Rattle.szg_code.specs.Canonical.{IsIn}
 use Rattle.szg_pairs.specs.Entry.{left_of, is_leaf}
 use Rattle.szg_pairs.specs.Expansion.{leaf, expansion_of}
@@ -22,14 +23,6 @@ use Rattle.szg_build.proofs.Growing.{there_more, there_last, leaf_grows}
 
 -- ---- marks
 
-or_true : (b : Bool) → (b || true) ≡ true
-or_true true = refl
-or_true false = refl
-
-or_false : (b : Bool) → (b || false) ≡ b
-or_false true = refl
-or_false false = refl
-
 -- one more value is marked
 pub marked_more : (values : List ℕ) (marks : List Bool) (i x value : ℕ) → i < length values → x ≡ get_or values i 0 → x < length marks →
     get_or marks value false ≡ list_any (λ v. v == value) (take i values) → get_or (set marks x true) value false ≡ list_any (λ v. v == value) (take (i + 1) values)
@@ -39,13 +32,13 @@ marked_more values marks i x value inside read there old =
     elim (cases_order value x) [
       | inl same ↦
           ap (λ (k : ℕ). get_or (set marks x true) k false) same ∙ get_or-set_same marks x true false there
-          ∙ sym (or_true (list_any (λ v. v == value) (take i values)))
+          ∙ sym (or-true (list_any (λ v. v == value) (take i values)))
           ∙ ap (λ (b : Bool). list_any (λ v. v == value) (take i values) || b) (sym (eq-eqb x value (sym same))) ∙ sym more
       | inr differ ↦
           let apart : value ≢ x = λ e. absurd (elim differ [ inl less ↦ omega (arith, e, less) | inr less ↦ omega (arith, e, less) ]) in
           let other : (x == value) ≡ false = ne_eqb x value (λ e. apart (sym e)) in
           get_or-set_other marks x value true false apart ∙ old
-          ∙ sym (or_false (list_any (λ v. v == value) (take i values)))
+          ∙ sym (or-false (list_any (λ v. v == value) (take i values)))
           ∙ ap (λ (b : Bool). list_any (λ v. v == value) (take i values) || b) (sym other) ∙ sym more
     ]
 
@@ -166,7 +159,7 @@ slice_get-inside (y ∷ xs) (suc i) x h = let r = slice_get-inside xs i x h in o
 has_item : (values : List ℕ) (v : ℕ) → IsIn values v → list_any (λ u. u == v) values ≡ true
 has_item [] v h = absurd h
 has_item (u ∷ values) v (inl same) = rw (eq-eqb u v same) refl
-has_item (u ∷ values) v (inr later) = ap (λ (b : Bool). (u == v) || b) (has_item values v later) ∙ or_true (u == v)
+has_item (u ∷ values) v (inr later) = ap (λ (b : Bool). (u == v) || b) (has_item values v later) ∙ or-true (u == v)
 
 -- the number of a value's symbol
 abbrev number_in : List ℕ → ℕ → ℕ

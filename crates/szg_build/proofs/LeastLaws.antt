@@ -16,7 +16,7 @@ use Rattle.szg_build.specs.Lacks.{LacksLines}
 use Rattle.szg_build.specs.Rests.{counted_text, fields_text}
 use Rattle.szg_build.specs.Wholes.{dump_behind_parts}
 use Rattle.szg_build.proofs.LackLaws.{Uses, Asks, uses_none, uses_line, uses_then, asks_means, asks_line, asks_then, asks_fewer, asks_mapped, lacks_item}
-use Rattle.szg_build.proofs.GoingLaws.{GoesOn, mapped}
+use Rattle.szg_build.proofs.GoingLaws.{GoesOn}
 use Rattle.szg_build.proofs.WholeLaws.{subs_left, left_of, next_place}
 
 -- ---- lists

@@ -1,5 +1,5 @@
 -- A line that was read says what its words say.
-use Rattle.std.proofs.Common.{◌≡◌, ℕ, List, sym, subst, ◌∙◌, Ok, Err}
+use Rattle.std.proofs.Common.{◌≡◌, ℕ, List, sym, subst, Ok, Err}
 use Rattle.std.specs.Prelude.{Result, IfOk, OnOk, IsErrOf}
 use Rattle.szg_io.specs.declared.device.Input.{Ghosts}
 use Rattle.szg_build.specs.declared.incoming.Incoming.{Incoming}

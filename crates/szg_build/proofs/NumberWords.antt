@@ -1,10 +1,10 @@
 -- When a word is a number.
-use Rattle.std.proofs.Common.{◌≡◌, ℕ, zero, suc, ◌<◌, ◌≤◌, ◌^◌, Bool, true, false, List, [], ◌∷◌, ◌++◌, length, length-append, refl, sym, ap, subst, ◌∙◌, arith, Option, Some, None, Ok, Err}
+use Rattle.std.proofs.Common.{◌≡◌, ℕ, zero, suc, ◌<◌, ◌≤◌, ◌^◌, Bool, true, false, List, [], ◌∷◌, ◌++◌, length, length-append, refl, sym, ap, subst, ◌∙◌, arith, Option, Some, None, Ok}
 use Rattle.std.specs.Prelude.{◌&&◌, Result, bytes_eq, nat_le, if◌then◌else◌}
 use Rattle.std.specs.Fmt.{decimal}
 use Rattle.std.specs.Str.Parse.{digits_value, ParsesUnsigned}
 use Rattle.std.specs.Str.{IsUtf8}
-use Rattle.std.proofs.lemmas.Bool.{leb-true}
+use Rattle.std.proofs.lemmas.Bool.{leb-true, and_parts}
 use Rattle.std.proofs.lemmas.Fmt.{parse-decimal, IsAscii-decimal, decimal_nonempty}
 use Rattle.std.proofs.lemmas.Slice.Eq.{bytes_eq-Decides}
 use Rattle.std.proofs.lemmas.Str.{IsUtf8-from_ascii}
@@ -13,14 +13,6 @@ use Rattle.szg_build.proofs.Words.{number_in-decimal}
 
 pub number_there : (limit n : ℕ) (word : List ℕ) → word ≡ decimal n → n ≤ limit → n < 2 ^ 64 → number_in limit word ≡ Some n
 number_there limit n word e le small = ap (number_in limit) e ∙ number_in-decimal limit n le small
-
-left_side : (a b : Bool) → (a && b) ≡ true → a ≡ true
-left_side true b e = refl
-left_side false b e = absurd cc
-
-right_side : (a b : Bool) → (a && b) ≡ true → b ≡ true
-right_side true b e = e
-right_side false b e = absurd cc
 
 unless_both : {A : Type 0} (b : Bool) (x : A) → (b ≡ true → ⊥) → (if b then Some x else None) ≡ None
 unless_both true x never = absurd (never refl)
@@ -31,7 +23,7 @@ pub number_none : (limit : ℕ) (word : List ℕ) → ((n : ℕ) → n ≤ limit
 number_none limit word never =
     let n = digits_value 10 word in
     unless_both (bytes_eq (decimal n) word && nat_le n limit) n
-    (λ e. never n (leb-true n limit (right_side (bytes_eq (decimal n) word) (nat_le n limit) e)) (sym ((bytes_eq-Decides (decimal n) word).0 (left_side (bytes_eq (decimal n) word) (nat_le n limit) e))))
+    (λ e. never n (leb-true n limit (and_parts (bytes_eq (decimal n) word) (nat_le n limit) e).1) (sym ((bytes_eq-Decides (decimal n) word).0 (and_parts (bytes_eq (decimal n) word) (nat_le n limit) e).0)))
 
 pub number_of_no_text : (limit : ℕ) (word : List ℕ) → limit < 2 ^ 64 → (IsUtf8 word → ⊥) → number_in limit word ≡ None
 number_of_no_text limit word small never = number_none limit word (λ n le e. never (subst IsUtf8 (sym e) (IsUtf8-from_ascii (decimal n) (IsAscii-decimal n (omega (arith, small, le))))))

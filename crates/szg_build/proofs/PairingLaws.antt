@@ -2,24 +2,16 @@
 use Rattle.std.proofs.Common.{◌≡◌, ℕ, suc, ◌+◌, ◌<◌, Bool, true, false, List, [], ◌∷◌, ◌++◌, length, refl, sym, ap, subst, ◌∙◌, append_assoc, arith, inl, inr}
 use Rattle.std.specs.Prelude.{◌==◌, ◌&&◌, ◌⊎◌}
 use Rattle.std.specs.List.{flat_map}
-use Rattle.std.proofs.lemmas.Bool.{eqb-true}
+use Rattle.std.proofs.lemmas.Bool.{eqb-true, and_parts}
 use Rattle.szg_code.specs.Canonical.{IsIn}
 use Rattle.szg_build.specs.Pairing.{pair_count, replaced}
 use Rattle.szg_build.proofs.Tests.{bool_cases}
 
-first_holds : (a b : Bool) → (a && b) ≡ true → a ≡ true
-first_holds true b e = refl
-first_holds false b e = e
-
-second_holds : (a b : Bool) → (a && b) ≡ true → b ≡ true
-second_holds true b e = e
-second_holds false b e = absurd cc
-
 is_left : (left right s t : ℕ) → ((s == left) && (t == right)) ≡ true → s ≡ left
-is_left left right s t e = eqb-true s left (first_holds (s == left) (t == right) e)
+is_left left right s t e = eqb-true s left (and_parts (s == left) (t == right) e).0
 
 is_right : (left right s t : ℕ) → ((s == left) && (t == right)) ≡ true → t ≡ right
-is_right left right s t e = eqb-true t right (second_holds (s == left) (t == right) e)
+is_right left right s t e = eqb-true t right (and_parts (s == left) (t == right) e).1
 
 pub replaced-here : (left right new s t : ℕ) (symbols : List ℕ) → ((s == left) && (t == right)) ≡ true → replaced left right new (s ∷ t ∷ symbols) ≡ new ∷ replaced left right new symbols
 replaced-here left right new s t symbols e = rw (e, replaced) refl

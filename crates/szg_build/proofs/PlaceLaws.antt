@@ -1,5 +1,5 @@
 -- Each part and side of a table, in file order, has its subtable.
-use Rattle.std.proofs.Common.{◌≡◌, ℕ, zero, suc, ◌+◌, ◌%◌, ◌<◌, Bool, true, false, List, [], ◌∷◌, ◌++◌, length, map, take, get_or, refl, sym, ap, subst, ◌∙◌, add-one, arith, inl, inr, Option, Some, None}
+use Rattle.std.proofs.Common.{◌≡◌, ℕ, zero, suc, ◌+◌, ◌%◌, ◌<◌, Bool, List, [], ◌∷◌, ◌++◌, length, map, take, get_or, refl, sym, ap, subst, ◌∙◌, add-one, arith, inl, inr, Some, None}
 use Rattle.std.specs.Prelude.{◌⊎◌, if◌then◌else◌}
 use Rattle.std.specs.List.{flat_map}
 use Rattle.std.proofs.lemmas.List.{length-map, map-append}
@@ -8,12 +8,12 @@ use Rattle.szg_values.specs.Material.{Sides, is_symmetric, has_pawns}
 use Rattle.szg_values.specs.declared.Kind.{Kind}
 use Rattle.szg_values.specs.declared.Kind.TheVariants.{Wdl, Dtz}
 use Rattle.szg_file.specs.Contents.{Part, Subtable, constant, Contents, Slot, slots, slots_from, part_numbers, side_numbers}
-use Rattle.szg_file.specs.Values.{slotted, found, subtable_at, values_of}
+use Rattle.szg_file.specs.Values.{slotted, found, subtable_at}
 use Rattle.szg_file.specs.File.{flags_of}
-use Rattle.szg_file.specs.Accepted.{SideBySide, IsSubtable, IsPart, IsAccepted}
+use Rattle.szg_file.specs.Accepted.{IsSubtable, IsPart, IsAccepted}
 use Rattle.szg_file.proofs.TableFinds.{side_lengths}
 use Rattle.szg_build.specs.Dump.{places_of}
-use Rattle.szg_build.specs.Built.{subtables_in, value_lists}
+use Rattle.szg_build.specs.Built.{subtables_in}
 use Rattle.szg_build.proofs.LinesLaws.{bool_cases}
 
 -- with these sides and part numbers, each of them has the subtable of its place

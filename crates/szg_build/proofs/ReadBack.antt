@@ -3,7 +3,7 @@ use Rattle.std.proofs.Common.{◌≡◌, ℕ, zero, suc, ◌+◌, ◌-◌, ◌*�
 use Rattle.std.specs.Prelude.{◌==◌, ◌&&◌, nat_le, Bool, true, false, if◌then◌else◌, codes, slice_index, option_map, Ok}
 use Rattle.std.specs.List.{flat_map, AllByRecursion}
 use Rattle.std.specs.Fmt.{decimal, digits}
-use Rattle.std.proofs.lemmas.Bool.{eq-eqb, le-leb, leb-true}
+use Rattle.std.proofs.lemmas.Bool.{eq-eqb, le-leb, leb-true, and_parts}
 use Rattle.std.proofs.lemmas.List.{length-map, length-append}
 use Rattle.hex.specs.Hex.{encode_lower}
 use Rattle.szg_values.specs.Men.{letter_of}
@@ -23,13 +23,6 @@ use Rattle.szg_build.proofs.LinesLaws.{bool_cases, continued, verdict-then, cut_
 use Rattle.szg_build.proofs.Spelled.{IsLine, IsReadAs, lines_behind, read_nothing, read_line, read_then, read_some}
 use Rattle.szg_build.proofs.Words.{bytes_eq-same, clean_decimal, short_decimal, clean_word, clean_name, clean_part_word, number_in-decimal, bytes_in-encode, clean_encode, length-encode, a_line}
 use Rattle.szg_build.proofs.Runs.{run_list, run_total, with_value-same, with_value-other, values-runs_of, run_total-runs_of}
-
-last_holds : (a b : Bool) → (a && b) ≡ true → b ≡ true
-last_holds true b e = e
-last_holds false b e = absurd cc
-
-le_of_test : (m n : ℕ) → nat_le m n ≡ true → m ≤ n
-le_of_test m n e = leb-true m n e
 
 -- ---- the words of a line
 
@@ -335,7 +328,7 @@ read_version runs =
 -- the men of both sides are six at most, so a name has at most seven letters
 short_name : (material : Sides) → IsMaterial material → length (name_of material) ≤ 7
 short_name material h =
-    let few : length material.first + length material.second ≤ 6 = le_of_test _ 6 (last_holds _ _ (last_holds _ _ h)) in
+    let few : length material.first + length material.second ≤ 6 = leb-true _ 6 (and_parts _ _ ((and_parts _ _ h).1)).1 in
     let a : length (map letter_of material.first ++ 118 ∷ map letter_of material.second) ≡ length (map letter_of material.first) + length (118 ∷ map letter_of material.second) = length-append (map letter_of material.first) (118 ∷ map letter_of material.second) in
     let b : length (map letter_of material.first) ≡ length material.first = simp length-map in
     let c : length (map letter_of material.second) ≡ length material.second = simp length-map in

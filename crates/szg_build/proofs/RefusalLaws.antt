@@ -1,8 +1,8 @@
 -- The refusals of a plan and its lists, in their order, and what stands where none of them does.
-use Rattle.std.proofs.Common.{ℕ, zero, suc, ◌≡◌, ◌+◌, ◌<◌, ◌≤◌, ◌^◌, Bool, true, false, cond, eqb, ltb, leb, List, [], ◌∷◌, length, map, get_or, refl, sym, ap, subst, ◌∙◌, arith, inl, inr, Option, Some, None}
+use Rattle.std.proofs.Common.{ℕ, ◌≡◌, ◌+◌, ◌<◌, ◌≤◌, ◌^◌, Bool, true, false, cond, List, [], ◌∷◌, length, map, get_or, refl, sym, ap, subst, ◌∙◌, arith, inl, inr, Option, Some, None}
 use Rattle.std.specs.Prelude.{◌==◌, ◌&&◌, ◌||◌, not, nat_lt, nat_le, option_map}
 use Rattle.std.specs.List.{AllByRecursion, All, list_any, list_all, position, prefix_len, zip}
-use Rattle.std.proofs.lemmas.Bool.{cases_lt, ltb-true, lt-ltb, leb-true, eqb-true}
+use Rattle.std.proofs.lemmas.Bool.{cases_lt, lt-ltb, eqb-true, or_parts, not-true, not-false}
 use Rattle.std.proofs.lemmas.List.{length-map}
 use Rattle.std.proofs.lemmas.List.Sums.{prefix_len_passes}
 use Rattle.std.proofs.lemmas.List.Elements.{recursion_from_All, All-from_recursion}
@@ -18,22 +18,6 @@ use Rattle.szg_build.specs.Plan.{Plan, fault_for, first_fault, unless, wrong_len
 use Rattle.szg_build.specs.Tabling.{IsBuildable}
 
 -- ---- tests
-
-pub both : (a b : Bool) → (a && b) ≡ true → (a ≡ true) × (b ≡ true)
-both true b e = (refl, e)
-both false b e = absurd (cc e)
-
-neither : (a b : Bool) → (a || b) ≡ false → (a ≡ false) × (b ≡ false)
-neither true b e = absurd (cc e)
-neither false b e = (refl, e)
-
-pub not_told : (b : Bool) → not b ≡ true → b ≡ false
-not_told true e = absurd (cc e)
-not_told false e = refl
-
-not_not : (b : Bool) → not b ≡ false → b ≡ true
-not_not true e = refl
-not_not false e = absurd (cc e)
 
 apart : (let f : Bool = false in f ≡ true) → ⊥
 apart e = cc e
@@ -70,7 +54,7 @@ no_place n m e = elim (cases_lt n m) [ inl lt ↦ absurd (some_none n (sym (ap (
 pub none_pass : {A : Type 0} (p : A → Bool) (xs : List A) → position p xs ≡ None → AllByRecursion (λ x. p x ≡ false) xs
 none_pass p xs e =
     let whole : length xs ≤ prefix_len (λ x. not (p x)) xs = no_place (prefix_len (λ x. not (p x)) xs) (length xs) e in
-    recursion_from_All (λ x. p x ≡ false) xs (λ k d lt. not_told (p (get_or xs k d)) (prefix_len_passes (λ x. not (p x)) xs k d (omega arith)))
+    recursion_from_All (λ x. p x ≡ false) xs (λ k d lt. not-true (p (get_or xs k d)) (prefix_len_passes (λ x. not (p x)) xs k d (omega arith)))
 
 -- ---- lists
 
@@ -94,7 +78,7 @@ all_both P Q R (x ∷ xs) f h k = (f x h.0 k.0, all_both P Q R xs f h.1 k.1)
 pub none_above : (greatest : ℕ) (values : List ℕ) → list_any (λ v. nat_lt greatest v) values ≡ false → AllByRecursion (λ v. v ≤ greatest) values
 none_above greatest [] e = tt
 none_above greatest (v ∷ values) e =
-    let parts = neither (nat_lt greatest v) (list_any (λ v. nat_lt greatest v) values) e in
+    let parts = or_parts (nat_lt greatest v) (list_any (λ v. nat_lt greatest v) values) e in
     (no_less greatest v parts.0, none_above greatest values parts.1)
 
 pub below_4095 : (kind : Kind) (values : List ℕ) → AllByRecursion (λ v. v ≤ greatest_value kind) values → AllByRecursion (λ v. v ≤ 4095) values
@@ -108,7 +92,7 @@ sizes_are [] [] e h = refl
 sizes_are [] (list ∷ lists) e h = absurd (omega (arith, e))
 sizes_are (size ∷ sizes) [] e h = absurd (omega (arith, e))
 sizes_are (size ∷ sizes) (list ∷ lists) e h =
-    let same : length list ≡ size = eqb-true (length list) size (not_not (length list == size) h.0) in
+    let same : length list ≡ size = eqb-true (length list) size (not-false (length list == size) h.0) in
     ap (λ (n : ℕ). n ∷ sizes) (sym same) ∙ ap (λ (z : List ℕ). length list ∷ z) (sizes_are sizes lists (omega (arith, e)) h.1)
 
 -- ---- the refusals in their order
@@ -284,9 +268,6 @@ not_some (Some n) h = absurd (h n refl)
 
 pub too_many : (a b : ℕ) → b < a → nat_le a b ≡ false
 too_many a b lt = grind (arith, nat_tests)
-
-pub few_enough : (a b : ℕ) → a ≤ b → nat_le a b ≡ true
-few_enough a b le = grind (arith, nat_tests)
 
 -- lists without too great values
 pub lent_small : {A : Type 0} (now : A → List ℕ) (kind : Kind) (lists : List A) → position (λ (list : A). list_any (λ v. nat_lt (greatest_value kind) v) (now list)) lists ≡ None →

@@ -1,5 +1,5 @@
 -- A subtable's text behind its first lines, as it is read.
-use Rattle.std.proofs.Common.{◌≡◌, ℕ, ◌+◌, arith, Bool, true, false, List, [], ◌∷◌, sym, ap, subst, Option, Ok, Err}
+use Rattle.std.proofs.Common.{◌≡◌, ℕ, ◌+◌, arith, true, false, List, [], ◌∷◌, sym, ap, subst, Option, Ok, Err}
 use Rattle.std.specs.Prelude.{Result, codes}
 use Rattle.szg_values.specs.declared.Kind.{Kind}
 use Rattle.szg_values.specs.declared.Kind.TheVariants.{Dtz}
@@ -7,7 +7,6 @@ use Rattle.szg_file.specs.Contents.{Map, has_bit}
 use Rattle.szg_io.specs.declared.device.Input.{Ghosts}
 use Rattle.szg_build.specs.declared.incoming.Incoming.{Incoming}
 use Rattle.szg_build.specs.declared.BuildFault.{BuildFault}
-use Rattle.szg_build.specs.declared.BuildFault.TheVariants as plan
 use Rattle.szg_build.specs.declared.dump.DumpReadFault.{DumpReadFault}
 use Rattle.szg_build.specs.declared.dump.DumpReadFault.TheVariants.{Build}
 use Rattle.szg_build.specs.Dump.{SubDump}

@@ -1,12 +1,11 @@
 -- What a line says, where its words have their values and where they haven't.
 use Rattle.std.proofs.Common.{◌≡◌, ℕ, zero, suc, map, ◌+◌, ◌<◌, ◌≤◌, Bool, true, false, List, [], ◌∷◌, ◌++◌, length, get_or, refl, sym, ap, subst, ◌∙◌, arith, Option, Some, None, Ok, Err}
-use Rattle.std.specs.Prelude.{codes, bytes_eq, nat_le, ◌==◌, ◌||◌, Result, if◌then◌else◌}
+use Rattle.std.specs.Prelude.{codes, bytes_eq, nat_le, ◌==◌, ◌||◌, Result}
 use Rattle.std.specs.Fmt.{decimal}
 use Rattle.std.proofs.lemmas.Slice.Eq.{bytes_eq-Decides}
 use Rattle.std.proofs.lemmas.Bool.{eqb-true, eq-eqb, le-leb, leb-true}
 use Rattle.std.proofs.lemmas.Fmt.{decimal_digit}
 use Rattle.szg_values.specs.declared.Kind.{Kind}
-use Rattle.szg_values.specs.declared.Kind.TheVariants.{Wdl, Dtz}
 use Rattle.std.specs.Str.{IsUtf8, IsAscii}
 use Rattle.std.proofs.lemmas.Str.{IsUtf8-from_ascii, IsAscii-append}
 use Rattle.szg_values.specs.Material.{Sides, parsed, name_of}
@@ -16,9 +15,8 @@ use Rattle.szg_values.specs.declared.Man.TheVariants.{Pawn, Knight, Bishop, Rook
 use Rattle.szg_values.specs.declared.NameFault.{NameFault}
 use Rattle.szg_values.proofs.Names.{named}
 use Rattle.szg_file.specs.Contents.{Part}
-use Rattle.szg_build.specs.declared.dump.DumpFault.{DumpFault}
 use Rattle.szg_build.specs.declared.dump.DumpFault.TheVariants.{Version, Field, Number, Hex, Name, Run}
-use Rattle.szg_build.specs.Text.{Form, single, runs, kind_word, part_word, spaced}
+use Rattle.szg_build.specs.Text.{Form, part_word, spaced}
 use Rattle.szg_build.specs.Lines.{Lines, means, refuses, of_line, words_of, ◌>>=◌}
 use Rattle.szg_build.specs.Grammar.{Word, fixed, value, values_in, or_fault, number_at, bytes_at, form_in, kind_in, material_in, bytes_in, bytes_of_length, number_in, number_line, positive, fitting_run, greatest_count, greatest_item, version_line, name_line, kind_line, end_line, part_line, run_line}
 use Rattle.szg_build.specs.Fronts.{IsWord, IsFront, IsPair, said, sub_line}

@@ -2,7 +2,7 @@
 use Rattle.std.proofs.Common.{ℕ, zero, suc, ◌≡◌, ◌+◌, ◌/◌, ◌%◌, ◌<◌, ◌^◌, Bool, true, false, List, [], ◌∷◌, ◌++◌, length, map, get_or, take, replicate, refl, sym, ap, subst, ◌∙◌, add-one, arith, inl, inr, Option, Some, None, Result, Err}
 use Rattle.std.specs.Prelude.{◌==◌, ◌&&◌, ◌⊎◌, not, nat_lt, nat_le, is_none, MatchOption, IfErr, IfNone, if◌then◌else◌, IfSome}
 use Rattle.std.specs.List.{AllByRecursion, list_all, zip}
-use Rattle.std.proofs.lemmas.Bool.{ltb-true, leb-true, eqb-true, eq-eqb}
+use Rattle.std.proofs.lemmas.Bool.{ltb-true, leb-true, eqb-true, eq-eqb, false_from_ne_true, and_parts, not-true}
 use Rattle.std.proofs.lemmas.List.{length-map, length-take, map-append}
 use Rattle.szg_values.specs.declared.Kind.{Kind}
 use Rattle.szg_values.specs.declared.Kind.TheVariants.{Wdl, Dtz}
@@ -25,7 +25,7 @@ use Rattle.szg_build.specs.Plan.{Plan, has_parts, is_part, has_maps, is_map_of, 
 use Rattle.szg_build.specs.Building.{IsBuiltSub}
 use Rattle.szg_build.specs.Built.{IsPacked, layout_in, packed_in, flags_byte, flags_bytes}
 use Rattle.szg_build.specs.Tabling.{AreBuilt, IsBuiltBare, IsOfBytes, IsOfItems, Stands}
-use Rattle.szg_build.proofs.RefusalLaws.{all_held, both, not_told, all_both, none_pass, sizes_are, lists_stand, fault_told, passed, bits_told, maps_pass}
+use Rattle.szg_build.proofs.RefusalLaws.{all_held, all_both, none_pass, sizes_are, lists_stand, fault_told, passed, bits_told, maps_pass}
 
 -- ---- parts
 
@@ -52,7 +52,7 @@ none_tells o e = ap is_none e
 
 all_told : {A : Type 0} (p : A → Bool) (P : A → Type 0) (xs : List A) → ((x : A) → p x ≡ true → P x) → list_all p xs ≡ true → AllByRecursion P xs
 all_told p P [] f e = tt
-all_told p P (x ∷ xs) f e = let parts = both (p x) (list_all p xs) e in (f x parts.0, all_told p P xs f parts.1)
+all_told p P (x ∷ xs) f e = let parts = and_parts (p x) (list_all p xs) e in (f x parts.0, all_told p P xs f parts.1)
 
 all_tell : {A : Type 0} (p : A → Bool) (P : A → Type 0) (xs : List A) → ((x : A) → P x → p x ≡ true) → AllByRecursion P xs → list_all p xs ≡ true
 all_tell p P [] f h = refl
@@ -82,7 +82,7 @@ part_tells material kind part h =
 parts_told : (material : Sides) (kind : Kind) (parts : List Part) → AllByRecursion IsOfBytes parts → has_parts material kind parts ≡ true →
     SideBySide (λ _. IsPart material kind) (part_numbers material) parts
 parts_told material kind parts bytes e =
-    let halves = both (length parts == length (part_numbers material)) (list_all (is_part material kind) parts) e in
+    let halves = and_parts (length parts == length (part_numbers material)) (list_all (is_part material kind) parts) e in
     let each : AllByRecursion (λ part. is_part material kind part ≡ true) parts = all_told (is_part material kind) (λ part. is_part material kind part ≡ true) parts (λ part h. h) halves.1 in
     sides_of_all (IsPart material kind) (part_numbers material) parts (sym (eqb-true (length parts) (length (part_numbers material)) halves.0))
     (all_both IsOfBytes (λ part. is_part material kind part ≡ true) (IsPart material kind) parts (λ part h k. part_told material kind part h k) bytes each)
@@ -99,17 +99,13 @@ sizes_of_parts material kind parts h =
     let stands : has_parts material kind parts ≡ true = ap (λ (b : Bool). b && list_all (is_part material kind) parts) count ∙ each in
     ap (λ (b : Bool). if b then Some (map (λ slot. slot.size) (slots material kind parts)) else None) stands
 
-some_parts : (b : Bool) → (b ≡ true → ⊥) → b ≡ false
-some_parts true h = absurd (h refl)
-some_parts false h = refl
-
 -- where they don't, none are
 pub no_sizes : (material : Sides) (kind : Kind) (parts : List Part) → AllByRecursion IsOfBytes parts → ¬ SideBySide (λ _. IsPart material kind) (part_numbers material) parts →
     sizes_told material kind parts ≡ None
 unfolding sizes_told
 no_sizes material kind parts bytes h =
     ap (λ (b : Bool). if b then Some (map (λ slot. slot.size) (slots material kind parts)) else None)
-    (some_parts (has_parts material kind parts) (λ e. h (parts_told material kind parts bytes e)))
+    (false_from_ne_true (has_parts material kind parts) (λ e. h (parts_told material kind parts bytes e)))
 
 -- ---- byte 4
 
@@ -253,11 +249,11 @@ lists_fit size most lists e short fit =
     (all_told (λ (list : List ℕ). nat_lt (length list) most) (λ (list : List ℕ). nat_lt (length list) most ≡ true) lists (λ list h. h) short) fit
 
 map_stands : (flags : ℕ) (subtable : Subtable) (item : Option Map) → Kept flags (flags_of subtable) → is_map_of (flags, item) ≡ true → IsOfItems item → IsMapOf subtable item
-map_stands flags subtable None kept e fit = kept_mapped flags (flags_of subtable) kept ∙ not_told (has_bit 1 flags) e
+map_stands flags subtable None kept e fit = kept_mapped flags (flags_of subtable) kept ∙ not-true (has_bit 1 flags) e
 map_stands flags subtable (Some (narrow lists)) kept e fit =
     let parts = three (has_bit 1 flags) (not (has_bit 4 flags)) (list_all (λ list. nat_lt (length list) (2 ^ 8)) lists) e in (
       kept_mapped flags (flags_of subtable) kept ∙ parts.0,
-      kept_wide flags (flags_of subtable) kept ∙ not_told (has_bit 4 flags) parts.1,
+      kept_wide flags (flags_of subtable) kept ∙ not-true (has_bit 4 flags) parts.1,
       (fit.0, lists_fit 1 256 lists refl parts.2 fit.1),
     )
 map_stands flags subtable (Some (wide lists)) kept e fit =
@@ -277,7 +273,7 @@ maps_beside plan [] (v ∷ lists) (s ∷ subtables) items h e e' all fit = absur
 maps_beside plan [] [] [] (m ∷ items) h e e' all fit = absurd (omega (arith, e'))
 maps_beside plan (f ∷ flags) (v ∷ lists) (s ∷ subtables) [] h e e' all fit = absurd (omega (arith, e'))
 maps_beside plan (f ∷ flags) (v ∷ lists) (s ∷ subtables) (m ∷ items) h e e' all fit =
-    let halves = both (is_map_of (f, m)) (list_all is_map_of (zip flags items)) all in
+    let halves = and_parts (is_map_of (f, m)) (list_all is_map_of (zip flags items)) all in
     (map_stands f s m (kept_of f s h.0.flags_kept) halves.0 fit.0, maps_beside plan flags lists subtables items h.1 (omega (arith, e)) (omega (arith, e')) halves.1 fit.1)
 
 -- a DTZ table has a slot for each part
@@ -291,7 +287,7 @@ no_items (x ∷ xs) e = absurd (omega (arith, e))
 
 pub small_flags : (kind : Kind) (material : Sides) (flags : List ℕ) (items : List (Option Map)) → maps_pass kind material flags items ≡ true → AllByRecursion (λ byte. byte < 32) flags
 small_flags Wdl material flags items e =
-    let halves = both (length flags == 0) (length items == 0) e in
+    let halves = and_parts (length flags == 0) (length items == 0) e in
     subst (λ (z : List ℕ). AllByRecursion (λ byte. byte < 32) z) (sym (no_items flags (eqb-true (length flags) 0 halves.0))) tt
 small_flags Dtz material flags items e =
     let parts = four (length flags == length (part_numbers material)) (length items == length (part_numbers material)) (list_all (λ byte. nat_lt byte 32) flags) (list_all is_map_of (zip flags items)) e in
@@ -305,7 +301,7 @@ pub maps_and_flags : (kind : Kind) (plan : Plan) (lists : List (List ℕ)) (subt
     AllByRecursion IsOfItems plan.maps → SideBySide (λ _. IsPart plan.material kind) (part_numbers plan.material) plan.parts →
     AreSized (slots plan.material kind plan.parts) lists → AreBuilt plan plan.flags lists subtables → AreMaps kind subtables plan.maps × (flags_shown kind subtables ≡ plan.flags)
 maps_and_flags Wdl plan lists subtables is pass fit parts sized built =
-    let halves = both (length plan.flags == 0) (length plan.maps == 0) pass in
+    let halves = and_parts (length plan.flags == 0) (length plan.maps == 0) pass in
     (no_items plan.maps (eqb-true (length plan.maps) 0 halves.1), sym (no_items plan.flags (eqb-true (length plan.flags) 0 halves.0)))
 maps_and_flags Dtz plan lists subtables is pass fit parts sized built =
     let tests = four (length plan.flags == length (part_numbers plan.material)) (length plan.maps == length (part_numbers plan.material)) (list_all (λ byte. nat_lt byte 32) plan.flags) (list_all is_map_of (zip plan.flags plan.maps)) pass in

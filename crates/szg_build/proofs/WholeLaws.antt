@@ -1,5 +1,5 @@
 -- The subtables of a dump one after another, as they are read.
-use Rattle.std.proofs.Common.{◌≡◌, ℕ, suc, ◌+◌, ◌<◌, ◌≤◌, List, [], ◌∷◌, ◌++◌, length, map, get_or, drop, drop-cons, drop_of_length-le, refl, sym, ap, subst, ◌∙◌, append_assoc, append-nil, option_map, Option, Some, None, Ok, Err}
+use Rattle.std.proofs.Common.{◌≡◌, ℕ, suc, ◌<◌, ◌≤◌, List, [], ◌∷◌, ◌++◌, length, map, get_or, drop, drop-cons, drop_of_length-le, refl, sym, ap, subst, ◌∙◌, append_assoc, append-nil, option_map, Option, Some, None, Ok, Err}
 use Rattle.std.specs.Prelude.{Result, IfNone, IfSome, IsOk, OnOk}
 use Rattle.std.specs.List.{AllByRecursion}
 use Rattle.std.proofs.lemmas.List.{map-append}

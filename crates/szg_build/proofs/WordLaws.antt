@@ -1,15 +1,13 @@
 -- A line of fixed words and values is cut into them, whatever words the values are; and no other text is.
-use Rattle.std.proofs.Common.{◌≡◌, ℕ, zero, suc, Bool, true, false, List, [], ◌∷◌, ◌++◌, length, take, drop, get_or, Bor, refl, sym, ap, subst, ◌∙◌, append_assoc, arith, inl, inr, Option, Some, None}
+use Rattle.std.proofs.Common.{◌≡◌, ℕ, zero, suc, Bool, true, false, List, [], ◌∷◌, ◌++◌, length, take, drop, get_or, Bor, refl, sym, ap, subst, ◌∙◌, arith, inl, inr, Option, Some, None}
 use Rattle.std.specs.Prelude.{◌==◌, ◌||◌, ◌<◌, ◌+◌, MatchOption, bytes_eq, option_map, if◌then◌else◌}
 use Rattle.std.specs.List.{AllByRecursion, list_any}
-use Rattle.std.proofs.lemmas.Bool.{eqb-true}
+use Rattle.std.proofs.lemmas.Bool.{eqb-true, or_parts, or_from}
 use Rattle.std.proofs.lemmas.List.{take-append-le, take-append-drop, take_all}
 use Rattle.std.proofs.lemmas.Slice.Eq.{bytes_eq-Decides}
-use Rattle.szg_build.specs.declared.dump.DumpFault.{DumpFault}
-use Rattle.szg_build.specs.declared.dump.DumpFault.TheVariants.{Field}
 use Rattle.szg_build.specs.Text.{spaced}
-use Rattle.szg_build.specs.Lines.{Lines, means, refuses, of_line, with_byte, words_of, ◌>>=◌}
-use Rattle.szg_build.specs.Grammar.{Word, fixed, value, values_in, or_fault}
+use Rattle.szg_build.specs.Lines.{with_byte, words_of}
+use Rattle.szg_build.specs.Grammar.{Word, fixed, value, values_in}
 use Rattle.szg_build.specs.Fronts.{IsWord, HasFixedWords, value_count, filled, IsFront, IsPair}
 use Rattle.szg_build.proofs.LinesLaws.{bool_cases}
 use Rattle.szg_build.proofs.Words.{bytes_eq-same}
@@ -19,18 +17,6 @@ use Rattle.szg_build.proofs.Words.{bytes_eq-same}
 abbrev AreWords : List (List ℕ) → Type 0
 AreWords words = AllByRecursion IsWord words
 
-no_first : (a b : Bool) → (a || b) ≡ false → a ≡ false
-no_first true b e = absurd cc
-no_first false b e = refl
-
-no_second : (a b : Bool) → (a || b) ≡ false → b ≡ false
-no_second true b e = absurd cc
-no_second false b e = e
-
-neither : (a b : Bool) → a ≡ false → b ≡ false → (a || b) ≡ false
-neither true b e e' = e
-neither false b e e' = e'
-
 of_other : (byte : ℕ) (bytes : List ℕ) → (byte == 32) ≡ false → words_of (byte ∷ bytes) ≡ with_byte byte (words_of bytes)
 of_other byte bytes e = rw (e, words_of) refl
 
@@ -39,11 +25,11 @@ of_space byte bytes e = rw (e, words_of) refl
 
 of_word : (word : List ℕ) → IsWord word → words_of word ≡ word ∷ []
 of_word [] h = refl
-of_word (byte ∷ word) h = of_other byte word (no_first (byte == 32) (list_any (λ b. b == 32) word) h) ∙ ap (with_byte byte) (of_word word (no_second (byte == 32) (list_any (λ b. b == 32) word) h))
+of_word (byte ∷ word) h = of_other byte word (or_parts (byte == 32) (list_any (λ b. b == 32) word) h).0 ∙ ap (with_byte byte) (of_word word (or_parts (byte == 32) (list_any (λ b. b == 32) word) h).1)
 
 of_front : (word rest : List ℕ) → IsWord word → words_of (word ++ 32 ∷ rest) ≡ word ∷ words_of rest
 of_front [] rest h = refl
-of_front (byte ∷ word) rest h = of_other byte (word ++ 32 ∷ rest) (no_first (byte == 32) (list_any (λ b. b == 32) word) h) ∙ ap (with_byte byte) (of_front word rest (no_second (byte == 32) (list_any (λ b. b == 32) word) h))
+of_front (byte ∷ word) rest h = of_other byte (word ++ 32 ∷ rest) (or_parts (byte == 32) (list_any (λ b. b == 32) word) h).0 ∙ ap (with_byte byte) (of_front word rest (or_parts (byte == 32) (list_any (λ b. b == 32) word) h).1)
 
 of_spaced : (word : List ℕ) (words : List (List ℕ)) → IsWord word → AreWords words → words_of (spaced (word ∷ words)) ≡ word ∷ words
 of_spaced word [] h hs = of_word word h
@@ -54,8 +40,8 @@ IsFirst text words = (spaced words ≡ text) × AreWords words × ((words ≡ []
 
 with_first : (byte : ℕ) (text : List ℕ) (words : List (List ℕ)) → (byte == 32) ≡ false → IsFirst text words → IsFirst (byte ∷ text) (with_byte byte words)
 with_first byte text [] e h = absurd (h.2 refl)
-with_first byte text (word ∷ []) e h = (ap (λ (z : List ℕ). byte ∷ z) h.0, (neither (byte == 32) (list_any (λ b. b == 32) word) e h.1.0, tt), λ never. cc never)
-with_first byte text (word ∷ next ∷ words) e h = (ap (λ (z : List ℕ). byte ∷ z) h.0, (neither (byte == 32) (list_any (λ b. b == 32) word) e h.1.0, h.1.1), λ never. cc never)
+with_first byte text (word ∷ []) e h = (ap (λ (z : List ℕ). byte ∷ z) h.0, (or_from (byte == 32) (list_any (λ b. b == 32) word) e h.1.0, tt), λ never. cc never)
+with_first byte text (word ∷ next ∷ words) e h = (ap (λ (z : List ℕ). byte ∷ z) h.0, (or_from (byte == 32) (list_any (λ b. b == 32) word) e h.1.0, h.1.1), λ never. cc never)
 
 behind_space : (byte : ℕ) (text : List ℕ) (words : List (List ℕ)) → (byte == 32) ≡ true → IsFirst text words → IsFirst (byte ∷ text) ([] ∷ words)
 behind_space byte text [] e h = absurd (h.2 refl)
@@ -197,14 +183,14 @@ no_word front text rest e space word h e' =
 
 pub space_inside : (word rest : List ℕ) → IsWord (word ++ 32 ∷ rest) → ⊥
 space_inside [] rest h = cc h
-space_inside (byte ∷ word) rest h = space_inside word rest (no_second (byte == 32) (list_any (λ b. b == 32) (word ++ 32 ∷ rest)) h)
+space_inside (byte ∷ word) rest h = space_inside word rest (or_parts (byte == 32) (list_any (λ b. b == 32) (word ++ 32 ∷ rest)) h).1
 
 pub longer_word : (text : List ℕ) (i : ℕ) → i < length text → (get_or text i 0 ≡ 32 → ⊥) → IsWord (take i text) → IsWord (take (suc i) text)
 longer_word [] i there never h = absurd (omega (arith, there))
-longer_word (byte ∷ text) zero there never h = neither (byte == 32) false (elim (bool_cases (byte == 32)) [ inl e ↦ absurd (never (eqb-true byte 32 e)) | inr e ↦ e ]) refl
+longer_word (byte ∷ text) zero there never h = or_from (byte == 32) false (elim (bool_cases (byte == 32)) [ inl e ↦ absurd (never (eqb-true byte 32 e)) | inr e ↦ e ]) refl
 longer_word (byte ∷ text) (suc i) there never h =
-    neither (byte == 32) (list_any (λ b. b == 32) (take (suc i) text)) (no_first (byte == 32) (list_any (λ b. b == 32) (take i text)) h)
-    (longer_word text i (omega (arith, there)) never (no_second (byte == 32) (list_any (λ b. b == 32) (take i text)) h))
+    or_from (byte == 32) (list_any (λ b. b == 32) (take (suc i) text)) (or_parts (byte == 32) (list_any (λ b. b == 32) (take i text)) h).0
+    (longer_word text i (omega (arith, there)) never (or_parts (byte == 32) (list_any (λ b. b == 32) (take i text)) h).1)
 
 pub cut_at : (text : List ℕ) (i : ℕ) → i < length text → get_or text i 0 ≡ 32 → text ≡ take i text ++ 32 ∷ drop (suc i) text
 cut_at [] i there e = absurd (omega (arith, there))
@@ -217,17 +203,17 @@ same_split : (a b x y : List ℕ) → IsWord a → IsWord b → a ++ 32 ∷ x �
 same_split [] [] x y h h' e = cc e
 same_split [] (c ∷ b) x y h h' e =
     let first : 32 ≡ c = cc e in
-    let other : (c == 32) ≡ false = no_first (c == 32) (list_any (λ k. k == 32) b) h' in
+    let other : (c == 32) ≡ false = (or_parts (c == 32) (list_any (λ k. k == 32) b) h').0 in
     let same : (c == 32) ≡ true = ap (λ (z : ℕ). z == 32) (sym first) in
     cc
 same_split (c ∷ a) [] x y h h' e =
     let first : c ≡ 32 = cc e in
-    let other : (c == 32) ≡ false = no_first (c == 32) (list_any (λ k. k == 32) a) h in
+    let other : (c == 32) ≡ false = (or_parts (c == 32) (list_any (λ k. k == 32) a) h).0 in
     let same : (c == 32) ≡ true = ap (λ (z : ℕ). z == 32) first in
     cc
 same_split (c ∷ a) (d ∷ b) x y h h' e =
     let inner : a ++ 32 ∷ x ≡ b ++ 32 ∷ y = cc e in
-    same_split a b x y (no_second (c == 32) (list_any (λ k. k == 32) a) h) (no_second (d == 32) (list_any (λ k. k == 32) b) h') inner
+    same_split a b x y (or_parts (c == 32) (list_any (λ k. k == 32) a) h).1 (or_parts (d == 32) (list_any (λ k. k == 32) b) h').1 inner
 
 -- no second word behind the first one
 pub no_second_word : (front middle text behind first last : List ℕ) → text ≡ front ++ behind → IsWord first → behind ≡ first ++ 32 ∷ last →

@@ -6,7 +6,7 @@ use Rattle.std.specs.Char.{digit_value}
 use Rattle.std.specs.Fmt.{decimal}
 use Rattle.std.specs.Str.Parse.{AllDigits}
 use Rattle.std.proofs.lemmas.Fmt.{decimal_is_IsNumeral, length-decimal-le}
-use Rattle.std.proofs.lemmas.Bool.{eqb-true, eq-eqb, le-leb, cases_lt}
+use Rattle.std.proofs.lemmas.Bool.{eqb-true, eq-eqb, le-leb, cases_lt, not-true, and_parts}
 use Rattle.hex.specs.Hex.{encode_with, encode_lower, lower_digits}
 use Rattle.szg_values.specs.Material.{Sides, name_of}
 use Rattle.szg_values.specs.Men.{letter_of}
@@ -46,20 +46,8 @@ short_decimal n small = length-decimal-le 20 n (omega arith) (omega (arith, smal
 abbrev pub is_clean : ℕ → Bool
 is_clean byte = not (byte == 10) && not (byte == 32)
 
-was_false : (b : Bool) → not b ≡ true → b ≡ false
-was_false true e = absurd cc
-was_false false e = refl
-
-left_true : (a b : Bool) → (a && b) ≡ true → a ≡ true
-left_true true b e = refl
-left_true false b e = e
-
-right_true : (a b : Bool) → (a && b) ≡ true → b ≡ true
-right_true true b e = e
-right_true false b e = absurd cc
-
 clean_byte : (byte : ℕ) → is_clean byte ≡ true → IsClean byte
-clean_byte byte e = (was_false (byte == 10) (left_true (not (byte == 10)) (not (byte == 32)) e), was_false (byte == 32) (right_true (not (byte == 10)) (not (byte == 32)) e))
+clean_byte byte e = (not-true (byte == 10) (and_parts (not (byte == 10)) (not (byte == 32)) e).0, not-true (byte == 32) (and_parts (not (byte == 10)) (not (byte == 32)) e).1)
 
 abbrev pub are_clean : List ℕ → Bool
 are_clean [] = true
@@ -67,7 +55,7 @@ are_clean (byte ∷ bytes) = is_clean byte && are_clean bytes
 
 pub clean_word : (bytes : List ℕ) → are_clean bytes ≡ true → AreClean bytes
 clean_word [] e = tt
-clean_word (byte ∷ bytes) e = (clean_byte byte (left_true (is_clean byte) (are_clean bytes) e), clean_word bytes (right_true (is_clean byte) (are_clean bytes) e))
+clean_word (byte ∷ bytes) e = (clean_byte byte (and_parts (is_clean byte) (are_clean bytes) e).0, clean_word bytes (and_parts (is_clean byte) (are_clean bytes) e).1)
 
 clean_letter : (man : Man) → IsClean (letter_of man)
 clean_letter Pawn = (refl, refl)
@@ -110,8 +98,8 @@ unfolding all_below
 below p zero h d l = absurd (omega (arith, l))
 below p (suc n) h d l =
     elim (cases_lt d n) [
-      | inl less ↦ below p n (right_true (p n) (all_below p n) h) d less
-      | inr more ↦ let e : n ≡ d = omega (arith, l, more) in ap p (sym e) ∙ left_true (p n) (all_below p n) h
+      | inl less ↦ below p n (and_parts (p n) (all_below p n) h).1 d less
+      | inr more ↦ let e : n ≡ d = omega (arith, l, more) in ap p (sym e) ∙ (and_parts (p n) (all_below p n) h).0
     ]
 
 abbrev pub digit_of : ℕ → ℕ

@@ -1,13 +1,11 @@
 -- What is left of a dump's text behind its first lines, and the subtables that were read so far.
-use Rattle.std.specs.Prelude.{◌≡◌, ℕ, List, [], ◌∷◌, map, option_map, Option}
+use Rattle.std.specs.Prelude.{◌≡◌, ℕ, List, [], ◌∷◌, map, option_map}
 use Rattle.szg_values.specs.Material.{Sides}
 use Rattle.szg_values.specs.declared.Kind.{Kind}
 use Rattle.szg_values.specs.declared.Kind.TheVariants.{Wdl, Dtz}
 use Rattle.szg_file.specs.Contents.{Part}
 use Rattle.szg_file.specs.Held as held
-use Rattle.szg_build.specs.declared.subreading.SubText.{SubText}
 use Rattle.szg_build.specs.declared.dumpreading.Subs.{Subs}
-use Rattle.szg_file.specs.declared.table.Map.{Map}
 use Rattle.szg_build.specs.Dump.{Dump, SubDump, parts_of, places_of, flags_in, maps_in, dump_of_subs}
 use Rattle.szg_build.specs.Text.{Form}
 use Rattle.szg_build.specs.Plan.{sizes_told}

@@ -1,5 +1,8 @@
+pub mod HandleSend
 pub mod HandleValues
-pub mod HeadsHandleValues
+pub mod HandleWalks
+pub mod HeadsKind
+pub mod TableKind
 pub mod HeldValues
 pub mod HeadsTold
 pub mod ByPlace

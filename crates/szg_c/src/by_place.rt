@@ -7,7 +7,8 @@ ghost use Rattle.szg_file.specs.Wanted.{wanted_block};
 ghost use Rattle.szg_c.specs.ByPlace.{AreHeads, AreHeadsOf, AreWanted, with_index};
 ghost use Rattle.szg_c.specs.Told.{Says, Stops};
 
-use crate::heads_handle::HeadsHandle;
+use crate::handle::{hold, put, share, shut, take};
+use crate::held_heads::HeldHeads;
 use crate::opening::{Answer, kind_of, material_of};
 use crate::shared::Shared;
 use crate::status::{CHANGED, CLOSED, DONE, MEMORY, NAME, RANGE, REFUSED, number_of};
@@ -59,13 +60,13 @@ pub extern "C" fn szg_open_heads(
     name: &[u8],
     dtz: bool,
     bytes: &[u8],
-    heads: &mut HeadsHandle,
+    heads: &mut HeldHeads,
     answer: &mut Answer,
 ) -> u32
     ensures says { Says name.now dtz bytes.now (λ t. IsSomeAnd heads.new.value (AreHeadsOf bytes.now t)) (λ t. ⊥) result answer.new.place answer.new.reason }
     ensures shut { (result ≡ 0 → ⊥) → heads.new.value ≡ None }
 {
-    heads.shut(alloc);
+    shut(heads, alloc);
     match open_heads(alloc, name, dtz, bytes, answer) {
         Ok(opened) => {
             let Ok(shared) = Shared::new(alloc, opened) else {
@@ -77,19 +78,6 @@ pub extern "C" fn szg_open_heads(
     }
 }
 
-/// Holds heads, where there is memory for them, in a handle that holds none.
-fn hold(alloc: Global, heads: &mut HeadsHandle, shared: Shared<Heads>) -> u32
-    ensures done { (result ≡ 0) → heads.new.value ≡ Some shared }
-    ensures kept { (result ≡ 0 → ⊥) → heads.new.value ≡ heads.old.value }
-    ensures statuses { (result ≡ 0) ⊎ (result ≡ 3) }
-{
-    let Ok(shared) = Box::new(alloc, shared) else {
-        return MEMORY;
-    };
-    heads.put(shared);
-    DONE
-}
-
 /// A second handle on the heads of a table: both hold them, and they go when the last is closed. What the second held
 /// before is let go.
 ///
@@ -97,8 +85,8 @@ fn hold(alloc: Global, heads: &mut HeadsHandle, shared: Shared<Heads>) -> u32
 #[unsafe(no_mangle)]
 pub extern "C" fn szg_share_heads(
     alloc: Global,
-    heads: &mut HeadsHandle,
-    second: &mut HeadsHandle,
+    heads: &mut HeldHeads,
+    second: &mut HeldHeads,
 ) -> u32
     ensures kept { heads.new.value ≡ heads.old.value }
     ensures closed { heads.old.value ≡ None → result ≡ 5 }
@@ -106,24 +94,15 @@ pub extern "C" fn szg_share_heads(
     ensures done { (result ≡ 0) → second.new.value ≡ heads.old.value }
     ensures shut { (result ≡ 0 → ⊥) → second.new.value ≡ None }
 {
-    second.shut(alloc);
-    let Some(held) = heads.take(alloc) else {
-        return CLOSED;
-    };
-    let again = held.again();
-    heads.put(held);
-    match again {
-        Ok(shared) => hold(alloc, second, shared),
-        Err(_) => MEMORY,
-    }
+    share(alloc, heads, second)
 }
 
 /// Lets the heads go.
 #[unsafe(no_mangle)]
-pub extern "C" fn szg_close_heads(alloc: Global, heads: &mut HeadsHandle)
+pub extern "C" fn szg_close_heads(alloc: Global, heads: &mut HeldHeads)
     ensures { heads.new.value ≡ None }
 {
-    heads.shut(alloc);
+    shut(heads, alloc);
 }
 
 /// Whether a table has this index.
@@ -170,7 +149,7 @@ fn find_in(heads: &Heads, part: u8, side: u8, index: u64, wanted: &mut WantedByt
 #[unsafe(no_mangle)]
 pub extern "C" fn szg_find(
     alloc: Global,
-    heads: &mut HeadsHandle,
+    heads: &mut HeldHeads,
     part: u8,
     side: u8,
     index: u64,
@@ -182,11 +161,11 @@ pub extern "C" fn szg_find(
     ensures inside { IfSome heads.old.value (λ h. (result ≡ 0) → wanted.new.place + wanted.new.count ≤ h.length) }
     ensures stays { (result ≡ 0 → ⊥) → wanted.new ≡ wanted.old }
 {
-    let Some(held) = heads.take(alloc) else {
+    let Some(held) = take(heads, alloc) else {
         return CLOSED;
     };
     let status = find_in(held.value(), part, side, index, wanted);
-    heads.put(held);
+    put(heads, held);
     status
 }
 
@@ -216,7 +195,7 @@ fn value_in(heads: &Heads, part: u8, side: u8, index: u64, piece: &[u8], value: 
 #[unsafe(no_mangle)]
 pub extern "C" fn szg_value(
     alloc: Global,
-    heads: &mut HeadsHandle,
+    heads: &mut HeldHeads,
     part: u8,
     side: u8,
     index: u64,
@@ -229,10 +208,10 @@ pub extern "C" fn szg_value(
     ensures done { IfSome heads.old.value (λ h. (content : List ℕ) → IsKeptOf h content → IfSome (with_index (kept_at h content part side) index) (λ found. IfSome (wanted_block found.1 index) (λ block. block ≡ piece.now) → (result ≡ 0) × (item (values_of h.kind found) index ≡ Some value.new))) }
     ensures stays { (result ≡ 0 → ⊥) → value.new ≡ value.old }
 {
-    let Some(held) = heads.take(alloc) else {
+    let Some(held) = take(heads, alloc) else {
         return CLOSED;
     };
     let status = value_in(held.value(), part, side, index, piece, value);
-    heads.put(held);
+    put(heads, held);
     status
 }

@@ -1,106 +1,90 @@
-//! A table behind a pointer.
-ghost use Rattle.std.specs.Prelude.{◌≡◌};
-ghost use Rattle.std.specs.Option.{MatchOption};
+//! What C holds behind a pointer: a share of a value, or none.
+ghost use Rattle.std.specs.Prelude.{◌≡◌, ◌⊎◌, IfSome, MatchOption};
 ghost use Rattle.std.specs.declared.option.Option.{Option};
 ghost use Rattle.std.specs.declared.option.Option.TheVariants.{None, Some};
-ghost use Rattle.std.specs.Coded.{coded_option};
-ghost use Rattle.std.specs.contracts.impls.GlobalAllocator.TheImpl.{ghosts};
-ghost use Rattle.szg_c.specs.contracts.shared.Shared.{the_row};
-ghost use Rattle.szg_file.specs.Held.{Shown};
-ghost use Rattle.szg_place.specs.contracts.prepared.PreparedTable.{the_row as table_row};
-ghost use Rattle.szg_c.specs.Owned.{held};
 
 use crate::loose::Loose;
 use crate::shared::Shared;
+use crate::status::{CLOSED, DONE, MEMORY};
 use std::alloc::Global;
-use std::marker::Model;
 use std::mem::replace;
-use std::ptr::null_mut;
-use szg_place::PreparedTable;
 
-/// A table that C holds, or none.
-#[repr(C)]
-pub struct Handle {
-    at: *mut u8,
-    alloc: Global,
-    pub ghost value: { Option Shown } by { coded_option (the_row table_row).coded },
+/// A struct of C with a pointer to a share of a value, or to none.
+pub trait Handle: Drop {
+    /// The value.
+    type Value: Drop;
+
+    /// The value, where there is a share.
+    ghost held: { Self → Option Self.Value };
+
+    /// A handle that holds none.
+    fn none(alloc: Global) -> Self
+        ensures { held result ≡ None };
+
+    /// A handle on a share.
+    fn of(shared: Loose<Shared<Self::Value>, Global>) -> Self
+        ensures { held result ≡ Some shared.value };
+
+    /// The share, where there is one.
+    fn into_loose(self) -> Option<Loose<Shared<Self::Value>, Global>>
+        ensures { MatchOption result (held self ≡ None) (λ shared. held self ≡ Some shared.value) };
 }
 
-impl Model for Handle {
-    ghost also_owns = { λ h. held (ghosts.dealloc_token h.alloc) (the_row table_row) h.at h.value };
-}
-
-impl Handle {
-    /// No table.
-    pub(crate) fn none(alloc: Global) -> Handle
-        ensures { result.value ≡ None }
-    {
-        Handle {
-            at: null_mut(),
-            alloc,
-        }
-    }
-
-    /// Holds a table.
-    pub(crate) fn of(table: Loose<Shared<PreparedTable>, Global>) -> Handle
-        ensures { result.value ≡ Some table.value }
-    {
-        let Loose { at, alloc } = table;
-        Handle {
-            at: at as *mut u8,
-            alloc,
-        }
-    }
-
-    /// The table, where there is one.
-    pub(crate) fn into_loose(self) -> Option<Loose<Shared<PreparedTable>, Global>>
-        ensures { MatchOption result (self.value ≡ None) (λ table. self.value ≡ Some table.value) }
-    {
-        let Handle { at, alloc } = self;
-        if at.is_null() {
-            None
-        } else {
-            Some(Loose {
-                at: at as *mut Shared<PreparedTable>,
-                alloc,
-            })
-        }
-    }
-
-    /// Takes the table out, where there is one.
-    pub fn take(&mut self, alloc: Global) -> Option<Box<Shared<PreparedTable>>>
-        ensures table { MatchOption result (self.old.value ≡ None) (λ table. self.old.value ≡ Some table.value) }
-        ensures empty { self.new.value ≡ None }
-    {
-        let held = replace(self, Handle::none(alloc));
-        match held.into_loose() {
-            None => None,
-            Some(table) => Some(table.into_box()),
-        }
-    }
-
-    /// Holds this table, and no other.
-    pub fn put(&mut self, table: Box<Shared<PreparedTable>>)
-        ensures { self.new.value ≡ Some table.value }
-    {
-        *self = Handle::of(Loose::of(table));
-    }
-
-    /// Holds none.
-    pub fn shut(&mut self, alloc: Global)
-        ensures { self.new.value ≡ None }
-    {
-        *self = Handle::none(alloc);
+/// Takes the share out, where there is one.
+pub fn take<H: Handle>(handle: &mut H, alloc: Global) -> Option<Box<Shared<H::Value>>>
+    ensures taken { MatchOption result (H.held handle.old ≡ None) (λ shared. H.held handle.old ≡ Some shared.value) }
+    ensures empty { H.held handle.new ≡ None }
+{
+    let held = replace(handle, H::none(alloc));
+    match held.into_loose() {
+        None => None,
+        Some(shared) => Some(shared.into_box()),
     }
 }
 
-// A handle may go from thread to thread: a table has nothing that is bound to one.
-unsafe impl Send for Handle {}
+/// Holds this share, and no other.
+pub fn put<H: Handle>(handle: &mut H, shared: Box<Shared<H::Value>>)
+    ensures { H.held handle.new ≡ Some shared.value }
+{
+    *handle = H::of(Loose::of(shared));
+}
 
-impl Drop for Handle {
-    fn drop(self) {
-        if let Some(table) = self.into_loose() {
-            drop(table.into_box());
-        }
+/// Holds none.
+pub fn shut<H: Handle>(handle: &mut H, alloc: Global)
+    ensures { H.held handle.new ≡ None }
+{
+    *handle = H::none(alloc);
+}
+
+/// Holds a share, where there is memory for it, in a handle that holds none.
+pub fn hold<H: Handle>(alloc: Global, handle: &mut H, shared: Shared<H::Value>) -> u32
+    ensures done { (result ≡ 0) → H.held handle.new ≡ Some shared }
+    ensures kept { (result ≡ 0 → ⊥) → H.held handle.new ≡ H.held handle.old }
+    ensures statuses { (result ≡ 0) ⊎ (result ≡ 3) }
+{
+    let Ok(shared) = Box::new(alloc, shared) else {
+        return MEMORY;
+    };
+    put(handle, shared);
+    DONE
+}
+
+/// A second share of what a handle holds, in another handle. What that held before is let go.
+pub fn share<H: Handle>(alloc: Global, handle: &mut H, second: &mut H) -> u32
+    ensures kept { H.held handle.new ≡ H.held handle.old }
+    ensures closed { H.held handle.old ≡ None → result ≡ 5 }
+    ensures statuses { IfSome (H.held handle.old) (λ value. (result ≡ 0) ⊎ (result ≡ 3)) }
+    ensures done { (result ≡ 0) → H.held second.new ≡ H.held handle.old }
+    ensures shut { (result ≡ 0 → ⊥) → H.held second.new ≡ None }
+{
+    shut(second, alloc);
+    let Some(held) = take(handle, alloc) else {
+        return CLOSED;
+    };
+    let again = held.again();
+    put(handle, held);
+    match again {
+        Ok(shared) => hold(alloc, second, shared),
+        Err(_) => MEMORY,
     }
 }

@@ -5,7 +5,8 @@ ghost use Rattle.szg_file.specs.Values.{subtable_at, values_of, item};
 ghost use Rattle.szg_c.specs.Places.{number_told};
 ghost use Rattle.szg_c.specs.Told.{Says};
 
-use crate::handle::Handle;
+use crate::handle::{hold, put, share, shut, take};
+use crate::held_table::HeldTable;
 use crate::opening::{Answer, open};
 use crate::places::{is_class, number_or_status};
 use crate::shared::Shared;
@@ -22,13 +23,13 @@ pub extern "C" fn szg_open(
     name: &[u8],
     dtz: bool,
     bytes: &[u8],
-    table: &mut Handle,
+    table: &mut HeldTable,
     answer: &mut Answer,
 ) -> u32
     ensures says { Says name.now dtz bytes.now (λ t. table.new.value ≡ Some t) (λ t. ⊥) result answer.new.place answer.new.reason }
     ensures shut { (result ≡ 0 → ⊥) → table.new.value ≡ None }
 {
-    table.shut(alloc);
+    shut(table, alloc);
     match open(alloc, name, dtz, bytes, answer) {
         Ok(opened) => {
             let Ok(shared) = Shared::new(alloc, PreparedTable::of(opened)) else {
@@ -40,48 +41,26 @@ pub extern "C" fn szg_open(
     }
 }
 
-/// Holds a table, where there is memory for it, in a handle that holds none.
-fn hold(alloc: Global, table: &mut Handle, shared: Shared<PreparedTable>) -> u32
-    ensures done { (result ≡ 0) → table.new.value ≡ Some shared }
-    ensures kept { (result ≡ 0 → ⊥) → table.new.value ≡ table.old.value }
-    ensures statuses { (result ≡ 0) ⊎ (result ≡ 3) }
-{
-    let Ok(shared) = Box::new(alloc, shared) else {
-        return MEMORY;
-    };
-    table.put(shared);
-    DONE
-}
-
 /// A second handle on a table: both hold it, and it goes when the last is closed. What the second held before is let go.
 ///
 /// `CLOSED` where the first holds none, `MEMORY` where a growth was refused; then the second holds none.
 #[unsafe(no_mangle)]
-pub extern "C" fn szg_share(alloc: Global, table: &mut Handle, second: &mut Handle) -> u32
+pub extern "C" fn szg_share(alloc: Global, table: &mut HeldTable, second: &mut HeldTable) -> u32
     ensures kept { table.new.value ≡ table.old.value }
     ensures closed { table.old.value ≡ None → result ≡ 5 }
     ensures statuses { IfSome table.old.value (λ t. (result ≡ 0) ⊎ (result ≡ 3)) }
     ensures done { (result ≡ 0) → second.new.value ≡ table.old.value }
     ensures shut { (result ≡ 0 → ⊥) → second.new.value ≡ None }
 {
-    second.shut(alloc);
-    let Some(held) = table.take(alloc) else {
-        return CLOSED;
-    };
-    let again = held.again();
-    table.put(held);
-    match again {
-        Ok(shared) => hold(alloc, second, shared),
-        Err(_) => MEMORY,
-    }
+    share(alloc, table, second)
 }
 
 /// Lets the table go.
 #[unsafe(no_mangle)]
-pub extern "C" fn szg_close(alloc: Global, table: &mut Handle)
+pub extern "C" fn szg_close(alloc: Global, table: &mut HeldTable)
     ensures { table.new.value ≡ None }
 {
-    table.shut(alloc);
+    shut(table, alloc);
 }
 
 /// The value at an index, where the table has it.
@@ -108,7 +87,7 @@ fn value_in(table: &Table, part: u8, side: u8, index: u64, value: &mut u16) -> u
 #[unsafe(no_mangle)]
 pub extern "C" fn szg_get(
     alloc: Global,
-    table: &mut Handle,
+    table: &mut HeldTable,
     part: u8,
     side: u8,
     index: u64,
@@ -121,11 +100,11 @@ pub extern "C" fn szg_get(
     ensures statuses { IfSome table.old.value (λ t. (result ≡ 0) ⊎ (result ≡ 4)) }
     ensures stays { (result ≡ 0 → ⊥) → value.new ≡ value.old }
 {
-    let Some(held) = table.take(alloc) else {
+    let Some(held) = take(table, alloc) else {
         return CLOSED;
     };
     let status = value_in(held.value().table(), part, side, index, value);
-    table.put(held);
+    put(table, held);
     status
 }
 
@@ -149,7 +128,7 @@ fn size_in(table: &Table, part: u8, side: u8, size: &mut u64) -> u32
 #[unsafe(no_mangle)]
 pub extern "C" fn szg_positions(
     alloc: Global,
-    table: &mut Handle,
+    table: &mut HeldTable,
     part: u8,
     side: u8,
     size: &mut u64,
@@ -161,11 +140,11 @@ pub extern "C" fn szg_positions(
     ensures statuses { IfSome table.old.value (λ t. (result ≡ 0) ⊎ (result ≡ 4)) }
     ensures stays { (result ≡ 0 → ⊥) → size.new ≡ size.old }
 {
-    let Some(held) = table.take(alloc) else {
+    let Some(held) = take(table, alloc) else {
         return CLOSED;
     };
     let status = size_in(held.value().table(), part, side, size);
-    table.put(held);
+    put(table, held);
     status
 }
 
@@ -199,7 +178,7 @@ fn values_in(alloc: Global, table: &Table, part: u8, side: u8, values: &mut [u16
 #[unsafe(no_mangle)]
 pub extern "C" fn szg_all(
     alloc: Global,
-    table: &mut Handle,
+    table: &mut HeldTable,
     part: u8,
     side: u8,
     values: &mut [u16],
@@ -212,11 +191,11 @@ pub extern "C" fn szg_all(
     ensures other_length { IfSome table.old.value (λ t. IfSome (subtable_at t.contents part side) (λ found. length values.old ≢ found.0.size → result ≡ 4)) }
     ensures stays { (result ≡ 0 → ⊥) → values.new ≡ values.old }
 {
-    let Some(held) = table.take(alloc) else {
+    let Some(held) = take(table, alloc) else {
         return CLOSED;
     };
     let status = values_in(alloc, held.value().table(), part, side, values);
-    table.put(held);
+    put(table, held);
     status
 }
 
@@ -237,7 +216,7 @@ fn number_in(table: &Table, part: u8, class: i8, value: u16) -> Result<u32, u32>
 #[unsafe(no_mangle)]
 pub extern "C" fn szg_number(
     alloc: Global,
-    table: &mut Handle,
+    table: &mut HeldTable,
     part: u8,
     class: i8,
     value: u16,
@@ -247,11 +226,11 @@ pub extern "C" fn szg_number(
     ensures closed { table.old.value ≡ None → (result ≡ 5) × (number.new ≡ number.old) }
     ensures told { IfSome table.old.value (λ t. MatchResult (number_told t.contents part class value) (λ n. (result ≡ 0) × (number.new ≡ n)) (λ status. (result ≡ status) × (number.new ≡ number.old))) }
 {
-    let Some(held) = table.take(alloc) else {
+    let Some(held) = take(table, alloc) else {
         return CLOSED;
     };
     let told = number_in(held.value().table(), part, class, value);
-    table.put(held);
+    put(table, held);
     match told {
         Ok(found) => {
             *number = found;

@@ -7,8 +7,9 @@
 
 mod by_place;
 mod handle;
-mod heads_handle;
 mod held;
+mod held_heads;
+mod held_table;
 mod loose;
 mod men;
 mod opening;
@@ -20,9 +21,9 @@ mod whole;
 pub use by_place::{
     WantedBytes, szg_close_heads, szg_find, szg_open_heads, szg_share_heads, szg_value,
 };
-pub use handle::Handle;
-pub use heads_handle::HeadsHandle;
 pub use held::{szg_all, szg_close, szg_get, szg_number, szg_open, szg_positions, szg_share};
+pub use held_heads::HeldHeads;
+pub use held_table::HeldTable;
 pub use men::CodedMan;
 pub use opening::Answer;
 pub use places::{FoundSpot, szg_index, szg_probe};

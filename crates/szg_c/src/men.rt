@@ -1,5 +1,6 @@
 //! Placements, as C hands them in.
-ghost use Rattle.std.specs.Prelude.{◌≡◌, ◌≤◌, ◌&&◌, IsTrue, length, map, nat_lt};
+ghost use Rattle.std.specs.Prelude.{◌≡◌, ◌≤◌, ◌&&◌, IsTrue, IsFalse, IfSome, IsNone, length, map, nat_lt};
+ghost use Rattle.std.specs.declared.option.Option.TheVariants.{None, Some};
 ghost use Rattle.std.specs.List.{list_all};
 ghost use Rattle.szg_c.specs.Men.{board_of, color_of as color_told, is_told, man_told, placement_status, standing_of};
 
@@ -25,13 +26,15 @@ pub struct CodedMan {
 pub fn placement_of(men: &[CodedMan], mover: u8) -> Result<Placement, u32>
     ensures { result ≡ board_of men.now mover }
 {
-    if mover >= 2 || !are_told(men) {
+    if mover >= 2 {
         return Err(MAN);
     }
     if men.len() > MAX_MEN {
-        return Err(MEN);
+        return Err(if are_told(men) { MEN } else { MAN });
     }
-    let standing = standing(men);
+    let Some(standing) = standing(men) else {
+        return Err(MAN);
+    };
     match Placement::new(standing.as_slice(), color_of(mover)) {
         Ok(placement) => Ok(placement),
         Err(fault) => Err(placement_status(fault)),
@@ -51,27 +54,28 @@ fn is_told(man: &CodedMan) -> bool
     0 < man.kind && man.kind < 7 && man.color < 2 && man.square < 64
 }
 
-/// The men that numbers tell.
-fn standing(men: &[CodedMan]) -> ArrayVec<(Man, Color, Square), MAX_MEN>
-    requires few { length men.now ≤ 6 }
-    requires told { IsTrue (list_all is_told men.now) }
-    ensures { result.items ≡ map standing_of men.now }
+/// The men that numbers tell, where each man's do.
+fn standing(men: &[CodedMan]) -> Option<ArrayVec<(Man, Color, Square), MAX_MEN>>
+    requires { length men.now ≤ 6 }
+    ensures told { IfSome result (λ standing. IsTrue (list_all is_told men.now) × (standing.items ≡ map standing_of men.now)) }
+    ensures untold { IsNone result → IsFalse (list_all is_told men.now) }
 {
     let mut standing = ArrayVec::new();
     for man in men {
-        standing.push(standing_of(man));
+        standing.push(standing_of(man)?);
     }
-    standing
+    Some(standing)
 }
 
-fn standing_of(man: &CodedMan) -> (Man, Color, Square)
-    requires { IsTrue (is_told man.now) }
-    ensures { result ≡ standing_of man.now }
+fn standing_of(man: &CodedMan) -> Option<(Man, Color, Square)>
+    ensures told { IsTrue (is_told man.now) → result ≡ Some (standing_of man.now) }
+    ensures untold { IsFalse (is_told man.now) → result ≡ None }
 {
-    let Some(square) = Square::new(man.square) else {
-        unreachable!()
-    };
-    (kind_of(man.kind), color_of(man.color), square)
+    if !is_told(man) {
+        return None;
+    }
+    let square = Square::new(man.square)?;
+    Some((kind_of(man.kind), color_of(man.color), square))
 }
 
 fn kind_of(kind: u8) -> Man

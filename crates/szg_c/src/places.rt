@@ -5,7 +5,8 @@ ghost use Rattle.szg_c.specs.Men.{board_of};
 ghost use Rattle.szg_c.specs.Places.{IsSpot, is_class, map_status as map_told, number_or_status, outcome_of, outcome_told, place_status as place_told, spot_told};
 ghost use Rattle.szg_c.specs.Telling.{class_or_status, distance_or_status, spot_or_status};
 
-use crate::handle::Handle;
+use crate::handle::{put, take};
+use crate::held_table::HeldTable;
 use crate::men::{CodedMan, placement_of};
 use crate::status::{
     CLOSED, DONE, DRAW, IRREGULAR, KINGS_TOUCH, NO_CLASS, OTHER_MATERIAL, OUTSIDE_MAP, RANGE,
@@ -35,7 +36,7 @@ pub struct FoundSpot {
 #[unsafe(no_mangle)]
 pub extern "C" fn szg_index(
     alloc: Global,
-    table: &mut Handle,
+    table: &mut HeldTable,
     men: &[CodedMan],
     mover: u8,
     spot: &mut FoundSpot,
@@ -44,11 +45,11 @@ pub extern "C" fn szg_index(
     ensures closed { table.old.value ≡ None → (result ≡ 5) × (spot.new ≡ spot.old) }
     ensures told { IfSome table.old.value (λ t. MatchResult (spot_told t.contents (board_of men.now mover)) (λ found. (result ≡ 0) × IsSpot spot.new found) (λ status. (result ≡ status) × (spot.new ≡ spot.old))) }
 {
-    let Some(held) = table.take(alloc) else {
+    let Some(held) = take(table, alloc) else {
         return CLOSED;
     };
     let told = spot_in(held.value(), men, mover);
-    table.put(held);
+    put(table, held);
     match told {
         Ok(found) => {
             spot.part = found.part;
@@ -95,7 +96,7 @@ fn spot_or_status(told: Result<Spot, PlaceFault>) -> Result<Spot, u32>
 #[unsafe(no_mangle)]
 pub extern "C" fn szg_probe(
     alloc: Global,
-    table: &mut Handle,
+    table: &mut HeldTable,
     men: &[CodedMan],
     mover: u8,
     class: i8,
@@ -105,11 +106,11 @@ pub extern "C" fn szg_probe(
     ensures closed { table.old.value ≡ None → (result ≡ 5) × (outcome.new ≡ outcome.old) }
     ensures told { IfSome table.old.value (λ t. MatchResult (outcome_told t.contents class (board_of men.now mover)) (λ n. (result ≡ 0) × (outcome.new ≡ n)) (λ status. (result ≡ status) × (outcome.new ≡ outcome.old))) }
 {
-    let Some(held) = table.take(alloc) else {
+    let Some(held) = take(table, alloc) else {
         return CLOSED;
     };
     let told = outcome_in(held.value(), men, mover, class);
-    table.put(held);
+    put(table, held);
     match told {
         Ok(number) => {
             *outcome = number;

@@ -1,7 +1,7 @@
 -- The functions that find where the lowest symbols fail first, and the rules of accepted codes.
 use Rattle.std.proofs.Common.{ℕ, zero, suc, Bool, true, false, cond, ◌≡◌, ◌+◌, ◌-◌, ◌*◌, ◌/◌, ◌^◌, ◌<◌, ◌≤◌, ◌⊎◌, inl, inr, Option, Some, None, length, refl, ap, sym, ◌∙◌, subst, arith, nat_lt, nat_le, ◌&&◌}
 use Rattle.std.specs.List.{find, range_with_len, slice_index}
-use Rattle.std.proofs.lemmas.Bool.{ltb-true, ltb-false, lt-ltb, leb-true, le-leb, cases_lt}
+use Rattle.std.proofs.lemmas.Bool.{ltb-true, ltb-false, lt-ltb, leb-true, le-leb, cases_lt, and_parts}
 use Rattle.szg_code.specs.Canonical.{CanonicalCode, base, base_below_max, lowest_of}
 use Rattle.szg_code.specs.Acceptance.{HasLengths, IsOrderedAt, HasRoomAt, IsCode, IsFirstRise, IsLastOverfull, IsOverfullAtLeast, IsCodeFault}
 use Rattle.szg_code.specs.declared.CodeFault.TheVariants.{LowestOrder, TooFull}
@@ -10,10 +10,6 @@ use Rattle.szg_code.proofs.FirstFound.{find_none, find_some}
 
 second_false : (a b : Bool) → (a && b) ≡ false → a ≡ true → b ≡ false
 second_false a b e h = ap (λ (x : Bool). x && b) (sym h) ∙ e
-
-parts_true : (a b : Bool) → (a && b) ≡ true → (a ≡ true) × (b ≡ true)
-parts_true true b e = (refl, e)
-parts_true false b e = absurd cc
 
 -- ---- order
 
@@ -30,7 +26,7 @@ unfolding first_rise
 first_rise-Some code j e =
     let f = find_some (rises_at code) 0 (length code.lowest) j e in
     let below : j < 0 + length code.lowest = f.below in
-    let p = parts_true (nat_lt 0 j) (nat_lt (slice_index code.lowest (j - 1)) (slice_index code.lowest j)) f.passes in
+    let p = and_parts (nat_lt 0 j) (nat_lt (slice_index code.lowest (j - 1)) (slice_index code.lowest j)) f.passes in
     let some : 0 < j = ltb-true 0 j p.0 in
     let above = ltb-true (slice_index code.lowest (j - 1)) (slice_index code.lowest j) p.1 in
     record {

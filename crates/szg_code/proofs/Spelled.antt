@@ -7,7 +7,7 @@ use Rattle.szg_code.specs.Acceptance.{IsCode}
 use Rattle.szg_code.specs.Spelling.{BeginsWithWord, BeginsWithNoWord, Spells, first_word, symbols_after, symbols_within, symbols_spelled}
 use Rattle.std.proofs.Math.Nat.{mul-le-mul_right}
 use Rattle.std.proofs.lemmas.Nat.{pow-add}
-use Rattle.std.proofs.lemmas.Bool.{leb-true, le-leb, cases_order}
+use Rattle.std.proofs.lemmas.Bool.{leb-true, le-leb, cases_order, and_parts}
 use Rattle.std.proofs.lemmas.List.{take-append-drop}
 use Rattle.std.specs.Cmp.Derive.{both_true}
 use Rattle.std.specs.List.{filter, range_with_len}
@@ -36,15 +36,6 @@ module _ (code : CanonicalCode) (accepted : IsCode code) where
       let s : x ≡ y = u.0 in
       cc
 
--- the tests of a word are its rules
-and_left : (a b : Bool) → (a && b) ≡ true → a ≡ true
-and_left true b e = refl
-and_left false b e = e
-
-and_right : (a b : Bool) → (a && b) ≡ true → b ≡ true
-and_right true b e = e
-and_right false b e = absurd (cc)
-
 module _ (code : CanonicalCode) where
   pub IsWord-from_is_word : (word : List Bool) → is_word code word ≡ true → IsWord code word (symbol_at code (length word) (number word))
   unfolding is_word
@@ -54,16 +45,16 @@ module _ (code : CanonicalCode) where
       let c = nat_le (base code (length word)) (number word) in
       let d = nat_lt (number word) (top code (length word)) in
       let f = nat_lt (symbol_at code (length word) (number word)) code.symbols in
-      let p4 : (a && b && c && d) ≡ true = and_left (a && b && c && d) f e in
-      let p3 : (a && b && c) ≡ true = and_left (a && b && c) d p4 in
-      let p2 : (a && b) ≡ true = and_left (a && b) c p3 in
+      let p4 : (a && b && c && d) ≡ true = (and_parts (a && b && c && d) f e).0 in
+      let p3 : (a && b && c) ≡ true = (and_parts (a && b && c) d p4).0 in
+      let p2 : (a && b) ≡ true = (and_parts (a && b) c p3).0 in
       record {
-        long_enough = leb-true code.min_length (length word) (and_left a b p2);
-        short_enough = leb-true (length word) code.max_length (and_right a b p2);
-        from_base = leb-true (base code (length word)) (number word) (and_right (a && b) c p3);
-        below_top = leb-true (suc (number word)) (top code (length word)) (and_right (a && b && c) d p4);
+        long_enough = leb-true code.min_length (length word) (and_parts a b p2).0;
+        short_enough = leb-true (length word) code.max_length (and_parts a b p2).1;
+        from_base = leb-true (base code (length word)) (number word) (and_parts (a && b) c p3).1;
+        below_top = leb-true (suc (number word)) (top code (length word)) (and_parts (a && b && c) d p4).1;
         symbol_is = refl;
-        symbol_there = leb-true (suc (symbol_at code (length word) (number word))) code.symbols (and_right (a && b && c && d) f e);
+        symbol_there = leb-true (suc (symbol_at code (length word) (number word))) code.symbols (and_parts (a && b && c && d) f e).1;
       }
 
   pub is_word-from_IsWord : (word : List Bool) (s : ℕ) → IsWord code word s → is_word code word ≡ true

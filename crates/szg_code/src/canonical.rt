@@ -149,6 +149,7 @@ impl Code {
 
     /// The place of the least length whose base, at the top of 64 bits, the window reaches. Shifted bases
     /// don't rise with the length, and may be equal: the first that is reached counts.
+    #[inline(always)]
     pub(crate) fn place_reached(&self, window: u64) -> usize
         ensures accepted { IsCode self.now }
         ensures inside { result < length self.now.lowest }
@@ -160,6 +161,7 @@ impl Code {
     }
 
     /// The symbol of the first bits of a window, as many as the length at place j, if it is there.
+    #[inline(always)]
     pub(crate) fn symbol_in(&self, window: u64, j: usize) -> Option<u16>
         requires length { j < length self.now.lowest }
         requires reaches { shifted_base self.now 64 (self.now.min_length + j) ≤ window }

@@ -56,6 +56,7 @@ impl<'a> Bits<'a> {
     }
 
     /// The number of bits left.
+    #[inline(always)]
     fn count_left(&self) -> u64
         ensures { result ≡ length self.now.left }
     {
@@ -63,6 +64,7 @@ impl<'a> Bits<'a> {
     }
 
     /// Moves over so many of the bits left. Where the window comes into its second piece, the next is read.
+    #[inline(always)]
     fn move_over(&mut self, count: u64)
         requires short { count ≤ 32 }
         requires inside { count ≤ length self.old.left }
@@ -80,6 +82,7 @@ impl<'a> Bits<'a> {
 }
 
 /// The number of four bytes from a place on, the first highest; zeros past the end.
+#[inline(always)]
 fn piece_at(bytes: &[u8], at: usize) -> u32
     requires { at < 2 ^ 62 }
     ensures { result ≡ number (front 32 (drop (8 * at) (bits bytes.now))) }
@@ -101,6 +104,7 @@ fn piece_at(bytes: &[u8], at: usize) -> u32
 /// None where no word begins them, or the word would run past the bytes: the bits stay as they were.
 /// The rule is that of de Man's format: the word has the least length at which the number of the first
 /// bits is not below the base.
+#[inline(always)]
 pub fn next(code: &Code, bits: &mut Bits) -> Option<u16>
     ensures found { IfSome result (λ s. TakesWord code.now bits.old bits.new s) }
     ensures none { IfNone result (BeginsWithNoWord code.now bits.old.left × (bits.new ≡ bits.old)) }

@@ -4,6 +4,7 @@ use Rattle.std.specs.Prelude.{◌==◌, nat_lt, sum, slice_get, unwrap_or, Optio
 use Rattle.std.specs.List.{range_with_len, concat}
 use Rattle.std.proofs.Math.Bool.{not, ◌&&◌}
 use Rattle.std.proofs.lemmas.Bool.Decides.{eqb_tells}
+use Rattle.std.proofs.lemmas.Bool.{and_parts}
 use Rattle.szg_values.specs.Material.{man_codes, has_pawns, lead_pawns, other_pawns, has_single_lead}
 use Rattle.szg_count.specs.declared.OrderFault.{OrderFault}
 use Rattle.szg_count.specs.Sets.{numbers_below, choose}
@@ -77,10 +78,6 @@ no_fault : (b : Bool) (fault : OrderFault) (rest : Option OrderFault) → cond (
 no_fault true fault rest e = refl
 no_fault false fault rest e = cc
 
-both : (a b : Bool) → (a && b) ≡ true → (a ≡ true) × (b ≡ true)
-both true b e = (refl, e)
-both false b e = cc
-
 -- with pawns the lead group has the lead pawns
 with_pawns : (b : Bool) (k m : ℕ) → b ≡ true → cond b k m ≡ k
 with_pawns true k m e = refl
@@ -101,7 +98,7 @@ other_pawn_ways sides part n h o e =
     let r = no_fault (is_rearrangement n.men (man_codes sides)) _ _ o in
     let same = rearranged-length n.men (man_codes sides) r in
     let p = peopled sides h in let few = p.pawns in
-    let x = both (has_pawns sides) (nat_lt 0 (other_pawns sides)) e in
+    let x = and_parts (has_pawns sides) (nat_lt 0 (other_pawns sides)) e in
     let lead = with_pawns (has_pawns sides) (lead_pawns sides) (cond (has_single_lead sides) 3 2) x.0 in
     let groups = groups_of sides n.men in
     let parts = second (has_other_pawns sides) (lead_length sides) (other_pawns sides) n.men (runs_of (later_men sides n.men)) e (omega (arith, lead, few, same)) in

@@ -3,7 +3,7 @@ use Rattle.std.proofs.Common.{◌≡◌, ℕ, zero, suc, ◌+◌, ◌<◌, ◌�
 use Rattle.std.specs.Prelude.{◌==◌, nat_lt, Option, Some, None, option_to_list, is_some}
 use Rattle.std.specs.List.{list_all, list_any, range_with_len}
 use Rattle.std.proofs.Math.Bool.{not, ◌&&◌}
-use Rattle.std.proofs.lemmas.Bool.{cases_Bool, eqb-true, eq-eqb, ltb-true, or_cases}
+use Rattle.std.proofs.lemmas.Bool.{cases_Bool, eqb-true, eq-eqb, ltb-true, or_cases, and_parts}
 use Rattle.std.proofs.lemmas.Bool.Decides.{eqb_tells}
 use Rattle.szg_count.specs.Leads.{contains, without}
 use Rattle.szg_count.specs.Groups.{told_places, groups_of, has_other_pawns}
@@ -82,18 +82,10 @@ length-range : (a n : ℕ) → length (range_with_len a n) ≡ n
 length-range a zero = refl
 length-range a (suc n) = ap suc (length-range (a + 1) n)
 
-one_of : (a b : Bool) → (a && b) ≡ true → a ≡ true
-one_of true b e = refl
-one_of false b e = cc
-
-two_of : (a b : Bool) → (a && b) ≡ true → b ≡ true
-two_of true b e = e
-two_of false b e = cc
-
 pub all_below : (xs : List ℕ) (n : ℕ) → list_all (λ place. nat_lt place n) xs ≡ true → (x : ℕ) → IsIn x xs → x < n
 all_below [] n e x h = absurd h
-all_below (y ∷ ys) n e x (inl f) = let a = ltb-true y n (one_of (nat_lt y n) (list_all (λ place. nat_lt place n) ys) e) in omega (arith, f, a)
-all_below (y ∷ ys) n e x (inr h) = all_below ys n (two_of (nat_lt y n) (list_all (λ place. nat_lt place n) ys) e) x h
+all_below (y ∷ ys) n e x (inl f) = let a = ltb-true y n (and_parts (nat_lt y n) (list_all (λ place. nat_lt place n) ys) e).0 in omega (arith, f, a)
+all_below (y ∷ ys) n e x (inr h) = all_below ys n (and_parts (nat_lt y n) (list_all (λ place. nat_lt place n) ys) e).1 x h
 
 -- different numbers below m, and the others below m after them
 pub ordering_of : (told : List ℕ) (m : ℕ) → AllDiffer told → ((x : ℕ) → IsIn x told → x < m) →
@@ -121,5 +113,5 @@ places_order sides n h =
     let front = (cond (is_some n.other) (has_other_pawns sides) (not (has_other_pawns sides))) in
     let all = list_all (λ place. nat_lt place m) (told_places n) in
     let last = not (list_any (λ place. place == n.lead) (option_to_list n.other)) in
-    let x = one_of (front && all) last h in
-    ordering_of (told_places n) m (told_differ n.lead n.other (two_of (front && all) last h)) (all_below (told_places n) m (two_of front all x))
+    let x = (and_parts (front && all) last h).0 in
+    ordering_of (told_places n) m (told_differ n.lead n.other (and_parts (front && all) last h).1) (all_below (told_places n) m (and_parts front all x).1)

@@ -2,9 +2,8 @@
 use Rattle.std.proofs.Common.{◌≡◌, ℕ, ◌+◌, ◌<◌, ◌≤◌, List, [], ◌∷◌, length, map, refl, sym, ap, ◌∙◌, Bool, true, false, cond, arith, length-append, take, drop}
 use Rattle.std.specs.Prelude.{◌==◌, nat_lt, nat_le}
 use Rattle.std.specs.List.{list_all}
-use Rattle.std.proofs.Math.Bool.{not, ◌&&◌, ◌||◌}
-use Rattle.std.proofs.lemmas.Bool.{eqb-true, ltb-true, ltb-false, lt-ltb}
-use Rattle.std.proofs.lemmas.Bool.Decides.{nat_tests}
+use Rattle.std.proofs.Math.Bool.{not, ◌&&◌, ◌||◌, or-true}
+use Rattle.std.proofs.lemmas.Bool.{eqb-true, ltb-true, ltb-false, lt-ltb, le-leb, and_parts}
 use Rattle.std.proofs.lemmas.List.Sums.{sum_by-cons, sum_by-append}
 use Rattle.std.proofs.lemmas.List.{length-map}
 use Rattle.szg_values.specs.Men.{is_man, code_of}
@@ -12,7 +11,7 @@ use Rattle.szg_values.specs.Material.{Sides, IsMaterial, has_pawns, pawn_count, 
 use Rattle.szg_values.specs.declared.Man.{Man}
 use Rattle.szg_values.specs.declared.Man.TheVariants.{Pawn, Knight, Bishop, Rook, Queen, King}
 use Rattle.szg_count.specs.Groups.{lead_length, is_rearrangement, has_pawns_first, has_other_pawns}
-use Rattle.szg_count.proofs.Sizes.{made, pawns_beside_king, lead_range, both_one}
+use Rattle.szg_count.proofs.Sizes.{made, pawns_beside_king, lead_range}
 
 both_ways : (b : Bool) (p q : ℕ) → cond b p q + cond b q p ≡ p + q
 both_ways true p q = refl
@@ -61,7 +60,7 @@ lead_length-fits sides h = let p = peopled sides h in
     (λ e. (some_lead sides h e).0) (no_pawns sides) p.pawns p.some
 
 pub rearranged-length : (used codes : List ℕ) → is_rearrangement used codes ≡ true → length used ≡ length codes
-rearranged-length used codes e = eqb-true (length used) (length codes) (both_one (length used == length codes) _ e)
+rearranged-length used codes e = eqb-true (length used) (length codes) (and_parts (length used == length codes) _ e).0
 
 -- ---- the codes of pawns
 
@@ -98,21 +97,13 @@ pub first_pawns : (sides : Sides) → count_of 1 (man_codes sides) ≡ pawn_coun
 first_pawns sides = let a = sum_by-append (λ (c : ℕ). cond (c == 1) 1 0) (map code_of sides.first) (map (λ man. 8 + code_of man) sides.second) in
     let b = first_count sides.first in let d = second_count sides.second in omega (arith, a, b, d)
 
--- the first side leads where it has as many pawns as lead
-le_test : (a b : ℕ) → a ≤ b → nat_le a b ≡ true
-le_test a b h = grind (arith, nat_tests)
-
-or_true : (b : Bool) → (b || true) ≡ true
-or_true true = refl
-or_true false = refl
-
 decided : (b : Bool) (p q : ℕ) → p ≡ cond b p q → (p ≡ q → b ≡ true) → b ≡ true
 decided true p q e h = refl
 decided false p q e h = h e
 
 leads : (p q : ℕ) → 0 < p + q → p ≡ cond (nat_lt 0 p && ((q == 0) || nat_le p q)) p q → (nat_lt 0 p && ((q == 0) || nat_le p q)) ≡ true
 leads p q h e = decided (nat_lt 0 p && ((q == 0) || nat_le p q)) p q e
-    (λ f. rw (lt-ltb 0 p (omega arith), le_test p q (omega arith)) (or_true (q == 0)))
+    (λ f. rw (lt-ltb 0 p (omega arith), le-leb p q (omega arith)) (or-true (q == 0)))
 
 not_leads : (b : Bool) (p q : ℕ) → (p ≡ cond b p q → ⊥) → b ≡ false
 not_leads true p q h = absurd (h refl)

@@ -4,8 +4,7 @@ use Rattle.std.specs.Prelude.{◌==◌, nat_lt, nat_le, Option, Some, None, slic
 use Rattle.std.specs.List.{concat, range_with_len, list_any}
 use Rattle.std.proofs.Math.Bool.{not, ◌&&◌, ◌||◌}
 use Rattle.std.proofs.Math.Nat.{mul-le-mul_left, mul-le-mul}
-use Rattle.std.proofs.lemmas.Bool.{eqb-true, ltb-true, lt-ltb}
-use Rattle.std.proofs.lemmas.Bool.Decides.{nat_tests}
+use Rattle.std.proofs.lemmas.Bool.{eqb-true, ltb-true, lt-ltb, and_parts, leb-true}
 use Rattle.std.proofs.lemmas.List.Sums.{count_by-le-length, sum_by-cons}
 use Rattle.std.proofs.lemmas.List.{length-map}
 use Rattle.szg_values.specs.Men.{is_man, code_of}
@@ -112,21 +111,10 @@ later_length true m l men = elim (nat_lt 0 m) as (λ b. length (concat ((cond b 
 
 -- ---- how many pawns lead
 
-pub both_one : (a b : Bool) → (a && b) ≡ true → a ≡ true
-both_one true b e = refl
-both_one false b e = cc
-
-pub both_two : (a b : Bool) → (a && b) ≡ true → b ≡ true
-both_two true b e = e
-both_two false b e = cc
-
-le_from : (a b : ℕ) → nat_le a b ≡ true → a ≤ b
-le_from a b h = grind (arith, nat_tests)
-
 pub pawns_beside_king : (men : List Man) → has_king_first men ≡ true → suc (pawn_count men) ≤ length men
 pawns_beside_king [] e = cc
 pawns_beside_king (man ∷ men) e =
-    let k : (6 == code_of man) ≡ true = both_one (is_man King man) (not (list_any (is_man King) men)) e in
+    let k : (6 == code_of man) ≡ true = (and_parts (is_man King man) (not (list_any (is_man King) men)) e).0 in
     let c : 6 ≡ code_of man = eqb-true 6 (code_of man) k in
     let p : is_man Pawn man ≡ false = subst (λ (n : ℕ). (1 == n) ≡ false) c refl in
     let s = sum_by-cons (λ x. cond (is_man Pawn x) 1 0) man men in
@@ -146,13 +134,13 @@ made sides h =
     let o = is_in_order sides.first && is_in_order sides.second in
     let f = may_be_first sides.first sides.second in
     let n = length sides.first + length sides.second in
-    let c = both_two (k && o && f) (is_count n) h in
-    let x = both_one k o (both_one (k && o) f (both_one (k && o && f) (is_count n) h)) in
+    let c = (and_parts (k && o && f) (is_count n) h).1 in
+    let x = (and_parts k o (and_parts (k && o) f ((and_parts (k && o && f) (is_count n) h).0)).0).0 in
     record {
-      first = both_one (has_king_first sides.first) (has_king_first sides.second) x;
-      second = both_two (has_king_first sides.first) (has_king_first sides.second) x;
-      some = le_from 3 n (both_one (nat_le 3 n) (nat_le n 6) c);
-      few = le_from n 6 (both_two (nat_le 3 n) (nat_le n 6) c);
+      first = (and_parts (has_king_first sides.first) (has_king_first sides.second) x).0;
+      second = (and_parts (has_king_first sides.first) (has_king_first sides.second) x).1;
+      some = leb-true 3 n (and_parts (nat_le 3 n) (nat_le n 6) c).0;
+      few = leb-true n 6 (and_parts (nat_le 3 n) (nat_le n 6) c).1;
     }
 
 either_range : (b : Bool) (p q : ℕ) → 0 < p → p ≤ 4 → 0 < q → q ≤ 4 → (0 < cond b p q) × (cond b p q ≤ 4)
@@ -225,7 +213,7 @@ size_below sides part n h i o =
     let groups = groups_of sides n.men in
     let rest = (cond (has_other_pawns sides) (take (other_pawns sides) (drop (lead_length sides) n.men) ∷ []) []) ++ runs_of (later_men sides n.men) in
     let r = no_fault (is_rearrangement n.men (man_codes sides)) _ _ o in
-    let e : length n.men ≡ length (man_codes sides) = eqb-true (length n.men) (length (man_codes sides)) (both_one (length n.men == length (man_codes sides)) _ r) in
+    let e : length n.men ≡ length (man_codes sides) = eqb-true (length n.men) (length (man_codes sides)) (and_parts (length n.men == length (man_codes sides)) _ r).0 in
     let m = (made sides h).few in
     let codes : length (man_codes sides) ≡ length sides.first + length sides.second = simp (length-append, length-map) refl in
     let few : length n.men ≤ 6 = omega (arith, e, m, codes) in

@@ -5,11 +5,11 @@ use Rattle.std.specs.List.{list_any, list_all, range_with_len}
 use Rattle.std.proofs.Math.Bool.{not, ◌&&◌}
 use Rattle.std.proofs.lemmas.List.Elements.{filter-append}
 use Rattle.std.proofs.lemmas.List.FromFn.{map-range_with_len_more}
+use Rattle.std.proofs.lemmas.Bool.{and_parts}
 use Rattle.szg_count.specs.Leads.{contains, without}
 use Rattle.szg_count.specs.Groups.{product, ways_before}
 use Rattle.szg_count.specs.declared.Group.{Group}
 use Rattle.szg_count.specs.Steps.{are_places, places_from, group_from}
-use Rattle.szg_count.proofs.Sizes.{both_one, both_two}
 use Rattle.szg_count.proofs.Free.{ordering_of, told_differ, all_below}
 
 range-split : (a m n : ℕ) → range_with_len a (m + n) ≡ range_with_len a m ++ range_with_len (a + m) n
@@ -25,9 +25,9 @@ length-places_from b lead other count e =
     let front = cond (is_some other) b (not b) in
     let all = list_all (λ place. nat_lt place count) (lead ∷ option_to_list other) in
     let last = not (list_any (λ place. place == lead) (option_to_list other)) in
-    let x = both_one (front && all) last e in
-    (ordering_of (lead ∷ option_to_list other) count (told_differ lead other (both_two (front && all) last e))
-    (all_below (lead ∷ option_to_list other) count (both_two front all x))).1
+    let x = (and_parts (front && all) last e).0 in
+    (ordering_of (lead ∷ option_to_list other) count (told_differ lead other (and_parts (front && all) last e).1)
+    (all_below (lead ∷ option_to_list other) count (and_parts front all x).1)).1
 
 -- one more place
 pub places_from-more : (lead : ℕ) (other : Option ℕ) (place : ℕ) →

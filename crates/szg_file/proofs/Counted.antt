@@ -17,10 +17,10 @@ abbrev pub shown_by : Sides → Kind → Pieces → Front → Shown
 shown_by m k p front = record { contents = contents_of m k p; filled = front.fill.items }
 
 pub lists_were_counted : (m : Sides) (k : Kind) (p : Pieces) (first last : Front) (bytes : List ℕ) →
-    first.place ≡ 0 → first.held ≡ 0 → first.fill.items ≡ [] →
+    first.place ≡ 0 → first.growth ≡ 0 → first.fill.items ≡ [] →
     last.place ≡ first.place + length bytes → bytes ≡ file_bytes (shown_by m k p last) → HasCounted first last 0 (pieces_lengths p) →
     list_lengths (shown_by m k p last) ≤ 4 * length (file_bytes (shown_by m k p last)) + 65536
-lists_were_counted m k p first last bytes place held fill far whole counted =
+lists_were_counted m k p first last bytes place growth fill far whole counted =
     let parts = sum_shown part_length part_of p.parts.bytes.items in
     let subs = sum_shown sub_lengths subtable_of p.subs.items in
     let maps = sum_shown map_lengths (option_map map_of) p.maps.items in
@@ -30,4 +30,4 @@ lists_were_counted m k p first last bytes place held fill far whole counted =
     let none : length first.fill.items ≡ 0 = ap length fill in
     let long : length bytes ≡ length (file_bytes (shown_by m k p last)) = ap length whole in
     let bound = last.bound in
-    omega (arith, counted, parts, subs, maps, part_count, sub_count, map_count, place, held, none, far, long, bound)
+    omega (arith, counted, parts, subs, maps, part_count, sub_count, map_count, place, growth, none, far, long, bound)

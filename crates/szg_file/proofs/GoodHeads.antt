@@ -2,7 +2,7 @@
 use Rattle.std.proofs.Common.{◌≡◌, ℕ, zero, suc, ◌+◌, ◌-◌, ◌*◌, ◌^◌, ◌/◌, ◌%◌, ◌<◌, ◌≤◌, Bool, true, false, cond, List, [], ◌∷◌, ◌++◌, length, map, take, drop, refl, sym, ap, subst, ◌∙◌, arith, Option, None}
 use Rattle.std.specs.Prelude.{flat_map, IsTrue, nat_lt, nat_le, ◌&&◌}
 use Rattle.std.specs.List.{AllByRecursion}
-use Rattle.std.proofs.lemmas.Bool.{lt-ltb, le-leb}
+use Rattle.std.proofs.lemmas.Bool.{lt-ltb, le-leb, and_from}
 use Rattle.std.proofs.lemmas.Bool.Decides.{Decides-eqb}
 use Rattle.std.proofs.lemmas.List.{length-append}
 use Rattle.szg_code.specs.Canonical.{CanonicalCode}
@@ -89,15 +89,12 @@ at_entries_check place entries h =
 
 -- ---- the code
 
-both : (a b : Bool) → a ≡ true → b ≡ true → (a && b) ≡ true
-both a b e f = ap (λ (x : Bool). x && b) e ∙ f
-
 at_words : (min max : ℕ) → 0 < min → min ≤ max → max ≤ 32 → At lengths_of_words (written (max ∷ []) ∷ written (min ∷ []) ∷ []) (Is (min, max))
 at_words min max some ordered few =
     let small_max : max < 256 = omega (arith, few) in
     let small_min : min < 256 = omega (arith, few, ordered) in
     let test : ℕ → ℕ → Bool = λ max min. nat_lt 0 min && nat_le min max && nat_le max 32 in
-    let holds : IsTrue (test max min) = both (nat_lt 0 min && nat_le min max) (nat_le max 32) (both (nat_lt 0 min) (nat_le min max) (lt-ltb 0 min some) (le-leb min max ordered)) (le-leb max 32 few) in
+    let holds : IsTrue (test max min) = and_from (nat_lt 0 min && nat_le min max) (nat_le max 32) (and_from (nat_lt 0 min) (nat_le min max) (lt-ltb 0 min some) (le-leb min max ordered)) (le-leb max 32 few) in
     at_placed (λ place. number_field 1 >>= λ max. number_field 1 >>= λ min. demand (test max min) place reason.CodeLengths >> means (min, max)) (written (max ∷ []) ∷ written (min ∷ []) ∷ []) (Is (min, max))
     (λ place. at_next (number_field 1) (λ max. number_field 1 >>= λ min. demand (test max min) place reason.CodeLengths >> means (min, max)) (written (max ∷ []) ∷ []) (written (min ∷ []) ∷ []) max (Is (min, max)) (at_byte max small_max)
     (at_next (number_field 1) (λ min. demand (test max min) place reason.CodeLengths >> means (min, max)) (written (min ∷ []) ∷ []) [] min (Is (min, max)) (at_byte min small_min)
@@ -207,7 +204,7 @@ at_packed head h =
     let p2 : At (after_bits head.flags head.block_bits) s W =
     at_next (byte_where (λ bits. nat_lt 0 bits && nat_le bits 31) reason.SpanBits) (λ span_bits. after_span head.flags head.block_bits span_bits) (written (head.span_bits ∷ []) ∷ []) x head.span_bits W
     (at_byte_where (λ bits. nat_lt 0 bits && nat_le bits 31) reason.SpanBits head.span_bits (omega (arith, few_span))
-    (both (nat_lt 0 head.span_bits) (nat_le head.span_bits 31) (lt-ltb 0 head.span_bits h.span_some) (le-leb head.span_bits 31 h.span_bits))) p3 in
+    (and_from (nat_lt 0 head.span_bits) (nat_le head.span_bits 31) (lt-ltb 0 head.span_bits h.span_some) (le-leb head.span_bits 31 h.span_bits))) p3 in
     at_next (byte_where (λ bits. nat_le bits 18) reason.BlockBits) (λ block_bits. after_bits head.flags block_bits) (written (head.block_bits ∷ []) ∷ []) s head.block_bits W
     (at_byte_where (λ bits. nat_le bits 18) reason.BlockBits head.block_bits (omega (arith, few_bits)) (le-leb head.block_bits 18 h.block_bits)) p2
 

@@ -12,7 +12,7 @@ use Rattle.szg_block.specs.FirstFault.{has_total, first_bad_entry, spells_needed
 use Rattle.szg_file.specs.declared.fault.Reason.TheVariants as reason
 use Rattle.szg_file.specs.Format.{Format, means, field, ◌>>=◌, ◌>>◌}
 use Rattle.szg_file.specs.Contents.{Contents, Part, Subtable, constant, pairs, layout_of, Map, narrow, wide, number_of, bytes_of, items, has_bit, Slot, slots, part_numbers}
-use Rattle.szg_file.specs.File.{file, magic_of, magic_field, byte4_field, part_field, head_field, begun, number_field, rows_field, filled_to, each, list_field, map_lists, map_field, maps_field, flags_of, demand, none_fails, Begun, entry_of_bytes, sparse_of, sparse_field, index_check, lengths_of, lengths_field, block_field, blocks_from, blocks_of, blocks_field}
+use Rattle.szg_file.specs.File.{file, magic_of, magic_field, byte4_field, part_field, head_field, begun, number_field, rows_field, filled_to, each, list_field, map_lists, map_field, maps_field, flags_of, demand, none_fails, Begun, entry_of_bytes, sparse_index_of, sparse_field, index_check, lengths_of, lengths_field, block_field, blocks_from, blocks_of, blocks_field}
 use Rattle.szg_file.specs.FileOf.{sections, part_sections, Section, written, padding, list_sections, map_sections, maps_sections, head_sections, sparse_sections, lengths_sections, blocks_sections}
 use Rattle.szg_file.specs.Accepted.{AreNumbers, AreBytes, AreLists, IsMapOf, AreMaps, SideBySide, IsSubtable, IsEntry, BlocksHold, HasIndex}
 use Rattle.szg_file.specs.Values.{slotted}
@@ -152,7 +152,7 @@ rows_of_entries (entry ∷ sparse) h =
 abbrev staged : Slot → Subtable → ℕ → Begun
 staged slot s index = record { slot = slot; subtable = s; index = index }
 
-at_sparse : (slot : Slot) (s : Subtable) → IsSubtable slot s → At (sparse_of slot (begun_of s)) (sparse_sections s) (λ b. IsStage indexed_of b (slot, s))
+at_sparse : (slot : Slot) (s : Subtable) → IsSubtable slot s → At (sparse_index_of slot (begun_of s)) (sparse_sections s) (λ b. IsStage indexed_of b (slot, s))
 at_sparse slot (constant flags byte) h = at_value (staged slot (constant flags byte) 0) (λ b. IsStage indexed_of b (slot, constant flags byte)) (h, (refl, refl))
 at_sparse slot (pairs head sparse lengths packed) h =
     let V : Begun → Type 0 = λ b. IsStage indexed_of b (slot, pairs head sparse lengths packed) in
@@ -313,8 +313,8 @@ at_indexes : (xs : List Slot) (ss : List Subtable) → SideBySide IsSubtable xs 
 at_indexes xs ss h =
     subst (λ (z : List Section). At (each sparse_field (begun xs (map begun_of ss))) z (λ bs. SideBySide (IsStage indexed_of) bs (slotted xs ss))) (slotted_sections sparse_sections xs ss h)
     (at_each_for sparse_field (λ x. sparse_sections x.1) (IsStage begun_of) (IsStage indexed_of)
-    (λ b x p. subst (λ (slot : Slot). At (sparse_of slot b.subtable) (sparse_sections x.1) (λ c. IsStage indexed_of c x)) (sym p.1.0)
-    (subst (λ (s : Subtable). At (sparse_of x.0 s) (sparse_sections x.1) (λ c. IsStage indexed_of c x)) (sym p.1.1) (at_sparse x.0 x.1 p.0)))
+    (λ b x p. subst (λ (slot : Slot). At (sparse_index_of slot b.subtable) (sparse_sections x.1) (λ c. IsStage indexed_of c x)) (sym p.1.0)
+    (subst (λ (s : Subtable). At (sparse_index_of x.0 s) (sparse_sections x.1) (λ c. IsStage indexed_of c x)) (sym p.1.1) (at_sparse x.0 x.1 p.0)))
     (begun xs (map begun_of ss)) (slotted xs ss) (begun_stages xs ss h))
 
 at_all_lengths : (xs : List Slot) (ss : List Subtable) (bs : List Begun) → SideBySide IsSubtable xs ss → SideBySide (IsStage indexed_of) bs (slotted xs ss) →

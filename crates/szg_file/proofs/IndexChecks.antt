@@ -1,6 +1,6 @@
 -- What `check_index` answers, in the words of the format; how many rows a field of rows gives.
-use Rattle.std.proofs.Common.{◌≡◌, ℕ, zero, suc, ◌+◌, ◌-◌, ◌*◌, ◌^◌, ◌<◌, ◌≤◌, Bool, true, List, [], length, map, take, drop, refl, sym, ap, ◌∙◌, inl, inr, Option, Some, None, Ok, arith}
-use Rattle.std.specs.Prelude.{IfSome}
+use Rattle.std.proofs.Common.{◌≡◌, ℕ, zero, suc, ◌+◌, ◌-◌, ◌*◌, ◌^◌, ◌<◌, ◌≤◌, Bool, true, List, [], length, map, take, drop, refl, sym, ap, ◌∙◌, inl, inr, Option, Some, None, Ok, Err, arith}
+use Rattle.std.specs.Prelude.{IfSome, Result}
 use Rattle.std.proofs.Math.Nat.{div-le_self}
 use Rattle.std.proofs.Math.Pow.{pow_mono}
 use Rattle.std.proofs.lemmas.Nat.{pow_pos}
@@ -17,13 +17,19 @@ use Rattle.szg_block.specs.Subtable.{IsFaultOf}
 use Rattle.szg_block.specs.declared.SubFault.TheVariants.{ShortTotal, SparseEntry as BadEntry}
 use Rattle.szg_block.proofs.Deciding.{has_total-true, has_total-of, first_bad_entry-None, first_bad_entry-Some}
 use Rattle.szg_file.specs.declared.front.Front.{Front}
+use Rattle.szg_file.specs.declared.fault.Reason.{Reason}
 use Rattle.szg_file.specs.declared.fault.Reason.TheVariants as reason
-use Rattle.szg_file.specs.Format.{Format, means, good, truncated, verdict, ◌>>=◌}
-use Rattle.szg_file.specs.Contents.{items}
-use Rattle.szg_file.specs.File.{rows_field, demand, none_fails, index_check}
+use Rattle.szg_file.specs.declared.fault.ReadFault.{ReadFault}
+use Rattle.szg_file.specs.declared.fault.ReadFault.TheVariants.{Refused}
+use Rattle.szg_file.specs.Format.{Format, means, good, truncated, verdict, ◌>>=◌, ◌>>◌}
+use Rattle.szg_file.specs.Contents.{Slot, Head, pairs, layout_of, items}
+use Rattle.szg_file.specs.File.{Begun, rows_field, demand, none_fails, index_check, lengths_of}
+use Rattle.szg_file.specs.Held.{numbers_field}
 use Rattle.szg_file.specs.Reading.{Reading, Checks}
 use Rattle.szg_io.specs.declared.device.Input.{Ghosts}
 use Rattle.szg_file.proofs.FormatLaws.{field-short, field-whole}
+use Rattle.szg_file.proofs.ReadingLaws.{reads_then, reads_nothing, reads_refused}
+use Rattle.szg_file.proofs.Taken.{reads_like}
 
 -- ---- the two checks
 
@@ -112,3 +118,35 @@ pub rows_counted : {B X R : Type 0} (f : List ℕ → B) (size count : ℕ) (vie
     {dev : Ghosts R} {i k : R} (v : X) →
     Reading (rows_field size count >>= λ rows. means (map f rows)) view o n dev i k (Ok v) → length (view v) ≡ count
 rows_counted f size count view {o = o} v h = counted f size count o.place h.bytes (view v) h.answer.0.filled [] h.answer.0.whole
+
+-- ---- lengths, and the checks behind them
+
+-- what was measured, or the refusal of a check
+abbrev pub measured_or : Option (ℕ × Reason) → Begun → Result Begun ReadFault
+measured_or None found = Ok found
+measured_or (Some refusal) found = Err (Refused refusal.0 refusal.1)
+
+-- what stands behind lengths that begin at a place
+abbrev behind_lengths : Slot → ℕ → Head → List SparseEntry → List ℕ → ℕ → List ℕ → Format Begun
+behind_lengths slot index head sparse packed place numbers =
+    index_check place index (layout_of head sparse numbers) slot.size >> means (record { slot = slot; subtable = pairs head sparse numbers packed; index = index })
+
+-- lengths that were taken, and what the checks behind them say
+pub lengths_checked : {X R : Type 0} (slot : Slot) (index size : ℕ) (head : Head) (sparse : List SparseEntry) (old packed : List ℕ) (view : X → List ℕ) (v : X) (refusal : Option (ℕ × Reason)) {o n : Front}
+    {dev : Ghosts R} {i k : R} → size ≡ slot.size →
+    Reading (numbers_field (head.blocks + head.extra)) view o n dev i k (Ok v) →
+    Checks (index_check o.place index (layout_of head sparse (view v)) size) refusal →
+    Reading (lengths_of slot index (pairs head sparse old packed)) (λ begun. begun) o n dev i k
+    (measured_or refusal (record { slot = slot; subtable = pairs head sparse (view v) packed; index = index }))
+lengths_checked slot index size head sparse old packed view v None {o = o} sized first checks =
+    let found : Begun = record { slot = slot; subtable = pairs head sparse (view v) packed; index = index } in
+    let passes = rw sized at checks in
+    reads_like (numbers_field (head.blocks + head.extra) >>= behind_lengths slot index head sparse packed o.place) (lengths_of slot index (pairs head sparse old packed)) (λ begun. begun) (Ok found) (λ bytes. refl)
+    (reads_then (numbers_field (head.blocks + head.extra)) (behind_lengths slot index head sparse packed o.place) view (λ begun. begun) v first
+    (reads_nothing _ (λ begun. begun) found (ap (λ (f : Format (Unit {0})). f >> means found) passes)))
+lengths_checked slot index size head sparse old packed view v (Some refusal) {o = o} sized first checks =
+    let found : Begun = record { slot = slot; subtable = pairs head sparse (view v) packed; index = index } in
+    let stops = rw sized at checks in
+    reads_like (numbers_field (head.blocks + head.extra) >>= behind_lengths slot index head sparse packed o.place) (lengths_of slot index (pairs head sparse old packed)) (λ begun. begun) (Err (Refused refusal.0 refusal.1)) (λ bytes. refl)
+    (reads_then (numbers_field (head.blocks + head.extra)) (behind_lengths slot index head sparse packed o.place) view (λ begun. begun) v first
+    (reads_refused _ (λ begun. begun) refusal.0 refusal.1 (ap (λ (f : Format (Unit {0})). f >> means found) stops)))

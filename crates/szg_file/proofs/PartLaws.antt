@@ -6,7 +6,7 @@ use Rattle.std.proofs.Math.Seq.{get_or-append_seam}
 use Rattle.std.proofs.lemmas.List.{length-append, length-map}
 use Rattle.std.proofs.lemmas.List.FromFn.{length-map-range_with_len, map-range_with_len_more}
 use Rattle.std.specs.Prelude.{Bool, true, false, ◌&&◌, nat_le}
-use Rattle.std.proofs.lemmas.Bool.{leb-true}
+use Rattle.std.proofs.lemmas.Bool.{leb-true, and_parts}
 use Rattle.szg_values.specs.Men.{code_of}
 use Rattle.szg_values.specs.Material.{Sides, IsMaterial, man_codes}
 use Rattle.szg_count.specs.Groups.{Nibbles, counted, size_of, ways_of, group_ways, groups_of, product}
@@ -72,15 +72,11 @@ unfolding inside
 told_groups None groups told h r = ap (inside groups) (h refl)
 told_groups (Some f) groups told h r = absurd (not_both groups f r)
 
-both : (a b : Bool) → (a && b) ≡ true → (a ≡ true) × (b ≡ true)
-both true b h = (refl, h)
-both false b h = absurd (not_true h)
-
 -- a material has at least three men
 pub three_men : (sides : Sides) → IsMaterial sides → 3 ≤ length (man_codes sides)
 three_men sides h =
     let count : ℕ = length sides.first + length sides.second in
-    let least = leb-true 3 count (both (nat_le 3 count) (nat_le count 6) (both _ (nat_le 3 count && nat_le count 6) h).1).0 in
+    let least = leb-true 3 count (and_parts (nat_le 3 count) (nat_le count 6) (and_parts _ (nat_le 3 count && nat_le count 6) h).1).0 in
     let long = length-append (map code_of sides.first) (map (λ man. 8 + code_of man) sides.second) in
     let first = length-map sides.first code_of in
     let second = length-map sides.second (λ man. 8 + code_of man) in

@@ -95,11 +95,15 @@ counts_item f xs at x {a = a} {c = c} h is first second =
     ap (flat_map f) longer ∙ flat_map-append f (take at xs) (x ∷ []) ∙ ap (λ (z : List Section). flat_map f (take at xs) ++ z) (append-nil (f x)) in
     subst (λ (z : List Section). Counts z a c) (sym apart) (counts_then (flat_map f (take at xs)) (f x) first second)
 
+-- the sections of what the items stand for
+pub counts_mapped : {A B : Type 0} (f : B → List Section) (view : A → B) (xs : List A) {a b : Tally} →
+    Counts (flat_map (λ x. f (view x)) xs) a b → Counts (flat_map f (map view xs)) a b
+counts_mapped f view xs {a = a} {b = b} first = subst (λ (z : List Section). Counts z a b) (sym (flat_map-map f view xs)) first
+
 pub counts_all : {A B : Type 0} (f : B → List Section) (view : A → B) (xs : List A) (at : ℕ) {a b : Tally} → length xs ≤ at →
     Counts (flat_map (λ x. f (view x)) (take at xs)) a b → Counts (flat_map f (map view xs)) a b
 counts_all f view xs at {a = a} {b = b} h first =
-    subst (λ (z : List Section). Counts z a b) (sym (flat_map-map f view xs))
-    (subst (λ ys. Counts (flat_map (λ x. f (view x)) ys) a b) (take_all at xs h) first)
+    counts_mapped f view xs (subst (λ ys. Counts (flat_map (λ x. f (view x)) ys) a b) (take_all at xs h) first)
 
 -- ---- the sections of a table
 

@@ -22,7 +22,7 @@ use Rattle.szg_file.specs.Held.{sparse_of}
 use Rattle.szg_file.specs.Lookup.{byte_of}
 use Rattle.szg_file.specs.Placed.{blocks_size, whole_sub}
 use Rattle.szg_file.specs.Values.{item, constant_value, values_of}
-use Rattle.szg_file.specs.Wanted.{wanted_block}
+use Rattle.szg_file.specs.Wanted.{wanted_block, IsSpelledBy}
 use Rattle.szg_file.specs.declared.wanted.Wanted.{Wanted}
 use Rattle.szg_file.proofs.OpenedLaws.{placed_ready}
 use Rattle.szg_file.proofs.PlacedSubs.{placed_at}
@@ -115,6 +115,18 @@ value_told kind slot content (Pairs flags block_bits span_bits extra blocks code
     told_is ∙ ap (λ (z : List ℕ). slice_get (block_values layout z) (block_place layout i).item) (sym wanted)
     ∙ sym (joined_values-block_place layout packed slot.size accepted shaped sound i below) ∙ there in
     subst (λ (o : Option ℕ). IsSomeAnd o (λ value. item values i ≡ Some value)) (sym same) (item-slice_get values i ∙ there)
+
+-- ---- what other bytes tell
+
+pub spelled_constant : (content : List ℕ) (sub : Sub) (first i : ℕ) (piece : List ℕ) (told : Option ℕ) → layout_of sub ≡ None → IsSpelledBy piece (whole_sub content (placed_at sub first)) i told
+spelled_constant content (Constant flags byte) first i piece told none = tt
+spelled_constant content (Pairs flags block_bits span_bits extra blocks code dict sparse lengths packed) first i piece told none = absurd cc
+
+pub spelled_told : (content : List ℕ) (sub : Sub) (first i : ℕ) (piece : List ℕ) (told : Option ℕ) →
+    IfSome (layout_of sub) (λ layout. length piece ≡ 2 ^ layout.block_bits → told ≡ slice_get (block_values layout piece) (block_place layout i).item) →
+    IfSome (layout_of sub) (λ layout. ¬ (length piece ≡ 2 ^ layout.block_bits) → told ≡ None) → IsSpelledBy piece (whole_sub content (placed_at sub first)) i told
+spelled_told content (Constant flags byte) first i piece told value whole = tt
+spelled_told content (Pairs flags block_bits span_bits extra blocks code dict sparse lengths packed) first i piece told value whole = (value, whole)
 
 -- ---- what is told of what was found
 

@@ -12,7 +12,7 @@ use Rattle.szg_block.specs.Layout.{Layout, SparseEntry}
 use Rattle.szg_block.specs.Sound.{entry_count}
 use Rattle.szg_block.specs.FirstFault.{has_total, first_bad_entry, spells_needed}
 use Rattle.szg_file.specs.Contents.{Contents, Part, Subtable, constant, pairs, layout_of, Map, narrow, wide, number_of, bytes_of, items, has_bit, Slot, slots, part_numbers}
-use Rattle.szg_file.specs.File.{file, magic_of, magic_field, byte4_field, part_field, head_field, begun, number_field, rows_field, filled_to, each, list_field, map_lists, map_field, maps_field, flags_of, demand, none_fails, Begun, entry_of_bytes, sparse_of, sparse_field, index_check, lengths_of, lengths_field, block_field, blocks_from, blocks_of, blocks_field}
+use Rattle.szg_file.specs.File.{file, magic_of, magic_field, byte4_field, part_field, head_field, begun, number_field, rows_field, filled_to, each, list_field, map_lists, map_field, maps_field, flags_of, demand, none_fails, Begun, entry_of_bytes, sparse_index_of, sparse_field, index_check, lengths_of, lengths_field, block_field, blocks_from, blocks_of, blocks_field}
 use Rattle.szg_file.specs.FileOf.{file_of, fill_asked, sections, part_sections, Section, written, padding, list_sections, map_sections, maps_sections, head_sections, sparse_sections, lengths_sections, blocks_sections, joined, asked}
 use Rattle.szg_file.specs.Accepted.{IsAccepted, IsPart, AreNumbers, AreBytes, AreLists, IsMapOf, AreMaps, SideBySide, IsSubtable, IsEntry, BlocksHold, HasIndex}
 use Rattle.szg_file.proofs.FileLaws.{Spells, Sound, Any, AreNumbers-split, AreNumbers-join, bytes_of-number_of, number_of-small, sound_number, sound_rows, sound_means, sound_placed, sound_as, sound_after, sound_value, sound_then, sound_each, sound_each_in, sound_bytes, sound_demand, sound_none_fails, sound_filled_to, sound_magic, sound_byte4, IsByte4, sound_parts, file_from_sections}
@@ -124,8 +124,8 @@ IsIndexed slot (constant flags byte) next = (next.slot ≡ slot) × (next.subtab
 IsIndexed slot (pairs head sparse lengths packed) next =
     (next.slot ≡ slot) × (entries : List SparseEntry) × (next.subtable ≡ pairs head entries lengths packed) × (length entries ≡ entry_count head.span_bits slot.size) × AllByRecursion IsEntry entries
 
-pub sound_sparse : (slot : Slot) (subtable : Subtable) → Sound (sparse_of slot subtable) (λ next. sparse_sections next.subtable) (IsIndexed slot subtable)
-sound_sparse slot (constant flags byte) = sound_as (sparse_of slot (constant flags byte)) (λ _. []) (λ next. sparse_sections next.subtable)
+pub sound_sparse : (slot : Slot) (subtable : Subtable) → Sound (sparse_index_of slot subtable) (λ next. sparse_sections next.subtable) (IsIndexed slot subtable)
+sound_sparse slot (constant flags byte) = sound_as (sparse_index_of slot (constant flags byte)) (λ _. []) (λ next. sparse_sections next.subtable)
     (λ next. (next.slot ≡ slot) × (next.subtable ≡ constant flags byte)) (IsIndexed slot (constant flags byte))
     (sound_means (record { slot = slot; subtable = constant flags byte; index = 0 }) (λ next. (next.slot ≡ slot) × (next.subtable ≡ constant flags byte)) (refl, refl))
     (λ next h. (ap sparse_sections (sym h.1), h))

@@ -73,7 +73,7 @@ abbrev pub items : ℕ → ℕ → List ℕ → List (List ℕ)
 items size zero bytes = []
 items size (suc count) bytes = take size bytes ∷ items size count (drop size bytes)
 
--- whether a byte has the flag 2 ^ k
+-- whether bit k of a byte is set
 abbrev pub has_bit : ℕ → ℕ → Bool
 has_bit k byte = ((byte / 2 ^ k) % 2) == 1
 

@@ -167,7 +167,7 @@ packed_head flags = do
     entries = entries;
   }) [] [] [])
 
--- flag 128: the subtable is constant, with one more byte
+-- bit 7 of the flags: the subtable is constant, with one more byte
 abbrev pub head_field : Slot → Format Subtable
 head_field slot = do
   flags ← number_field 1
@@ -181,7 +181,7 @@ list_field size = do
   list ← rows_field size count
   means (map number_of list)
 
--- four lists; with flag 16 their lengths and items have two bytes and begin at an even place
+-- four lists; with bit 4 of the flags their lengths and items have two bytes and begin at an even place
 abbrev pub map_lists : ℕ → Format Map
 map_lists flags =
     if has_bit 4 flags
@@ -192,7 +192,7 @@ abbrev pub flags_of : Subtable → ℕ
 flags_of (constant flags byte) = flags
 flags_of (pairs head sparse lengths packed) = head.flags
 
--- a part with flag 2 has a map
+-- a part with bit 1 of the flags has a map
 abbrev pub map_field : Subtable → Format (Option Map)
 map_field subtable =
     if has_bit 1 (flags_of subtable) then (map_lists (flags_of subtable) >>= λ lists. means (Some lists)) else means None
@@ -221,14 +221,14 @@ abbrev pub entry_of_bytes : List ℕ → SparseEntry
 entry_of_bytes bytes = record { block = number_of (take 4 bytes); offset = number_of (drop 4 bytes) }
 
 -- an entry for each span: four bytes of block, two of offset
-abbrev pub sparse_of : Slot → Subtable → Format Begun
-sparse_of slot (constant flags byte) = means (record { slot = slot; subtable = constant flags byte; index = 0 })
-sparse_of slot (pairs head sparse lengths packed) = placed (λ place. do
+abbrev pub sparse_index_of : Slot → Subtable → Format Begun
+sparse_index_of slot (constant flags byte) = means (record { slot = slot; subtable = constant flags byte; index = 0 })
+sparse_index_of slot (pairs head sparse lengths packed) = placed (λ place. do
   entries ← rows_field 6 (entry_count head.span_bits slot.size)
   means (record { slot = slot; subtable = pairs head (map entry_of_bytes entries) lengths packed; index = place }))
 
 abbrev pub sparse_field : Begun → Format Begun
-sparse_field begun = sparse_of begun.slot begun.subtable
+sparse_field begun = sparse_index_of begun.slot begun.subtable
 
 -- the lengths tell of as many values as there are positions; each entry leads to the middle of its span
 abbrev pub index_check : ℕ → ℕ → Layout → ℕ → Format (Unit {0})

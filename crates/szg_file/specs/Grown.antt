@@ -14,7 +14,7 @@ use Rattle.szg_file.specs.Reads.{sub_lengths, map_lengths}
 
 -- The lists handed in have `before` items, those given `after`: with the fill they have grown by no more than was counted.
 abbrev pub HasCounted : Front → Front → ℕ → ℕ → Type 0
-HasCounted old new before after = old.held + after + length new.fill.items ≤ new.held + before + length old.fill.items
+HasCounted old new before after = old.growth + after + length new.fill.items ≤ new.growth + before + length old.fill.items
 
 -- ---- the lengths of the lists within an item of these lists
 

@@ -1,5 +1,7 @@
 -- What a call that writes a part of a file says of the writer, of how far it has come, and of its answer.
 use Rattle.std.specs.Prelude.{◌≡◌, ℕ, ◌<◌, ◌%◌, ◌^◌, List, [], ◌∷◌, ◌++◌, length, flat_map, Result, Ok, Err}
+use denote.Ref.{Bor, MutBor}
+use denote.Param.Members.{Shared}
 use Rattle.szg_io.specs.Device.{HasFailed}
 use Rattle.szg_io.specs.Moved.{Gives}
 use Rattle.szg_file.specs.declared.outgoing.Outgoing.{Outgoing}
@@ -51,3 +53,11 @@ code_sections code = written (code.max_length ∷ []) ∷ written (code.min_leng
 abbrev pub dictionary_sections : List (List ℕ) → List Section
 dictionary_sections entries =
     written (bytes_of 2 (length entries)) ∷ written (flat_map (λ entry. entry) entries) ∷ spare (length entries % 2) ∷ []
+
+-- Each call of a writer of items writes an item as these sections.
+abbrev pub WritesAs : {F T W : Type 0} → Shared F (Bor T × (MutBor W × (MutBor Outgoing × Unit {0}))) (Result (Unit {0}) WriteFault × (MutBor W × (MutBor Outgoing × Unit {0}))) →
+    Ghosts W → F → (T → List Section) → Type 0
+WritesAs {T = T} {W = W} calls dev write sections =
+    (item : Bor T) (output left : MutBor W) (outgoing rest : MutBor Outgoing) (result : Result (Unit {0}) WriteFault) →
+    calls.post write (item, (output, (outgoing, tt))) (result, (left, (rest, tt))) →
+    Writing (sections item.now) outgoing.now rest.now dev output.now left.now result

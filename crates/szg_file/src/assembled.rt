@@ -15,7 +15,7 @@ use crate::passing::{bytes_fit, end_bytes, maps_stand, subs_stand};
 use crate::start::{pawns_as, splits_as};
 use crate::table::{Map, PartBytes, Table};
 use crate::tally::{
-    Tally, count_all_blocks, count_all_lengths, count_heads, count_indexes, count_maps, count_parts,
+    Tally, count_blocks, count_heads, count_indexes, count_lengths, count_maps, count_parts,
 };
 use arrayvec::ArrayVec;
 use std::mem::size_of_val;
@@ -59,8 +59,8 @@ impl Fields {
         count_heads(&self.subs, &mut tally);
         count_maps(self.kind, &self.maps, &mut tally);
         count_indexes(&self.subs, &mut tally);
-        count_all_lengths(&self.subs, &mut tally);
-        count_all_blocks(&self.subs, &mut tally);
+        count_lengths(&self.subs, &mut tally);
+        count_blocks(&self.subs, &mut tally);
         tally.padding(64);
         tally.field(16);
         tally.fill()

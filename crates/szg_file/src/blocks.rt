@@ -2,14 +2,13 @@ ghost use Rattle.std.specs.Prelude.{◌≡◌, ◌+◌, ◌*◌, ◌≤◌, ◌<
 ghost use Rattle.szg_code.specs.Acceptance.{IsCode};
 ghost use Rattle.szg_block.specs.Block.{start};
 ghost use Rattle.szg_block.specs.Subtable.{layout_of, IsShapedHead};
-ghost use Rattle.szg_file.specs.File.{each, block_field, blocks_from, blocks_of, blocks_field};
-ghost use Rattle.szg_file.specs.Blocks.{with_blocks};
+ghost use Rattle.szg_file.specs.File.{each, block_field, blocks_from, blocks_field};
 ghost use Rattle.szg_file.specs.Held.{subtable_of};
 ghost use Rattle.szg_file.specs.Reading.{Reading};
 ghost use Rattle.szg_file.specs.Grown.{HasCounted, begun_lengths, subs_lengths};
 ghost use Rattle.szg_file.specs.Reads.{sub_lengths};
 
-use crate::begun::{Measured, Slot};
+use crate::begun::Measured;
 use crate::fault::{ReadFault, Reason};
 use crate::fields::append;
 use crate::front::Front;
@@ -27,10 +26,10 @@ pub fn read_blocks<R: Input>(
 ) -> Result<Vec<Sub>, ReadFault>
     requires place { front.old.place < 2 ^ 60 }
     requires few { length list.items ≤ 8 }
-    requires paid { front.old.held ≤ 2 * front.old.place + 2 ^ 14 }
+    requires paid { front.old.growth ≤ 2 * front.old.place + 2 ^ 14 }
     ensures blocks { Reading (each blocks_field list.items) (λ subs. map subtable_of subs.items) front.old front.new R.Input input.old input.new result }
     ensures place { OnOk result (front.new.place ≤ front.old.place + 2 ^ 55) }
-    ensures held { OnOk result (front.new.held + 2 * front.old.place ≤ front.old.held + 2 * front.new.place + 8) }
+    ensures growth { OnOk result (front.new.growth + 2 * front.old.place ≤ front.old.growth + 2 * front.new.place + 8) }
     ensures count { IfOk result (λ subs. length subs.items ≡ length list.items) }
     ensures grown { IfOk result (λ subs. HasCounted front.old front.new (begun_lengths list.items) (length subs.items + subs_lengths subs.items)) }
 {
@@ -42,7 +41,7 @@ pub fn read_blocks<R: Input>(
     Ok(subs)
 }
 
-/// Takes one subtable's blocks.
+/// Takes one subtable's blocks into it; a constant subtable has none.
 fn read_sub<R: Input>(
     alloc: Global,
     measured: Measured,
@@ -50,42 +49,22 @@ fn read_sub<R: Input>(
     front: &mut Front,
 ) -> Result<Sub, ReadFault>
     requires place { front.old.place < 2 ^ 60 + 2 ^ 55 }
-    requires paid { front.old.held ≤ 2 * front.old.place + 2 ^ 15 }
+    requires paid { front.old.growth ≤ 2 * front.old.place + 2 ^ 15 }
     ensures blocks { Reading (blocks_field measured) subtable_of front.old front.new R.Input input.old input.new result }
     ensures place { OnOk result (front.new.place ≤ front.old.place + 2 ^ 51) }
-    ensures held { OnOk result (front.new.held + 2 * front.old.place ≤ front.old.held + 2 * front.new.place) }
+    ensures growth { OnOk result (front.new.growth + 2 * front.old.place ≤ front.old.growth + 2 * front.new.place) }
     ensures grown { IfOk result (λ sub. HasCounted front.old front.new (sub_lengths measured.subtable) (sub_lengths (subtable_of sub))) }
 {
-    let Measured {
-        slot,
-        sub,
-        index: _,
-    } = measured;
-    pack_sub(alloc, slot, sub, input, front)
-}
-
-/// Takes the blocks into their subtable; a constant one has none.
-fn pack_sub<R: Input>(
-    alloc: Global,
-    slot: Slot,
-    sub: Sub,
-    input: &mut R,
-    front: &mut Front,
-) -> Result<Sub, ReadFault>
-    requires place { front.old.place < 2 ^ 60 + 2 ^ 55 }
-    requires paid { front.old.held ≤ 2 * front.old.place + 2 ^ 15 }
-    requires shaped { IsShapedHead sub slot.size }
-    ensures blocks { Reading (blocks_of slot (subtable_of sub)) subtable_of front.old front.new R.Input input.old input.new result }
-    ensures place { OnOk result (front.new.place ≤ front.old.place + 2 ^ 51) }
-    ensures held { OnOk result (front.new.held + 2 * front.old.place ≤ front.old.held + 2 * front.new.place) }
-    ensures grown { IfOk result (λ packed. HasCounted front.old front.new (sub_lengths (subtable_of sub)) (sub_lengths (subtable_of packed))) }
-{
+    let Measured { slot, mut sub, .. } = measured;
     if is_constant(&sub) {
         return Ok(sub);
     }
     take_fill(alloc, 64, input, front)?;
-    let packed = take_packed(alloc, &sub, slot.size, input, front)?;
-    Ok(with_packed(sub, packed))
+    let taken = take_packed(alloc, &sub, slot.size, input, front)?;
+    if let Sub::Pairs { packed, .. } = &mut sub {
+        *packed = taken;
+    }
+    Ok(sub)
 }
 
 pub fn is_constant(sub: &Sub) -> bool
@@ -97,16 +76,6 @@ pub fn is_constant(sub: &Sub) -> bool
     }
 }
 
-/// The subtable with these blocks.
-fn with_packed(mut sub: Sub, blocks_packed: Vec<u8>) -> Sub
-    ensures { subtable_of result ≡ with_blocks (subtable_of sub) blocks_packed.items }
-{
-    if let Sub::Pairs { packed, .. } = &mut sub {
-        *packed = blocks_packed;
-    }
-    sub
-}
-
 /// Takes the blocks of a subtable one after another, each with its check.
 fn take_packed<R: Input>(
     alloc: Global,
@@ -116,11 +85,11 @@ fn take_packed<R: Input>(
     front: &mut Front,
 ) -> Result<Vec<u8>, ReadFault>
     requires place { front.old.place < 2 ^ 61 }
-    requires paid { front.old.held ≤ 2 * front.old.place + 2 ^ 15 }
+    requires paid { front.old.growth ≤ 2 * front.old.place + 2 ^ 15 }
     requires shaped { IsShapedHead sub.now size }
     ensures blocks { IfSome (layout_of sub.now) (λ layout. Reading (blocks_from layout size 0 layout.blocks) (λ packed. packed.items) front.old front.new R.Input input.old input.new result) }
     ensures place { OnOk result (front.new.place ≤ front.old.place + 2 ^ 50) }
-    ensures held { OnOk result (front.new.held + 2 * front.old.place ≤ front.old.held + 2 * front.new.place) }
+    ensures growth { OnOk result (front.new.growth + 2 * front.old.place ≤ front.old.growth + 2 * front.new.place) }
     ensures grown { IfOk result (λ packed. HasCounted front.old front.new 0 (length packed.items)) }
 {
     let mut packed = Vec::new(alloc);
@@ -154,7 +123,7 @@ fn take_block<R: Input>(
     front: &mut Front,
 ) -> Result<(), ReadFault>
     requires place { front.old.place < 2 ^ 61 + 2 ^ 50 }
-    requires paid { front.old.held ≤ 2 * front.old.place + 2 ^ 15 }
+    requires paid { front.old.growth ≤ 2 * front.old.place + 2 ^ 15 }
     requires shaped { IsShapedHead sub.now size }
     requires code { IfSome (layout_of sub.now) (λ layout. IsCode layout.code) }
     requires there { IsSomeAnd (layout_of sub.now) (λ layout. n < layout.blocks) }
@@ -162,7 +131,7 @@ fn take_block<R: Input>(
     ensures block { IfSome (layout_of sub.now) (λ layout. Reading (block_field layout size n) (λ _. drop (length packed.old.items) packed.new.items) front.old front.new R.Input input.old input.new result) }
     ensures kept { OnOk result (take (length packed.old.items) packed.new.items ≡ packed.old.items) }
     ensures place { OnOk result (front.new.place ≤ front.old.place + 2 ^ 18) }
-    ensures held { OnOk result (front.new.held + 2 * front.old.place ≤ front.old.held + 2 * front.new.place) }
+    ensures growth { OnOk result (front.new.growth + 2 * front.old.place ≤ front.old.growth + 2 * front.new.place) }
     ensures grown { OnOk result (HasCounted front.old front.new (length packed.old.items) (length packed.new.items)) }
 {
     let place = front.place;

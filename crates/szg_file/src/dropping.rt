@@ -4,12 +4,11 @@ ghost use Rattle.std.specs.List.{AllByRecursion};
 ghost use Rattle.szg_code.specs.Acceptance.{IsCode};
 ghost use Rattle.szg_block.specs.Block.{start};
 ghost use Rattle.szg_block.specs.Subtable.{layout_of, IsShapedHead};
-ghost use Rattle.szg_file.specs.File.{each, block_field, blocks_from, blocks_of, blocks_field};
-ghost use Rattle.szg_file.specs.Held.{subtable_of};
+ghost use Rattle.szg_file.specs.File.{each, block_field, blocks_from, blocks_field};
 ghost use Rattle.szg_file.specs.Placed.{since, whole_sub, Fits};
 ghost use Rattle.szg_file.specs.Reading.{Reading};
 
-use crate::begun::{Measured, Slot};
+use crate::begun::Measured;
 use crate::blocks::{block_bytes, block_count, is_constant};
 use crate::fault::{ReadFault, Reason};
 use crate::fields::append;
@@ -37,12 +36,12 @@ pub fn pass_subs<R: Input + Ahead>(
 ) -> Result<Vec<PlacedSub>, ReadFault>
     requires place { front.old.place < 2 ^ 60 }
     requires few { length list.items ≤ 8 }
-    requires paid { front.old.held ≤ 2 * front.old.place + 2 ^ 14 }
+    requires paid { front.old.growth ≤ 2 * front.old.place + 2 ^ 14 }
     requires at { front.old.place ≡ length (R.moved input.old) }
     ensures blocks { Reading (each blocks_field list.items) (λ subs. map (whole_sub (R.moved input.new)) subs.items) front.old front.new R.Input input.old input.new result }
     ensures fits { IfOk result (λ subs. AllByRecursion (Fits (length (R.moved input.new)) (length buffer.new.items)) subs.items) }
     ensures place { OnOk result (front.new.place ≤ front.old.place + 2 ^ 55) }
-    ensures held { OnOk result (front.new.held + 2 * front.old.place ≤ front.old.held + 2 * front.new.place + 8) }
+    ensures growth { OnOk result (front.new.growth + 2 * front.old.place ≤ front.old.growth + 2 * front.new.place + 8) }
 {
     let mut subs = Vec::new(alloc);
     'subtables: for measured in list {
@@ -52,7 +51,7 @@ pub fn pass_subs<R: Input + Ahead>(
     Ok(subs)
 }
 
-/// Takes one subtable's blocks.
+/// Takes one subtable's blocks behind their fill, and keeps their place; a constant subtable has none.
 fn pass_sub<R: Input + Ahead>(
     alloc: Global,
     measured: Measured,
@@ -61,41 +60,15 @@ fn pass_sub<R: Input + Ahead>(
     front: &mut Front,
 ) -> Result<PlacedSub, ReadFault>
     requires place { front.old.place < 2 ^ 60 + 2 ^ 55 }
-    requires paid { front.old.held ≤ 2 * front.old.place + 2 ^ 15 }
+    requires paid { front.old.growth ≤ 2 * front.old.place + 2 ^ 15 }
     requires at { front.old.place ≡ length (R.moved input.old) }
     ensures blocks { Reading (blocks_field measured) (whole_sub (R.moved input.new)) front.old front.new R.Input input.old input.new result }
     ensures fits { IfOk result (Fits (length (R.moved input.new)) (length buffer.new.items)) }
     ensures room { OnOk result (length buffer.old.items ≤ length buffer.new.items) }
     ensures place { OnOk result (front.new.place ≤ front.old.place + 2 ^ 51) }
-    ensures held { OnOk result (front.new.held + 2 * front.old.place ≤ front.old.held + 2 * front.new.place) }
+    ensures growth { OnOk result (front.new.growth + 2 * front.old.place ≤ front.old.growth + 2 * front.new.place) }
 {
-    let Measured {
-        slot,
-        sub,
-        index: _,
-    } = measured;
-    place_sub(alloc, slot, sub, buffer, input, front)
-}
-
-/// Takes the blocks of a subtable behind their fill, and keeps their place; a constant one has none.
-fn place_sub<R: Input + Ahead>(
-    alloc: Global,
-    slot: Slot,
-    sub: Sub,
-    buffer: &mut Vec<u8>,
-    input: &mut R,
-    front: &mut Front,
-) -> Result<PlacedSub, ReadFault>
-    requires place { front.old.place < 2 ^ 60 + 2 ^ 55 }
-    requires paid { front.old.held ≤ 2 * front.old.place + 2 ^ 15 }
-    requires at { front.old.place ≡ length (R.moved input.old) }
-    requires shaped { IsShapedHead sub slot.size }
-    ensures blocks { Reading (blocks_of slot (subtable_of sub)) (whole_sub (R.moved input.new)) front.old front.new R.Input input.old input.new result }
-    ensures fits { IfOk result (Fits (length (R.moved input.new)) (length buffer.new.items)) }
-    ensures room { OnOk result (length buffer.old.items ≤ length buffer.new.items) }
-    ensures place { OnOk result (front.new.place ≤ front.old.place + 2 ^ 51) }
-    ensures held { OnOk result (front.new.held + 2 * front.old.place ≤ front.old.held + 2 * front.new.place) }
-{
+    let Measured { slot, sub, .. } = measured;
     if is_constant(&sub) {
         return Ok(PlacedSub { sub, first: 0 });
     }
@@ -135,7 +108,7 @@ fn pass_blocks<R: Input>(
     ensures blocks { IfSome (layout_of sub.now) (λ layout. Reading (blocks_from layout size 0 layout.blocks) (λ _. since (R.moved input.old) (R.moved input.new)) front.old front.new R.Input input.old input.new result) }
     ensures count { IfSome (layout_of sub.now) (λ layout. OnOk result (front.new.place ≡ front.old.place + layout.blocks * 2 ^ layout.block_bits)) }
     ensures place { OnOk result (front.new.place ≤ front.old.place + 2 ^ 50) }
-    ensures held { OnOk result (front.new.held ≡ front.old.held) }
+    ensures growth { OnOk result (front.new.growth ≡ front.old.growth) }
 {
     let Sub::Pairs {
         blocks,
@@ -175,7 +148,7 @@ fn pass_block<R: Input>(
     requires before { IsSomeAnd (layout_of sub.now) (λ layout. before ≡ start layout.lengths n) }
     ensures block { IfSome (layout_of sub.now) (λ layout. Reading (block_field layout size n) (λ _. since (R.moved input.old) (R.moved input.new)) front.old front.new R.Input input.old input.new result) }
     ensures place { OnOk result (front.new.place ≡ front.old.place + length buffer.old) }
-    ensures held { OnOk result (front.new.held ≡ front.old.held) }
+    ensures growth { OnOk result (front.new.growth ≡ front.old.growth) }
 {
     let place = front.place;
     take_field(input, front, buffer)?;

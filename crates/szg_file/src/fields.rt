@@ -16,7 +16,7 @@ pub fn read_byte<R: Input>(input: &mut R, front: &mut Front) -> Result<u8, ReadF
     requires { front.old.place < 2 ^ 62 }
     ensures byte { Reading (number_field 1) (λ byte. byte) front.old front.new R.Input input.old input.new result }
     ensures place { OnOk result (front.new.place ≡ front.old.place + 1) }
-    ensures held { OnOk result (front.new.held ≡ front.old.held) }
+    ensures growth { OnOk result (front.new.growth ≡ front.old.growth) }
     ensures grown { OnOk result (HasCounted front.old front.new 0 0) }
 {
     let mut piece = [0; 1];
@@ -29,7 +29,7 @@ pub fn read_number<R: Input>(input: &mut R, front: &mut Front) -> Result<u16, Re
     requires { front.old.place < 2 ^ 62 }
     ensures number { Reading (number_field 2) (λ number. number) front.old front.new R.Input input.old input.new result }
     ensures place { OnOk result (front.new.place ≡ front.old.place + 2) }
-    ensures held { OnOk result (front.new.held ≡ front.old.held) }
+    ensures growth { OnOk result (front.new.growth ≡ front.old.growth) }
     ensures grown { OnOk result (HasCounted front.old front.new 0 0) }
 {
     let mut piece = [0; 2];
@@ -37,7 +37,7 @@ pub fn read_number<R: Input>(input: &mut R, front: &mut Front) -> Result<u16, Re
     Ok(LittleEndian::read_u16(&piece))
 }
 
-/// Whether a byte of flags has the flag `2^k`.
+/// Whether bit k of a byte of flags is set.
 pub fn has_flag(k: u8, flags: u8) -> bool
     requires { k < 8 }
     ensures { result ≡ has_bit k flags }
@@ -47,10 +47,10 @@ pub fn has_flag(k: u8, flags: u8) -> bool
 
 /// Appends an item.
 pub fn append<T: Drop>(list: &mut Vec<T>, item: T, front: &mut Front) -> Result<(), ReadFault>
-    requires paid { front.old.held ≤ 2 * front.old.place + 2 ^ 15 }
+    requires paid { front.old.growth ≤ 2 * front.old.place + 2 ^ 15 }
     requires place { front.old.place < 2 ^ 62 }
     ensures items { OnOk result (list.new.items ≡ list.old.items ++ item ∷ []) }
-    ensures held { OnOk result (front.new.held ≡ front.old.held + 1) }
+    ensures growth { OnOk result (front.new.growth ≡ front.old.growth + 1) }
     ensures place { OnOk result (front.new.place ≡ front.old.place) }
     ensures fill { OnOk result (front.new.fill.items ≡ front.old.fill.items) }
     ensures memory { OnErr result (result ≡ Err ReadFault.Memory) }

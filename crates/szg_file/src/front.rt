@@ -9,23 +9,23 @@ pub struct Front {
     /// The number of bytes taken.
     pub place: u64,
     /// By how many items the lists of this crate have grown, those let go too. Only `grow` raises it.
-    pub held: u64,
+    pub growth: u64,
     /// The fill bytes among the bytes taken, in their order.
     pub fill: Vec<u8>,
     // All lists together hold at most 4 items for each byte taken, and 65,536 more.
-    pub ghost bound: { held ≤ 4 * place + 65536 },
+    pub ghost bound: { growth ≤ 4 * place + 65536 },
 }
 
 impl Front {
     /// The front before the first byte.
     pub fn new(alloc: Global) -> Front
         ensures place { result.place ≡ 0 }
-        ensures held { result.held ≡ 0 }
+        ensures growth { result.growth ≡ 0 }
         ensures fill { result.fill.items ≡ [] }
     {
         Front {
             place: 0,
-            held: 0,
+            growth: 0,
             fill: Vec::new(alloc),
         }
     }
@@ -36,10 +36,10 @@ impl Front {
 /// byte taken and 65,536 more.
 pub fn grow<T>(list: &mut Vec<T>, more: usize, front: &mut Front) -> Result<(), ReadFault>
     requires ahead { more ≤ 65536 }
-    requires bound { front.old.held + more ≤ 4 * front.old.place + 65536 }
-    requires fits { front.old.held + more < 2 ^ 64 }
+    requires bound { front.old.growth + more ≤ 4 * front.old.place + 65536 }
+    requires fits { front.old.growth + more < 2 ^ 64 }
     ensures items { list.new.items ≡ list.old.items }
-    ensures held { OnOk result (front.new.held ≡ front.old.held + more) }
+    ensures growth { OnOk result (front.new.growth ≡ front.old.growth + more) }
     ensures place { front.new.place ≡ front.old.place }
     ensures fill { front.new.fill.items ≡ front.old.fill.items }
     ensures memory { OnErr result (result ≡ Err ReadFault.Memory) }
@@ -47,6 +47,6 @@ pub fn grow<T>(list: &mut Vec<T>, more: usize, front: &mut Front) -> Result<(), 
     if list.try_reserve(more).is_err() {
         return Err(ReadFault::Memory);
     }
-    front.held += more as u64;
+    front.growth += more as u64;
     Ok(())
 }

@@ -34,12 +34,12 @@ pub fn read_heads<R: Input>(
 ) -> Result<Vec<Begun>, ReadFault>
     requires place { front.old.place < 2 ^ 60 }
     requires few { length slots.now ≤ 8 }
-    requires paid { front.old.held ≤ 2 * front.old.place + 2 ^ 14 }
+    requires paid { front.old.growth ≤ 2 * front.old.place + 2 ^ 14 }
     ensures heads { Reading (each head_field slots.now) (λ list. map (λ begun. begun.subtable) list.items) front.old front.new R.Input input.old input.new result }
     ensures begun { IfOk result (λ list. list.items ≡ begun slots.now (map (λ begun. begun.subtable) list.items)) }
     ensures count { IfOk result (λ list. length list.items ≡ length slots.now) }
     ensures place { OnOk result (front.new.place ≤ front.old.place + 2 ^ 22) }
-    ensures held { OnOk result (front.new.held + 2 * front.old.place ≤ front.old.held + 2 * front.new.place + 8) }
+    ensures growth { OnOk result (front.new.growth + 2 * front.old.place ≤ front.old.growth + 2 * front.new.place + 8) }
     ensures grown { IfOk result (λ list. HasCounted front.old front.new 0 (length list.items + begun_lengths list.items)) }
 {
     let mut list = Vec::new(alloc);
@@ -58,11 +58,11 @@ fn read_head<R: Input>(
     front: &mut Front,
 ) -> Result<Begun, ReadFault>
     requires place { front.old.place + 2 ^ 18 < 2 ^ 62 }
-    requires paid { front.old.held ≤ 2 * front.old.place + 2 ^ 15 }
+    requires paid { front.old.growth ≤ 2 * front.old.place + 2 ^ 15 }
     ensures head { Reading (head_field slot) (λ begun. begun.subtable) front.old front.new R.Input input.old input.new result }
     ensures slot { IfOk result (λ begun. begun ≡ record { slot = slot; subtable = begun.subtable; index = 0 }) }
     ensures place { OnOk result (front.new.place ≤ front.old.place + 2 ^ 18) }
-    ensures held { OnOk result (front.new.held + 2 * front.old.place ≤ front.old.held + 2 * front.new.place) }
+    ensures growth { OnOk result (front.new.growth + 2 * front.old.place ≤ front.old.growth + 2 * front.new.place) }
     ensures grown { IfOk result (λ begun. HasCounted front.old front.new 0 (sub_lengths begun.subtable)) }
 {
     let flags = read_byte(input, front)?;
@@ -86,11 +86,11 @@ fn read_packed_head<R: Input>(
 ) -> Result<Sub, ReadFault>
     requires flags { has_bit 7 flags ≡ false }
     requires place { front.old.place + 200000 < 2 ^ 62 }
-    requires paid { front.old.held ≤ 2 * front.old.place + 2 ^ 15 }
+    requires paid { front.old.growth ≤ 2 * front.old.place + 2 ^ 15 }
     ensures head { Reading (packed_head flags) subtable_of front.old front.new R.Input input.old input.new result }
     ensures headed { IfOk result IsHeaded }
     ensures place { OnOk result (front.new.place ≤ front.old.place + 200000) }
-    ensures held { OnOk result (front.new.held + 2 * front.old.place ≤ front.old.held + 2 * front.new.place) }
+    ensures growth { OnOk result (front.new.growth + 2 * front.old.place ≤ front.old.growth + 2 * front.new.place) }
     ensures grown { IfOk result (λ sub. HasCounted front.old front.new 0 (sub_lengths (subtable_of sub))) }
 {
     let block_bits = read_block_bits(input, front)?;
@@ -119,7 +119,7 @@ fn read_block_bits<R: Input>(input: &mut R, front: &mut Front) -> Result<u8, Rea
     ensures bits { Reading (byte_where (λ bits. nat_le bits 18) Reason.BlockBits) (λ bits. bits) front.old front.new R.Input input.old input.new result }
     ensures most { IfOk result (λ bits. bits ≤ 18) }
     ensures place { OnOk result (front.new.place ≡ front.old.place + 1) }
-    ensures held { OnOk result (front.new.held ≡ front.old.held) }
+    ensures growth { OnOk result (front.new.growth ≡ front.old.growth) }
     ensures grown { OnOk result (HasCounted front.old front.new 0 0) }
 {
     let place = front.place;
@@ -140,7 +140,7 @@ fn read_span_bits<R: Input>(input: &mut R, front: &mut Front) -> Result<u8, Read
     ensures some { IfOk result (λ bits. 1 ≤ bits) }
     ensures most { IfOk result (λ bits. bits ≤ 31) }
     ensures place { OnOk result (front.new.place ≡ front.old.place + 1) }
-    ensures held { OnOk result (front.new.held ≡ front.old.held) }
+    ensures growth { OnOk result (front.new.growth ≡ front.old.growth) }
     ensures grown { OnOk result (HasCounted front.old front.new 0 0) }
 {
     let place = front.place;
@@ -179,7 +179,7 @@ fn read_sizes<R: Input>(input: &mut R, front: &mut Front) -> Result<HeadSizes, R
     ensures in_order { IfOk result (λ sizes. sizes.min ≤ sizes.max) }
     ensures most { IfOk result (λ sizes. sizes.max ≤ 32) }
     ensures place { OnOk result (front.new.place ≡ front.old.place + 7) }
-    ensures held { OnOk result (front.new.held ≡ front.old.held) }
+    ensures growth { OnOk result (front.new.growth ≡ front.old.growth) }
     ensures grown { OnOk result (HasCounted front.old front.new 0 0) }
 {
     let place = front.place + 5;
@@ -212,12 +212,12 @@ fn read_lowest<R: Input>(
     requires in_order { min ≤ max }
     requires most { max ≤ 32 }
     requires place { front.old.place + 64 < 2 ^ 62 }
-    requires paid { front.old.held ≤ 2 * front.old.place + 2 ^ 15 }
+    requires paid { front.old.growth ≤ 2 * front.old.place + 2 ^ 15 }
     ensures lowest { Reading (lowest_list min max) (λ code. code.lowest) front.old front.new R.Input input.old input.new result }
     ensures code { IfOk result (λ code. code ≡ code_with min max code.lowest 0) }
     ensures accepted { IfOk result IsCode }
     ensures place { OnOk result (front.new.place ≡ front.old.place + 2 * (max + 1 - min)) }
-    ensures held { OnOk result (front.new.held ≡ front.old.held + 3 * (max + 1 - min)) }
+    ensures growth { OnOk result (front.new.growth ≡ front.old.growth + 3 * (max + 1 - min)) }
     ensures grown { IfOk result (λ code. HasCounted front.old front.new 0 (length code.lowest)) }
 {
     let place = front.place;
@@ -271,9 +271,9 @@ fn with_symbols(
 ) -> Result<Code, ReadFault>
     requires code { IsCode code.now }
     requires place { front.old.place < 2 ^ 62 }
-    requires paid { front.old.held ≤ 2 * front.old.place + 2 ^ 15 }
+    requires paid { front.old.growth ≤ 2 * front.old.place + 2 ^ 15 }
     ensures code { IfOk result (λ with. with ≡ code_with code.now.min_length code.now.max_length code.now.lowest symbols) }
-    ensures held { OnOk result (front.new.held ≡ front.old.held + length code.now.lowest) }
+    ensures growth { OnOk result (front.new.growth ≡ front.old.growth + length code.now.lowest) }
     ensures place { OnOk result (front.new.place ≡ front.old.place) }
     ensures fill { OnOk result (front.new.fill.items ≡ front.old.fill.items) }
     ensures memory { OnErr result (result ≡ Err ReadFault.Memory) }
@@ -296,10 +296,10 @@ fn read_dictionary<R: Input>(
     front: &mut Front,
 ) -> Result<Dict, ReadFault>
     requires place { front.old.place + 196608 < 2 ^ 62 }
-    requires paid { front.old.held ≤ 2 * front.old.place + 2 ^ 15 }
+    requires paid { front.old.growth ≤ 2 * front.old.place + 2 ^ 15 }
     ensures dictionary { Reading dictionary (λ dict. dict) front.old front.new R.Input input.old input.new result }
     ensures place { OnOk result (front.new.place ≤ front.old.place + 196608) }
-    ensures held { OnOk result (front.new.held + 2 * front.old.place ≤ front.old.held + 2 * front.new.place) }
+    ensures growth { OnOk result (front.new.growth + 2 * front.old.place ≤ front.old.growth + 2 * front.new.place) }
     ensures grown { IfOk result (λ dict. HasCounted front.old front.new 0 (2 * length dict)) }
 {
     let count = read_number(input, front)?;
@@ -316,10 +316,10 @@ fn read_entries<R: Input>(
     front: &mut Front,
 ) -> Result<Dict, ReadFault>
     requires place { front.old.place + 3 * count < 2 ^ 62 }
-    requires paid { front.old.held ≤ 2 * front.old.place + 2 ^ 15 }
+    requires paid { front.old.growth ≤ 2 * front.old.place + 2 ^ 15 }
     ensures entries { Reading (entries_field count) (λ dict. dict) front.old front.new R.Input input.old input.new result }
     ensures place { OnOk result (front.new.place ≡ front.old.place + 3 * count) }
-    ensures held { OnOk result (front.new.held ≡ front.old.held + 4 * count) }
+    ensures growth { OnOk result (front.new.growth ≡ front.old.growth + 4 * count) }
     ensures grown { IfOk result (λ dict. HasCounted front.old front.new 0 (2 * length dict)) }
 {
     let place = front.place;

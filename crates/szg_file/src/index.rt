@@ -1,13 +1,12 @@
-ghost use Rattle.std.specs.Prelude.{◌≡◌, ◌+◌, ◌*◌, ◌≤◌, ◌<◌, ◌^◌, ◌∷◌, [], ◌++◌, Err, length, map, OnOk, OnErr, IfOk, IfSome};
+ghost use Rattle.std.specs.Prelude.{◌≡◌, ◌+◌, ◌*◌, ◌≤◌, ◌<◌, ◌^◌, ◌∷◌, [], ◌++◌, Err, length, map, OnOk, OnErr, IfOk, IfSome, IfNone, None};
 ghost use Rattle.szg_block.specs.Sound.{entry_count};
 ghost use Rattle.szg_block.specs.Subtable.{layout_of, IsShapedHead};
-ghost use Rattle.szg_file.specs.File.{each, sparse_of, sparse_field, lengths_of, lengths_field, index_check};
-ghost use Rattle.szg_file.specs.Held.{subtable_of, IsHeaded, IsIndexed};
+ghost use Rattle.szg_file.specs.File.{each, sparse_field, lengths_field, index_check};
 ghost use Rattle.szg_file.specs.Reading.{Reading, Checks};
 ghost use Rattle.szg_file.specs.Grown.{HasCounted, begun_lengths};
 ghost use Rattle.szg_file.specs.Reads.{sub_lengths};
 
-use crate::begun::{Begun, Indexed, Measured, Slot};
+use crate::begun::{Begun, Indexed, Measured};
 use crate::fault::{ReadFault, Reason};
 use crate::fields::append;
 use crate::front::Front;
@@ -25,11 +24,11 @@ pub fn read_indexes<R: Input>(
 ) -> Result<Vec<Indexed>, ReadFault>
     requires place { front.old.place < 2 ^ 60 }
     requires few { length list.items ≤ 8 }
-    requires paid { front.old.held ≤ 2 * front.old.place + 2 ^ 14 }
+    requires paid { front.old.growth ≤ 2 * front.old.place + 2 ^ 14 }
     ensures indexes { Reading (each sparse_field list.items) (λ indexed. indexed.items) front.old front.new R.Input input.old input.new result }
     ensures count { IfOk result (λ indexed. length indexed.items ≡ length list.items) }
     ensures place { OnOk result (front.new.place ≤ front.old.place + 2 ^ 40) }
-    ensures held { OnOk result (front.new.held + 2 * front.old.place ≤ front.old.held + 2 * front.new.place + 8) }
+    ensures growth { OnOk result (front.new.growth + 2 * front.old.place ≤ front.old.growth + 2 * front.new.place + 8) }
     ensures grown { IfOk result (λ indexed. HasCounted front.old front.new (begun_lengths list.items) (length indexed.items + begun_lengths indexed.items)) }
 {
     let mut indexed = Vec::new(alloc);
@@ -40,7 +39,7 @@ pub fn read_indexes<R: Input>(
     Ok(indexed)
 }
 
-/// Takes one subtable's sparse index.
+/// Takes one subtable's sparse index into it, and tells where it stands; a constant subtable has none.
 fn read_index<R: Input>(
     alloc: Global,
     begun: Begun,
@@ -48,67 +47,24 @@ fn read_index<R: Input>(
     front: &mut Front,
 ) -> Result<Indexed, ReadFault>
     requires place { front.old.place < 2 ^ 60 + 2 ^ 40 }
-    requires paid { front.old.held ≤ 2 * front.old.place + 2 ^ 15 }
+    requires paid { front.old.growth ≤ 2 * front.old.place + 2 ^ 15 }
     ensures index { Reading (sparse_field begun) (λ indexed. indexed) front.old front.new R.Input input.old input.new result }
     ensures place { OnOk result (front.new.place ≤ front.old.place + 2 ^ 36) }
-    ensures held { OnOk result (front.new.held + 2 * front.old.place ≤ front.old.held + 2 * front.new.place) }
+    ensures growth { OnOk result (front.new.growth + 2 * front.old.place ≤ front.old.growth + 2 * front.new.place) }
     ensures grown { IfOk result (λ indexed. HasCounted front.old front.new (sub_lengths begun.subtable) (sub_lengths indexed.subtable)) }
 {
-    let Begun { slot, sub } = begun;
-    let (sub, index) = index_sub(alloc, slot, sub, input, front)?;
-    Ok(Indexed { slot, sub, index })
-}
-
-/// Takes a sparse index into its subtable, and tells where it stands; a constant subtable has none.
-fn index_sub<R: Input>(
-    alloc: Global,
-    slot: Slot,
-    sub: Sub,
-    input: &mut R,
-    front: &mut Front,
-) -> Result<(Sub, u64), ReadFault>
-    requires place { front.old.place < 2 ^ 60 + 2 ^ 40 }
-    requires paid { front.old.held ≤ 2 * front.old.place + 2 ^ 15 }
-    requires headed { IsHeaded sub }
-    ensures index { Reading (sparse_of slot (subtable_of sub)) (λ found. record { slot = slot; subtable = subtable_of found.0; index = found.1 }) front.old front.new R.Input input.old input.new result }
-    ensures indexed { IfOk result (λ found. IsIndexed found.0 slot.size) }
-    ensures stands { IfOk result (λ found. found.1 < 2 ^ 61) }
-    ensures place { OnOk result (front.new.place ≤ front.old.place + 2 ^ 36) }
-    ensures held { OnOk result (front.new.held + 2 * front.old.place ≤ front.old.held + 2 * front.new.place) }
-    ensures grown { IfOk result (λ found. HasCounted front.old front.new (sub_lengths (subtable_of sub)) (sub_lengths (subtable_of found.0))) }
-{
-    match sub {
-        Sub::Constant { flags, byte } => Ok((Sub::Constant { flags, byte }, 0)),
-        Sub::Pairs {
-            flags,
-            block_bits,
-            span_bits,
-            extra,
-            blocks,
-            code,
-            dict,
-            sparse: _,
-            lengths,
-            packed,
-        } => {
-            let index = front.place;
-            let count = span_count(span_bits, slot.size);
-            let sparse = take_sparse(alloc, count, input, front)?;
-            let sub = Sub::Pairs {
-                flags,
-                block_bits,
-                span_bits,
-                extra,
-                blocks,
-                code,
-                dict,
-                sparse,
-                lengths,
-                packed,
-            };
-            Ok((sub, index))
-        }
+    let Begun { slot, mut sub } = begun;
+    let mut index = 0;
+    if let Sub::Pairs {
+        span_bits,
+        sparse,
+        ..
+    } = &mut sub
+    {
+        index = front.place;
+        *sparse = take_sparse(alloc, span_count(*span_bits, slot.size), input, front)?;
     }
+    Ok(Indexed { slot, sub, index })
 }
 
 /// The number of spans begun: a sparse index has an entry for each.
@@ -132,11 +88,11 @@ pub fn read_lengths<R: Input>(
 ) -> Result<Vec<Measured>, ReadFault>
     requires place { front.old.place < 2 ^ 60 }
     requires few { length list.items ≤ 8 }
-    requires paid { front.old.held ≤ 2 * front.old.place + 2 ^ 14 }
+    requires paid { front.old.growth ≤ 2 * front.old.place + 2 ^ 14 }
     ensures lengths { Reading (each lengths_field list.items) (λ measured. measured.items) front.old front.new R.Input input.old input.new result }
     ensures count { IfOk result (λ measured. length measured.items ≡ length list.items) }
     ensures place { OnOk result (front.new.place ≤ front.old.place + 2 ^ 40) }
-    ensures held { OnOk result (front.new.held + 2 * front.old.place ≤ front.old.held + 2 * front.new.place + 8) }
+    ensures growth { OnOk result (front.new.growth + 2 * front.old.place ≤ front.old.growth + 2 * front.new.place + 8) }
     ensures grown { IfOk result (λ measured. HasCounted front.old front.new (begun_lengths list.items) (length measured.items + begun_lengths measured.items)) }
 {
     let mut measured = Vec::new(alloc);
@@ -147,7 +103,7 @@ pub fn read_lengths<R: Input>(
     Ok(measured)
 }
 
-/// Takes one subtable's lengths.
+/// Takes one subtable's lengths into it, and checks them and the sparse index; a constant subtable has none.
 fn read_measured<R: Input>(
     alloc: Global,
     indexed: Indexed,
@@ -155,70 +111,32 @@ fn read_measured<R: Input>(
     front: &mut Front,
 ) -> Result<Measured, ReadFault>
     requires place { front.old.place < 2 ^ 60 + 2 ^ 40 }
-    requires paid { front.old.held ≤ 2 * front.old.place + 2 ^ 15 }
+    requires paid { front.old.growth ≤ 2 * front.old.place + 2 ^ 15 }
     ensures lengths { Reading (lengths_field indexed) (λ measured. measured) front.old front.new R.Input input.old input.new result }
     ensures place { OnOk result (front.new.place ≤ front.old.place + 2 ^ 36) }
-    ensures held { OnOk result (front.new.held + 2 * front.old.place ≤ front.old.held + 2 * front.new.place) }
+    ensures growth { OnOk result (front.new.growth + 2 * front.old.place ≤ front.old.growth + 2 * front.new.place) }
     ensures grown { IfOk result (λ measured. HasCounted front.old front.new (sub_lengths indexed.subtable) (sub_lengths measured.subtable)) }
 {
-    let Indexed { slot, sub, index } = indexed;
-    let sub = measure_sub(alloc, slot, index, sub, input, front)?;
-    Ok(Measured { slot, sub, index })
-}
-
-/// Takes the lengths into their subtable, and checks them and the sparse index, which stands at `index`.
-fn measure_sub<R: Input>(
-    alloc: Global,
-    slot: Slot,
-    index: u64,
-    sub: Sub,
-    input: &mut R,
-    front: &mut Front,
-) -> Result<Sub, ReadFault>
-    requires place { front.old.place < 2 ^ 60 + 2 ^ 40 }
-    requires paid { front.old.held ≤ 2 * front.old.place + 2 ^ 15 }
-    requires indexed { IsIndexed sub slot.size }
-    requires index { index < 2 ^ 61 }
-    ensures lengths { Reading (lengths_of slot index (subtable_of sub)) (λ found. record { slot = slot; subtable = subtable_of found; index = index }) front.old front.new R.Input input.old input.new result }
-    ensures shaped { IfOk result (λ found. IsShapedHead found slot.size) }
-    ensures place { OnOk result (front.new.place ≤ front.old.place + 2 ^ 36) }
-    ensures held { OnOk result (front.new.held + 2 * front.old.place ≤ front.old.held + 2 * front.new.place) }
-    ensures grown { IfOk result (λ found. HasCounted front.old front.new (sub_lengths (subtable_of sub)) (sub_lengths (subtable_of found))) }
-{
-    match sub {
-        Sub::Constant { flags, byte } => Ok(Sub::Constant { flags, byte }),
-        Sub::Pairs {
-            flags,
-            block_bits,
-            span_bits,
-            extra,
-            blocks,
-            code,
-            dict,
-            sparse,
-            lengths: _,
-            packed,
-        } => {
-            let place = front.place;
-            let lengths = take_numbers(alloc, blocks as u64 + extra as u64, input, front)?;
-            let sub = Sub::Pairs {
-                flags,
-                block_bits,
-                span_bits,
-                extra,
-                blocks,
-                code,
-                dict,
-                sparse,
-                lengths,
-                packed,
-            };
-            if let Some((place, reason)) = index_refusal(&sub, slot.size, place, index) {
-                return Err(ReadFault::Refused { place, reason });
-            }
-            Ok(sub)
-        }
+    let Indexed {
+        slot,
+        mut sub,
+        index,
+    } = indexed;
+    let place = front.place;
+    if let Sub::Pairs {
+        extra,
+        blocks,
+        lengths,
+        ..
+    } = &mut sub
+    {
+        let count = *blocks as u64 + *extra as u64;
+        *lengths = take_numbers(alloc, count, input, front)?;
     }
+    if let Some((place, reason)) = index_refusal(&sub, slot.size, place, index) {
+        return Err(ReadFault::Refused { place, reason });
+    }
+    Ok(Measured { slot, sub, index })
 }
 
 /// The checks of lengths that stand at `place` and of a sparse index that stands at `index`.
@@ -226,7 +144,8 @@ fn index_refusal(sub: &Sub, size: u64, place: u64, index: u64) -> Option<(u64, R
     requires shaped { IsShapedHead sub.now size }
     requires size { size < 2 ^ 33 }
     requires index { index < 2 ^ 61 }
-    ensures { IfSome (layout_of sub.now) (λ layout. Checks (index_check place index layout size) result) }
+    ensures checks { IfSome (layout_of sub.now) (λ layout. Checks (index_check place index layout size) result) }
+    ensures constant { IfNone (layout_of sub.now) (result ≡ None) }
 {
     match check_index(sub, size) {
         Ok(()) => None,

@@ -70,7 +70,7 @@ impl Heads {
     ghost use Rattle.szg_block.specs.Lending.{bytes_at};
     ghost use Rattle.szg_file.specs.Heads.{IsKeptOf, slot_at, kept_at};
     ghost use Rattle.szg_file.specs.Values.{values_of, item};
-    ghost use Rattle.szg_file.specs.Wanted.{wanted_block};
+    ghost use Rattle.szg_file.specs.Wanted.{wanted_block, IsSpelledBy};
 
     /// The number of positions of a part's side, where there is one.
     pub fn size(&self, part: u8, side: u8) -> Option<u64>
@@ -110,7 +110,8 @@ impl Heads {
     /// where they spell too few values, or where they aren't as many as a block has.
     pub fn value_in(&self, part: u8, side: u8, i: u64, piece: &[u8]) -> Option<u16>
         requires { IsSomeAnd (slot_at self.now part side) (λ slot. i < slot.size) }
-        ensures { (content : List ℕ) → IsKeptOf self.now content → IfSome (kept_at self.now content part side) (λ found. IfSome (wanted_block found.1 i) (λ block. block ≡ piece.now) → IsSomeAnd result (λ value. item (values_of self.now.kind found) i ≡ Some value)) }
+        ensures value { (content : List ℕ) → IsKeptOf self.now content → IfSome (kept_at self.now content part side) (λ found. IfSome (wanted_block found.1 i) (λ block. block ≡ piece.now) → IsSomeAnd result (λ value. item (values_of self.now.kind found) i ≡ Some value)) }
+        ensures spelled { (content : List ℕ) → IsKeptOf self.now content → IfSome (kept_at self.now content part side) (λ found. IsSpelledBy piece.now found.1 i result) }
     {
         let placed = self.placed.as_slice();
         let Some(n) = slot_number(placed, part, side) else {

@@ -27,10 +27,10 @@ pub fn read_maps<R: Input>(
 ) -> Result<Vec<Option<Map>>, ReadFault>
     requires place { front.old.place < 2 ^ 60 }
     requires few { length heads.now ≤ 8 }
-    requires paid { front.old.held ≤ 2 * front.old.place + 2 ^ 14 }
+    requires paid { front.old.growth ≤ 2 * front.old.place + 2 ^ 14 }
     ensures maps { Reading (maps_field kind (map (λ begun. begun.subtable) heads.now)) (λ list. map (option_map map_of) list.items) front.old front.new R.Input input.old input.new result }
     ensures place { OnOk result (front.new.place ≤ front.old.place + 2 ^ 23) }
-    ensures held { OnOk result (front.new.held + 2 * front.old.place ≤ front.old.held + 2 * front.new.place + 8) }
+    ensures growth { OnOk result (front.new.growth + 2 * front.old.place ≤ front.old.growth + 2 * front.new.place + 8) }
     ensures grown { IfOk result (λ list. HasCounted front.old front.new 0 (length list.items + maps_lengths list.items)) }
 {
     match kind {
@@ -48,10 +48,10 @@ fn read_dtz_maps<R: Input>(
 ) -> Result<Vec<Option<Map>>, ReadFault>
     requires place { front.old.place < 2 ^ 60 }
     requires few { length heads.now ≤ 8 }
-    requires paid { front.old.held ≤ 2 * front.old.place + 2 ^ 14 }
+    requires paid { front.old.growth ≤ 2 * front.old.place + 2 ^ 14 }
     ensures maps { Reading (maps_field Kind.Dtz (map (λ begun. begun.subtable) heads.now)) (λ list. map (option_map map_of) list.items) front.old front.new R.Input input.old input.new result }
     ensures place { OnOk result (front.new.place ≤ front.old.place + 2 ^ 23) }
-    ensures held { OnOk result (front.new.held + 2 * front.old.place ≤ front.old.held + 2 * front.new.place + 8) }
+    ensures growth { OnOk result (front.new.growth + 2 * front.old.place ≤ front.old.growth + 2 * front.new.place + 8) }
     ensures grown { IfOk result (λ list. HasCounted front.old front.new 0 (length list.items + maps_lengths list.items)) }
 {
     let maps = read_each(alloc, heads, input, front)?;
@@ -68,10 +68,10 @@ fn read_each<R: Input>(
 ) -> Result<Vec<Option<Map>>, ReadFault>
     requires place { front.old.place < 2 ^ 60 }
     requires few { length heads.now ≤ 8 }
-    requires paid { front.old.held ≤ 2 * front.old.place + 2 ^ 14 }
+    requires paid { front.old.growth ≤ 2 * front.old.place + 2 ^ 14 }
     ensures maps { Reading (each map_field (map (λ begun. begun.subtable) heads.now)) (λ list. map (option_map map_of) list.items) front.old front.new R.Input input.old input.new result }
     ensures place { OnOk result (front.new.place ≤ front.old.place + 8 * 600000) }
-    ensures held { OnOk result (front.new.held + 2 * front.old.place ≤ front.old.held + 2 * front.new.place + 8) }
+    ensures growth { OnOk result (front.new.growth + 2 * front.old.place ≤ front.old.growth + 2 * front.new.place + 8) }
     ensures grown { IfOk result (λ list. HasCounted front.old front.new 0 (length list.items + maps_lengths list.items)) }
 {
     let mut list = Vec::new(alloc);
@@ -82,7 +82,7 @@ fn read_each<R: Input>(
     Ok(list)
 }
 
-/// Takes the map of a part, where flag 2 says that it has one.
+/// Takes the map of a part, where bit 1 of the flags says that it has one.
 fn read_map<R: Input>(
     alloc: Global,
     begun: &Begun,
@@ -90,10 +90,10 @@ fn read_map<R: Input>(
     front: &mut Front,
 ) -> Result<Option<Map>, ReadFault>
     requires place { front.old.place + 600000 < 2 ^ 62 }
-    requires paid { front.old.held ≤ 2 * front.old.place + 2 ^ 15 }
+    requires paid { front.old.growth ≤ 2 * front.old.place + 2 ^ 15 }
     ensures lists { Reading (map_field begun.now.subtable) (option_map map_of) front.old front.new R.Input input.old input.new result }
     ensures place { OnOk result (front.new.place ≤ front.old.place + 600000) }
-    ensures held { OnOk result (front.new.held + 2 * front.old.place ≤ front.old.held + 2 * front.new.place) }
+    ensures growth { OnOk result (front.new.growth + 2 * front.old.place ≤ front.old.growth + 2 * front.new.place) }
     ensures grown { IfOk result (λ found. HasCounted front.old front.new 0 (map_lengths (option_map map_of found))) }
 {
     let flags = flags_of(&begun.sub);
@@ -104,7 +104,7 @@ fn read_map<R: Input>(
     Ok(Some(lists))
 }
 
-/// Takes a map: with flag 16 its lists are wide and begin at an even place.
+/// Takes a map: with bit 4 of the flags its lists are wide and begin at an even place.
 fn read_lists<R: Input>(
     alloc: Global,
     flags: u8,
@@ -112,10 +112,10 @@ fn read_lists<R: Input>(
     front: &mut Front,
 ) -> Result<Map, ReadFault>
     requires place { front.old.place + 600000 < 2 ^ 62 }
-    requires paid { front.old.held ≤ 2 * front.old.place + 2 ^ 15 }
+    requires paid { front.old.growth ≤ 2 * front.old.place + 2 ^ 15 }
     ensures lists { Reading (map_lists flags) map_of front.old front.new R.Input input.old input.new result }
     ensures place { OnOk result (front.new.place ≤ front.old.place + 600000) }
-    ensures held { OnOk result (front.new.held + 2 * front.old.place ≤ front.old.held + 2 * front.new.place) }
+    ensures growth { OnOk result (front.new.growth + 2 * front.old.place ≤ front.old.growth + 2 * front.new.place) }
     ensures grown { IfOk result (λ lists. HasCounted front.old front.new 0 (map_lengths (Some (map_of lists)))) }
 {
     if has_flag(4, flags) {
@@ -134,10 +134,10 @@ fn read_byte_lists<R: Input>(
     front: &mut Front,
 ) -> Result<[Vec<u8>; 4], ReadFault>
     requires place { front.old.place + 4 * 256 < 2 ^ 62 }
-    requires paid { front.old.held ≤ 2 * front.old.place + 2 ^ 15 }
+    requires paid { front.old.growth ≤ 2 * front.old.place + 2 ^ 15 }
     ensures lists { Reading (each list_field (1 ∷ 1 ∷ 1 ∷ 1 ∷ [])) (map (λ list. list.items)) front.old front.new R.Input input.old input.new result }
     ensures place { OnOk result (front.new.place ≤ front.old.place + 4 * 256) }
-    ensures held { OnOk result (front.new.held + 2 * front.old.place ≤ front.old.held + 2 * front.new.place) }
+    ensures growth { OnOk result (front.new.growth + 2 * front.old.place ≤ front.old.growth + 2 * front.new.place) }
     ensures grown { IfOk result (λ lists. HasCounted front.old front.new 0 (sum_by (λ list. length list.items) lists)) }
 {
     let wins = read_bytes(alloc, input, front)?;
@@ -154,10 +154,10 @@ fn read_wide_lists<R: Input>(
     front: &mut Front,
 ) -> Result<[Vec<u16>; 4], ReadFault>
     requires place { front.old.place + 4 * 131072 < 2 ^ 62 }
-    requires paid { front.old.held ≤ 2 * front.old.place + 2 ^ 15 }
+    requires paid { front.old.growth ≤ 2 * front.old.place + 2 ^ 15 }
     ensures lists { Reading (each list_field (2 ∷ 2 ∷ 2 ∷ 2 ∷ [])) (map (λ list. list.items)) front.old front.new R.Input input.old input.new result }
     ensures place { OnOk result (front.new.place ≤ front.old.place + 4 * 131072) }
-    ensures held { OnOk result (front.new.held + 2 * front.old.place ≤ front.old.held + 2 * front.new.place) }
+    ensures growth { OnOk result (front.new.growth + 2 * front.old.place ≤ front.old.growth + 2 * front.new.place) }
     ensures grown { IfOk result (λ lists. HasCounted front.old front.new 0 (sum_by (λ list. length list.items) lists)) }
 {
     let wins = read_numbers(alloc, input, front)?;
@@ -174,10 +174,10 @@ fn read_bytes<R: Input>(
     front: &mut Front,
 ) -> Result<Vec<u8>, ReadFault>
     requires place { front.old.place + 256 < 2 ^ 62 }
-    requires paid { front.old.held ≤ 2 * front.old.place + 2 ^ 15 }
+    requires paid { front.old.growth ≤ 2 * front.old.place + 2 ^ 15 }
     ensures list { Reading (list_field 1) (λ list. list.items) front.old front.new R.Input input.old input.new result }
     ensures place { OnOk result (front.new.place ≤ front.old.place + 256) }
-    ensures held { OnOk result (front.new.held + 2 * front.old.place ≤ front.old.held + 2 * front.new.place) }
+    ensures growth { OnOk result (front.new.growth + 2 * front.old.place ≤ front.old.growth + 2 * front.new.place) }
     ensures grown { IfOk result (λ list. HasCounted front.old front.new 0 (length list.items)) }
 {
     let count = read_byte(input, front)?;
@@ -191,10 +191,10 @@ fn read_numbers<R: Input>(
     front: &mut Front,
 ) -> Result<Vec<u16>, ReadFault>
     requires place { front.old.place + 131072 < 2 ^ 62 }
-    requires paid { front.old.held ≤ 2 * front.old.place + 2 ^ 15 }
+    requires paid { front.old.growth ≤ 2 * front.old.place + 2 ^ 15 }
     ensures list { Reading (list_field 2) (λ list. list.items) front.old front.new R.Input input.old input.new result }
     ensures place { OnOk result (front.new.place ≤ front.old.place + 131072) }
-    ensures held { OnOk result (front.new.held + 2 * front.old.place ≤ front.old.held + 2 * front.new.place) }
+    ensures growth { OnOk result (front.new.growth + 2 * front.old.place ≤ front.old.growth + 2 * front.new.place) }
     ensures grown { IfOk result (λ list. HasCounted front.old front.new 0 (length list.items)) }
 {
     let count = read_number(input, front)?;

@@ -41,13 +41,13 @@ fn outline_subtables<R: Input + Ahead>(
     front: &mut Front,
 ) -> Result<Vec<PlacedSub>, ReadFault>
     requires place { front.old.place < 2 ^ 24 }
-    requires paid { front.old.held ≤ 2 * front.old.place + 20 }
+    requires paid { front.old.growth ≤ 2 * front.old.place + 20 }
     requires few { length heads.items ≤ 8 }
     requires at { front.old.place ≡ length (R.moved input.old) }
     ensures packed { Reading (packed_field heads.items) (λ subs. map (whole_sub (R.moved input.new)) subs.items) front.old front.new R.Input input.old input.new result }
     ensures fits { IfOk result (λ subs. AllByRecursion (Fits (length (R.moved input.new)) (length buffer.new.items)) subs.items) }
     ensures place { OnOk result (front.new.place < 2 ^ 56) }
-    ensures held { OnOk result (front.new.held ≤ 2 * front.new.place + 44) }
+    ensures growth { OnOk result (front.new.growth ≤ 2 * front.new.place + 44) }
 {
     let indexed = read_indexes(alloc, heads, input, front)?;
     let measured = read_lengths(alloc, indexed, input, front)?;
@@ -64,7 +64,7 @@ pub fn read_outline<R: Input + Ahead>(
     front: &mut Front,
 ) -> Result<Outline, ReadFault>
     requires place { front.old.place ≡ 0 }
-    requires held { front.old.held ≡ 0 }
+    requires growth { front.old.growth ≡ 0 }
     requires first { R.moved input.old ≡ [] }
     ensures outline { Reading (file material.now kind) (outlined material.now kind (R.moved input.new)) front.old front.new R.Input input.old input.new result }
     ensures slots { IfOk result (λ o. o.parts.slots.items ≡ slots material.now kind (map part_of o.parts.bytes.items)) }

@@ -176,9 +176,9 @@ pub fn part_sizes(
 fn copied(alloc: Global, bytes: &[u8], front: &mut Front) -> Result<Vec<u8>, ReadFault>
     requires few { length bytes.now ≤ 8 }
     requires place { front.old.place < 2 ^ 61 }
-    requires paid { front.old.held ≤ 2 * front.old.place + 2 ^ 15 }
+    requires paid { front.old.growth ≤ 2 * front.old.place + 2 ^ 15 }
     ensures bytes { IfOk result (λ list. list.items ≡ bytes.now) }
-    ensures held { OnOk result (front.new.held ≡ front.old.held + length bytes.now) }
+    ensures growth { OnOk result (front.new.growth ≡ front.old.growth + length bytes.now) }
     ensures place { OnOk result (front.new.place ≡ front.old.place) }
     ensures fill { OnOk result (front.new.fill.items ≡ front.old.fill.items) }
     ensures memory { OnErr result (result ≡ Err ReadFault.Memory) }
@@ -200,12 +200,12 @@ fn read_part<R: Input>(
 ) -> Result<(PartBytes, SideSizes), ReadFault>
     requires part { IsPart material.now part }
     requires place { front.old.place < 2 ^ 60 }
-    requires paid { front.old.held ≤ 2 * front.old.place + 2 ^ 14 }
+    requires paid { front.old.growth ≤ 2 * front.old.place + 2 ^ 14 }
     ensures part { Reading (part_field material.now kind) (λ read. part_of read.0) front.old front.new R.Input input.old input.new result }
     ensures slots { IfOk result (λ read. part_slots material.now (side_numbers material.now kind) part (part_of read.0) ≡ slots_with part read.1.first read.1.second) }
     ensures fits { IfOk result (λ read. (read.1.first < 2 ^ 33) × IfSome read.1.second (λ second. second < 2 ^ 33)) }
     ensures place { OnOk result (front.new.place ≤ front.old.place + 8) }
-    ensures held { OnOk result (front.new.held + front.old.place ≡ front.old.held + front.new.place) }
+    ensures growth { OnOk result (front.new.growth + front.old.place ≡ front.old.growth + front.new.place) }
     ensures grown { IfOk result (λ read. HasCounted front.old front.new 0 (part_length (part_of read.0))) }
 {
     let place = front.place;
@@ -268,10 +268,10 @@ fn push_part(
     requires second { IfSome sizes.second (λ second. second < 2 ^ 33) }
     requires room { length parts.old.slots.items ≤ 6 }
     requires place { front.old.place < 2 ^ 61 }
-    requires paid { front.old.held ≤ 2 * front.old.place + 2 ^ 15 }
+    requires paid { front.old.growth ≤ 2 * front.old.place + 2 ^ 15 }
     ensures bytes { OnOk result (parts.new.bytes.items ≡ parts.old.bytes.items ++ bytes ∷ []) }
     ensures slots { OnOk result (parts.new.slots.items ≡ parts.old.slots.items ++ slots_with part sizes.first sizes.second) }
-    ensures held { OnOk result (front.new.held ≡ front.old.held + 1) }
+    ensures growth { OnOk result (front.new.growth ≡ front.old.growth + 1) }
     ensures place { OnOk result (front.new.place ≡ front.old.place) }
     ensures fill { OnOk result (front.new.fill.items ≡ front.old.fill.items) }
     ensures memory { OnErr result (result ≡ Err ReadFault.Memory) }
@@ -291,12 +291,12 @@ pub fn read_parts<R: Input>(
     front: &mut Front,
 ) -> Result<Parts, ReadFault>
     requires place { front.old.place < 2 ^ 59 }
-    requires paid { front.old.held ≤ 2 * front.old.place }
+    requires paid { front.old.growth ≤ 2 * front.old.place }
     ensures parts { Reading (each (λ _. part_field material.now kind) (part_numbers material.now)) (λ parts. map part_of parts.bytes.items) front.old front.new R.Input input.old input.new result }
     ensures slots { IfOk result (λ parts. parts.slots.items ≡ slots material.now kind (map part_of parts.bytes.items)) }
     ensures few { IfOk result (λ parts. length parts.slots.items ≤ 8) }
     ensures place { OnOk result (front.new.place ≤ front.old.place + 32) }
-    ensures held { OnOk result (front.new.held + 2 * front.old.place ≤ front.old.held + 2 * front.new.place + 4) }
+    ensures growth { OnOk result (front.new.growth + 2 * front.old.place ≤ front.old.growth + 2 * front.new.place + 4) }
     ensures grown { IfOk result (λ parts. HasCounted front.old front.new 0 (length parts.bytes.items + parts_lengths parts.bytes.items)) }
 {
     let mut parts = Parts {

@@ -164,7 +164,7 @@ fn wide_lists_fit(lists: &[Vec<u16>; 4]) -> bool
     true
 }
 
-/// Whether a map is just what the flags of the part's subtable ask for: with flag 2 a map, with flag 16 a wide one.
+/// Whether a map is just what the flags of the part's subtable ask for: with bit 1 a map, with bit 4 a wide one.
 fn map_stands(sub: &Sub, map: &Option<Map>) -> bool
     ensures { IsTrue result ↔ IsMapOf (subtable_of sub.now) (option_map map_of map.now) }
 {

@@ -55,13 +55,13 @@ pub fn read_opening<R: Input>(
     front: &mut Front,
 ) -> Result<Opening, ReadFault>
     requires place { front.old.place ≡ 0 }
-    requires held { front.old.held ≡ 0 }
+    requires growth { front.old.growth ≡ 0 }
     ensures opening { Reading (opening_field material.now kind) opened front.old front.new R.Input input.old input.new result }
     ensures slots { IfOk result (λ o. o.parts.slots.items ≡ slots material.now kind (map part_of o.parts.bytes.items)) }
     ensures begun { IfOk result (λ o. o.heads.items ≡ begun (slots material.now kind (map part_of o.parts.bytes.items)) (map (λ begun. begun.subtable) o.heads.items)) }
     ensures few { IfOk result (λ o. length o.heads.items ≤ 8) }
     ensures place { OnOk result (front.new.place < 2 ^ 24) }
-    ensures held { OnOk result (front.new.held ≤ 2 * front.new.place + 20) }
+    ensures growth { OnOk result (front.new.growth ≤ 2 * front.new.place + 20) }
     ensures grown { IfOk result (λ o. HasCounted front.old front.new 0 (opening_lengths o)) }
 {
     let byte4 = read_start(material, kind, input, front)?;
@@ -85,11 +85,11 @@ fn read_subtables<R: Input>(
     front: &mut Front,
 ) -> Result<Vec<Sub>, ReadFault>
     requires place { front.old.place < 2 ^ 24 }
-    requires paid { front.old.held ≤ 2 * front.old.place + 20 }
+    requires paid { front.old.growth ≤ 2 * front.old.place + 20 }
     requires few { length heads.items ≤ 8 }
     ensures packed { Reading (packed_field heads.items) (λ subs. map subtable_of subs.items) front.old front.new R.Input input.old input.new result }
     ensures place { OnOk result (front.new.place < 2 ^ 56) }
-    ensures held { OnOk result (front.new.held ≤ 2 * front.new.place + 44) }
+    ensures growth { OnOk result (front.new.growth ≤ 2 * front.new.place + 44) }
     ensures grown { IfOk result (λ subs. HasCounted front.old front.new (begun_lengths heads.items) (2 * length subs.items + subs_lengths subs.items)) }
 {
     let indexed = read_indexes(alloc, heads, input, front)?;
@@ -104,7 +104,7 @@ pub fn read_ending<R: Input>(
     front: &mut Front,
 ) -> Result<[u8; 16], ReadFault>
     requires place { front.old.place < 2 ^ 56 }
-    requires paid { front.old.held ≤ 2 * front.old.place + 44 }
+    requires paid { front.old.growth ≤ 2 * front.old.place + 44 }
     ensures ending { Reading ending_field (λ last. last) front.old front.new R.Input input.old input.new result }
     ensures grown { OnOk result (HasCounted front.old front.new 0 0) }
     ensures memory { IsErrOf result ReadFault.Memory → Lacking ending_field front.old R.Input input.old input.new }
@@ -124,7 +124,7 @@ fn read_pieces<R: Input>(
     front: &mut Front,
 ) -> Result<Pieces, ReadFault>
     requires place { front.old.place ≡ 0 }
-    requires held { front.old.held ≡ 0 }
+    requires growth { front.old.growth ≡ 0 }
     ensures pieces { Reading (file material.now kind) (contents_of material.now kind) front.old front.new R.Input input.old input.new result }
     ensures memory { IsErrOf result ReadFault.Memory → Lacking (file material.now kind) front.old R.Input input.old input.new }
     ensures slots { IfOk result (λ p. p.parts.slots.items ≡ slots material.now kind (map part_of p.parts.bytes.items)) }

@@ -1,10 +1,10 @@
 //! The sections of a table, one writer for each.
-ghost use Rattle.std.specs.Prelude.{◌≡◌, ◌+◌, ◌%◌, [], ◌∷◌, ◌++◌, length, map, flat_map, option_map, Some};
+ghost use Rattle.std.specs.Prelude.{◌≡◌, ◌+◌, ◌%◌, List, [], ◌∷◌, ◌++◌, length, map, flat_map, option_map, Some};
 ghost use Rattle.szg_file.specs.Contents.{bytes_of};
 ghost use Rattle.szg_file.specs.File.{magic_of};
-ghost use Rattle.szg_file.specs.FileOf.{written, padding, spare, part_sections, head_sections, list_sections, map_sections, maps_sections, sparse_sections, lengths_sections, blocks_sections};
+ghost use Rattle.szg_file.specs.FileOf.{Section, written, padding, spare, part_sections, head_sections, list_sections, map_sections, maps_sections, sparse_sections, lengths_sections, blocks_sections};
 ghost use Rattle.szg_file.specs.Held.{part_of, sparse_of, subtable_of, map_of};
-ghost use Rattle.szg_file.specs.Writing.{Writing, code_sections, dictionary_sections};
+ghost use Rattle.szg_file.specs.Writing.{Writing, WritesAs, code_sections, dictionary_sections};
 
 use crate::fault::WriteFault;
 use crate::outgoing::{Outgoing, put, put_padding, put_spare};
@@ -16,18 +16,23 @@ use szg_io::Output;
 use szg_pairs::Dict;
 use szg_values::Kind;
 
-// ---- lists
-
-/// Puts numbers of one byte each.
-fn put_bytes<W: Output>(
-    list: &[u8],
+/// Writes items one after another, each by a call of `write`.
+fn write_each<T, W: Output, F: Fn(&T, &mut W, &mut Outgoing) -> Result<(), WriteFault>>(
+    items: &[T],
+    write: F,
     output: &mut W,
     outgoing: &mut Outgoing,
 ) -> Result<(), WriteFault>
-    ensures { Writing (written (flat_map (bytes_of 1) list.now) ∷ []) outgoing.old outgoing.new W.Output output.old output.new result }
+    requires { F.IsAlwaysCallable write }
+    ensures { (sections : T → List Section) → WritesAs F.Fn W.Output write sections → Writing (flat_map sections items.now) outgoing.old outgoing.new W.Output output.old output.new result }
 {
-    put(list, output, outgoing)
+    'items: for item in items {
+        write(item, output, outgoing)?;
+    }
+    Ok(())
 }
+
+// ---- lists
 
 /// Puts a number of two bytes, the least first.
 fn put_u16<W: Output>(
@@ -59,10 +64,12 @@ fn put_numbers<W: Output>(
 ) -> Result<(), WriteFault>
     ensures { Writing (written (flat_map (bytes_of 2) list.now) ∷ []) outgoing.old outgoing.new W.Output output.old output.new result }
 {
-    'numbers: for number in list {
-        put_u16(*number, output, outgoing)?;
-    }
-    Ok(())
+    write_each(
+        list,
+        |number, output, outgoing| put_u16(*number, output, outgoing),
+        output,
+        outgoing,
+    )
 }
 
 /// Puts a list's length in a byte, and its items of a byte each.
@@ -74,7 +81,7 @@ fn put_short_list<W: Output>(
     ensures { Writing (list_sections 1 list.now) outgoing.old outgoing.new W.Output output.old output.new result }
 {
     put(&(list.len() as u64).to_le_bytes()[..1], output, outgoing)?;
-    put_bytes(list, output, outgoing)
+    put(list, output, outgoing)
 }
 
 /// Puts a list's length in two bytes, and its items of two bytes each.
@@ -91,7 +98,7 @@ fn put_wide_list<W: Output>(
 
 // ---- parts
 
-fn write_part<W: Output>(
+fn put_part<W: Output>(
     part: &PartBytes,
     output: &mut W,
     outgoing: &mut Outgoing,
@@ -102,21 +109,8 @@ fn write_part<W: Output>(
     put(&part.men, output, outgoing)
 }
 
-fn write_parts<W: Output>(
-    parts: &[PartBytes],
-    output: &mut W,
-    outgoing: &mut Outgoing,
-) -> Result<(), WriteFault>
-    ensures { Writing (flat_map part_sections (map part_of parts.now)) outgoing.old outgoing.new W.Output output.old output.new result }
-{
-    'parts: for part in parts {
-        write_part(part, output, outgoing)?;
-    }
-    Ok(())
-}
-
 /// Writes magic, byte 4 and the parts.
-pub fn write_front<W: Output>(
+pub fn write_start_and_parts<W: Output>(
     kind: Kind,
     byte4: u8,
     parts: &[PartBytes],
@@ -127,7 +121,7 @@ pub fn write_front<W: Output>(
 {
     put(&magic(kind), output, outgoing)?;
     put(&[byte4], output, outgoing)?;
-    write_parts(parts, output, outgoing)
+    write_each(parts, put_part, output, outgoing)
 }
 
 // ---- heads
@@ -169,11 +163,7 @@ fn put_dictionary<W: Output>(
     put_spare((symbols % 2) as u64, output, outgoing)
 }
 
-fn write_head<W: Output>(
-    sub: &Sub,
-    output: &mut W,
-    outgoing: &mut Outgoing,
-) -> Result<(), WriteFault>
+fn put_head<W: Output>(sub: &Sub, output: &mut W, outgoing: &mut Outgoing) -> Result<(), WriteFault>
     ensures { Writing (head_sections (subtable_of sub.now)) outgoing.old outgoing.new W.Output output.old output.new result }
 {
     match sub {
@@ -196,19 +186,6 @@ fn write_head<W: Output>(
     }
 }
 
-fn write_each_head<W: Output>(
-    subs: &[Sub],
-    output: &mut W,
-    outgoing: &mut Outgoing,
-) -> Result<(), WriteFault>
-    ensures { Writing (flat_map head_sections (map subtable_of subs.now)) outgoing.old outgoing.new W.Output output.old output.new result }
-{
-    'heads: for sub in subs {
-        write_head(sub, output, outgoing)?;
-    }
-    Ok(())
-}
-
 /// Writes the fill behind the parts, and the subtables' heads.
 pub fn write_heads<W: Output>(
     subs: &[Sub],
@@ -218,7 +195,7 @@ pub fn write_heads<W: Output>(
     ensures { Writing (padding 2 ∷ flat_map head_sections (map subtable_of subs.now)) outgoing.old outgoing.new W.Output output.old output.new result }
 {
     put_padding(2, output, outgoing)?;
-    write_each_head(subs, output, outgoing)
+    write_each(subs, put_head, output, outgoing)
 }
 
 // ---- maps
@@ -230,10 +207,12 @@ fn put_short_lists<W: Output>(
 ) -> Result<(), WriteFault>
     ensures { Writing (flat_map (list_sections 1) (map (λ list. list.items) lists.now)) outgoing.old outgoing.new W.Output output.old output.new result }
 {
-    'lists: for list in lists {
-        put_short_list(list, output, outgoing)?;
-    }
-    Ok(())
+    write_each(
+        lists,
+        |list, output, outgoing| put_short_list(list, output, outgoing),
+        output,
+        outgoing,
+    )
 }
 
 fn put_wide_lists<W: Output>(
@@ -243,13 +222,19 @@ fn put_wide_lists<W: Output>(
 ) -> Result<(), WriteFault>
     ensures { Writing (flat_map (list_sections 2) (map (λ list. list.items) lists.now)) outgoing.old outgoing.new W.Output output.old output.new result }
 {
-    'lists: for list in lists {
-        put_wide_list(list, output, outgoing)?;
-    }
-    Ok(())
+    write_each(
+        lists,
+        |list, output, outgoing| put_wide_list(list, output, outgoing),
+        output,
+        outgoing,
+    )
 }
 
-fn put_map<W: Output>(map: &Map, output: &mut W, outgoing: &mut Outgoing) -> Result<(), WriteFault>
+fn put_lists<W: Output>(
+    map: &Map,
+    output: &mut W,
+    outgoing: &mut Outgoing,
+) -> Result<(), WriteFault>
     ensures { Writing (map_sections (Some (map_of map.now))) outgoing.old outgoing.new W.Output output.old output.new result }
 {
     match map {
@@ -261,7 +246,7 @@ fn put_map<W: Output>(map: &Map, output: &mut W, outgoing: &mut Outgoing) -> Res
     }
 }
 
-fn write_map<W: Output>(
+fn put_map<W: Output>(
     map: &Option<Map>,
     output: &mut W,
     outgoing: &mut Outgoing,
@@ -270,21 +255,8 @@ fn write_map<W: Output>(
 {
     match map {
         None => Ok(()),
-        Some(map) => put_map(map, output, outgoing),
+        Some(map) => put_lists(map, output, outgoing),
     }
-}
-
-fn write_each_map<W: Output>(
-    maps: &[Option<Map>],
-    output: &mut W,
-    outgoing: &mut Outgoing,
-) -> Result<(), WriteFault>
-    ensures { Writing (flat_map map_sections (map (option_map map_of) maps.now)) outgoing.old outgoing.new W.Output output.old output.new result }
-{
-    'maps: for item in maps {
-        write_map(item, output, outgoing)?;
-    }
-    Ok(())
 }
 
 /// Writes the maps of a DTZ table and the fill behind them.
@@ -299,7 +271,7 @@ pub fn write_maps<W: Output>(
     match kind {
         Kind::Wdl => Ok(()),
         Kind::Dtz => {
-            write_each_map(maps, output, outgoing)?;
+            write_each(maps, put_map, output, outgoing)?;
             put_padding(2, output, outgoing)
         }
     }
@@ -325,13 +297,10 @@ fn put_sparse<W: Output>(
 ) -> Result<(), WriteFault>
     ensures { Writing (written (flat_map (λ entry. bytes_of 4 entry.block ++ bytes_of 2 entry.offset) (map sparse_of sparse.now)) ∷ []) outgoing.old outgoing.new W.Output output.old output.new result }
 {
-    'entries: for entry in sparse {
-        put_entry(entry, output, outgoing)?;
-    }
-    Ok(())
+    write_each(sparse, put_entry, output, outgoing)
 }
 
-fn write_index<W: Output>(
+fn put_index<W: Output>(
     sub: &Sub,
     output: &mut W,
     outgoing: &mut Outgoing,
@@ -352,13 +321,10 @@ pub fn write_indexes<W: Output>(
 ) -> Result<(), WriteFault>
     ensures { Writing (flat_map sparse_sections (map subtable_of subs.now)) outgoing.old outgoing.new W.Output output.old output.new result }
 {
-    'indexes: for sub in subs {
-        write_index(sub, output, outgoing)?;
-    }
-    Ok(())
+    write_each(subs, put_index, output, outgoing)
 }
 
-fn write_lengths<W: Output>(
+fn put_lengths<W: Output>(
     sub: &Sub,
     output: &mut W,
     outgoing: &mut Outgoing,
@@ -372,20 +338,17 @@ fn write_lengths<W: Output>(
 }
 
 /// Writes the lengths of the subtables' blocks.
-pub fn write_all_lengths<W: Output>(
+pub fn write_lengths<W: Output>(
     subs: &[Sub],
     output: &mut W,
     outgoing: &mut Outgoing,
 ) -> Result<(), WriteFault>
     ensures { Writing (flat_map lengths_sections (map subtable_of subs.now)) outgoing.old outgoing.new W.Output output.old output.new result }
 {
-    'lengths: for sub in subs {
-        write_lengths(sub, output, outgoing)?;
-    }
-    Ok(())
+    write_each(subs, put_lengths, output, outgoing)
 }
 
-fn write_blocks<W: Output>(
+fn put_blocks<W: Output>(
     sub: &Sub,
     output: &mut W,
     outgoing: &mut Outgoing,
@@ -402,17 +365,14 @@ fn write_blocks<W: Output>(
 }
 
 /// Writes the subtables' blocks.
-pub fn write_all_blocks<W: Output>(
+pub fn write_blocks<W: Output>(
     subs: &[Sub],
     output: &mut W,
     outgoing: &mut Outgoing,
 ) -> Result<(), WriteFault>
     ensures { Writing (flat_map blocks_sections (map subtable_of subs.now)) outgoing.old outgoing.new W.Output output.old output.new result }
 {
-    'packed: for sub in subs {
-        write_blocks(sub, output, outgoing)?;
-    }
-    Ok(())
+    write_each(subs, put_blocks, output, outgoing)
 }
 
 /// Writes the fill behind the blocks, and the last bytes.

@@ -33,7 +33,7 @@ fn read_magic<R: Input>(kind: Kind, input: &mut R, front: &mut Front) -> Result<
     requires { front.old.place ≡ 0 }
     ensures magic { Reading (magic_field kind) (λ _. tt) front.old front.new R.Input input.old input.new result }
     ensures place { OnOk result (front.new.place ≡ 4) }
-    ensures held { OnOk result (front.new.held ≡ front.old.held) }
+    ensures growth { OnOk result (front.new.growth ≡ front.old.growth) }
     ensures grown { OnOk result (HasCounted front.old front.new 0 0) }
 {
     let mut piece = [0; 4];
@@ -73,7 +73,7 @@ fn read_byte4<R: Input>(
     requires { front.old.place ≡ 4 }
     ensures byte { Reading (byte4_field material.now kind) (λ byte. byte) front.old front.new R.Input input.old input.new result }
     ensures place { OnOk result (front.new.place ≡ 5) }
-    ensures held { OnOk result (front.new.held ≡ front.old.held) }
+    ensures growth { OnOk result (front.new.growth ≡ front.old.growth) }
     ensures grown { OnOk result (HasCounted front.old front.new 0 0) }
 {
     let mut piece = [0];
@@ -104,7 +104,7 @@ pub fn read_start<R: Input>(
     requires place { front.old.place ≡ 0 }
     ensures start { Reading (start_field material.now kind) (λ byte. byte) front.old front.new R.Input input.old input.new result }
     ensures place { OnOk result (front.new.place ≡ 5) }
-    ensures held { OnOk result (front.new.held ≡ front.old.held) }
+    ensures growth { OnOk result (front.new.growth ≡ front.old.growth) }
     ensures grown { OnOk result (HasCounted front.old front.new 0 0) }
 {
     read_magic(kind, input, front)?;

@@ -23,7 +23,7 @@ pub fn take_field<R: Input>(
     requires { front.old.place + length piece.old < 2 ^ 64 }
     ensures field { Reading (field (length piece.new) means) (λ _. piece.new) front.old front.new R.Input input.old input.new result }
     ensures place { OnOk result (front.new.place ≡ front.old.place + length piece.new) }
-    ensures held { OnOk result (front.new.held ≡ front.old.held) }
+    ensures growth { OnOk result (front.new.growth ≡ front.old.growth) }
     ensures grown { OnOk result (HasCounted front.old front.new 0 0) }
     ensures memory { IsErrOf result ReadFault.Memory → ⊥ }
 {
@@ -54,12 +54,12 @@ fn take_piece<R: Input>(
 ) -> Result<(), ReadFault>
     requires most { size ≤ 32768 }
     requires place { front.old.place + size < 2 ^ 62 }
-    requires paid { front.old.held ≤ 2 * front.old.place + 2 ^ 15 }
+    requires paid { front.old.growth ≤ 2 * front.old.place + 2 ^ 15 }
     ensures field { Reading (field size means) (λ _. drop (length list.old.items) list.new.items) front.old front.new R.Input input.old input.new result }
     ensures kept { OnOk result (take (length list.old.items) list.new.items ≡ list.old.items) }
     ensures longer { OnOk result (length list.new.items ≡ length list.old.items + size) }
     ensures place { OnOk result (front.new.place ≡ front.old.place + size) }
-    ensures held { OnOk result (front.new.held ≡ front.old.held + size) }
+    ensures growth { OnOk result (front.new.growth ≡ front.old.growth + size) }
     ensures grown { OnOk result (HasCounted front.old front.new (length list.old.items) (length list.new.items)) }
 {
     grow(list, size, front)?;
@@ -79,11 +79,11 @@ pub fn take_bytes<R: Input>(
     front: &mut Front,
 ) -> Result<Vec<u8>, ReadFault>
     requires place { front.old.place + count < 2 ^ 62 }
-    requires paid { front.old.held ≤ 2 * front.old.place + 2 ^ 15 }
+    requires paid { front.old.growth ≤ 2 * front.old.place + 2 ^ 15 }
     ensures field { Reading (field count means) (λ list. list.items) front.old front.new R.Input input.old input.new result }
     ensures count { IfOk result (λ list. length list.items ≡ count) }
     ensures place { OnOk result (front.new.place ≡ front.old.place + count) }
-    ensures held { OnOk result (front.new.held ≡ front.old.held + count) }
+    ensures growth { OnOk result (front.new.growth ≡ front.old.growth + count) }
     ensures grown { IfOk result (λ list. HasCounted front.old front.new 0 (length list.items)) }
 {
     let mut list = Vec::new(alloc);
@@ -99,12 +99,12 @@ pub fn take_more<R: Input>(
     front: &mut Front,
 ) -> Result<(), ReadFault>
     requires place { front.old.place + count < 2 ^ 62 }
-    requires paid { front.old.held ≤ 2 * front.old.place + 2 ^ 15 }
+    requires paid { front.old.growth ≤ 2 * front.old.place + 2 ^ 15 }
     ensures field { Reading (field count means) (λ _. drop (length list.old.items) list.new.items) front.old front.new R.Input input.old input.new result }
     ensures kept { OnOk result (take (length list.old.items) list.new.items ≡ list.old.items) }
     ensures longer { OnOk result (length list.new.items ≡ length list.old.items + count) }
     ensures place { OnOk result (front.new.place ≡ front.old.place + count) }
-    ensures held { OnOk result (front.new.held ≡ front.old.held + count) }
+    ensures growth { OnOk result (front.new.growth ≡ front.old.growth + count) }
     ensures grown { OnOk result (HasCounted front.old front.new (length list.old.items) (length list.new.items)) }
 {
     let mut left = count;
@@ -125,10 +125,10 @@ pub fn take_spare<R: Input>(
 ) -> Result<(), ReadFault>
     requires count { count < 64 }
     requires place { front.old.place < 2 ^ 62 }
-    requires paid { front.old.held ≤ 2 * front.old.place + 2 ^ 15 }
+    requires paid { front.old.growth ≤ 2 * front.old.place + 2 ^ 15 }
     ensures fill { Reading (spare_field count) (λ _. tt) front.old front.new R.Input input.old input.new result }
     ensures place { OnOk result (front.new.place ≡ front.old.place + count) }
-    ensures held { OnOk result (front.new.held ≡ front.old.held + count) }
+    ensures growth { OnOk result (front.new.growth ≡ front.old.growth + count) }
     ensures grown { OnOk result (HasCounted front.old front.new 0 0) }
 {
     let size = count as usize;
@@ -153,10 +153,10 @@ pub fn take_fill<R: Input>(
     requires some { 0 < unit }
     requires most { unit ≤ 64 }
     requires place { front.old.place < 2 ^ 62 }
-    requires paid { front.old.held ≤ 2 * front.old.place + 2 ^ 15 }
+    requires paid { front.old.growth ≤ 2 * front.old.place + 2 ^ 15 }
     ensures fill { Reading (filled_to unit) (λ _. tt) front.old front.new R.Input input.old input.new result }
     ensures place { OnOk result (front.new.place < front.old.place + 64) }
-    ensures held { OnOk result (front.new.held + front.old.place ≡ front.old.held + front.new.place) }
+    ensures growth { OnOk result (front.new.growth + front.old.place ≡ front.old.growth + front.new.place) }
     ensures grown { OnOk result (HasCounted front.old front.new 0 0) }
 {
     let rest = (front.place % unit as u64) as u8;
@@ -165,11 +165,11 @@ pub fn take_fill<R: Input>(
 
 /// The numbers of two bytes each that stand one behind another.
 fn numbers(alloc: Global, bytes: &[u8], front: &mut Front) -> Result<Vec<u16>, ReadFault>
-    requires paid { front.old.held + length bytes.now ≤ 2 * front.old.place + 2 ^ 15 }
+    requires paid { front.old.growth + length bytes.now ≤ 2 * front.old.place + 2 ^ 15 }
     requires place { front.old.place < 2 ^ 62 }
     ensures numbers { IfOk result (λ list. list.items ≡ map number_of (items 2 (length bytes.now / 2) bytes.now)) }
     ensures count { IfOk result (λ list. length list.items ≡ length bytes.now / 2) }
-    ensures held { OnOk result (front.new.held ≡ front.old.held + length bytes.now / 2) }
+    ensures growth { OnOk result (front.new.growth ≡ front.old.growth + length bytes.now / 2) }
     ensures place { OnOk result (front.new.place ≡ front.old.place) }
     ensures fill { OnOk result (front.new.fill.items ≡ front.old.fill.items) }
     ensures memory { OnErr result (result ≡ Err ReadFault.Memory) }
@@ -191,11 +191,11 @@ pub fn take_numbers<R: Input>(
     front: &mut Front,
 ) -> Result<Vec<u16>, ReadFault>
     requires place { front.old.place + 2 * count < 2 ^ 62 }
-    requires paid { front.old.held ≤ 2 * front.old.place + 2 ^ 15 }
+    requires paid { front.old.growth ≤ 2 * front.old.place + 2 ^ 15 }
     ensures rows { Reading (numbers_field count) (λ list. list.items) front.old front.new R.Input input.old input.new result }
     ensures place { OnOk result (front.new.place ≡ front.old.place + 2 * count) }
     ensures count { IfOk result (λ list. length list.items ≡ count) }
-    ensures held { OnOk result (front.new.held ≡ front.old.held + 3 * count) }
+    ensures growth { OnOk result (front.new.growth ≡ front.old.growth + 3 * count) }
     ensures grown { IfOk result (λ list. HasCounted front.old front.new 0 (length list.items)) }
 {
     let bytes = take_bytes(alloc, 2 * count, input, front)?;
@@ -204,11 +204,11 @@ pub fn take_numbers<R: Input>(
 
 /// The entries of three bytes each that stand one behind another.
 fn entries(alloc: Global, bytes: &[u8], front: &mut Front) -> Result<Vec<[u8; 3]>, ReadFault>
-    requires paid { front.old.held + length bytes.now ≤ 2 * front.old.place + 2 ^ 15 }
+    requires paid { front.old.growth + length bytes.now ≤ 2 * front.old.place + 2 ^ 15 }
     requires place { front.old.place < 2 ^ 62 }
     ensures entries { IfOk result (λ list. list.items ≡ items 3 (length bytes.now / 3) bytes.now) }
     ensures count { IfOk result (λ list. length list.items ≡ length bytes.now / 3) }
-    ensures held { OnOk result (front.new.held ≡ front.old.held + length bytes.now / 3) }
+    ensures growth { OnOk result (front.new.growth ≡ front.old.growth + length bytes.now / 3) }
     ensures place { OnOk result (front.new.place ≡ front.old.place) }
     ensures fill { OnOk result (front.new.fill.items ≡ front.old.fill.items) }
     ensures memory { OnErr result (result ≡ Err ReadFault.Memory) }
@@ -230,11 +230,11 @@ pub fn take_entries<R: Input>(
     front: &mut Front,
 ) -> Result<Vec<[u8; 3]>, ReadFault>
     requires place { front.old.place + 3 * count < 2 ^ 62 }
-    requires paid { front.old.held ≤ 2 * front.old.place + 2 ^ 15 }
+    requires paid { front.old.growth ≤ 2 * front.old.place + 2 ^ 15 }
     ensures rows { Reading (rows_field 3 count) (λ list. list.items) front.old front.new R.Input input.old input.new result }
     ensures place { OnOk result (front.new.place ≡ front.old.place + 3 * count) }
     ensures count { IfOk result (λ list. length list.items ≡ count) }
-    ensures held { OnOk result (front.new.held ≡ front.old.held + 4 * count) }
+    ensures growth { OnOk result (front.new.growth ≡ front.old.growth + 4 * count) }
     ensures grown { IfOk result (λ list. HasCounted front.old front.new 0 (2 * length list.items)) }
 {
     let bytes = take_bytes(alloc, 3 * count, input, front)?;
@@ -243,11 +243,11 @@ pub fn take_entries<R: Input>(
 
 /// The entries of a sparse index, six bytes each, that stand one behind another.
 fn sparse_entries(alloc: Global, bytes: &[u8], front: &mut Front) -> Result<Vec<Entry>, ReadFault>
-    requires paid { front.old.held + length bytes.now ≤ 2 * front.old.place + 2 ^ 15 }
+    requires paid { front.old.growth + length bytes.now ≤ 2 * front.old.place + 2 ^ 15 }
     requires place { front.old.place < 2 ^ 62 }
     ensures entries { IfOk result (λ list. map sparse_of list.items ≡ map entry_of_bytes (items 6 (length bytes.now / 6) bytes.now)) }
     ensures count { IfOk result (λ list. length list.items ≡ length bytes.now / 6) }
-    ensures held { OnOk result (front.new.held ≡ front.old.held + length bytes.now / 6) }
+    ensures growth { OnOk result (front.new.growth ≡ front.old.growth + length bytes.now / 6) }
     ensures place { OnOk result (front.new.place ≡ front.old.place) }
     ensures fill { OnOk result (front.new.fill.items ≡ front.old.fill.items) }
     ensures memory { OnErr result (result ≡ Err ReadFault.Memory) }
@@ -271,11 +271,11 @@ pub fn take_sparse<R: Input>(
     front: &mut Front,
 ) -> Result<Vec<Entry>, ReadFault>
     requires place { front.old.place + 6 * count < 2 ^ 62 }
-    requires paid { front.old.held ≤ 2 * front.old.place + 2 ^ 15 }
+    requires paid { front.old.growth ≤ 2 * front.old.place + 2 ^ 15 }
     ensures rows { Reading (sparse_rows count) (λ list. map sparse_of list.items) front.old front.new R.Input input.old input.new result }
     ensures place { OnOk result (front.new.place ≡ front.old.place + 6 * count) }
     ensures count { IfOk result (λ list. length list.items ≡ count) }
-    ensures held { OnOk result (front.new.held ≡ front.old.held + 7 * count) }
+    ensures growth { OnOk result (front.new.growth ≡ front.old.growth + 7 * count) }
     ensures grown { IfOk result (λ list. HasCounted front.old front.new 0 (length list.items)) }
 {
     let bytes = take_bytes(alloc, 6 * count, input, front)?;

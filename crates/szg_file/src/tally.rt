@@ -1,8 +1,8 @@
 //! How many fill bytes the fields of a table ask for: they are counted as they would be written, and nothing is written.
-ghost use Rattle.std.specs.Prelude.{◌≡◌, ◌+◌, ◌<◌, ◌%◌, ◌^◌, [], ◌∷◌, ◌++◌, length, map, flat_map, option_map, Some};
-ghost use Rattle.szg_file.specs.FileOf.{written, padding, spare, part_sections, head_sections, list_sections, map_sections, maps_sections, sparse_sections, lengths_sections, blocks_sections};
+ghost use Rattle.std.specs.Prelude.{◌≡◌, ◌+◌, ◌<◌, ◌%◌, ◌^◌, List, [], ◌∷◌, ◌++◌, length, map, flat_map, option_map, Some};
+ghost use Rattle.szg_file.specs.FileOf.{Section, written, padding, spare, part_sections, head_sections, list_sections, map_sections, maps_sections, sparse_sections, lengths_sections, blocks_sections};
 ghost use Rattle.szg_file.specs.Held.{part_of, subtable_of, map_of};
-ghost use Rattle.szg_file.specs.Tally.{Counts};
+ghost use Rattle.szg_file.specs.Tally.{Counts, CountsAs};
 
 use crate::table::{Map, PartBytes};
 use szg_block::Sub;
@@ -60,9 +60,19 @@ impl Tally {
     }
 }
 
+/// Counts items one after another, each by a call of `count`.
+fn count_each<T, F: Fn(&T, &mut Tally)>(items: &[T], count: F, tally: &mut Tally)
+    requires { F.IsAlwaysCallable count }
+    ensures { (sections : T → List Section) → CountsAs F.Fn count sections → Counts (flat_map sections items.now) tally.old tally.new }
+{
+    'items: for item in items {
+        count(item, tally);
+    }
+}
+
 // ---- parts
 
-fn count_part(part: &PartBytes, tally: &mut Tally)
+fn add_part(part: &PartBytes, tally: &mut Tally)
     ensures { Counts (part_sections (part_of part.now)) tally.old tally.new }
 {
     tally.field(part.order.len() as u64);
@@ -73,15 +83,13 @@ fn count_part(part: &PartBytes, tally: &mut Tally)
 pub fn count_parts(parts: &[PartBytes], tally: &mut Tally)
     ensures { Counts (flat_map part_sections (map part_of parts.now)) tally.old tally.new }
 {
-    'parts: for part in parts {
-        count_part(part, tally);
-    }
+    count_each(parts, add_part, tally);
 }
 
 // ---- heads
 
 /// Counts the entries of a dictionary, three bytes each, and the fill byte behind an odd number of them.
-fn count_dictionary(dict: &Dict, tally: &mut Tally)
+fn add_dictionary(dict: &Dict, tally: &mut Tally)
     ensures { Counts (written (flat_map (λ entry. entry) dict.now) ∷ spare (length dict.now % 2) ∷ []) tally.old tally.new }
 {
     'symbols: for symbol in 0..dict.symbols() {
@@ -90,7 +98,7 @@ fn count_dictionary(dict: &Dict, tally: &mut Tally)
     tally.spare((dict.symbols() % 2) as u64);
 }
 
-fn count_head(sub: &Sub, tally: &mut Tally)
+fn add_head(sub: &Sub, tally: &mut Tally)
     ensures { Counts (head_sections (subtable_of sub.now)) tally.old tally.new }
 {
     match sub {
@@ -98,7 +106,7 @@ fn count_head(sub: &Sub, tally: &mut Tally)
         Sub::Pairs { code, dict, .. } => {
             tally.field(12);
             tally.field((code.lowest().len() as u64).wrapping_mul(2));
-            count_dictionary(dict, tally);
+            add_dictionary(dict, tally);
         }
     }
 }
@@ -107,14 +115,12 @@ fn count_head(sub: &Sub, tally: &mut Tally)
 pub fn count_heads(subs: &[Sub], tally: &mut Tally)
     ensures { Counts (flat_map head_sections (map subtable_of subs.now)) tally.old tally.new }
 {
-    'heads: for sub in subs {
-        count_head(sub, tally);
-    }
+    count_each(subs, add_head, tally);
 }
 
 // ---- maps
 
-fn count_short_lists(lists: &[Vec<u8>; 4], tally: &mut Tally)
+fn add_short_lists(lists: &[Vec<u8>; 4], tally: &mut Tally)
     ensures { Counts (flat_map (list_sections 1) (map (λ list. list.items) lists.now)) tally.old tally.new }
 {
     'lists: for list in lists {
@@ -123,7 +129,7 @@ fn count_short_lists(lists: &[Vec<u8>; 4], tally: &mut Tally)
     }
 }
 
-fn count_wide_lists(lists: &[Vec<u16>; 4], tally: &mut Tally)
+fn add_wide_lists(lists: &[Vec<u16>; 4], tally: &mut Tally)
     ensures { Counts (flat_map (list_sections 2) (map (λ list. list.items) lists.now)) tally.old tally.new }
 {
     'lists: for list in lists {
@@ -132,31 +138,23 @@ fn count_wide_lists(lists: &[Vec<u16>; 4], tally: &mut Tally)
     }
 }
 
-fn count_lists(map: &Map, tally: &mut Tally)
+fn add_lists(map: &Map, tally: &mut Tally)
     ensures { Counts (map_sections (Some (map_of map.now))) tally.old tally.new }
 {
     match map {
-        Map::Bytes(lists) => count_short_lists(lists, tally),
+        Map::Bytes(lists) => add_short_lists(lists, tally),
         Map::Wide(lists) => {
             tally.padding(2);
-            count_wide_lists(lists, tally);
+            add_wide_lists(lists, tally);
         }
     }
 }
 
-fn count_map(map: &Option<Map>, tally: &mut Tally)
+fn add_map(map: &Option<Map>, tally: &mut Tally)
     ensures { Counts (map_sections (option_map map_of map.now)) tally.old tally.new }
 {
     if let Some(map) = map {
-        count_lists(map, tally);
-    }
-}
-
-fn count_each_map(maps: &[Option<Map>], tally: &mut Tally)
-    ensures { Counts (flat_map map_sections (map (option_map map_of) maps.now)) tally.old tally.new }
-{
-    'maps: for map in maps {
-        count_map(map, tally);
+        add_lists(map, tally);
     }
 }
 
@@ -167,7 +165,7 @@ pub fn count_maps(kind: Kind, maps: &[Option<Map>], tally: &mut Tally)
     match kind {
         Kind::Wdl => {}
         Kind::Dtz => {
-            count_each_map(maps, tally);
+            count_each(maps, add_map, tally);
             tally.padding(2);
         }
     }
@@ -175,7 +173,7 @@ pub fn count_maps(kind: Kind, maps: &[Option<Map>], tally: &mut Tally)
 
 // ---- sparse indexes, lengths, blocks
 
-fn count_index(sub: &Sub, tally: &mut Tally)
+fn add_index(sub: &Sub, tally: &mut Tally)
     ensures { Counts (sparse_sections (subtable_of sub.now)) tally.old tally.new }
 {
     if let Sub::Pairs { sparse, .. } = sub {
@@ -187,12 +185,10 @@ fn count_index(sub: &Sub, tally: &mut Tally)
 pub fn count_indexes(subs: &[Sub], tally: &mut Tally)
     ensures { Counts (flat_map sparse_sections (map subtable_of subs.now)) tally.old tally.new }
 {
-    'indexes: for sub in subs {
-        count_index(sub, tally);
-    }
+    count_each(subs, add_index, tally);
 }
 
-fn count_lengths(sub: &Sub, tally: &mut Tally)
+fn add_lengths(sub: &Sub, tally: &mut Tally)
     ensures { Counts (lengths_sections (subtable_of sub.now)) tally.old tally.new }
 {
     if let Sub::Pairs { lengths, .. } = sub {
@@ -201,15 +197,13 @@ fn count_lengths(sub: &Sub, tally: &mut Tally)
 }
 
 /// Counts the lengths of the subtables' blocks.
-pub fn count_all_lengths(subs: &[Sub], tally: &mut Tally)
+pub fn count_lengths(subs: &[Sub], tally: &mut Tally)
     ensures { Counts (flat_map lengths_sections (map subtable_of subs.now)) tally.old tally.new }
 {
-    'lengths: for sub in subs {
-        count_lengths(sub, tally);
-    }
+    count_each(subs, add_lengths, tally);
 }
 
-fn count_blocks(sub: &Sub, tally: &mut Tally)
+fn add_blocks(sub: &Sub, tally: &mut Tally)
     ensures { Counts (blocks_sections (subtable_of sub.now)) tally.old tally.new }
 {
     if let Sub::Pairs { packed, .. } = sub {
@@ -219,10 +213,8 @@ fn count_blocks(sub: &Sub, tally: &mut Tally)
 }
 
 /// Counts the subtables' blocks.
-pub fn count_all_blocks(subs: &[Sub], tally: &mut Tally)
+pub fn count_blocks(subs: &[Sub], tally: &mut Tally)
     ensures { Counts (flat_map blocks_sections (map subtable_of subs.now)) tally.old tally.new }
 {
-    'packed: for sub in subs {
-        count_blocks(sub, tally);
-    }
+    count_each(subs, add_blocks, tally);
 }

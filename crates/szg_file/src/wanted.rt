@@ -19,7 +19,7 @@ impl<S: Source + Drop> Opened<S> {
     ghost use Rattle.szg_block.specs.Lending.{bytes_at};
     ghost use Rattle.szg_file.specs.Opened.{opened_at};
     ghost use Rattle.szg_file.specs.Values.{values_of, item};
-    ghost use Rattle.szg_file.specs.Wanted.{wanted_block};
+    ghost use Rattle.szg_file.specs.Wanted.{wanted_block, IsSpelledBy};
 
     /// The bytes of the source that value i of a part's side wants: those of one block; None in a constant subtable, whose
     /// values want none. It asks the source for nothing but its length.
@@ -54,6 +54,7 @@ impl<S: Source + Drop> Opened<S> {
         requires there { IsSome (opened_at self.now part side) }
         requires below { IfSome (opened_at self.now part side) (λ found. i < found.0.size) }
         ensures value { IfSome (opened_at self.now part side) (λ found. IfSome (wanted_block found.1 i) (λ block. block ≡ piece.now) → IsSomeAnd result (λ value. item (values_of self.now.kind found) i ≡ Some value)) }
+        ensures spelled { IfSome (opened_at self.now part side) (λ found. IsSpelledBy piece.now found.1 i result) }
     {
         let placed = self.placed.as_slice();
         let Some(n) = slot_number(placed, part, side) else {

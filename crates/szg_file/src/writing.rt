@@ -10,8 +10,8 @@ use crate::fault::WriteFault;
 use crate::lengths::{maps_len, parts_len, subs_len};
 use crate::outgoing::{Outgoing, flush};
 use crate::sections::{
-    write_all_blocks, write_all_lengths, write_end, write_front, write_heads, write_indexes,
-    write_maps,
+    write_blocks, write_end, write_heads, write_indexes, write_lengths, write_maps,
+    write_start_and_parts,
 };
 use crate::table::Table;
 use szg_io::Output;
@@ -50,12 +50,12 @@ fn write_table<W: Output>(
 ) -> Result<(), WriteFault>
     ensures { Writing (sections table.now.contents) outgoing.old outgoing.new W.Output output.old output.new result }
 {
-    write_front(table.kind, table.byte4, &table.parts, output, outgoing)?;
+    write_start_and_parts(table.kind, table.byte4, &table.parts, output, outgoing)?;
     write_heads(&table.subs, output, outgoing)?;
     write_maps(table.kind, &table.maps, output, outgoing)?;
     write_indexes(&table.subs, output, outgoing)?;
-    write_all_lengths(&table.subs, output, outgoing)?;
-    write_all_blocks(&table.subs, output, outgoing)?;
+    write_lengths(&table.subs, output, outgoing)?;
+    write_blocks(&table.subs, output, outgoing)?;
     write_end(&table.last, output, outgoing)
 }
 

@@ -3,7 +3,7 @@ use Rattle.std.proofs.Common.{ℕ, zero, suc, Bool, true, false, ◌≡◌, ◌+
 use Rattle.std.specs.Prelude.{IsTrue, IfSome, not, option_map}
 use Rattle.std.specs.List.{slice_get}
 use Rattle.std.specs.Option.{option_map_or}
-use Rattle.std.proofs.lemmas.Bool.{cases_lt, ltb-true, ltb-false}
+use Rattle.std.proofs.lemmas.Bool.{cases_lt, ltb-true, ltb-false, not-false, not-true}
 use Rattle.std.proofs.lemmas.Option.{slice_get-map, slice_get_past}
 use Rattle.std.proofs.lemmas.List.{length-map}
 use Rattle.szg_pairs.specs.Entry.{left_of, right_of, is_leaf, names_symbols_below, NamesSymbols}
@@ -11,14 +11,6 @@ use Rattle.szg_pairs.specs.Expansion.{Expands, leaf, pair}
 use Rattle.szg_pairs.specs.Dictionary.{FailsFirst, HasExpansion, HasShortExpansion, IsDictionary}
 use Rattle.szg_pairs.specs.FirstFault.{names_symbols, first_child, known_sum, known_of, length_of_kind, length_of_entry, unknown, lengths_within, length_of_symbol, is_endless, is_long, first_cycle, first_long}
 use Rattle.szg_pairs.proofs.FirstFound.{find_none, find_some}
-
-not-false : (b : Bool) → not b ≡ false → b ≡ true
-not-false true e = refl
-not-false false e = absurd cc
-
-not-true : (b : Bool) → not b ≡ true → b ≡ false
-not-true true e = absurd cc
-not-true false e = refl
 
 -- ---- names
 

@@ -1,7 +1,7 @@
 -- The steps of the walk that finds the lengths of symbols.
 use Rattle.std.proofs.Common.{ℕ, Bool, true, false, not, ◌≡◌, ◌+◌, ◌-◌, ◌<◌, ◌⊎◌, inl, inr, List, [], ◌∷◌, ◌++◌, Some, length, refl, ap, sym, ◌∙◌, subst, arith, length-append, get_or, set, count_by, cond, take, ltb, ◌&&◌}
 use Rattle.std.specs.List.{slice_get}
-use Rattle.std.proofs.lemmas.Bool.{cases_lt, cases_eq, ltb-true}
+use Rattle.std.proofs.lemmas.Bool.{cases_lt, cases_eq, ltb-true, and_parts}
 use Rattle.std.proofs.lemmas.Grind.{common_steps}
 use Rattle.std.proofs.lemmas.List.Sums.{sum_by-set}
 use Rattle.std.proofs.Math.Seq.{get_or-append_seam}
@@ -35,16 +35,12 @@ module _ (entries : List (List ℕ)) (lengths : List ℕ) (waits : Waits entries
         | inr h ↦ let at : right_of e ≡ w.0 = cc in no_expansion r (ap (λ (k : ℕ). get_or lengths k 0) at ∙ unknown)
       ]
 
-and_true : (a b : Bool) → (a && b) ≡ true → (a ≡ true) × (b ≡ true)
-and_true true b e = (refl, e)
-and_true false b e = absurd cc
-
 -- a pair that names symbols below n has both below n
 pub parts_below : (n : ℕ) (entry : List ℕ) → names_symbols_below n entry ≡ true → is_leaf entry ≡ false → (left_of entry < n) × (right_of entry < n)
 unfolding names_symbols_below
 parts_below n entry h paired =
     let both : (ltb (left_of entry) n && ltb (right_of entry) n) ≡ true = rw paired at h in
-    let each = and_true (ltb (left_of entry) n) (ltb (right_of entry) n) both in
+    let each = and_parts (ltb (left_of entry) n) (ltb (right_of entry) n) both in
     (ltb-true (left_of entry) n each.0, ltb-true (right_of entry) n each.1)
 
 -- an entry that is there names what is there

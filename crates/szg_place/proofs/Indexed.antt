@@ -6,8 +6,8 @@ use Rattle.std.proofs.lemmas.List.Elements.{All-head, All-tail}
 use Rattle.std.proofs.Math.Bool.{not, ◌&&◌}
 use Rattle.std.proofs.lemmas.Bool.{eq-eqb, and_from}
 use Rattle.szg_values.specs.Men.{is_color}
-use Rattle.szg_values.specs.Material.{Sides, IsMaterial, is_symmetric, has_pawns, man_codes, count_of, is_same_men}
-use Rattle.szg_values.specs.Placement.{Standing, Board, AreOnBoard, placement_fault, material_of}
+use Rattle.szg_values.specs.Material.{Sides, IsMaterial, is_symmetric, has_pawns, man_codes, count_of}
+use Rattle.szg_values.specs.Placement.{Standing, Board, AreOnBoard, placement_fault}
 use Rattle.szg_values.specs.declared.Color.{Color}
 use Rattle.szg_values.specs.declared.Color.TheVariants.{White}
 use Rattle.szg_count.specs.Leads.{is_touching}
@@ -290,6 +290,10 @@ there_of l part side h p s =
       few = few_men l.material (nibbles_at l part side) h.material none;
       ordered = none;
     }
+
+-- what is known of a placement is known of one that is equal
+pub asked_on : {sides : Sides} {items : List Piece} {part asked : ℕ} {a b : Board} → a ≡ b → IsAsked sides a items part asked → IsAsked sides b items part asked
+asked_on {sides} {items} {part} {asked} e h = subst (λ (x : Board). IsAsked sides x items part asked) e h
 
 pub there_asked : (l : Layout) (board : Board) (pieces : List Piece) (part side asked : ℕ) → IsLayout l → IsAsked l.material board pieces part asked → side ≡ cond (is_dtz l.kind) 0 asked → IsThere l part side
 there_asked l board pieces part side asked h a b =

@@ -1,14 +1,14 @@
 -- Keys tell how many men of each kind and colour there are, and so whether men are a material's.
-use Rattle.std.proofs.Common.{◌≡◌, ℕ, zero, suc, ◌+◌, ◌*◌, ◌^◌, ◌<◌, ◌≤◌, inl, inr, List, [], ◌∷◌, ◌++◌, length, map, refl, sym, ap, ◌∙◌, subst, Bool, true, false, cond, pow-suc, arith}
+use Rattle.std.proofs.Common.{◌≡◌, ℕ, zero, suc, ◌+◌, ◌*◌, ◌^◌, ◌<◌, ◌≤◌, inl, inr, List, [], ◌∷◌, length, map, refl, sym, ap, ◌∙◌, subst, Bool, true, false, cond, pow-suc, arith}
 use Rattle.std.specs.Prelude.{◌==◌, nat_lt, count_by, None, IsNone, slice_index}
 use Rattle.std.specs.List.{list_all, sum_by, range_with_len}
 use Rattle.std.proofs.Math.Bool.{not, ◌&&◌, ◌||◌}
-use Rattle.std.proofs.lemmas.Bool.{cases_Bool, cases_order, eq-eqb, ne_eqb, eqb-true, and_from, and_parts}
+use Rattle.std.proofs.lemmas.Bool.{cases_Bool, cases_order, eq-eqb, ne_eqb, eqb-true, and_from, and_parts, false_from_ne_true}
 use Rattle.std.proofs.lemmas.Bool.Decides.{nat_tests}
 use Rattle.std.proofs.lemmas.List.Sums.{sum_by-cons, count_by-le-length}
 use Rattle.szg_values.specs.Men.{code_of, is_man, is_color, name_order}
-use Rattle.szg_values.specs.Material.{Sides, IsMaterial, is_in_order, may_be_first, is_not_later, is_symmetric, man_codes, count_of, is_same_men}
-use Rattle.szg_values.specs.Placement.{Standing, Board, number_of, placement_fault, side_of, material_of}
+use Rattle.szg_values.specs.Material.{Sides, IsMaterial, is_in_order, may_be_first, is_not_later, is_symmetric, man_codes, is_same_men}
+use Rattle.szg_values.specs.Placement.{Standing, Board, placement_fault, side_of, material_of}
 use Rattle.szg_values.specs.declared.Man.{Man}
 use Rattle.szg_values.specs.declared.Color.{Color}
 use Rattle.szg_values.specs.declared.Color.TheVariants.{White, Black}
@@ -22,11 +22,11 @@ use Rattle.szg_place.specs.Normal.{colored_code, exchanged_color, is_exchanged}
 use Rattle.szg_place.specs.Spots.{is_of_material, man_at}
 use Rattle.szg_place.specs.Traits.{key_of, men_key}
 use Rattle.szg_place.specs.declared.traits.TheConstants.{KEYS}
-use Rattle.szg_place.proofs.Lists.{tested, false_from, IsIn-map}
+use Rattle.szg_place.proofs.Lists.{tested, IsIn-map}
 use Rattle.szg_place.proofs.Slotted.{few_men}
 use Rattle.szg_place.proofs.Spotted.{none_is}
 use Rattle.szg_place.proofs.Pieces.{count-cons, count-same}
-use Rattle.szg_place.proofs.Standing.{code_small, white_code, black_code, count-map, codes_first, codes_second, kind_count, sorted, exchanged_when, named_sides, IsNamed, white_exchanged, black_exchanged, raw_counts, count_raw, man_at-first}
+use Rattle.szg_place.proofs.Standing.{code_small, white_code, black_code, codes_first, codes_second, kind_count, sorted, exchanged_when, named_sides, IsNamed, white_exchanged, black_exchanged, raw_counts, count_raw, man_at-first}
 
 -- ---- digits
 
@@ -303,7 +303,7 @@ named_turned sides board h n out =
     elim (cases_Bool (is_symmetric sides)) [
       | inl t ↦ let e = same_men sides.first sides.second o.first o.second t in absurd (out (record { first = n.second ∙ sym e; second = n.first ∙ e }))
       | inr f ↦
-          let other : is_same_men (side_of White board.standing) sides.first ≡ false = false_from (is_same_men (side_of White board.standing) sides.first)
+          let other : is_same_men (side_of White board.standing) sides.first ≡ false = false_from_ne_true (is_same_men (side_of White board.standing) sides.first)
           (λ q. let e = same_men sides.second sides.first o.second o.first (subst (λ (l : List Man). is_same_men l sides.first ≡ true) n.second q) in
           out (record { first = n.second ∙ e; second = n.first ∙ sym e })) in
           exchanged_when sides board f ∙ ap not other
@@ -312,7 +312,7 @@ named_turned sides board h n out =
 -- with neither key the men are another material's
 pub other_keys : (sides : Sides) (board : Board) → IsMaterial sides → placement_fault board.standing ≡ None →
     (men_key false board.standing ≡ key_of (man_codes sides) → ⊥) → (men_key true board.standing ≡ key_of (man_codes sides) → ⊥) → is_of_material sides board ≡ false
-other_keys sides board h fine p q = false_from (is_of_material sides board) (λ t.
+other_keys sides board h fine p q = false_from_ne_true (is_of_material sides board) (λ t.
     let same = (same_sides-Decides (material_of board.standing) sides (material_of_placement board.standing fine) h).0 t in
     by_case (is_exchanged sides board) (named_sides sides board h same))
   where

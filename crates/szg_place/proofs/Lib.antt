@@ -3,6 +3,9 @@ pub mod Lists
 pub mod Ways
 pub mod Spotted
 pub mod Pieces
+mod FirstPawn
+mod TurnTable
+mod FirstAbove
 pub mod Flips
 pub mod PawnLead
 pub mod Codes

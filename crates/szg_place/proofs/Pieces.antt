@@ -3,7 +3,7 @@ use Rattle.std.proofs.Common.{◌≡◌, ℕ, suc, ◌+◌, ◌<◌, inl, inr, L
 use Rattle.std.specs.Prelude.{filter, ◌==◌, count_by}
 use Rattle.std.specs.List.{list_any}
 use Rattle.std.proofs.Math.Bool.{◌&&◌, ◌||◌}
-use Rattle.std.proofs.lemmas.Bool.{cases_Bool, eqb-true, eq-eqb, and_parts, and_from, or_cases}
+use Rattle.std.proofs.lemmas.Bool.{cases_Bool, eqb-true, eq-eqb, and_parts, and_from, or_cases, or_left, or_right, false_from_ne_true}
 use Rattle.std.proofs.lemmas.List.Sums.{sum_by-cons}
 use Rattle.szg_values.specs.Material.{Sides, has_pawns, count_of}
 use Rattle.szg_count.specs.Leads.{contains, squares_down, pawn_squares}
@@ -14,7 +14,7 @@ use Rattle.szg_place.specs.Normal.{Piece, squares_with, moved}
 pub use Rattle.szg_place.specs.Slots.{is_pawn_code}
 use Rattle.szg_place.proofs.Ranking.{AllDiffer-squares_down}
 use Rattle.szg_place.proofs.Ways.{IsIn-squares_down}
-use Rattle.szg_place.proofs.Lists.{or_left, or_right, false_from, IsIn-map, IsIn-map_back, IsIn-filter_back, filter-same, filter-none, filter-one}
+use Rattle.szg_place.proofs.Lists.{IsIn-map, IsIn-map_back, IsIn-filter_back, filter-same, filter-none, filter-one}
 
 -- some man of these codes stands on the square
 abbrev pub stands : List ℕ → List Piece → ℕ → Bool
@@ -60,7 +60,7 @@ squares_count codes (p ∷ pieces) order d e h =
     let counted = count-cons (λ (q : Piece). contains codes q.code) p pieces in
     elim (cases_Bool (contains codes p.code)) [
       | inl t ↦
-          let free : stands codes pieces p.square ≡ false = false_from (stands codes pieces p.square)
+          let free : stands codes pieces p.square ≡ false = false_from_ne_true (stands codes pieces p.square)
           (λ s. let r = stands-from codes pieces p.square s in e.0 (subst (λ (n : ℕ). IsIn n (map (λ q. q.square) pieces)) r.2 (IsIn-map_back (λ (q : Piece). q.square) pieces r.0 r.1))) in
           let test : filter (stands codes (p ∷ pieces)) order ≡ filter (λ s. (p.square == s) || stands codes pieces s) order =
           filter-same (stands codes (p ∷ pieces)) (λ s. (p.square == s) || stands codes pieces s) order
@@ -112,6 +112,13 @@ just c x = none_more (x == c) where
   none_more : (b : Bool) → (b || false) ≡ b
   none_more true = refl
   none_more false = refl
+
+-- as many squares as men of a code
+pub code_count : (code : ℕ) (pieces : List Piece) → AllDiffer (map (λ (p : Piece). p.square) pieces) → ((p : Piece) → IsIn p pieces → p.square < 64) →
+    length (squares_with (code ∷ []) pieces squares_down) ≡ count_by (λ (p : Piece). p.code == code) pieces
+code_count code pieces d h =
+    squares_count (code ∷ []) pieces squares_down AllDiffer-squares_down d (λ q j c. IsIn-squares_down q.square (h q j))
+    ∙ count-same (λ (q : Piece). contains (code ∷ []) q.code) (λ (q : Piece). q.code == code) pieces (λ q j. just code q.code)
 
 -- the square of the only man of its code
 pub only_square : (sides : Sides) (men : List ℕ) (pieces : List Piece) (p : Piece) → IsStood sides men pieces → IsIn p pieces → count_of p.code men ≡ 1 →

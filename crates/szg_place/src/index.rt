@@ -108,5 +108,7 @@ pub(crate) fn append(squares: &mut ArrayVec<u8, MAX_MEN>, more: &[u8])
     requires { array_vec_len squares.old + length more.now ≤ 6 }
     ensures { squares.new.items ≡ squares.old.items ++ more.now }
 {
-    let _ = squares.try_extend_from_slice(more);
+    for square in more {
+        squares.push(*square);
+    }
 }

@@ -1,6 +1,6 @@
 //! The places of lead pawns, listed from the greatest by the value P down.
 
-ghost use Rattle.std.specs.Prelude.{◌≡◌, ◌<◌, ◌≤◌, ◌^◌, ◌+◌, ◌-◌, ◌*◌, ◌∷◌, ℕ, length, map, Some, slice_get, slice_index};
+ghost use Rattle.std.specs.Prelude.{◌≡◌, ◌<◌, ◌≤◌, ◌^◌, ◌+◌, ◌-◌, ◌*◌, ◌∷◌, ℕ, [], length, map, Some, slice_get, slice_index};
 ghost use Rattle.arrayvec.specs.ArrayVec.{array_vec_len};
 ghost use Rattle.szg_count.specs.Sets.{choose};
 ghost use Rattle.szg_count.specs.Leads.{lead_pawn_sets};
@@ -44,7 +44,8 @@ pub fn lead_pawns_place(squares: &[u8], file: u8) -> u64
 {
     let first = squares[0];
     let before = ways_before(squares.len(), file, first / 8);
-    let numbers = pawn_numbers(&squares[1..]);
+    let mut numbers = ArrayVec::new();
+    pawn_numbers(&squares[1..], &mut numbers);
     before + place_of_set(numbers.as_slice())
 }
 
@@ -61,17 +62,16 @@ fn ways_before(pawns: usize, file: u8, rank: u8) -> u64
     u64::from(WAYS_BEFORE[24 * (pawns - 1) + 6 * usize::from(file) + usize::from(rank - 1)])
 }
 
-// The values P of squares.
-fn pawn_numbers(squares: &[u8]) -> ArrayVec<u8, MAX_MEN>
+// Lists the values P of squares.
+fn pawn_numbers(squares: &[u8], numbers: &mut ArrayVec<u8, MAX_MEN>)
     requires few { length squares.now ≤ 6 }
     requires inside { (k : ℕ) → k < length squares.now → slice_index squares.now k < 64 }
-    ensures { result.items ≡ map (λ square. slice_index PAWN_NUMBERS square) squares.now }
+    requires empty { numbers.old.items ≡ [] }
+    ensures { numbers.new.items ≡ map (λ square. slice_index PAWN_NUMBERS square) squares.now }
 {
-    let mut numbers = ArrayVec::new();
     for square in squares {
         numbers.push(PAWN_NUMBERS[usize::from(*square)]);
     }
-    numbers
 }
 
 /// Lead pawns at a place in the ordered list of their file.

@@ -1,11 +1,10 @@
 //! The men of a placement as a file codes them: which colour is the name's first side, and where its men stand.
 
-ghost use Rattle.std.specs.Prelude.{◌≡◌, ◌≤◌, ◌<◌, ◌↔◌, ◌&&◌, IsTrue, true, false, IfNone, IfSome, length, map, if◌then◌else◌};
-ghost use Rattle.szg_count.specs.Laws.{IsIn};
+ghost use Rattle.std.specs.Prelude.{◌≡◌, ◌≤◌, ◌<◌, ◌↔◌, ◌&&◌, IsTrue, true, false, IfNone, IfSome, [], length, map, if◌then◌else◌};
 ghost use Rattle.szg_values.specs.Men.{is_color};
 ghost use Rattle.szg_values.specs.Material.{has_pawns, is_symmetric, count_of};
-ghost use Rattle.szg_place.specs.Normal.{Piece as Coded, is_exchanged, exchanged_color, colored_code, pieces_of, moved};
-ghost use Rattle.szg_place.specs.Slots.{flip_by, piece_from};
+ghost use Rattle.szg_place.specs.Normal.{is_exchanged, exchanged_color, colored_code, flip_rank, pieces_of};
+ghost use Rattle.szg_place.specs.Slots.{piece_from};
 ghost use Rattle.szg_place.specs.Spots.{is_of_material};
 ghost use Rattle.szg_place.specs.Traits.{men_key};
 
@@ -23,47 +22,6 @@ pub struct Piece {
     pub code: u8,
     /// The square, 0 to 63.
     pub square: u8,
-}
-
-/// A flip of the board.
-#[derive(Clone, Copy, Debug, PartialEq, Eq)]
-pub enum Flip {
-    /// File a becomes file h.
-    Files,
-    /// Rank 1 becomes rank 8.
-    Ranks,
-    /// The diagonal from a1 to h8 stays: files and ranks are exchanged.
-    Diagonal,
-}
-
-/// The square that a flip moves a square to.
-pub fn flipped(flip: Flip, square: u8) -> u8
-    requires { square < 64 }
-    ensures { result ≡ flip_by flip square }
-{
-    let file = square % 8;
-    let rank = square / 8;
-    match flip {
-        Flip::Files => 8 * rank + (7 - file),
-        Flip::Ranks => 8 * (7 - rank) + file,
-        Flip::Diagonal => 8 * file + rank,
-    }
-}
-
-/// The men after a flip.
-pub fn moved(flip: Flip, pieces: &[Piece]) -> ArrayVec<Piece, MAX_MEN>
-    requires few { length pieces.now ≤ 6 }
-    requires inside { (p : Coded) → IsIn p pieces.now → p.square < 64 }
-    ensures { result.items ≡ moved (flip_by flip) pieces.now }
-{
-    let mut moved = ArrayVec::new();
-    for piece in pieces {
-        moved.push(Piece {
-            code: piece.code,
-            square: flipped(flip, piece.square),
-        });
-    }
-    moved
 }
 
 /// Whether colours are exchanged: with the same men on both sides where Black moves, else where White
@@ -131,17 +89,20 @@ pub fn exchanged_color(exchanged: bool, color: Color) -> Color
     }
 }
 
-/// The men of a placement, colours exchanged or not; with pawns the exchange flips the ranks.
+/// Lists the men of a placement, colours exchanged or not; with pawns the exchange flips the ranks.
 pub fn pieces_of(
     material: &Traits,
     placement: &Placement,
     exchanged: bool,
-) -> ArrayVec<Piece, MAX_MEN>
-    requires { exchanged ≡ is_exchanged material.now placement.now }
-    ensures pieces { result.items ≡ pieces_of material.now placement.now }
-    ensures few { length result.items ≤ 6 }
+    pieces: &mut ArrayVec<Piece, MAX_MEN>,
+)
+    requires exchanged { exchanged ≡ is_exchanged material.now placement.now }
+    requires empty { pieces.old.items ≡ [] }
+    ensures pieces { pieces.new.items ≡ pieces_of material.now placement.now }
+    ensures few { length pieces.new.items ≤ 6 }
 {
-    coded(placement.men(), exchanged, flips_ranks(material, exchanged))
+    let flips = flips_ranks(material, exchanged);
+    coded(placement.men(), exchanged, flips, pieces);
 }
 
 fn flips_ranks(material: &Traits, exchanged: bool) -> bool
@@ -150,15 +111,19 @@ fn flips_ranks(material: &Traits, exchanged: bool) -> bool
     exchanged && material.has_pawns()
 }
 
-fn coded(men: &[(Man, Color, Square)], exchanged: bool, flips: bool) -> ArrayVec<Piece, MAX_MEN>
-    requires { length men.now ≤ 6 }
-    ensures { result.items ≡ map (piece_from exchanged flips) men.now }
+fn coded(
+    men: &[(Man, Color, Square)],
+    exchanged: bool,
+    flips: bool,
+    pieces: &mut ArrayVec<Piece, MAX_MEN>,
+)
+    requires few { length men.now ≤ 6 }
+    requires empty { pieces.old.items ≡ [] }
+    ensures { pieces.new.items ≡ map (piece_from exchanged flips) men.now }
 {
-    let mut pieces = ArrayVec::new();
     for man in men {
         pieces.push(piece_of(man, exchanged, flips));
     }
-    pieces
 }
 
 fn piece_of(man: &(Man, Color, Square), exchanged: bool, flips: bool) -> Piece
@@ -167,17 +132,20 @@ fn piece_of(man: &(Man, Color, Square), exchanged: bool, flips: bool) -> Piece
     let square = man.2.number();
     Piece {
         code: colored_code(man.0, exchanged_color(exchanged, man.1)),
-        square: flipped_if(flips, Flip::Ranks, square),
+        square: ranked_if(flips, square),
     }
 }
 
-/// A square after a flip that is made or not.
-pub fn flipped_if(flips: bool, flip: Flip, square: u8) -> u8
+// A square after a flip of the ranks that is made or not.
+fn ranked_if(flips: bool, square: u8) -> u8
     requires { square < 64 }
-    ensures value { result ≡ (if flips then flip_by flip square else square) }
-    ensures inside { result < 64 }
+    ensures { result ≡ (if flips then flip_rank square else square) }
 {
-    if flips { flipped(flip, square) } else { square }
+    if flips {
+        8 * (7 - square / 8) + square % 8
+    } else {
+        square
+    }
 }
 
 /// A man's code: the men of the name's second side, which are now Black's, add 8.

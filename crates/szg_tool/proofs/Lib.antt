@@ -2,3 +2,5 @@ mod Lines
 mod Outcomes
 mod TooMany
 mod Builds
+mod Digits
+mod MenWords

@@ -1,11 +1,10 @@
 -- Men that are too many for a placement.
-use Rattle.std.proofs.Common.{◌≡◌, ◌<◌, true, false, ℕ, List, Bor, length, refl, arith}
+use Rattle.std.proofs.Common.{◌≡◌, ◌<◌, true, false, List, length, map, refl, arith}
 use Rattle.std.proofs.lemmas.Bool.{le-leb, lt-leb}
 use Rattle.std.proofs.lemmas.List.{length-map}
 use Rattle.std.specs.Prelude.{Some, nat_le}
 use Rattle.szg_values.specs.Placement.{Standing, placement_fault}
 use Rattle.szg_values.specs.declared.PlacementFault.TheVariants as fault
-use Rattle.szg_tool.specs.Men.{standing_in, standing_of}
 
 -- more than six men are no placement
 too_many : (standing : List Standing) → 6 < length standing → placement_fault standing ≡ Some fault.Men
@@ -15,5 +14,6 @@ too_many standing more =
     let high : nat_le (length standing) 6 ≡ false = lt-leb (length standing) 6 more in
     rw (low, high) refl
 
-pub too_many_told : (words : List (Bor (List ℕ))) → 6 < length words → placement_fault (standing_in words) ≡ Some fault.Men
-too_many_told words more = too_many (standing_in words) (let n = length-map words (λ word. standing_of word.now) in omega (arith, n))
+-- whatever tells the men
+pub too_many_told : {X : Type 0} (man_of : X → Standing) (men : List X) → 6 < length men → placement_fault (map man_of men) ≡ Some fault.Men
+too_many_told man_of men more = too_many (map man_of men) (let n = length-map men man_of in omega (arith, n))

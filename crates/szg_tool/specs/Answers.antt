@@ -19,6 +19,7 @@ use Rattle.szg_values.specs.declared.Kind.TheVariants.{Wdl, Dtz}
 use Rattle.szg_place.specs.Spots.{board_at, place_fault, placement_refusal, spot_of}
 use Rattle.szg_place.specs.Tables.{numbering_of, value_at, class_of, mapped_number}
 use Rattle.szg_place.specs.declared.Spot.{Spot}
+use Rattle.szg_tool.specs.Men.{men_words}
 use Rattle.szg_tool.specs.declared.request.Class.{Class}
 use Rattle.szg_tool.specs.declared.request.Class.TheVariants.{Win, Cursed, Draw, Blessed, Loss}
 use Rattle.szg_tool.specs.declared.request.Form.{Form}
@@ -99,10 +100,14 @@ abbrev pub mover_word : Color → List ℕ
 mover_word White = codes "w"
 mover_word Black = codes "b"
 
+-- a placement: who moves, and the men
+abbrev pub placement_line : Board → List ℕ
+placement_line board = mover_word board.mover ++ (men_words board.standing ++ 10 ∷ [])
+
 -- ---- all actions
 
 -- This text answers an action on a table's part and side. What `show` prints behind the first three lines is left to
--- tests, and of a placement's line what follows the mover. Words that tell no placement have no answer.
+-- tests. Words that tell no placement have no answer.
 abbrev pub IsAnswer : Action → ℕ → ℕ → Shown → List ℕ → Type 0
 IsAnswer Check part side t text = text ≡ codes "ok " ++ number_line (length (file_bytes t))
 IsAnswer Show part side t text = (rest : List ℕ) × (text ≡ front_lines t ++ rest)
@@ -119,5 +124,5 @@ IsAnswer (Index board) part side t text = IsSpotLine t.contents board text
 IsAnswer (Probe board class) part side t text = IsOutcomeLine t.contents.kind t.contents board class text
 IsAnswer (Placement index) part side t text =
     IsSomeAnd (subtable_at t.contents part side) (λ found. index < found.0.size) × IsNone (placement_refusal (numbering_of t.contents) part side)
-    × (rest : List ℕ) × (text ≡ mover_word (board_at (numbering_of t.contents) part side index).mover ++ rest)
+    × (text ≡ placement_line (board_at (numbering_of t.contents) part side index))
 IsAnswer (Unplaced refusal) part side t text = ⊥

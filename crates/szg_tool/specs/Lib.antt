@@ -1,5 +1,6 @@
 pub mod Outcome
 pub mod Men
+pub mod Words
 pub mod Answers
 pub mod Builds
 pub mod RefusalLines

@@ -1,9 +1,9 @@
 -- Men as words.
-use Rattle.std.specs.Prelude.{ℕ, Bool, not, ◌+◌, ◌-◌, ◌*◌, ◌&&◌, nat_le, List, [], ◌∷◌, map, Option, Some, None, Result, Ok, Err, is_some, unwrap_or, option_map, option_and_then, if◌then◌else◌}
+use Rattle.std.specs.Prelude.{ℕ, Bool, not, ◌+◌, ◌-◌, ◌*◌, ◌&&◌, ◌/◌, ◌%◌, ◌++◌, ◌==◌, codes, decimal, encode_utf8, flat_map, nat_le, List, [], ◌∷◌, map, Option, Some, None, Result, Ok, Err, is_some, unwrap_or, option_map, option_and_then, if◌then◌else◌}
 use Rattle.std.specs.Borrow.{Bor}
-use Rattle.std.specs.List.{list_all}
+use Rattle.std.specs.List.{list_all, list_any, range_with_len}
 use Rattle.std.specs.Char.{to_ascii_uppercase, to_ascii_lowercase}
-use Rattle.szg_values.specs.Men.{man_of, letter_of}
+use Rattle.szg_values.specs.Men.{man_of, letter_of, is_man, is_color, name_order}
 use Rattle.szg_values.specs.Placement.{Standing, Board, placement_fault}
 use Rattle.szg_values.specs.declared.Man.{Man}
 use Rattle.szg_values.specs.declared.Man.TheVariants.{King}
@@ -56,3 +56,31 @@ placement_told words mover =
 abbrev pub letter_shown : Man → Color → ℕ
 letter_shown man White = letter_of man
 letter_shown man Black = to_ascii_lowercase (letter_of man)
+
+-- whether this man stands on this square
+abbrev pub is_standing : Man → Color → ℕ → Standing → Bool
+is_standing kind color square man = is_man man.0 kind && (is_color man.1 color && man.2 == square)
+
+-- a man's word, behind a space: his letter, the letter of the file and the number of the rank
+abbrev pub man_word : Man → Color → ℕ → List ℕ
+man_word kind color square = codes " " ++ (encode_utf8 (letter_shown kind color) ++ (encode_utf8 (97 + square % 8) ++ decimal (1 + square / 8)))
+
+-- the word of this man on a square, where he stands there
+abbrev pub square_word : List Standing → Man → Color → ℕ → List ℕ
+square_word standing kind color square = if list_any (is_standing kind color square) standing then man_word kind color square else []
+
+-- the squares of the board
+unfoldable pub squares : List ℕ
+squares = range_with_len 0 64
+
+-- the words of all men of a kind and a colour, by square
+abbrev pub kind_words : List Standing → Color → Man → List ℕ
+kind_words standing color kind = flat_map (square_word standing kind color) squares
+
+-- the words of a colour's men, in the order of a name
+abbrev pub side_words : List Standing → Color → List ℕ
+side_words standing color = flat_map (kind_words standing color) name_order
+
+-- the words of all men, White's before Black's
+abbrev pub men_words : List Standing → List ℕ
+men_words standing = flat_map (side_words standing) (White ∷ Black ∷ [])

@@ -84,6 +84,7 @@ fn table_of(alloc: Global, dump: Dump, sizes: Sizes) -> Result<Table, Stop>
 fn stop_of(fault: BuildFault) -> Stop
     ensures refused { (refusal : Refusal) → result ≡ Stop.Refused refusal → (refusal ≡ Refusal.Build fault) × (fault ≡ BuildFault.Memory → ⊥) }
     ensures only { result ≡ Stop.Device → ⊥ }
+    ensures memory { result ≡ Stop.Memory → fault ≡ BuildFault.Memory }
 {
     let told = match fault {
         BuildFault::Memory => return Stop::Memory,

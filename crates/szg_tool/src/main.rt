@@ -1,6 +1,10 @@
 //! The program `szg`: checks, shows, copies, dumps and builds Syzygy table files, and looks values and placements up in them.
 #![tactic(auto)]
 
+ghost use Rattle.std.specs.Prelude.{◌≡◌, ◌⊎◌, IfOk, map, string_bytes};
+ghost use Rattle.std.specs.Process.{exit_status};
+ghost use Rattle.szg_tool.specs.Outcome.{OnDone, OnRefused, status_of};
+
 mod building;
 mod command_line;
 mod commands;
@@ -46,8 +50,13 @@ fn words_given(rt: &HostRuntime) -> io::Result<Vec<String>> {
     Ok(std::env::args(rt)?.collect(rt.alloc())?)
 }
 
-/// The status of an outcome, whose fault is printed on standard error.
-fn status_of(rt: &HostRuntime, outcome: &Outcome) -> ExitCode {
+/// The status of an outcome, whose fault is printed on standard error; a device's where that fails.
+fn status_of(rt: &HostRuntime, outcome: &Outcome) -> ExitCode
+    ensures status { (exit_status result ≡ status_of outcome.now) ⊎ (exit_status result ≡ 3) }
+    // Where nothing is printed, nothing fails.
+    ensures done { OnDone outcome.now (exit_status result ≡ 0) }
+    ensures refused { OnRefused outcome.now (exit_status result ≡ 1) }
+{
     let told = match outcome {
         Outcome::Done | Outcome::Refused => Ok(()),
         Outcome::Device => eprintln!(rt; "device fault"),
@@ -61,7 +70,9 @@ fn status_of(rt: &HostRuntime, outcome: &Outcome) -> ExitCode {
 }
 
 /// The words as texts.
-fn texts_of<'a>(alloc: Global, words: &'a [String]) -> Result<Vec<&'a str>, AllocError> {
+fn texts_of<'a>(alloc: Global, words: &'a [String]) -> Result<Vec<&'a str>, AllocError>
+    ensures { IfOk result (λ texts. map (λ text. text.now) texts.items ≡ map (λ word. string_bytes word) words.now) }
+{
     let mut texts = Vec::new(alloc);
     'words: for word in words {
         texts.push(word.as_str())?;

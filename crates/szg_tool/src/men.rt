@@ -1,8 +1,8 @@
 //! Men as words: a letter, upper case for White, a file and a rank, as `Ke1` and `pa7`.
 
-ghost use Rattle.std.specs.Prelude.{◌≡◌, ◌<◌, ◌≤◌, IsTrue, length};
-ghost use Rattle.std.specs.List.{list_all};
-ghost use Rattle.szg_tool.specs.Men.{color_told, is_told, letter_shown, man_told, placement_told, square_told, standing_in, standing_of};
+ghost use Rattle.std.specs.Prelude.{◌≡◌, ◌<◌, ◌≤◌, ◌++◌, IsTrue, OnOk, length, string_bytes};
+ghost use Rattle.std.specs.List.{list_all, list_any};
+ghost use Rattle.szg_tool.specs.Men.{color_told, is_standing, is_told, kind_words, letter_shown, man_word, men_words, side_words, man_told, placement_told, square_told, standing_in, standing_of};
 
 use crate::refusal::Refusal;
 use arrayvec::ArrayVec;
@@ -114,7 +114,9 @@ fn square_in(file: u8, rank: u8) -> Option<Square>
 }
 
 /// Adds a word for each man, White's before Black's, each in the order of a name, equal men by square.
-pub fn add_men(placement: &Placement, text: &mut String) -> Result<(), AllocError> {
+pub fn add_men(placement: &Placement, text: &mut String) -> Result<(), AllocError>
+    ensures { OnOk result (string_bytes text.new ≡ string_bytes text.old ++ men_words placement.now.standing) }
+{
     'colors: for color in COLORS {
         add_side(placement.men(), color, text)?;
     }
@@ -122,11 +124,9 @@ pub fn add_men(placement: &Placement, text: &mut String) -> Result<(), AllocErro
 }
 
 /// Adds a word for each man of a colour.
-fn add_side(
-    men: &[(Man, Color, Square)],
-    color: Color,
-    text: &mut String,
-) -> Result<(), AllocError> {
+fn add_side(men: &[(Man, Color, Square)], color: Color, text: &mut String) -> Result<(), AllocError>
+    ensures { OnOk result (string_bytes text.new ≡ string_bytes text.old ++ side_words men.now color) }
+{
     'kinds: for kind in KINDS {
         add_kind(men, kind, color, text)?;
     }
@@ -139,7 +139,9 @@ fn add_kind(
     kind: Man,
     color: Color,
     text: &mut String,
-) -> Result<(), AllocError> {
+) -> Result<(), AllocError>
+    ensures { OnOk result (string_bytes text.new ≡ string_bytes text.old ++ kind_words men.now color kind) }
+{
     'squares: for number in 0..64 {
         if stands(men, kind, color, number) {
             add_man(kind, color, number, text)?;
@@ -149,13 +151,16 @@ fn add_kind(
 }
 
 /// Whether a man of a kind and a colour stands on the square of a number.
-fn stands(men: &[(Man, Color, Square)], kind: Man, color: Color, number: u8) -> bool {
+fn stands(men: &[(Man, Color, Square)], kind: Man, color: Color, number: u8) -> bool
+    ensures { result ≡ list_any (is_standing kind color number) men.now }
+{
     men.iter().any(|man| man.0 == kind && man.1 == color && man.2.number() == number)
 }
 
 /// Adds a man's word, behind a space.
 fn add_man(kind: Man, color: Color, number: u8, text: &mut String) -> Result<(), AllocError>
     requires { number < 64 }
+    ensures { OnOk result (string_bytes text.new ≡ string_bytes text.old ++ man_word kind color number) }
 {
     let letter = letter_of(kind, color) as char;
     let file = (b'a' + number % 8) as char;

@@ -1,6 +1,8 @@
 //! The numbers of a command line.
 
-ghost use Rattle.std.specs.Prelude.{◌≤◌, IfOk};
+ghost use Rattle.std.specs.Prelude.{◌≡◌, ◌≤◌, IfOk, IfErr, Some, None};
+ghost use Rattle.clap.specs.Matches.{found_of};
+ghost use Rattle.szg_tool.specs.Words.{number_from, number_told, word_of};
 
 use clap::ArgMatches;
 
@@ -73,7 +75,10 @@ pub fn number_of<'a>(
     chosen: &ArgMatches<'a>,
     argument: NumberArgument,
 ) -> Result<u64, NumberFault<'a>>
-    ensures { IfOk result (λ n. (argument.least ≤ n) × (n ≤ argument.greatest)) }
+    ensures told { IfOk result (λ n. number_from argument.least argument.greatest (word_of (found_of chosen.now) argument.id.now) ≡ Some n) }
+    ensures within { IfOk result (λ n. (argument.least ≤ n) × (n ≤ argument.greatest)) }
+    ensures refused { IfErr result (λ fault. number_from argument.least argument.greatest (word_of (found_of chosen.now) argument.id.now) ≡ None) }
+    ensures fault { IfErr result (λ fault. (fault.argument ≡ argument) × (fault.word.now ≡ word_of (found_of chosen.now) argument.id.now)) }
 {
     let word = chosen.get_str(argument.id).unwrap_or("");
     match number(word) {
@@ -83,7 +88,9 @@ pub fn number_of<'a>(
 }
 
 /// The number that decimal digits tell, leading zeros among them; none for another text, and none from 2^64 on.
-fn number(text: &str) -> Option<u64> {
+fn number(text: &str) -> Option<u64>
+    ensures { result ≡ number_told text.now }
+{
     if text.is_empty() {
         return None;
     }

@@ -1,9 +1,9 @@
 //! The commands on placements: where a table tells of one, what it tells of it, and the placement of an index.
 
-ghost use Rattle.std.specs.Prelude.{◌≡◌, ◌++◌, ℕ, List, Some, OnOk, IfOk, IsErrOf, string_bytes};
+ghost use Rattle.std.specs.Prelude.{◌≡◌, ℕ, List, Some, OnOk, IfOk, IsErrOf, string_bytes};
 ghost use Rattle.szg_io.specs.Device.{HasFailed};
 ghost use Rattle.szg_io.specs.Moved.{Gives};
-ghost use Rattle.szg_tool.specs.Answers.{IsAnswer, IsClassLine, IsNumberLine, IsOutcomeLine, IsSpotLine, class_line, mover_word, part_letter, spot_line};
+ghost use Rattle.szg_tool.specs.Answers.{IsAnswer, IsClassLine, IsNumberLine, IsOutcomeLine, IsSpotLine, class_line, mover_word, part_letter, placement_line, spot_line};
 ghost use Rattle.szg_tool.specs.Refusals.{spot_refusal, number_refusal, outcome_refusal, placement_refusal_at};
 ghost use Rattle.szg_tool.specs.declared.refusal.Refusal.{Refusal};
 
@@ -153,7 +153,7 @@ pub fn tell_placement<W: Output>(
 
 /// A placement's line: who moves, and the men.
 fn placement_line(alloc: Global, placement: &Placement) -> Result<String, AllocError>
-    ensures { IfOk result (λ line. (rest : List ℕ) × (string_bytes line ≡ mover_word placement.now.mover ++ rest)) }
+    ensures { IfOk result (λ line. string_bytes line ≡ placement_line placement.now) }
 {
     let mover = mover_word(placement.mover());
     let mut men = String::new(alloc);

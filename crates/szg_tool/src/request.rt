@@ -1,5 +1,7 @@
-ghost use Rattle.std.specs.Prelude.{◌≡◌, ◌⊎◌};
+ghost use Rattle.std.specs.Prelude.{◌≡◌, ◌⊎◌, IfOk, Some, codes, option_map};
+ghost use Rattle.clap.specs.Matches.{first_value, found_of};
 ghost use Rattle.szg_tool.specs.Answers.{number_of_class, number_of_form};
+ghost use Rattle.szg_tool.specs.Words.{class_told, form_told, kind_told, mover_told, number_from, part_told, side_told, word_of};
 
 use crate::command_line::{command_of, program};
 use crate::men::placement_in;
@@ -193,7 +195,11 @@ fn task_in<'a>(command: &str, chosen: &ArgMatches<'a>) -> Result<Task<'a>, Numbe
 }
 
 /// The sizes that the words tell.
-fn sizes_in<'a>(chosen: &ArgMatches<'a>) -> Result<Sizes, NumberFault<'a>> {
+fn sizes_in<'a>(chosen: &ArgMatches<'a>) -> Result<Sizes, NumberFault<'a>>
+    ensures block { IfOk result (λ sizes. number_from 5 10 (word_of (found_of chosen.now) (codes "block")) ≡ Some sizes.block_bits) }
+    ensures span { IfOk result (λ sizes. number_from 1 16 (word_of (found_of chosen.now) (codes "span")) ≡ Some sizes.span_bits) }
+    ensures rounds { IfOk result (λ sizes. number_from 0 4000 (word_of (found_of chosen.now) (codes "rounds")) ≡ Some sizes.rounds) }
+{
     Ok(Sizes {
         block_bits: number_of(chosen, BLOCK)? as u8,
         span_bits: number_of(chosen, SPAN)? as u8,
@@ -202,7 +208,12 @@ fn sizes_in<'a>(chosen: &ArgMatches<'a>) -> Result<Sizes, NumberFault<'a>> {
 }
 
 /// What is asked of a table.
-fn request_in<'a>(command: &str, chosen: &ArgMatches<'a>) -> Result<Request<'a>, NumberFault<'a>> {
+fn request_in<'a>(command: &str, chosen: &ArgMatches<'a>) -> Result<Request<'a>, NumberFault<'a>>
+    ensures name { IfOk result (λ request. request.name.now ≡ word_of (found_of chosen.now) (codes "NAME")) }
+    ensures kind { IfOk result (λ request. request.kind ≡ kind_told (first_value (found_of chosen.now) (codes "KIND"))) }
+    ensures part { IfOk result (λ request. request.part ≡ part_told (first_value (found_of chosen.now) (codes "part"))) }
+    ensures side { IfOk result (λ request. side_told command.now (found_of chosen.now) ≡ Some request.side) }
+{
     let action = action_in(command, chosen)?;
     let side = side_in(command, chosen)?;
     Ok(Request {
@@ -215,7 +226,9 @@ fn request_in<'a>(command: &str, chosen: &ArgMatches<'a>) -> Result<Request<'a>,
 }
 
 /// The side that is asked, 0 for a command that asks for none.
-fn side_in<'a>(command: &str, chosen: &ArgMatches<'a>) -> Result<u8, NumberFault<'a>> {
+fn side_in<'a>(command: &str, chosen: &ArgMatches<'a>) -> Result<u8, NumberFault<'a>>
+    ensures { IfOk result (λ side. side_told command.now (found_of chosen.now) ≡ Some side) }
+{
     match command {
         "get" | "values" | "placement" => Ok(number_of(chosen, SIDE)? as u8),
         _ => Ok(0),
@@ -257,7 +270,9 @@ fn action_on_men(command: &str, chosen: &ArgMatches<'_>) -> Action {
 }
 
 /// The kind of a word.
-fn kind_of(word: Option<&str>) -> Kind {
+fn kind_of(word: Option<&str>) -> Kind
+    ensures { result ≡ kind_told (option_map (λ text. text.now) word.entry) }
+{
     match word {
         Some("wdl") => Kind::Wdl,
         _ => Kind::Dtz,
@@ -265,7 +280,9 @@ fn kind_of(word: Option<&str>) -> Kind {
 }
 
 /// The form of a number.
-fn form_of(number: u64) -> Form {
+fn form_of(number: u64) -> Form
+    ensures { result ≡ form_told number }
+{
     if number == 1 {
         Form::Values
     } else {
@@ -274,7 +291,9 @@ fn form_of(number: u64) -> Form {
 }
 
 /// The mover of a word.
-fn mover_of(word: Option<&str>) -> Color {
+fn mover_of(word: Option<&str>) -> Color
+    ensures { result ≡ mover_told (option_map (λ text. text.now) word.entry) }
+{
     match word {
         Some("w") => Color::White,
         _ => Color::Black,
@@ -282,7 +301,9 @@ fn mover_of(word: Option<&str>) -> Color {
 }
 
 /// The class of a word; a win where there is none.
-fn class_of(word: Option<&str>) -> Class {
+fn class_of(word: Option<&str>) -> Class
+    ensures { result ≡ class_told (option_map (λ text. text.now) word.entry) }
+{
     match word {
         Some("cursed") => Class::Cursed,
         Some("draw") => Class::Draw,
@@ -293,7 +314,9 @@ fn class_of(word: Option<&str>) -> Class {
 }
 
 /// The part of a letter; a where there is none.
-fn part_of(letter: Option<&str>) -> u8 {
+fn part_of(letter: Option<&str>) -> u8
+    ensures { result ≡ part_told (option_map (λ text. text.now) letter.entry) }
+{
     match letter {
         Some("b") => 1,
         Some("c") => 2,

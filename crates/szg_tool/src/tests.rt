@@ -106,47 +106,31 @@ fn copied_and_listed(rt: HostRuntime) -> Result<(), Fail> {
 #[test]
 fn table_of_blocks(rt: HostRuntime) -> Result<(), Fail> {
     let file = kqvk_wdl_unpaired(rt.alloc())?;
-    for (words, status, text) in [
-        (&["szg", "check", "KQvK", "wdl"][..], 0, "ok 4304\n"),
-        (&["szg", "show", "KQvK", "wdl"][..], 0, SHOWN_BLOCKS),
-        (&["szg", "get", "KQvK", "wdl", "31331"][..], 0, "4\n"),
+    for (line, status, text) in [
+        ("szg check KQvK wdl", 0, "ok 4304\n"),
+        ("szg show KQvK wdl", 0, SHOWN_BLOCKS),
+        ("szg get KQvK wdl 31331", 0, "4\n"),
+        ("szg get KQvK wdl 0031331 --side 1", 0, "2\n"),
         (
-            &["szg", "get", "KQvK", "wdl", "0031331", "--side", "1"][..],
-            0,
-            "2\n",
-        ),
-        (
-            &["szg", "get", "KQvK", "wdl", "31331", "--steps"][..],
+            "szg get KQvK wdl 31331 --steps",
             0,
             "4 moves 1 words 100 descents 0 fetches 1\n",
         ),
         (
-            &["szg", "get", "--steps", "KQvK", "wdl", "0"][..],
+            "szg get --steps KQvK wdl 0",
             0,
             "2 moves 123 words 1 descents 0 fetches 1\n",
         ),
         (
-            &["szg", "get", "KQvK", "wdl", "7", "--side", "1", "--steps"][..],
+            "szg get KQvK wdl 7 --side 1 --steps",
             0,
             "2 moves 0 words 0 descents 0 fetches 0\n",
         ),
-        (
-            &["szg", "get", "--part", "b", "KQvK", "wdl", "31331"][..],
-            1,
-            "refused part\n",
-        ),
-        (
-            &["szg", "get", "KQvK", "wdl", "31332"][..],
-            1,
-            "refused index\n",
-        ),
-        (
-            &["szg", "values", "KQvK", "wdl", "--part", "b"][..],
-            1,
-            "refused part\n",
-        ),
+        ("szg get --part b KQvK wdl 31331", 1, "refused part\n"),
+        ("szg get KQvK wdl 31332", 1, "refused index\n"),
+        ("szg values KQvK wdl --part b", 1, "refused part\n"),
     ] {
-        check_run(&rt, words, &file, status, text);
+        check_line(&rt, line, &file, status, text)?;
     }
     Ok(())
 }

@@ -1,13 +1,12 @@
 -- All materials are listed, each once.
-use Rattle.std.proofs.Common.{◌≡◌, ℕ, zero, suc, ◌+◌, ◌*◌, ◌-◌, ◌<◌, ◌≤◌, inl, inr, ◌⊎◌, List, [], ◌∷◌, ◌++◌, length, refl, sym, ap, ◌∙◌, subst, Bool, true, false, not, ◌&&◌, ◌||◌, arith, get_or}
+use Rattle.std.proofs.Common.{◌≡◌, ℕ, zero, suc, ◌+◌, ◌*◌, ◌-◌, ◌<◌, ◌≤◌, inl, inr, ◌⊎◌, List, [], ◌∷◌, ◌++◌, length, refl, sym, ap, ◌∙◌, subst, Bool, true, false, not, ◌&&◌, arith, get_or}
 use Rattle.std.specs.Prelude.{nat_lt, nat_le, map, flat_map, filter}
 use Rattle.std.specs.List.{list_any, Contains}
-use Rattle.std.proofs.lemmas.Bool.{cases_Bool, eqb-true, ltb-true, and_parts}
+use Rattle.std.proofs.lemmas.Bool.{cases_Bool, eqb-true, ltb-true, and_parts, or_parts, not-true, leb-true}
 use Rattle.szg_values.specs.Men.{code_of, is_man}
 use Rattle.szg_values.specs.Material.{Sides, is_material, IsMaterial, has_king_first, is_in_order, may_be_first, is_count}
 use Rattle.szg_values.specs.Names.{words, pairs, numbers, materials}
 use Rattle.szg_values.specs.Laws.{AllDifferent, LawNameCount}
-use Rattle.szg_values.proofs.MaterialOf.{le_from}
 use Rattle.szg_values.proofs.SameMen.{same_code}
 use Rattle.szg_values.specs.declared.Man.{Man}
 use Rattle.szg_values.specs.declared.Man.TheVariants.{Pawn, Knight, Bishop, Rook, Queen, King}
@@ -67,15 +66,11 @@ other Bishop e = inr (inr (inl refl))
 other Knight e = inr (inr (inr (inl refl)))
 other Pawn e = inr (inr (inr (inr (inl refl))))
 
-neither : (a b : Bool) → (a || b) ≡ false → (a ≡ false) × (b ≡ false)
-neither false b e = (refl, e)
-neither true b e = cc
-
 in_words : (men : List Man) → list_any (is_man King) men ≡ false → In men (words (length men))
 unfolding In
 in_words [] e = inl refl
 in_words (man ∷ men) e =
-    let parts = neither (is_man King man) (list_any (is_man King) men) e in
+    let parts = or_parts (is_man King man) (list_any (is_man King) men) e in
     in_flat_map (λ m. map (λ word. m ∷ word) (words (length men))) man (man ∷ men) (Queen ∷ Rook ∷ Bishop ∷ Knight ∷ Pawn ∷ [])
     (other man parts.0) (in_map (λ word. man ∷ word) men (words (length men)) (in_words men parts.1))
 
@@ -85,15 +80,11 @@ record IsKinged (men : List Man) : Type 0 where
   is : men ≡ King ∷ others
   kingless : list_any (is_man King) others ≡ false
 
-not_true : (b : Bool) → not b ≡ true → b ≡ false
-not_true false e = refl
-not_true true e = cc
-
 kinged : (men : List Man) → has_king_first men ≡ true → IsKinged men
 kinged [] e = cc
 kinged (man ∷ men) e =
     let parts = and_parts (is_man King man) (not (list_any (is_man King) men)) e in
-    record { others = men; is = ap (λ m. m ∷ men) (sym (same_code King man (eqb-true (code_of King) (code_of man) parts.0))); kingless = not_true (list_any (is_man King) men) parts.1 }
+    record { others = men; is = ap (λ m. m ∷ men) (sym (same_code King man (eqb-true (code_of King) (code_of man) parts.0))); kingless = not-true (list_any (is_man King) men) parts.1 }
 
 in_numbers : (i j : ℕ) → i + j ≤ 4 → In (i, j) numbers
 unfolding In
@@ -131,7 +122,7 @@ listed sides h =
     let both = and_parts kings order (and_parts (kings && order) sorted whole.0).0 in
     let k = and_parts (has_king_first sides.first) (has_king_first sides.second) both.0 in
     let a = kinged sides.first k.0 in let b = kinged sides.second k.1 in
-    let few : length sides.first + length sides.second ≤ 6 = le_from (length sides.first + length sides.second) 6 (and_parts (nat_le 3 (length sides.first + length sides.second)) (nat_le (length sides.first + length sides.second) 6) whole.1).1 in
+    let few : length sides.first + length sides.second ≤ 6 = leb-true (length sides.first + length sides.second) 6 (and_parts (nat_le 3 (length sides.first + length sides.second)) (nat_le (length sides.first + length sides.second) 6) whole.1).1 in
     let m : length sides.first ≡ suc (length a.others) = ap length a.is in
     let n : length sides.second ≡ suc (length b.others) = ap length b.is in
     let is : ◌≡◌ {A = Sides} (record { first = King ∷ a.others; second = King ∷ b.others }) sides =

@@ -5,10 +5,11 @@ use Rattle.std.specs.Prelude.{Ok, Err, map, count_by, ◌==◌, nat_lt, nat_le}
 use Rattle.std.specs.List.{list_any, list_all, before_first, after_first, position_or_len}
 use Rattle.std.specs.Option.{option_map_or}
 use Rattle.std.proofs.lemmas.List.{drop_all, take_all, length-map}
-use Rattle.std.proofs.lemmas.Bool.{cases_Bool, eqb-true, eq-eqb}
+use Rattle.std.proofs.lemmas.Bool.{cases_Bool, eqb-true, eq-eqb, and_parts, leb-true}
 use Rattle.std.proofs.lemmas.Bool.Decides.{nat_tests}
-use Rattle.szg_values.proofs.Names.{count-cons, before-name, after-name, spelled_name, both_first, both_second, man_of-letter_of}
-use Rattle.szg_values.proofs.MaterialOf.{capped_more, le_from}
+use Rattle.std.proofs.Math.Bool.{and-false, or-false}
+use Rattle.szg_values.proofs.Names.{count-cons, before-name, after-name, spelled_name, man_of-letter_of}
+use Rattle.szg_values.proofs.MaterialOf.{capped_more}
 use Rattle.szg_values.specs.Men.{code_of, letter_of, man_of, is_man}
 use Rattle.szg_values.specs.Material.{name_of, sides_of, is_v, is_spelled, is_name_letter, parsed, has_king_first, is_in_order, is_not_later, may_be_first, is_count}
 use Rattle.szg_values.specs.declared.Man.{Man}
@@ -23,20 +24,12 @@ no_v (c ∷ cs) e = elim (cases_Bool (is_v c)) [
   | inr v ↦ count-cons c cs ∙ rw (v, no_v cs (let k = rw v at e in omega arith)) refl
 ]
 
-and_false : (b : Bool) → (b && false) ≡ false
-and_false true = refl
-and_false false = refl
-
-or_false : (b : Bool) → (b || false) ≡ b
-or_false true = refl
-or_false false = refl
-
 pub not_spelled : (cs : List ℕ) → position_or_len is_v cs ≡ length cs → is_spelled cs ≡ false
-not_spelled cs e = rw (no_v cs e) (and_false (list_all is_name_letter cs))
+not_spelled cs e = rw (no_v cs e) (and-false (list_all is_name_letter cs))
 
 named_sides : (text : List ℕ) → is_spelled text ≡ true → name_of (sides_of text) ≡ text
-named_sides text h = spelled_name text (both_first (list_all is_name_letter text) (count_by is_v text == 1) h)
-    (eqb-true (count_by is_v text) 1 (both_second (list_all is_name_letter text) (count_by is_v text == 1) h))
+named_sides text h = spelled_name text (and_parts (list_all is_name_letter text) (count_by is_v text == 1) h).0
+    (eqb-true (count_by is_v text) 1 (and_parts (list_all is_name_letter text) (count_by is_v text == 1) h).1)
 
 -- the letters before the v are those of the first side's men, those after it those of the second's
 pub letters_before : (text : List ℕ) → is_spelled text ≡ true → before_first is_v text ≡ map letter_of (sides_of text).first
@@ -102,13 +95,13 @@ fall_step : (m last : ℕ) (men : List Man) → m ≤ last →
     (list_all (λ b. nat_le (code_of b) m) men && is_in_order men) ≡ (list_all (λ b. nat_le (code_of b) last) men && (list_all (λ b. nat_le (code_of b) m) men && is_in_order men))
 fall_step m last men h = elim (cases_Bool (list_all (λ b. nat_le (code_of b) m) men)) [
   | inl e ↦ rw (e, capped_more men m last h e) refl
-  | inr e ↦ rw e (sym (and_false (list_all (λ b. nat_le (code_of b) last) men)))
+  | inr e ↦ rw e (sym (and-false (list_all (λ b. nat_le (code_of b) last) men)))
 ]
 
 pub in_order_from : (last : ℕ) (men : List Man) → letters_fall last (map letter_of men) ≡ (list_all (λ b. nat_le (code_of b) last) men && is_in_order men)
 in_order_from last [] = refl
 in_order_from last (man ∷ men) = rw (code_at-letter_of man, in_order_from (code_of man) men) (elim (cases_Bool (nat_le (code_of man) last)) [
-  | inl e ↦ rw e (fall_step (code_of man) last men (le_from (code_of man) last e))
+  | inl e ↦ rw e (fall_step (code_of man) last men (leb-true (code_of man) last e))
   | inr e ↦ rw e refl
 ])
 
@@ -154,7 +147,7 @@ letters_not_later-drop xs ys i h k = rw (add-one, drop-cons xs i 0, drop-cons ys
 pub not_later_here : (xs ys : List ℕ) (i : ℕ) → i < length xs → i < length ys → code_at (get_or xs i 0) ≢ code_at (get_or ys i 0) →
     letters_not_later (drop i xs) (drop i ys) ≡ nat_lt (code_at (get_or ys i 0)) (code_at (get_or xs i 0))
 not_later_here xs ys i h k n = let e : (code_at (get_or xs i 0) == code_at (get_or ys i 0)) ≡ false = grind (arith, nat_tests) in
-    letters_not_later-drop xs ys i h k ∙ rw e (or_false (nat_lt (code_at (get_or ys i 0)) (code_at (get_or xs i 0))))
+    letters_not_later-drop xs ys i h k ∙ rw e (or-false (nat_lt (code_at (get_or ys i 0)) (code_at (get_or xs i 0))))
 
 pub not_later_next : (xs ys : List ℕ) (i : ℕ) → i < length xs → i < length ys → code_at (get_or xs i 0) ≡ code_at (get_or ys i 0) →
     letters_not_later (drop i xs) (drop i ys) ≡ letters_not_later (drop (i + 1) xs) (drop (i + 1) ys)

@@ -1,11 +1,11 @@
 -- The men of a placement are those of a material.
-use Rattle.std.proofs.Common.{◌≡◌, ℕ, zero, suc, ◌+◌, ◌≤◌, inl, inr, List, [], ◌∷◌, ◌++◌, length, refl, sym, subst, Bool, true, false, not, ◌&&◌, ◌||◌, cond, arith, length-append, replicate}
+use Rattle.std.proofs.Common.{◌≡◌, ℕ, zero, suc, ◌+◌, ◌≤◌, inl, inr, List, [], ◌∷◌, ◌++◌, length, refl, sym, subst, Bool, true, false, not, ◌&&◌, cond, arith, length-append, replicate}
 use Rattle.std.specs.Prelude.{Option, Some, None, ◌==◌, nat_lt, nat_le}
 use Rattle.std.specs.List.{list_all, list_any}
 use Rattle.std.proofs.lemmas.List.Sums.{sum_by-cons}
 use Rattle.std.proofs.Math.ListN.{length-replicate}
-use Rattle.std.proofs.lemmas.Bool.{cases_order, eqb-true, eq-eqb, lt-ltb, le-ltb}
-use Rattle.std.proofs.lemmas.Bool.Decides.{nat_tests}
+use Rattle.std.proofs.lemmas.Bool.{cases_order, eqb-true, eq-eqb, lt-ltb, le-ltb, and_from, and_parts, le-leb, leb-true}
+use Rattle.std.proofs.Math.Bool.{or-true}
 use Rattle.szg_values.specs.Men.{code_of, is_man, is_color}
 use Rattle.szg_values.specs.Material.{has_king_first, is_in_order, is_not_later, may_be_first, is_count, is_material, IsMaterial}
 use Rattle.szg_values.specs.Placement.{Standing, number_of, has_men, placement_fault, side_of}
@@ -21,29 +21,12 @@ pub record IsArmy (c : ℕ) (men : List Man) : Type 0 where
   pub ordered : is_in_order men ≡ true
   pub capped : list_all (λ b. nat_le (code_of b) c) men ≡ true
 
-both : (a b : Bool) → a ≡ true → b ≡ true → (a && b) ≡ true
-both a b p q = rw (p, q) refl
-
-pub first_of : (a b : Bool) → (a && b) ≡ true → a ≡ true
-first_of true b e = refl
-first_of false b e = cc
-
-pub second_of : (a b : Bool) → (a && b) ≡ true → b ≡ true
-second_of true b e = e
-second_of false b e = cc
-
-le_test : (a b : ℕ) → a ≤ b → nat_le a b ≡ true
-le_test a b h = grind (arith, nat_tests)
-
-pub le_from : (a b : ℕ) → nat_le a b ≡ true → a ≤ b
-le_from a b h = grind (arith, nat_tests)
-
 pub capped_more : (men : List Man) (c d : ℕ) → c ≤ d → list_all (λ b. nat_le (code_of b) c) men ≡ true → list_all (λ b. nat_le (code_of b) d) men ≡ true
 capped_more [] c d h e = refl
 capped_more (man ∷ men) c d h e =
-    let k = le_from (code_of man) c (first_of (nat_le (code_of man) c) (list_all (λ b. nat_le (code_of b) c) men) e) in
-    both (nat_le (code_of man) d) (list_all (λ b. nat_le (code_of b) d) men) (le_test (code_of man) d (omega arith))
-    (capped_more men c d h (second_of (nat_le (code_of man) c) (list_all (λ b. nat_le (code_of b) c) men) e))
+    let k = leb-true (code_of man) c (and_parts (nat_le (code_of man) c) (list_all (λ b. nat_le (code_of b) c) men) e).0 in
+    and_from (nat_le (code_of man) d) (list_all (λ b. nat_le (code_of b) d) men) (le-leb (code_of man) d (omega arith))
+    (capped_more men c d h (and_parts (nat_le (code_of man) c) (list_all (λ b. nat_le (code_of b) c) men) e).1)
 
 -- n equal men in front of men of no higher code
 front : (man : Man) (n c : ℕ) (men : List Man) → IsArmy (code_of man) men → code_of man ≤ c → IsArmy c (replicate n man ++ men)
@@ -52,8 +35,8 @@ front man (suc n) c men a h =
     let same = front man n (code_of man) men a (omega arith) in
     let more = front man n c men a h in
     record {
-      ordered = both (list_all (λ b. nat_le (code_of b) (code_of man)) (replicate n man ++ men)) (is_in_order (replicate n man ++ men)) same.capped same.ordered;
-      capped = both (nat_le (code_of man) c) (list_all (λ b. nat_le (code_of b) c) (replicate n man ++ men)) (le_test (code_of man) c h) more.capped;
+      ordered = and_from (list_all (λ b. nat_le (code_of b) (code_of man)) (replicate n man ++ men)) (is_in_order (replicate n man ++ men)) same.capped same.ordered;
+      capped = and_from (nat_le (code_of man) c) (list_all (λ b. nat_le (code_of b) c) (replicate n man ++ men)) (le-leb (code_of man) c h) more.capped;
     }
 
 kingless : (man : Man) (n : ℕ) (men : List Man) → is_man King man ≡ false → list_any (is_man King) men ≡ false → list_any (is_man King) (replicate n man ++ men) ≡ false
@@ -87,7 +70,7 @@ army k q r b n p = replicate k King ++ officers q r b n p
 army_side : (k q r b n p : ℕ) → k ≡ 1 → IsSide (army k q r b n p) (k + (q + (r + (b + (n + p)))))
 army_side k q r b n p e = subst (λ (x : ℕ). IsSide (army x q r b n p) (x + (q + (r + (b + (n + p)))))) (sym e) (record {
   king = rw (officers_kingless q r b n p) refl;
-  ordered = both (list_all (λ x. nat_le (code_of x) 6) (officers q r b n p)) (is_in_order (officers q r b n p)) (officers_army q r b n p).capped (officers_army q r b n p).ordered;
+  ordered = and_from (list_all (λ x. nat_le (code_of x) 6) (officers q r b n p)) (is_in_order (officers q r b n p)) (officers_army q r b n p).capped (officers_army q r b n p).ordered;
   number = let h = length-officers q r b n p in omega (arith, h);
 })
 
@@ -136,10 +119,6 @@ all_counted (s ∷ more) =
 
 -- ---- one of two sides may be first
 
-or_true : (b : Bool) → (b || true) ≡ true
-or_true true = refl
-or_true false = refl
-
 later_total : (a b : List Man) → length a ≡ length b → is_not_later a b ≡ false → is_not_later b a ≡ true
 later_total [] b l e = cc
 later_total (x ∷ a) [] l e = cc
@@ -149,7 +128,7 @@ later_total (x ∷ a) (y ∷ b) l e = elim (cases_order (code_of x) (code_of y))
       let h : nat_lt (code_of y) (code_of x) ≡ false = le-ltb (code_of y) (code_of x) (omega arith) in
       let i : is_not_later a b ≡ false = rw (h, f) at e in
       let m : length a ≡ length b = omega arith in
-      rw (g, later_total a b m i) (or_true (nat_lt (code_of x) (code_of y)))
+      rw (g, later_total a b m i) (or-true (nat_lt (code_of x) (code_of y)))
   | inr r ↦ elim r [
     | inl s ↦ rw (lt-ltb (code_of x) (code_of y) s) refl
     | inr g ↦ absurd (let k = rw (lt-ltb (code_of y) (code_of x) g) at e in cc)
@@ -162,7 +141,7 @@ first_total a b e = elim (cases_order (length a) (length b)) [
       let g : (length b == length a) ≡ true = eq-eqb (length b) (length a) (sym s) in
       let h : nat_lt (length b) (length a) ≡ false = le-ltb (length b) (length a) (omega arith) in
       let i : is_not_later a b ≡ false = rw (h, f) at e in
-      rw (g, later_total a b s i) (or_true (nat_lt (length a) (length b)))
+      rw (g, later_total a b s i) (or-true (nat_lt (length a) (length b)))
   | inr r ↦ elim r [
     | inl s ↦ rw (lt-ltb (length a) (length b) s) refl
     | inr g ↦ absurd (let k = rw (lt-ltb (length b) (length a) g) at e in cc)
@@ -194,10 +173,10 @@ pub material_of_placement : LawMaterialOf
 unfolding placement_fault
 material_of_placement standing h =
     let men = pass (has_men standing) _ _ h in
-    let x = first_of (is_count (length standing) && number_of King White standing == 1) (number_of King Black standing == 1) men in
-    let c = first_of (is_count (length standing)) (number_of King White standing == 1) x in
-    let w = color_side White standing (second_of (is_count (length standing)) (number_of King White standing == 1) x) in
-    let b = color_side Black standing (second_of (is_count (length standing) && number_of King White standing == 1) (number_of King Black standing == 1) men) in
+    let x = (and_parts (is_count (length standing) && number_of King White standing == 1) (number_of King Black standing == 1) men).0 in
+    let c = (and_parts (is_count (length standing)) (number_of King White standing == 1) x).0 in
+    let w = color_side White standing (and_parts (is_count (length standing)) (number_of King White standing == 1) x).1 in
+    let b = color_side Black standing (and_parts (is_count (length standing) && number_of King White standing == 1) (number_of King Black standing == 1) men).1 in
     let white = side_of White standing in let black = side_of Black standing in
     let m = all_kinds (λ kind. number_of kind White standing) in let n = all_kinds (λ kind. number_of kind Black standing) in
     let total = all_counted standing in

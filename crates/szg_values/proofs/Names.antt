@@ -4,7 +4,7 @@ use Rattle.std.specs.Prelude.{Result, Ok, Err, Some, map, filter_map, count_by, 
 use Rattle.std.specs.List.{list_all, before_first, after_first}
 use Rattle.std.proofs.lemmas.List.Sums.{sum_by-cons}
 use Rattle.std.proofs.lemmas.List.Folds.{list_all-append}
-use Rattle.std.proofs.lemmas.Bool.{cases_Bool, eqb-true}
+use Rattle.std.proofs.lemmas.Bool.{cases_Bool, eqb-true, and_parts}
 use Rattle.std.proofs.lemmas.Bool.Decides.{eqb_tells}
 use Rattle.std.proofs.Common.{inl, inr, zero-add}
 use Rattle.szg_values.specs.declared.NameFault.{NameFault}
@@ -83,14 +83,6 @@ letter_cases c h v = elim (eqb_tells c 75) [
   ]
 ]
 
-pub both_first : (a b : Bool) → (a && b) ≡ true → a ≡ true
-both_first true b e = refl
-both_first false b e = cc
-
-pub both_second : (a b : Bool) → (a && b) ≡ true → b ≡ true
-both_second true b e = e
-both_second false b e = cc
-
 pub count-cons : (c : ℕ) (cs : List ℕ) → count_by is_v (c ∷ cs) ≡ cond (is_v c) 1 0 + count_by is_v cs
 count-cons c cs = sum_by-cons (λ x. cond (is_v x) 1 0) c cs
 
@@ -99,9 +91,9 @@ spelled_men : (cs : List ℕ) → list_all is_name_letter cs ≡ true → count_
 spelled_men [] h n = refl
 spelled_men (c ∷ cs) h n = elim (cases_Bool (is_v c)) [
   | inl v ↦ absurd (let m = rw (count-cons c cs, v) at n in omega arith)
-  | inr v ↦ let l = letter_cases c (both_first (is_name_letter c) (list_all is_name_letter cs) h) v in
+  | inr v ↦ let l = letter_cases c (and_parts (is_name_letter c) (list_all is_name_letter cs) h).0 v in
       let m : count_by is_v cs ≡ 0 = let k = rw (count-cons c cs, v) at n in omega arith in
-      rw (l.stands, l.is, spelled_men cs (both_second (is_name_letter c) (list_all is_name_letter cs) h) m) refl
+      rw (l.stands, l.is, spelled_men cs (and_parts (is_name_letter c) (list_all is_name_letter cs) h).1 m) refl
 ]
 
 -- letters with one v are the name of their sides
@@ -110,12 +102,12 @@ spelled_name [] h n = cc
 spelled_name (c ∷ cs) h n = elim (cases_Bool (is_v c)) [
   | inl v ↦ let m : count_by is_v cs ≡ 0 = let k = rw (count-cons c cs, v) at n in omega arith in
       let e : c ≡ 118 = eqb-true c 118 v in
-      rw (before_first-here c cs v, after_first-here c cs v, spelled_men cs (both_second (is_name_letter c) (list_all is_name_letter cs) h) m)
+      rw (before_first-here c cs v, after_first-here c cs v, spelled_men cs (and_parts (is_name_letter c) (list_all is_name_letter cs) h).1 m)
       (ap (λ x. x ∷ cs) (sym e))
-  | inr v ↦ let l = letter_cases c (both_first (is_name_letter c) (list_all is_name_letter cs) h) v in
+  | inr v ↦ let l = letter_cases c (and_parts (is_name_letter c) (list_all is_name_letter cs) h).0 v in
       let m : count_by is_v cs ≡ 1 = let k = rw (count-cons c cs, v) at n in omega arith in
       rw (before_first-later c cs v, after_first-later c cs v, l.stands, l.is)
-      (ap (λ x. c ∷ x) (spelled_name cs (both_second (is_name_letter c) (list_all is_name_letter cs) h) m))
+      (ap (λ x. c ∷ x) (spelled_name cs (and_parts (is_name_letter c) (list_all is_name_letter cs) h).1 m))
 ]
 
 -- ---- the checks in a row
@@ -153,8 +145,8 @@ named text sides h =
     let e = passed (is_count (length s.first + length s.second)) fault.Men _ sides d.1 in
     let f = same_ok s sides e.1 in
     subst (λ (x : Sides). (name_of x ≡ text) × IsMaterial x) f (
-      spelled_name text (both_first (list_all is_name_letter text) (count_by is_v text == 1) a.0)
-          (eqb-true (count_by is_v text) 1 (both_second (list_all is_name_letter text) (count_by is_v text == 1) a.0)),
+      spelled_name text (and_parts (list_all is_name_letter text) (count_by is_v text == 1) a.0).0
+          (eqb-true (count_by is_v text) 1 (and_parts (list_all is_name_letter text) (count_by is_v text == 1) a.0).1),
       all_five _ _ _ _ b.0 c.0 d.0 e.0,
     )
 
@@ -200,12 +192,12 @@ is_spelled-name_of sides =
 
 all_pass : (sides : Sides) → is_material sides ≡ true → checks true sides ≡ Ok sides
 all_pass sides h =
-    let d = both_second (has_king_first sides.first && has_king_first sides.second && (is_in_order sides.first && is_in_order sides.second) && may_be_first sides.first sides.second) _ h in
-    let x = both_first (has_king_first sides.first && has_king_first sides.second && (is_in_order sides.first && is_in_order sides.second) && may_be_first sides.first sides.second) _ h in
-    let c = both_second (has_king_first sides.first && has_king_first sides.second && (is_in_order sides.first && is_in_order sides.second)) _ x in
-    let y = both_first (has_king_first sides.first && has_king_first sides.second && (is_in_order sides.first && is_in_order sides.second)) _ x in
-    let b = both_second (has_king_first sides.first && has_king_first sides.second) _ y in
-    let a = both_first (has_king_first sides.first && has_king_first sides.second) _ y in
+    let d = (and_parts (has_king_first sides.first && has_king_first sides.second && (is_in_order sides.first && is_in_order sides.second) && may_be_first sides.first sides.second) _ h).1 in
+    let x = (and_parts (has_king_first sides.first && has_king_first sides.second && (is_in_order sides.first && is_in_order sides.second) && may_be_first sides.first sides.second) _ h).0 in
+    let c = (and_parts (has_king_first sides.first && has_king_first sides.second && (is_in_order sides.first && is_in_order sides.second)) _ x).1 in
+    let y = (and_parts (has_king_first sides.first && has_king_first sides.second && (is_in_order sides.first && is_in_order sides.second)) _ x).0 in
+    let b = (and_parts (has_king_first sides.first && has_king_first sides.second) _ y).1 in
+    let a = (and_parts (has_king_first sides.first && has_king_first sides.second) _ y).0 in
     rw (a, b, c, d) refl
 
 pub accepted : (text : List ℕ) (sides : Sides) → (name_of sides ≡ text) × IsMaterial sides → parsed text ≡ Ok sides

@@ -3,11 +3,10 @@ use Rattle.std.proofs.Common.{◌≡◌, ℕ, ◌+◌, ◌<◌, inl, inr, List, 
 use Rattle.std.specs.Prelude.{◌&&◌, count_by, ◌==◌, nat_le}
 use Rattle.std.specs.List.{list_all}
 use Rattle.std.proofs.lemmas.List.Sums.{sum_by-cons}
-use Rattle.std.proofs.lemmas.Bool.{cases_order, eqb-true, eq-eqb}
+use Rattle.std.proofs.lemmas.Bool.{cases_order, eqb-true, eq-eqb, and_parts, leb-true}
 use Rattle.std.proofs.lemmas.Bool.Decides.{nat_tests}
 use Rattle.szg_values.specs.Men.{code_of, is_man, name_order}
 use Rattle.szg_values.specs.Material.{Sides, has_king_first, is_in_order, may_be_first, is_count, IsMaterial, is_same_men}
-use Rattle.szg_values.proofs.MaterialOf.{first_of, second_of, le_from}
 use Rattle.szg_values.specs.declared.Man.{Man}
 use Rattle.szg_values.specs.declared.Man.TheVariants.{Pawn, Knight, Bishop, Rook, Queen, King}
 
@@ -40,9 +39,9 @@ count_kind-here x men = count_kind-cons x x men ∙ rw (is_man-same x) refl
 none_above : (y : Man) (c : ℕ) (men : List Man) → list_all (λ b. nat_le (code_of b) c) men ≡ true → c < code_of y → count_by (is_man y) men ≡ 0
 none_above y c [] h l = refl
 none_above y c (x ∷ men) h l =
-    let below = le_from (code_of x) c (first_of (nat_le (code_of x) c) (list_all (λ b. nat_le (code_of b) c) men) h) in
+    let below = leb-true (code_of x) c (and_parts (nat_le (code_of x) c) (list_all (λ b. nat_le (code_of b) c) men) h).0 in
     let other : is_man y x ≡ false = grind (arith, nat_tests) in
-    count_kind-cons y x men ∙ rw (other, none_above y c men (second_of (nat_le (code_of x) c) (list_all (λ b. nat_le (code_of b) c) men) h) l) refl
+    count_kind-cons y x men ∙ rw (other, none_above y c men (and_parts (nat_le (code_of x) c) (list_all (λ b. nat_le (code_of b) c) men) h).1 l) refl
 
 same_from_counts : (a b : List Man) → is_in_order a ≡ true → is_in_order b ≡ true → ((kind : Man) → count_by (is_man kind) a ≡ count_by (is_man kind) b) → a ≡ b
 same_from_counts [] [] p q h = refl
@@ -53,15 +52,15 @@ same_from_counts (x ∷ a) (y ∷ b) p q h = elim (cases_order (code_of x) (code
       let tails : (kind : Man) → count_by (is_man kind) a ≡ count_by (is_man kind) b = λ kind.
       let m = count_kind-cons kind x a in let n = count_kind-cons kind y b in let k = h kind in
       let r : ◌≡◌ {A = ℕ} (cond (is_man kind x) 1 0) (cond (is_man kind y) 1 0) = ap (λ z. cond (is_man kind z) 1 0) e in omega (arith, m, n, k, r) in
-      ap (λ z. z ∷ a) e ∙ ap (λ men. y ∷ men) (same_from_counts a b (second_of (list_all (λ z. nat_le (code_of z) (code_of x)) a) (is_in_order a) p) (second_of (list_all (λ z. nat_le (code_of z) (code_of y)) b) (is_in_order b) q) tails)
+      ap (λ z. z ∷ a) e ∙ ap (λ men. y ∷ men) (same_from_counts a b (and_parts (list_all (λ z. nat_le (code_of z) (code_of x)) a) (is_in_order a) p).1 (and_parts (list_all (λ z. nat_le (code_of z) (code_of y)) b) (is_in_order b) q).1 tails)
   | inr r ↦ elim r [
     | inl s ↦ absurd (
         let other : is_man y x ≡ false = grind (arith, nat_tests) in
-        let none : count_by (is_man y) (x ∷ a) ≡ 0 = count_kind-cons y x a ∙ rw (other, none_above y (code_of x) a (first_of (list_all (λ z. nat_le (code_of z) (code_of x)) a) (is_in_order a) p) s) refl in
+        let none : count_by (is_man y) (x ∷ a) ≡ 0 = count_kind-cons y x a ∙ rw (other, none_above y (code_of x) a (and_parts (list_all (λ z. nat_le (code_of z) (code_of x)) a) (is_in_order a) p).0 s) refl in
         let n = h y in let m = count_kind-here y b in omega (arith, n, m, none))
     | inr g ↦ absurd (
         let other : is_man x y ≡ false = grind (arith, nat_tests) in
-        let none : count_by (is_man x) (y ∷ b) ≡ 0 = count_kind-cons x y b ∙ rw (other, none_above x (code_of y) b (first_of (list_all (λ z. nat_le (code_of z) (code_of y)) b) (is_in_order b) q) g) refl in
+        let none : count_by (is_man x) (y ∷ b) ≡ 0 = count_kind-cons x y b ∙ rw (other, none_above x (code_of y) b (and_parts (list_all (λ z. nat_le (code_of z) (code_of y)) b) (is_in_order b) q).0 g) refl in
         let n = h x in let m = count_kind-here x a in omega (arith, n, m, none))
   ]
 ]
@@ -70,8 +69,8 @@ same_from_counts (x ∷ a) (y ∷ b) p q h = elim (cases_order (code_of x) (code
 
 passes_at : (test : Man → Bool) (men : List Man) (i : ℕ) (d : Man) → list_all test men ≡ true → i < length men → test (get_or men i d) ≡ true
 passes_at test [] i d h l = absurd (omega arith)
-passes_at test (x ∷ men) zero d h l = first_of (test x) (list_all test men) h
-passes_at test (x ∷ men) (suc i) d h l = passes_at test men i d (second_of (test x) (list_all test men) h) (omega arith)
+passes_at test (x ∷ men) zero d h l = (and_parts (test x) (list_all test men) h).0
+passes_at test (x ∷ men) (suc i) d h l = passes_at test men i d (and_parts (test x) (list_all test men) h).1 (omega arith)
 
 all_kinds_pass : (test : Man → Bool) → list_all test name_order ≡ true → (kind : Man) → test kind ≡ true
 all_kinds_pass test h King = passes_at test name_order 0 King h (lit< tt)
@@ -109,16 +108,16 @@ ordered sides h =
     let order = is_in_order sides.first && is_in_order sides.second in
     let sorted = may_be_first sides.first sides.second in
     let counted = is_count (length sides.first + length sides.second) in
-    let o = second_of kings order (first_of (kings && order) sorted (first_of (kings && order && sorted) counted h)) in
-    record { first = first_of (is_in_order sides.first) (is_in_order sides.second) o; second = second_of (is_in_order sides.first) (is_in_order sides.second) o }
+    let o = (and_parts kings order (and_parts (kings && order) sorted ((and_parts (kings && order && sorted) counted h).0)).0).1 in
+    record { first = (and_parts (is_in_order sides.first) (is_in_order sides.second) o).0; second = (and_parts (is_in_order sides.first) (is_in_order sides.second) o).1 }
 
 pub same_sides-Decides : (a b : Sides) → IsMaterial a → IsMaterial b → Decides (is_same_men a.first b.first && is_same_men a.second b.second) (a ≡ b)
 same_sides-Decides a b p q =
     let x = ordered a p in let y = ordered b q in
     let f = same_men-Decides a.first b.first x.first y.first in
     let g = same_men-Decides a.second b.second x.second y.second in (
-      λ h. let m = f.0 (first_of (is_same_men a.first b.first) (is_same_men a.second b.second) h) in
-          let n = g.0 (second_of (is_same_men a.first b.first) (is_same_men a.second b.second) h) in
+      λ h. let m = f.0 (and_parts (is_same_men a.first b.first) (is_same_men a.second b.second) h).0 in
+          let n = g.0 (and_parts (is_same_men a.first b.first) (is_same_men a.second b.second) h).1 in
           let left : ◌≡◌ {A = Sides} (record { first = a.first; second = a.second }) (record { first = b.first; second = a.second }) = ap (λ men. record { first = men; second = a.second }) m in
           let right : ◌≡◌ {A = Sides} (record { first = b.first; second = a.second }) (record { first = b.first; second = b.second }) = ap (λ men. record { first = b.first; second = men }) n in
           left ∙ right,

@@ -4,9 +4,10 @@ use Rattle.std.specs.Prelude.{true, false, Option, Some, IsNone, None, flat_map,
 use Rattle.szg_values.specs.Material.{is_count, may_be_first}
 use Rattle.std.proofs.lemmas.List.{take_more, flat_map_more}
 use Rattle.std.proofs.Math.ListN.{length-replicate}
+use Rattle.std.proofs.lemmas.Bool.{and_parts, leb-true}
 use Rattle.szg_values.specs.Men.{name_order}
 use Rattle.szg_values.specs.Placement.{Standing, number_of, has_men, placement_fault, side_of, material_of}
-use Rattle.szg_values.proofs.MaterialOf.{all_counted, all_kinds, pass, first_of, second_of, le_from}
+use Rattle.szg_values.proofs.MaterialOf.{all_counted, all_kinds, pass}
 use Rattle.szg_values.specs.declared.Man.{Man}
 use Rattle.szg_values.specs.declared.Man.TheVariants.{King}
 use Rattle.szg_values.specs.declared.Color.{Color}
@@ -21,8 +22,8 @@ pub placed_few : (standing : List Standing) → placement_fault standing ≡ Non
 unfolding placement_fault
 placed_few standing h =
     let men = pass (has_men standing) _ _ h in
-    let counted = first_of (is_count (length standing)) (number_of King White standing == 1) (first_of (is_count (length standing) && number_of King White standing == 1) (number_of King Black standing == 1) men) in
-    le_from (length standing) 6 (second_of (nat_le 3 (length standing)) (nat_le (length standing) 6) counted)
+    let counted = (and_parts (is_count (length standing)) (number_of King White standing == 1) (and_parts (is_count (length standing) && number_of King White standing == 1) (number_of King Black standing == 1) men).0).0 in
+    leb-true (length standing) 6 (and_parts (nat_le 3 (length standing)) (nat_le (length standing) 6) counted).1
 
 -- the men of the first i kinds
 abbrev pub side_so_far : Color → List Standing → ℕ → List Man

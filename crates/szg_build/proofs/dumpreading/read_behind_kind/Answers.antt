@@ -1,6 +1,5 @@
-use Rattle.std.proofs.Common.{ℕ, ◌*◌, List, length, map, ap, arith}
+use Rattle.std.proofs.Common.{ℕ, ◌*◌, length, map, ap, arith}
 use Rattle.std.proofs.lemmas.Result.{err_from_is_err_and}
-use Rattle.szg_file.specs.Contents.{Part}
 use Rattle.szg_file.specs.Held.{part_of}
 use Rattle.szg_build.specs.Dump.{parts_of, places_of}
 use Rattle.szg_build.specs.Lines.{◌>>=◌}

@@ -1,6 +1,6 @@
 use Rattle.std.proofs.lemmas.Bool.Decides.{nat_tests}
 use Rattle.std.proofs.Common.{rules}
-use Rattle.std.proofs.Common.{◌≡◌, ◌+◌, suc, add-one, ap, sym, ◌∙◌, take, drop, length, arith}
+use Rattle.std.proofs.Common.{◌≡◌, add-one, ap, ◌∙◌, drop, length, arith}
 use Rattle.szg_build.specs.Held.{held_of}
 use Rattle.szg_build.specs.Lines.{words_of}
 use Rattle.szg_build.proofs.LineRead.{reads_whole, reads_long, reads_ended}

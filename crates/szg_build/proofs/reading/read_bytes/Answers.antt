@@ -1,7 +1,7 @@
-use Rattle.std.proofs.Common.{◌≡◌, ◌+◌, ◌-◌, ◌++◌, [], ◌∷◌, ℕ, suc, refl, arith}
+use Rattle.std.proofs.Common.{◌+◌, ◌-◌, ◌++◌, [], ◌∷◌, ℕ, refl, arith}
 use Rattle.std.proofs.lemmas.Result.{err_from_is_err_and}
 use Rattle.szg_build.specs.Lines.{Lines}
-use Rattle.szg_build.specs.Grammar.{value, repeated, number_line, greatest_item}
+use Rattle.szg_build.specs.Grammar.{value, repeated, number_line}
 use Rattle.szg_build.proofs.GoingLaws.{items_begun, item_more, item_stopped, items_ended, goes_unheld}
 use Rattle.szg_build.proofs.SayingLaws.{item_front}
 use Rattle.szg_build.proofs.LackLaws.{lacks_left}

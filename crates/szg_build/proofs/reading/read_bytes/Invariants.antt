@@ -1,5 +1,5 @@
-use Rattle.std.proofs.Common.{◌≡◌, ◌+◌, ◌-◌, ◌≤◌, length, [], ◌∷◌, ◌++◌}
-use Rattle.szg_build.specs.Grammar.{value, repeated, number_line, greatest_item}
+use Rattle.std.proofs.Common.{◌+◌, ◌-◌, ◌≤◌, length, [], ◌∷◌, ◌++◌}
+use Rattle.szg_build.specs.Grammar.{value, repeated, number_line}
 use Rattle.szg_build.specs.Held.{held_of}
 use Rattle.szg_build.proofs.GoingLaws.{GoesOn, mapped}
 use Rattle.szg_build.proofs.reading.read_bytes.Given as goal

@@ -1,4 +1,4 @@
-use Rattle.std.proofs.Common.{map, sym, refl, Some, None, option_map}
+use Rattle.std.proofs.Common.{map, sym, refl, None, option_map}
 use Rattle.std.proofs.lemmas.Result.{err_from_is_err_and}
 use Rattle.szg_file.specs.Contents.{has_bit}
 use Rattle.szg_file.specs.Held.{map_of}

@@ -1,9 +1,8 @@
-use Rattle.std.proofs.Common.{◌≡◌, ◌+◌, ◌-◌, ◌++◌, [], ◌∷◌, ℕ, List, map, refl, ap, sym, subst, ◌∙◌, arith}
+use Rattle.std.proofs.Common.{◌+◌, ◌-◌, ◌++◌, [], ◌∷◌, map, refl, ap, ◌∙◌, arith}
 use Rattle.std.proofs.lemmas.List.{map-append}
 use Rattle.std.proofs.lemmas.Result.{err_from_is_err_and}
 use Rattle.szg_file.specs.Held.{part_of}
 use Rattle.szg_build.specs.Grammar.{each, part_line}
-use Rattle.szg_build.specs.Reading.{ReadsLines}
 use Rattle.szg_build.proofs.GoingLaws.{each_begun, each_more, each_stopped, each_ended, goes_unheld}
 use Rattle.std.specs.List.{range_with_len}
 use Rattle.szg_build.proofs.LackLaws.{lacks_left, lacks_each, asks_range}

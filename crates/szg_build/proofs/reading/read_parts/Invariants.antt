@@ -1,7 +1,6 @@
-use Rattle.std.proofs.Common.{◌≡◌, ◌+◌, ◌-◌, ◌≤◌, length, map, ◌++◌}
+use Rattle.std.proofs.Common.{◌+◌, ◌-◌, ◌≤◌, length, map, ◌++◌}
 use Rattle.std.specs.List.{range_with_len}
 use Rattle.szg_file.specs.Held.{part_of}
-use Rattle.szg_file.specs.Contents.{part_numbers}
 use Rattle.szg_build.specs.Grammar.{each, part_line}
 use Rattle.szg_build.specs.Held.{held_of}
 use Rattle.szg_build.proofs.GoingLaws.{GoesOn, mapped}

@@ -1,4 +1,4 @@
-use Rattle.std.proofs.Common.{◌≡◌, ◌+◌, ◌-◌, ◌<◌, ◌≤◌, ◌++◌, ℕ, replicate, refl, arith}
+use Rattle.std.proofs.Common.{◌-◌, ◌++◌, ℕ, replicate, refl, arith}
 use Rattle.std.proofs.lemmas.Result.{err_from_is_err_and}
 use Rattle.szg_build.proofs.GoingLaws.{runs_begun, run_more, run_stopped, runs_ended}
 use Rattle.szg_build.specs.Grammar.{run_values}

@@ -1,4 +1,4 @@
-use Rattle.std.proofs.Common.{ℕ, ◌≡◌, ◌+◌, ◌-◌, ◌≤◌, length}
+use Rattle.std.proofs.Common.{ℕ, ◌≤◌, length}
 use Rattle.szg_build.specs.Grammar.{run_values}
 use Rattle.szg_build.specs.Held.{held_of}
 use Rattle.szg_build.proofs.GoingLaws.{GoesOn, runs_left}

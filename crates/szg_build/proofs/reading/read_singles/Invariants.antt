@@ -1,4 +1,4 @@
-use Rattle.std.proofs.Common.{◌≡◌, ◌+◌, ◌-◌, ◌≤◌, length, [], ◌∷◌, ◌++◌}
+use Rattle.std.proofs.Common.{◌+◌, ◌-◌, ◌≤◌, length, [], ◌∷◌, ◌++◌}
 use Rattle.szg_build.specs.Grammar.{value, repeated, number_line, greatest_item}
 use Rattle.szg_build.specs.Held.{held_of}
 use Rattle.szg_build.proofs.GoingLaws.{GoesOn, mapped}

@@ -1,4 +1,4 @@
-use Rattle.std.proofs.Common.{ℕ, List, [], ◌∷◌, arith}
+use Rattle.std.proofs.Common.{ℕ, [], ◌∷◌, arith}
 use Rattle.std.proofs.lemmas.Result.{err_from_is_err_and}
 use Rattle.szg_build.specs.Grammar.{value, number_line, repeated, greatest_count, greatest_item}
 use Rattle.szg_build.proofs.ReadingLaws.{reads_then, reads_stopped, same_error}

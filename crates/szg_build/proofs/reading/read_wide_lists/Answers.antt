@@ -1,7 +1,7 @@
-use Rattle.std.proofs.Common.{ℕ, ◌+◌, List, [], ◌∷◌, ◌++◌, map, refl, arith}
+use Rattle.std.proofs.Common.{ℕ, ◌+◌, List, [], ◌∷◌, map, refl, arith}
 use Rattle.std.proofs.lemmas.Result.{err_from_is_err_and}
 use Rattle.szg_build.specs.Lines.{Lines}
-use Rattle.szg_build.specs.Grammar.{each, map_list, greatest_item}
+use Rattle.szg_build.specs.Grammar.{map_list, greatest_item}
 use Rattle.szg_build.proofs.GoingLaws.{each_begun, each_more, each_stopped, each_ended}
 use Rattle.szg_build.proofs.LackLaws.{lacks_each}
 use Rattle.szg_build.proofs.LeastLaws.{asks_map_list}

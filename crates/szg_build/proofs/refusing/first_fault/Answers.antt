@@ -1,8 +1,7 @@
-use Rattle.std.proofs.Common.{ℕ, ◌≡◌, List, length, map, Option, Some, None, true, false, sym, ap, ◌∙◌}
+use Rattle.std.proofs.Common.{ℕ, ◌≡◌, List, length, map, true, false, sym, ◌∙◌}
 use Rattle.std.specs.Prelude.{◌==◌}
-use Rattle.std.proofs.lemmas.Bool.{ne_eqb, eq-eqb}
+use Rattle.std.proofs.lemmas.Bool.{ne_eqb, eq-eqb, le-leb}
 use Rattle.std.proofs.lemmas.List.{length-map}
-use Rattle.szg_build.specs.Plan.{Plan, wrong_length, wrong_value, too_many_values}
 use Rattle.szg_build.specs.Shown.{plan_seen}
 use Rattle.szg_build.proofs.RefusalLaws as laws
 use Rattle.szg_build.proofs.refusing.first_fault.Goals as goal
@@ -26,20 +25,20 @@ returns-then-plan-gt-MAX_ROUNDS c =
 pub returns-then-lists-sizes : goal.returns-then-lists-sizes
 returns-then-lists-sizes c =
     laws.told_count c.args.sizes.now (plan_seen c.args.plan.now) (map (λ list. list.now) c.args.lists.now) (sym c.if-not-bits_stand.ensures)
-    (laws.few_enough c.args.plan.now.rounds 4000 c.if-plan-gt-MAX_ROUNDS.false)
+    (le-leb c.args.plan.now.rounds 4000 c.if-plan-gt-MAX_ROUNDS.false)
     (count_fails (λ list. list.now) c.args.sizes.now c.args.lists.now c.if-lists-sizes.true)
 
 pub returns-in-Some : goal.returns-in-Some
 returns-in-Some c =
     laws.told_length c.args.sizes.now (plan_seen c.args.plan.now) (map (λ list. list.now) c.args.lists.now) c.in-Some.n (sym c.if-not-bits_stand.ensures)
-    (laws.few_enough c.args.plan.now.rounds 4000 c.if-plan-gt-MAX_ROUNDS.false)
+    (le-leb c.args.plan.now.rounds 4000 c.if-plan-gt-MAX_ROUNDS.false)
     (count_is (λ list. list.now) c.args.sizes.now c.args.lists.now c.if-lists-sizes.false)
     (sym (laws.lengths_lent (λ list. list.now) c.args.sizes.now c.args.lists.now) ∙ sym c.in-Some.ensures)
 
 pub returns-in-Some-wrong_value : goal.returns-in-Some-wrong_value
 returns-in-Some-wrong_value c =
     laws.told_value c.args.sizes.now (plan_seen c.args.plan.now) (map (λ list. list.now) c.args.lists.now) c.in-Some-wrong_value.n (sym c.if-not-bits_stand.ensures)
-    (laws.few_enough c.args.plan.now.rounds 4000 c.if-plan-gt-MAX_ROUNDS.false)
+    (le-leb c.args.plan.now.rounds 4000 c.if-plan-gt-MAX_ROUNDS.false)
     (count_is (λ list. list.now) c.args.sizes.now c.args.lists.now c.if-lists-sizes.false)
     (sym (laws.lengths_lent (λ list. list.now) c.args.sizes.now c.args.lists.now) ∙ sym c.wrong_length.ensures ∙ laws.not_some c.wrong_length.result c.in_default.not-Some)
     (sym (laws.values_lent (λ list. list.now) c.args.plan.now.kind c.args.lists.now) ∙ sym c.in-Some-wrong_value.ensures)
@@ -51,7 +50,7 @@ too_many_values-requires c =
 pub returns-in-Some-too_many_values : goal.returns-in-Some-too_many_values
 returns-in-Some-too_many_values c =
     laws.told_many c.args.sizes.now (plan_seen c.args.plan.now) (map (λ list. list.now) c.args.lists.now) c.in-Some-too_many_values.n (sym c.if-not-bits_stand.ensures)
-    (laws.few_enough c.args.plan.now.rounds 4000 c.if-plan-gt-MAX_ROUNDS.false)
+    (le-leb c.args.plan.now.rounds 4000 c.if-plan-gt-MAX_ROUNDS.false)
     (count_is (λ list. list.now) c.args.sizes.now c.args.lists.now c.if-lists-sizes.false)
     (sym (laws.lengths_lent (λ list. list.now) c.args.sizes.now c.args.lists.now) ∙ sym c.wrong_length.ensures ∙ laws.not_some c.wrong_length.result c.in_default.not-Some)
     (sym (laws.values_lent (λ list. list.now) c.args.plan.now.kind c.args.lists.now) ∙ sym c.wrong_value.ensures ∙ laws.not_some c.wrong_value.result c.in_default-wrong_value.not-Some)
@@ -60,7 +59,7 @@ returns-in-Some-too_many_values c =
 pub returns-then-not-maps_stand : goal.returns-then-not-maps_stand
 returns-then-not-maps_stand c =
     laws.told_map c.args.sizes.now (plan_seen c.args.plan.now) (map (λ list. list.now) c.args.lists.now) (sym c.if-not-bits_stand.ensures)
-    (laws.few_enough c.args.plan.now.rounds 4000 c.if-plan-gt-MAX_ROUNDS.false)
+    (le-leb c.args.plan.now.rounds 4000 c.if-plan-gt-MAX_ROUNDS.false)
     (count_is (λ list. list.now) c.args.sizes.now c.args.lists.now c.if-lists-sizes.false)
     (sym (laws.lengths_lent (λ list. list.now) c.args.sizes.now c.args.lists.now) ∙ sym c.wrong_length.ensures ∙ laws.not_some c.wrong_length.result c.in_default.not-Some)
     (sym (laws.values_lent (λ list. list.now) c.args.plan.now.kind c.args.lists.now) ∙ sym c.wrong_value.ensures ∙ laws.not_some c.wrong_value.result c.in_default-wrong_value.not-Some)
@@ -70,7 +69,7 @@ returns-then-not-maps_stand c =
 pub returns : goal.returns
 returns c =
     laws.told_none c.args.sizes.now (plan_seen c.args.plan.now) (map (λ list. list.now) c.args.lists.now) (sym c.if-not-bits_stand.ensures)
-    (laws.few_enough c.args.plan.now.rounds 4000 c.if-plan-gt-MAX_ROUNDS.false)
+    (le-leb c.args.plan.now.rounds 4000 c.if-plan-gt-MAX_ROUNDS.false)
     (count_is (λ list. list.now) c.args.sizes.now c.args.lists.now c.if-lists-sizes.false)
     (sym (laws.lengths_lent (λ list. list.now) c.args.sizes.now c.args.lists.now) ∙ sym c.wrong_length.ensures ∙ laws.not_some c.wrong_length.result c.in_default.not-Some)
     (sym (laws.values_lent (λ list. list.now) c.args.plan.now.kind c.args.lists.now) ∙ sym c.wrong_value.ensures ∙ laws.not_some c.wrong_value.result c.in_default-wrong_value.not-Some)

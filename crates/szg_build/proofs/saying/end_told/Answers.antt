@@ -1,5 +1,5 @@
-use Rattle.std.proofs.Common.{◌≡◌, ◌∙◌, List, ℕ, length, sym, ap, Some, None, arith}
-use Rattle.szg_build.specs.Lines.{means, refuses, of_line}
+use Rattle.std.proofs.Common.{◌∙◌, List, ℕ, sym, ap, Some, None, arith}
+use Rattle.szg_build.specs.Lines.{means}
 use Rattle.szg_build.proofs.SayingLaws.{end_unsaid, end_said, sixteen_there, sixteen_none}
 use Rattle.szg_build.proofs.saying.end_told.Goals as goal
 

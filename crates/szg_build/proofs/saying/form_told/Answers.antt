@@ -1,6 +1,5 @@
-use Rattle.std.proofs.Common.{◌∙◌, List, ℕ, sym, ap, Some, None}
-use Rattle.std.specs.Prelude.{bytes_eq, codes}
-use Rattle.szg_build.specs.Grammar.{form_in}
+use Rattle.std.proofs.Common.{◌∙◌, sym, ap, None}
+use Rattle.std.specs.Prelude.{bytes_eq}
 use Rattle.szg_build.proofs.SayingLaws.{version_unsaid, version_said, form_none}
 use Rattle.szg_build.proofs.saying.form_told.Goals as goal
 

@@ -1,4 +1,4 @@
-use Rattle.std.proofs.Common.{◌∙◌, sym, Some, None}
+use Rattle.std.proofs.Common.{sym, Some, None}
 use Rattle.szg_build.proofs.SayingLaws.{number_unsaid, number_said}
 use Rattle.szg_build.proofs.saying.number_told.Goals as goal
 

@@ -1,4 +1,4 @@
-use Rattle.std.proofs.Common.{◌≡◌, ◌∙◌, Bool, true, false, sym, arith}
+use Rattle.std.proofs.Common.{◌≡◌, ◌∙◌, true, false, sym, arith}
 use Rattle.std.proofs.lemmas.Slice.Eq.{bytes_eq-Decides}
 use Rattle.szg_build.proofs.SayingLaws.{place_said, place_unsaid, same_word}
 use Rattle.szg_build.proofs.saying.place_told.Goals as goal

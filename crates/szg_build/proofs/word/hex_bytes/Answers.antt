@@ -1,7 +1,5 @@
-use Rattle.std.proofs.Common.{◌≡◌, ◌/◌, ◌∙◌, ℕ, List, Some, ◌++◌, length, sym, ap, arith, rules}
-use Rattle.std.proofs.lemmas.List.{length-take}
+use Rattle.std.proofs.Common.{◌∙◌, ℕ, List, Some, ◌++◌, sym, ap, rules}
 use Rattle.szg_build.proofs.HexWords.{none_refused, none_otherwise, some_told}
-use Rattle.szg_build.specs.Grammar.{bytes_in}
 use Rattle.szg_build.proofs.word.hex_bytes.Goals as goal
 
 pub returns-in_default : goal.returns-in_default

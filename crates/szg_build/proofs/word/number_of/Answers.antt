@@ -1,6 +1,4 @@
-use Rattle.std.proofs.Common.{◌≡◌, ◌<◌, ◌≤◌, ◌^◌, ◌∙◌, Bool, List, ℕ, true, false, sym, ap, arith, Ok}
-use Rattle.std.specs.Fmt.{decimal}
-use Rattle.std.specs.Prelude.{bytes_eq}
+use Rattle.std.proofs.Common.{◌≡◌, ◌∙◌, true, false, sym, ap, arith}
 use Rattle.std.proofs.lemmas.Slice.Eq.{bytes_eq-Decides}
 use Rattle.szg_build.specs.Grammar.{number_in}
 use Rattle.szg_build.proofs.NumberWords.{number_there, number_of_no_text, number_of_no_digits, number_of_another}

@@ -10,10 +10,10 @@ pub returns-clause-statuses : goal.returns-clause-statuses
 returns-clause-statuses c =
     let Told : Kept → Type 0 = λ h. (content : List ℕ) → IsKeptOf h content → MatchOption (with_index (kept_at h content c.args.part c.args.side) c.args.index) (c.value_in-status.result ≡ 4)
     (λ found. (c.value_in-status.result ≡ 0) ⊎ (c.value_in-status.result ≡ 17)) in
-    subst (λ (o : Option Kept). IfSome o Told) (sym c.in-Some.ensures.heads) (subst Told (c.value.ensures ∙ c.deref.ensures) c.value_in-status.ensures.statuses)
+    subst (λ (o : Option Kept). IfSome o Told) (sym c.in-Some.ensures.taken) (subst Told (c.value.ensures ∙ c.deref.ensures) c.value_in-status.ensures.statuses)
 
 pub returns-clause-done : goal.returns-clause-done
 returns-clause-done c =
     let Told : Kept → Type 0 = λ h. (content : List ℕ) → IsKeptOf h content → IfSome (with_index (kept_at h content c.args.part c.args.side) c.args.index)
     (λ found. IfSome (wanted_block found.1 c.args.index) (λ block. block ≡ c.args.piece.now) → (c.value_in-status.result ≡ 0) × (item (values_of h.kind found) c.args.index ≡ Some c.value_in-status.new.value)) in
-    subst (λ (o : Option Kept). IfSome o Told) (sym c.in-Some.ensures.heads) (subst Told (c.value.ensures ∙ c.deref.ensures) c.value_in-status.ensures.done)
+    subst (λ (o : Option Kept). IfSome o Told) (sym c.in-Some.ensures.taken) (subst Told (c.value.ensures ∙ c.deref.ensures) c.value_in-status.ensures.done)

@@ -18,7 +18,7 @@ returns-in-Some-clause-statuses c content kept =
 
 pub returns-in-Some-clause-done : goal.returns-in-Some-clause-done
 returns-in-Some-clause-done c content kept =
-    there_if _ _ (kept_at c.args.heads.now content c.args.part c.args.side) c.args.index (c.in-Some.ensures content kept) (λ found value given. (refl, value given))
+    there_if _ _ (kept_at c.args.heads.now content c.args.part c.args.side) c.args.index (c.in-Some.ensures.value content kept) (λ found value given. (refl, value given))
 
 pub returns-in-None-clause-statuses : goal.returns-in-None-clause-statuses
 returns-in-None-clause-statuses c content kept =
@@ -26,4 +26,4 @@ returns-in-None-clause-statuses c content kept =
 
 pub returns-in-None-clause-done : goal.returns-in-None-clause-done
 returns-in-None-clause-done c content kept =
-    there_if _ _ (kept_at c.args.heads.now content c.args.part c.args.side) c.args.index (c.in-None.ensures content kept) (λ found value given. absurd (value given))
+    there_if _ _ (kept_at c.args.heads.now content c.args.part c.args.side) c.args.index (c.in-None.ensures.value content kept) (λ found value given. absurd (value given))

@@ -21,7 +21,7 @@ subtables-init g c = record {
   read = reads_nothing (means []) (λ subs. map subtable_of subs.items) c.new-subs.result (ap (λ (l : List Sub). means (map subtable_of l)) (sym c.new-subs.ensures.items));
   count = ap length c.new-subs.ensures.items;
   place = omega arith;
-  held = omega arith;
+  growth = omega arith;
   grown = omega (arith, none_yet (λ (sub : Sub). sub_lengths (subtable_of sub)) c.new-subs.result.items c.new-subs.ensures.items);
 }
 
@@ -60,14 +60,14 @@ subtables-preserved g c =
           (reads_as (blocks_field c.in-Some.measured) (blocks_field c.in-Some.measured) subtable_of subtable_of c.in_ok-sub.sub c.in_ok-sub.sub refl refl c.in_ok-append.ensures.place c.in_ok-append.ensures.fill c.in_ok-sub.ensures.blocks));
       count = ap length c.in_ok-append.ensures.items ∙ kept ∙ omega (arith, c.subtables.invariant.count, longer);
       place = omega (arith, c.subtables.invariant.place, c.in_ok-sub.ensures.place, c.in_ok-append.ensures.place, longer);
-      held = omega (arith, c.subtables.invariant.held, c.in_ok-sub.ensures.held, c.in_ok-append.ensures.held, c.in_ok-append.ensures.place, longer);
+      growth = omega (arith, c.subtables.invariant.growth, c.in_ok-sub.ensures.growth, c.in_ok-append.ensures.growth, c.in_ok-append.ensures.place, longer);
       grown = omega (
         arith,
         one_more (λ (sub : Sub). sub_lengths (subtable_of sub)) c.subtables.subs.items c.append.new.list.items c.in_ok-sub.sub c.in_ok-append.ensures.items,
         sum_by_push (λ (b : Begun). sub_lengths b.subtable) c.subtables.yielded c.in-Some.measured,
         c.subtables.invariant.grown,
         c.in_ok-sub.ensures.grown,
-        c.in_ok-append.ensures.held,
+        c.in_ok-append.ensures.growth,
         ap length c.in_ok-append.ensures.fill,
       );
     }

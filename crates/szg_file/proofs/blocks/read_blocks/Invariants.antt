@@ -10,6 +10,6 @@ invariant-subtables g l = record {
   read : Reading (each blocks_field (take (length l.yielded) l.fn.list.items)) (λ subs. map subtable_of subs.items) l.fn.front l.front g.R.Input l.fn.input l.input (Ok l.subs);
   count : length l.subs.items ≡ length l.yielded;
   place : l.front.place ≤ l.fn.front.place + length l.yielded * 2 ^ 51;
-  held : l.front.held + 2 * l.fn.front.place ≤ l.fn.front.held + 2 * l.front.place + length l.yielded;
+  growth : l.front.growth + 2 * l.fn.front.place ≤ l.fn.front.growth + 2 * l.front.place + length l.yielded;
   grown : HasCounted l.fn.front l.front (begun_lengths l.yielded) (length l.subs.items + subs_lengths l.subs.items);
 }

@@ -16,7 +16,7 @@ each_block-init g c = record {
   before = rw c.in-Pairs.is refl;
   few = omega arith;
   place = omega arith;
-  held = omega arith;
+  growth = omega arith;
   grown = omega (arith, ap length c.new-packed.ensures.items);
 }
 
@@ -46,6 +46,6 @@ each_block-preserved g c =
       before = rw c.in-Pairs.is (omega (arith, step, next, before, length_is));
       few = omega (arith, c.each_block.invariant.few);
       place = omega (arith, c.each_block.invariant.place, c.in_ok-take_block.ensures.place);
-      held = omega (arith, c.each_block.invariant.held, c.in_ok-take_block.ensures.held);
+      growth = omega (arith, c.each_block.invariant.growth, c.in_ok-take_block.ensures.growth);
       grown = omega (arith, c.each_block.invariant.grown, c.in_ok-take_block.ensures.grown);
     }

@@ -13,6 +13,6 @@ invariant-each_block g l = record {
   before : IfSome (layout_of l.sub) (λ layout. l.before ≡ start layout.lengths l.n);
   few : l.before ≤ l.n * 65536;
   place : l.front.place ≤ l.fn.front.place + l.n * 2 ^ 18;
-  held : l.front.held + 2 * l.fn.front.place ≤ l.fn.front.held + 2 * l.front.place;
+  growth : l.front.growth + 2 * l.fn.front.place ≤ l.fn.front.growth + 2 * l.front.place;
   grown : HasCounted l.fn.front l.front 0 (length l.packed.items);
 }

@@ -21,7 +21,7 @@ each_block-init g c =
       few = omega arith;
       count = rw c.in-Pairs.is (omega arith);
       place = omega arith;
-      held = refl;
+      growth = refl;
     }
 
 pub returns-in_err-pass_block-clause-blocks : goal.returns-in_err-pass_block-clause-blocks
@@ -50,5 +50,5 @@ each_block-preserved g c =
       few = omega (arith, c.each_block.invariant.few);
       count = rw c.in-Pairs.is (omega (arith, count, room, c.in_ok-pass_block.ensures.place, c.each_block.auto.buffer));
       place = omega (arith, c.each_block.invariant.place, c.in_ok-pass_block.ensures.place, c.requires.short, c.each_block.auto.buffer);
-      held = c.in_ok-pass_block.ensures.held ∙ c.each_block.invariant.held;
+      growth = c.in_ok-pass_block.ensures.growth ∙ c.each_block.invariant.growth;
     }

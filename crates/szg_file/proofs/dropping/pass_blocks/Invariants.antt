@@ -14,5 +14,5 @@ invariant-each_block g l = record {
   few : l.before ≤ l.n * 65536;
   count : IfSome (layout_of l.sub) (λ layout. l.front.place ≡ l.fn.front.place + l.n * 2 ^ layout.block_bits);
   place : l.front.place ≤ l.fn.front.place + l.n * 2 ^ 18;
-  held : l.front.held ≡ l.fn.front.held;
+  growth : l.front.growth ≡ l.fn.front.growth;
 }

@@ -25,7 +25,7 @@ subtables-init g c =
       fits = subst (λ (l : List PlacedSub). AllByRecursion (Fits (length moved) (length c.args.buffer.now.items)) l) (sym c.new-subs.ensures.items) tt;
       at = c.requires.at;
       place = omega arith;
-      held = omega arith;
+      growth = omega arith;
     }
 
 pub returns-in_err-sub-clause-blocks : goal.returns-in_err-sub-clause-blocks
@@ -74,5 +74,5 @@ subtables-preserved g c =
           (all_fit (Fits (length behind) (length c.pass_sub.new.buffer.items)) subs sub (still_fit (length before) (length behind) (length c.subtables.buffer.items) (length c.pass_sub.new.buffer.items) subs (omega (arith, more)) c.in_ok-sub.ensures.room c.subtables.invariant.fits) c.in_ok-sub.ensures.fits);
       at = c.in_ok-append.ensures.place ∙ stands_at (blocks_field c.in-Some.measured) (whole_sub behind) sub c.subtables.invariant.at c.in_ok-sub.ensures.blocks;
       place = omega (arith, c.subtables.invariant.place, c.in_ok-sub.ensures.place, c.in_ok-append.ensures.place, longer);
-      held = omega (arith, c.subtables.invariant.held, c.in_ok-sub.ensures.held, c.in_ok-append.ensures.held, c.in_ok-append.ensures.place, longer);
+      growth = omega (arith, c.subtables.invariant.growth, c.in_ok-sub.ensures.growth, c.in_ok-append.ensures.growth, c.in_ok-append.ensures.place, longer);
     }

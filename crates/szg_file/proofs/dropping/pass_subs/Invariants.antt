@@ -11,5 +11,5 @@ invariant-subtables g l = record {
   fits : AllByRecursion (Fits (length (g.R.Input.moved l.input)) (length l.buffer.items)) l.subs.items;
   at : l.front.place ≡ length (g.R.Input.moved l.input);
   place : l.front.place ≤ l.fn.front.place + length l.yielded * 2 ^ 51;
-  held : l.front.held + 2 * l.fn.front.place ≤ l.fn.front.held + 2 * l.front.place + length l.yielded;
+  growth : l.front.growth + 2 * l.fn.front.place ≤ l.fn.front.growth + 2 * l.front.place + length l.yielded;
 }

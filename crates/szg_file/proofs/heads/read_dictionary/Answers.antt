@@ -17,9 +17,9 @@ read_entries-requires-clause-place g c =
 pub read_entries-requires-clause-paid : goal.read_entries-requires-clause-paid
 read_entries-requires-clause-paid g c =
     let first = c.in_ok-count.ensures.place in
-    let held = c.in_ok-count.ensures.held in
+    let growth = c.in_ok-count.ensures.growth in
     let paid = c.requires.paid in
-    omega (arith, first, held, paid)
+    omega (arith, first, growth, paid)
 
 pub returns-in_err-dict-clause-dictionary : goal.returns-in_err-dict-clause-dictionary
 returns-in_err-dict-clause-dictionary g c =

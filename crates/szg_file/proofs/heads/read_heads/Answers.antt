@@ -18,7 +18,7 @@ slots-init g c = record {
   made = c.new-list.ensures.items;
   count = ap length c.new-list.ensures.items;
   place = omega arith;
-  held = omega arith;
+  growth = omega arith;
   grown = omega (arith, none_yet (λ (b : Begun). sub_lengths b.subtable) c.new-list.result.items c.new-list.ensures.items);
 }
 
@@ -63,13 +63,13 @@ slots-preserved g c =
           ∙ ap (λ (l : List Subtable). begun (take (i + 1) xs) l) (sym shown);
       count = omega (arith, ap length more, length-append old (b ∷ []), c.slots.invariant.count);
       place = omega (arith, c.slots.invariant.place, c.in_ok-begun.ensures.place, c.in_ok-append.ensures.place);
-      held = omega (arith, c.slots.invariant.held, c.in_ok-begun.ensures.held, c.in_ok-append.ensures.held, c.in_ok-append.ensures.place);
+      growth = omega (arith, c.slots.invariant.growth, c.in_ok-begun.ensures.growth, c.in_ok-append.ensures.growth, c.in_ok-append.ensures.place);
       grown = omega (
         arith,
         one_more (λ (b : Begun). sub_lengths b.subtable) old c.append.new.list.items b more,
         c.slots.invariant.grown,
         c.in_ok-begun.ensures.grown,
-        c.in_ok-append.ensures.held,
+        c.in_ok-append.ensures.growth,
         ap length c.in_ok-append.ensures.fill,
       );
     }

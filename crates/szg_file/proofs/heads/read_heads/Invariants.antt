@@ -10,6 +10,6 @@ invariant-slots g l = record {
   made : l.list.items ≡ begun (take l.slot-index l.slots) (map (λ (b : Begun). b.subtable) l.list.items);
   count : length l.list.items ≡ l.slot-index;
   place : l.front.place ≤ l.fn.front.place + l.slot-index * 2 ^ 18;
-  held : l.front.held + 2 * l.fn.front.place ≤ l.fn.front.held + 2 * l.front.place + l.slot-index;
+  growth : l.front.growth + 2 * l.fn.front.place ≤ l.fn.front.growth + 2 * l.front.place + l.slot-index;
   grown : HasCounted l.fn.front l.front 0 (length l.list.items + begun_lengths l.list.items);
 }

@@ -57,7 +57,7 @@ read_dictionary-requires-clause-paid g c =
     let b = c.in_ok-span_bits.ensures in
     let d = c.in_ok-sizes.ensures in
     let e = c.in_ok-lowest.ensures in
-    omega (arith, a.place, b.place, d.place, e.place, a.held, b.held, d.held, e.held, c.requires.paid)
+    omega (arith, a.place, b.place, d.place, e.place, a.growth, b.growth, d.growth, e.growth, c.requires.paid)
 
 pub read_dictionary-requires-clause-place : goal.read_dictionary-requires-clause-place
 read_dictionary-requires-clause-place g c =

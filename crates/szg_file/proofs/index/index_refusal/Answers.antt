@@ -15,15 +15,15 @@ overflow_add-result c =
     let below = bad_below c.args.size (packed_of c.args.sub.now) c.in-Err-SparseEntry.entry (layout_of c.args.sub.now) c.requires.shaped.1 fault.1 in
     search (rules, below)
 
-pub returns-in-Ok : goal.returns-in-Ok
-returns-in-Ok c = index_passes c.args.place c.args.index c.args.size (layout_of c.args.sub.now) c.in-Ok.ensures.ok
+pub returns-in-Ok-clause-checks : goal.returns-in-Ok-clause-checks
+returns-in-Ok-clause-checks c = index_passes c.args.place c.args.index c.args.size (layout_of c.args.sub.now) c.in-Ok.ensures.ok
 
-pub returns-in-Err-ShortTotal : goal.returns-in-Err-ShortTotal
-returns-in-Err-ShortTotal c =
+pub returns-in-Err-ShortTotal-clause-checks : goal.returns-in-Err-ShortTotal-clause-checks
+returns-in-Err-ShortTotal-clause-checks c =
     let fault = rw c.in-Err-ShortTotal.field-0-is at c.in-Err-ShortTotal.ensures.fault in
     index_short c.args.place c.args.index c.args.size (packed_of c.args.sub.now) (layout_of c.args.sub.now) fault.1
 
-pub returns-in-Err-SparseEntry : goal.returns-in-Err-SparseEntry
-returns-in-Err-SparseEntry c =
+pub returns-in-Err-SparseEntry-clause-checks : goal.returns-in-Err-SparseEntry-clause-checks
+returns-in-Err-SparseEntry-clause-checks c =
     let fault = rw c.in-Err-SparseEntry.field-0-is at c.in-Err-SparseEntry.ensures.fault in
     index_bad c.args.place c.args.index c.args.size (packed_of c.args.sub.now) c.in-Err-SparseEntry.entry (layout_of c.args.sub.now) fault.1

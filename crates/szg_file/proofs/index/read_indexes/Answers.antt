@@ -19,7 +19,7 @@ indexes-init g c = record {
   read = reads_nothing (means []) (λ list. list.items) c.new-indexed.result (ap (λ (l : List Begun). means l) (sym c.new-indexed.ensures.items));
   count = ap length c.new-indexed.ensures.items;
   place = omega arith;
-  held = omega arith;
+  growth = omega arith;
   grown = omega (arith, none_yet (λ (b : Begun). sub_lengths b.subtable) c.new-indexed.result.items c.new-indexed.ensures.items);
 }
 
@@ -56,14 +56,14 @@ indexes-preserved g c =
           (reads_as (sparse_field c.in-Some.begun) (sparse_field c.in-Some.begun) (λ item. item) (λ item. item) c.in_ok-next.next c.in_ok-next.next refl refl c.in_ok-append.ensures.place c.in_ok-append.ensures.fill c.in_ok-next.ensures.index));
       count = ap length c.in_ok-append.ensures.items ∙ kept ∙ omega (arith, c.indexes.invariant.count, longer);
       place = omega (arith, c.indexes.invariant.place, c.in_ok-next.ensures.place, c.in_ok-append.ensures.place, longer);
-      held = omega (arith, c.indexes.invariant.held, c.in_ok-next.ensures.held, c.in_ok-append.ensures.held, c.in_ok-append.ensures.place, longer);
+      growth = omega (arith, c.indexes.invariant.growth, c.in_ok-next.ensures.growth, c.in_ok-append.ensures.growth, c.in_ok-append.ensures.place, longer);
       grown = omega (
         arith,
         one_more (λ (b : Begun). sub_lengths b.subtable) c.indexes.indexed.items c.append.new.list.items c.in_ok-next.next c.in_ok-append.ensures.items,
         sum_by_push (λ (b : Begun). sub_lengths b.subtable) c.indexes.yielded c.in-Some.begun,
         c.indexes.invariant.grown,
         c.in_ok-next.ensures.grown,
-        c.in_ok-append.ensures.held,
+        c.in_ok-append.ensures.growth,
         ap length c.in_ok-append.ensures.fill,
       );
     }

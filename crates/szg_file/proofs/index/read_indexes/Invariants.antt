@@ -9,6 +9,6 @@ invariant-indexes g l = record {
   read : Reading (each sparse_field (take (length l.yielded) l.fn.list.items)) (λ indexed. indexed.items) l.fn.front l.front g.R.Input l.fn.input l.input (Ok l.indexed);
   count : length l.indexed.items ≡ length l.yielded;
   place : l.front.place ≤ l.fn.front.place + length l.yielded * 2 ^ 36;
-  held : l.front.held + 2 * l.fn.front.place ≤ l.fn.front.held + 2 * l.front.place + length l.yielded;
+  growth : l.front.growth + 2 * l.fn.front.place ≤ l.fn.front.growth + 2 * l.front.place + length l.yielded;
   grown : HasCounted l.fn.front l.front (begun_lengths l.yielded) (length l.indexed.items + begun_lengths l.indexed.items);
 }

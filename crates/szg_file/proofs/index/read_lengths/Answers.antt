@@ -19,7 +19,7 @@ lengths-init g c = record {
   read = reads_nothing (means []) (λ list. list.items) c.new-measured.result (ap (λ (l : List Begun). means l) (sym c.new-measured.ensures.items));
   count = ap length c.new-measured.ensures.items;
   place = omega arith;
-  held = omega arith;
+  growth = omega arith;
   grown = omega (arith, none_yet (λ (b : Begun). sub_lengths b.subtable) c.new-measured.result.items c.new-measured.ensures.items);
 }
 
@@ -56,14 +56,14 @@ lengths-preserved g c =
           (reads_as (lengths_field c.in-Some.indexed) (lengths_field c.in-Some.indexed) (λ item. item) (λ item. item) c.in_ok-next.next c.in_ok-next.next refl refl c.in_ok-append.ensures.place c.in_ok-append.ensures.fill c.in_ok-next.ensures.lengths));
       count = ap length c.in_ok-append.ensures.items ∙ kept ∙ omega (arith, c.lengths.invariant.count, longer);
       place = omega (arith, c.lengths.invariant.place, c.in_ok-next.ensures.place, c.in_ok-append.ensures.place, longer);
-      held = omega (arith, c.lengths.invariant.held, c.in_ok-next.ensures.held, c.in_ok-append.ensures.held, c.in_ok-append.ensures.place, longer);
+      growth = omega (arith, c.lengths.invariant.growth, c.in_ok-next.ensures.growth, c.in_ok-append.ensures.growth, c.in_ok-append.ensures.place, longer);
       grown = omega (
         arith,
         one_more (λ (b : Begun). sub_lengths b.subtable) c.lengths.measured.items c.append.new.list.items c.in_ok-next.next c.in_ok-append.ensures.items,
         sum_by_push (λ (b : Begun). sub_lengths b.subtable) c.lengths.yielded c.in-Some.indexed,
         c.lengths.invariant.grown,
         c.in_ok-next.ensures.grown,
-        c.in_ok-append.ensures.held,
+        c.in_ok-append.ensures.growth,
         ap length c.in_ok-append.ensures.fill,
       );
     }

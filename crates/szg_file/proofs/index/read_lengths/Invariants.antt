@@ -9,6 +9,6 @@ invariant-lengths g l = record {
   read : Reading (each lengths_field (take (length l.yielded) l.fn.list.items)) (λ measured. measured.items) l.fn.front l.front g.R.Input l.fn.input l.input (Ok l.measured);
   count : length l.measured.items ≡ length l.yielded;
   place : l.front.place ≤ l.fn.front.place + length l.yielded * 2 ^ 36;
-  held : l.front.held + 2 * l.fn.front.place ≤ l.fn.front.held + 2 * l.front.place + length l.yielded;
+  growth : l.front.growth + 2 * l.fn.front.place ≤ l.fn.front.growth + 2 * l.front.place + length l.yielded;
   grown : HasCounted l.fn.front l.front (begun_lengths l.yielded) (length l.measured.items + begun_lengths l.measured.items);
 }

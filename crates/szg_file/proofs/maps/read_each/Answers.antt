@@ -32,7 +32,7 @@ pub heads-init : goal.heads-init
 heads-init g c = record {
   read = reads_nothing (means []) (λ list. map (option_map map_of) list.items) c.new-list.result (ap (λ (l : List (Option Map)). means (map (option_map map_of) l)) (sym c.new-list.ensures.items));
   place = omega arith;
-  held = omega arith;
+  growth = omega arith;
   grown = omega (arith, none_yet items_of c.new-list.result.items c.new-list.ensures.items);
 }
 
@@ -71,13 +71,13 @@ heads-preserved g c =
           c.heads.list c.in_ok-lists.lists c.append.new.list (there xs i c.heads-test.true) (is_item xs i x c.heads-test.true c.head-item.is) shown c.heads.invariant.read
           (reads_as (map_field x.subtable) (map_field x.subtable) (option_map map_of) (option_map map_of) c.in_ok-lists.lists c.in_ok-lists.lists refl refl c.in_ok-append.ensures.place c.in_ok-append.ensures.fill c.in_ok-lists.ensures.lists);
       place = omega (arith, c.heads.invariant.place, c.in_ok-lists.ensures.place, c.in_ok-append.ensures.place);
-      held = omega (arith, c.heads.invariant.held, c.in_ok-lists.ensures.held, c.in_ok-append.ensures.held, c.in_ok-append.ensures.place);
+      growth = omega (arith, c.heads.invariant.growth, c.in_ok-lists.ensures.growth, c.in_ok-append.ensures.growth, c.in_ok-append.ensures.place);
       grown = omega (
         arith,
         one_more items_of old c.append.new.list.items c.in_ok-lists.lists c.in_ok-append.ensures.items,
         c.heads.invariant.grown,
         c.in_ok-lists.ensures.grown,
-        c.in_ok-append.ensures.held,
+        c.in_ok-append.ensures.growth,
         ap length c.in_ok-append.ensures.fill,
       );
     }

@@ -9,6 +9,6 @@ abbrev pub invariant-heads : goal.invariant-heads
 invariant-heads g l = record {
   read : Reading (each map_field (take l.head-index (map (λ (b : Begun). b.subtable) l.heads))) (λ list. map (option_map map_of) list.items) l.fn.front l.front g.R.Input l.fn.input l.input (Ok l.list);
   place : l.front.place ≤ l.fn.front.place + l.head-index * 600000;
-  held : l.front.held + 2 * l.fn.front.place ≤ l.fn.front.held + 2 * l.front.place + l.head-index;
+  growth : l.front.growth + 2 * l.fn.front.place ≤ l.fn.front.growth + 2 * l.front.place + l.head-index;
   grown : HasCounted l.fn.front l.front 0 (length l.list.items + maps_lengths l.list.items);
 }

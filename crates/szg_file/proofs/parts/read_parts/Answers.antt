@@ -113,13 +113,13 @@ parts-preserved g c =
         c.parts.invariant.3,
       ),
       omega (arith, c.parts.invariant.4, c.in_ok-bytes.ensures.place, c.in_ok-push_part.ensures.place),
-      omega (arith, c.parts.invariant.5, c.in_ok-bytes.ensures.held, c.in_ok-push_part.ensures.held, c.in_ok-push_part.ensures.place, c.in_ok-bytes.ensures.part.answer.0.place),
+      omega (arith, c.parts.invariant.5, c.in_ok-bytes.ensures.growth, c.in_ok-push_part.ensures.growth, c.in_ok-push_part.ensures.place, c.in_ok-bytes.ensures.part.answer.0.place),
       omega (
         arith,
         one_more bytes_of_part c.parts.parts.bytes.items c.push_part.new.parts.bytes.items c.in_ok-bytes.bytes c.in_ok-push_part.ensures.bytes,
         c.parts.invariant.6,
         c.in_ok-bytes.ensures.grown,
-        c.in_ok-push_part.ensures.held,
+        c.in_ok-push_part.ensures.growth,
         ap length c.in_ok-push_part.ensures.fill,
       ),
     )

@@ -16,5 +16,5 @@ invariant-parts g l =
     × (length l.parts.bytes.items ≡ l.part)
     × (length l.parts.slots.items ≤ 2 * l.part)
     × (l.front.place ≤ l.initial.front.place + 8 * l.part)
-    × (l.front.held + 2 * l.initial.front.place ≤ l.initial.front.held + 2 * l.front.place + l.part)
+    × (l.front.growth + 2 * l.initial.front.place ≤ l.initial.front.growth + 2 * l.front.place + l.part)
     × HasCounted l.initial.front l.front 0 (length l.parts.bytes.items + parts_lengths l.parts.bytes.items)

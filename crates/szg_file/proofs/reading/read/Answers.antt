@@ -68,4 +68,4 @@ returns-clause-lists g c =
     let last : Front = c.read_pieces.new.front in
     let h = c.in_ok-byte4.ensures.pieces in
     let w = whole_file m k (contents_of m k p) first last h.bytes c.new-front.ensures.place c.new-front.ensures.fill h.answer.0 in
-    lists_were_counted m k p first last (h.bytes) c.new-front.ensures.place c.new-front.ensures.held c.new-front.ensures.fill h.answer.0.place w.file_is c.in_ok-byte4.ensures.grown
+    lists_were_counted m k p first last (h.bytes) c.new-front.ensures.place c.new-front.ensures.growth c.new-front.ensures.fill h.answer.0.place w.file_is c.in_ok-byte4.ensures.grown

@@ -17,7 +17,7 @@ rows-preserved c =
     record {
       read = pushed ∙ rows-more 3 i bytes c.rows.list.items x c.rows.invariant.read row;
       count = ap length pushed ∙ length_push c.rows.list.items x ∙ ap (λ (n : ℕ). n + 1) c.rows.invariant.count;
-      held = omega (arith, c.rows.invariant.held, c.in_ok-grow.ensures.held);
+      growth = omega (arith, c.rows.invariant.growth, c.in_ok-grow.ensures.growth);
       place = c.in_ok-grow.ensures.place ∙ c.rows.invariant.place;
       fill = c.in_ok-grow.ensures.fill ∙ c.rows.invariant.fill;
     }

@@ -6,7 +6,7 @@ abbrev pub invariant-rows : goal.invariant-rows
 invariant-rows l = record {
   read : l.list.items ≡ items 3 l.i l.bytes;
   count : length l.list.items ≡ l.i;
-  held : l.front.held ≡ l.initial.front.held + l.i;
+  growth : l.front.growth ≡ l.initial.front.growth + l.i;
   place : l.front.place ≡ l.initial.front.place;
   fill : l.front.fill.items ≡ l.initial.front.fill.items;
 }

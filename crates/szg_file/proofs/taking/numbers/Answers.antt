@@ -18,7 +18,7 @@ rows-preserved c =
     record {
       read = pushed ∙ mapped-more number_of 2 i bytes c.rows.list.items c.read_u16-number.result c.rows.invariant.read number;
       count = ap length pushed ∙ length_push c.rows.list.items c.read_u16-number.result ∙ ap (λ (n : ℕ). n + 1) c.rows.invariant.count;
-      held = omega (arith, c.rows.invariant.held, c.in_ok-grow.ensures.held);
+      growth = omega (arith, c.rows.invariant.growth, c.in_ok-grow.ensures.growth);
       place = c.in_ok-grow.ensures.place ∙ c.rows.invariant.place;
       fill = c.in_ok-grow.ensures.fill ∙ c.rows.invariant.fill;
     }

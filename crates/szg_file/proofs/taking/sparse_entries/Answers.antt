@@ -24,7 +24,7 @@ rows-preserved c =
       read = ap (map sparse_of) pushed ∙ map-append sparse_of c.rows.list.items (entry ∷ [])
           ∙ mapped-more entry_of_bytes 6 i bytes (map sparse_of c.rows.list.items) (sparse_of entry) c.rows.invariant.read (six_bytes xs _ _ there block offset);
       count = ap length pushed ∙ length-append c.rows.list.items (entry ∷ []) ∙ ap (λ n. n + 1) c.rows.invariant.count;
-      held = omega (arith, c.rows.invariant.held, c.in_ok-grow.ensures.held);
+      growth = omega (arith, c.rows.invariant.growth, c.in_ok-grow.ensures.growth);
       place = c.in_ok-grow.ensures.place ∙ c.rows.invariant.place;
       fill = c.in_ok-grow.ensures.fill ∙ c.rows.invariant.fill;
     }

@@ -8,7 +8,7 @@ abbrev pub invariant-rows : goal.invariant-rows
 invariant-rows l = record {
   read : map sparse_of l.list.items ≡ map entry_of_bytes (items 6 l.i l.bytes);
   count : length l.list.items ≡ l.i;
-  held : l.front.held ≡ l.initial.front.held + l.i;
+  growth : l.front.growth ≡ l.initial.front.growth + l.i;
   place : l.front.place ≡ l.initial.front.place;
   fill : l.front.fill.items ≡ l.initial.front.fill.items;
 }

@@ -38,6 +38,6 @@ pieces-preserved g c =
       grown.0,
       omega (arith, c.in_ok-take_piece.ensures.longer, first.3, sum),
       omega (arith, c.in_ok-take_piece.ensures.place, first.4, sum),
-      omega (arith, c.in_ok-take_piece.ensures.held, first.5, sum),
+      omega (arith, c.in_ok-take_piece.ensures.growth, first.5, sum),
       omega (arith, c.in_ok-take_piece.ensures.grown, first.6),
     )

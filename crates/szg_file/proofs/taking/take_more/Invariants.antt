@@ -13,7 +13,7 @@ invariant-pieces g l =
     × (take (length l.initial.list.items) l.list.items ≡ l.initial.list.items)
     × (length l.list.items ≡ length l.initial.list.items + (l.count - l.left))
     × (l.front.place ≡ l.initial.front.place + (l.count - l.left))
-    × (l.front.held ≡ l.initial.front.held + (l.count - l.left))
+    × (l.front.growth ≡ l.initial.front.growth + (l.count - l.left))
     × HasCounted l.initial.front l.front (length l.initial.list.items) (length l.list.items)
 
 abbrev pub decreases-pieces : goal.decreases-pieces

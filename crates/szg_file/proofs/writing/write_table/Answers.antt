@@ -36,24 +36,24 @@ ending last = padding 64 ∷ written last ∷ []
 nested : (a b c d e f g : List Section) → ((((((a ++ b) ++ c) ++ d) ++ e) ++ f) ++ g) ≡ a ++ (b ++ (c ++ (d ++ (e ++ (f ++ g)))))
 nested a b c d e f g = simp append_assoc
 
-pub returns-in_err-write_front : goal.returns-in_err-write_front
-returns-in_err-write_front g c =
+pub returns-in_err-write_start_and_parts : goal.returns-in_err-write_start_and_parts
+returns-in_err-write_start_and_parts g c =
     let p = err_from_is_err_and c.from_residual.result c.from_residual.ensures.1 in
     rw (p.1, p.2) (writes_as (ap (λ t. sections t.contents) (sym c.table.view_is) ∙ nested (front c.table.inside.kind c.table.inside.byte4 c.table.inside.parts.items) (heads c.table.inside.subs.items) (maps c.table.inside.kind c.table.inside.maps.items) (indexes c.table.inside.subs.items) (lengths c.table.inside.subs.items) (blocks c.table.inside.subs.items) (ending c.table.inside.last))
-    (writes_stopped (front c.table.inside.kind c.table.inside.byte4 c.table.inside.parts.items) ((heads c.table.inside.subs.items) ++ ((maps c.table.inside.kind c.table.inside.maps.items) ++ ((indexes c.table.inside.subs.items) ++ ((lengths c.table.inside.subs.items) ++ ((blocks c.table.inside.subs.items) ++ (ending c.table.inside.last)))))) c.in_err-write_front.field-0.0 (writes_as (ap (front c.table.inside.kind c.table.inside.byte4) (sym c.deref.ensures.value)) c.in_err-write_front.ensures)))
+    (writes_stopped (front c.table.inside.kind c.table.inside.byte4 c.table.inside.parts.items) ((heads c.table.inside.subs.items) ++ ((maps c.table.inside.kind c.table.inside.maps.items) ++ ((indexes c.table.inside.subs.items) ++ ((lengths c.table.inside.subs.items) ++ ((blocks c.table.inside.subs.items) ++ (ending c.table.inside.last)))))) c.in_err-write_start_and_parts.field-0.0 (writes_as (ap (front c.table.inside.kind c.table.inside.byte4) (sym c.deref.ensures.value)) c.in_err-write_start_and_parts.ensures)))
 
 pub returns-in_err-write_heads : goal.returns-in_err-write_heads
 returns-in_err-write_heads g c =
     let p = err_from_is_err_and c.from_residual-in_err-write_heads.result c.from_residual-in_err-write_heads.ensures.1 in
     rw (p.1, p.2) (writes_as (ap (λ t. sections t.contents) (sym c.table.view_is) ∙ nested (front c.table.inside.kind c.table.inside.byte4 c.table.inside.parts.items) (heads c.table.inside.subs.items) (maps c.table.inside.kind c.table.inside.maps.items) (indexes c.table.inside.subs.items) (lengths c.table.inside.subs.items) (blocks c.table.inside.subs.items) (ending c.table.inside.last))
-    (writes_then (front c.table.inside.kind c.table.inside.byte4 c.table.inside.parts.items) ((heads c.table.inside.subs.items) ++ ((maps c.table.inside.kind c.table.inside.maps.items) ++ ((indexes c.table.inside.subs.items) ++ ((lengths c.table.inside.subs.items) ++ ((blocks c.table.inside.subs.items) ++ (ending c.table.inside.last)))))) c.in_ok-write_front.field-0 (writes_as (ap (front c.table.inside.kind c.table.inside.byte4) (sym c.deref.ensures.value)) c.in_ok-write_front.ensures)
+    (writes_then (front c.table.inside.kind c.table.inside.byte4 c.table.inside.parts.items) ((heads c.table.inside.subs.items) ++ ((maps c.table.inside.kind c.table.inside.maps.items) ++ ((indexes c.table.inside.subs.items) ++ ((lengths c.table.inside.subs.items) ++ ((blocks c.table.inside.subs.items) ++ (ending c.table.inside.last)))))) c.in_ok-write_start_and_parts.field-0 (writes_as (ap (front c.table.inside.kind c.table.inside.byte4) (sym c.deref.ensures.value)) c.in_ok-write_start_and_parts.ensures)
     (writes_stopped (heads c.table.inside.subs.items) ((maps c.table.inside.kind c.table.inside.maps.items) ++ ((indexes c.table.inside.subs.items) ++ ((lengths c.table.inside.subs.items) ++ ((blocks c.table.inside.subs.items) ++ (ending c.table.inside.last))))) c.in_err-write_heads.field-0.0 (writes_as (ap heads (sym c.deref-2.ensures.value)) c.in_err-write_heads.ensures))))
 
 pub returns-in_err-write_maps : goal.returns-in_err-write_maps
 returns-in_err-write_maps g c =
     let p = err_from_is_err_and c.from_residual-in_err-write_maps.result c.from_residual-in_err-write_maps.ensures.1 in
     rw (p.1, p.2) (writes_as (ap (λ t. sections t.contents) (sym c.table.view_is) ∙ nested (front c.table.inside.kind c.table.inside.byte4 c.table.inside.parts.items) (heads c.table.inside.subs.items) (maps c.table.inside.kind c.table.inside.maps.items) (indexes c.table.inside.subs.items) (lengths c.table.inside.subs.items) (blocks c.table.inside.subs.items) (ending c.table.inside.last))
-    (writes_then (front c.table.inside.kind c.table.inside.byte4 c.table.inside.parts.items) ((heads c.table.inside.subs.items) ++ ((maps c.table.inside.kind c.table.inside.maps.items) ++ ((indexes c.table.inside.subs.items) ++ ((lengths c.table.inside.subs.items) ++ ((blocks c.table.inside.subs.items) ++ (ending c.table.inside.last)))))) c.in_ok-write_front.field-0 (writes_as (ap (front c.table.inside.kind c.table.inside.byte4) (sym c.deref.ensures.value)) c.in_ok-write_front.ensures)
+    (writes_then (front c.table.inside.kind c.table.inside.byte4 c.table.inside.parts.items) ((heads c.table.inside.subs.items) ++ ((maps c.table.inside.kind c.table.inside.maps.items) ++ ((indexes c.table.inside.subs.items) ++ ((lengths c.table.inside.subs.items) ++ ((blocks c.table.inside.subs.items) ++ (ending c.table.inside.last)))))) c.in_ok-write_start_and_parts.field-0 (writes_as (ap (front c.table.inside.kind c.table.inside.byte4) (sym c.deref.ensures.value)) c.in_ok-write_start_and_parts.ensures)
     (writes_then (heads c.table.inside.subs.items) ((maps c.table.inside.kind c.table.inside.maps.items) ++ ((indexes c.table.inside.subs.items) ++ ((lengths c.table.inside.subs.items) ++ ((blocks c.table.inside.subs.items) ++ (ending c.table.inside.last))))) c.in_ok-write_heads.field-0 (writes_as (ap heads (sym c.deref-2.ensures.value)) c.in_ok-write_heads.ensures)
     (writes_stopped (maps c.table.inside.kind c.table.inside.maps.items) ((indexes c.table.inside.subs.items) ++ ((lengths c.table.inside.subs.items) ++ ((blocks c.table.inside.subs.items) ++ (ending c.table.inside.last)))) c.in_err-write_maps.field-0.0 (writes_as (ap (maps c.table.inside.kind) (sym c.deref-3.ensures.value)) c.in_err-write_maps.ensures)))))
 
@@ -61,39 +61,39 @@ pub returns-in_err-write_indexes : goal.returns-in_err-write_indexes
 returns-in_err-write_indexes g c =
     let p = err_from_is_err_and c.from_residual-in_err-write_indexes.result c.from_residual-in_err-write_indexes.ensures.1 in
     rw (p.1, p.2) (writes_as (ap (λ t. sections t.contents) (sym c.table.view_is) ∙ nested (front c.table.inside.kind c.table.inside.byte4 c.table.inside.parts.items) (heads c.table.inside.subs.items) (maps c.table.inside.kind c.table.inside.maps.items) (indexes c.table.inside.subs.items) (lengths c.table.inside.subs.items) (blocks c.table.inside.subs.items) (ending c.table.inside.last))
-    (writes_then (front c.table.inside.kind c.table.inside.byte4 c.table.inside.parts.items) ((heads c.table.inside.subs.items) ++ ((maps c.table.inside.kind c.table.inside.maps.items) ++ ((indexes c.table.inside.subs.items) ++ ((lengths c.table.inside.subs.items) ++ ((blocks c.table.inside.subs.items) ++ (ending c.table.inside.last)))))) c.in_ok-write_front.field-0 (writes_as (ap (front c.table.inside.kind c.table.inside.byte4) (sym c.deref.ensures.value)) c.in_ok-write_front.ensures)
+    (writes_then (front c.table.inside.kind c.table.inside.byte4 c.table.inside.parts.items) ((heads c.table.inside.subs.items) ++ ((maps c.table.inside.kind c.table.inside.maps.items) ++ ((indexes c.table.inside.subs.items) ++ ((lengths c.table.inside.subs.items) ++ ((blocks c.table.inside.subs.items) ++ (ending c.table.inside.last)))))) c.in_ok-write_start_and_parts.field-0 (writes_as (ap (front c.table.inside.kind c.table.inside.byte4) (sym c.deref.ensures.value)) c.in_ok-write_start_and_parts.ensures)
     (writes_then (heads c.table.inside.subs.items) ((maps c.table.inside.kind c.table.inside.maps.items) ++ ((indexes c.table.inside.subs.items) ++ ((lengths c.table.inside.subs.items) ++ ((blocks c.table.inside.subs.items) ++ (ending c.table.inside.last))))) c.in_ok-write_heads.field-0 (writes_as (ap heads (sym c.deref-2.ensures.value)) c.in_ok-write_heads.ensures)
     (writes_then (maps c.table.inside.kind c.table.inside.maps.items) ((indexes c.table.inside.subs.items) ++ ((lengths c.table.inside.subs.items) ++ ((blocks c.table.inside.subs.items) ++ (ending c.table.inside.last)))) c.in_ok-write_maps.field-0 (writes_as (ap (maps c.table.inside.kind) (sym c.deref-3.ensures.value)) c.in_ok-write_maps.ensures)
     (writes_stopped (indexes c.table.inside.subs.items) ((lengths c.table.inside.subs.items) ++ ((blocks c.table.inside.subs.items) ++ (ending c.table.inside.last))) c.in_err-write_indexes.field-0.0 (writes_as (ap indexes (sym c.deref-4.ensures.value)) c.in_err-write_indexes.ensures))))))
 
-pub returns-in_err-write_all_lengths : goal.returns-in_err-write_all_lengths
-returns-in_err-write_all_lengths g c =
-    let p = err_from_is_err_and c.from_residual-in_err-write_all_lengths.result c.from_residual-in_err-write_all_lengths.ensures.1 in
+pub returns-in_err-write_lengths : goal.returns-in_err-write_lengths
+returns-in_err-write_lengths g c =
+    let p = err_from_is_err_and c.from_residual-in_err-write_lengths.result c.from_residual-in_err-write_lengths.ensures.1 in
     rw (p.1, p.2) (writes_as (ap (λ t. sections t.contents) (sym c.table.view_is) ∙ nested (front c.table.inside.kind c.table.inside.byte4 c.table.inside.parts.items) (heads c.table.inside.subs.items) (maps c.table.inside.kind c.table.inside.maps.items) (indexes c.table.inside.subs.items) (lengths c.table.inside.subs.items) (blocks c.table.inside.subs.items) (ending c.table.inside.last))
-    (writes_then (front c.table.inside.kind c.table.inside.byte4 c.table.inside.parts.items) ((heads c.table.inside.subs.items) ++ ((maps c.table.inside.kind c.table.inside.maps.items) ++ ((indexes c.table.inside.subs.items) ++ ((lengths c.table.inside.subs.items) ++ ((blocks c.table.inside.subs.items) ++ (ending c.table.inside.last)))))) c.in_ok-write_front.field-0 (writes_as (ap (front c.table.inside.kind c.table.inside.byte4) (sym c.deref.ensures.value)) c.in_ok-write_front.ensures)
+    (writes_then (front c.table.inside.kind c.table.inside.byte4 c.table.inside.parts.items) ((heads c.table.inside.subs.items) ++ ((maps c.table.inside.kind c.table.inside.maps.items) ++ ((indexes c.table.inside.subs.items) ++ ((lengths c.table.inside.subs.items) ++ ((blocks c.table.inside.subs.items) ++ (ending c.table.inside.last)))))) c.in_ok-write_start_and_parts.field-0 (writes_as (ap (front c.table.inside.kind c.table.inside.byte4) (sym c.deref.ensures.value)) c.in_ok-write_start_and_parts.ensures)
     (writes_then (heads c.table.inside.subs.items) ((maps c.table.inside.kind c.table.inside.maps.items) ++ ((indexes c.table.inside.subs.items) ++ ((lengths c.table.inside.subs.items) ++ ((blocks c.table.inside.subs.items) ++ (ending c.table.inside.last))))) c.in_ok-write_heads.field-0 (writes_as (ap heads (sym c.deref-2.ensures.value)) c.in_ok-write_heads.ensures)
     (writes_then (maps c.table.inside.kind c.table.inside.maps.items) ((indexes c.table.inside.subs.items) ++ ((lengths c.table.inside.subs.items) ++ ((blocks c.table.inside.subs.items) ++ (ending c.table.inside.last)))) c.in_ok-write_maps.field-0 (writes_as (ap (maps c.table.inside.kind) (sym c.deref-3.ensures.value)) c.in_ok-write_maps.ensures)
     (writes_then (indexes c.table.inside.subs.items) ((lengths c.table.inside.subs.items) ++ ((blocks c.table.inside.subs.items) ++ (ending c.table.inside.last))) c.in_ok-write_indexes.field-0 (writes_as (ap indexes (sym c.deref-4.ensures.value)) c.in_ok-write_indexes.ensures)
-    (writes_stopped (lengths c.table.inside.subs.items) ((blocks c.table.inside.subs.items) ++ (ending c.table.inside.last)) c.in_err-write_all_lengths.field-0.0 (writes_as (ap lengths (sym c.deref-5.ensures.value)) c.in_err-write_all_lengths.ensures)))))))
+    (writes_stopped (lengths c.table.inside.subs.items) ((blocks c.table.inside.subs.items) ++ (ending c.table.inside.last)) c.in_err-write_lengths.field-0.0 (writes_as (ap lengths (sym c.deref-5.ensures.value)) c.in_err-write_lengths.ensures)))))))
 
-pub returns-in_err-write_all_blocks : goal.returns-in_err-write_all_blocks
-returns-in_err-write_all_blocks g c =
-    let p = err_from_is_err_and c.from_residual-in_err-write_all_blocks.result c.from_residual-in_err-write_all_blocks.ensures.1 in
+pub returns-in_err-write_blocks : goal.returns-in_err-write_blocks
+returns-in_err-write_blocks g c =
+    let p = err_from_is_err_and c.from_residual-in_err-write_blocks.result c.from_residual-in_err-write_blocks.ensures.1 in
     rw (p.1, p.2) (writes_as (ap (λ t. sections t.contents) (sym c.table.view_is) ∙ nested (front c.table.inside.kind c.table.inside.byte4 c.table.inside.parts.items) (heads c.table.inside.subs.items) (maps c.table.inside.kind c.table.inside.maps.items) (indexes c.table.inside.subs.items) (lengths c.table.inside.subs.items) (blocks c.table.inside.subs.items) (ending c.table.inside.last))
-    (writes_then (front c.table.inside.kind c.table.inside.byte4 c.table.inside.parts.items) ((heads c.table.inside.subs.items) ++ ((maps c.table.inside.kind c.table.inside.maps.items) ++ ((indexes c.table.inside.subs.items) ++ ((lengths c.table.inside.subs.items) ++ ((blocks c.table.inside.subs.items) ++ (ending c.table.inside.last)))))) c.in_ok-write_front.field-0 (writes_as (ap (front c.table.inside.kind c.table.inside.byte4) (sym c.deref.ensures.value)) c.in_ok-write_front.ensures)
+    (writes_then (front c.table.inside.kind c.table.inside.byte4 c.table.inside.parts.items) ((heads c.table.inside.subs.items) ++ ((maps c.table.inside.kind c.table.inside.maps.items) ++ ((indexes c.table.inside.subs.items) ++ ((lengths c.table.inside.subs.items) ++ ((blocks c.table.inside.subs.items) ++ (ending c.table.inside.last)))))) c.in_ok-write_start_and_parts.field-0 (writes_as (ap (front c.table.inside.kind c.table.inside.byte4) (sym c.deref.ensures.value)) c.in_ok-write_start_and_parts.ensures)
     (writes_then (heads c.table.inside.subs.items) ((maps c.table.inside.kind c.table.inside.maps.items) ++ ((indexes c.table.inside.subs.items) ++ ((lengths c.table.inside.subs.items) ++ ((blocks c.table.inside.subs.items) ++ (ending c.table.inside.last))))) c.in_ok-write_heads.field-0 (writes_as (ap heads (sym c.deref-2.ensures.value)) c.in_ok-write_heads.ensures)
     (writes_then (maps c.table.inside.kind c.table.inside.maps.items) ((indexes c.table.inside.subs.items) ++ ((lengths c.table.inside.subs.items) ++ ((blocks c.table.inside.subs.items) ++ (ending c.table.inside.last)))) c.in_ok-write_maps.field-0 (writes_as (ap (maps c.table.inside.kind) (sym c.deref-3.ensures.value)) c.in_ok-write_maps.ensures)
     (writes_then (indexes c.table.inside.subs.items) ((lengths c.table.inside.subs.items) ++ ((blocks c.table.inside.subs.items) ++ (ending c.table.inside.last))) c.in_ok-write_indexes.field-0 (writes_as (ap indexes (sym c.deref-4.ensures.value)) c.in_ok-write_indexes.ensures)
-    (writes_then (lengths c.table.inside.subs.items) ((blocks c.table.inside.subs.items) ++ (ending c.table.inside.last)) c.in_ok-write_all_lengths.field-0 (writes_as (ap lengths (sym c.deref-5.ensures.value)) c.in_ok-write_all_lengths.ensures)
-    (writes_stopped (blocks c.table.inside.subs.items) (ending c.table.inside.last) c.in_err-write_all_blocks.field-0.0 (writes_as (ap blocks (sym c.deref-6.ensures.value)) c.in_err-write_all_blocks.ensures))))))))
+    (writes_then (lengths c.table.inside.subs.items) ((blocks c.table.inside.subs.items) ++ (ending c.table.inside.last)) c.in_ok-write_lengths.field-0 (writes_as (ap lengths (sym c.deref-5.ensures.value)) c.in_ok-write_lengths.ensures)
+    (writes_stopped (blocks c.table.inside.subs.items) (ending c.table.inside.last) c.in_err-write_blocks.field-0.0 (writes_as (ap blocks (sym c.deref-6.ensures.value)) c.in_err-write_blocks.ensures))))))))
 
 pub returns : goal.returns
 returns g c =
     writes_as (ap (λ t. sections t.contents) (sym c.table.view_is) ∙ nested (front c.table.inside.kind c.table.inside.byte4 c.table.inside.parts.items) (heads c.table.inside.subs.items) (maps c.table.inside.kind c.table.inside.maps.items) (indexes c.table.inside.subs.items) (lengths c.table.inside.subs.items) (blocks c.table.inside.subs.items) (ending c.table.inside.last))
-    (writes_then (front c.table.inside.kind c.table.inside.byte4 c.table.inside.parts.items) ((heads c.table.inside.subs.items) ++ ((maps c.table.inside.kind c.table.inside.maps.items) ++ ((indexes c.table.inside.subs.items) ++ ((lengths c.table.inside.subs.items) ++ ((blocks c.table.inside.subs.items) ++ (ending c.table.inside.last)))))) c.in_ok-write_front.field-0 (writes_as (ap (front c.table.inside.kind c.table.inside.byte4) (sym c.deref.ensures.value)) c.in_ok-write_front.ensures)
+    (writes_then (front c.table.inside.kind c.table.inside.byte4 c.table.inside.parts.items) ((heads c.table.inside.subs.items) ++ ((maps c.table.inside.kind c.table.inside.maps.items) ++ ((indexes c.table.inside.subs.items) ++ ((lengths c.table.inside.subs.items) ++ ((blocks c.table.inside.subs.items) ++ (ending c.table.inside.last)))))) c.in_ok-write_start_and_parts.field-0 (writes_as (ap (front c.table.inside.kind c.table.inside.byte4) (sym c.deref.ensures.value)) c.in_ok-write_start_and_parts.ensures)
     (writes_then (heads c.table.inside.subs.items) ((maps c.table.inside.kind c.table.inside.maps.items) ++ ((indexes c.table.inside.subs.items) ++ ((lengths c.table.inside.subs.items) ++ ((blocks c.table.inside.subs.items) ++ (ending c.table.inside.last))))) c.in_ok-write_heads.field-0 (writes_as (ap heads (sym c.deref-2.ensures.value)) c.in_ok-write_heads.ensures)
     (writes_then (maps c.table.inside.kind c.table.inside.maps.items) ((indexes c.table.inside.subs.items) ++ ((lengths c.table.inside.subs.items) ++ ((blocks c.table.inside.subs.items) ++ (ending c.table.inside.last)))) c.in_ok-write_maps.field-0 (writes_as (ap (maps c.table.inside.kind) (sym c.deref-3.ensures.value)) c.in_ok-write_maps.ensures)
     (writes_then (indexes c.table.inside.subs.items) ((lengths c.table.inside.subs.items) ++ ((blocks c.table.inside.subs.items) ++ (ending c.table.inside.last))) c.in_ok-write_indexes.field-0 (writes_as (ap indexes (sym c.deref-4.ensures.value)) c.in_ok-write_indexes.ensures)
-    (writes_then (lengths c.table.inside.subs.items) ((blocks c.table.inside.subs.items) ++ (ending c.table.inside.last)) c.in_ok-write_all_lengths.field-0 (writes_as (ap lengths (sym c.deref-5.ensures.value)) c.in_ok-write_all_lengths.ensures)
-    (writes_then (blocks c.table.inside.subs.items) (ending c.table.inside.last) c.in_ok-write_all_blocks.field-0 (writes_as (ap blocks (sym c.deref-6.ensures.value)) c.in_ok-write_all_blocks.ensures)
+    (writes_then (lengths c.table.inside.subs.items) ((blocks c.table.inside.subs.items) ++ (ending c.table.inside.last)) c.in_ok-write_lengths.field-0 (writes_as (ap lengths (sym c.deref-5.ensures.value)) c.in_ok-write_lengths.ensures)
+    (writes_then (blocks c.table.inside.subs.items) (ending c.table.inside.last) c.in_ok-write_blocks.field-0 (writes_as (ap blocks (sym c.deref-6.ensures.value)) c.in_ok-write_blocks.ensures)
     c.write_end.ensures))))))

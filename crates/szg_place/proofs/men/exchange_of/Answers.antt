@@ -1,4 +1,4 @@
-use Rattle.std.proofs.Common.{◌≡◌, Bool, true, false, refl, sym, ◌∙◌}
+use Rattle.std.proofs.Common.{true, false, refl, sym, ◌∙◌}
 use Rattle.szg_place.specs.Traits.{men_key}
 use Rattle.szg_place.proofs.Keys.{plain_if, turned_if, other_if, out_if}
 use Rattle.szg_place.proofs.Slotted.{few_men}

@@ -1,4 +1,4 @@
-use Rattle.std.proofs.Common.{◌+◌, List, [], ◌∷◌, inl, inr, length, sym, ap, subst, arith, length-append}
+use Rattle.std.proofs.Common.{List, [], ◌∷◌, inl, inr, length, sym, ap, subst, arith, length-append}
 use Rattle.std.specs.Prelude.{Option, Some, IfSome}
 use Rattle.szg_count.specs.Laws.{IsIn}
 use Rattle.szg_count.proofs.Differ.{IsIn-append}

@@ -19,8 +19,8 @@ returns c =
     (counts_as (ap (λ z. flat_map head_sections (map subtable_of z)) (sym c.deref-2.ensures.value)) c.count_heads.ensures)
     (counts_as (ap (λ z. maps_sections t.kind (map (option_map map_of) z)) (sym c.deref-3.ensures.value)) c.count_maps.ensures)
     (counts_as (ap (λ z. flat_map sparse_sections (map subtable_of z)) (sym c.deref-4.ensures.value)) c.count_indexes.ensures)
-    (counts_as (ap (λ z. flat_map lengths_sections (map subtable_of z)) (sym c.deref-5.ensures.value)) c.count_all_lengths.ensures)
-    (counts_as (ap (λ z. flat_map blocks_sections (map subtable_of z)) (sym c.deref-6.ensures.value)) c.count_all_blocks.ensures)
+    (counts_as (ap (λ z. flat_map lengths_sections (map subtable_of z)) (sym c.deref-5.ensures.value)) c.count_lengths.ensures)
+    (counts_as (ap (λ z. flat_map blocks_sections (map subtable_of z)) (sym c.deref-6.ensures.value)) c.count_blocks.ensures)
     c.padding-2.ensures
     (counts_plain (written t.last ∷ []) 16 (λ p. (omega arith, omega arith)) (omega (arith, c.field-2.ensures.place)) c.field-2.ensures.fill) in
     let subs : 80 * length c.as_slice.result.now < 2 ^ 64 = few_held (length c.as_slice.result.now) _ c.size_of_val.result c.size_of_val.ensures c.size_of_val.type_inv (lit≤ tt) in

@@ -7,10 +7,10 @@ use Rattle.szg_file.specs.Heads.{Kept, IsKeptOf}
 use Rattle.szg_file.specs.Lookup.{byte_of}
 use Rattle.szg_file.specs.Placed.{whole_sub}
 use Rattle.szg_file.specs.Values.{item, values_of, constant_value}
-use Rattle.szg_file.specs.Wanted.{wanted_block}
+use Rattle.szg_file.specs.Wanted.{wanted_block, IsSpelledBy}
 use Rattle.szg_file.specs.declared.dropping.PlacedSub.{PlacedSub}
 use Rattle.szg_file.proofs.KeptLaws.{no_slot, slot_is, sub_there, sub_is}
-use Rattle.szg_file.proofs.WantedLaws.{kept_sound, constant_told, value_told}
+use Rattle.szg_file.proofs.WantedLaws.{kept_sound, constant_told, value_told, spelled_constant, spelled_told}
 use Rattle.szg_file.proofs.kept.Heads.value_in.Goals as goal
 
 pub unreachable-requires : goal.unreachable-requires
@@ -28,8 +28,8 @@ index-held-requires c =
     let many = ap (λ (k : Kept). length k.subs) c.self.view_is in
     omega (arith, below, many)
 
-pub returns-then-is_constant : goal.returns-then-is_constant
-returns-then-is_constant c content h =
+pub returns-then-is_constant-clause-value : goal.returns-then-is_constant-clause-value
+returns-then-is_constant-clause-value c content h =
     let kept : Kept = c.args.self.now in
     let same = c.as_slice-placed.ensures.value ∙ ap (λ (k : Kept). k.placed) c.self.view_is in
     let slot : Slot = c.index-placed-n.result in
@@ -73,8 +73,8 @@ value_in_block-requires-clause-below c =
     let below : c.args.i < slot.size = subst (λ (o : Option Slot). IsSomeAnd o (λ slot. c.args.i < slot.size)) (slot_is kept c.as_slice-placed.result.now c.args.part c.args.side c.slot_number.result same c.slot_number.ensures c.in-Some.n c.index-placed-n.result c.in-Some.is c.index-placed-n.is) c.requires in
     subst (λ (k : ℕ). c.args.i < k) (sym sized) below
 
-pub returns : goal.returns
-returns c content h =
+pub returns-clause-value : goal.returns-clause-value
+returns-clause-value c content h =
     let kept : Kept = c.args.self.now in
     let same = c.as_slice-placed.ensures.value ∙ ap (λ (k : Kept). k.placed) c.self.view_is in
     let slot : Slot = c.index-placed-n.result in
@@ -90,3 +90,31 @@ returns c content h =
     subst (λ (o : Option (Slot × Subtable)). IfSome o (λ found. IfSome (wanted_block found.1 c.args.i) (λ block. block ≡ piece) → IsSomeAnd told (λ value. item (values_of kind found) c.args.i ≡ Some value))) (sym here.is)
     (λ wanted. value_told kind slot content held.sub held.first c.args.i piece told
     (λ h. let no : false ≡ true = c.if-is_constant.ensures.1 h in cc) here.stands here.fits.inside below wanted c.value_in_block.ensures.value)
+
+pub returns-then-is_constant-clause-spelled : goal.returns-then-is_constant-clause-spelled
+returns-then-is_constant-clause-spelled c content h =
+    let kept : Kept = c.args.self.now in
+    let same = c.as_slice-placed.ensures.value ∙ ap (λ (k : Kept). k.placed) c.self.view_is in
+    let slot : Slot = c.index-placed-n.result in
+    let held : PlacedSub = c.index-held.result.now in
+    let read : held ≡ get_or kept.subs c.in-Some.n held = c.index-held.ensures ∙ ap (λ (k : Kept). get_or k.subs c.in-Some.n held) c.self.view_is in
+    let is = sub_is kept c.as_slice-placed.result.now c.args.part c.args.side c.slot_number.result same c.slot_number.ensures c.in-Some.n c.index-placed-n.result c.in-Some.is c.index-placed-n.is held read in
+    let here = is content h in
+    let piece : List ℕ = c.args.piece.now in
+    let told : Option ℕ = Some c.constant_value.result in
+    subst (λ (o : Option (Slot × Subtable)). IfSome o (λ found. IsSpelledBy piece found.1 c.args.i told)) (sym here.is)
+    (spelled_constant content held.sub held.first c.args.i piece told (c.if-is_constant.ensures.0 refl))
+
+pub returns-clause-spelled : goal.returns-clause-spelled
+returns-clause-spelled c content h =
+    let kept : Kept = c.args.self.now in
+    let same = c.as_slice-placed.ensures.value ∙ ap (λ (k : Kept). k.placed) c.self.view_is in
+    let slot : Slot = c.index-placed-n.result in
+    let held : PlacedSub = c.index-held.result.now in
+    let read : held ≡ get_or kept.subs c.in-Some.n held = c.index-held.ensures ∙ ap (λ (k : Kept). get_or k.subs c.in-Some.n held) c.self.view_is in
+    let is = sub_is kept c.as_slice-placed.result.now c.args.part c.args.side c.slot_number.result same c.slot_number.ensures c.in-Some.n c.index-placed-n.result c.in-Some.is c.index-placed-n.is held read in
+    let here = is content h in
+    let piece : List ℕ = c.args.piece.now in
+    let told = c.value_in_block.result in
+    subst (λ (o : Option (Slot × Subtable)). IfSome o (λ found. IsSpelledBy piece found.1 c.args.i told)) (sym here.is)
+    (spelled_told content held.sub held.first c.args.i piece told c.value_in_block.ensures.value c.value_in_block.ensures.whole)

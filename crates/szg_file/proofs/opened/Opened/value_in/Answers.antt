@@ -9,11 +9,11 @@ use Rattle.szg_file.specs.Lookup.{byte_of}
 use Rattle.szg_file.specs.Opened.{Opened, opened_at}
 use Rattle.szg_file.specs.Placed.{whole_sub}
 use Rattle.szg_file.specs.Values.{item, values_of, constant_value}
-use Rattle.szg_file.specs.Wanted.{wanted_block}
+use Rattle.szg_file.specs.Wanted.{wanted_block, IsSpelledBy}
 use Rattle.szg_file.specs.declared.dropping.PlacedSub.{PlacedSub}
 use Rattle.szg_file.proofs.TableFinds.{is_at}
 use Rattle.szg_file.proofs.OpenedLaws.{IsKept, opened_absent, found_kept, as_many_kept}
-use Rattle.szg_file.proofs.WantedLaws.{kept_sound, constant_told, value_told}
+use Rattle.szg_file.proofs.WantedLaws.{kept_sound, constant_told, value_told, spelled_constant, spelled_told}
 use Rattle.szg_file.proofs.opened.Opened.value_in.Goals as goal
 
 pub unreachable-requires : goal.unreachable-requires
@@ -49,7 +49,11 @@ returns-then-is_constant g c =
     let is : value ≡ constant_value kind (byte_of held.sub) = c.constant_value.ensures ∙ ap (λ (k : Kind). constant_value k (byte_of held.sub)) kind_is in
     let told : item (values_of kind (c.index-placed-n.result, whole_sub content held)) c.args.i ≡ Some value =
     constant_told kind c.index-placed-n.result content held.sub held.first c.args.i (c.if-is_constant.ensures.0 refl) below ∙ ap (λ (k : ℕ). Some k) (sym is) in
-    record { value = subst (λ (o : Option (Slot × Subtable)). IfSome o (λ found. IfSome (wanted_block found.1 c.args.i) (λ block. block ≡ piece) → item (values_of kind found) c.args.i ≡ Some value)) (sym kept.is) (λ _. told) }
+    record {
+      value = subst (λ (o : Option (Slot × Subtable)). IfSome o (λ found. IfSome (wanted_block found.1 c.args.i) (λ block. block ≡ piece) → item (values_of kind found) c.args.i ≡ Some value)) (sym kept.is) (λ _. told);
+      spelled = subst (λ (o : Option (Slot × Subtable)). IfSome o (λ found. IsSpelledBy piece found.1 c.args.i (Some value))) (sym kept.is)
+          (spelled_constant content held.sub held.first c.args.i piece (Some value) (c.if-is_constant.ensures.0 refl));
+    }
 
 pub value_in_block-requires-clause-sound : goal.value_in_block-requires-clause-sound
 value_in_block-requires-clause-sound g c =
@@ -92,4 +96,6 @@ returns g c =
       value = subst (λ (o : Option (Slot × Subtable)). IfSome o (λ found. IfSome (wanted_block found.1 c.args.i) (λ block. block ≡ piece) → IsSomeAnd told (λ value. item (values_of kind found) c.args.i ≡ Some value))) (sym kept.is)
           (λ wanted. value_told kind c.index-placed-n.result content held.sub held.first c.args.i piece told
           (λ h. let no : false ≡ true = c.if-is_constant.ensures.1 h in cc) kept.stands kept.fits.inside below wanted c.value_in_block.ensures.value);
+      spelled = subst (λ (o : Option (Slot × Subtable)). IfSome o (λ found. IsSpelledBy piece found.1 c.args.i told)) (sym kept.is)
+          (spelled_told content held.sub held.first c.args.i piece told c.value_in_block.ensures.value c.value_in_block.ensures.whole);
     }

@@ -1,4 +1,4 @@
-use Rattle.std.proofs.Common.{◌≡◌, ◌∙◌, ◌<◌, List, map, refl, sym, ap, subst}
+use Rattle.std.proofs.Common.{◌≡◌, ◌∙◌, ◌<◌, map, refl, sym, subst}
 use Rattle.std.specs.Prelude.{Some, IfSome, IsNone, IfOk, IsSomeAnd, Ok, Err}
 use Rattle.szg_values.specs.Material.{Sides, IsMaterial}
 use Rattle.szg_count.specs.Laws.{IsIn}
@@ -9,7 +9,6 @@ use Rattle.szg_place.specs.Layout.{Layout, IsLayout}
 use Rattle.szg_place.specs.Prepared.{IsPrepared}
 use Rattle.szg_place.specs.Spots.{place_fault, spot_of}
 use Rattle.szg_place.specs.Tables.{numbering_of}
-use Rattle.szg_place.specs.declared.spots.Prepared.{Prepared}
 use Rattle.szg_place.proofs.Accepted.{accepted_numbering}
 use Rattle.szg_place.proofs.Indexed.{layout_same, below_answered}
 use Rattle.szg_place.proofs.prepared.PreparedTable.index_of.Goals as goal

@@ -1,4 +1,4 @@
-use Rattle.std.proofs.Common.{◌≡◌, List, ℕ, length, sym, ap, ◌∙◌, subst, arith}
+use Rattle.std.proofs.Common.{List, ℕ, length, sym, ap, ◌∙◌, subst, arith}
 use Rattle.szg_values.specs.Material.{Sides, IsMaterial, is_symmetric, has_pawns, has_single_lead, lead_pawns, other_pawns, lead_pawn_code, man_codes}
 use Rattle.szg_count.specs.Laws.{IsIn}
 use Rattle.szg_count.proofs.Pawns.{peopled}
