@@ -1,5 +1,5 @@
 //! Placements, as C hands them in.
-ghost use Rattle.std.specs.Prelude.{◌≡◌, ◌≤◌, ◌&&◌, IsTrue, IsFalse, IfSome, IsNone, length, map, nat_lt};
+ghost use Rattle.std.specs.Prelude.{◌≡◌, ◌<◌, ◌≤◌, ◌&&◌, IsTrue, IsFalse, IfSome, IsNone, length, map, nat_lt};
 ghost use Rattle.std.specs.declared.option.Option.TheVariants.{None, Some};
 ghost use Rattle.std.specs.List.{list_all};
 ghost use Rattle.szg_c.specs.Men.{board_of, color_of as color_told, is_told, man_told, placement_status, standing_of};
@@ -35,7 +35,7 @@ pub fn placement_of(men: &[CodedMan], mover: u8) -> Result<Placement, u32>
     let Some(standing) = standing(men) else {
         return Err(MAN);
     };
-    match Placement::new(standing.as_slice(), color_of(mover)) {
+    match Placement::of(standing, color_of(mover)) {
         Ok(placement) => Ok(placement),
         Err(fault) => Err(placement_status(fault)),
     }
@@ -79,6 +79,8 @@ fn standing_of(man: &CodedMan) -> Option<(Man, Color, Square)>
 }
 
 fn kind_of(kind: u8) -> Man
+    requires some { 0 < kind }
+    requires known { kind < 7 }
     ensures { result ≡ man_told kind }
 {
     match kind {
@@ -87,7 +89,8 @@ fn kind_of(kind: u8) -> Man
         3 => Man::Bishop,
         4 => Man::Rook,
         5 => Man::Queen,
-        _ => Man::King,
+        6 => Man::King,
+        _ => unreachable!(),
     }
 }
 

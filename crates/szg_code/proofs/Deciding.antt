@@ -1,10 +1,11 @@
 -- The functions that find where the lowest symbols fail first, and the rules of accepted codes.
-use Rattle.std.proofs.Common.{ℕ, zero, suc, Bool, true, false, cond, ◌≡◌, ◌+◌, ◌-◌, ◌*◌, ◌/◌, ◌^◌, ◌<◌, ◌≤◌, ◌⊎◌, inl, inr, Option, Some, None, length, refl, ap, sym, ◌∙◌, subst, arith, nat_lt, nat_le, ◌&&◌}
+use Rattle.std.proofs.Common.{ℕ, zero, suc, Bool, true, false, cond, ◌≡◌, ◌+◌, ◌-◌, ◌*◌, ◌/◌, ◌^◌, ◌<◌, ◌≤◌, ◌⊎◌, inl, inr, Option, Some, None, List, length, refl, ap, sym, ◌∙◌, subst, arith, nat_lt, nat_le, ◌&&◌}
 use Rattle.std.specs.List.{find, range_with_len, slice_index}
 use Rattle.std.proofs.lemmas.Bool.{ltb-true, ltb-false, lt-ltb, leb-true, le-leb, cases_lt, and_parts}
 use Rattle.szg_code.specs.Canonical.{CanonicalCode, base, base_below_max, lowest_of}
 use Rattle.szg_code.specs.Acceptance.{HasLengths, IsOrderedAt, HasRoomAt, IsCode, IsFirstRise, IsLastOverfull, IsOverfullAtLeast, IsCodeFault}
 use Rattle.szg_code.specs.declared.CodeFault.TheVariants.{LowestOrder, TooFull}
+use Rattle.szg_code.specs.Least.{shifted_base, IsStart, HasShiftedBases, HasStarts}
 use Rattle.szg_code.specs.FirstFault.{rises_at, first_rise, overfills_below_max, overfull_item, first_overfull}
 use Rattle.szg_code.proofs.FirstFound.{find_none, find_some}
 
@@ -120,7 +121,7 @@ overfull_is_fault code j lengths rise e = (lengths, first_rise-None code rise, f
 
 -- ---- the number of symbols doesn't matter
 
-abbrev with_symbols : CanonicalCode → ℕ → CanonicalCode
+abbrev pub with_symbols : CanonicalCode → ℕ → CanonicalCode
 with_symbols code n = record { min_length = code.min_length; max_length = code.max_length; lowest = code.lowest; symbols = n }
 
 base_below-symbols : (code : CanonicalCode) (n d : ℕ) → base_below_max (with_symbols code n) d ≡ base_below_max code d
@@ -139,3 +140,22 @@ IsCode-symbols code n h = record {
   room = λ l from below. let r = h.room l from below in omega (arith, r, base-symbols code n l, base-symbols code n (l + 1));
   least = let r = h.least in omega (arith, r, base-symbols code n code.min_length);
 }
+
+shifted_base-symbols : (code : CanonicalCode) (n l : ℕ) → shifted_base (with_symbols code n) 64 l ≡ shifted_base code 64 l
+unfolding shifted_base
+shifted_base-symbols code n l = ap (λ (b : ℕ). b * 2 ^ (64 - l)) (base-symbols code n l)
+
+start-symbols : (code : CanonicalCode) (n first place : ℕ) → IsStart code first place → IsStart (with_symbols code n) first place
+start-symbols code n first place start = record {
+  inside = start.inside;
+  before = λ k earlier. subst (λ (b : ℕ). (first + 1) * 2 ^ 56 ≤ b) (sym (shifted_base-symbols code n (code.min_length + k))) (start.before k earlier);
+}
+
+-- what is kept of a code is kept of it with another number of symbols
+pub kept-symbols : (code : CanonicalCode) (n : ℕ) (bases starts : List ℕ) → IsCode code × HasShiftedBases code bases × HasStarts code starts →
+    IsCode (with_symbols code n) × HasShiftedBases (with_symbols code n) bases × HasStarts (with_symbols code n) starts
+kept-symbols code n bases starts (accepted, has_bases, has_starts) = (
+  IsCode-symbols (with_symbols code n) code.symbols accepted,
+  (λ j there. has_bases j there ∙ sym (shifted_base-symbols code n (code.min_length + j))),
+  (λ first below. start-symbols code n first (slice_index starts first) (has_starts first below)),
+)

@@ -102,6 +102,18 @@ impl Code {
         self.head.symbols
     }
 
+    /// The same lengths and lowest symbols for another number of symbols n. The list isn't copied.
+    pub fn with_symbols(self, n: u16) -> Code
+        ensures code { result ≡ record { min_length = self.min_length; max_length = self.max_length; lowest = self.lowest; symbols = n } }
+        ensures accepted { IsCode result }
+    {
+        let head = Head {
+            symbols: n,
+            ..self.head
+        };
+        Code { head, ..self }
+    }
+
     /// The base of the length at place j, from the least on.
     fn base_at(&self, j: usize) -> u64
         requires { j < length self.now.lowest }

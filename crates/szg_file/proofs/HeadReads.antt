@@ -16,7 +16,6 @@ use Rattle.szg_pairs.specs.declared.DictFault.{DictFault}
 use Rattle.szg_pairs.specs.declared.DictFault.TheVariants as dict
 use Rattle.szg_pairs.proofs.Deciding.{first_child-None, first_child-Some, first_cycle-None, first_cycle-Some, first_long-None, first_long-Some}
 use Rattle.szg_pairs.proofs.Accepting as dictionaries
-use Rattle.szg_io.proofs.DeviceLaws.{Takes-none}
 use Rattle.szg_file.specs.declared.front.Front.{Front}
 use Rattle.szg_file.specs.declared.fault.Reason.TheVariants as reason
 use Rattle.szg_file.specs.declared.fault.ReadFault.{ReadFault}
@@ -28,20 +27,9 @@ use Rattle.szg_file.specs.Held.{numbers_field}
 use Rattle.szg_file.specs.HeadPieces.{Refuses, lowest_refusal, entries_refusal}
 use Rattle.szg_file.specs.Reading.{Reading}
 use Rattle.szg_io.specs.declared.device.Input.{Ghosts}
-use Rattle.szg_file.proofs.CutLaws.{stops-nil}
 use Rattle.szg_file.proofs.FormatLaws.{field-short, field-whole}
 
 -- ---- readings
-
--- Where memory runs out, no byte has to be taken.
-pub reads_no_memory : {A X R : Type 0} (f : Format A) (view : X → A) {o n : Front}
-    {dev : Ghosts R} {i : R} →
-    Reading f view o n dev i i (Err Memory)
-reads_no_memory f view {o = o} {dev = dev} {i = i} = record {
-  bytes = [];
-  taken = Takes-none dev i 1;
-  answer = (stops-nil f o.place, refl);
-}
 
 -- A fault is the same, whatever was to be made.
 pub reads_failed : {A X Y R : Type 0} (f : Format A) (view : X → A) (view' : Y → A) {o m n : Front}

@@ -35,6 +35,7 @@ pub mod Rows
 pub mod SoundLaws
 pub mod Standing
 pub mod StepsFound
+pub mod SubtableLoops
 pub mod TableFinds
 pub mod TableLaws
 pub mod Taken

@@ -1,4 +1,4 @@
-ghost use Rattle.std.specs.Prelude.{◌≡◌, ◌≢◌, ◌+◌, ◌-◌, ◌*◌, ◌≤◌, ◌<◌, ◌^◌, length, map, nat_lt, nat_le, ◌&&◌, false, OnOk, OnErr, IfOk, IfErr, Err};
+ghost use Rattle.std.specs.Prelude.{◌≡◌, ◌≢◌, ◌+◌, ◌-◌, ◌*◌, ◌≤◌, ◌<◌, ◌^◌, length, map, nat_lt, nat_le, ◌&&◌, false, OnOk, IfOk, IfErr, Err};
 ghost use Rattle.szg_code.specs.Acceptance.{IsCode};
 ghost use Rattle.szg_file.specs.Format.{means};
 ghost use Rattle.szg_file.specs.Contents.{has_bit};
@@ -12,7 +12,7 @@ ghost use Rattle.szg_file.specs.Reads.{sub_lengths};
 use crate::begun::{Begun, Slot};
 use crate::fault::{ReadFault, Reason};
 use crate::fields::{append, has_flag, read_byte, read_number};
-use crate::front::{Front, grow};
+use crate::front::Front;
 use crate::taking::{take_entries, take_field, take_numbers, take_spare};
 use byteorder::{ByteOrder, LittleEndian};
 use std::alloc::Global;
@@ -98,7 +98,7 @@ fn read_packed_head<R: Input>(
     let sizes = read_sizes(input, front)?;
     let lowest = read_lowest(alloc, sizes.min, sizes.max, input, front)?;
     let dict = read_dictionary(alloc, input, front)?;
-    let code = with_symbols(alloc, &lowest, dict.symbols(), front)?;
+    let code = lowest.with_symbols(dict.symbols());
     Ok(Sub::Pairs {
         flags,
         block_bits,
@@ -259,33 +259,6 @@ fn lowest_refusal(place: u64, fault: CodeFault) -> ReadFault
             place: place + 2 * u64::from(item),
             reason: Reason::TooFull,
         },
-    }
-}
-
-/// A code with so many symbols.
-fn with_symbols(
-    alloc: Global,
-    code: &Code,
-    symbols: u16,
-    front: &mut Front,
-) -> Result<Code, ReadFault>
-    requires code { IsCode code.now }
-    requires place { front.old.place < 2 ^ 62 }
-    requires paid { front.old.growth ≤ 2 * front.old.place + 2 ^ 15 }
-    ensures code { IfOk result (λ with. with ≡ code_with code.now.min_length code.now.max_length code.now.lowest symbols) }
-    ensures growth { OnOk result (front.new.growth ≡ front.old.growth + length code.now.lowest) }
-    ensures place { OnOk result (front.new.place ≡ front.old.place) }
-    ensures fill { OnOk result (front.new.fill.items ≡ front.old.fill.items) }
-    ensures memory { OnErr result (result ≡ Err ReadFault.Memory) }
-{
-    let mut lowest = Vec::new(alloc);
-    grow(&mut lowest, code.lowest().len(), front)?;
-    if lowest.extend_from_slice(code.lowest()).is_err() {
-        return Err(ReadFault::Memory);
-    }
-    match Code::new(code.min(), code.max(), lowest, symbols) {
-        Ok(code) => Ok(code),
-        Err(_) => unreachable!(),
     }
 }
 

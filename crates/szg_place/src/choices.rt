@@ -49,8 +49,8 @@ pub fn place_of_set(set: &[u8]) -> u64
     place
 }
 
-// How many sets of k things n things have.
-fn choices(n: u8, k: usize) -> u64
+/// How many sets of k things n things have.
+pub fn choices(n: u8, k: usize) -> u64
     requires things { n < 64 }
     requires chosen { k ≤ 6 }
     ensures { result ≡ choose n k }

@@ -6,9 +6,8 @@ ghost use Rattle.szg_values.specs.Material.{has_pawns, is_symmetric, count_of};
 ghost use Rattle.szg_place.specs.Normal.{is_exchanged, exchanged_color, colored_code, flip_rank, pieces_of};
 ghost use Rattle.szg_place.specs.Slots.{piece_from};
 ghost use Rattle.szg_place.specs.Spots.{is_of_material};
-ghost use Rattle.szg_place.specs.Traits.{men_key};
 
-use crate::traits::{Traits, men_key};
+use crate::traits::{Traits, men_keys};
 use arrayvec::ArrayVec;
 use szg_values::{Color, MAX_MEN, Man, Placement, Square};
 
@@ -33,23 +32,15 @@ pub fn exchange_of(material: &Traits, placement: &Placement) -> Option<bool>
 {
     // It tells that it is a name's.
     let _material = material.material();
-    let men = placement.men();
-    let key = material.key();
-    if has_key(men, false, key) {
+    let (key, exchanged_key) = men_keys(placement.men());
+    let own = material.key();
+    if key == own {
         return Some(is_twin(material, placement));
     }
-    if has_key(men, true, key) {
+    if exchanged_key == own {
         return Some(true);
     }
     None
-}
-
-// Whether men have this key, colours exchanged or not.
-fn has_key(men: &[(Man, Color, Square)], exchanged: bool, key: u64) -> bool
-    requires { length men.now ≤ 6 }
-    ensures { IsTrue result ↔ (men_key exchanged men.now ≡ key) }
-{
-    men_key(men, exchanged) == key
 }
 
 // Whether both sides have the same men and Black moves.
@@ -90,6 +81,7 @@ pub fn exchanged_color(exchanged: bool, color: Color) -> Color
 }
 
 /// Lists the men of a placement, colours exchanged or not; with pawns the exchange flips the ranks.
+#[inline(always)]
 pub fn pieces_of(
     material: &Traits,
     placement: &Placement,

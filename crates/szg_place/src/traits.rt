@@ -1,6 +1,6 @@
 //! What a material tells, kept for many placements.
 
-ghost use Rattle.std.specs.Prelude.{◌≡◌, ◌<◌, ◌≤◌, ◌^◌, ◌==◌, ◌&&◌, ◌||◌, ℕ, nat_lt, nat_le, length, if◌then◌else◌};
+ghost use Rattle.std.specs.Prelude.{◌≡◌, ◌<◌, ◌≤◌, ◌^◌, ◌==◌, ◌&&◌, ◌||◌, ℕ, true, false, nat_lt, nat_le, length, if◌then◌else◌};
 ghost use Rattle.szg_count.specs.Laws.{IsIn};
 ghost use Rattle.szg_values.specs.Material.{count_of};
 ghost use Rattle.szg_place.specs.Normal.{colored_code};
@@ -177,16 +177,19 @@ fn code_key(code: u8) -> u64
     KEYS[usize::from(code)]
 }
 
-/// The key of men on squares, colours exchanged or not.
-pub fn men_key(men: &[(Man, Color, Square)], exchanged: bool) -> u64
+/// The key of men on squares, and the one with colours exchanged.
+pub fn men_keys(men: &[(Man, Color, Square)]) -> (u64, u64)
     requires { length men.now ≤ 6 }
-    ensures { result ≡ men_key exchanged men.now }
+    ensures same { result.0 ≡ men_key false men.now }
+    ensures exchanged { result.1 ≡ men_key true men.now }
 {
     let mut key = 0;
+    let mut exchanged = 0;
     for man in men {
-        key += man_key(man.0, exchanged_color(exchanged, man.1));
+        key += man_key(man.0, man.1);
+        exchanged += man_key(man.0, exchanged_color(true, man.1));
     }
-    key
+    (key, exchanged)
 }
 
 // What a man adds to a key.

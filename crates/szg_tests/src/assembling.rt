@@ -1,48 +1,46 @@
 //! Tables that are put together from their fields, as they were read and with a fault in them.
 
-use crate::files::{accepted, check_written, fixtures_of_all_sections};
+use crate::files::{accepted, check_written, fixtures_of_all_sections, made, push, table_of};
 use crate::fixtures::{self, Fixture};
 use std::alloc::{AllocError, Global};
 use std::process::Abort;
-use std::test::Fail;
-use szg_block::{Entry, Sub};
+use szg_block::Sub;
 use szg_code::Code;
 use szg_file::{Fields, Map, PartBytes, Table};
 use szg_pairs::Dict;
 
-fn copy_of_code(alloc: Global, code: &Code) -> Result<Code, Fail> {
-    let lowest = code.lowest().to_vec(alloc)?;
-    Ok(Code::new(code.min(), code.max(), lowest, code.symbols())?)
+fn copy_of_list<T: Copy>(rt: &(impl Abort + Alloc<A = Global>), list: &[T]) -> Vec<T> {
+    made(rt, Vec::from_slice(rt.alloc(), list))
 }
 
-fn copy_of_dict(rt: &(impl Abort + Alloc<A = Global>), dict: &Dict) -> Result<Dict, Fail> {
-    let mut entries = Vec::new(rt.alloc());
+fn copy_of_code(rt: &(impl Abort + Alloc<A = Global>), code: &Code) -> Code {
+    let lowest = copy_of_list(rt, code.lowest());
+    made(
+        rt,
+        Code::new(code.min(), code.max(), lowest, code.symbols()),
+    )
+}
+
+fn entries_of(alloc: Global, dict: &Dict) -> Result<Vec<[u8; 3]>, AllocError> {
+    let mut entries = Vec::new(alloc);
     for symbol in 0..dict.symbols() {
         entries.push(dict.entry(symbol))?;
     }
+    Ok(entries)
+}
+
+fn copy_of_dict(rt: &(impl Abort + Alloc<A = Global>), dict: &Dict) -> Dict {
+    let entries = made(rt, entries_of(rt.alloc(), dict));
     assert!(rt; entries.len() <= 65535);
-    Ok(Dict::new(rt.alloc(), entries)?)
+    made(rt, Dict::new(rt.alloc(), entries))
 }
 
-/// What lies in a subtable's index and in its blocks.
-fn copies_of_lists(
-    alloc: Global,
-    sparse: &[Entry],
-    lengths: &[u16],
-    packed: &[u8],
-) -> Result<(Vec<Entry>, Vec<u16>, Vec<u8>), AllocError> {
-    let sparse = Vec::from_slice(alloc, sparse)?;
-    let lengths = Vec::from_slice(alloc, lengths)?;
-    let packed = Vec::from_slice(alloc, packed)?;
-    Ok((sparse, lengths, packed))
-}
-
-fn copy_of_sub(rt: &(impl Abort + Alloc<A = Global>), sub: &Sub) -> Result<Sub, Fail> {
+fn copy_of_sub(rt: &(impl Abort + Alloc<A = Global>), sub: &Sub) -> Sub {
     match sub {
-        Sub::Constant { flags, byte } => Ok(Sub::Constant {
+        Sub::Constant { flags, byte } => Sub::Constant {
             flags: *flags,
             byte: *byte,
-        }),
+        },
         Sub::Pairs {
             flags,
             block_bits,
@@ -54,124 +52,111 @@ fn copy_of_sub(rt: &(impl Abort + Alloc<A = Global>), sub: &Sub) -> Result<Sub, 
             sparse,
             lengths,
             packed,
-        } => {
-            let code = copy_of_code(rt.alloc(), code)?;
-            let dict = copy_of_dict(rt, dict)?;
-            let (sparse, lengths, packed) = copies_of_lists(rt.alloc(), sparse, lengths, packed)?;
-            Ok(Sub::Pairs {
-                flags: *flags,
-                block_bits: *block_bits,
-                span_bits: *span_bits,
-                extra: *extra,
-                blocks: *blocks,
-                code,
-                dict,
-                sparse,
-                lengths,
-                packed,
-            })
-        }
+        } => Sub::Pairs {
+            flags: *flags,
+            block_bits: *block_bits,
+            span_bits: *span_bits,
+            extra: *extra,
+            blocks: *blocks,
+            code: copy_of_code(rt, code),
+            dict: copy_of_dict(rt, dict),
+            sparse: copy_of_list(rt, sparse),
+            lengths: copy_of_list(rt, lengths),
+            packed: copy_of_list(rt, packed),
+        },
     }
 }
 
-fn copy_of_part(alloc: Global, part: &PartBytes) -> Result<PartBytes, AllocError> {
-    Ok(PartBytes {
-        order: Vec::from_slice(alloc, &part.order)?,
-        men: Vec::from_slice(alloc, &part.men)?,
-    })
+fn copy_of_part(rt: &(impl Abort + Alloc<A = Global>), part: &PartBytes) -> PartBytes {
+    PartBytes {
+        order: copy_of_list(rt, &part.order),
+        men: copy_of_list(rt, &part.men),
+    }
 }
 
-fn copies_of_parts(alloc: Global, parts: &[PartBytes]) -> Result<Vec<PartBytes>, AllocError> {
-    let mut copies = Vec::new(alloc);
+fn copies_of_parts(rt: &(impl Abort + Alloc<A = Global>), parts: &[PartBytes]) -> Vec<PartBytes> {
+    let mut copies = Vec::new(rt.alloc());
     for part in parts {
-        copies.push(copy_of_part(alloc, part)?)?;
+        push(rt, &mut copies, copy_of_part(rt, part));
     }
-    Ok(copies)
+    copies
 }
 
-fn copy_of_map(alloc: Global, map: &Map) -> Result<Map, AllocError> {
+fn copies_of_lists<T: Copy>(
+    rt: &(impl Abort + Alloc<A = Global>),
+    [a, b, c, d]: &[Vec<T>; 4],
+) -> [Vec<T>; 4] {
+    [
+        copy_of_list(rt, a),
+        copy_of_list(rt, b),
+        copy_of_list(rt, c),
+        copy_of_list(rt, d),
+    ]
+}
+
+fn copy_of_map(rt: &(impl Abort + Alloc<A = Global>), map: &Map) -> Map {
     match map {
-        Map::Bytes([a, b, c, d]) => Ok(Map::Bytes([
-            Vec::from_slice(alloc, a)?,
-            Vec::from_slice(alloc, b)?,
-            Vec::from_slice(alloc, c)?,
-            Vec::from_slice(alloc, d)?,
-        ])),
-        Map::Wide([a, b, c, d]) => Ok(Map::Wide([
-            Vec::from_slice(alloc, a)?,
-            Vec::from_slice(alloc, b)?,
-            Vec::from_slice(alloc, c)?,
-            Vec::from_slice(alloc, d)?,
-        ])),
+        Map::Bytes(lists) => Map::Bytes(copies_of_lists(rt, lists)),
+        Map::Wide(lists) => Map::Wide(copies_of_lists(rt, lists)),
     }
 }
 
 /// A part's map, where it has one.
-fn copy_of_item(alloc: Global, item: &Option<Map>) -> Result<Option<Map>, AllocError> {
+fn copy_of_item(rt: &(impl Abort + Alloc<A = Global>), item: &Option<Map>) -> Option<Map> {
     match item {
-        Some(map) => Ok(Some(copy_of_map(alloc, map)?)),
-        None => Ok(None),
+        Some(map) => Some(copy_of_map(rt, map)),
+        None => None,
     }
 }
 
-fn copies_of_maps(alloc: Global, maps: &[Option<Map>]) -> Result<Vec<Option<Map>>, AllocError> {
-    let mut copies = Vec::new(alloc);
+fn copies_of_maps(rt: &(impl Abort + Alloc<A = Global>), maps: &[Option<Map>]) -> Vec<Option<Map>> {
+    let mut copies = Vec::new(rt.alloc());
     for item in maps {
-        copies.push(copy_of_item(alloc, item)?)?;
+        push(rt, &mut copies, copy_of_item(rt, item));
     }
-    Ok(copies)
-}
-
-/// Adds a copy of a subtable.
-fn push_copy(
-    rt: &(impl Abort + Alloc<A = Global>),
-    copies: &mut Vec<Sub>,
-    sub: &Sub,
-) -> Result<(), Fail> {
-    Ok(copies.push(copy_of_sub(rt, sub)?)?)
+    copies
 }
 
 /// The subtables of a table, in file order.
-fn copies_of_subs(rt: &(impl Abort + Alloc<A = Global>), table: &Table) -> Result<Vec<Sub>, Fail> {
+fn copies_of_subs(rt: &(impl Abort + Alloc<A = Global>), table: &Table) -> Vec<Sub> {
     let mut copies = Vec::new(rt.alloc());
     for place in 0..8u8 {
         if let Some(sub) = table.sub(place / 2, place % 2) {
-            push_copy(rt, &mut copies, sub)?;
+            push(rt, &mut copies, copy_of_sub(rt, sub));
         }
     }
-    Ok(copies)
+    copies
 }
 
 /// What a table holds, field by field.
-fn fields_of(rt: &(impl Abort + Alloc<A = Global>), table: &Table) -> Result<Fields, Fail> {
-    Ok(Fields {
+fn fields_of(rt: &(impl Abort + Alloc<A = Global>), table: &Table) -> Fields {
+    Fields {
         material: table.material().copy(),
         kind: table.kind(),
         byte4: table.byte4(),
-        parts: copies_of_parts(rt.alloc(), table.parts())?,
-        subs: copies_of_subs(rt, table)?,
-        maps: copies_of_maps(rt.alloc(), table.maps())?,
-        fill: Vec::from_slice(rt.alloc(), table.fill())?,
+        parts: copies_of_parts(rt, table.parts()),
+        subs: copies_of_subs(rt, table),
+        maps: copies_of_maps(rt, table.maps()),
+        fill: copy_of_list(rt, table.fill()),
         last: *table.last(),
-    })
+    }
 }
 
 /// The fields of a file's table ask for its fill and make it again.
-fn check_put_together(rt: &(impl Abort + Alloc<A = Global>), file: &Fixture) -> Result<(), Fail> {
-    let fields = fields_of(rt, &accepted(rt, file, &[])?)?;
+fn check_put_together(rt: &(impl Abort + Alloc<A = Global>), file: &Fixture) {
+    let fields = fields_of(rt, &accepted(rt, file, &[]));
     assert!(rt; fields.fill_asked() == fields.fill.len() as u64);
     assert!(rt; fields.passes());
     check_written(rt, &Table::assemble(fields), &file.bytes);
-    Ok(())
 }
 
 #[test]
-fn tables_are_put_together(rt: HostRuntime) -> Result<(), Fail> {
-    for file in &fixtures_of_all_sections(rt.alloc())? {
-        check_put_together(&rt, file)?;
+fn tables_are_put_together(rt: HostRuntime) {
+    for file in &made(&rt, fixtures_of_all_sections(rt.alloc())) {
+        check_put_together(&rt, file);
     }
-    check_put_together(&rt, &fixtures::kqvk_dtz_packed(rt.alloc())?)?;
-    check_put_together(&rt, &fixtures::kpvkp_wdl_constant(rt.alloc())?)
+    check_put_together(&rt, &made(&rt, fixtures::kqvk_dtz_packed(rt.alloc())));
+    check_put_together(&rt, &made(&rt, fixtures::kpvkp_wdl_constant(rt.alloc())));
 }
 
 /// Fields that pass may have other bits in byte 4 that tell nothing, and other bytes as fill.
@@ -189,8 +174,7 @@ fn check_faults(rt: &impl Abort, mut fields: Fields) {
 }
 
 #[test]
-fn faults_of_fields(rt: HostRuntime) -> Result<(), Fail> {
-    let table = accepted(&rt, &fixtures::kqvk_wdl_paired(rt.alloc())?, &[])?;
-    check_faults(&rt, fields_of(&rt, &table)?);
-    Ok(())
+fn faults_of_fields(rt: HostRuntime) {
+    let table = table_of(&rt, fixtures::kqvk_wdl_paired(rt.alloc()));
+    check_faults(&rt, fields_of(&rt, &table));
 }

@@ -1,12 +1,12 @@
 //! Subtables: a small one and its changes, a constant one, blocks one by one, and look-ups with their steps.
 
-ghost use Rattle.std.specs.Prelude.{◌≡◌, IfOk, IsSomeAnd, length};
+ghost use Rattle.std.specs.Prelude.{◌≡◌, IsSomeAnd, length};
 ghost use Rattle.szg_block.specs.Subtable.{layout_of, packed_of, IsShaped, IsSoundOver};
 ghost use Rattle.szg_block.specs.Lending.{bytes_at};
 
+use crate::files::made;
 use std::alloc::{AllocError, Global};
 use std::process::Abort;
-use std::test::Fail;
 use szg_block::{
     Entry, Image, Paged, Sound, SourceFault, Steps, Sub, SubFault, Watch, Whole, check,
     check_block, check_index, look_up, shaped, shaped_head,
@@ -14,31 +14,42 @@ use szg_block::{
 use szg_code::Code;
 use szg_pairs::Dict;
 
+/// Words of one and two bits, for three symbols.
+fn code(rt: &(impl Abort + Alloc<A = Global>)) -> Code {
+    let lowest = made(rt, vec![in rt.alloc(); 2, 0]);
+    made(rt, Code::new(1, 2, lowest, 3))
+}
+
+/// Two values and their pair.
+fn dict(rt: &(impl Abort + Alloc<A = Global>)) -> Dict {
+    let entries = [[0x02, 0xf0, 0xff], [0x04, 0xf0, 0xff], [0x00, 0x10, 0x00]];
+    let entries = made(rt, Vec::from_slice(rt.alloc(), &entries));
+    assert!(rt; entries.len() == 3);
+    made(rt, Dict::new(rt.alloc(), entries))
+}
+
 /// Two values and their pair, words of one and two bits, so many blocks of one byte, spans of two values.
 fn small(
-    alloc: Global,
+    rt: &(impl Abort + Alloc<A = Global>),
     blocks: u32,
     sparse: &[Entry],
     lengths: &[u16],
     packed: &[u8],
-) -> Result<Sub, Fail>
-    ensures { IfOk result (λ sub. IsSomeAnd (layout_of sub) (λ layout. (layout.blocks ≡ blocks) × (layout.block_bits ≡ 0))) }
+) -> Sub
+    ensures { IsSomeAnd (layout_of result) (λ layout. (layout.blocks ≡ blocks) × (layout.block_bits ≡ 0)) }
 {
-    let entries = vec![in alloc; [0x02, 0xf0, 0xff], [0x04, 0xf0, 0xff], [0x00, 0x10, 0x00]]?;
-    let dict = Dict::new(alloc, entries)?;
-    let code = Code::new(1, 2, vec![in alloc; 2, 0]?, 3)?;
-    Ok(Sub::Pairs {
+    Sub::Pairs {
         flags: 0,
         block_bits: 0,
         span_bits: 1,
         extra: 0,
         blocks,
-        code,
-        dict,
-        sparse: Vec::from_slice(alloc, sparse)?,
-        lengths: Vec::from_slice(alloc, lengths)?,
-        packed: Vec::from_slice(alloc, packed)?,
-    })
+        code: code(rt),
+        dict: dict(rt),
+        sparse: made(rt, Vec::from_slice(rt.alloc(), sparse)),
+        lengths: made(rt, Vec::from_slice(rt.alloc(), lengths)),
+        packed: made(rt, Vec::from_slice(rt.alloc(), packed)),
+    }
 }
 
 /// A small index whose last entry is this one.
@@ -57,20 +68,16 @@ fn index(block: u32, offset: u16) -> [Entry; 3] {
 }
 
 /// The values of a sound small subtable are 2, 4, 2, 4, 2, 4.
-fn check_values<'a>(
-    rt: &(impl Abort + Alloc<A = Global>),
-    sound: &Sound<'a, Whole<'a>>,
-) -> Result<(), Fail> {
-    let values = sound.values(rt.alloc())?;
+fn check_values<'a>(rt: &(impl Abort + Alloc<A = Global>), sound: &Sound<'a, Whole<'a>>) {
+    let values = made(rt, sound.values(rt.alloc()));
     assert!(rt; values.as_slice() == [2, 4, 2, 4, 2, 4].as_slice());
     for i in 0..sound.size() {
         assert!(rt; sound.get(i) == if i % 2 == 0 { 2 } else { 4 });
     }
-    Ok(())
 }
 
 #[test]
-fn changes_of_a_small_subtable(rt: HostRuntime) -> Result<(), Fail> {
+fn changes_of_a_small_subtable(rt: HostRuntime) {
     for (sparse, lengths, packed, fault) in [
         (index(1, 1), [3, 1], [0xc0, 0x10], None),
         (
@@ -90,17 +97,16 @@ fn changes_of_a_small_subtable(rt: HostRuntime) -> Result<(), Fail> {
         (index(0, 5), [6, 0], [0x10, 0x10], Some(SubFault::Word(0))),
         (index(1, 1), [3, 1], [0xc0, 0x80], None),
     ] {
-        let sub = small(rt.alloc(), 2, &sparse, &lengths, &packed)?;
+        let sub = small(&rt, 2, &sparse, &lengths, &packed);
         assert!(rt; shaped(&sub, 6));
         match check(&sub, 6) {
             Err(found) => assert!(rt; Some(found) == fault),
             Ok(()) => {
                 assert!(rt; fault == None);
-                check_values(&rt, &Sound::of(&sub, 6, 0))?;
+                check_values(&rt, &Sound::of(&sub, 6, 0));
             }
         }
     }
-    Ok(())
 }
 
 /// The subtable of so many values, which passes its check; a constant one has the value 2.
@@ -131,15 +137,14 @@ fn check_steps<'a>(
 }
 
 #[test]
-fn constant_subtable(rt: HostRuntime) -> Result<(), Fail> {
+fn constant_subtable(rt: HostRuntime) {
     let sub = Sub::Constant {
         flags: 0x80,
         byte: 2,
     };
     let sound = sound(&rt, &sub, 3);
-    assert!(rt; sound.size() == 3);
-    assert!(rt; sound.get(2) == 2);
-    assert!(rt; sound.values(rt.alloc())?.as_slice() == [2, 2, 2].as_slice());
+    assert!(rt; sound.size() == 3 && sound.get(2) == 2);
+    assert!(rt; made(&rt, sound.values(rt.alloc())).as_slice() == [2, 2, 2].as_slice());
     let mut none = Whole {
         packed: &[],
         block_bits: 0,
@@ -151,26 +156,23 @@ fn constant_subtable(rt: HostRuntime) -> Result<(), Fail> {
         fetches: 0,
     };
     assert!(rt; look_up(&sub, 3, 2, 2, &mut none) == Ok((2, steps)));
-    Ok(())
 }
 
 #[test]
-fn single_blocks(rt: HostRuntime) -> Result<(), Fail> {
-    let sub = small(rt.alloc(), 2, &index(0, 5), &[6, 0], &[0x10, 0x10])?;
+fn single_blocks(rt: HostRuntime) {
+    let sub = small(&rt, 2, &index(0, 5), &[6, 0], &[0x10, 0x10]);
     assert!(rt; shaped_head(&sub, 6));
     assert!(rt; check_index(&sub, 6).is_ok());
     assert!(rt; check_block(&sub, 6, 0, &[0x10]) == Err(SubFault::Word(0)));
     assert!(rt; check_block(&sub, 6, 1, &[0x10]).is_ok());
-    Ok(())
 }
 
 #[test]
-fn steps_of_a_small_subtable(rt: HostRuntime) -> Result<(), Fail> {
+fn steps_of_a_small_subtable(rt: HostRuntime) {
     for (sparse, moves) in [(index(1, 1), 0), (index(0, 5), 1)] {
-        let sub = small(rt.alloc(), 2, &sparse, &[3, 1], &[0xc0, 0x10])?;
+        let sub = small(&rt, 2, &sparse, &[3, 1], &[0xc0, 0x10]);
         check_steps(&rt, &mut sound(&rt, &sub, 6), 4, 2, moves);
     }
-    Ok(())
 }
 
 /// One entry for two blocks: the second of them, from its start.
@@ -187,17 +189,16 @@ fn entries_at_second_blocks(alloc: Global, count: u32) -> Result<Vec<Entry>, All
 
 /// So many blocks of one value each; adding lengths from the first block at each call would take hours.
 #[test]
-fn many_blocks(rt: HostRuntime) -> Result<(), Fail> {
+fn many_blocks(rt: HostRuntime) {
     let count: u32 = 1 << 20;
-    let sparse = entries_at_second_blocks(rt.alloc(), count)?;
-    let lengths = vec![in rt.alloc(); 0; count as usize]?;
-    let packed = vec![in rt.alloc(); 0; count as usize]?;
-    let sub = small(rt.alloc(), count, &sparse, &lengths, &packed)?;
+    let sparse = made(&rt, entries_at_second_blocks(rt.alloc(), count));
+    let lengths = made(&rt, vec![in rt.alloc(); 0; count as usize]);
+    let packed = made(&rt, vec![in rt.alloc(); 0; count as usize]);
+    let sub = small(&rt, count, &sparse, &lengths, &packed);
     let mut sound = sound(&rt, &sub, u64::from(count));
     for i in 0..u64::from(count) {
         check_steps(&rt, &mut sound, i, 2, 1 - i % 2);
     }
-    Ok(())
 }
 
 /// The two blocks of a small subtable, as a source of them.
@@ -227,9 +228,11 @@ fn paged<'a>(sub: &'a Sub, buffer: Vec<u8>) -> Sound<'a, Paged<Watch<Image<'a>>>
 
 /// A fault of the source is one of that call alone.
 #[test]
-fn values_over_a_source(rt: HostRuntime) -> Result<(), Fail> {
-    let sub = small(rt.alloc(), 2, &index(1, 1), &[3, 1], &[0xc0, 0x10])?;
-    let buffer = vec![in rt.alloc(); 0; 1]?;
+fn values_over_a_source(rt: HostRuntime) {
+    let sub = small(&rt, 2, &index(1, 1), &[3, 1], &[0xc0, 0x10]);
+    let Ok(buffer) = vec![in rt.alloc(); 0; 1] else {
+        panic!(rt; "no memory");
+    };
     assert!(rt; shaped(&sub, 6));
     match check(&sub, 6) {
         Err(_) => panic!(rt; "it is not sound"),
@@ -240,5 +243,4 @@ fn values_over_a_source(rt: HostRuntime) -> Result<(), Fail> {
             assert!(rt; sound.get(0) == Ok(2));
         }
     }
-    Ok(())
 }

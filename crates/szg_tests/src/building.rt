@@ -1,10 +1,9 @@
 //! Tables built of values, byte for byte, and what of a plan and its lists is refused.
 
-use crate::files::{changed, check_written, material};
+use crate::files::{changed, check_written, made, material, push};
 use crate::fixtures::{self, Fixture};
 use std::alloc::{AllocError, Global};
 use std::process::Abort;
-use std::test::Fail;
 use szg_build::{BuildFault, Plan, build};
 use szg_file::{Map, PartBytes, file_len, write};
 use szg_io::Std;
@@ -77,9 +76,12 @@ fn distances(
 }
 
 /// A plan of distances of king and queen against king, in blocks of 32 bytes.
-fn queen_distances(alloc: Global, rounds: u32) -> Result<Plan, Fail> {
-    let material = Material::parse("KQvK")?;
-    Ok(distances(alloc, material, &[6, 5, 14], (5, 16), rounds)?)
+fn queen_distances(rt: &(impl Abort + Alloc<A = Global>), rounds: u32) -> Plan {
+    let material = made(rt, Material::parse("KQvK"));
+    made(
+        rt,
+        distances(rt.alloc(), material, &[6, 5, 14], (5, 16), rounds),
+    )
 }
 
 /// The values as lists of so many each.
@@ -102,25 +104,18 @@ fn check_built(
     values: &[u16],
     size: usize,
     file: &Fixture,
-) -> Result<(), Fail> {
-    let lists = lists_of(rt.alloc(), values, size)?;
-    let table = build(rt.alloc(), plan, &lists)?;
+) {
+    let lists = made(rt, lists_of(rt.alloc(), values, size));
+    let table = made(rt, build(rt.alloc(), plan, &lists));
     check_written(rt, &table, &file.bytes);
-    Ok(())
 }
 
 /// The plan and this one list make a file that begins with these bytes.
-fn check_front(
-    rt: &(impl Abort + Alloc<A = Global>),
-    plan: &Plan,
-    values: &[u16],
-    front: &[u8],
-) -> Result<(), Fail> {
-    let table = build(rt.alloc(), plan, &[values])?;
+fn check_front(rt: &(impl Abort + Alloc<A = Global>), plan: &Plan, values: &[u16], front: &[u8]) {
+    let table = made(rt, build(rt.alloc(), plan, &[values]));
     let mut output = Std::new(Vec::new(rt.alloc()));
-    assert!(rt; write(&table, &mut output).is_ok());
-    assert!(rt; output.inner().as_slice().starts_with(front));
-    Ok(())
+    let written = write(&table, &mut output).is_ok();
+    assert!(rt; written && output.inner().as_slice().starts_with(front));
 }
 
 /// A plan with these men, bits and rounds and these lists for both sides make the file.
@@ -130,16 +125,11 @@ fn check_outcomes(
     men: [u8; 3],
     (block_bits, span_bits, rounds): (u8, u8, u32),
     lists: &[(&[u16], usize)],
-) -> Result<(), Fail> {
-    let plan = outcomes(
-        rt.alloc(),
-        material(file)?,
-        &men,
-        (block_bits, span_bits),
-        rounds,
-    )?;
-    let values = values(rt.alloc(), lists)?;
-    check_built(rt, &plan, &values, THREE_MEN, file)
+) {
+    let bits = (block_bits, span_bits);
+    let plan = outcomes(rt.alloc(), material(rt, file), &men, bits, rounds);
+    let values = made(rt, values(rt.alloc(), lists));
+    check_built(rt, &made(rt, plan), &values, THREE_MEN, file);
 }
 
 const KNIGHT: [u8; 3] = [0x66, 0x22, 0xee];
@@ -147,59 +137,50 @@ const KNIGHT: [u8; 3] = [0x66, 0x22, 0xee];
 const QUEEN: [u8; 3] = [0x66, 0x55, 0xee];
 
 #[test]
-fn outcomes_without_pairs(rt: HostRuntime) -> Result<(), Fail> {
+fn outcomes_without_pairs(rt: HostRuntime) {
     let (draws, turns) = ((&[2][..], 31332), (&[2, 4][..], 15666));
-    let file = fixtures::knvk_wdl_constant(rt.alloc())?;
-    check_outcomes(&rt, &file, KNIGHT, (6, 12, 0), &[draws, draws])?;
-    let file = fixtures::kqvk_wdl_unpaired(rt.alloc())?;
-    check_outcomes(&rt, &file, QUEEN, (5, 16, 0), &[turns, draws])?;
-    let file = fixtures::kqvk_wdl_both_sides(rt.alloc())?;
-    check_outcomes(&rt, &file, QUEEN, (5, 16, 0), &[turns, turns])
+    let file = made(&rt, fixtures::knvk_wdl_constant(rt.alloc()));
+    check_outcomes(&rt, &file, KNIGHT, (6, 12, 0), &[draws, draws]);
+    let file = made(&rt, fixtures::kqvk_wdl_unpaired(rt.alloc()));
+    check_outcomes(&rt, &file, QUEEN, (5, 16, 0), &[turns, draws]);
+    let file = made(&rt, fixtures::kqvk_wdl_both_sides(rt.alloc()));
+    check_outcomes(&rt, &file, QUEEN, (5, 16, 0), &[turns, turns]);
 }
 
 /// Of as many pairs as the plan allows eight are made where no ninth counts four.
 #[test]
-fn outcomes_with_pairs(rt: HostRuntime) -> Result<(), Fail> {
-    let file = fixtures::kqvk_wdl_paired(rt.alloc())?;
+fn outcomes_with_pairs(rt: HostRuntime) {
+    let file = made(&rt, fixtures::kqvk_wdl_paired(rt.alloc()));
     for rounds in [8, 200] {
         let lists = [(&[2, 4][..], 15666), (&[2][..], 31332)];
-        check_outcomes(&rt, &file, QUEEN, (5, 10, rounds), &lists)?;
+        check_outcomes(&rt, &file, QUEEN, (5, 10, rounds), &lists);
     }
-    Ok(())
 }
 
 /// Eight lists, each of one value.
 #[test]
-fn outcomes_of_parts_in_their_order(rt: HostRuntime) -> Result<(), Fail> {
+fn outcomes_of_parts_in_their_order(rt: HostRuntime) {
     let mut all = Vec::new(rt.alloc());
     let mut changes = [(0, 0); 8];
     for (n, change) in changes.iter_mut().enumerate() {
         let value = n % 5;
         *change = (23 + 2 * n, value as u8);
-        all.resize((n + 1) * PAWN, value as u16)?;
+        made(&rt, all.resize((n + 1) * PAWN, value as u16));
     }
-    let file = changed(
-        rt.alloc(),
-        &fixtures::kpvk_wdl_constant(rt.alloc())?,
-        &changes,
-    )?;
-    let plan = outcomes(
-        rt.alloc(),
-        Material::parse("KPvK")?,
-        &[0x11, 0x66, 0xee],
-        (6, 12),
-        0,
-    )?;
-    check_built(&rt, &plan, &all, PAWN, &file)
+    let constant = made(&rt, fixtures::kpvk_wdl_constant(rt.alloc()));
+    let file = changed(&rt, &constant, &changes);
+    let men = [0x11, 0x66, 0xee];
+    let plan = outcomes(rt.alloc(), material(&rt, &file), &men, (6, 12), 0);
+    check_built(&rt, &made(&rt, plan), &all, PAWN, &file);
 }
 
 /// A list of one value that isn't 0 has a dictionary and blocks.
 #[test]
-fn distances_of_one_value(rt: HostRuntime) -> Result<(), Fail> {
-    let plan = queen_distances(rt.alloc(), 0)?;
-    let values = values(rt.alloc(), &[(&[3], THREE_MEN)])?;
-    let file = fixtures::kqvk_dtz_packed(rt.alloc())?;
-    check_built(&rt, &plan, &values, THREE_MEN, &file)
+fn distances_of_one_value(rt: HostRuntime) {
+    let plan = queen_distances(&rt, 0);
+    let values = made(&rt, values(rt.alloc(), &[(&[3], THREE_MEN)]));
+    let file = made(&rt, fixtures::kqvk_dtz_packed(rt.alloc()));
+    check_built(&rt, &plan, &values, THREE_MEN, &file);
 }
 
 /// The lists for the four classes, of which only the first has items.
@@ -208,75 +189,63 @@ fn lists_with<T>(alloc: Global, first: Vec<T>) -> [Vec<T>; 4] {
 }
 
 #[test]
-fn distances_with_maps(rt: HostRuntime) -> Result<(), Fail> {
-    let mut plan = outcomes(
-        rt.alloc(),
-        Material::parse("KPvK")?,
-        &[1, 6, 14],
-        (6, 12),
-        0,
-    )?;
+fn distances_with_maps(rt: HostRuntime) {
+    let material = made(&rt, Material::parse("KPvK"));
+    let plan = outcomes(rt.alloc(), material, &[1, 6, 14], (6, 12), 0);
+    let mut plan = made(&rt, plan);
     plan.kind = Kind::Dtz;
-    plan.flags.extend_from_slice(&[2, 18, 0, 0])?;
-    let short = Vec::from_slice(rt.alloc(), &[7])?;
-    let wide = Vec::from_slice(rt.alloc(), &[300])?;
-    plan.maps
-        .push(Some(Map::Bytes(lists_with(rt.alloc(), short))))?;
-    plan.maps
-        .push(Some(Map::Wide(lists_with(rt.alloc(), wide))))?;
-    plan.maps.push(None)?;
-    plan.maps.push(None)?;
-    let values = values(rt.alloc(), &[(&[0], 4 * PAWN)])?;
-    let file = fixtures::kpvk_dtz_mapped(rt.alloc())?;
-    check_built(&rt, &plan, &values, PAWN, &file)
+    made(&rt, plan.flags.extend_from_slice(&[2, 18, 0, 0]));
+    let short = made(&rt, Vec::from_slice(rt.alloc(), &[7]));
+    let wide = made(&rt, Vec::from_slice(rt.alloc(), &[300]));
+    let short = Some(Map::Bytes(lists_with(rt.alloc(), short)));
+    let wide = Some(Map::Wide(lists_with(rt.alloc(), wide)));
+    for map in [short, wide, None, None] {
+        push(&rt, &mut plan.maps, map);
+    }
+    let values = made(&rt, values(rt.alloc(), &[(&[0], 4 * PAWN)]));
+    let file = made(&rt, fixtures::kpvk_dtz_mapped(rt.alloc()));
+    check_built(&rt, &plan, &values, PAWN, &file);
 }
 
 /// Symbols 0 0 0 1 0 1, again and again: 0 1 counts most; then 0 0, 0 2 and 2 2 count the same, and the least goes first.
 #[test]
-fn the_most_frequent_pair_goes_first(rt: HostRuntime) -> Result<(), Fail> {
-    let plan = queen_distances(rt.alloc(), 2)?;
-    let values = values(rt.alloc(), &[(&[1, 1, 1, 2, 1, 2], 5222)])?;
+fn the_most_frequent_pair_goes_first(rt: HostRuntime) {
+    let plan = queen_distances(&rt, 2);
+    let values = made(&rt, values(rt.alloc(), &[(&[1, 1, 1, 2, 1, 2], 5222)]));
     let front = [
         0xd7, 0x66, 0x0c, 0xa5, 0x01, 0x00, 0x06, 0x05, 0x0e, 0x00, 0x00, 0x05, 0x10, 0x01, 0x7b,
         0x00, 0x00, 0x00, 0x02, 0x02, 0x00, 0x00, 0x04, 0x00, 0x01, 0xf0, 0xff, 0x02, 0xf0, 0xff,
         0x00, 0x10, 0x00, 0x00, 0x00, 0x00, 0x7b, 0x00, 0x00, 0x00, 0x9c, 0x05, 0xff, 0x00,
     ];
-    check_front(&rt, &plan, &values, &front)
+    check_front(&rt, &plan, &values, &front);
 }
 
 /// The front of a file of 873,642 values in blocks of 65,536, which would have room for more bits.
-fn front_of_full_blocks(alloc: Global) -> Result<Vec<u8>, AllocError> {
-    let mut front = Vec::from_slice(
-        alloc,
-        &[
-            0xd7, 0x66, 0x0c, 0xa5, 0x01, 0x00, 0x06, 0x0e, 0x03, 0x03, 0x00, 0x07, 0x10, 0x01,
-            0x0e, 0x00, 0x00, 0x00, 0x04, 0x03, 0x04, 0x00, 0x00, 0x00, 0x0a, 0x00, 0x02, 0xf0,
-            0xff, 0x04, 0xf0, 0xff, 0x00, 0x10, 0x00,
-        ],
-    )?;
-    for child in 2..9u8 {
-        front.extend_from_slice(&[child, child * 16, 0x00])?;
-    }
+fn front_of_full_blocks(rt: &(impl Abort + Alloc<A = Global>)) -> Vec<u8> {
+    let heads = [
+        0xd7, 0x66, 0x0c, 0xa5, 0x01, 0x00, 0x06, 0x0e, 0x03, 0x03, 0x00, 0x07, 0x10, 0x01, 0x0e,
+        0x00, 0x00, 0x00, 0x04, 0x03, 0x04, 0x00, 0x00, 0x00, 0x0a, 0x00, 0x02, 0xf0, 0xff, 0x04,
+        0xf0, 0xff, 0x00, 0x10, 0x00, 0x02, 0x20, 0x00, 0x03, 0x30, 0x00, 0x04, 0x40, 0x00, 0x05,
+        0x50, 0x00, 0x06, 0x60, 0x00, 0x07, 0x70, 0x00, 0x08, 0x80, 0x00,
+    ];
+    let mut front = made(rt, Vec::from_slice(rt.alloc(), &heads));
     for block in 0..13 {
-        front.extend_from_slice(&[block, 0x00, 0x00, 0x00, 0x00, 0x80])?;
+        let entry = [block, 0x00, 0x00, 0x00, 0x00, 0x80];
+        made(rt, front.extend_from_slice(&entry));
     }
-    front.extend_from_slice(&[0x0e, 0x00, 0x00, 0x00, 0x56, 0x2b])?;
-    front.resize(front.len() + 26, 0xff)?;
-    front.extend_from_slice(&[0xa9, 0x54, 0xff, 0xff])?;
-    Ok(front)
+    let last = [0x0e, 0x00, 0x00, 0x00, 0x56, 0x2b];
+    made(rt, front.extend_from_slice(&last));
+    made(rt, front.extend_from_slice(&[0xff; 26]));
+    made(rt, front.extend_from_slice(&[0xa9, 0x54, 0xff, 0xff]));
+    front
 }
 
 #[test]
-fn blocks_of_as_many_values_as_may_be(rt: HostRuntime) -> Result<(), Fail> {
-    let plan = distances(
-        rt.alloc(),
-        Material::parse("KBBvK")?,
-        &[6, 14, 3, 3],
-        (7, 16),
-        8,
-    )?;
-    let values = values(rt.alloc(), &[(&[2, 4], 436821)])?;
-    check_front(&rt, &plan, &values, &front_of_full_blocks(rt.alloc())?)
+fn blocks_of_as_many_values_as_may_be(rt: HostRuntime) {
+    let material = made(&rt, Material::parse("KBBvK"));
+    let plan = distances(rt.alloc(), material, &[6, 14, 3, 3], (7, 16), 8);
+    let values = made(&rt, values(rt.alloc(), &[(&[2, 4], 436821)]));
+    check_front(&rt, &made(&rt, plan), &values, &front_of_full_blocks(&rt));
 }
 
 /// The plan and these values, in lists of so many each, are refused.
@@ -286,25 +255,25 @@ fn check_refused(
     values: &[u16],
     size: usize,
     want: BuildFault,
-) -> Result<(), Fail> {
-    let lists = lists_of(rt.alloc(), values, size)?;
+) {
+    let lists = made(rt, lists_of(rt.alloc(), values, size));
     assert!(rt;
         build(rt.alloc(), plan, &lists).err() == Some(want),
         "{want}"
     );
-    Ok(())
 }
 
 /// A plan with a fault of each kind, of which so many were made good.
-fn mended(alloc: Global, good: u8) -> Result<Plan, Fail> {
+fn mended(rt: &(impl Abort + Alloc<A = Global>), good: u8) -> Plan {
     let men = if good < 1 { [6, 5, 5] } else { [6, 5, 14] };
     let block_bits = if good < 2 { 4 } else { 5 };
     let rounds = if good < 3 { 4001 } else { 4000 };
     let flags = if good < 4 { &[0, 0][..] } else { &[2][..] };
-    let material = Material::parse("KQvK")?;
-    let mut plan = distances(alloc, material, &men, (block_bits, 16), rounds)?;
-    plan.flags = Vec::from_slice(alloc, flags)?;
-    Ok(plan)
+    let material = made(rt, Material::parse("KQvK"));
+    let plan = distances(rt.alloc(), material, &men, (block_bits, 16), rounds);
+    let mut plan = made(rt, plan);
+    plan.flags = made(rt, Vec::from_slice(rt.alloc(), flags));
+    plan
 }
 
 /// So many values: so many different ones from 0 on, and then zeros.
@@ -323,14 +292,14 @@ fn check_mended(
     good: u8,
     (count, size): (u16, usize),
     want: BuildFault,
-) -> Result<(), Fail> {
-    let list = different(rt.alloc(), count, size)?;
-    check_refused(rt, &mended(rt.alloc(), good)?, &list, size, want)
+) {
+    let list = made(rt, different(rt.alloc(), count, size));
+    check_refused(rt, &mended(rt, good), &list, size, want);
 }
 
 /// All is wrong at first, and is made good from the first fault on.
 #[test]
-fn faults_in_their_order(rt: HostRuntime) -> Result<(), Fail> {
+fn faults_in_their_order(rt: HostRuntime) {
     for (good, list, want) in [
         (0, (0, 0), BuildFault::Order),
         (1, (0, 0), BuildFault::Bits),
@@ -342,19 +311,19 @@ fn faults_in_their_order(rt: HostRuntime) -> Result<(), Fail> {
         (3, (4095, 31332), BuildFault::Map),
         (4, (4095, 31332), BuildFault::Map),
     ] {
-        check_mended(&rt, good, list, want)?;
+        check_mended(&rt, good, list, want);
     }
-    Ok(())
 }
 
 #[test]
-fn faults_of_the_second_list(rt: HostRuntime) -> Result<(), Fail> {
-    let plan = outcomes(rt.alloc(), Material::parse("KNvK")?, &KNIGHT, (6, 12), 0)?;
-    let list = values(rt.alloc(), &[(&[2], 62663), (&[5], 1)])?;
-    check_refused(&rt, &plan, &list, THREE_MEN, BuildFault::Value(1))?;
-    check_refused(&rt, &plan, &list, THREE_MEN + 1, BuildFault::Length(0))?;
-    let list = values(rt.alloc(), &[(&[2], 62663)])?;
-    check_refused(&rt, &plan, &list, THREE_MEN, BuildFault::Length(1))
+fn faults_of_the_second_list(rt: HostRuntime) {
+    let material = made(&rt, Material::parse("KNvK"));
+    let plan = made(&rt, outcomes(rt.alloc(), material, &KNIGHT, (6, 12), 0));
+    let list = made(&rt, values(rt.alloc(), &[(&[2], 62663), (&[5], 1)]));
+    check_refused(&rt, &plan, &list, THREE_MEN, BuildFault::Value(1));
+    check_refused(&rt, &plan, &list, THREE_MEN + 1, BuildFault::Length(0));
+    let list = made(&rt, values(rt.alloc(), &[(&[2], 62663)]));
+    check_refused(&rt, &plan, &list, THREE_MEN, BuildFault::Length(1));
 }
 
 /// A plan of pairs and of a map with one item.

@@ -1,79 +1,94 @@
 //! Codes: words, refusals, reading and writing on small codes, and `next` beside a reader of single bits.
+use crate::files::made;
 use std::alloc::Global;
 use std::process::Abort;
-use std::test::Fail;
 use szg_code::{BitBuf, Bits, Code, CodeFault, PutFault, next, put, word};
 
-fn code(alloc: Global, min: u8, max: u8, lowest: &[u16], n: u16) -> Result<Code, Fail> {
-    Ok(Code::new(min, max, lowest.to_vec(alloc)?, n)?)
+fn code(rt: &(impl Abort + Alloc<A = Global>), min: u8, max: u8, lowest: &[u16], n: u16) -> Code {
+    let lowest = made(rt, lowest.to_vec(rt.alloc()));
+    made(rt, Code::new(min, max, lowest, n))
 }
 
 /// The symbol's word: its length and its number.
 fn check_word(rt: &impl Abort, code: &Code, symbol: u16, want: Option<(u8, u32)>) {
     let found = word(code, symbol).map(|word| (word.length, word.number));
-    assert_eq!(rt; found, want);
+    assert!(rt; found == want, "{symbol}");
 }
 
 #[test]
-fn words_of_symbols(rt: HostRuntime) -> Result<(), Fail> {
-    let three = code(rt.alloc(), 1, 2, &[2, 0], 3)?;
+fn words_of_symbols(rt: HostRuntime) {
+    let three = code(&rt, 1, 2, &[2, 0], 3);
     let words = [Some((2, 0)), Some((2, 1)), Some((1, 1)), None];
     for (symbol, word) in words.iter().enumerate() {
         check_word(&rt, &three, symbol as u16, *word);
     }
-    let two = code(rt.alloc(), 1, 2, &[1, 0], 2)?;
+    let two = code(&rt, 1, 2, &[1, 0], 2);
     check_word(&rt, &two, 1, Some((1, 0)));
     check_word(&rt, &two, 0, None);
     assert!(rt; two.min() == 1 && two.max() == 2 && two.symbols() == 2);
     assert!(rt; two.lowest() == [1, 0].as_slice());
-    Ok(())
+    let one = two.with_symbols(1);
+    assert!(rt; one.symbols() == 1 && one.lowest() == [1, 0].as_slice());
+    check_word(&rt, &one, 0, None);
+    check_word(&rt, &one, 1, None);
+}
+
+/// The code is refused.
+fn check_refused(
+    rt: &(impl Abort + Alloc<A = Global>),
+    (min, max): (u8, u8),
+    lowest: &[u16],
+    n: u16,
+    want: CodeFault,
+) {
+    let lowest = made(rt, lowest.to_vec(rt.alloc()));
+    assert!(rt;
+        Code::new(min, max, lowest, n).err() == Some(want),
+        "{want:?}"
+    );
 }
 
 #[test]
-fn refused_codes(rt: HostRuntime) -> Result<(), Fail> {
-    for (min, max, lowest, n, want) in [
-        (0, 1, &[1, 0][..], 2, CodeFault::Lengths),
-        (2, 1, &[][..], 2, CodeFault::Lengths),
-        (32, 33, &[0, 0][..], 2, CodeFault::Lengths),
-        (1, 2, &[0][..], 2, CodeFault::Lengths),
-        (1, 2, &[0, 2][..], 2, CodeFault::LowestOrder(1)),
-        (1, 2, &[4, 0][..], 4, CodeFault::TooFull(0)),
-        (1, 3, &[2, 2, 0][..], 4, CodeFault::TooFull(0)),
-        (1, 4, &[3, 2, 2, 0][..], 4, CodeFault::TooFull(1)),
-        (1, 2, &[65535, 0][..], 65535, CodeFault::TooFull(0)),
-    ] {
-        let answer = Code::new(min, max, lowest.to_vec(rt.alloc())?, n);
-        assert_eq!(rt; answer.err(), Some(want));
-    }
-    Ok(())
+fn refused_codes(rt: HostRuntime) {
+    check_refused(&rt, (0, 1), &[1, 0], 2, CodeFault::Lengths);
+    check_refused(&rt, (2, 1), &[], 2, CodeFault::Lengths);
+    check_refused(&rt, (32, 33), &[0, 0], 2, CodeFault::Lengths);
+    check_refused(&rt, (1, 2), &[0], 2, CodeFault::Lengths);
+    check_refused(&rt, (1, 2), &[0, 2], 2, CodeFault::LowestOrder(1));
+    check_refused(&rt, (1, 2), &[4, 0], 4, CodeFault::TooFull(0));
+    check_refused(&rt, (1, 3), &[2, 2, 0], 4, CodeFault::TooFull(0));
+    check_refused(&rt, (1, 4), &[3, 2, 2, 0], 4, CodeFault::TooFull(1));
+    check_refused(&rt, (1, 2), &[65535, 0], 65535, CodeFault::TooFull(0));
 }
 
 fn check_symbols(rt: &impl Abort, code: &Code, bytes: &[u8], symbols: &[u16], place: u64) {
     assert!(rt; bytes.len() <= 64);
     let mut bits = Bits::new(bytes);
     for symbol in symbols {
-        assert_eq!(rt; next(code, &mut bits), Some(*symbol), "in {bytes:?}");
+        assert!(rt;
+            next(code, &mut bits) == Some(*symbol),
+            "{symbol}, to {place}"
+        );
     }
     assert!(rt;
         next(code, &mut bits).is_none() && bits.place() == place,
-        "behind the symbols of {bytes:?}"
+        "behind {place}"
     );
 }
 
 #[test]
-fn symbols_of_bytes(rt: HostRuntime) -> Result<(), Fail> {
-    let three = code(rt.alloc(), 1, 2, &[2, 0], 3)?;
+fn symbols_of_bytes(rt: HostRuntime) {
+    let three = code(&rt, 1, 2, &[2, 0], 3);
     check_symbols(&rt, &three, &[0x88], &[2, 0, 1, 0], 7);
-    let zeros = code(rt.alloc(), 1, 32, &[0; 32], 2)?;
+    let zeros = code(&rt, 1, 32, &[0; 32], 2);
     check_symbols(&rt, &zeros, &[0x40], &[0, 1, 0, 0, 0, 0, 0, 0], 8);
-    Ok(())
 }
 
 #[test]
-fn symbols_of_long_words(rt: HostRuntime) -> Result<(), Fail> {
-    let long = code(rt.alloc(), 32, 32, &[0], 2)?;
+fn symbols_of_long_words(rt: HostRuntime) {
+    let long = code(&rt, 32, 32, &[0], 2);
     check_symbols(&rt, &long, &[0, 0, 0, 1, 0, 0, 0, 0], &[1, 0], 64);
-    let neighbours = code(rt.alloc(), 31, 32, &[2, 0], 3)?;
+    let neighbours = code(&rt, 31, 32, &[2, 0], 3);
     let bytes = [0, 0, 0, 1, 0, 0, 0, 2, 0, 0, 0, 2, 0, 0, 0, 0];
     for (length, symbols, place) in [
         (16, &[1, 2, 1, 0][..], 127),
@@ -82,16 +97,14 @@ fn symbols_of_long_words(rt: HostRuntime) -> Result<(), Fail> {
     ] {
         check_symbols(&rt, &neighbours, &bytes[..length], symbols, place);
     }
-    Ok(())
 }
 
 #[test]
-fn symbols_of_the_largest_code(rt: HostRuntime) -> Result<(), Fail> {
-    let many = code(rt.alloc(), 15, 16, &[65535, 0], 65535)?;
+fn symbols_of_the_largest_code(rt: HostRuntime) {
+    let many = code(&rt, 15, 16, &[65535, 0], 65535);
     check_symbols(&rt, &many, &[0xff, 0xfd], &[65533], 16);
     check_symbols(&rt, &many, &[0xff, 0xfe], &[], 0);
     check_symbols(&rt, &many, &[0xff, 0xff], &[], 0);
-    Ok(())
 }
 
 /// Putting a symbol answers this, and then the buffer has so many bits and these bytes.
@@ -105,20 +118,20 @@ fn check_put(
     bytes: &[u8],
 ) {
     assert!(rt; buffer.bits() < 64);
-    assert_eq!(rt; put(code, symbol, buffer), want);
-    assert!(rt; buffer.bits() == bits && buffer.bytes() == bytes);
+    let found = put(code, symbol, buffer);
+    let right = found == want && buffer.bits() == bits && buffer.bytes() == bytes;
+    assert!(rt; right, "{symbol}");
 }
 
 #[test]
-fn bytes_of_symbols(rt: HostRuntime) -> Result<(), Fail> {
-    let three = code(rt.alloc(), 1, 2, &[2, 0], 3)?;
-    let two = code(rt.alloc(), 1, 2, &[1, 0], 2)?;
+fn bytes_of_symbols(rt: HostRuntime) {
+    let three = code(&rt, 1, 2, &[2, 0], 3);
+    let two = code(&rt, 1, 2, &[1, 0], 2);
     let mut buffer = BitBuf::new(rt.alloc());
     for (symbol, bits, byte) in [(2, 1, 0x80), (0, 3, 0x80), (1, 5, 0x88)] {
         check_put(&rt, &three, symbol, &mut buffer, Ok(()), bits, &[byte]);
     }
     check_put(&rt, &two, 0, &mut buffer, Err(PutFault::NoWord), 5, &[0x88]);
-    Ok(())
 }
 
 /// Puts words of 32 bits until there is no memory, which leaves the buffer as it was.
@@ -204,11 +217,8 @@ fn check_agrees(rt: &impl Abort, code: &Code, bytes: &[u8]) {
         let place = bits.place();
         let want = next_by_bits(code, bytes, place);
         let found = next(code, &mut bits);
-        assert_eq!(rt;
-            found.map(|symbol| (symbol, bits.place().wrapping_sub(place))),
-            want,
-            "at {place} of {bytes:?}"
-        );
+        let word = found.map(|symbol| (symbol, bits.place().wrapping_sub(place)));
+        assert!(rt; word == want, "at {place}");
         if found.is_none() {
             return;
         }
@@ -216,12 +226,12 @@ fn check_agrees(rt: &impl Abort, code: &Code, bytes: &[u8]) {
 }
 
 #[test]
-fn agrees_with_single_bits(rt: HostRuntime) -> Result<(), Fail> {
+fn agrees_with_single_bits(rt: HostRuntime) {
     let codes = [
-        code(rt.alloc(), 1, 2, &[1, 0], 2)?,
-        code(rt.alloc(), 31, 32, &[2, 0], 3)?,
-        code(rt.alloc(), 1, 32, &[0; 32], 2)?,
-        code(rt.alloc(), 3, 7, &[40, 37, 30, 20, 0], 45)?,
+        code(&rt, 1, 2, &[1, 0], 2),
+        code(&rt, 31, 32, &[2, 0], 3),
+        code(&rt, 1, 32, &[0; 32], 2),
+        code(&rt, 3, 7, &[40, 37, 30, 20, 0], 45),
     ];
     for code in &codes {
         let mut state = 1;
@@ -229,5 +239,4 @@ fn agrees_with_single_bits(rt: HostRuntime) -> Result<(), Fail> {
             check_agrees(&rt, code, &sparse_bytes(&mut state)[..length]);
         }
     }
-    Ok(())
 }

@@ -1,10 +1,9 @@
 //! What tables hold, and the look-ups in them.
 
-use crate::files::accepted;
+use crate::files::{accepted, made, table_of};
 use crate::fixtures::{self, Fixture};
-use std::alloc::Global;
+use std::alloc::{AllocError, Global};
 use std::process::Abort;
-use std::test::Fail;
 use szg_block::Sub;
 use szg_file::{Map, MapFault, PartBytes, Table};
 use szg_values::Kind;
@@ -29,38 +28,41 @@ fn number(table: &Table, part: u8, class: i8, v: u16) -> Option<Result<u32, MapF
 }
 
 #[test]
-fn pawns_on_both_sides(rt: HostRuntime) -> Result<(), Fail> {
-    let file = fixtures::kpvkp_wdl_constant(rt.alloc())?;
+fn pawns_on_both_sides(rt: HostRuntime) {
+    let file = made(&rt, fixtures::kpvkp_wdl_constant(rt.alloc()));
     assert!(rt; file.bytes.len() == 80);
-    let table = accepted(&rt, &file, &[])?;
+    let table = accepted(&rt, &file, &[]);
     for part in 0..4 {
         assert!(rt; value(&table, part, 0, 0) == Some(2) && table.size(part, 1) == None);
     }
-    Ok(())
 }
 
 #[test]
-fn packed_distances(rt: HostRuntime) -> Result<(), Fail> {
-    let file = fixtures::kqvk_dtz_packed(rt.alloc())?;
+fn packed_distances(rt: HostRuntime) {
+    let file = made(&rt, fixtures::kqvk_dtz_packed(rt.alloc()));
     assert!(rt; file.bytes.len() == 4304);
-    let table = accepted(&rt, &file, &[])?;
+    let table = accepted(&rt, &file, &[]);
     assert_eq!(rt; table.size(0, 0), Some(31332));
     for i in [0, 255, 31331] {
         assert!(rt; value(&table, 0, 0, i) == Some(3), "at {i}");
     }
-    Ok(())
 }
 
 #[test]
-fn two_packed_sides(rt: HostRuntime) -> Result<(), Fail> {
-    let file = fixtures::kqvk_wdl_both_sides(rt.alloc())?;
+fn two_packed_sides(rt: HostRuntime) {
+    let file = made(&rt, fixtures::kqvk_wdl_both_sides(rt.alloc()));
     assert!(rt; file.bytes.len() == 8528);
-    let table = accepted(&rt, &file, &[])?;
+    let table = accepted(&rt, &file, &[]);
     for side in 0..2 {
         assert!(rt; value(&table, 0, side, 31330) == Some(2));
         assert!(rt; value(&table, 0, side, 31331) == Some(4));
     }
-    Ok(())
+}
+
+/// The value of a part's side at this index is this one.
+fn check_value(rt: &impl Abort, table: &Table, (part, side, i): (u8, u8, u64), want: Option<u16>) {
+    let found = value(table, part, side, i);
+    assert!(rt; found == want, "{part} {side} at {i}");
 }
 
 /// Side 0 has 2, 4, 2, 4 .., and side 1 is all 2.
@@ -70,45 +72,40 @@ fn check_queen(rt: &impl Abort, table: &Table) {
         let want = if i % 2 == 0 { 2 } else { 4 };
         assert!(rt; value(table, 0, 0, i) == Some(want), "at {i}");
     }
-    for (part, side, i, want) in [
-        (0, 0, 0, Some(2)),
-        (0, 0, 255, Some(4)),
-        (0, 0, 31331, Some(4)),
-        (0, 0, 31332, None),
-        (0, 1, 31331, Some(2)),
-        (1, 0, 0, None),
-    ] {
-        assert!(rt; value(table, part, side, i) == want, "{part} {side} at {i}");
-    }
+    check_value(rt, table, (0, 0, 0), Some(2));
+    check_value(rt, table, (0, 0, 255), Some(4));
+    check_value(rt, table, (0, 0, 31331), Some(4));
+    check_value(rt, table, (0, 0, 31332), None);
+    check_value(rt, table, (0, 1, 31331), Some(2));
+    check_value(rt, table, (1, 0, 0), None);
 }
 
 /// The table has so many parts of two sides with so many positions each.
 fn check_sizes(
     rt: &(impl Abort + Alloc<A = Global>),
-    file: &Fixture,
+    file: Result<Fixture, AllocError>,
     parts: u8,
     size: u64,
-) -> Result<(), Fail> {
-    let table = accepted(rt, file, &[])?;
+) {
+    let table = table_of(rt, file);
     for part in 0..parts {
         let sizes = (table.size(part, 0), table.size(part, 1));
         assert!(rt; sizes == (Some(size), Some(size)), "part {part}");
     }
     assert!(rt; table.size(0, 2) == None && table.size(parts, 0) == None);
-    Ok(())
 }
 
 #[test]
-fn sizes_of_sides(rt: HostRuntime) -> Result<(), Fail> {
-    check_sizes(&rt, &fixtures::knvk_wdl_constant(rt.alloc())?, 1, 31332)?;
-    check_sizes(&rt, &fixtures::kpvk_wdl_constant(rt.alloc())?, 4, 23436)?;
-    let six = fixtures::kqrbvkn_wdl_constant(rt.alloc())?;
-    check_sizes(&rt, &six, 1, 6765832080)
+fn sizes_of_sides(rt: HostRuntime) {
+    check_sizes(&rt, fixtures::knvk_wdl_constant(rt.alloc()), 1, 31332);
+    check_sizes(&rt, fixtures::kpvk_wdl_constant(rt.alloc()), 4, 23436);
+    let six = fixtures::kqrbvkn_wdl_constant(rt.alloc());
+    check_sizes(&rt, six, 1, 6765832080);
 }
 
 #[test]
-fn values_of_constant_sides(rt: HostRuntime) -> Result<(), Fail> {
-    let table = accepted(&rt, &fixtures::knvk_wdl_constant(rt.alloc())?, &[])?;
+fn values_of_constant_sides(rt: HostRuntime) {
+    let table = table_of(&rt, fixtures::knvk_wdl_constant(rt.alloc()));
     for side in 0..2 {
         assert!(rt; value(&table, 0, side, 31331) == Some(2));
         assert!(rt;
@@ -121,27 +118,24 @@ fn values_of_constant_sides(rt: HostRuntime) -> Result<(), Fail> {
             )
         );
     }
-    Ok(())
 }
 
 #[test]
-fn values_of_pairs(rt: HostRuntime) -> Result<(), Fail> {
-    let table = accepted(&rt, &fixtures::kqvk_wdl_paired(rt.alloc())?, &[])?;
+fn values_of_pairs(rt: HostRuntime) {
+    let table = table_of(&rt, fixtures::kqvk_wdl_paired(rt.alloc()));
     check_queen(&rt, &table);
-    Ok(())
 }
 
 /// A last length that no value needs, extra lengths, and entries that lead into them.
 #[test]
-fn values_under_other_lengths(rt: HostRuntime) -> Result<(), Fail> {
-    let file = fixtures::kqvk_wdl_unpaired(rt.alloc())?;
+fn values_under_other_lengths(rt: HostRuntime) {
+    let file = made(&rt, fixtures::kqvk_wdl_unpaired(rt.alloc()));
     let needless = [(282, 0xff), (283, 0xff), (32, 0x7a), (36, 0x00), (37, 0x06)];
     let small_extra = [(284, 0), (285, 0)];
     let beyond = [(284, 0), (285, 0), (32, 0x7c), (36, 0x9b)];
     for changes in [&[][..], &needless[..], &small_extra[..], &beyond[..]] {
-        check_queen(&rt, &accepted(&rt, &file, changes)?);
+        check_queen(&rt, &accepted(&rt, &file, changes));
     }
-    Ok(())
 }
 
 /// Whether the table tells what stands in its file's first bytes, in its fill and at its end.
@@ -172,8 +166,8 @@ fn is_zero(table: &Table, part: u8, want: u8) -> bool {
 }
 
 #[test]
-fn contents_of_a_file_of_distances(rt: HostRuntime) -> Result<(), Fail> {
-    let table = accepted(&rt, &fixtures::kpvk_dtz_mapped(rt.alloc())?, &[])?;
+fn contents_of_a_file_of_distances(rt: HostRuntime) {
+    let table = table_of(&rt, fixtures::kpvk_dtz_mapped(rt.alloc()));
     assert!(rt; has_ends(&table, "KPvK") && table.parts().len() == 4);
     assert!(rt; has_parts(table.parts(), &[0], &[1, 6, 14]));
     assert!(rt;
@@ -185,32 +179,35 @@ fn contents_of_a_file_of_distances(rt: HostRuntime) -> Result<(), Fail> {
     for (part, flags) in [(0, 130), (1, 146), (2, 128), (3, 128)] {
         assert!(rt; is_zero(&table, part, flags), "part {part}");
     }
-    Ok(())
+}
+
+/// The number of a value in a class is this one.
+fn check_number(
+    rt: &impl Abort,
+    table: &Table,
+    (part, class, v): (u8, i8, u16),
+    want: Result<u32, MapFault>,
+) {
+    let found = number(table, part, class, v);
+    assert!(rt; found == Some(want), "part {part} class {class}");
 }
 
 #[test]
-fn distances_of_values(rt: HostRuntime) -> Result<(), Fail> {
-    let table = accepted(&rt, &fixtures::kpvk_dtz_mapped(rt.alloc())?, &[])?;
-    for (part, class, v, want) in [
-        (0, 2, 0, Ok(14)),
-        (1, 2, 0, Ok(600)),
-        (2, 2, 0, Ok(0)),
-        (2, -2, 5, Ok(10)),
-        (0, -1, 0, Err(MapFault::OutsideMap)),
-        (0, 0, 0, Err(MapFault::Draw)),
-    ] {
-        let found = number(&table, part, class, v);
-        assert!(rt; found == Some(want), "part {part} class {class}");
-    }
-    Ok(())
+fn distances_of_values(rt: HostRuntime) {
+    let table = table_of(&rt, fixtures::kpvk_dtz_mapped(rt.alloc()));
+    check_number(&rt, &table, (0, 2, 0), Ok(14));
+    check_number(&rt, &table, (1, 2, 0), Ok(600));
+    check_number(&rt, &table, (2, 2, 0), Ok(0));
+    check_number(&rt, &table, (2, -2, 5), Ok(10));
+    check_number(&rt, &table, (0, -1, 0), Err(MapFault::OutsideMap));
+    check_number(&rt, &table, (0, 0, 0), Err(MapFault::Draw));
 }
 
 #[test]
-fn distances_of_losses(rt: HostRuntime) -> Result<(), Fail> {
+fn distances_of_losses(rt: HostRuntime) {
     for (flags, want) in [(0x82, 18), (0x8a, 9)] {
-        let table = accepted(&rt, &fixtures::kpvk_dtz_losses(rt.alloc(), flags)?, &[])?;
+        let table = table_of(&rt, fixtures::kpvk_dtz_losses(rt.alloc(), flags));
         assert!(rt; number(&table, 0, -2, 1) == Some(Ok(want)));
         assert!(rt; number(&table, 0, -2, 2) == Some(Err(MapFault::OutsideMap)));
     }
-    Ok(())
 }

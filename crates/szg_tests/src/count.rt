@@ -1,15 +1,13 @@
 //! Binomials, groups, sizes and sets: the format's worked rows, by tables, and the order of sets.
 
+use crate::files::made;
 use arrayvec::ArrayVec;
 use std::process::Abort;
 use szg_count::{Groups, Order, OrderFault, choose, lead_ways, subset_at, subset_place};
 use szg_values::Material;
 
 fn material(rt: &impl Abort, name: &str) -> Material {
-    match Material::parse(name) {
-        Ok(material) => material,
-        Err(_) => panic!(rt; "no material: {name}"),
-    }
+    made(rt, Material::parse(name))
 }
 
 /// The groups of a part: with the lead group's place, that of the other pawns, and the used men.
@@ -71,92 +69,155 @@ fn sets_in_the_order_of_masks(rt: HostRuntime) {
     }
 }
 
+/// So many sets of lead pawns are in each part.
+fn check_lead_ways(rt: &impl Abort, name: &str, want: [u64; 4]) {
+    let material = material(rt, name);
+    assert!(rt; material.has_pawns());
+    for part in 0..4u8 {
+        let ways = lead_ways(&material, part);
+        assert!(rt; ways == want[usize::from(part)], "{name} {part}");
+    }
+}
+
 #[test]
 fn lead_pawns_by_file(rt: HostRuntime) {
-    for (name, want) in [
-        ("KPPPvK", [5201, 2645, 953, 125]),
-        ("KPPPPvK", [70315, 25375, 5491, 295]),
-    ] {
-        let material = material(&rt, name);
-        assert!(rt; material.has_pawns());
-        for part in 0..4u8 {
-            let ways = lead_ways(&material, part);
-            assert!(rt; ways == want[usize::from(part)], "{name} {part}");
-        }
+    check_lead_ways(&rt, "KPPPvK", [5201, 2645, 953, 125]);
+    check_lead_ways(&rt, "KPPPPvK", [70315, 25375, 5491, 295]);
+}
+
+/// The groups of part 0 have these factors.
+fn check_factors(rt: &impl Abort, name: &str, places: (u8, Option<u8>), men: &[u8], want: &[u64]) {
+    let Ok(groups) = groups(rt, name, 0, places, men) else {
+        panic!(rt; "refused: {name}");
+    };
+    assert!(rt; groups.count() == want.len(), "{name}");
+    for (i, factor) in want.iter().enumerate() {
+        assert!(rt; groups.group(i).factor == *factor, "{name} {i}");
     }
 }
 
 #[test]
 fn factors(rt: HostRuntime) {
-    let rows: [(&str, (u8, Option<u8>), &[u8], &[u64]); 4] = [
-        ("KBBvK", (0, None), &[6, 14, 3, 3], &[1, 462]),
-        ("KBBvK", (1, None), &[6, 14, 3, 3], &[1891, 1]),
-        ("KPvKP", (0, Some(1)), &[1, 9, 6, 14], &[1, 6, 282, 17484]),
-        (
-            "KPvKP",
-            (3, Some(0)),
-            &[1, 9, 6, 14],
-            &[177754, 1, 47, 2914],
-        ),
-    ];
-    for (name, places, men, want) in rows {
-        let Ok(groups) = groups(&rt, name, 0, places, men) else {
-            panic!(rt; "refused: {name}");
-        };
-        assert_eq!(rt; groups.count(), want.len());
-        for (i, factor) in want.iter().enumerate() {
-            assert!(rt; groups.group(i).factor == *factor, "{name} {i}");
-        }
-    }
+    check_factors(&rt, "KBBvK", (0, None), &[6, 14, 3, 3], &[1, 462]);
+    check_factors(&rt, "KBBvK", (1, None), &[6, 14, 3, 3], &[1891, 1]);
+    check_factors(
+        &rt,
+        "KPvKP",
+        (0, Some(1)),
+        &[1, 9, 6, 14],
+        &[1, 6, 282, 17484],
+    );
+    check_factors(
+        &rt,
+        "KPvKP",
+        (3, Some(0)),
+        &[1, 9, 6, 14],
+        &[177754, 1, 47, 2914],
+    );
+}
+
+/// The order of part 0 is refused.
+fn check_refused(
+    rt: &impl Abort,
+    name: &str,
+    places: (u8, Option<u8>),
+    men: &[u8],
+    want: OrderFault,
+) {
+    let fault = groups(rt, name, 0, places, men).err();
+    assert!(rt; fault == Some(want), "{name}");
 }
 
 #[test]
 fn refusals(rt: HostRuntime) {
-    let rows: [(&str, (u8, Option<u8>), &[u8], OrderFault); 8] = [
-        ("KNvK", (0, None), &[6, 2, 6], OrderFault::Pieces),
-        ("KPvK", (0, None), &[6, 1, 14], OrderFault::PawnsFirst),
-        ("KNvK", (1, None), &[6, 2, 14], OrderFault::OrderPlace),
-        ("KPvK", (3, None), &[1, 6, 14], OrderFault::OrderPlace),
-        (
-            "KPvKP",
-            (0, Some(0)),
-            &[1, 9, 6, 14],
-            OrderFault::OrderPlace,
-        ),
-        ("KPvKP", (0, None), &[1, 9, 6, 14], OrderFault::OrderPlace),
-        ("KPvK", (0, Some(1)), &[1, 6, 14], OrderFault::OrderPlace),
-        (
-            "KPPvKP",
-            (0, Some(1)),
-            &[1, 1, 9, 6, 14],
-            OrderFault::PawnsFirst,
-        ),
-    ];
-    for (name, places, men, want) in rows {
-        let fault = groups(&rt, name, 0, places, men).err();
-        assert!(rt; fault == Some(want), "{name}");
-    }
+    check_refused(&rt, "KNvK", (0, None), &[6, 2, 6], OrderFault::Pieces);
+    check_refused(&rt, "KPvK", (0, None), &[6, 1, 14], OrderFault::PawnsFirst);
+    check_refused(&rt, "KNvK", (1, None), &[6, 2, 14], OrderFault::OrderPlace);
+    check_refused(&rt, "KPvK", (3, None), &[1, 6, 14], OrderFault::OrderPlace);
+    check_refused(
+        &rt,
+        "KPvKP",
+        (0, Some(0)),
+        &[1, 9, 6, 14],
+        OrderFault::OrderPlace,
+    );
+    check_refused(
+        &rt,
+        "KPvKP",
+        (0, None),
+        &[1, 9, 6, 14],
+        OrderFault::OrderPlace,
+    );
+    check_refused(
+        &rt,
+        "KPvK",
+        (0, Some(1)),
+        &[1, 6, 14],
+        OrderFault::OrderPlace,
+    );
+    check_refused(
+        &rt,
+        "KPPvKP",
+        (0, Some(1)),
+        &[1, 1, 9, 6, 14],
+        OrderFault::PawnsFirst,
+    );
+}
+
+/// A part has so many positions.
+fn check_size(
+    rt: &impl Abort,
+    name: &str,
+    part: u8,
+    places: (u8, Option<u8>),
+    men: &[u8],
+    want: u64,
+) {
+    let size = groups(rt, name, part, places, men).map(|groups| groups.size());
+    assert!(rt; size == Ok(want), "{name} {part}");
 }
 
 #[test]
 fn sizes(rt: HostRuntime) {
-    let rows: [(&str, u8, (u8, Option<u8>), &[u8], u64); 13] = [
-        ("KQvK", 0, (0, None), &[6, 5, 14], 31332),
-        ("KBBvK", 0, (0, None), &[6, 14, 3, 3], 873642),
-        ("KQRvK", 0, (0, None), &[6, 5, 14, 4], 1911252),
-        ("KPvK", 0, (0, None), &[1, 6, 14], 23436),
-        ("KPvK", 3, (0, None), &[1, 6, 14], 23436),
-        ("KPvKP", 2, (0, Some(1)), &[1, 9, 6, 14], 1066524),
-        ("KPPvK", 0, (0, None), &[1, 1, 6, 14], 953064),
-        ("KPPPPvK", 0, (0, None), &[1, 1, 1, 1, 6, 14], 248915100),
-        ("KPPvKPP", 0, (0, Some(1)), &[1, 1, 9, 9, 6, 14], 923302800),
-        ("KRRvKRR", 0, (0, None), &[6, 14, 4, 4, 12, 12], 1546346340),
-        ("KQRBvKN", 0, (0, None), &[6, 5, 14, 4, 3, 10], 6765832080),
-        ("KQvKP", 0, (0, None), &[9, 6, 5, 14], 1429596),
-        ("KPPvKP", 0, (0, Some(1)), &[9, 1, 1, 6, 14], 23738760),
-    ];
-    for (name, part, places, men, want) in rows {
-        let size = groups(&rt, name, part, places, men).map(|groups| groups.size());
-        assert!(rt; size == Ok(want), "{name} {part}");
-    }
+    check_size(&rt, "KQvK", 0, (0, None), &[6, 5, 14], 31332);
+    check_size(&rt, "KBBvK", 0, (0, None), &[6, 14, 3, 3], 873642);
+    check_size(&rt, "KQRvK", 0, (0, None), &[6, 5, 14, 4], 1911252);
+    check_size(&rt, "KPvK", 0, (0, None), &[1, 6, 14], 23436);
+    check_size(&rt, "KPvK", 3, (0, None), &[1, 6, 14], 23436);
+    check_size(&rt, "KPvKP", 2, (0, Some(1)), &[1, 9, 6, 14], 1066524);
+    check_size(&rt, "KPPvK", 0, (0, None), &[1, 1, 6, 14], 953064);
+    check_size(
+        &rt,
+        "KPPPPvK",
+        0,
+        (0, None),
+        &[1, 1, 1, 1, 6, 14],
+        248915100,
+    );
+    check_size(
+        &rt,
+        "KPPvKPP",
+        0,
+        (0, Some(1)),
+        &[1, 1, 9, 9, 6, 14],
+        923302800,
+    );
+    check_size(
+        &rt,
+        "KRRvKRR",
+        0,
+        (0, None),
+        &[6, 14, 4, 4, 12, 12],
+        1546346340,
+    );
+    check_size(
+        &rt,
+        "KQRBvKN",
+        0,
+        (0, None),
+        &[6, 5, 14, 4, 3, 10],
+        6765832080,
+    );
+    check_size(&rt, "KQvKP", 0, (0, None), &[9, 6, 5, 14], 1429596);
+    check_size(&rt, "KPPvKP", 0, (0, Some(1)), &[9, 1, 1, 6, 14], 23738760);
 }

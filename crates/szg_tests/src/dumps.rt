@@ -1,10 +1,9 @@
 //! Dumps that are written, read back and built again, and texts that are no dumps.
 
-use crate::files::{answer, check_written, fixtures_of_all_sections};
-use crate::fixtures;
-use std::alloc::{AllocError, Global};
+use crate::files::{answer, check_written, fixtures_of_all_sections, made};
+use crate::fixtures::{self, Fixture};
+use std::alloc::Global;
 use std::process::Abort;
-use std::test::Fail;
 use szg_build::{BuildFault, Dump, DumpFault, DumpReadFault, Plan, build, read_dump, write_dump};
 use szg_file::{ReadFault, Table};
 use szg_io::{Bytes, Std};
@@ -14,11 +13,7 @@ const FRONT: &[u8] =
     b"szg-dump 2\nname KQvK\nkind wdl\nend 000102030405060708090a0b0c0d0e0f\npart a order 00 men 6655ee\nsub a 0\n";
 
 /// The text of a dump, in runs or with a line for each value.
-fn text_of(
-    rt: &(impl Abort + Alloc<A = Global>),
-    dump: &Dump,
-    in_runs: bool,
-) -> Result<Vec<u8>, Fail> {
+fn text_of(rt: &(impl Abort + Alloc<A = Global>), dump: &Dump, in_runs: bool) -> Vec<u8> {
     let mut output = Std::new(Vec::new(rt.alloc()));
     let written = if in_runs {
         write_dump(dump, 2, &mut output)
@@ -26,37 +21,50 @@ fn text_of(
         write_dump(dump, 1, &mut output)
     };
     assert!(rt; written.is_ok());
-    Ok(Vec::from_slice(rt.alloc(), output.inner().as_slice())?)
+    made(rt, Vec::from_slice(rt.alloc(), output.inner().as_slice()))
 }
 
 /// The dump of a text, and nothing is left of it.
-fn dump_of(rt: &(impl Abort + Alloc<A = Global>), text: &[u8]) -> Result<Dump, Fail> {
+fn dump_of(rt: &(impl Abort + Alloc<A = Global>), text: &[u8]) -> Dump {
     let mut input = Bytes::new(text);
-    let dump = read_dump(rt.alloc(), &mut input).ok().ok_or("no dump")?;
+    let dump = made(rt, read_dump(rt.alloc(), &mut input));
     assert!(rt; input.left().is_empty());
-    Ok(dump)
+    dump
+}
+
+/// The dump of a file's table.
+fn dump_of_file(rt: &(impl Abort + Alloc<A = Global>), file: &Fixture) -> Dump {
+    let table = made(rt, answer(rt, file));
+    made(rt, Dump::of(rt.alloc(), &table))
+}
+
+/// The text is read back, and its dump is written in the other form, runs or single values, as this one.
+fn check_other_form(
+    rt: &(impl Abort + Alloc<A = Global>),
+    text: &[u8],
+    in_runs: bool,
+    want: &[u8],
+) {
+    let other = text_of(rt, &dump_of(rt, text), in_runs);
+    assert!(rt; other.as_slice() == want);
 }
 
 #[test]
-fn dumps_in_both_forms_are_read_back(rt: HostRuntime) -> Result<(), Fail> {
-    for file in fixtures_of_all_sections(rt.alloc())?.iter() {
-        let table = answer(rt.alloc(), file)??;
-        let dump = Dump::of(rt.alloc(), &table)?;
-        let runs = text_of(&rt, &dump, true)?;
-        let singles = text_of(&rt, &dump, false)?;
-        let of_runs = text_of(&rt, &dump_of(&rt, &runs)?, false)?;
-        let of_singles = text_of(&rt, &dump_of(&rt, &singles)?, true)?;
-        assert!(rt; of_runs == singles && of_singles == runs, "{}", file.name);
+fn dumps_in_both_forms_are_read_back(rt: HostRuntime) {
+    for file in &made(&rt, fixtures_of_all_sections(rt.alloc())) {
+        let dump = dump_of_file(&rt, file);
+        let runs = text_of(&rt, &dump, true);
+        let singles = text_of(&rt, &dump, false);
+        check_other_form(&rt, &runs, false, &singles);
+        check_other_form(&rt, &singles, true, &runs);
     }
-    Ok(())
 }
 
 #[test]
-fn a_dump_builds_its_file_again(rt: HostRuntime) -> Result<(), Fail> {
-    let file = fixtures::kqvk_wdl_paired(rt.alloc())?;
-    let table = answer(rt.alloc(), &file)??;
-    let text = text_of(&rt, &Dump::of(rt.alloc(), &table)?, true)?;
-    let dump = dump_of(&rt, &text)?;
+fn a_dump_builds_its_file_again(rt: HostRuntime) {
+    let file = made(&rt, fixtures::kqvk_wdl_paired(rt.alloc()));
+    let dump = dump_of(&rt, &text_of(&rt, &dump_of_file(&rt, &file), true));
+    let last = dump.last;
     let plan = Plan {
         material: dump.material,
         kind: dump.kind,
@@ -66,14 +74,14 @@ fn a_dump_builds_its_file_again(rt: HostRuntime) -> Result<(), Fail> {
         rounds: 8,
         flags: dump.flags,
         maps: dump.maps,
-        last: dump.last,
+        last,
     };
     let lists = dump.lists;
-    let first = lists.get(0).ok_or("no list")?;
-    let second = lists.get(1).ok_or("no list")?;
-    let built = build(rt.alloc(), &plan, &[first.as_slice(), second.as_slice()])?;
-    check_written(&rt, &built, &file.bytes);
-    Ok(())
+    let [first, second] = lists.as_slice() else {
+        panic!(rt; "other lists than two");
+    };
+    let built = build(rt.alloc(), &plan, &[first.as_slice(), second.as_slice()]);
+    check_written(&rt, &made(&rt, built), &file.bytes);
 }
 
 /// The text is refused.
@@ -88,10 +96,10 @@ fn check_line(rt: &(impl Abort + Alloc<A = Global>), text: &[u8], line: u64, fau
 }
 
 /// The first six lines of a dump, and these bytes.
-fn behind_front(alloc: Global, rest: &[u8]) -> Result<Vec<u8>, AllocError> {
-    let mut text = Vec::from_slice(alloc, FRONT)?;
-    text.extend_from_slice(rest)?;
-    Ok(text)
+fn behind_front(rt: &(impl Abort + Alloc<A = Global>), rest: &[u8]) -> Vec<u8> {
+    let mut text = made(rt, Vec::from_slice(rt.alloc(), FRONT));
+    made(rt, text.extend_from_slice(rest));
+    text
 }
 
 #[test]
@@ -117,14 +125,13 @@ fn a_cut_dump_of_many_values(rt: HostRuntime) {
 }
 
 #[test]
-fn lines_of_values_that_are_refused(rt: HostRuntime) -> Result<(), Fail> {
-    let number = behind_front(rt.alloc(), b"values 031332\n")?;
+fn lines_of_values_that_are_refused(rt: HostRuntime) {
+    let number = behind_front(&rt, b"values 031332\n");
     check_line(&rt, &number, 7, DumpFault::Number);
-    let run = behind_front(rt.alloc(), b"values 31332\n31333 2\n")?;
+    let run = behind_front(&rt, b"values 31332\n31333 2\n");
     check_line(&rt, &run, 8, DumpFault::Run);
-    let length = behind_front(rt.alloc(), b"values 31331\n")?;
+    let length = behind_front(&rt, b"values 31331\n");
     check_refused(&rt, &length, DumpReadFault::Build(BuildFault::Length(0)));
-    Ok(())
 }
 
 /// The table's dump is taken, written and read back; any of it may be refused for want of memory.
@@ -144,15 +151,14 @@ fn check_memory(rt: &(impl Abort + Alloc<A = Global>), table: &Table) {
 
 /// To be run with each allocation refused in turn: nothing but want of memory is answered.
 #[test]
-fn refused_growths_are_want_of_memory(rt: HostRuntime) -> Result<(), Fail> {
+fn refused_growths_are_want_of_memory(rt: HostRuntime) {
     let Ok(files) = fixtures_of_all_sections(rt.alloc()) else {
-        return Ok(());
+        return;
     };
     for file in &files {
-        match answer(rt.alloc(), file)? {
+        match answer(&rt, file) {
             Ok(table) => check_memory(&rt, &table),
             Err(fault) => assert!(rt; fault == ReadFault::Memory),
         }
     }
-    Ok(())
 }

@@ -2,40 +2,52 @@
 
 use crate::fixtures::{self, Fixture};
 use std::alloc::{AllocError, Global};
+use std::fmt::Debug;
 use std::process::Abort;
-use std::test::Fail;
 use szg_file::{ReadFault, Reason, Table, file_len, read, read_bytes, write};
 use szg_io::Std;
 use szg_values::Material;
 
-pub fn material(file: &Fixture) -> Result<Material, Fail> {
-    Ok(Material::parse(file.name).ok().ok_or("no name")?)
+/// What a call made that is not to be refused.
+pub fn made<T, E: Debug>(rt: &impl Abort, answer: Result<T, E>) -> T {
+    match answer {
+        Ok(made) => made,
+        Err(fault) => panic!(rt; "{fault:?}"),
+    }
+}
+
+/// Adds an item, for which there is to be memory.
+pub fn push<T: Drop>(rt: &impl Abort, list: &mut Vec<T>, item: T) {
+    assert!(rt; list.push(item).is_ok());
+}
+
+pub fn material(rt: &impl Abort, file: &Fixture) -> Material {
+    made(rt, Material::parse(file.name))
 }
 
 /// What the file's bytes are read as, all at once.
-pub fn answer(alloc: Global, file: &Fixture) -> Result<Result<Table, ReadFault>, Fail> {
-    let material = material(file)?;
+pub fn answer(rt: &(impl Abort + Alloc<A = Global>), file: &Fixture) -> Result<Table, ReadFault> {
     let mut input = Std::new(file.bytes.as_slice());
-    Ok(read(alloc, material, file.kind, &mut input))
+    read(rt.alloc(), material(rt, file), file.kind, &mut input)
 }
 
 /// The file with other bytes at some places.
 pub fn changed(
-    alloc: Global,
+    rt: &(impl Abort + Alloc<A = Global>),
     file: &Fixture,
     changes: &[(usize, u8)],
-) -> Result<Fixture, AllocError> {
-    let mut bytes = Vec::from_slice(alloc, &file.bytes)?;
+) -> Fixture {
+    let mut bytes = made(rt, Vec::from_slice(rt.alloc(), &file.bytes));
     for (at, byte) in changes {
         if *at < bytes.len() {
             bytes[*at] = *byte;
         }
     }
-    Ok(Fixture {
+    Fixture {
         name: file.name,
         kind: file.kind,
         bytes,
-    })
+    }
 }
 
 /// The table is written as these bytes.
@@ -50,12 +62,17 @@ pub fn accepted(
     rt: &(impl Abort + Alloc<A = Global>),
     file: &Fixture,
     changes: &[(usize, u8)],
-) -> Result<Table, Fail> {
-    let file = changed(rt.alloc(), file, changes)?;
-    let table = answer(rt.alloc(), &file)??;
+) -> Table {
+    let file = changed(rt, file, changes);
+    let table = made(rt, answer(rt, &file));
     check_written(rt, &table, &file.bytes);
-    assert!(rt; read_bytes(rt.alloc(), material(&file)?, file.kind, &file.bytes).is_ok());
-    Ok(table)
+    assert!(rt; read_bytes(rt.alloc(), material(rt, &file), file.kind, &file.bytes).is_ok());
+    table
+}
+
+/// The table of a file as it was made, which is accepted.
+pub fn table_of(rt: &(impl Abort + Alloc<A = Global>), file: Result<Fixture, AllocError>) -> Table {
+    accepted(rt, &made(rt, file), &[])
 }
 
 /// The file with these changes is refused at this place, by a device and in memory.
@@ -65,13 +82,12 @@ pub fn check_refused(
     changes: &[(usize, u8)],
     place: u64,
     reason: Reason,
-) -> Result<(), Fail> {
-    let file = changed(rt.alloc(), file, changes)?;
-    let found = answer(rt.alloc(), &file)?.err();
-    assert_eq!(rt; found, Some(ReadFault::Refused { place, reason }));
-    let same = read_bytes(rt.alloc(), material(&file)?, file.kind, &file.bytes).err();
-    assert!(rt; same == found);
-    Ok(())
+) {
+    let file = changed(rt, file, changes);
+    let want = Some(ReadFault::Refused { place, reason });
+    assert!(rt; answer(rt, &file).err() == want, "at {place}");
+    let same = read_bytes(rt.alloc(), material(rt, &file), file.kind, &file.bytes).err();
+    assert!(rt; same == want, "at {place}");
 }
 
 pub fn fixtures_of_all_sections(alloc: Global) -> Result<Vec<Fixture>, AllocError> {

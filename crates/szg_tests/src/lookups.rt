@@ -1,10 +1,9 @@
 //! Look-ups: their steps by the sparse index, and tables whose blocks a source gives.
 
-use crate::files::{accepted, changed, fixtures_of_all_sections, material};
+use crate::files::{accepted, changed, fixtures_of_all_sections, made, material};
 use crate::fixtures::{self, Fixture};
 use std::alloc::Global;
 use std::process::Abort;
-use std::test::Fail;
 use szg_block::{Image, Source, SourceFault, Steps, Watch};
 use szg_file::{Heads, OpenFault, Opened, Reason, Table, open};
 
@@ -42,10 +41,10 @@ pub fn opened<'a>(
     rt: &(impl Abort + Alloc<A = Global>),
     file: &'a Fixture,
     fails_at: u64,
-) -> Result<Opened<Watch<Image<'a>>>, Fail> {
+) -> Opened<Watch<Image<'a>>> {
     let source = Watch::new(Image::new(&file.bytes), fails_at);
-    match open(rt.alloc(), material(file)?, file.kind, source) {
-        Ok(opened) => Ok(opened),
+    match open(rt.alloc(), material(rt, file), file.kind, source) {
+        Ok(opened) => opened,
         Err(_) => panic!(rt; "it is not opened"),
     }
 }
@@ -57,8 +56,8 @@ fn check_steps(
     changes: &[(usize, u8)],
     i: u64,
     want: (u16, u64, u64, u64),
-) -> Result<(), Fail> {
-    let table = accepted(rt, file, changes)?;
+) {
+    let table = accepted(rt, file, changes);
     let (value, moves, words, descents) = want;
     let steps = Steps {
         moves,
@@ -67,46 +66,40 @@ fn check_steps(
         fetches: 1,
     };
     assert!(rt; counted(rt, &table, 0, i) == (value, steps), "at {i}");
-    Ok(())
 }
 
 /// From an entry past the size and from one of the first block, and over a length that no block has.
 #[test]
-fn steps_from_sparse_entries(rt: HostRuntime) -> Result<(), Fail> {
-    let file = fixtures::kqvk_wdl_unpaired(rt.alloc())?;
+fn steps_from_sparse_entries(rt: HostRuntime) {
+    let file = made(&rt, fixtures::kqvk_wdl_unpaired(rt.alloc()));
     let first = [(32, 0), (36, 0), (37, 0x80)];
     let short = [(284, 0), (285, 0)];
     let last = [(284, 0), (285, 0), (32, 0x7c), (36, 0x9b)];
-    for (changes, i, want) in [
-        (&[][..], 31331, (4, 1, 100, 0)),
-        (&[][..], 0, (2, 123, 1, 0)),
-        (&first[..], 31331, (4, 122, 100, 0)),
-        (&first[..], 0, (2, 0, 1, 0)),
-        (&short[..], 31331, (4, 1, 100, 0)),
-        (&last[..], 31331, (4, 2, 100, 0)),
-    ] {
-        check_steps(&rt, &file, changes, i, want)?;
-    }
-    let paired = fixtures::kqvk_wdl_paired(rt.alloc())?;
-    check_steps(&rt, &paired, &[], 31331, (4, 0, 40, 2))?;
-    check_steps(&rt, &paired, &[], 0, (2, 0, 1, 8))
+    check_steps(&rt, &file, &[], 31331, (4, 1, 100, 0));
+    check_steps(&rt, &file, &[], 0, (2, 123, 1, 0));
+    check_steps(&rt, &file, &first, 31331, (4, 122, 100, 0));
+    check_steps(&rt, &file, &first, 0, (2, 0, 1, 0));
+    check_steps(&rt, &file, &short, 31331, (4, 1, 100, 0));
+    check_steps(&rt, &file, &last, 31331, (4, 2, 100, 0));
+    let paired = made(&rt, fixtures::kqvk_wdl_paired(rt.alloc()));
+    check_steps(&rt, &paired, &[], 31331, (4, 0, 40, 2));
+    check_steps(&rt, &paired, &[], 0, (2, 0, 1, 8));
 }
 
 #[test]
-fn files_of_all_sections_are_opened(rt: HostRuntime) -> Result<(), Fail> {
-    for file in &fixtures_of_all_sections(rt.alloc())? {
-        let table = accepted(&rt, file, &[])?;
-        let mut opened = opened(&rt, file, 0)?;
+fn files_of_all_sections_are_opened(rt: HostRuntime) {
+    for file in &made(&rt, fixtures_of_all_sections(rt.alloc())) {
+        let table = accepted(&rt, file, &[]);
+        let mut opened = opened(&rt, file, 0);
         assert!(rt; looked_up(&rt, &mut opened, 0, 7) == Ok(value(&rt, &table, 0, 7)));
     }
-    Ok(())
 }
 
 /// The values by the source are the table's. The file's 123 blocks were read together, and each value of side 0 asks for a
 /// block of 32 bytes; side 1 is constant, and asks for none.
-fn check_values(rt: &(impl Abort + Alloc<A = Global>), file: &Fixture) -> Result<(), Fail> {
-    let table = accepted(rt, file, &[])?;
-    let mut opened = opened(rt, file, 0)?;
+fn check_values(rt: &(impl Abort + Alloc<A = Global>), file: &Fixture) {
+    let table = accepted(rt, file, &[]);
+    let mut opened = opened(rt, file, 0);
     let calls = opened.source().calls();
     assert!(rt; calls < 32);
     for i in 0..31332 {
@@ -123,13 +116,12 @@ fn check_values(rt: &(impl Abort + Alloc<A = Global>), file: &Fixture) -> Result
         assert!(rt; found == Ok(value(rt, &table, 1, i)), "at {i}");
     }
     assert!(rt; opened.source().calls() == calls + 31332);
-    Ok(())
 }
 
 #[test]
-fn values_by_a_source(rt: HostRuntime) -> Result<(), Fail> {
-    check_values(&rt, &fixtures::kqvk_wdl_unpaired(rt.alloc())?)?;
-    check_values(&rt, &fixtures::kqvk_wdl_paired(rt.alloc())?)
+fn values_by_a_source(rt: HostRuntime) {
+    check_values(&rt, &made(&rt, fixtures::kqvk_wdl_unpaired(rt.alloc())));
+    check_values(&rt, &made(&rt, fixtures::kqvk_wdl_paired(rt.alloc())));
 }
 
 /// The block that has value `i` stands at this place.
@@ -139,34 +131,33 @@ fn check_place<'a>(rt: &impl Abort, opened: &mut Opened<Watch<Image<'a>>>, i: u6
 }
 
 #[test]
-fn places_of_blocks(rt: HostRuntime) -> Result<(), Fail> {
-    let file = fixtures::kqvk_wdl_unpaired(rt.alloc())?;
-    let mut opened = opened(&rt, &file, 0)?;
-    for (i, place) in [(31331, 4224), (0, 320), (255, 320), (256, 352)] {
-        check_place(&rt, &mut opened, i, place);
-    }
-    Ok(())
+fn places_of_blocks(rt: HostRuntime) {
+    let file = made(&rt, fixtures::kqvk_wdl_unpaired(rt.alloc()));
+    let mut opened = opened(&rt, &file, 0);
+    check_place(&rt, &mut opened, 31331, 4224);
+    check_place(&rt, &mut opened, 0, 320);
+    check_place(&rt, &mut opened, 255, 320);
+    check_place(&rt, &mut opened, 256, 352);
 }
 
 /// A fault is told, and the next call is answered; a look-up asks for its one block at once.
 #[test]
-fn a_source_that_fails_once(rt: HostRuntime) -> Result<(), Fail> {
-    let file = fixtures::kqvk_wdl_one_block(rt.alloc())?;
+fn a_source_that_fails_once(rt: HostRuntime) {
+    let file = made(&rt, fixtures::kqvk_wdl_one_block(rt.alloc()));
     let source = Watch::new(Image::new(&file.bytes), 3);
-    let source = match open(rt.alloc(), material(&file)?, file.kind, source) {
+    let source = match open(rt.alloc(), material(&rt, &file), file.kind, source) {
         Err((OpenFault::Source, source)) => source,
         _ => panic!(rt; "its fault is not told"),
     };
     assert!(rt; source.calls() == 3);
-    assert!(rt; open(rt.alloc(), material(&file)?, file.kind, source).is_ok());
-    let calls = opened(&rt, &file, 0)?.source().calls();
+    assert!(rt; open(rt.alloc(), material(&rt, &file), file.kind, source).is_ok());
+    let calls = opened(&rt, &file, 0).source().calls();
     assert!(rt; calls < 32);
-    let mut opened = opened(&rt, &file, calls + 1)?;
+    let mut opened = opened(&rt, &file, calls + 1);
     assert!(rt; looked_up(&rt, &mut opened, 0, 31331) == Err(SourceFault));
     assert!(rt; looked_up(&rt, &mut opened, 0, 31331) == Ok(4));
     let source = opened.source();
     assert!(rt; source.calls() == calls + 2 && source.last_length() == 131072);
-    Ok(())
 }
 
 /// A source of bytes in memory that has no more than its first `told` bytes to tell: where it is asked for others, it fails.
@@ -210,16 +201,19 @@ impl<'a> Source for Beginning<'a> {
     }
 }
 
-/// Behind each table stands a byte that the source fails to tell.
+/// Over a source that fails to tell a byte behind the file its table is opened.
+fn check_no_byte_behind(rt: &(impl Abort + Alloc<A = Global>), file: &Fixture) {
+    let mut bytes = made(rt, file.bytes.clone());
+    made(rt, bytes.extend_from_slice(&[0]));
+    let source = Beginning::new(&bytes, file.bytes.len() as u64);
+    assert!(rt; open(rt.alloc(), material(rt, file), file.kind, source).is_ok());
+}
+
 #[test]
-fn no_byte_behind_a_table_is_asked_for(rt: HostRuntime) -> Result<(), Fail> {
-    for file in &fixtures_of_all_sections(rt.alloc())? {
-        let mut bytes = file.bytes.clone()?;
-        bytes.push(0)?;
-        let source = Beginning::new(&bytes, file.bytes.len() as u64);
-        assert!(rt; open(rt.alloc(), material(file)?, file.kind, source).is_ok());
+fn no_byte_behind_a_table_is_asked_for(rt: HostRuntime) {
+    for file in &made(&rt, fixtures_of_all_sections(rt.alloc())) {
+        check_no_byte_behind(&rt, file);
     }
-    Ok(())
 }
 
 /// Over a source of these bytes, which fails behind the first so many, a table of the file's name is refused at this place.
@@ -230,46 +224,49 @@ fn check_not_opened(
     told: u64,
     place: u64,
     reason: Reason,
-) -> Result<(), Fail> {
+) {
     let source = Beginning::new(bytes, told);
-    match open(rt.alloc(), material(file)?, file.kind, source) {
+    match open(rt.alloc(), material(rt, file), file.kind, source) {
         Ok(_) => panic!(rt; "it is opened"),
         Err((fault, _)) => assert!(rt; fault == OpenFault::Refused { place, reason }, "at {place}"),
     }
-    Ok(())
 }
 
-/// No byte is asked for behind the field whose check fails, which ends at `told`.
+/// With this one change no byte is asked for behind the field whose check fails, which ends at `told`.
+fn check_change(
+    rt: &(impl Abort + Alloc<A = Global>),
+    change: (usize, u8),
+    told: u64,
+    place: u64,
+    reason: Reason,
+) {
+    let file = made(rt, fixtures::kqvk_wdl_unpaired(rt.alloc()));
+    let other = changed(rt, &file, &[change]);
+    check_not_opened(rt, &other, &other.bytes, told, place, reason);
+}
+
 #[test]
-fn changed_files_are_not_opened(rt: HostRuntime) -> Result<(), Fail> {
-    let file = fixtures::kqvk_wdl_unpaired(rt.alloc())?;
-    for (at, byte, told, place, reason) in [
-        (0, 0x70, 4, 0, Reason::Magic),
-        (11, 0x13, 12, 11, Reason::BlockBits),
-        (25, 0x00, 30, 24, Reason::Child),
-        (282, 0x62, 286, 38, Reason::ShortTotal),
-        (36, 0x9d, 286, 32, Reason::SparseEntry),
-    ] {
-        let other = changed(rt.alloc(), &file, &[(at, byte)])?;
-        check_not_opened(&rt, &other, &other.bytes, told, place, reason)?;
-    }
-    Ok(())
+fn changed_files_are_not_opened(rt: HostRuntime) {
+    check_change(&rt, (0, 0x70), 4, 0, Reason::Magic);
+    check_change(&rt, (11, 0x13), 12, 11, Reason::BlockBits);
+    check_change(&rt, (25, 0x00), 30, 24, Reason::Child);
+    check_change(&rt, (282, 0x62), 286, 38, Reason::ShortTotal);
+    check_change(&rt, (36, 0x9d), 286, 32, Reason::SparseEntry);
 }
 
 /// Each beginning of the file is refused at its end.
-fn check_cuts(rt: &(impl Abort + Alloc<A = Global>), file: &Fixture) -> Result<(), Fail> {
+fn check_cuts(rt: &(impl Abort + Alloc<A = Global>), file: &Fixture) {
     for n in 0..file.bytes.len() {
         let place = n as u64;
-        check_not_opened(rt, file, &file.bytes[..n], place, place, Reason::Truncated)?;
+        check_not_opened(rt, file, &file.bytes[..n], place, place, Reason::Truncated);
     }
-    Ok(())
 }
 
 #[test]
-fn cut_files_are_not_opened(rt: HostRuntime) -> Result<(), Fail> {
-    check_cuts(&rt, &fixtures::knvk_wdl_constant(rt.alloc())?)?;
-    check_cuts(&rt, &fixtures::kqvk_wdl_paired(rt.alloc())?)?;
-    check_cuts(&rt, &fixtures::kpvk_dtz_mapped(rt.alloc())?)
+fn cut_files_are_not_opened(rt: HostRuntime) {
+    check_cuts(&rt, &made(&rt, fixtures::knvk_wdl_constant(rt.alloc())));
+    check_cuts(&rt, &made(&rt, fixtures::kqvk_wdl_paired(rt.alloc())));
+    check_cuts(&rt, &made(&rt, fixtures::kpvk_dtz_mapped(rt.alloc())));
 }
 
 /// Value `i` of a side, out of these bytes.
@@ -297,10 +294,10 @@ fn brought(heads: &Heads, bytes: &[u8], side: u8, i: u64) -> Option<u16> {
 
 /// All values of both sides are found so; without bytes only those of the constant side.
 #[test]
-fn values_in_bytes_that_are_brought(rt: HostRuntime) -> Result<(), Fail> {
-    let file = fixtures::kqvk_wdl_unpaired(rt.alloc())?;
-    let table = accepted(&rt, &file, &[])?;
-    let heads = opened(&rt, &file, 0)?.into_heads();
+fn values_in_bytes_that_are_brought(rt: HostRuntime) {
+    let file = made(&rt, fixtures::kqvk_wdl_unpaired(rt.alloc()));
+    let table = accepted(&rt, &file, &[]);
+    let heads = opened(&rt, &file, 0).into_heads();
     for i in 0..31332 {
         for side in [0, 1] {
             let found = brought(&heads, &file.bytes, side, i);
@@ -309,5 +306,4 @@ fn values_in_bytes_that_are_brought(rt: HostRuntime) -> Result<(), Fail> {
     }
     assert!(rt; in_piece(&heads, 0, 31331, &[]).is_none());
     assert!(rt; in_piece(&heads, 1, 31331, &[]) == Some(2));
-    Ok(())
 }

@@ -1,9 +1,9 @@
 //! Dictionaries: the format's worked examples, and dictionaries of full size.
 ghost use Rattle.std.specs.Prelude.{◌<◌};
 
+use crate::files::made;
 use std::alloc::{AllocError, Global};
 use std::process::Abort;
-use std::test::Fail;
 use std::time::{Duration, Instant};
 use szg_pairs::entry::{is_leaf, left, right};
 use szg_pairs::{Descent, Dict, DictFault};
@@ -29,7 +29,8 @@ fn dict_of(rt: &(impl Abort + Alloc<A = Global>), entries: &[[u8; 3]]) -> Result
 
 /// These entries are refused.
 fn check_refused(rt: &(impl Abort + Alloc<A = Global>), entries: &[[u8; 3]], want: DictFault) {
-    assert_eq!(rt; dict_of(rt, entries).err(), Some(want));
+    let found = dict_of(rt, entries).err();
+    assert!(rt; found == Some(want), "{found:?}");
 }
 
 #[test]
@@ -45,43 +46,30 @@ fn an_entry_has_two_numbers_of_twelve_bits(rt: HostRuntime) {
 }
 
 #[test]
-fn pairs_expand_left_to_right(rt: HostRuntime) -> Result<(), Fail> {
+fn pairs_expand_left_to_right(rt: HostRuntime) {
     let entries = [
         [0x02, 0xf0, 0xff],
         [0x04, 0xf0, 0xff],
         [0x00, 0x10, 0x00],
         [0x02, 0x00, 0x00],
     ];
-    let dict = dict_of(&rt, &entries)?;
-    assert_eq!(rt; dict.symbols(), 4);
-    assert!(rt; dict.entry(2) == [0x00, 0x10, 0x00]);
-    assert_eq!(rt; dict.len(3), 3);
-    assert!(rt; dict.value_at(3, 2) == 2);
+    let dict = made(&rt, dict_of(&rt, &entries));
+    assert!(rt; dict.symbols() == 4 && dict.entry(2) == [0x00, 0x10, 0x00]);
+    assert!(rt; dict.len(3) == 3 && dict.value_at(3, 2) == 2);
     assert!(rt; dict.descend(3, 2) == Descent { value: 2, pairs: 1 });
-    let values = dict.expand(rt.alloc(), 3)?;
+    let values = made(&rt, dict.expand(rt.alloc(), 3));
     assert!(rt; values.as_slice() == [2, 4, 2].as_slice());
-    Ok(())
 }
 
 #[test]
 fn a_fault_names_the_least_symbol(rt: HostRuntime) {
-    for (entries, want) in [
-        (&[[0x00, 0x00, 0x00]][..], DictFault::Cycle(0)),
-        (
-            &[FIVE, [0x00, 0x20, 0x00], [0x01, 0x00, 0x00]][..],
-            DictFault::Cycle(1),
-        ),
-        (
-            &[[0x00, 0x00, 0x00], [0x00, 0x50, 0x00]][..],
-            DictFault::Child(1),
-        ),
-        (
-            &[[0x01, 0x10, 0x00], [0x02, 0x20, 0x00], [0x01, 0x10, 0x00]][..],
-            DictFault::Cycle(0),
-        ),
-    ] {
-        check_refused(&rt, entries, want);
-    }
+    check_refused(&rt, &[[0x00, 0x00, 0x00]], DictFault::Cycle(0));
+    let second = [FIVE, [0x00, 0x20, 0x00], [0x01, 0x00, 0x00]];
+    check_refused(&rt, &second, DictFault::Cycle(1));
+    let outside = [[0x00, 0x00, 0x00], [0x00, 0x50, 0x00]];
+    check_refused(&rt, &outside, DictFault::Child(1));
+    let first = [[0x01, 0x10, 0x00], [0x02, 0x20, 0x00], [0x01, 0x10, 0x00]];
+    check_refused(&rt, &first, DictFault::Cycle(0));
 }
 
 /// So many leaves.
@@ -93,28 +81,36 @@ fn leaves(alloc: Global, count: u8) -> Result<Vec<[u8; 3]>, AllocError> {
     Ok(entries)
 }
 
+/// The dictionary of these entries, for which there was memory.
+fn dict_with(
+    rt: &(impl Abort + Alloc<A = Global>),
+    entries: Result<Vec<[u8; 3]>, AllocError>,
+) -> Dict {
+    made(rt, dict_of(rt, &made(rt, entries)))
+}
+
 /// With ample memory a dictionary of any length is made.
 #[test]
-fn dictionaries_of_each_length(rt: HostRuntime) -> Result<(), Fail> {
+fn dictionaries_of_each_length(rt: HostRuntime) {
     for count in 1..=8u8 {
-        let dict = dict_of(&rt, &leaves(rt.alloc(), count)?)?;
-        assert!(rt; dict.symbols() == u16::from(count));
-        assert!(rt; dict.len(0) == 1);
+        let dict = dict_with(&rt, leaves(rt.alloc(), count));
+        assert!(rt;
+            dict.symbols() == u16::from(count) && dict.len(0) == 1,
+            "of {count}"
+        );
         assert!(rt; dict.value_at(0, 0) == 0, "of {count}");
     }
-    Ok(())
 }
 
 /// With ample memory a symbol of any number of values is expanded.
 #[test]
-fn expansions_of_each_length(rt: HostRuntime) -> Result<(), Fail> {
-    let dict = dict_of(&rt, &chain(rt.alloc(), 255, false)?)?;
+fn expansions_of_each_length(rt: HostRuntime) {
+    let dict = dict_with(&rt, chain(rt.alloc(), 255, false));
     assert!(rt; dict.symbols() == 256);
     for symbol in 0..256u16 {
-        let values = dict.expand(rt.alloc(), symbol)?;
+        let values = made(&rt, dict.expand(rt.alloc(), symbol));
         assert!(rt; values.len() == usize::from(symbol) + 1, "of {symbol}");
     }
-    Ok(())
 }
 
 /// A leaf, and then so many pairs of the symbol before each and another: the leaf, or the same symbol again.
@@ -130,30 +126,24 @@ fn chain(alloc: Global, pairs: u16, doubles: bool) -> Result<Vec<[u8; 3]>, Alloc
 }
 
 #[test]
-fn a_symbol_has_at_most_256_values(rt: HostRuntime) -> Result<(), Fail> {
-    let dict = dict_of(&rt, &chain(rt.alloc(), 8, true)?)?;
-    assert_eq!(rt; dict.symbols(), 9);
-    assert_eq!(rt; dict.len(8), 256);
-    check_refused(&rt, &chain(rt.alloc(), 9, true)?, DictFault::LongSymbol(9));
-    Ok(())
+fn a_symbol_has_at_most_256_values(rt: HostRuntime) {
+    let dict = dict_with(&rt, chain(rt.alloc(), 8, true));
+    assert!(rt; dict.symbols() == 9 && dict.len(8) == 256);
+    let longer = made(&rt, chain(rt.alloc(), 9, true));
+    check_refused(&rt, &longer, DictFault::LongSymbol(9));
 }
 
 #[test]
-fn a_descent_passes_255_pairs(rt: HostRuntime) -> Result<(), Fail> {
-    let dict = dict_of(&rt, &chain(rt.alloc(), 255, false)?)?;
-    assert_eq!(rt; dict.symbols(), 256);
-    assert_eq!(rt; dict.len(255), 256);
+fn a_descent_passes_255_pairs(rt: HostRuntime) {
+    let dict = dict_with(&rt, chain(rt.alloc(), 255, false));
+    assert!(rt; dict.symbols() == 256 && dict.len(255) == 256);
     let deepest = Descent {
         value: 5,
         pairs: 255,
     };
     assert!(rt; dict.descend(255, 0) == deepest);
-    check_refused(
-        &rt,
-        &chain(rt.alloc(), 256, false)?,
-        DictFault::LongSymbol(256),
-    );
-    Ok(())
+    let longer = made(&rt, chain(rt.alloc(), 256, false));
+    check_refused(&rt, &longer, DictFault::LongSymbol(256));
 }
 
 /// Symbol `s` is the pair `s + 1`, `s + 1` below `last`, whose entry is given; 0, 0 from there on.
@@ -177,25 +167,23 @@ fn deep(
 }
 
 #[test]
-fn deep_pairs_need_no_deep_calls(rt: HostRuntime) -> Result<(), Fail> {
-    let long = deep(rt.alloc(), 4001, 4000, FIVE)?;
+fn deep_pairs_need_no_deep_calls(rt: HostRuntime) {
+    let long = made(&rt, deep(rt.alloc(), 4001, 4000, FIVE));
     check_refused(&rt, &long, DictFault::LongSymbol(0));
-    let endless = deep(rt.alloc(), 4000, 3999, pair_of(0, 0))?;
+    let endless = made(&rt, deep(rt.alloc(), 4000, 3999, pair_of(0, 0)));
     check_refused(&rt, &endless, DictFault::Cycle(0));
-    Ok(())
 }
 
 #[test]
-fn full_size_is_linear(rt: HostRuntime) -> Result<(), Fail> {
-    let start = Instant::now(&rt)?;
-    let long = deep(rt.alloc(), 65535, 4094, FIVE)?;
+fn full_size_is_linear(rt: HostRuntime) {
+    let start = made(&rt, Instant::now(&rt));
+    let long = made(&rt, deep(rt.alloc(), 65535, 4094, FIVE));
     check_refused(&rt, &long, DictFault::LongSymbol(0));
-    let endless = deep(rt.alloc(), 65535, 4094, pair_of(0, 0))?;
+    let endless = made(&rt, deep(rt.alloc(), 65535, 4094, pair_of(0, 0)));
     check_refused(&rt, &endless, DictFault::Cycle(0));
-    let dict = dict_of(&rt, &deep(rt.alloc(), 65535, 0, FIVE)?)?;
-    assert_eq!(rt; dict.symbols(), 65535);
-    assert!(rt; dict.len(65534) == 2 && start.elapsed(&rt)? < Duration::from_secs(10));
-    Ok(())
+    let dict = dict_with(&rt, deep(rt.alloc(), 65535, 0, FIVE));
+    assert!(rt; dict.symbols() == 65535 && dict.len(65534) == 2);
+    assert!(rt; made(&rt, start.elapsed(&rt)) < Duration::from_secs(10));
 }
 
 /// For runs in which an allocation fails: whichever it is, the answer is `Memory` or the allocator's own.
@@ -203,11 +191,11 @@ fn full_size_is_linear(rt: HostRuntime) -> Result<(), Fail> {
 fn a_failed_allocation_answers_memory(rt: HostRuntime) {
     match dict_of(&rt, &[FIVE, [0x00, 0x00, 0x00], [0x01, 0x00, 0x00]]) {
         Ok(dict) => {
-            assert_eq!(rt; dict.symbols(), 3);
+            assert!(rt; dict.symbols() == 3);
             if let Ok(values) = dict.expand(rt.alloc(), 2) {
-                assert_eq!(rt; values.as_slice(), [5, 5, 5].as_slice());
+                assert!(rt; values.as_slice() == [5, 5, 5].as_slice());
             }
         }
-        Err(fault) => assert_eq!(rt; fault, DictFault::Memory),
+        Err(fault) => assert!(rt; fault == DictFault::Memory),
     }
 }

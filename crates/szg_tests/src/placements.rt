@@ -1,17 +1,16 @@
 //! The placements of indexes: the format's worked rows, and each index of a table there and back. What a table by
 //! place tells of placements.
 
-use crate::files::{accepted, material};
+use crate::files::{accepted, made, material, table_of};
 use crate::fixtures;
 use crate::lookups::opened;
 use crate::standing::placement;
 use std::process::Abort;
-use std::test::Fail;
 use szg_block::{Image, Source};
 use szg_file::{Opened, Table, open};
 use szg_place::{
-    OpenedProbeFault, PlaceFault, Prepared, ProbeFault, index_of, index_of_opened, placement_of,
-    probe_dtz, probe_dtz_opened, probe_wdl, probe_wdl_opened,
+    OpenedProbeFault, PlaceFault, Prepared, PreparedTable, ProbeFault, index_of, index_of_opened,
+    placement_of, probe_dtz, probe_dtz_opened, probe_wdl, probe_wdl_opened,
 };
 use szg_values::Color::{Black, White};
 use szg_values::{Color, Kind, Placement};
@@ -43,24 +42,22 @@ fn check_placement(
 }
 
 #[test]
-fn placements_of_indexes(rt: HostRuntime) -> Result<(), Fail> {
-    let queen = accepted(&rt, &fixtures::kqvk_wdl_unpaired(rt.alloc())?, &[])?;
+fn placements_of_indexes(rt: HostRuntime) {
+    let queen = table_of(&rt, fixtures::kqvk_wdl_unpaired(rt.alloc()));
     check_placement(&rt, &queen, (0, 0, 11711), White, "Kd1 Qh8 ka8");
     check_placement(&rt, &queen, (0, 1, 11711), Black, "Kd1 Qh8 ka8");
-    let pawn = accepted(&rt, &fixtures::kpvk_wdl_constant(rt.alloc())?, &[])?;
+    let pawn = table_of(&rt, fixtures::kpvk_wdl_constant(rt.alloc()));
     check_placement(&rt, &pawn, (3, 0, 21564), White, "Pd2 Kd1 kd8");
-    let pawns = accepted(&rt, &fixtures::kppvk_wdl_constant(rt.alloc())?, &[])?;
+    let pawns = table_of(&rt, fixtures::kppvk_wdl_constant(rt.alloc()));
     check_placement(&rt, &pawns, (0, 0, 891622), White, "Pa2 Ph2 Ke1 ke8");
-    Ok(())
 }
 
 #[test]
-fn indexes_without_a_placement(rt: HostRuntime) -> Result<(), Fail> {
-    let irregular = accepted(&rt, &fixtures::kbbvk_wdl_bishop_leads(rt.alloc())?, &[])?;
+fn indexes_without_a_placement(rt: HostRuntime) {
+    let irregular = table_of(&rt, fixtures::kbbvk_wdl_bishop_leads(rt.alloc()));
     assert!(rt; found(&rt, &irregular, 0, 0, 0).err() == Some(PlaceFault::Irregular));
-    let wrong = accepted(&rt, &fixtures::kpvkp_dtz_constant(rt.alloc(), 0x81)?, &[])?;
+    let wrong = table_of(&rt, fixtures::kpvkp_dtz_constant(rt.alloc(), 0x81));
     assert!(rt; found(&rt, &wrong, 0, 0, 0).err() == Some(PlaceFault::WrongSide));
-    Ok(())
 }
 
 /// The placement of an index has that index.
@@ -86,18 +83,17 @@ fn check_samples(rt: &impl Abort, table: &Table, part: u8) {
 }
 
 #[test]
-fn indexes_there_and_back(rt: HostRuntime) -> Result<(), Fail> {
-    let table = accepted(&rt, &fixtures::kqvk_wdl_unpaired(rt.alloc())?, &[])?;
+fn indexes_there_and_back(rt: HostRuntime) {
+    let table = table_of(&rt, fixtures::kqvk_wdl_unpaired(rt.alloc()));
     for index in 0..31332u64 {
         check_return(&rt, &table, 0, 0, index);
     }
-    let kings = accepted(&rt, &fixtures::kbbvk_wdl_kings_lead(rt.alloc())?, &[])?;
+    let kings = table_of(&rt, fixtures::kbbvk_wdl_kings_lead(rt.alloc()));
     check_samples(&rt, &kings, 0);
-    let two = accepted(&rt, &fixtures::kppvk_wdl_constant(rt.alloc())?, &[])?;
+    let two = table_of(&rt, fixtures::kppvk_wdl_constant(rt.alloc()));
     check_samples(&rt, &two, 2);
-    let both = accepted(&rt, &fixtures::kpvkp_wdl_constant(rt.alloc())?, &[])?;
+    let both = table_of(&rt, fixtures::kpvkp_wdl_constant(rt.alloc()));
     check_samples(&rt, &both, 3);
-    Ok(())
 }
 
 /// Over a source the index is that of the table in memory, and in WDL the class is.
@@ -131,11 +127,11 @@ fn check_dtz<S: Source + Drop>(
 }
 
 #[test]
-fn outcomes_by_a_source(rt: HostRuntime) -> Result<(), Fail> {
-    let file = fixtures::kqvk_wdl_unpaired(rt.alloc())?;
-    let table = accepted(&rt, &file, &[])?;
+fn outcomes_by_a_source(rt: HostRuntime) {
+    let file = made(&rt, fixtures::kqvk_wdl_unpaired(rt.alloc()));
+    let table = accepted(&rt, &file, &[]);
     let source = Image::new(&file.bytes);
-    let Ok(mut opened) = open(rt.alloc(), material(&file)?, file.kind, source) else {
+    let Ok(mut opened) = open(rt.alloc(), material(&rt, &file), file.kind, source) else {
         panic!(rt; "it is not opened");
     };
     for (mover, men) in [
@@ -146,15 +142,14 @@ fn outcomes_by_a_source(rt: HostRuntime) -> Result<(), Fail> {
     ] {
         check_wdl(&rt, &table, &mut opened, &placement(&rt, mover, men));
     }
-    Ok(())
 }
 
 #[test]
-fn distances_by_a_source(rt: HostRuntime) -> Result<(), Fail> {
-    let file = fixtures::kpvk_dtz_mapped(rt.alloc())?;
-    let table = accepted(&rt, &file, &[])?;
+fn distances_by_a_source(rt: HostRuntime) {
+    let file = made(&rt, fixtures::kpvk_dtz_mapped(rt.alloc()));
+    let table = accepted(&rt, &file, &[]);
     let source = Image::new(&file.bytes);
-    let Ok(mut opened) = open(rt.alloc(), material(&file)?, file.kind, source) else {
+    let Ok(mut opened) = open(rt.alloc(), material(&rt, &file), file.kind, source) else {
         panic!(rt; "it is not opened");
     };
     for (mover, men, class) in [
@@ -165,16 +160,15 @@ fn distances_by_a_source(rt: HostRuntime) -> Result<(), Fail> {
     ] {
         check_dtz(&rt, &table, &mut opened, &placement(&rt, mover, men), class);
     }
-    Ok(())
 }
 
 /// The source fails at the first call behind those that open the file, and answers the one behind it.
 #[test]
-fn a_source_that_fails_once_under_a_placement(rt: HostRuntime) -> Result<(), Fail> {
-    let file = fixtures::kqvk_wdl_unpaired(rt.alloc())?;
-    let calls = opened(&rt, &file, 0)?.source().calls();
+fn a_source_that_fails_once_under_a_placement(rt: HostRuntime) {
+    let file = made(&rt, fixtures::kqvk_wdl_unpaired(rt.alloc()));
+    let calls = opened(&rt, &file, 0).source().calls();
     assert!(rt; calls < 32);
-    let mut opened = opened(&rt, &file, calls + 1)?;
+    let mut opened = opened(&rt, &file, calls + 1);
     let placement = placement(&rt, White, "Ke8 Qa1 kh1");
     assert!(rt; index_of_opened(&opened, &placement).is_ok() && opened.source().calls() == calls);
     assert!(rt; opened.kind() == Kind::Wdl);
@@ -182,7 +176,6 @@ fn a_source_that_fails_once_under_a_placement(rt: HostRuntime) -> Result<(), Fai
     assert!(rt; opened.kind() == Kind::Wdl);
     assert!(rt; probe_wdl_opened(&mut opened, &placement) == Ok(Some(2)));
     assert!(rt; opened.source().calls() == calls + 2);
-    Ok(())
 }
 
 /// A part's side that was prepared tells its own placements and those of the other sides of the table.
@@ -193,8 +186,8 @@ fn check_prepared(rt: &impl Abort, table: &Table, part: u8, side: u8, placement:
 }
 
 #[test]
-fn placements_by_a_prepared_side(rt: HostRuntime) -> Result<(), Fail> {
-    let table = accepted(&rt, &fixtures::kqvk_wdl_unpaired(rt.alloc())?, &[])?;
+fn placements_by_a_prepared_side(rt: HostRuntime) {
+    let table = table_of(&rt, fixtures::kqvk_wdl_unpaired(rt.alloc()));
     for (mover, men) in [
         (White, "Ke8 Qa1 kh1"),
         (Black, "Ke8 Qa1 kh1"),
@@ -202,5 +195,32 @@ fn placements_by_a_prepared_side(rt: HostRuntime) -> Result<(), Fail> {
     ] {
         check_prepared(&rt, &table, 0, 0, &placement(&rt, mover, men));
     }
-    Ok(())
+}
+
+/// A table that was prepared once tells these men's spot, as it does without.
+fn check_prepared_table(
+    rt: &impl Abort,
+    prepared: &PreparedTable,
+    mover: Color,
+    men: &str,
+    want: Result<(u8, u8, u64), PlaceFault>,
+) {
+    let placement = placement(rt, mover, men);
+    let found = prepared.index_of(&placement);
+    let spot = found.map(|spot| (spot.part, spot.side, spot.index));
+    assert!(rt; spot == want, "{men}");
+    assert!(rt; prepared.index_of(&placement) == index_of(prepared.table(), &placement));
+}
+
+#[test]
+fn placements_by_a_prepared_table(rt: HostRuntime) {
+    let prepared = PreparedTable::of(table_of(&rt, fixtures::knvk_wdl_constant(rt.alloc())));
+    let other = Err(PlaceFault::OtherMaterial);
+    check_prepared_table(&rt, &prepared, White, "Ka2 Na1 kh8", Ok((0, 0, 61)));
+    check_prepared_table(&rt, &prepared, Black, "Kd4 Nh8 kg7", Ok((0, 1, 31331)));
+    check_prepared_table(&rt, &prepared, White, "Kb1 Qa1 kc1", other);
+    let prepared = PreparedTable::of(table_of(&rt, fixtures::kppvk_wdl_constant(rt.alloc())));
+    let want = Ok((0, 0, 891622));
+    check_prepared_table(&rt, &prepared, White, "Pa2 Ph2 Ke1 ke8", want);
+    check_prepared_table(&rt, &prepared, Black, "pa7 ph7 ke8 Ke1", want);
 }

@@ -1,41 +1,40 @@
 //! Names, men, squares and placements: rows of the format, and each public call once on its happy path.
 
+use crate::files::made;
 use std::process::Abort;
-use std::test::Fail;
 use szg_values::{
     Color, Kind, MAX_MEN, Man, Material, NameFault, Placement, PlacementFault, Square,
 };
 
+/// The text is no name.
+fn check_fault(rt: &impl Abort, text: &str, fault: NameFault) {
+    assert!(rt; Material::parse(text).err() == Some(fault), "{text}");
+}
+
 #[test]
 fn faults_of_names(rt: HostRuntime) {
-    for (text, fault) in [
-        ("KvKN", NameFault::Sides),
-        ("KBNRvK", NameFault::Order),
-        ("KvK", NameFault::Men),
-        ("KQRBvKNN", NameFault::Men),
-        ("KNvKx", NameFault::Letter),
-        ("", NameFault::Letter),
-        ("KNK", NameFault::Letter),
-        ("KNv", NameFault::King),
-        ("KKvK", NameFault::King),
-    ] {
-        assert!(rt; Material::parse(text).err() == Some(fault), "{text}");
-    }
+    check_fault(&rt, "KvKN", NameFault::Sides);
+    check_fault(&rt, "KBNRvK", NameFault::Order);
+    check_fault(&rt, "KvK", NameFault::Men);
+    check_fault(&rt, "KQRBvKNN", NameFault::Men);
+    check_fault(&rt, "KNvKx", NameFault::Letter);
+    check_fault(&rt, "", NameFault::Letter);
+    check_fault(&rt, "KNK", NameFault::Letter);
+    check_fault(&rt, "KNv", NameFault::King);
+    check_fault(&rt, "KKvK", NameFault::King);
 }
 
 #[test]
-fn names_tell_their_men(rt: HostRuntime) -> Result<(), Fail> {
-    let material = Material::parse("KQRvKBN")?;
-    assert_eq!(rt; material.men().as_slice(), [6, 5, 4, 14, 11, 10].as_slice());
-    assert_eq!(rt; material.name().as_str(), "KQRvKBN");
-    assert!(rt; material.men().len() == MAX_MEN);
-    let other = Material::parse("KQRvKBB")?;
+fn names_tell_their_men(rt: HostRuntime) {
+    let material = made(&rt, Material::parse("KQRvKBN"));
+    assert!(rt; material.men().as_slice() == [6, 5, 4, 14, 11, 10].as_slice());
+    assert!(rt; material.name().as_str() == "KQRvKBN" && material.men().len() == MAX_MEN);
+    let other = made(&rt, Material::parse("KQRvKBB"));
     assert!(rt; material.is_same(&material.copy()) && !material.is_same(&other));
-    Ok(())
 }
 
 #[test]
-fn pawns_and_symmetry(rt: HostRuntime) -> Result<(), Fail> {
+fn pawns_and_symmetry(rt: HostRuntime) {
     for (text, lead, other, single, symmetric) in [
         ("KBBvK", 0, 0, false, false),
         ("KQRvKBN", 0, 0, true, false),
@@ -46,7 +45,7 @@ fn pawns_and_symmetry(rt: HostRuntime) -> Result<(), Fail> {
         ("KPPvKP", 1, 2, true, false),
         ("KPPvKPP", 2, 2, false, true),
     ] {
-        let material = Material::parse(text)?;
+        let material = made(&rt, Material::parse(text));
         let pawns = material.lead_pawns() == lead
             && material.other_pawns() == other
             && material.has_pawns() == (lead > 0);
@@ -54,7 +53,6 @@ fn pawns_and_symmetry(rt: HostRuntime) -> Result<(), Fail> {
         let tests = material.single_lead() == single && material.symmetric() == symmetric;
         assert!(rt; tests, "{text}");
     }
-    Ok(())
 }
 
 #[test]
@@ -72,21 +70,23 @@ fn standing(man: Man, color: Color, number: u8) -> (Man, Color, Square) {
 }
 
 #[test]
-fn placements(rt: HostRuntime) -> Result<(), Fail> {
+fn placements(rt: HostRuntime) {
     let men = [
         standing(Man::King, Color::White, 1),
         standing(Man::Knight, Color::Black, 0),
         standing(Man::King, Color::Black, 2),
     ];
-    let placement = Placement::new(&men, Color::Black)?;
+    let placement = made(&rt, Placement::new(&men, Color::Black));
     assert!(rt; placement.men() == men.as_slice() && placement.mover() == Color::Black);
-    assert_eq!(rt; placement.material().name().as_str(), "KNvK");
-    Ok(())
+    assert!(rt; placement.material().name().as_str() == "KNvK");
 }
 
 /// These men are no placement.
 fn check_refused(rt: &impl Abort, men: &[(Man, Color, Square)], want: PlacementFault) {
-    assert_eq!(rt; Placement::new(men, Color::White).err(), Some(want));
+    assert!(rt;
+        Placement::new(men, Color::White).err() == Some(want),
+        "{want}"
+    );
 }
 
 #[test]

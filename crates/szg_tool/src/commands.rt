@@ -19,6 +19,7 @@ use crate::refusal::{Refusal, Stop};
 use crate::refusal_lines::refusal_line;
 use crate::request::{Action, Form, Request, Task, parse};
 use crate::saying::say;
+use clap::Error;
 use clap::error::ErrorKind;
 use std::alloc::Global;
 use szg_build::{Dump, write_dump};
@@ -50,19 +51,26 @@ pub fn run<R: Input, W: Output>(
 {
     let task = match parse(alloc, words) {
         Ok(task) => task,
-        Err(error) => {
-            return if matches!(error.kind(), ErrorKind::OutOfMemory) {
-                Outcome::Memory
-            } else {
-                Outcome::Words(error)
-            };
-        }
+        Err(error) => return words_outcome(error),
     };
     match carry_out(alloc, &task, reader, writer) {
         Ok(()) => Outcome::Done,
         Err(Stop::Memory) => Outcome::Memory,
         Err(Stop::Device) => Outcome::Device,
         Err(Stop::Refused(refusal)) => refuse(alloc, refusal, writer),
+    }
+}
+
+/// How a run ends whose words make no command.
+fn words_outcome(error: Error) -> Outcome
+    ensures done { OnDone result ⊥ }
+    ensures refused { OnRefused result ⊥ }
+    ensures device { (result ≡ Outcome.Device) → ⊥ }
+{
+    if matches!(error.kind(), ErrorKind::OutOfMemory) {
+        Outcome::Memory
+    } else {
+        Outcome::Words(error)
     }
 }
 

@@ -5,6 +5,7 @@ ghost use Rattle.std.specs.Prelude.{◌≡◌, ◌⊎◌, IfOk, map, string_byte
 ghost use Rattle.std.specs.Process.{exit_status};
 ghost use Rattle.szg_tool.specs.Outcome.{OnDone, OnRefused, status_of};
 
+mod arguments;
 mod building;
 mod command_line;
 mod commands;

@@ -8,7 +8,7 @@ mod words;
 use crate::commands::run;
 use crate::outcome::Outcome;
 use fixtures::{knvk_wdl_constant, kpvk_dtz_mapped, kqvk_wdl_unpaired};
-use std::alloc::Global;
+use std::alloc::{AllocError, Global};
 use std::process::Abort;
 use std::test::Fail;
 use szg_io::{Cut, Std};
@@ -51,6 +51,15 @@ fn check_run(
     check_printed(rt, words, bytes, status, text.as_bytes());
 }
 
+/// The words of a line.
+fn words_of<'a>(alloc: Global, line: &'a str) -> Result<Vec<&'a str>, AllocError> {
+    let mut words = Vec::new(alloc);
+    for word in line.split(' ') {
+        words.push(word)?;
+    }
+    Ok(words)
+}
+
 /// The words of this line, on these bytes, end with this status and print this text.
 fn check_line(
     rt: &(impl Abort + Alloc<A = Global>),
@@ -59,36 +68,55 @@ fn check_line(
     status: u8,
     text: &str,
 ) -> Result<(), Fail> {
-    let mut words = Vec::new(rt.alloc());
-    for word in line.split(' ') {
-        words.push(word)?;
-    }
+    let words = words_of(rt.alloc(), line)?;
     check_run(rt, &words, bytes, status, text);
+    Ok(())
+}
+
+/// The words of each line, on these bytes, end with its status and print its text.
+fn check_lines(
+    rt: &(impl Abort + Alloc<A = Global>),
+    bytes: &[u8],
+    lines: &[(&str, u8, &str)],
+) -> Result<(), Fail> {
+    for (line, status, text) in lines {
+        check_line(rt, line, bytes, *status, text)?;
+    }
+    Ok(())
+}
+
+/// The words of each line make no command, and nothing is printed.
+fn check_wrong_words(
+    rt: &(impl Abort + Alloc<A = Global>),
+    bytes: &[u8],
+    lines: &[&str],
+) -> Result<(), Fail> {
+    for line in lines {
+        check_line(rt, line, bytes, 2, "")?;
+    }
     Ok(())
 }
 
 #[test]
 fn constant_table(rt: HostRuntime) -> Result<(), Fail> {
-    let file = knvk_wdl_constant(rt.alloc())?;
-    check_run(&rt, &["szg", "show", "KNvK", "wdl"], &file, 0, SHOWN);
-    check_run(&rt, &["szg", "check", "KNvK", "wdl"], &file, 0, "ok 80\n");
-    let mut cut = knvk_wdl_constant(rt.alloc())?;
-    let _last = cut.pop();
-    check_run(
+    let mut file = knvk_wdl_constant(rt.alloc())?;
+    check_lines(
         &rt,
-        &["szg", "show", "KNvK", "wdl"],
-        &cut,
-        1,
-        "refused at 79: Truncated\n",
-    );
-    check_run(
+        &file,
+        &[
+            ("szg show KNvK wdl", 0, SHOWN),
+            ("szg check KNvK wdl", 0, "ok 80\n"),
+            ("szg show KvKN wdl", 1, "refused name: Sides\n"),
+        ],
+    )?;
+    let _last = file.pop();
+    check_line(
         &rt,
-        &["szg", "show", "KvKN", "wdl"],
+        "szg show KNvK wdl",
         &file,
         1,
-        "refused name: Sides\n",
-    );
-    Ok(())
+        "refused at 79: Truncated\n",
+    )
 }
 
 #[test]
@@ -106,100 +134,113 @@ fn copied_and_listed(rt: HostRuntime) -> Result<(), Fail> {
 #[test]
 fn table_of_blocks(rt: HostRuntime) -> Result<(), Fail> {
     let file = kqvk_wdl_unpaired(rt.alloc())?;
-    for (line, status, text) in [
-        ("szg check KQvK wdl", 0, "ok 4304\n"),
-        ("szg show KQvK wdl", 0, SHOWN_BLOCKS),
-        ("szg get KQvK wdl 31331", 0, "4\n"),
-        ("szg get KQvK wdl 0031331 --side 1", 0, "2\n"),
-        (
-            "szg get KQvK wdl 31331 --steps",
-            0,
-            "4 moves 1 words 100 descents 0 fetches 1\n",
-        ),
-        (
-            "szg get --steps KQvK wdl 0",
-            0,
-            "2 moves 123 words 1 descents 0 fetches 1\n",
-        ),
-        (
-            "szg get KQvK wdl 7 --side 1 --steps",
-            0,
-            "2 moves 0 words 0 descents 0 fetches 0\n",
-        ),
-        ("szg get --part b KQvK wdl 31331", 1, "refused part\n"),
-        ("szg get KQvK wdl 31332", 1, "refused index\n"),
-        ("szg values KQvK wdl --part b", 1, "refused part\n"),
-    ] {
-        check_line(&rt, line, &file, status, text)?;
-    }
-    Ok(())
+    check_lines(
+        &rt,
+        &file,
+        &[
+            ("szg check KQvK wdl", 0, "ok 4304\n"),
+            ("szg show KQvK wdl", 0, SHOWN_BLOCKS),
+            ("szg get KQvK wdl 31331", 0, "4\n"),
+            ("szg get KQvK wdl 0031331 --side 1", 0, "2\n"),
+            (
+                "szg get KQvK wdl 31331 --steps",
+                0,
+                "4 moves 1 words 100 descents 0 fetches 1\n",
+            ),
+            (
+                "szg get --steps KQvK wdl 0",
+                0,
+                "2 moves 123 words 1 descents 0 fetches 1\n",
+            ),
+            (
+                "szg get KQvK wdl 7 --side 1 --steps",
+                0,
+                "2 moves 0 words 0 descents 0 fetches 0\n",
+            ),
+            ("szg get --part b KQvK wdl 31331", 1, "refused part\n"),
+            ("szg get KQvK wdl 31332", 1, "refused index\n"),
+            ("szg values KQvK wdl --part b", 1, "refused part\n"),
+        ],
+    )
 }
 
 #[test]
 fn table_of_distances(rt: HostRuntime) -> Result<(), Fail> {
     let file = kpvk_dtz_mapped(rt.alloc())?;
-    check_run(&rt, &["szg", "show", "KPvK", "dtz"], &file, 0, SHOWN_MAPS);
-    check_run(
+    check_lines(
         &rt,
-        &["szg", "get", "KPvK", "dtz", "0", "--side", "1"],
         &file,
-        1,
-        "refused part\n",
-    );
-    check_run(
+        &[
+            ("szg show KPvK dtz", 0, SHOWN_MAPS),
+            ("szg get KPvK dtz 0 --side 1", 1, "refused part\n"),
+            ("szg show KPvK wdl", 1, "refused at 0: Magic\n"),
+        ],
+    )
+}
+
+#[test]
+fn words_that_make_no_command(rt: HostRuntime) -> Result<(), Fail> {
+    check_run(&rt, &[], b"", 2, "");
+    check_wrong_words(
         &rt,
-        &["szg", "show", "KPvK", "wdl"],
-        &file,
-        1,
-        "refused at 0: Magic\n",
-    );
+        b"",
+        &[
+            "szg",
+            "szg --help",
+            "szg --version",
+            "szg show KNvK",
+            "szg show KNvK dtm",
+            "szg get KNvK wdl +1",
+            "szg get KNvK wdl 9223372036854775808",
+            "szg get KNvK wdl 1 --side 2",
+            "szg get KNvK wdl 1 --steps --steps",
+            "szg values KNvK wdl --steps",
+            "szg dump KNvK wdl --form 3",
+            "szg get KNvK wdl 1 --side 0 --side 0",
+        ],
+    )
+}
+
+/// The words of this line, on these bytes by a reader that is cut at this call, end with this status and print this text.
+fn check_cut(
+    rt: &(impl Abort + Alloc<A = Global>),
+    line: &str,
+    bytes: &[u8],
+    cut: u64,
+    status: u8,
+    text: &str,
+) -> Result<(), Fail> {
+    let words = words_of(rt.alloc(), line)?;
+    let mut reader = Cut::new(Std::new(bytes), 7, 0, cut);
+    let mut writer = Std::new(Vec::new(rt.alloc()));
+    let outcome = run(rt.alloc(), &words, &mut reader, &mut writer);
+    assert_eq!(rt; outcome.status(), status);
+    assert_eq!(rt; writer.inner().as_slice(), text.as_bytes());
     Ok(())
 }
 
 #[test]
-fn words_that_make_no_command(rt: HostRuntime) {
-    for words in [
-        &[][..],
-        &["szg"][..],
-        &["szg", "--help"][..],
-        &["szg", "--version"][..],
-        &["szg", "show", "KNvK"][..],
-        &["szg", "show", "KNvK", "dtm"][..],
-        &["szg", "get", "KNvK", "wdl", "+1"][..],
-        &["szg", "get", "KNvK", "wdl", "9223372036854775808"][..],
-        &["szg", "get", "KNvK", "wdl", "1", "--side", "2"][..],
-        &["szg", "get", "KNvK", "wdl", "1", "--steps", "--steps"][..],
-        &["szg", "values", "KNvK", "wdl", "--steps"][..],
-        &["szg", "dump", "KNvK", "wdl", "--form", "3"][..],
-        &[
-            "szg", "get", "KNvK", "wdl", "1", "--side", "0", "--side", "0",
-        ][..],
-    ] {
-        check_run(&rt, words, b"", 2, "");
-    }
+fn readers_that_fail(rt: HostRuntime) -> Result<(), Fail> {
+    let file = knvk_wdl_constant(rt.alloc())?;
+    check_cut(&rt, "szg copy KNvK wdl", &file, 3, 3, "")?;
+    check_cut(
+        &rt,
+        "szg show KvKN wdl",
+        &file,
+        1,
+        1,
+        "refused name: Sides\n",
+    )
 }
 
 #[test]
-fn devices_that_fail(rt: HostRuntime) -> Result<(), Fail> {
+fn writers_that_fail(rt: HostRuntime) -> Result<(), Fail> {
     let file = knvk_wdl_constant(rt.alloc())?;
-    let copy = ["szg", "copy", "KNvK", "wdl"];
-    let mut reader = Cut::new(Std::new(file.as_slice()), 7, 0, 3);
-    let mut writer = Std::new(Vec::new(rt.alloc()));
-    let unread = run(rt.alloc(), &copy, &mut reader, &mut writer);
-    assert_eq!(&rt; unread.status(), 3);
     let mut reader = Std::new(file.as_slice());
     let mut writer = Cut::new(Std::new(Vec::new(rt.alloc())), 8, 0, 6);
-    let unwritten = run(rt.alloc(), &copy, &mut reader, &mut writer);
-    assert_eq!(&rt; unwritten.status(), 3);
+    let words = ["szg", "copy", "KNvK", "wdl"];
+    let outcome = run(rt.alloc(), &words, &mut reader, &mut writer);
+    assert_eq!(&rt; outcome.status(), 3);
     assert_eq!(&rt; writer.inner().inner().len(), 40);
-    let misnamed = ["szg", "show", "KvKN", "wdl"];
-    let mut reader = Cut::new(Std::new(file.as_slice()), 7, 0, 1);
-    let mut writer = Std::new(Vec::new(rt.alloc()));
-    let unnamed = run(rt.alloc(), &misnamed, &mut reader, &mut writer);
-    assert_eq!(&rt; unnamed.status(), 1);
-    assert_eq!(&rt;
-        writer.inner().as_slice(),
-        b"refused name: Sides\n".as_slice()
-    );
     Ok(())
 }

@@ -6,3 +6,4 @@ pub mod SideOf
 pub mod SameMen
 pub mod SideCounts
 pub mod AllNames
+pub mod Sound

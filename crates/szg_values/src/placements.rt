@@ -1,10 +1,10 @@
 //! Placements: men on squares, and who moves.
 
-ghost use Rattle.std.specs.Prelude.{◌≡◌, IsTrue, ◌≤◌, ◌+◌, ◌&&◌, ◌||◌, ◌++◌, ◌==◌, length, replicate, IsNone, IfSome, Ok, Err};
+ghost use Rattle.std.specs.Prelude.{◌≡◌, ◌≢◌, ℕ, IsTrue, ◌<◌, ◌≤◌, ◌+◌, ◌&&◌, ◌||◌, ◌++◌, ◌==◌, length, replicate, None, IsNone, IfSome, Ok, Err};
 ghost use Rattle.std.specs.List.{list_any};
 ghost use Rattle.arrayvec.specs.ArrayVec.{array_vec_len};
 ghost use Rattle.szg_values.specs.Men.{is_man, is_color, rank_of};
-ghost use Rattle.szg_values.specs.Placement.{AreOnBoard, placement_fault, material_of, number_of, has_men, is_apart, has_pawns_inside, side_of};
+ghost use Rattle.szg_values.specs.Placement.{AreOnBoard, placement_fault, material_of, number_of, has_men, is_apart, has_pawns_inside, is_taken, side_of};
 
 use crate::materials::{NAME_ORDER, may_be_first};
 use crate::men::is_count;
@@ -18,19 +18,28 @@ impl Placement {
         ensures placed { IsNone (placement_fault men.now) → result ≡ Ok (record { standing = men.now; mover = mover }) }
         ensures refused { IfSome (placement_fault men.now) (λ fault. result ≡ Err fault) }
     {
-        if !has_men(men) {
-            return Err(PlacementFault::Men);
-        }
-        if !is_apart(men) {
-            return Err(PlacementFault::SameSquare);
-        }
-        if !has_pawns_inside(men) {
-            return Err(PlacementFault::PawnRank);
+        if let Some(fault) = fault_of(men) {
+            return Err(fault);
         }
         Ok(Placement {
             men: copy_standing(men),
             mover,
         })
+    }
+
+    /// The same of a list of men that is handed over: it isn't copied.
+    #[tactic(auto, unfolding(crate::specs::Placement::placement_fault))]
+    pub fn of(
+        men: ArrayVec<(Man, Color, Square), 6>,
+        mover: Color,
+    ) -> Result<Placement, PlacementFault>
+        ensures placed { IsNone (placement_fault men.items) → result ≡ Ok (record { standing = men.items; mover = mover }) }
+        ensures refused { IfSome (placement_fault men.items) (λ fault. result ≡ Err fault) }
+    {
+        match fault_of(men.as_slice()) {
+            Some(fault) => Err(fault),
+            None => Ok(Placement { men, mover }),
+        }
     }
 
     /// The men in the order given. They are a placement's, and stand on squares of the board.
@@ -63,6 +72,67 @@ impl Placement {
     {
         self.mover
     }
+}
+
+/// The first fault of men, if any. Men without one are found so by one walk.
+#[tactic(auto, unfolding(crate::specs::Placement::placement_fault))]
+fn fault_of(men: &[(Man, Color, Square)]) -> Option<PlacementFault>
+    ensures fault { result ≡ placement_fault men.now }
+    ensures on_board { IsNone result → AreOnBoard men.now }
+{
+    if are_sound(men) {
+        return None;
+    }
+    if !has_men(men) {
+        return Some(PlacementFault::Men);
+    }
+    if !is_apart(men) {
+        return Some(PlacementFault::SameSquare);
+    }
+    if !has_pawns_inside(men) {
+        return Some(PlacementFault::PawnRank);
+    }
+    None
+}
+
+/// Whether one walk over men finds that they are a placement's.
+fn are_sound(men: &[(Man, Color, Square)]) -> bool
+    ensures sound { IsTrue result → placement_fault men.now ≡ None }
+    ensures on_board { IsTrue result → AreOnBoard men.now }
+{
+    if !is_count(men.len()) {
+        return false;
+    }
+    let mut taken = 0;
+    let mut white = 0;
+    let mut black = 0;
+    for man in men {
+        let square = man.2.number();
+        if is_taken(taken, square) || is_pawn_outside(man.0, man.2) {
+            return false;
+        }
+        taken = with_square(taken, square);
+        white += usize::from(is_of(Man::King, Color::White, man));
+        black += usize::from(is_of(Man::King, Color::Black, man));
+    }
+    white == 1 && black == 1
+}
+
+/// Whether a square is one of those taken, of which each has a bit.
+fn is_taken(taken: u64, square: u8) -> bool
+    requires { square < 64 }
+    ensures { result ≡ is_taken taken square }
+{
+    taken >> square & 1 == 1
+}
+
+/// The squares taken, and this one.
+fn with_square(taken: u64, square: u8) -> u64
+    requires { square < 64 }
+    ensures same { IsTrue (is_taken result square) }
+    ensures others { (other : ℕ) → other ≢ square → is_taken result other ≡ is_taken taken other }
+{
+    taken | 1 << square
 }
 
 /// Whether there are three to six men, and of each colour exactly one king.

@@ -1,6 +1,6 @@
 //! The command that prints a table as text, and the one that builds a table of it.
 use super::fixtures::{knvk_wdl_constant, kpvk_dtz_mapped, kqvk_wdl_unpaired};
-use super::{check_line, check_printed};
+use super::{check_line, check_printed, check_wrong_words};
 use crate::commands::run;
 use std::alloc::{AllocError, Global};
 use std::test::Fail;
@@ -73,18 +73,36 @@ fn sizes_are_asked(rt: HostRuntime) -> Result<(), Fail> {
 
 #[test]
 fn dumps_are_refused(rt: HostRuntime) -> Result<(), Fail> {
-    for (line, text, status, answer) in [
-        ("szg build", "", 1, "refused line 1: Ended\n"),
-        ("szg build", "szg-dump 3\n", 1, "refused line 1: Version\n"),
-        ("szg build --rounds 0", HIGH, 1, "refused build: Value\n"),
-        ("szg build --block 4", CONSTANT, 2, ""),
-        ("szg build --block 11", CONSTANT, 2, ""),
-        ("szg build --span 0", CONSTANT, 2, ""),
-        ("szg build --span 17", CONSTANT, 2, ""),
-        ("szg build --rounds 4001", CONSTANT, 2, ""),
-        ("szg build KNvK", CONSTANT, 2, ""),
-    ] {
-        check_line(&rt, line, text.as_bytes(), status, answer)?;
-    }
-    Ok(())
+    check_line(&rt, "szg build", b"", 1, "refused line 1: Ended\n")?;
+    check_line(
+        &rt,
+        "szg build",
+        b"szg-dump 3\n",
+        1,
+        "refused line 1: Version\n",
+    )?;
+    let high = HIGH.as_bytes();
+    check_line(
+        &rt,
+        "szg build --rounds 0",
+        high,
+        1,
+        "refused build: Value\n",
+    )
+}
+
+#[test]
+fn sizes_are_refused(rt: HostRuntime) -> Result<(), Fail> {
+    check_wrong_words(
+        &rt,
+        CONSTANT.as_bytes(),
+        &[
+            "szg build --block 4",
+            "szg build --block 11",
+            "szg build --span 0",
+            "szg build --span 17",
+            "szg build --rounds 4001",
+            "szg build KNvK",
+        ],
+    )
 }

@@ -1,40 +1,41 @@
 //! The commands on placements.
-use super::check_line;
 use super::fixtures::{
     kbbvk_wdl_constant, knvk_wdl_constant, knvk_wdl_with, kpvk_dtz_mapped, kpvkp_dtz_constant,
     kqvk_wdl_unpaired, pawns_wdl_constant,
 };
+use super::{check_line, check_lines, check_wrong_words};
 use std::test::Fail;
 
 #[test]
 fn queen_against_king(rt: HostRuntime) -> Result<(), Fail> {
     let file = kqvk_wdl_unpaired(rt.alloc())?;
-    for (line, status, text) in [
-        (
-            "szg index KQvK wdl w Ke8 Qa1 kh1",
-            0,
-            "part a side 0 index 11711\n",
-        ),
-        ("szg probe KQvK wdl w Ke8 Qa1 kh1", 0, "2\n"),
-        ("szg probe KQvK wdl b Ke8 Qa1 kh1", 0, "0\n"),
-        ("szg probe --class loss KQvK wdl w Ke8 Qa1 kh1", 0, "2\n"),
-        ("szg placement KQvK wdl 11711", 0, "w Kd1 Qh8 ka8\n"),
-        (
-            "szg placement KQvK wdl 11711 --side 1",
-            0,
-            "b Kd1 Qh8 ka8\n",
-        ),
-        ("szg placement KQvK wdl 11711 --part b", 1, "refused part\n"),
-        ("szg placement KQvK wdl 31332", 1, "refused index\n"),
-        (
-            "szg index KQvK wdl w Ke8 Na1 kh1",
-            1,
-            "refused place: OtherMaterial\n",
-        ),
-    ] {
-        check_line(&rt, line, &file, status, text)?;
-    }
-    Ok(())
+    check_lines(
+        &rt,
+        &file,
+        &[
+            (
+                "szg index KQvK wdl w Ke8 Qa1 kh1",
+                0,
+                "part a side 0 index 11711\n",
+            ),
+            ("szg probe KQvK wdl w Ke8 Qa1 kh1", 0, "2\n"),
+            ("szg probe KQvK wdl b Ke8 Qa1 kh1", 0, "0\n"),
+            ("szg probe --class loss KQvK wdl w Ke8 Qa1 kh1", 0, "2\n"),
+            ("szg placement KQvK wdl 11711", 0, "w Kd1 Qh8 ka8\n"),
+            (
+                "szg placement KQvK wdl 11711 --side 1",
+                0,
+                "b Kd1 Qh8 ka8\n",
+            ),
+            ("szg placement KQvK wdl 11711 --part b", 1, "refused part\n"),
+            ("szg placement KQvK wdl 31332", 1, "refused index\n"),
+            (
+                "szg index KQvK wdl w Ke8 Na1 kh1",
+                1,
+                "refused place: OtherMaterial\n",
+            ),
+        ],
+    )
 }
 
 #[test]
@@ -57,43 +58,62 @@ fn knight_against_king(rt: HostRuntime) -> Result<(), Fail> {
 
 #[test]
 fn words_that_tell_no_placement(rt: HostRuntime) -> Result<(), Fail> {
-    for (line, text) in [
-        ("szg probe KNvK wdl w Kb1 Na1", "refused placement: Men\n"),
-        (
-            "szg probe KNvK wdl w Kb1 Nb1 kc1",
-            "refused placement: SameSquare\n",
-        ),
-        (
-            "szg index KNvK wdl w Kb1 Pa8 kc1",
-            "refused placement: PawnRank\n",
-        ),
-        (
-            "szg index KNvK wdl w Kb1 Na1 kc1 na2 na3 na4 na5 na6",
-            "refused placement: Men\n",
-        ),
-        (
-            "szg index KNvK wdl w Kb1 Na1 kc1 na2 na3 na4 na5 na9",
-            "refused man\n",
-        ),
-        ("szg index KNvK wdl w Kb1 Na1 ki1", "refused man\n"),
-        ("szg index KNvK wdl w Kb1 Na1 kc0", "refused man\n"),
-        ("szg index KNvK wdl w Kb1 Na1 xc1", "refused man\n"),
-        ("szg index KNvK wdl w Kb1 Na1 kc", "refused man\n"),
-        ("szg index KNvK wdl w Kb1 Na1 kc11", "refused man\n"),
-        ("szg index KvKN wdl w Kb1 Na1 ki1", "refused name: Sides\n"),
-    ] {
-        check_line(&rt, line, b"", 1, text)?;
-    }
-    for line in [
-        "szg index KNvK wdl w",
-        "szg index KNvK wdl white Kb1 Na1 kc1",
-        "szg probe KNvK wdl w Kb1 Na1 kc1 --class won",
-        "szg index KNvK wdl w Kb1 Na1 kc1 --class win",
-        "szg placement KNvK wdl -1",
-    ] {
-        check_line(&rt, line, b"", 2, "")?;
-    }
-    Ok(())
+    check_lines(
+        &rt,
+        b"",
+        &[
+            (
+                "szg probe KNvK wdl w Kb1 Na1",
+                1,
+                "refused placement: Men\n",
+            ),
+            (
+                "szg probe KNvK wdl w Kb1 Nb1 kc1",
+                1,
+                "refused placement: SameSquare\n",
+            ),
+            (
+                "szg index KNvK wdl w Kb1 Pa8 kc1",
+                1,
+                "refused placement: PawnRank\n",
+            ),
+            (
+                "szg index KNvK wdl w Kb1 Na1 kc1 na2 na3 na4 na5 na6",
+                1,
+                "refused placement: Men\n",
+            ),
+            (
+                "szg index KNvK wdl w Kb1 Na1 kc1 na2 na3 na4 na5 na9",
+                1,
+                "refused man\n",
+            ),
+            ("szg index KNvK wdl w Kb1 Na1 ki1", 1, "refused man\n"),
+            ("szg index KNvK wdl w Kb1 Na1 kc0", 1, "refused man\n"),
+            ("szg index KNvK wdl w Kb1 Na1 xc1", 1, "refused man\n"),
+            ("szg index KNvK wdl w Kb1 Na1 kc", 1, "refused man\n"),
+            ("szg index KNvK wdl w Kb1 Na1 kc11", 1, "refused man\n"),
+            (
+                "szg index KvKN wdl w Kb1 Na1 ki1",
+                1,
+                "refused name: Sides\n",
+            ),
+        ],
+    )
+}
+
+#[test]
+fn words_that_ask_no_placement(rt: HostRuntime) -> Result<(), Fail> {
+    check_wrong_words(
+        &rt,
+        b"",
+        &[
+            "szg index KNvK wdl w",
+            "szg index KNvK wdl white Kb1 Na1 kc1",
+            "szg probe KNvK wdl w Kb1 Na1 kc1 --class won",
+            "szg index KNvK wdl w Kb1 Na1 kc1 --class win",
+            "szg placement KNvK wdl -1",
+        ],
+    )
 }
 
 #[test]
@@ -135,29 +155,30 @@ fn pawns(rt: HostRuntime) -> Result<(), Fail> {
 #[test]
 fn numbers(rt: HostRuntime) -> Result<(), Fail> {
     let file = kpvk_dtz_mapped(rt.alloc())?;
-    for (line, status, text) in [
-        ("szg probe KPvK dtz w Ke1 Pa2 ke8", 0, "14\n"),
-        ("szg probe KPvK dtz w Ke1 Pb2 ke8 --class win", 0, "600\n"),
-        ("szg probe KPvK dtz w Ke1 --class win Pc2 ke8", 0, "0\n"),
-        (
-            "szg probe KPvK dtz w Ke1 Pa2 ke8 --class blessed",
-            1,
-            "refused map: OutsideMap\n",
-        ),
-        (
-            "szg probe KPvK dtz w Ke1 Pa2 ke8 --class draw",
-            1,
-            "refused map: Draw\n",
-        ),
-        (
-            "szg probe KPvK dtz b Ke1 Pa2 ke8",
-            1,
-            "refused place: WrongSide\n",
-        ),
-    ] {
-        check_line(&rt, line, &file, status, text)?;
-    }
-    Ok(())
+    check_lines(
+        &rt,
+        &file,
+        &[
+            ("szg probe KPvK dtz w Ke1 Pa2 ke8", 0, "14\n"),
+            ("szg probe KPvK dtz w Ke1 Pb2 ke8 --class win", 0, "600\n"),
+            ("szg probe KPvK dtz w Ke1 --class win Pc2 ke8", 0, "0\n"),
+            (
+                "szg probe KPvK dtz w Ke1 Pa2 ke8 --class blessed",
+                1,
+                "refused map: OutsideMap\n",
+            ),
+            (
+                "szg probe KPvK dtz w Ke1 Pa2 ke8 --class draw",
+                1,
+                "refused map: Draw\n",
+            ),
+            (
+                "szg probe KPvK dtz b Ke1 Pa2 ke8",
+                1,
+                "refused place: WrongSide\n",
+            ),
+        ],
+    )
 }
 
 #[test]

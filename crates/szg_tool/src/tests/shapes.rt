@@ -1,6 +1,6 @@
 //! A table of many shapes: parts and maps that differ, words of two lengths, values above a byte, a long list.
 use super::fixtures::kpvk_dtz_shapes;
-use super::{check_line, check_printed};
+use super::{check_lines, check_printed};
 use std::alloc::{AllocError, Global};
 use std::test::Fail;
 
@@ -20,16 +20,19 @@ fn lines(alloc: Global) -> Result<Vec<u8>, AllocError> {
 #[test]
 fn shapes(rt: HostRuntime) -> Result<(), Fail> {
     let file = kpvk_dtz_shapes(rt.alloc())?;
-    for (line, text) in [
-        ("szg show KPvK dtz", SHOWN),
-        ("szg get KPvK dtz 23434 --part b", "300\n"),
-        (
-            "szg get KPvK dtz 23435 --part b --steps",
-            "2 moves 0 words 92 descents 8 fetches 1\n",
-        ),
-    ] {
-        check_line(&rt, line, &file, 0, text)?;
-    }
+    check_lines(
+        &rt,
+        &file,
+        &[
+            ("szg show KPvK dtz", 0, SHOWN),
+            ("szg get KPvK dtz 23434 --part b", 0, "300\n"),
+            (
+                "szg get KPvK dtz 23435 --part b --steps",
+                0,
+                "2 moves 0 words 92 descents 8 fetches 1\n",
+            ),
+        ],
+    )?;
     let values = lines(rt.alloc())?;
     let words = ["szg", "values", "KPvK", "dtz", "--part", "b"];
     check_printed(&rt, &words, &file, 0, &values);

@@ -1,4 +1,5 @@
 //! What is told of wrong words, and help.
+use super::words_of;
 use crate::commands::run;
 use crate::outcome::Outcome;
 use std::alloc::Global;
@@ -12,10 +13,7 @@ const HELP: &str =
 
 /// The words of this line make no command, and this text says why.
 fn check_told(rt: &(impl Abort + Alloc<A = Global>), line: &str, text: &str) -> Result<(), Fail> {
-    let mut words = Vec::new(rt.alloc());
-    for word in line.split(' ') {
-        words.push(word)?;
-    }
+    let words = words_of(rt.alloc(), line)?;
     let mut reader = Std::new(b"".as_slice());
     let mut writer = Std::new(Vec::new(rt.alloc()));
     match run(rt.alloc(), &words, &mut reader, &mut writer) {

@@ -1,13 +1,11 @@
-use Rattle.std.proofs.Common.{arith, refl, ap, ◌∙◌}
+use Rattle.std.proofs.Common.{arith, ap, ◌∙◌}
 use Rattle.std.proofs.lemmas.Result.{err_from_is_err_and}
 use Rattle.szg_code.specs.Canonical.{CanonicalCode}
 use Rattle.szg_file.specs.Format.{means}
 use Rattle.szg_file.specs.File.{lowest_list, dictionary}
 use Rattle.szg_file.specs.HeadPieces.{sizes_field}
 use Rattle.szg_file.specs.Held.{subtable_of}
-use Rattle.szg_file.proofs.HeadReads.{reads_no_memory, memory_is}
 use Rattle.szg_file.proofs.ReadingLaws.{reads_then, reads_stopped, reads_nothing}
-use Rattle.szg_file.proofs.Taken.{reads_as}
 use Rattle.szg_file.proofs.PackedReads.{packed_steps, packed_of, packed_is, flag_is_clear, block_bits_field, span_bits_field, after_block, after_span, after_sizes, after_lowest}
 use Rattle.szg_file.proofs.heads.read_packed_head.Goals as goal
 
@@ -83,24 +81,6 @@ returns-in_err-dict-clause-head g c =
     (reads_then (lowest_list sizes.min sizes.max) (after_lowest flags bb sb sizes) (λ k. k.lowest) subtable_of lowest c.in_ok-lowest.ensures.lowest
     (reads_stopped dictionary (λ entries. means (packed_of flags bb sb sizes lowest.lowest entries)) (λ d. d) subtable_of c.in_err-dict.field-0.0 c.in_err-dict.ensures.dictionary)))))
 
-pub returns-in_err-code-clause-head : goal.returns-in_err-code-clause-head
-returns-in_err-code-clause-head g c =
-    let flags = c.args.flags in
-    let bb = c.in_ok-block_bits.block_bits in
-    let sb = c.in_ok-span_bits.span_bits in
-    let sizes = c.in_ok-sizes.sizes in
-    let lowest = c.in_ok-lowest.lowest in
-    let dict = c.in_ok-dict.dict in
-    let p = err_from_is_err_and c.from_residual-in_err-code.result c.from_residual-in_err-code.ensures.1 in
-    let memory = memory_is c.in_err-code.field-0.0 c.in_err-code.ensures.memory in
-    rw (p.1, p.2, memory, packed_steps flags)
-    (reads_then block_bits_field (after_block flags) (λ b. b) subtable_of bb c.in_ok-block_bits.ensures.bits
-    (reads_then span_bits_field (after_span flags bb) (λ b. b) subtable_of sb c.in_ok-span_bits.ensures.bits
-    (reads_then sizes_field (after_sizes flags bb sb) (λ z. z) subtable_of sizes c.in_ok-sizes.ensures.sizes
-    (reads_then (lowest_list sizes.min sizes.max) (after_lowest flags bb sb sizes) (λ k. k.lowest) subtable_of lowest c.in_ok-lowest.ensures.lowest
-    (reads_then dictionary (λ entries. means (packed_of flags bb sb sizes lowest.lowest entries)) (λ d. d) subtable_of dict c.in_ok-dict.ensures.dictionary
-    (reads_no_memory (means (packed_of flags bb sb sizes lowest.lowest dict)) subtable_of))))))
-
 pub returns-clause-head : goal.returns-clause-head
 returns-clause-head g c =
     let flags = c.args.flags in
@@ -114,11 +94,10 @@ returns-clause-head g c =
     (reads_then span_bits_field (after_span flags bb) (λ b. b) subtable_of sb c.in_ok-span_bits.ensures.bits
     (reads_then sizes_field (after_sizes flags bb sb) (λ z. z) subtable_of sizes c.in_ok-sizes.ensures.sizes
     (reads_then (lowest_list sizes.min sizes.max) (after_lowest flags bb sb sizes) (λ k. k.lowest) subtable_of lowest c.in_ok-lowest.ensures.lowest
-    (reads_then dictionary (λ entries. means (packed_of flags bb sb sizes lowest.lowest entries)) (λ d. d) subtable_of dict
-    (reads_as dictionary dictionary (λ d. d) (λ d. d) dict dict refl refl c.in_ok-code.ensures.place c.in_ok-code.ensures.fill c.in_ok-dict.ensures.dictionary)
+    (reads_then dictionary (λ entries. means (packed_of flags bb sb sizes lowest.lowest entries)) (λ d. d) subtable_of dict c.in_ok-dict.ensures.dictionary
     (reads_nothing (means (packed_of flags bb sb sizes lowest.lowest dict)) subtable_of _
-    (ap means (packed_is flags bb sb sizes lowest c.in_ok-code.code c.symbols.result dict c.new.result.items c.new-2.result.items c.new-3.result.items
-    c.in_ok-lowest.ensures.code c.in_ok-code.ensures.code c.symbols.ensures.number c.new.ensures.items c.new-2.ensures.items c.new-3.ensures.items))))))))
+    (ap means (packed_is flags bb sb sizes lowest c.with_symbols-code.result c.symbols.result dict c.new.result.items c.new-2.result.items c.new-3.result.items
+    c.in_ok-lowest.ensures.code c.with_symbols-code.ensures.code c.symbols.ensures.number c.new.ensures.items c.new-2.ensures.items c.new-3.ensures.items))))))))
 
 pub returns-clause-headed : goal.returns-clause-headed
 returns-clause-headed g c = (
@@ -127,6 +106,6 @@ returns-clause-headed g c = (
     c.in_ok-block_bits.ensures.most,
     c.in_ok-span_bits.ensures.some,
     c.in_ok-span_bits.ensures.most,
-    ap (λ (k : CanonicalCode). k.symbols) c.in_ok-code.ensures.code ∙ c.symbols.ensures.number,
+    ap (λ (k : CanonicalCode). k.symbols) c.with_symbols-code.ensures.code ∙ c.symbols.ensures.number,
   ),
 )

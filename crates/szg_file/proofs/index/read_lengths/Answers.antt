@@ -1,27 +1,15 @@
-use Rattle.std.proofs.Common.{◌≡◌, refl, ◌+◌, ◌∷◌, [], ◌++◌, Ok, length, take, ℕ, List, sym, ap, ◌∙◌, arith}
-use Rattle.std.proofs.lemmas.List.{length_push}
+use Rattle.std.proofs.Common.{◌≡◌, ◌∙◌, length}
 use Rattle.std.proofs.lemmas.Result.{err_from_is_err_and}
 use Rattle.std.proofs.lemmas.Iterator.Adapters.{YieldsList-from_vec}
 use Rattle.std.proofs.lemmas.Iterator.Consumers.{YieldsList-turn}
 use Rattle.szg_file.specs.declared.fault.ReadFault.TheVariants.{Memory}
-use Rattle.szg_file.specs.Format.{means}
-use Rattle.szg_file.specs.File.{Begun, each, lengths_field}
-use Rattle.szg_file.proofs.ReadingLaws.{reads_nothing}
-use Rattle.szg_file.proofs.Taken.{reads_as, reads_equal}
-use Rattle.szg_file.proofs.LoopReads.{each_next, each_stops, reads_lacking}
-use Rattle.szg_file.specs.Reads.{sub_lengths}
-use Rattle.std.proofs.lemmas.List.Sums.{sum_by_push}
-use Rattle.szg_file.proofs.Grown.{none_yet, one_more}
+use Rattle.szg_file.specs.File.{lengths_field}
+use Rattle.szg_file.proofs.LoopReads.{each_stops, reads_lacking}
+use Rattle.szg_file.proofs.SubtableLoops.{loading_none, loading_next}
 use Rattle.szg_file.proofs.index.read_lengths.Goals as goal
 
 pub lengths-init : goal.lengths-init
-lengths-init g c = record {
-  read = reads_nothing (means []) (λ list. list.items) c.new-measured.result (ap (λ (l : List Begun). means l) (sym c.new-measured.ensures.items));
-  count = ap length c.new-measured.ensures.items;
-  place = omega arith;
-  growth = omega arith;
-  grown = omega (arith, none_yet (λ (b : Begun). sub_lengths b.subtable) c.new-measured.result.items c.new-measured.ensures.items);
-}
+lengths-init g c = loading_none lengths_field c.args.list.items (λ list. list.items) c.new-measured.result c.new-measured.ensures.items
 
 pub returns-in_err-next-clause-lengths : goal.returns-in_err-next-clause-lengths
 returns-in_err-next-clause-lengths g c =
@@ -47,23 +35,16 @@ pub lengths-preserved : goal.lengths-preserved
 lengths-preserved g c =
     let made = c.into_iter-indexed-iterator.ensures.into_iter_gives in
     let turn = YieldsList-turn (YieldsList-from_vec {s = c.into_iter-indexed-iterator.result} c.args.list.items made.0 (made.1 ∙ c.args.list.ok.0)) c.lengths.yielded c.lengths.indexed-iterator c.lengths.yielded_by c.next.result c.next.new.self c.in-Some.indexed c.in-Some.is c.next.ensures.steps in
-    let longer : length (c.lengths.yielded ++ c.in-Some.indexed ∷ []) ≡ length c.lengths.yielded + 1 = length_push c.lengths.yielded c.in-Some.indexed in
-    let kept : length (c.lengths.measured.items ++ c.in_ok-next.next ∷ []) ≡ length c.lengths.measured.items + 1 = length_push c.lengths.measured.items c.in_ok-next.next in
+    let next = c.in_ok-next.ensures in
+    let append = c.in_ok-append.ensures in
+    loading_next lengths_field c.args.list.items c.lengths.yielded c.in-Some.indexed c.in_ok-next.next (λ list. list.items) c.lengths.measured c.append.new.list turn.0 turn.1 c.lengths.invariant
     record {
-      read = reads_equal (each lengths_field (take (length c.lengths.yielded + 1) c.args.list.items)) _ (λ list. list.items) (Ok c.append.new.list) (ap (λ (n : ℕ). each lengths_field (take n c.args.list.items)) (sym longer))
-          (each_next lengths_field c.args.list.items (length c.lengths.yielded) c.in-Some.indexed (λ list. list.items) (λ item. item) (λ list. list.items)
-          c.lengths.measured c.in_ok-next.next c.append.new.list turn.0 turn.1 c.in_ok-append.ensures.items c.lengths.invariant.read
-          (reads_as (lengths_field c.in-Some.indexed) (lengths_field c.in-Some.indexed) (λ item. item) (λ item. item) c.in_ok-next.next c.in_ok-next.next refl refl c.in_ok-append.ensures.place c.in_ok-append.ensures.fill c.in_ok-next.ensures.lengths));
-      count = ap length c.in_ok-append.ensures.items ∙ kept ∙ omega (arith, c.lengths.invariant.count, longer);
-      place = omega (arith, c.lengths.invariant.place, c.in_ok-next.ensures.place, c.in_ok-append.ensures.place, longer);
-      growth = omega (arith, c.lengths.invariant.growth, c.in_ok-next.ensures.growth, c.in_ok-append.ensures.growth, c.in_ok-append.ensures.place, longer);
-      grown = omega (
-        arith,
-        one_more (λ (b : Begun). sub_lengths b.subtable) c.lengths.measured.items c.append.new.list.items c.in_ok-next.next c.in_ok-append.ensures.items,
-        sum_by_push (λ (b : Begun). sub_lengths b.subtable) c.lengths.yielded c.in-Some.indexed,
-        c.lengths.invariant.grown,
-        c.in_ok-next.ensures.grown,
-        c.in_ok-append.ensures.growth,
-        ap length c.in_ok-append.ensures.fill,
-      );
+      read = next.lengths;
+      place = next.place;
+      growth = next.growth;
+      grown = next.grown;
+      pushed = append.items;
+      same_place = append.place;
+      same_fill = append.fill;
+      one_counted = append.growth;
     }

@@ -1,0 +1,217 @@
+//! The arguments of the commands, with their texts of help.
+
+use clap::builder::{ValueParser, ValueRange};
+use clap::{Arg, ArgAction};
+use std::alloc::Global;
+
+/// The form of an argument on a command line.
+#[derive(Clone, Copy)]
+enum Form {
+    /// A word that has to be there.
+    Word,
+    /// One or more words.
+    Words,
+    /// An option with a value, which has a name and a default.
+    Option {
+        value: &'static str,
+        default: &'static str,
+    },
+    /// An option without a value.
+    Flag,
+}
+
+/// An argument of a command.
+#[derive(Clone, Copy)]
+pub struct Argument {
+    id: &'static str,
+    form: Form,
+    values: ValueParser<'static>,
+    /// Whether a negative number is a value, and no option.
+    is_number: bool,
+    help: &'static str,
+}
+
+/// The table's name.
+pub const NAME: Argument = Argument {
+    id: "NAME",
+    form: Form::Word,
+    values: ValueParser::String,
+    is_number: false,
+    help: "The table's material, as KQvKR: three to six men, the side with more men first",
+};
+
+/// The table's kind.
+pub const KIND: Argument = Argument {
+    id: "KIND",
+    form: Form::Word,
+    values: ValueParser::Names(&["wdl", "dtz"]),
+    is_number: false,
+    help: "What the table tells: outcomes (wdl) or distances (dtz)",
+};
+
+/// The index of a value or of a placement.
+pub const INDEX: Argument = Argument {
+    id: "INDEX",
+    form: Form::Word,
+    values: ValueParser::String,
+    is_number: true,
+    help: "The position's number: 0 or more, and below the size of the part and side",
+};
+
+/// Who moves.
+pub const MOVER: Argument = Argument {
+    id: "MOVER",
+    form: Form::Word,
+    values: ValueParser::Names(&["w", "b"]),
+    is_number: false,
+    help: "Who moves: w for White, b for Black",
+};
+
+/// The men.
+pub const MEN: Argument = Argument {
+    id: "MAN",
+    form: Form::Words,
+    values: ValueParser::String,
+    is_number: false,
+    help: "Three to six men, each a letter (upper case for White) and a square, as Ke1 and kc8",
+};
+
+/// The part of a table.
+pub const PART: Argument = Argument {
+    id: "part",
+    form: Form::Option {
+        value: "PART",
+        default: "a",
+    },
+    values: ValueParser::Names(&["a", "b", "c", "d"]),
+    is_number: false,
+    help: "The part, by the file of the lead pawn: a for a and h, b for b and g, c for c and f,{n}d for d and e; a table without pawns has part a alone",
+};
+
+/// The side of a part.
+pub const SIDE: Argument = Argument {
+    id: "side",
+    form: Form::Option {
+        value: "SIDE",
+        default: "0",
+    },
+    values: ValueParser::String,
+    is_number: true,
+    help: "The side, 0 or 1: in a WDL table with two sides, 0 is where the name's first side{n}moves; every other table has side 0 alone",
+};
+
+/// The class in which a DTZ table is asked.
+pub const CLASS: Argument = Argument {
+    id: "class",
+    form: Form::Option {
+        value: "CLASS",
+        default: "win",
+    },
+    values: ValueParser::Names(&["win", "cursed", "draw", "blessed", "loss"]),
+    is_number: false,
+    help: "The placement's class, which a DTZ table has to be told; a WDL table{n}doesn't use it",
+};
+
+/// The form of a dump.
+pub const FORM: Argument = Argument {
+    id: "form",
+    form: Form::Option {
+        value: "FORM",
+        default: "2",
+    },
+    values: ValueParser::String,
+    is_number: true,
+    help: "1: a line for each value; 2: a line for each run of equal values",
+};
+
+/// The bits of a block.
+pub const BLOCK: Argument = Argument {
+    id: "block",
+    form: Form::Option {
+        value: "BITS",
+        default: "6",
+    },
+    values: ValueParser::String,
+    is_number: true,
+    help: "A block has 2 to this power bytes, 5 to 10",
+};
+
+/// The bits of a span.
+pub const SPAN: Argument = Argument {
+    id: "span",
+    form: Form::Option {
+        value: "BITS",
+        default: "12",
+    },
+    values: ValueParser::String,
+    is_number: true,
+    help: "An entry of the sparse index serves 2 to this power values, 1 to 16",
+};
+
+/// The rounds of pairing.
+pub const ROUNDS: Argument = Argument {
+    id: "rounds",
+    form: Form::Option {
+        value: "COUNT",
+        default: "256",
+    },
+    values: ValueParser::String,
+    is_number: true,
+    help: "The most pairs that a dictionary gets, 0 to 4000",
+};
+
+/// Whether the steps to a value are told.
+pub const STEPS: Argument = Argument {
+    id: "steps",
+    form: Form::Flag,
+    values: ValueParser::Bool,
+    is_number: false,
+    help: "Also prints how many moves, words, descents and fetches find the value",
+};
+
+impl Argument {
+    /// The argument as `clap` has it.
+    pub fn to_clap<'a>(&self, alloc: Global) -> Arg<'a> {
+        formed(alloc, self.id, self.form)
+            .value_parser(self.values)
+            .allow_negative_numbers(self.is_number)
+            .help(self.help)
+    }
+}
+
+/// An argument of a form.
+fn formed<'a>(alloc: Global, id: &'a str, form: Form) -> Arg<'a> {
+    match form {
+        Form::Word => word(alloc, id),
+        Form::Words => words(alloc, id),
+        Form::Option { value, default } => option(alloc, id, value, default),
+        Form::Flag => flag(alloc, id),
+    }
+}
+
+/// A word that has to be there.
+fn word<'a>(alloc: Global, id: &'a str) -> Arg<'a> {
+    Arg::new(alloc, id).required(true).action(ArgAction::Set)
+}
+
+/// One or more words.
+fn words<'a>(alloc: Global, id: &'a str) -> Arg<'a> {
+    Arg::new(alloc, id)
+        .required(true)
+        .action(ArgAction::Append)
+        .num_args(ValueRange::from(1usize..))
+}
+
+/// An option with a value, which has a name and a default.
+fn option<'a>(alloc: Global, id: &'a str, value: &'a str, default: &'a str) -> Arg<'a> {
+    Arg::new(alloc, id)
+        .long(id)
+        .value_name(value)
+        .action(ArgAction::Set)
+        .default_value(default)
+}
+
+/// An option without a value.
+fn flag<'a>(alloc: Global, id: &'a str) -> Arg<'a> {
+    Arg::new(alloc, id).long(id).action(ArgAction::SetTrue)
+}
