@@ -13,7 +13,6 @@ pub mod BlockLaws
 pub mod Filling
 pub mod BlockSteps
 pub mod SparseLaws
-pub mod Standing
 pub mod MadeLaws
 pub mod SubLaws
 pub mod Entries

@@ -20,7 +20,7 @@ use Rattle.szg_build.specs.Building.{AreFilled, end, next, blocks_layout, IsCut,
 use Rattle.szg_build.proofs.BlockLaws.{filled_are_shortest, filled_are_values, values_from, length-values}
 use Rattle.szg_build.proofs.Filling.{filled_with}
 use Rattle.szg_build.proofs.Entries.{start-front}
-use Rattle.szg_build.proofs.Standing.{sound_stands}
+use Rattle.szg_file.proofs.Standing.{sound_stands}
 
 -- ---- lists that fill blocks
 

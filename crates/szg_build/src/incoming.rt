@@ -1,9 +1,8 @@
 //! Bytes of a text from a device, which is asked for large pieces.
 ghost use Rattle.std.specs.Prelude.{◌≤◌};
 
-use crate::taking::take_once;
 use arrayvec::ArrayVec;
-use szg_io::{DeviceFault, Input};
+use szg_io::{DeviceFault, Input, take_once};
 
 /// How many bytes are held back at most.
 const ROOM: usize = 4096;

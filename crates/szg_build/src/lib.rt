@@ -25,7 +25,6 @@ mod sparse;
 mod subreading;
 mod subtables;
 mod table;
-mod taking;
 mod word;
 mod writing;
 

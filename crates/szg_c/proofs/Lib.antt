@@ -8,5 +8,4 @@ pub mod HeadsTold
 pub mod ByPlace
 pub mod Saying
 pub mod Sizes
-pub mod TooMany
 pub mod Values

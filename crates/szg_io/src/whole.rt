@@ -41,8 +41,12 @@ pub fn take_whole<R: Input>(input: &mut R, piece: &mut [u8]) -> Result<usize, De
     Ok(at)
 }
 
-/// One answer that is no `Interrupted`.
-fn take_once<R: Input>(input: &mut R, piece: &mut [u8]) -> Result<usize, DeviceFault>
+/// Asks once for all of the piece, again where that is interrupted, and tells how many bytes came, from its beginning
+/// on: none only at the end, or where the piece is empty.
+///
+/// `DeviceFault` where the device failed, or at the thousand and first `Interrupted` in a row. A device that may not fail
+/// has no fault.
+pub fn take_once<R: Input>(input: &mut R, piece: &mut [u8]) -> Result<usize, DeviceFault>
     ensures within { IfOk result (λ n. n ≤ length piece.new) }
     ensures bytes { ReadConsumes (R.coming input.old) (R.coming input.new) result piece.new }
     ensures calls { R.calls input.new ≤ R.calls input.old + 1001 }

@@ -1,6 +1,5 @@
 mod Lines
 mod Outcomes
-mod TooMany
 mod Builds
 mod Digits
 mod MenWords

@@ -7,3 +7,4 @@ pub mod SameMen
 pub mod SideCounts
 pub mod AllNames
 pub mod Sound
+pub mod TooMany

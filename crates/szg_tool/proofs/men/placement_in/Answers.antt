@@ -1,7 +1,7 @@
 use Rattle.std.proofs.Common.{◌≡◌, ◌∙◌, true, refl, sym}
 use Rattle.std.specs.List.{list_all}
 use Rattle.szg_tool.specs.Men.{is_told, placement_told, standing_of}
-use Rattle.szg_tool.proofs.TooMany.{too_many_told}
+use Rattle.szg_values.proofs.TooMany.{too_many_told}
 use Rattle.szg_tool.proofs.men.placement_in.Goals as goal
 
 pub returns-then-words-gt-MAX_MEN : goal.returns-then-words-gt-MAX_MEN
