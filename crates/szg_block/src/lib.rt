@@ -113,10 +113,12 @@ fn bits_fit(block_bits: u8, span_bits: u8) -> bool
     block_bits <= MAX_BLOCK_BITS && (1..=MAX_SPAN_BITS).contains(&span_bits)
 }
 
-/// The number of entries that a sparse index has: one for each span begun.
-fn entry_count(size: u64, span_bits: u8) -> u64
+/// The number of entries that a sparse index of so many values has: one for each span begun (`2^span_bits` values, the
+/// last span maybe fewer), so no more than there are values.
+pub fn entry_count(size: u64, span_bits: u8) -> u64
     requires { span_bits ≤ 31 }
-    ensures { result ≡ entry_count_of span_bits size }
+    ensures count { result ≡ entry_count_of span_bits size }
+    ensures few { result ≤ size }
 {
     size.div_ceil(1 << span_bits)
 }

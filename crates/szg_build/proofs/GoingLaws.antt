@@ -131,10 +131,6 @@ alike F G (good a count rest) same = ap (λ z. good z count rest) (same a)
 alike F G (refused at why rest) same = refl
 alike F G (ended at) same = refl
 
--- nothing was read yet
-pub goes_begun : {A R : Type 0} (f : Lines A) {o : Incoming} {dev : Ghosts R} {i : R} → GoesOn f (mapped (λ a. a) f) o o dev i i
-goes_begun f = goes_here (λ count bytes. once (verdict f count bytes) ∙ sym (verdict-then f (λ a. means a) count bytes))
-
 pub goes_as : {A B R : Type 0} (f : Lines B) (F G : A → B) (lines : Lines A) {o n : Incoming} {dev : Ghosts R} {i k : R} → ((a : A) → F a ≡ G a) → GoesOn f (mapped F lines) o n dev i k → GoesOn f (mapped G lines) o n dev i k
 goes_as f F G lines same a =
     goes_then a (goes_here (λ count bytes. verdict-then lines (λ z. means (F z)) count bytes ∙ alike F G (verdict lines count bytes) same ∙ sym (verdict-then lines (λ z. means (G z)) count bytes)))

@@ -121,9 +121,6 @@ pub record IsCounted (n most : ℕ) (counts symbols : List ℕ) (begun : Bool) (
   pub table : (l r : ℕ) → l < n → r < n → get_or counts (l * n + r) 0 ≡ min (tally l r none_yet symbols).count most
   pub waiting : (l r : ℕ) → (tally l r none_yet symbols).waits ≡ waits_of begun last free l r
 
-pub counted_none : (n most : ℕ) (counts : List ℕ) (last : ℕ) (free : Bool) → ((k : ℕ) → get_or counts k 0 ≡ 0) → IsCounted n most counts [] false last free
-counted_none n most counts last free zeros = record { table = λ l r a b. zeros (l * n + r) ∙ omega arith; waiting = λ l r. refl }
-
 waiting_more : (n most : ℕ) (counts symbols : List ℕ) (begun free : Bool) (last s : ℕ) → IsCounted n most counts symbols begun last free → (l r : ℕ) →
     (tally l r none_yet (symbols ++ s ∷ [])).waits ≡ waits_of true s (is_free begun last free s) l r
 waiting_more n most counts symbols begun free last s h l r =

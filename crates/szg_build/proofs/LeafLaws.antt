@@ -1,12 +1,11 @@
 -- Leaves: the marks of values, the numbers of their symbols, and a dictionary of leaves alone.
-use Rattle.std.proofs.Common.{ℕ, zero, suc, ◌≡◌, ◌≢◌, ◌+◌, ◌<◌, ◌≤◌, Bool, true, false, cond, List, [], ◌∷◌, ◌++◌, Some, length, map, take, get_or, set, replicate, refl, sym, ap, subst, ◌∙◌, arith, inl, inr, length-append, get_or-set_other, get_or-set_same, append-nil}
+use Rattle.std.proofs.Common.{ℕ, zero, suc, ◌≡◌, ◌+◌, ◌<◌, ◌≤◌, Bool, true, false, cond, List, [], ◌∷◌, ◌++◌, Some, length, map, get_or, replicate, refl, sym, ap, subst, ◌∙◌, arith, inl, inr, length-append, append-nil}
 use Rattle.std.specs.Prelude.{◌==◌, ◌||◌}
 use Rattle.std.specs.List.{slice_get, filter, list_any, range_with_len, AllByRecursion}
-use Rattle.std.proofs.lemmas.Bool.{cases_order, eq-eqb, ne_eqb}
+use Rattle.std.proofs.lemmas.Bool.{cases_order, eq-eqb}
 use Rattle.std.proofs.lemmas.List.{length-map, map-append}
 use Rattle.std.proofs.lemmas.List.Elements.{filter-append}
-use Rattle.std.proofs.lemmas.List.Folds.{list_any_more}
-use Rattle.std.proofs.Math.Bool.{or-true, or-false}
+use Rattle.std.proofs.Math.Bool.{or-true}
 use Rattle.szg_code.specs.Canonical.{IsIn}
 use Rattle.szg_pairs.specs.Entry.{left_of, is_leaf}
 use Rattle.szg_pairs.specs.Expansion.{leaf, expansion_of}
@@ -20,27 +19,6 @@ use Rattle.szg_build.specs.Building.{entry_of, leaves_below, AreLens, AreMarks, 
 use Rattle.szg_build.proofs.Tests.{bool_cases}
 use Rattle.szg_build.proofs.Triples.{entry-left, entry-leaf, entry_fits}
 use Rattle.szg_build.proofs.Growing.{there_more, there_last, leaf_grows}
-
--- ---- marks
-
--- one more value is marked
-pub marked_more : (values : List ℕ) (marks : List Bool) (i x value : ℕ) → i < length values → x ≡ get_or values i 0 → x < length marks →
-    get_or marks value false ≡ list_any (λ v. v == value) (take i values) → get_or (set marks x true) value false ≡ list_any (λ v. v == value) (take (i + 1) values)
-marked_more values marks i x value inside read there old =
-    let more : list_any (λ v. v == value) (take (i + 1) values) ≡ (list_any (λ v. v == value) (take i values) || (x == value)) =
-    list_any_more (λ v. v == value) values i 0 inside ∙ ap (λ (k : ℕ). list_any (λ v. v == value) (take i values) || (k == value)) (sym read) in
-    elim (cases_order value x) [
-      | inl same ↦
-          ap (λ (k : ℕ). get_or (set marks x true) k false) same ∙ get_or-set_same marks x true false there
-          ∙ sym (or-true (list_any (λ v. v == value) (take i values)))
-          ∙ ap (λ (b : Bool). list_any (λ v. v == value) (take i values) || b) (sym (eq-eqb x value (sym same))) ∙ sym more
-      | inr differ ↦
-          let apart : value ≢ x = λ e. absurd (elim differ [ inl less ↦ omega (arith, e, less) | inr less ↦ omega (arith, e, less) ]) in
-          let other : (x == value) ≡ false = ne_eqb x value (λ e. apart (sym e)) in
-          get_or-set_other marks x value true false apart ∙ old
-          ∙ sym (or-false (list_any (λ v. v == value) (take i values)))
-          ∙ ap (λ (b : Bool). list_any (λ v. v == value) (take i values) || b) (sym other) ∙ sym more
-    ]
 
 -- ---- the values below one bound more
 

@@ -1,5 +1,5 @@
 -- A pair that is replaced keeps the values; each replacement makes the list one symbol shorter; no symbol gets lost.
-use Rattle.std.proofs.Common.{◌≡◌, ℕ, suc, ◌+◌, ◌<◌, Bool, true, false, List, [], ◌∷◌, ◌++◌, length, refl, sym, ap, subst, ◌∙◌, append_assoc, arith, inl, inr}
+use Rattle.std.proofs.Common.{◌≡◌, ℕ, suc, ◌<◌, true, false, List, [], ◌∷◌, ◌++◌, refl, sym, ap, subst, ◌∙◌, append_assoc, arith, inl, inr}
 use Rattle.std.specs.Prelude.{◌==◌, ◌&&◌, ◌⊎◌}
 use Rattle.std.specs.List.{flat_map}
 use Rattle.std.proofs.lemmas.Bool.{eqb-true, and_parts}
@@ -44,24 +44,6 @@ values-replaced values left right new e (s ∷ t ∷ symbols) =
       | inr h ↦
           ap (flat_map values) (replaced-later left right new s t symbols h)
           ∙ ap (λ (z : List ℕ). values s ++ z) (values-replaced values left right new e (t ∷ symbols))
-    ]
-
--- Each replacement takes one symbol away: a round that counts 4 or more makes the list shorter.
-pub length-replaced : (left right new : ℕ) (symbols : List ℕ) → length (replaced left right new symbols) + pair_count left right symbols ≡ length symbols
-length-replaced left right new [] = refl
-length-replaced left right new (s ∷ []) = refl
-length-replaced left right new (s ∷ t ∷ symbols) =
-    elim (bool_cases ((s == left) && (t == right))) [
-      | inl h ↦
-          let a : length (replaced left right new (s ∷ t ∷ symbols)) ≡ suc (length (replaced left right new symbols)) = ap length (replaced-here left right new s t symbols h) in
-          let b : pair_count left right (s ∷ t ∷ symbols) ≡ suc (pair_count left right symbols) = pair_count-here left right s t symbols h in
-          let c : length (replaced left right new symbols) + pair_count left right symbols ≡ length symbols = length-replaced left right new symbols in
-          omega (arith, a, b, c)
-      | inr h ↦
-          let a : length (replaced left right new (s ∷ t ∷ symbols)) ≡ suc (length (replaced left right new (t ∷ symbols))) = ap length (replaced-later left right new s t symbols h) in
-          let b : pair_count left right (s ∷ t ∷ symbols) ≡ pair_count left right (t ∷ symbols) = pair_count-later left right s t symbols h in
-          let c : length (replaced left right new (t ∷ symbols)) + pair_count left right (t ∷ symbols) ≡ length (t ∷ symbols) = length-replaced left right new (t ∷ symbols) in
-          omega (arith, a, b, c)
     ]
 
 shifted : (new left right x : ℕ) (xs : List ℕ) → IsIn xs x ⊎ ((x ≡ left) ⊎ (x ≡ right)) → IsIn (new ∷ xs) x ⊎ ((x ≡ left) ⊎ (x ≡ right))

@@ -132,15 +132,6 @@ reads_unbuilt f view fault {o = o} {dev = dev} {i = i} e = record {
       (subst (λ v. IsPlanFault v fault) (sym same) refl, refl);
 }
 
--- A growth that is refused behind lines that were read.
-pub reads_unheld : {A B X Y R : Type 0} (f : Lines A) (g : Lines B) (view : X → A) (view' : Y → B) {o m n : Incoming}
-    {dev : Ghosts R} {i j : R} (v : X) → ReadsLines f view o m dev i j (Ok v) → ReadsLines g view' o n dev i j (Err Memory)
-reads_unheld f g view view' {o = o} {dev = dev} {i = i} v first = record {
-  bytes = first.bytes;
-  taken = Takes-more first.bytes 1 first.taken;
-  answer = λ count told. (first.answer count told).3;
-}
-
 -- ---- a whole dump: what the public call promises follows
 
 taken_off : (all : List ℕ) (after : Option (List ℕ)) (bytes : List ℕ) → Consumes (Some all) after bytes → (rest : List ℕ) × (after ≡ Some rest) × (all ≡ bytes ++ rest)

@@ -1,6 +1,6 @@
 -- The refusals of a plan and its lists, in their order, and what stands where none of them does.
 use Rattle.std.proofs.Common.{ℕ, ◌≡◌, ◌+◌, ◌<◌, ◌≤◌, ◌^◌, Bool, true, false, cond, List, [], ◌∷◌, length, map, get_or, refl, sym, ap, subst, ◌∙◌, arith, inl, inr, Option, Some, None}
-use Rattle.std.specs.Prelude.{◌==◌, ◌&&◌, ◌||◌, not, nat_lt, nat_le, option_map}
+use Rattle.std.specs.Prelude.{◌==◌, ◌&&◌, not, nat_lt, nat_le, option_map}
 use Rattle.std.specs.List.{AllByRecursion, All, list_any, list_all, position, prefix_len, zip}
 use Rattle.std.proofs.lemmas.Bool.{cases_lt, lt-ltb, eqb-true, or_parts, not-true, not-false}
 use Rattle.std.proofs.lemmas.List.{length-map}
@@ -57,10 +57,6 @@ none_pass p xs e =
     recursion_from_All (λ x. p x ≡ false) xs (λ k d lt. not-true (p (get_or xs k d)) (prefix_len_passes (λ x. not (p x)) xs k d (omega arith)))
 
 -- ---- lists
-
-pub all_mapped : {A B : Type 0} (P : B → Type 0) (f : A → B) (xs : List A) → AllByRecursion (λ x. P (f x)) xs → AllByRecursion P (map f xs)
-all_mapped P f [] h = tt
-all_mapped P f (x ∷ xs) h = (h.0, all_mapped P f xs h.1)
 
 pub all_held : {A B : Type 0} (P : B → Type 0) (f : A → B) (xs : List A) → AllByRecursion P (map f xs) → AllByRecursion (λ x. P (f x)) xs
 all_held P f [] h = tt
@@ -281,12 +277,6 @@ lent_small now kind lists e =
 -- four tests, one behind another
 pub four_first : (a b c d : Bool) → a ≡ false → false ≡ (a && b && c && d)
 four_first a b c d e = sym (ap (λ (x : Bool). x && b && c && d) e)
-
-pub four_second : (a b c d : Bool) → a ≡ true → b ≡ false → false ≡ (a && b && c && d)
-four_second a b c d e e' = sym (ap (λ (x : Bool). x && b && c && d) e ∙ ap (λ (x : Bool). x && c && d) e')
-
-pub four_third : (a b c d : Bool) → a ≡ true → b ≡ true → c ≡ false → false ≡ (a && b && c && d)
-four_third a b c d e e' e'' = sym (ap (λ (x : Bool). x && b && c && d) e ∙ ap (λ (x : Bool). x && c && d) e' ∙ ap (λ (x : Bool). x && d) e'')
 
 pub four_all : (a b c d r : Bool) → a ≡ true → b ≡ true → c ≡ true → r ≡ d → r ≡ (a && b && c && d)
 four_all a b c d r e e' e'' same = same ∙ sym (ap (λ (x : Bool). x && b && c && d) e ∙ ap (λ (x : Bool). x && c && d) e' ∙ ap (λ (x : Bool). x && d) e'')

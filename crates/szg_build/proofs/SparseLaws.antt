@@ -1,11 +1,10 @@
 -- The middles of spans, and entries that lead to them.
-use Rattle.std.proofs.Common.{ℕ, zero, suc, ◌≡◌, ◌+◌, ◌-◌, ◌*◌, ◌/◌, ◌%◌, ◌^◌, ◌<◌, ◌≤◌, List, [], ◌∷◌, ◌++◌, length, get_or, Some, refl, sym, ap, subst, ◌∙◌, arith, inl, inr}
+use Rattle.std.proofs.Common.{ℕ, zero, suc, ◌≡◌, ◌+◌, ◌-◌, ◌*◌, ◌/◌, ◌^◌, ◌<◌, ◌≤◌, List, [], ◌∷◌, ◌++◌, length, get_or, Some, refl, sym, ap, subst, ◌∙◌, arith, inl, inr}
 use Rattle.std.specs.List.{slice_get}
-use Rattle.std.proofs.Math.Nat.{mul-le-mul_right}
 use Rattle.std.proofs.lemmas.Bool.{cases_lt}
 use Rattle.szg_block.specs.Layout.{SparseEntry}
 use Rattle.szg_block.specs.Block.{start}
-use Rattle.szg_block.specs.Sound.{entry_count, middle_of_span}
+use Rattle.szg_block.specs.Sound.{middle_of_span}
 use Rattle.szg_block.proofs.Values.{start-more}
 use Rattle.szg_file.specs.Accepted.{IsEntry}
 use Rattle.szg_build.specs.Building.{IsEntryOf, IsIndexOf}
@@ -14,21 +13,6 @@ use Rattle.szg_build.proofs.LeafLaws.{all_push}
 pub middle-is : (span_bits j span : ℕ) → span ≡ 2 ^ span_bits → j * span + span / 2 ≡ middle_of_span span_bits j
 unfolding middle_of_span
 middle-is span_bits j span e = rw e refl
-
--- a span that has an entry is begun
-pub span_begun : (span_bits size j span : ℕ) → span ≡ 2 ^ span_bits → 0 < span → j < entry_count span_bits size → j * span < size
-unfolding entry_count
-span_begun span_bits size j span e some lt =
-    let p : ℕ = 2 ^ span_bits in
-    let q : ℕ = (size + p - 1) / p in
-    let room : suc j * p ≤ q * p = mul-le-mul_right p lt in
-    let next : suc j * p ≡ j * p + p = omega arith in
-    let quotient : q * p ≤ size + p - 1 = div_down (size + p - 1) p (omega (arith, e, some)) in
-    let same : j * span ≡ j * p = ap (λ (k : ℕ). j * k) e in
-    omega (arith, room, next, quotient, same, e, some)
-  where
-    div_down : (x n : ℕ) → 0 < n → x / n * n ≤ x
-    div_down x n h = let m : n * (x / n) + x % n ≡ x = omega (arith, h) in let t : x / n * n ≡ n * (x / n) = omega arith in omega (arith, m, t)
 
 pub middle-next : (span_bits j : ℕ) → middle_of_span span_bits j ≤ middle_of_span span_bits (j + 1)
 unfolding middle_of_span

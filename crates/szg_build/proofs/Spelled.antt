@@ -17,9 +17,6 @@ AreClean bytes = AllByRecursion IsClean bytes
 
 -- ---- words
 
-words_of-space : (bytes : List ℕ) → words_of (32 ∷ bytes) ≡ [] ∷ words_of bytes
-words_of-space bytes = refl
-
 words_of-other : (byte : ℕ) (bytes : List ℕ) → (byte == 32) ≡ false → words_of (byte ∷ bytes) ≡ with_byte byte (words_of bytes)
 words_of-other byte bytes e = rw (e, words_of) refl
 

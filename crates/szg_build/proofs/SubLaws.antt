@@ -1,10 +1,9 @@
 -- Subtables of lists of values: constant ones, and those that are made of pairs.
-use Rattle.std.proofs.Common.{ℕ, ◌≡◌, ◌+◌, ◌<◌, ◌≤◌, List, length, replicate, Result, Ok, Err, refl, sym, subst, arith}
+use Rattle.std.proofs.Common.{ℕ, ◌<◌, ◌≤◌, List, Result, Ok, Err, sym, subst}
 use Rattle.std.specs.Prelude.{IfOk}
 use Rattle.szg_values.specs.declared.Kind.{Kind}
 use Rattle.szg_file.specs.Contents.{Subtable, constant, pairs}
 use Rattle.szg_file.specs.Accepted.{IsPacked}
-use Rattle.szg_file.specs.Values.{constant_value}
 use Rattle.szg_build.specs.Building.{IsMadeSub, IsBuiltSub}
 use Rattle.szg_build.proofs.MadeLaws.{made_stands, made_values, made_pairs}
 
@@ -17,15 +16,6 @@ made_is_built kind flags values block_bits span_bits rounds (pairs head sparse l
   expands = made_values values flags block_bits span_bits rounds head sparse lengths packed h;
   flags_kept = h.flags_kept;
   packed = (h.block_bits_kept, h.span_bits_kept, made_pairs values flags block_bits span_bits rounds head sparse lengths packed h);
-}
-
-pub constant_is_built : (kind : Kind) (flags byte : ℕ) (values : List ℕ) (block_bits span_bits rounds : ℕ) → values ≡ replicate (length values) (constant_value kind byte) → flags < 32 → byte < 256 →
-    IsBuiltSub kind flags values block_bits span_bits rounds (constant (flags + 128) byte)
-constant_is_built kind flags byte values block_bits span_bits rounds same small fits = record {
-  stands = λ slot size. (omega arith, omega (arith, small), fits);
-  expands = sym same;
-  flags_kept = refl;
-  packed = tt;
 }
 
 -- what follows of each value that was made

@@ -378,12 +378,6 @@ zeros (suc n) = let more = zeros n in (ap suc more.0, (omega arith, more.1))
 pub zeros_fit : (n : ℕ) (fill : List ℕ) → fill ≡ replicate n 0 → AreBytes n fill
 zeros_fit n fill e = subst (λ (z : List ℕ). AreBytes n z) (sym e) (zeros n)
 
--- a flags byte at a place, or none
-pub flag_small : (flags : List ℕ) (n : ℕ) → AllByRecursion (λ byte. byte < 32) flags → get_or flags n 0 < 32
-flag_small [] n h = omega arith
-flag_small (byte ∷ flags) zero h = h.0
-flag_small (byte ∷ flags) (suc n) h = flag_small flags n h.1
-
 -- ---- refusals
 
 pub order_told : (plan : Plan) (lists : List (List ℕ)) → AllByRecursion IsOfBytes plan.parts → ¬ SideBySide (λ _. IsPart plan.material plan.kind) (part_numbers plan.material) plan.parts →

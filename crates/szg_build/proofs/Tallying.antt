@@ -1,11 +1,9 @@
 -- How a body counts and replaces pairs symbol by symbol: a tally that is carried over the list, and a place in it.
-use Rattle.std.proofs.Common.{ℕ, suc, ◌≡◌, ◌+◌, ◌<◌, Bool, true, false, List, [], ◌∷◌, ◌++◌, length, drop, get_or, refl, sym, ap, ◌∙◌, arith, inl, inr, cond}
+use Rattle.std.proofs.Common.{ℕ, suc, ◌≡◌, ◌+◌, Bool, true, false, List, [], ◌∷◌, ◌++◌, refl, sym, ap, ◌∙◌, arith, cond}
 use Rattle.std.specs.Prelude.{◌==◌, ◌&&◌}
-use Rattle.std.proofs.Math.Seq.{drop-cons}
-use Rattle.std.proofs.lemmas.List.{drop_all}
-use Rattle.std.proofs.lemmas.Bool.{eq-eqb, eqb-true, cases_lt}
-use Rattle.szg_build.specs.Pairing.{pair_count, replaced}
-use Rattle.szg_build.proofs.PairingLaws.{replaced-here, replaced-later, pair_count-here, pair_count-later}
+use Rattle.std.proofs.lemmas.Bool.{eq-eqb, eqb-true}
+use Rattle.szg_build.specs.Pairing.{pair_count}
+use Rattle.szg_build.proofs.PairingLaws.{pair_count-here, pair_count-later}
 
 -- how often the pair was counted, and whether the symbol read last is a left one that is still free
 pub record Tally : Type 0 where
@@ -67,42 +65,3 @@ none_yet = record { count = 0; waits = false }
 pub tally-pair_count : (left right : ℕ) (symbols : List ℕ) → (tally left right none_yet symbols).count ≡ pair_count left right symbols
 unfolding begun
 tally-pair_count left right symbols = let e : (tally left right none_yet symbols).count ≡ 0 + pair_count left right symbols = tally-from left right symbols 0 false in omega (arith, e)
-
--- ---- replacing at a place
-
-both_test : (left right s t : ℕ) → s ≡ left → t ≡ right → ((s == left) && (t == right)) ≡ true
-both_test left right s t p q = rw (eq-eqb s left p, eq-eqb t right q) refl
-
--- the pair stands at place i
-pub replaced_pair_at : (left right new : ℕ) (s : List ℕ) (i : ℕ) → i + 1 < length s → get_or s i 0 ≡ left → get_or s (i + 1) 0 ≡ right →
-    replaced left right new (drop i s) ≡ new ∷ replaced left right new (drop (i + 2) s)
-replaced_pair_at left right new s i inside p q =
-    let a : suc i ≡ i + 1 = omega arith in
-    let b : suc (suc i) ≡ i + 2 = omega arith in
-    let first : drop i s ≡ get_or s i 0 ∷ drop (suc i) s = drop-cons s i 0 (omega (arith, inside)) in
-    let second : drop (suc i) s ≡ get_or s (suc i) 0 ∷ drop (suc (suc i)) s = drop-cons s (suc i) 0 (omega (arith, inside)) in
-    let r : get_or s (suc i) 0 ≡ right = ap (λ (k : ℕ). get_or s k 0) a ∙ q in
-    ap (replaced left right new) (first ∙ ap (λ (z : List ℕ). get_or s i 0 ∷ z) second)
-    ∙ replaced-here left right new (get_or s i 0) (get_or s (suc i) 0) (drop (suc (suc i)) s) (both_test left right (get_or s i 0) (get_or s (suc i) 0) p r)
-    ∙ ap (λ (k : ℕ). new ∷ replaced left right new (drop k s)) b
-
--- another symbol stands behind place i, or none
-pub replaced_one_at : (left right new : ℕ) (s : List ℕ) (i : ℕ) → i < length s → (i + 1 < length s → ((get_or s i 0 == left) && (get_or s (i + 1) 0 == right)) ≡ false) →
-    replaced left right new (drop i s) ≡ get_or s i 0 ∷ replaced left right new (drop (i + 1) s)
-replaced_one_at left right new s i inside other =
-    let a : suc i ≡ i + 1 = omega arith in
-    let first : drop i s ≡ get_or s i 0 ∷ drop (suc i) s = drop-cons s i 0 inside in
-    ap (replaced left right new) first
-    ∙ elim (cases_lt (i + 1) (length s)) [
-      | inl more ↦
-          let second : drop (suc i) s ≡ get_or s (suc i) 0 ∷ drop (suc (suc i)) s = drop-cons s (suc i) 0 (omega (arith, more)) in
-          let no : ((get_or s i 0 == left) && (get_or s (suc i) 0 == right)) ≡ false = ap (λ (k : ℕ). (get_or s i 0 == left) && (get_or s k 0 == right)) a ∙ other more in
-          ap (λ (z : List ℕ). replaced left right new (get_or s i 0 ∷ z)) second
-          ∙ replaced-later left right new (get_or s i 0) (get_or s (suc i) 0) (drop (suc (suc i)) s) no
-          ∙ ap (λ (z : List ℕ). get_or s i 0 ∷ replaced left right new z) (sym second)
-      | inr last ↦
-          let none : drop (suc i) s ≡ [] = drop_all (suc i) s (omega (arith, last)) in
-          ap (λ (z : List ℕ). replaced left right new (get_or s i 0 ∷ z)) none
-          ∙ ap (λ (z : List ℕ). get_or s i 0 ∷ replaced left right new z) (sym none)
-    ]
-    ∙ ap (λ (k : ℕ). get_or s i 0 ∷ replaced left right new (drop k s)) a

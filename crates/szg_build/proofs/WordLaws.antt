@@ -1,6 +1,6 @@
 -- A line of fixed words and values is cut into them, whatever words the values are; and no other text is.
 use Rattle.std.proofs.Common.{◌≡◌, ℕ, zero, suc, Bool, true, false, List, [], ◌∷◌, ◌++◌, length, take, drop, get_or, Bor, refl, sym, ap, subst, ◌∙◌, arith, inl, inr, Option, Some, None}
-use Rattle.std.specs.Prelude.{◌==◌, ◌||◌, ◌<◌, ◌+◌, MatchOption, bytes_eq, option_map, if◌then◌else◌}
+use Rattle.std.specs.Prelude.{◌==◌, ◌<◌, ◌+◌, MatchOption, bytes_eq, option_map, if◌then◌else◌}
 use Rattle.std.specs.List.{AllByRecursion, list_any}
 use Rattle.std.proofs.lemmas.Bool.{eqb-true, or_parts, or_from}
 use Rattle.std.proofs.lemmas.List.{take-append-le, take-append-drop, take_all}
@@ -58,9 +58,6 @@ cut_words (byte ∷ bytes) = elim (bool_cases (byte == 32)) [
 ]
 
 -- ---- patterns
-
-none_some : {A : Type 0} (x : A) → None ≡ Some x → ⊥
-none_some x e = cc e
 
 eq_words : (xs ys : List ℕ) → bytes_eq xs ys ≡ true → xs ≡ ys
 eq_words xs ys e = (bytes_eq-Decides xs ys).0 e
@@ -180,17 +177,6 @@ no_word front text rest e space word h e' =
     let same : rest ≡ word = same_behind front rest word (sym e ∙ e') in
     let never : list_any (λ byte. byte == 32) rest ≡ false = ap (λ (z : List ℕ). list_any (λ byte. byte == 32) z) same ∙ h in
     cc
-
-pub space_inside : (word rest : List ℕ) → IsWord (word ++ 32 ∷ rest) → ⊥
-space_inside [] rest h = cc h
-space_inside (byte ∷ word) rest h = space_inside word rest (or_parts (byte == 32) (list_any (λ b. b == 32) (word ++ 32 ∷ rest)) h).1
-
-pub longer_word : (text : List ℕ) (i : ℕ) → i < length text → (get_or text i 0 ≡ 32 → ⊥) → IsWord (take i text) → IsWord (take (suc i) text)
-longer_word [] i there never h = absurd (omega (arith, there))
-longer_word (byte ∷ text) zero there never h = or_from (byte == 32) false (elim (bool_cases (byte == 32)) [ inl e ↦ absurd (never (eqb-true byte 32 e)) | inr e ↦ e ]) refl
-longer_word (byte ∷ text) (suc i) there never h =
-    or_from (byte == 32) (list_any (λ b. b == 32) (take (suc i) text)) (or_parts (byte == 32) (list_any (λ b. b == 32) (take i text)) h).0
-    (longer_word text i (omega (arith, there)) never (or_parts (byte == 32) (list_any (λ b. b == 32) (take i text)) h).1)
 
 pub cut_at : (text : List ℕ) (i : ℕ) → i < length text → get_or text i 0 ≡ 32 → text ≡ take i text ++ 32 ∷ drop (suc i) text
 cut_at [] i there e = absurd (omega (arith, there))

@@ -111,23 +111,6 @@ writes_held x text o n {dev = dev} {i = i} out held = record {
 pub writes_nothing : {X W : Type 0} (x : X) {o : Outgoing} {dev : Ghosts W} {i : W} → Writing [] o o dev i i (Ok x)
 writes_nothing x {o = o} = writes_held x [] o o refl (sym (append-nil o.held.items))
 
--- What is held is given.
-pub writes_flushed : {X W : Type 0} (x : X) (o n : Outgoing) (piece : List ℕ)
-    {dev : Ghosts W} {i k : W} → piece ≡ o.held.items → n.out ≡ told (o.out + length piece) → n.held.items ≡ [] →
-    Gives dev i k piece 0 → dev.failures k ≡ dev.failures i →
-    Writing [] o n dev i k (Ok x)
-writes_flushed x o n piece {dev = dev} {i = i} {k = k} held out none given quiet = record {
-  bytes = piece;
-  given = given;
-  answer = (
-    record {
-      counts = λ count h. omega (arith, out, h);
-      whole = ap (λ (z : List ℕ). piece ++ z) none ∙ ap (λ (z : List ℕ). z ++ []) held;
-    },
-    quiet,
-  );
-}
-
 -- A fault while it is given.
 pub writes_held_stopped : {X W : Type 0} (o n : Outgoing)
     {dev : Ghosts W} {i k : W} (piece : List ℕ) (count : ℕ) (fault : WriteFault) → piece ≡ o.held.items →

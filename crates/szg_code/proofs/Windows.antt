@@ -40,11 +40,6 @@ take-front (suc l) zero xs h g = absurd (omega arith)
 take-front (suc l) (suc n) [] h g = absurd (omega arith)
 take-front (suc l) (suc n) (x ∷ xs) h g = ap (λ (u : List Bool). x ∷ u) (take-front l n xs (omega arith) (omega arith))
 
-pub front-inside : (n : ℕ) (xs : List Bool) → n ≤ length xs → front n xs ≡ take n xs
-front-inside zero xs h = refl
-front-inside (suc n) [] h = absurd (omega arith)
-front-inside (suc n) (x ∷ xs) h = ap (λ (u : List Bool). x ∷ u) (front-inside n xs (omega arith))
-
 -- the front of bytes' bits is the number of the bytes, zeros past the end
 number-front_byte : (ys : List ℕ) → get_or ys 0 0 < 256 → number (front 8 (bits ys)) ≡ get_or ys 0 0
 number-front_byte [] h = rw bits-nil refl

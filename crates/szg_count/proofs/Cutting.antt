@@ -1,28 +1,14 @@
 -- Runs by the men in front, and the lengths of groups.
-use Rattle.std.proofs.Common.{◌≡◌, ℕ, zero, suc, ◌+◌, ◌<◌, ◌≤◌, List, [], ◌∷◌, ◌++◌, length, map, get_or, take, drop, refl, sym, ap, ◌∙◌, inl, inr, ◌⊎◌, Bool, true, false, cond, arith, length-take, length-drop, length-append, append_assoc}
+use Rattle.std.proofs.Common.{◌≡◌, ℕ, zero, suc, ◌+◌, ◌<◌, ◌≤◌, List, [], ◌∷◌, ◌++◌, length, map, take, drop, refl, sym, ap, ◌∙◌, inl, inr, ◌⊎◌, Bool, true, false, cond, arith, length-take, length-drop, length-append, append_assoc}
 use Rattle.std.specs.Prelude.{◌==◌, nat_lt, sum, slice_get, Some, None}
 use Rattle.std.specs.List.{concat}
 use Rattle.std.proofs.Math.Bool.{◌&&◌}
 use Rattle.std.proofs.lemmas.List.Sums.{sum_by-cons, sum_by-append}
-use Rattle.std.proofs.lemmas.List.{drop_more, append-nil, length-map}
+use Rattle.std.proofs.lemmas.List.{append-nil, length-map}
 use Rattle.std.proofs.lemmas.Bool.{eqb-true, eq-eqb, lt-ltb}
 use Rattle.szg_count.specs.Groups.{runs_of, in_front}
 use Rattle.szg_count.specs.Steps.{leading, run_lengths, lengths_of}
 use Rattle.szg_count.proofs.Sizes.{length-runs}
-
-pub leading-le : (man : ℕ) (men : List ℕ) → leading man men ≤ length men
-leading-le man [] = omega arith
-leading-le man (x ∷ men) = taken (man == x) (leading-le man men) where
-  taken : (b : Bool) → leading man men ≤ length men → cond b (suc (leading man men)) 0 ≤ suc (length men)
-  taken true h = omega (arith, h)
-  taken false h = omega arith
-
--- the first man that is another
-pub leading-other : (man i : ℕ) (men : List ℕ) → i < length men → (man == get_or men i 0) ≡ false → leading man (drop i men) ≡ 0
-leading-other man i men h e = rw (drop_more men i 0 h, e) refl
-
-pub leading-same : (man i : ℕ) (men : List ℕ) → i < length men → (man == get_or men i 0) ≡ true → leading man (drop i men) ≡ suc (leading man (drop (i + 1) men))
-leading-same man i men h e = rw (drop_more men i 0 h, e) refl
 
 -- the runs of a list that isn't empty: a first one that begins with its first man
 record HasFirst (man : ℕ) (runs : List (List ℕ)) : Type 0 where

@@ -1,31 +1,16 @@
 -- The other direction: the text that a value's sections spell is good, and means that value.
-use Rattle.std.proofs.Common.{◌≡◌, ℕ, zero, suc, ◌+◌, ◌-◌, ◌^◌, ◌/◌, ◌<◌, ◌≤◌, Bool, true, false, cond, List, [], ◌∷◌, ◌++◌, length, take, drop, refl, sym, ap, subst, ◌∙◌, append_assoc, append-nil, arith}
-use Rattle.std.specs.Prelude.{flat_map, IsTrue, replicate}
+use Rattle.std.proofs.Common.{◌≡◌, ℕ, zero, suc, ◌+◌, ◌-◌, ◌^◌, ◌/◌, ◌<◌, ◌≤◌, Bool, true, false, List, [], ◌∷◌, ◌++◌, length, take, drop, refl, sym, ap, ◌∙◌, append-nil, arith}
+use Rattle.std.specs.Prelude.{IsTrue, replicate}
 use Rattle.std.proofs.Math.Seq.{take-length, drop-length}
 use Rattle.std.proofs.lemmas.List.{length-append, length-take, take-append-drop}
 use Rattle.szg_file.specs.declared.fault.Reason.{Reason}
-use Rattle.szg_file.specs.Format.{Format, means, field, fill, placed, good, verdict, after_fill, ◌>>=◌}
+use Rattle.szg_file.specs.Format.{Format, means, field, fill, good, verdict, after_fill, ◌>>=◌}
 use Rattle.szg_file.specs.Contents.{number_of, bytes_of, gap}
-use Rattle.szg_file.specs.File.{demand, each, filled_to, number_field}
+use Rattle.szg_file.specs.File.{demand, filled_to, number_field}
 use Rattle.szg_file.specs.FileOf.{Section, written, padding, spare, fill_of, bytes_with, asked}
 use Rattle.szg_file.specs.Accepted.{AreBytes, SideBySide}
 use Rattle.szg_file.proofs.FormatLaws.{verdict-then, good-more, continued, field-whole, fill-whole}
-use Rattle.szg_file.proofs.FileLaws.{Spells, Spells-none, Spells-then, Spells-written, Spells-fill, Any, number_of-bytes_of}
-
--- how much fill is asked depends on the length of the text alone
-asked_same : (x y : List ℕ) (s : List Section) → length x ≡ length y → asked x s ≡ asked y s
-asked_same x y [] e = refl
-asked_same x y (section ∷ s) e =
-    let k : fill_of section (length x) ≡ fill_of section (length y) = ap (fill_of section) e in
-    let bytes : bytes_with section (replicate (fill_of section (length x)) 0) ≡ bytes_with section (replicate (fill_of section (length y)) 0) =
-    ap (λ (n : ℕ). bytes_with section (replicate n 0)) k in
-    let long : length (x ++ bytes_with section (replicate (fill_of section (length x)) 0)) ≡ length (y ++ bytes_with section (replicate (fill_of section (length y)) 0)) =
-    length-append x (bytes_with section (replicate (fill_of section (length x)) 0))
-    ∙ ap (λ (n : ℕ). n + length (bytes_with section (replicate (fill_of section (length x)) 0))) e
-    ∙ ap (λ (z : List ℕ). length y + length z) bytes
-    ∙ sym (length-append y (bytes_with section (replicate (fill_of section (length y)) 0))) in
-    ap (λ (n : ℕ). n + asked (x ++ bytes_with section (replicate (fill_of section (length x)) 0)) s) k
-    ∙ ap (λ (n : ℕ). fill_of section (length y) + n) (asked_same (x ++ bytes_with section (replicate (fill_of section (length x)) 0)) (y ++ bytes_with section (replicate (fill_of section (length y)) 0)) s long)
+use Rattle.szg_file.proofs.FileLaws.{Spells, Spells-none, Spells-written, Spells-fill, Any, number_of-bytes_of}
 
 -- more sections ask for no less
 pub asked_front : (x : List ℕ) (s t : List Section) → asked x s ≤ asked x (s ++ t)
@@ -55,35 +40,6 @@ after_good f g place x y a b filled more e h =
     ∙ ap (continued g (place + length (x ++ y))) (good-more f place x y a filled [] e)
     ∙ ap (λ (n : ℕ). after_fill filled (verdict (g a) n y)) at
     ∙ ap (after_fill filled) h
-
--- the value of the first format, where the whole value is known
-pub record Split {A B : Type 0} (s : A → List Section) (t : A → B → List Section) (u : B → List Section) (P : A → Type 0) (Q : A → B → Type 0) (b : B) : Type 0 where
-  pub value : A
-  pub first : P value
-  pub other : Q value b
-  pub sections_are : u b ≡ s value ++ t value b
-
-pub complete_then : {A B : Type 0} (f : Format A) (g : A → Format B) (s : A → List Section) (t : A → B → List Section) (u : B → List Section)
-    (P : A → Type 0) (Q : A → B → Type 0) (R : B → Type 0) →
-    Complete f s P → ((a : A) → P a → Complete (g a) (t a) (Q a)) → ((b : B) → R b → Split s t u P Q b) → Complete (f >>= g) u R
-complete_then f g s t u P Q R first second split = record {
-  complete = λ place b supply text r e enough.
-      let p = split b r in
-      let whole : asked text (s p.value ++ t p.value b) ≤ length supply = subst (λ (z : List Section). asked text z ≤ length supply) p.sections_are enough in
-      let x = first.complete place p.value supply text p.first e (omega (arith, whole, asked_front text (s p.value) (t p.value b))) in
-      let c = x.spells.counted text (t p.value b) e in
-      let total : length supply ≡ length x.filled + length x.later = ap length x.supply_is ∙ length-append x.filled x.later in
-      let y = (second p.value p.first).complete (place + length x.bytes) b x.later c.0 p.other c.1 (omega (arith, c.2, whole, total)) in
-      record {
-        bytes = x.bytes ++ y.bytes;
-        filled = x.filled ++ y.filled;
-        later = y.later;
-        supply_is = x.supply_is ∙ ap (λ (z : List ℕ). x.filled ++ z) y.supply_is ∙ sym (append_assoc x.filled y.filled y.later);
-        spells = subst (λ (z : List Section). Spells place (x.bytes ++ y.bytes) z (x.filled ++ y.filled)) (sym p.sections_are)
-            (Spells-then place x.bytes y.bytes (s p.value) (t p.value b) x.filled y.filled x.spells y.spells);
-        is_good = after_good f g place x.bytes y.bytes p.value b x.filled y.filled x.is_good y.is_good;
-      };
-}
 
 pub complete_means : {A : Type 0} (a : A) → Complete (means a) (λ _. []) (λ b. b ≡ a)
 complete_means a = record {
@@ -117,17 +73,6 @@ complete_field size next back P agree = record {
             ∙ ap (λ (v : _). good v [] []) k.1;
       };
 }
-
-pub complete_placed : {A : Type 0} (next : ℕ → Format A) (s : A → List Section) (P : A → Type 0) → ((place : ℕ) → Complete (next place) s P) → Complete (placed next) s P
-complete_placed next s P h = record {
-  complete = λ place a supply text p e enough.
-      let x = (h place).complete place a supply text p e enough in
-      record { bytes = x.bytes; filled = x.filled; later = x.later; supply_is = x.supply_is; spells = x.spells; is_good = x.is_good };
-}
-
-pub complete_if : {A : Type 0} (b : Bool) (f g : Format A) (s : A → List Section) (P : A → Type 0) → (b ≡ true → Complete f s P) → (b ≡ false → Complete g s P) → Complete (cond b f g) s P
-complete_if true f g s P h k = h refl
-complete_if false f g s P h k = k refl
 
 -- fill of a section, off the front of what there is
 filled_text : {A : Type 0} (size place : ℕ) (x : A) (supply : List ℕ) (section : Section) → fill_of section place ≡ size → ((b : List ℕ) → bytes_with section b ≡ b) → size ≤ length supply →
@@ -175,25 +120,3 @@ complete_bytes size = complete_field size (λ bytes. bytes) (λ bytes. bytes) (A
 beside_none : {A B : Type 0} (P : A → B → Type 0) (ys : List B) → SideBySide P [] ys → ys ≡ []
 beside_none P [] h = refl
 beside_none P (y ∷ ys) h = absurd h
-
-beside_split : {A B : Type 0} (s : B → List Section) (P : A → B → Type 0) (x : A) (xs : List A) (zs : List B) → SideBySide P (x ∷ xs) zs →
-    Split s (λ y ws. flat_map s (drop 1 ws)) (flat_map s) (P x) (λ y ws. (ys : List B) × (ws ≡ y ∷ ys) × SideBySide P xs ys) zs
-beside_split s P x xs [] h = absurd h
-beside_split s P x xs (z ∷ zs) h = record { value = z; first = h.0; other = (zs, refl, h.1); sections_are = refl }
-
--- the formats of the items, one after another
-pub complete_each : {A B : Type 0} (format : A → Format B) (s : B → List Section) (P : A → B → Type 0) →
-    ((a : A) → Complete (format a) s (P a)) → (xs : List A) → Complete (each format xs) (flat_map s) (SideBySide P xs)
-complete_each format s P one [] = record {
-  complete = λ place ys supply text p e enough.
-      let none : ys ≡ [] = beside_none P ys p in
-      record { bytes = []; filled = []; later = supply; supply_is = refl; spells = subst (λ (z : List _). Spells place [] (flat_map s z) []) (sym none) (Spells-none place); is_good = ap (λ (v : List _). good v [] []) (sym none) };
-}
-complete_each format s P one (x ∷ xs) =
-    complete_then (format x) (λ y. each format xs >>= λ ys. means (y ∷ ys)) s (λ y zs. flat_map s (drop 1 zs)) (flat_map s)
-    (P x) (λ y zs. (ys : List _) × (zs ≡ y ∷ ys) × SideBySide P xs ys) (SideBySide P (x ∷ xs))
-    (one x)
-    (λ y _. complete_then (each format xs) (λ ys. means (y ∷ ys)) (flat_map s) (λ _ _. []) (λ zs. flat_map s (drop 1 zs)) (SideBySide P xs) (λ ys zs. zs ≡ y ∷ ys) (λ zs. (ys : List _) × (zs ≡ y ∷ ys) × SideBySide P xs ys)
-    (complete_each format s P one xs) (λ ys _. complete_means (y ∷ ys))
-    (λ zs q. record { value = q.0; first = q.2; other = q.1; sections_are = ap (λ (z : List _). flat_map s (drop 1 z)) q.1 ∙ sym (append-nil (flat_map s q.0)) }))
-    (beside_split s P x xs)

@@ -4,7 +4,7 @@ use Rattle.std.proofs.lemmas.Bool.{cases_lt}
 use Rattle.std.proofs.lemmas.List.{drop_all, length-append}
 use Rattle.szg_file.specs.Format.{Format, means, refuses, field, fill, placed, Verdict, good, refused, truncated, after_fill, verdict, ◌>>=◌}
 use Rattle.szg_file.specs.Reading.{StopsWithin, IsCut}
-use Rattle.szg_file.specs.Reads.{LeavesMore}
+use Rattle.szg_file.specs.WholeRead.{LeavesMore}
 use Rattle.szg_file.proofs.FormatLaws.{field-short, field-whole, fill-short, fill-whole, verdict-then, continued, good-more, good-split, refused-more, refused-split}
 
 pub stops-after_fill : {A : Type 0} (filled : List ℕ) (v : Verdict A) → StopsWithin v → StopsWithin (after_fill filled v)

@@ -96,17 +96,9 @@ verdict-then (placed next) g place bytes = verdict-then (next place) g place byt
 
 -- ---- what a verdict says of the bytes
 
--- a whole text, and nothing behind it
-pub record IsText {A : Type 0} (f : Format A) (place : ℕ) (bytes : List ℕ) (a : A) (filled : List ℕ) : Type 0 where
-  pub whole : verdict f place bytes ≡ good a filled []
-
 -- good fields and the whole field that fails, and nothing behind it
 pub record Fails {A : Type 0} (f : Format A) (place : ℕ) (bytes : List ℕ) (at : ℕ) (reason : Reason) : Type 0 where
   pub refusal : verdict f place bytes ≡ refused at reason []
-
--- the bytes end inside a field
-pub record EndsWithin {A : Type 0} (f : Format A) (place : ℕ) (bytes : List ℕ) : Type 0 where
-  pub cut : verdict f place bytes ≡ truncated (place + length bytes)
 
 -- what a good verdict with these first fill bytes had without them
 pub after_fill-good : {A : Type 0} (skipped : List ℕ) (v : Verdict A) (a : A) (filled rest : List ℕ) → after_fill skipped v ≡ good a filled rest →

@@ -113,12 +113,6 @@ counted {B = B} f size count place bytes a filled rest e =
           sym (ap length same) ∙ length-map rows f ∙ items-count size count (take (size * count) bytes)
     ]
 
--- a field of so many rows gives so many
-pub rows_counted : {B X R : Type 0} (f : List ℕ → B) (size count : ℕ) (view : X → List B) {o n : Front}
-    {dev : Ghosts R} {i k : R} (v : X) →
-    Reading (rows_field size count >>= λ rows. means (map f rows)) view o n dev i k (Ok v) → length (view v) ≡ count
-rows_counted f size count view {o = o} v h = counted f size count o.place h.bytes (view v) h.answer.0.filled [] h.answer.0.whole
-
 -- ---- lengths, and the checks behind them
 
 -- what was measured, or the refusal of a check

@@ -24,7 +24,7 @@ use Rattle.szg_file.specs.Opened.{Opened, opened_at, asked_after, table_of, tabl
 use Rattle.szg_file.specs.Outline.{outlined}
 use Rattle.szg_file.specs.Placed.{blocks_size, whole_sub, Fits}
 use Rattle.szg_file.specs.Reading.{Reading, Advances}
-use Rattle.szg_file.specs.Reads.{FollowsVerdict}
+use Rattle.szg_file.specs.WholeRead.{FollowsVerdict}
 use Rattle.szg_file.specs.Values.{item, found, subtable_at, constant_value, values_of}
 use Rattle.szg_file.specs.declared.fault.Reason.{Reason}
 use Rattle.szg_file.specs.declared.fault.ReadFault.{ReadFault}

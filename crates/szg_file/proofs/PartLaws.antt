@@ -3,12 +3,10 @@ use Rattle.std.proofs.Common.{map-id, ◌≡◌, ℕ, zero, suc, ◌+◌, ◌≤
 use Rattle.std.specs.List.{range_with_len}
 use Rattle.std.specs.Prelude.{Result, Ok, Err, Option, Some, None, IsNone, IfSome}
 use Rattle.std.proofs.Math.Seq.{get_or-append_seam}
-use Rattle.std.proofs.lemmas.List.{length-append, length-map}
+use Rattle.std.proofs.lemmas.List.{length-append}
 use Rattle.std.proofs.lemmas.List.FromFn.{length-map-range_with_len, map-range_with_len_more}
-use Rattle.std.specs.Prelude.{Bool, true, false, ◌&&◌, nat_le}
-use Rattle.std.proofs.lemmas.Bool.{leb-true, and_parts}
-use Rattle.szg_values.specs.Men.{code_of}
-use Rattle.szg_values.specs.Material.{Sides, IsMaterial, man_codes}
+use Rattle.std.specs.Prelude.{Bool, true, false}
+use Rattle.szg_values.specs.Material.{Sides}
 use Rattle.szg_count.specs.Groups.{Nibbles, counted, size_of, ways_of, group_ways, groups_of, product}
 use Rattle.szg_count.specs.Seen.{group_at, groups_told}
 use Rattle.szg_file.specs.Parts.{slots_with}
@@ -71,16 +69,6 @@ pub told_groups : {G F : Type 0} (fault : Option F) (groups told : G) →
 unfolding inside
 told_groups None groups told h r = ap (inside groups) (h refl)
 told_groups (Some f) groups told h r = absurd (not_both groups f r)
-
--- a material has at least three men
-pub three_men : (sides : Sides) → IsMaterial sides → 3 ≤ length (man_codes sides)
-three_men sides h =
-    let count : ℕ = length sides.first + length sides.second in
-    let least = leb-true 3 count (and_parts (nat_le 3 count) (nat_le count 6) (and_parts _ (nat_le 3 count && nat_le count 6) h).1).0 in
-    let long = length-append (map code_of sides.first) (map (λ man. 8 + code_of man) sides.second) in
-    let first = length-map sides.first code_of in
-    let second = length-map sides.second (λ man. 8 + code_of man) in
-    omega (arith, least, long, first, second)
 
 -- ---- numbers one after another
 

@@ -16,7 +16,7 @@ use Rattle.szg_file.specs.FileOf.{file_of}
 use Rattle.szg_file.specs.Accepted.{IsAccepted}
 use Rattle.szg_file.specs.Held.{Shown}
 use Rattle.szg_file.specs.Reading.{Reading, Advances, IsRefusal, IsCut, Lacking}
-use Rattle.szg_file.specs.Reads.{FollowsVerdict, IsVerdict, TookBytes, LeavesMore}
+use Rattle.szg_file.specs.WholeRead.{FollowsVerdict, IsVerdict, TookBytes, LeavesMore}
 use Rattle.szg_file.proofs.CutLaws.{leaves_more}
 use Rattle.szg_file.proofs.FormatLaws.{good-more, refused-more}
 use Rattle.szg_io.specs.declared.device.Input.{Ghosts}

@@ -6,8 +6,6 @@ use Rattle.std.proofs.lemmas.List.{drop-drop}
 use Rattle.szg_code.specs.Canonical.{CanonicalCode}
 use Rattle.szg_code.specs.Acceptance as code_rules
 use Rattle.szg_code.proofs.Deciding.{code_stands, IsCode-symbols}
-use Rattle.szg_pairs.specs.Dictionary.{IsDictionary}
-use Rattle.szg_pairs.proofs.Deciding.{first_long-None}
 use Rattle.szg_block.specs.Layout.{Layout, SparseEntry}
 use Rattle.szg_block.specs.Block.{block_at}
 use Rattle.szg_block.specs.Sound.{IsShapedLayout, IsSoundLayout}
@@ -15,16 +13,13 @@ use Rattle.szg_block.specs.FirstFault.{spells_needed}
 use Rattle.szg_block.proofs.Deciding.{has_total-true, first_bad_entry-None, spells_needed-true}
 use Rattle.szg_file.specs.Contents.{Head, layout_of, items}
 use Rattle.szg_file.specs.File.{code_with}
-use Rattle.szg_file.specs.Accepted.{IsCodeSection, IsHead, IsPacked, BlocksHold}
+use Rattle.szg_file.specs.Accepted.{IsCodeSection, IsPacked, BlocksHold}
 
 pub accepted_code : (code : CanonicalCode) → IsCodeSection code → code_rules.IsCode code
 accepted_code code h =
     IsCode-symbols code 0 (code_stands (code_with code.min_length code.max_length code.lowest 0)
     (record { some_bits = h.shortest; in_order = h.shortest_first; at_most = h.longest; each = let long = h.lengths in let order = h.shortest_first in omega (arith, long, order) })
     h.stands.0 h.stands.1)
-
-pub accepted_dictionary : (head : Head) → IsHead head → IsDictionary head.entries
-accepted_dictionary head h = first_long-None head.entries h.expand.1.0 h.expand.1.1
 
 pub accepted_shape : (size : ℕ) (head : Head) (sparse : List SparseEntry) (lengths packed : List ℕ) → IsPacked size head sparse lengths packed → IsShapedLayout (layout_of head sparse lengths) size
 accepted_shape size head sparse lengths packed h = record {

@@ -7,7 +7,7 @@ use Rattle.szg_file.specs.Format.{Format, means}
 use Rattle.szg_file.specs.File.{Begun, each}
 use Rattle.szg_file.specs.Grown.{HasCounted, begun_lengths}
 use Rattle.szg_file.specs.Reading.{Reading}
-use Rattle.szg_file.specs.Reads.{sub_lengths}
+use Rattle.szg_file.specs.WholeRead.{sub_lengths}
 use Rattle.szg_io.specs.declared.device.Input.{Ghosts}
 use Rattle.szg_file.proofs.Grown.{none_yet, one_more}
 use Rattle.szg_file.proofs.LoopReads.{each_next}

@@ -134,20 +134,6 @@ writes_same {s = s} {t = t} {o = o} {n = n} {dev = dev} {i = i} {k = k} {r = r} 
 pub Same-apart : (x y : List ℕ) → Same (written (x ++ y) ∷ []) (written x ∷ written y ∷ [])
 Same-apart x y = record { same = λ text more fill. ap (λ (z : List ℕ). joined z more fill) (sym (append_assoc text x y)) }
 
-pub Same-then : (s s' t t' : List Section) → Same s s' → Same t t' → Same (s ++ t) (s' ++ t')
-Same-then s s' t t' p q = record {
-  same = λ text more fill.
-      ap (λ (z : List Section). joined text z fill) (append_assoc s t more)
-      ∙ p.same text (t ++ more) fill
-      ∙ behind s' t t' q text more fill
-      ∙ ap (λ (z : List Section). joined text z fill) (sym (append_assoc s' t' more));
-}
-  where
-    behind : (r t t' : List Section) → Same t t' → (text : List ℕ) (more : List Section) (fill : List ℕ) → joined text (r ++ (t ++ more)) fill ≡ joined text (r ++ (t' ++ more)) fill
-    behind [] t t' q text more fill = q.same text more fill
-    behind (section ∷ r) t t' q text more fill =
-        behind r t t' q (text ++ bytes_with section (take (fill_of section (length text)) fill)) more (drop (fill_of section (length text)) fill)
-
 -- items written one after another, and as one piece
 joined-items : {A : Type 0} (f : A → List ℕ) (xs : List A) (text : List ℕ) (more : List Section) (fill : List ℕ) →
     joined text (flat_map (λ x. written (f x) ∷ []) xs ++ more) fill ≡ joined (text ++ flat_map f xs) more fill

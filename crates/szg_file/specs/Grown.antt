@@ -10,7 +10,7 @@ use Rattle.szg_file.specs.declared.table.Map.{Map}
 use Rattle.szg_file.specs.File.{Begun}
 use Rattle.szg_file.specs.Held.{part_of, subtable_of, map_of}
 use Rattle.szg_file.specs.Lengths.{part_length}
-use Rattle.szg_file.specs.Reads.{sub_lengths, map_lengths}
+use Rattle.szg_file.specs.WholeRead.{sub_lengths, map_lengths}
 
 -- The lists handed in have `before` items, those given `after`: with the fill they have grown by no more than was counted.
 abbrev pub HasCounted : Front → Front → ℕ → ℕ → Type 0

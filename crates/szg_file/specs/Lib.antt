@@ -6,7 +6,7 @@ pub mod Accepted
 pub mod Laws
 pub mod Values
 pub mod Reading
-pub mod Reads
+pub mod WholeRead
 pub mod Grown
 pub mod Held
 pub mod Parts

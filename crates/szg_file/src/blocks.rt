@@ -6,12 +6,11 @@ ghost use Rattle.szg_file.specs.File.{each, block_field, blocks_from, blocks_fie
 ghost use Rattle.szg_file.specs.Held.{subtable_of};
 ghost use Rattle.szg_file.specs.Reading.{Reading};
 ghost use Rattle.szg_file.specs.Grown.{HasCounted, begun_lengths, subs_lengths};
-ghost use Rattle.szg_file.specs.Reads.{sub_lengths};
+ghost use Rattle.szg_file.specs.WholeRead.{sub_lengths};
 
 use crate::begun::Measured;
 use crate::fault::{ReadFault, Reason};
-use crate::fields::append;
-use crate::front::Front;
+use crate::front::{Front, append};
 use crate::taking::{take_fill, take_more};
 use std::alloc::Global;
 use szg_block::{Sub, check_block_from};

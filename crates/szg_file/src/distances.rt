@@ -3,6 +3,7 @@ ghost use Rattle.std.specs.Prelude.{◌≡◌, ◌<◌, option_map, IsTrue, Some
 ghost use Rattle.szg_file.specs.Held.{map_of};
 ghost use Rattle.szg_file.specs.Values.{list_number as list_of_class, mapped, in_plies as told_in_plies, distance, number_at as number_of};
 
+use crate::flags::has_bit;
 use crate::table::Map;
 
 /// Which of a map's lists has a class's values: none for a draw.
@@ -32,13 +33,14 @@ fn map_item(map: &Map, list: usize, v: u16) -> Option<u16>
     }
 }
 
-/// Whether the numbers of this list count plies: with flag 4 those of wins, with flag 8 those of losses.
+/// Whether the numbers of this list count plies: with bit 2 (flag 4) those of wins, with bit 3 (flag 8)
+/// those of losses.
 fn in_plies(flags: u8, list: usize) -> bool
     ensures { result ≡ told_in_plies flags list }
 {
     match list {
-        0 => flags / 4 % 2 == 1,
-        1 => flags / 8 % 2 == 1,
+        0 => has_bit(2, flags),
+        1 => has_bit(3, flags),
         _ => false,
     }
 }

@@ -1,4 +1,5 @@
-ghost use Rattle.std.specs.Prelude.{◌≡◌, ◌+◌, ◌*◌, ◌^◌, ◌≤◌, ◌<◌, [], OnOk, OnErr, Err};
+//! How far the reading has come, and lists that grow while it goes on.
+ghost use Rattle.std.specs.Prelude.{◌≡◌, ◌+◌, ◌*◌, ◌^◌, ◌≤◌, ◌<◌, ◌∷◌, [], ◌++◌, OnOk, OnErr, Err};
 
 use crate::fault::ReadFault;
 use std::alloc::Global;
@@ -48,5 +49,20 @@ pub fn grow<T>(list: &mut Vec<T>, more: usize, front: &mut Front) -> Result<(), 
         return Err(ReadFault::Memory);
     }
     front.growth += more as u64;
+    Ok(())
+}
+
+/// Appends an item.
+pub fn append<T: Drop>(list: &mut Vec<T>, item: T, front: &mut Front) -> Result<(), ReadFault>
+    requires paid { front.old.growth ≤ 2 * front.old.place + 2 ^ 15 }
+    requires place { front.old.place < 2 ^ 62 }
+    ensures items { OnOk result (list.new.items ≡ list.old.items ++ item ∷ []) }
+    ensures growth { OnOk result (front.new.growth ≡ front.old.growth + 1) }
+    ensures place { OnOk result (front.new.place ≡ front.old.place) }
+    ensures fill { OnOk result (front.new.fill.items ≡ front.old.fill.items) }
+    ensures memory { OnErr result (result ≡ Err ReadFault.Memory) }
+{
+    grow(list, 1, front)?;
+    list.push(item)?;
     Ok(())
 }

@@ -7,13 +7,13 @@ ghost use Rattle.szg_file.specs.HeadPieces.{sizes_field, entries_field, Refuses,
 ghost use Rattle.szg_file.specs.Held.{subtable_of, IsHeaded};
 ghost use Rattle.szg_file.specs.Reading.{Reading};
 ghost use Rattle.szg_file.specs.Grown.{HasCounted, begun_lengths};
-ghost use Rattle.szg_file.specs.Reads.{sub_lengths};
+ghost use Rattle.szg_file.specs.WholeRead.{sub_lengths};
 
 use crate::begun::{Begun, Slot};
 use crate::fault::{ReadFault, Reason};
-use crate::fields::{append, has_flag, read_byte, read_number};
-use crate::front::Front;
-use crate::taking::{take_entries, take_field, take_numbers, take_spare};
+use crate::flags::has_bit;
+use crate::front::{Front, append};
+use crate::taking::{read_byte, read_number, take_entries, take_field, take_numbers, take_spare};
 use byteorder::{ByteOrder, LittleEndian};
 use std::alloc::Global;
 use szg_block::Sub;
@@ -66,7 +66,7 @@ fn read_head<R: Input>(
     ensures grown { IfOk result (λ begun. HasCounted front.old front.new 0 (sub_lengths begun.subtable)) }
 {
     let flags = read_byte(input, front)?;
-    if has_flag(7, flags) {
+    if has_bit(7, flags) {
         let byte = read_byte(input, front)?;
         return Ok(Begun {
             slot,
@@ -222,11 +222,11 @@ fn read_lowest<R: Input>(
 {
     let place = front.place;
     let lowest = take_numbers(alloc, u64::from(max + 1 - min), input, front)?;
-    check_lowest(place, min, max, lowest)
+    code_of_lowest(place, min, max, lowest)
 }
 
 /// The code, without symbols, of lowest symbols that stand at a place.
-fn check_lowest(place: u64, min: u8, max: u8, lowest: Vec<u16>) -> Result<Code, ReadFault>
+fn code_of_lowest(place: u64, min: u8, max: u8, lowest: Vec<u16>) -> Result<Code, ReadFault>
     requires some { 1 ≤ min }
     requires in_order { min ≤ max }
     requires most { max ≤ 32 }
@@ -297,11 +297,11 @@ fn read_entries<R: Input>(
 {
     let place = front.place;
     let entries = take_entries(alloc, u64::from(count), input, front)?;
-    check_entries(alloc, place, entries)
+    dict_of_entries(alloc, place, entries)
 }
 
 /// The dictionary of entries that stand at a place.
-fn check_entries(alloc: Global, place: u64, entries: Vec<[u8; 3]>) -> Result<Dict, ReadFault>
+fn dict_of_entries(alloc: Global, place: u64, entries: Vec<[u8; 3]>) -> Result<Dict, ReadFault>
     requires count { length entries.items ≤ 65535 }
     requires place { place < 2 ^ 62 }
     ensures dict { IfOk result (λ dict. dict ≡ entries.items) }

@@ -1,6 +1,6 @@
 ghost use Rattle.szg_file.specs.Format.{verdict};
 ghost use Rattle.szg_file.specs.File.{file};
-ghost use Rattle.szg_file.specs.Reads.{IsVerdict};
+ghost use Rattle.szg_file.specs.WholeRead.{IsVerdict};
 
 use crate::fault::ReadFault;
 use crate::reading::read;

@@ -1,18 +1,16 @@
 ghost use Rattle.std.specs.Prelude.{◌≡◌, ◌+◌, ◌*◌, ◌≤◌, ◌<◌, ◌^◌, ◌∷◌, [], ◌++◌, Err, length, map, OnOk, OnErr, IfOk, IfSome, IfNone, None};
-ghost use Rattle.szg_block.specs.Sound.{entry_count};
 ghost use Rattle.szg_block.specs.Subtable.{layout_of, IsShapedHead};
 ghost use Rattle.szg_file.specs.File.{each, sparse_field, lengths_field, index_check};
 ghost use Rattle.szg_file.specs.Reading.{Reading, Checks};
 ghost use Rattle.szg_file.specs.Grown.{HasCounted, begun_lengths};
-ghost use Rattle.szg_file.specs.Reads.{sub_lengths};
+ghost use Rattle.szg_file.specs.WholeRead.{sub_lengths};
 
 use crate::begun::{Begun, Indexed, Measured};
 use crate::fault::{ReadFault, Reason};
-use crate::fields::append;
-use crate::front::Front;
+use crate::front::{Front, append};
 use crate::taking::{take_numbers, take_sparse};
 use std::alloc::Global;
-use szg_block::{Sub, SubFault, check_index};
+use szg_block::{Sub, SubFault, check_index, entry_count};
 use szg_io::Input;
 
 /// Takes the sparse index of each subtable that isn't constant.
@@ -62,21 +60,9 @@ fn read_index<R: Input>(
     } = &mut sub
     {
         index = front.place;
-        *sparse = take_sparse(alloc, span_count(*span_bits, slot.size), input, front)?;
+        *sparse = take_sparse(alloc, entry_count(slot.size, *span_bits), input, front)?;
     }
     Ok(Indexed { slot, sub, index })
-}
-
-/// The number of spans begun: a sparse index has an entry for each.
-fn span_count(span_bits: u8, size: u64) -> u64
-    requires some { 1 ≤ span_bits }
-    requires most { span_bits ≤ 31 }
-    requires size { size < 2 ^ 33 }
-    ensures count { result ≡ entry_count span_bits size }
-    ensures most { result ≤ 2 ^ 33 }
-{
-    let span = 1_u64 << span_bits;
-    (size + span - 1) / span
 }
 
 /// Takes the lengths of each subtable that isn't constant.

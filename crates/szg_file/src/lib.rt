@@ -8,7 +8,7 @@ mod blocks;
 mod distances;
 mod dropping;
 mod fault;
-mod fields;
+mod flags;
 mod forward;
 mod front;
 mod heads;

@@ -2,7 +2,6 @@
 ghost use Rattle.std.specs.Prelude.{◌≡◌, ◌&&◌, nat_eq, position};
 ghost use Rattle.szg_file.specs.Values.{constant_value as constant_of};
 ghost use Rattle.szg_file.specs.Held.{subtable_of};
-ghost use Rattle.szg_file.specs.File.{flags_of as flags_byte};
 ghost use Rattle.szg_file.specs.Lookup.{byte_of};
 
 use crate::begun::Slot;
@@ -32,14 +31,5 @@ pub fn constant_value(kind: Kind, sub: &Sub) -> u16
     match (kind, sub) {
         (Kind::Wdl, Sub::Constant { byte, .. }) => u16::from(*byte),
         _ => 0,
-    }
-}
-
-/// The flags byte of a subtable.
-pub fn flags_of(sub: &Sub) -> u8
-    ensures { result ≡ flags_byte (subtable_of sub.now) }
-{
-    match sub {
-        Sub::Constant { flags, .. } | Sub::Pairs { flags, .. } => *flags,
     }
 }

@@ -4,15 +4,14 @@ ghost use Rattle.szg_file.specs.File.{each, list_field, map_lists, map_field, ma
 ghost use Rattle.szg_file.specs.Held.{map_of};
 ghost use Rattle.szg_file.specs.Reading.{Reading};
 ghost use Rattle.szg_file.specs.Grown.{HasCounted, maps_lengths};
-ghost use Rattle.szg_file.specs.Reads.{map_lengths};
+ghost use Rattle.szg_file.specs.WholeRead.{map_lengths};
 
 use crate::begun::Begun;
 use crate::fault::ReadFault;
-use crate::fields::{append, has_flag, read_byte, read_number};
-use crate::front::Front;
-use crate::lookup::flags_of;
+use crate::flags::{flags_of, has_bit};
+use crate::front::{Front, append};
 use crate::table::Map;
-use crate::taking::{take_bytes, take_fill, take_numbers};
+use crate::taking::{read_byte, read_number, take_bytes, take_fill, take_numbers};
 use std::alloc::Global;
 use szg_io::Input;
 use szg_values::Kind;
@@ -97,14 +96,14 @@ fn read_map<R: Input>(
     ensures grown { IfOk result (λ found. HasCounted front.old front.new 0 (map_lengths (option_map map_of found))) }
 {
     let flags = flags_of(&begun.sub);
-    if !has_flag(1, flags) {
+    if !has_bit(1, flags) {
         return Ok(None);
     }
     let lists = read_lists(alloc, flags, input, front)?;
     Ok(Some(lists))
 }
 
-/// Takes a map: with bit 4 of the flags its lists are wide and begin at an even place.
+/// Takes a map: with bit 4 of the flags (flag 16) its lists are wide and begin at an even place.
 fn read_lists<R: Input>(
     alloc: Global,
     flags: u8,
@@ -118,7 +117,7 @@ fn read_lists<R: Input>(
     ensures growth { OnOk result (front.new.growth + 2 * front.old.place ≤ front.old.growth + 2 * front.new.place) }
     ensures grown { IfOk result (λ lists. HasCounted front.old front.new 0 (map_lengths (Some (map_of lists)))) }
 {
-    if has_flag(4, flags) {
+    if has_bit(4, flags) {
         take_fill(alloc, 2, input, front)?;
         let lists = read_wide_lists(alloc, input, front)?;
         return Ok(Map::Wide(lists));

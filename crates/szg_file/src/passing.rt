@@ -6,8 +6,7 @@ ghost use Rattle.szg_file.specs.Assembled.{IsTyped};
 ghost use Rattle.szg_file.specs.Held.{sparse_of, subtable_of, map_of};
 
 use crate::begun::Slot;
-use crate::fields::has_flag;
-use crate::lookup::flags_of;
+use crate::flags::{flags_of, has_bit};
 use crate::table::Map;
 use szg_block::{Entry, Sub, check, shaped};
 use szg_pairs::Dict;
@@ -164,13 +163,14 @@ fn wide_lists_fit(lists: &[Vec<u16>; 4]) -> bool
     true
 }
 
-/// Whether a map is just what the flags of the part's subtable ask for: with bit 1 a map, with bit 4 a wide one.
+/// Whether a map is just what the flags of the part's subtable ask for: with bit 1 (flag 2) a map, with bit 4 (flag 16) a wide
+/// one.
 fn map_stands(sub: &Sub, map: &Option<Map>) -> bool
     ensures { IsTrue result ↔ IsMapOf (subtable_of sub.now) (option_map map_of map.now) }
 {
     let flags = flags_of(sub);
-    let mapped = has_flag(1, flags);
-    let wide = has_flag(4, flags);
+    let mapped = has_bit(1, flags);
+    let wide = has_bit(4, flags);
     match map {
         None => !mapped,
         Some(Map::Bytes(lists)) => mapped && !wide && short_lists_fit(lists),

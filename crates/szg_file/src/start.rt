@@ -6,7 +6,7 @@ ghost use Rattle.szg_file.specs.Reading.{Reading, start_field};
 ghost use Rattle.szg_file.specs.Grown.{HasCounted};
 
 use crate::fault::{ReadFault, Reason};
-use crate::fields::has_flag;
+use crate::flags::has_bit;
 use crate::front::Front;
 use crate::taking::take_field;
 use szg_io::Input;
@@ -51,7 +51,7 @@ fn read_magic<R: Input>(kind: Kind, input: &mut R, front: &mut Front) -> Result<
 pub fn pawns_as(material: &Material, byte: u8) -> bool
     ensures { result ≡ agrees (has_bit 1 byte) (has_pawns material.now) }
 {
-    has_flag(1, byte) == material.has_pawns()
+    has_bit(1, byte) == material.has_pawns()
 }
 
 /// Whether bit 0 of a WDL file says whether there are two sides; a DTZ file's is carried.
@@ -59,7 +59,7 @@ pub fn splits_as(material: &Material, kind: Kind, byte: u8) -> bool
     ensures { result ≡ split_agrees material.now kind byte }
 {
     match kind {
-        Kind::Wdl => has_flag(0, byte) != material.symmetric(),
+        Kind::Wdl => has_bit(0, byte) != material.symmetric(),
         Kind::Dtz => true,
     }
 }

@@ -1,7 +1,8 @@
+//! What readers take from a device: fields, numbers, lists and fill.
 ghost use Rattle.std.specs.Prelude.{◌≡◌, ◌+◌, ◌*◌, ◌≤◌, ◌<◌, ◌^◌, ◌/◌, length, map, take, drop, Err, OnOk, IfOk, OnErr, IsErrOf};
 ghost use Rattle.szg_file.specs.Format.{field, means};
 ghost use Rattle.szg_file.specs.Contents.{number_of, items};
-ghost use Rattle.szg_file.specs.File.{filled_to, rows_field, entry_of_bytes};
+ghost use Rattle.szg_file.specs.File.{filled_to, rows_field, entry_of_bytes, number_field};
 ghost use Rattle.szg_file.specs.Held.{sparse_of, numbers_field, sparse_rows, spare_field};
 ghost use Rattle.szg_file.specs.Reading.{Reading};
 ghost use Rattle.szg_file.specs.Grown.{HasCounted};
@@ -39,6 +40,32 @@ pub fn take_field<R: Input>(
     }
     front.place += got as u64;
     Ok(())
+}
+
+/// Takes a byte.
+pub fn read_byte<R: Input>(input: &mut R, front: &mut Front) -> Result<u8, ReadFault>
+    requires { front.old.place < 2 ^ 62 }
+    ensures byte { Reading (number_field 1) (λ byte. byte) front.old front.new R.Input input.old input.new result }
+    ensures place { OnOk result (front.new.place ≡ front.old.place + 1) }
+    ensures growth { OnOk result (front.new.growth ≡ front.old.growth) }
+    ensures grown { OnOk result (HasCounted front.old front.new 0 0) }
+{
+    let mut piece = [0; 1];
+    take_field(input, front, &mut piece)?;
+    Ok(piece[0])
+}
+
+/// Takes a number of two bytes.
+pub fn read_number<R: Input>(input: &mut R, front: &mut Front) -> Result<u16, ReadFault>
+    requires { front.old.place < 2 ^ 62 }
+    ensures number { Reading (number_field 2) (λ number. number) front.old front.new R.Input input.old input.new result }
+    ensures place { OnOk result (front.new.place ≡ front.old.place + 2) }
+    ensures growth { OnOk result (front.new.growth ≡ front.old.growth) }
+    ensures grown { OnOk result (HasCounted front.old front.new 0 0) }
+{
+    let mut piece = [0; 2];
+    take_field(input, front, &mut piece)?;
+    Ok(LittleEndian::read_u16(&piece))
 }
 
 /// The most bytes that a list takes at a time: half of what lists may run ahead of their bytes, so that there is room for

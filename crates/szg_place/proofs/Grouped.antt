@@ -185,7 +185,3 @@ takes_all [] zero h = refl
 takes_all [] (suc i) h = refl
 takes_all (set ∷ sets) zero h = absurd (omega (arith, h))
 takes_all (set ∷ sets) (suc i) h = ap (λ l. set ∷ l) (takes_all sets i (omega (arith, h)))
-
-pub lead_first_set : (sides : Sides) (men : List ℕ) (pieces : List Piece) → get_or (squares_by_group sides (groups_of sides men) pieces) 0 [] ≡ lead_squares sides (take (lead_length sides) men) pieces
-unfolding groups_of squares_by_group
-lead_first_set sides men pieces = refl

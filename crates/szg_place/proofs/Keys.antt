@@ -351,9 +351,3 @@ pub other_if : (sides : Sides) (board : Board) (list : List Standing) (key turne
 other_if sides board list key turned own h e sound k l o p q =
     other_keys sides board h (none_is (placement_fault board.standing) (subst (λ (s : List Standing). IsNone (placement_fault s)) e sound))
     (not_if sides false board list key own e k o p) (not_if sides true board list turned own e l o q)
-
-pub out_if : {X : Type 0} (b : Bool) → b ≡ false → (X → b ≡ true) → X → ⊥
-out_if true e f x = cc
-out_if false e f x = not_here (f x) where
-  not_here : false ≡ true → ⊥
-  not_here e = cc

@@ -74,10 +74,6 @@ king_letter_at (c ∷ cs) found l h e =
     let g : (c == 75) ≡ true = eq-eqb c 75 h in
     rw (e, t, g) refl
 
-pub not_king_letter_at : (cs : List ℕ) → get_or cs 0 0 ≢ 75 → false ≡ king_letter_first cs
-not_king_letter_at [] h = refl
-not_king_letter_at (c ∷ cs) h = let g : (c == 75) ≡ false = grind (arith, nat_tests) in rw g refl
-
 -- ---- order
 
 abbrev pub code_at : ℕ → ℕ

@@ -130,10 +130,6 @@ checks spelled sides =
 all_five : (a b c d : Bool) → a ≡ true → b ≡ true → c ≡ true → d ≡ true → (a && b && c && d) ≡ true
 all_five a b c d p q r s = rw (p, q, r, s) refl
 
-parsed-checks : (text : List ℕ) → parsed text ≡ checks (is_spelled text) (sides_of text)
-unfolding parsed
-parsed-checks text = refl
-
 pub named : (text : List ℕ) (sides : Sides) → parsed text ≡ Ok sides → (name_of sides ≡ text) × IsMaterial sides
 unfolding parsed
 named text sides h =

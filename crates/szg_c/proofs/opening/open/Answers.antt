@@ -3,7 +3,7 @@ use Rattle.szg_values.specs.declared.Kind.{Kind}
 use Rattle.szg_file.specs.declared.fault.ReadFault.{ReadFault}
 use Rattle.szg_file.specs.Format.{verdict}
 use Rattle.szg_file.specs.File.{file}
-use Rattle.szg_file.specs.Reads.{IsVerdict}
+use Rattle.szg_file.specs.WholeRead.{IsVerdict}
 use Rattle.szg_c.specs.Told.{Finds, Refuses}
 use Rattle.szg_c.proofs.opening.open.Goals as goal
 

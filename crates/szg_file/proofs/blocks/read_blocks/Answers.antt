@@ -11,7 +11,7 @@ use Rattle.szg_file.specs.Held.{subtable_of}
 use Rattle.szg_file.proofs.ReadingLaws.{reads_nothing}
 use Rattle.szg_file.proofs.Taken.{reads_as, reads_equal}
 use Rattle.szg_file.proofs.LoopReads.{each_next, each_stops, reads_lacking}
-use Rattle.szg_file.specs.Reads.{sub_lengths}
+use Rattle.szg_file.specs.WholeRead.{sub_lengths}
 use Rattle.std.proofs.lemmas.List.Sums.{sum_by_push}
 use Rattle.szg_file.proofs.Grown.{none_yet, one_more}
 use Rattle.szg_file.proofs.blocks.read_blocks.Goals as goal

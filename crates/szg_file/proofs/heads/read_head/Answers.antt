@@ -13,17 +13,17 @@ use Rattle.szg_file.proofs.heads.read_head.Goals as goal
 pub returns-in_err-byte-clause-head : goal.returns-in_err-byte-clause-head
 returns-in_err-byte-clause-head g c =
     let flags = c.in_ok-flags.flags in
-    let set : has_bit 7 flags ≡ true = sym c.has_flag.ensures ∙ c.if-has_flag.true in
+    let set : has_bit 7 flags ≡ true = sym c.has_bit.ensures ∙ c.if-has_bit.true in
     let p = err_from_is_err_and c.from_residual-in_err-byte.result c.from_residual-in_err-byte.ensures.1 in
     rw (p.1, p.2)
     (reads_then (number_field 1) after_flags (λ b. b) (λ (begun : Begun). begun.subtable) flags c.in_ok-flags.ensures.byte
     (rw (constant_behind flags set)
     (reads_stopped (number_field 1) (λ byte. means (constant flags byte)) (λ b. b) (λ (begun : Begun). begun.subtable) c.in_err-byte.field-0.0 c.in_err-byte.ensures.byte)))
 
-pub returns-then-has_flag-clause-head : goal.returns-then-has_flag-clause-head
-returns-then-has_flag-clause-head g c =
+pub returns-then-has_bit-clause-head : goal.returns-then-has_bit-clause-head
+returns-then-has_bit-clause-head g c =
     let flags = c.in_ok-flags.flags in
-    let set : has_bit 7 flags ≡ true = sym c.has_flag.ensures ∙ c.if-has_flag.true in
+    let set : has_bit 7 flags ≡ true = sym c.has_bit.ensures ∙ c.if-has_bit.true in
     reads_then (number_field 1) after_flags (λ b. b) (λ (begun : Begun). begun.subtable) flags c.in_ok-flags.ensures.byte
     (rw (constant_behind flags set)
     (reads_then (number_field 1) (λ byte. means (constant flags byte)) (λ b. b) (λ (begun : Begun). begun.subtable) c.in_ok-byte.byte c.in_ok-byte.ensures.byte
@@ -33,7 +33,7 @@ returns-then-has_flag-clause-head g c =
 pub returns-in_err-sub-clause-head : goal.returns-in_err-sub-clause-head
 returns-in_err-sub-clause-head g c =
     let flags = c.in_ok-flags.flags in
-    let clear : has_bit 7 flags ≡ false = sym c.has_flag.ensures ∙ c.if-has_flag.false in
+    let clear : has_bit 7 flags ≡ false = sym c.has_bit.ensures ∙ c.if-has_bit.false in
     let p = err_from_is_err_and c.from_residual-in_err-sub.result c.from_residual-in_err-sub.ensures.1 in
     rw (p.1, p.2)
     (reads_then (number_field 1) after_flags (λ b. b) (λ (begun : Begun). begun.subtable) flags c.in_ok-flags.ensures.byte
@@ -42,7 +42,7 @@ returns-in_err-sub-clause-head g c =
 pub returns-clause-head : goal.returns-clause-head
 returns-clause-head g c =
     let flags = c.in_ok-flags.flags in
-    let clear : has_bit 7 flags ≡ false = sym c.has_flag.ensures ∙ c.if-has_flag.false in
+    let clear : has_bit 7 flags ≡ false = sym c.has_bit.ensures ∙ c.if-has_bit.false in
     reads_then (number_field 1) after_flags (λ b. b) (λ (begun : Begun). begun.subtable) flags c.in_ok-flags.ensures.byte
     (rw (packed_behind flags clear)
     (reads_as (packed_head flags) (packed_head flags) subtable_of (λ (begun : Begun). begun.subtable) c.in_ok-sub.sub _ refl refl refl refl c.in_ok-sub.ensures.head))

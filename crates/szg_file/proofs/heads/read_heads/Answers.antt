@@ -8,7 +8,7 @@ use Rattle.szg_file.proofs.HeadReads.{memory_is}
 use Rattle.szg_file.proofs.ReadingLaws.{reads_nothing}
 use Rattle.szg_file.proofs.Taken.{reads_as}
 use Rattle.szg_file.proofs.LoopReads.{each_next, each_stops, reads_lacking, taken_next, begun_more}
-use Rattle.szg_file.specs.Reads.{sub_lengths}
+use Rattle.szg_file.specs.WholeRead.{sub_lengths}
 use Rattle.szg_file.proofs.Grown.{none_yet, one_more}
 use Rattle.szg_file.proofs.heads.read_heads.Goals as goal
 

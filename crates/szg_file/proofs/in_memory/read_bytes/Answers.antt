@@ -3,7 +3,7 @@ use Rattle.szg_values.specs.declared.Kind.{Kind}
 use Rattle.szg_values.specs.Material.{Sides}
 use Rattle.szg_file.specs.Format.{verdict}
 use Rattle.szg_file.specs.File.{file}
-use Rattle.szg_file.specs.Reads.{FollowsVerdict}
+use Rattle.szg_file.specs.WholeRead.{FollowsVerdict}
 use Rattle.szg_file.proofs.ReadAnswers.{in_memory}
 use Rattle.szg_file.proofs.in_memory.read_bytes.Goals as goal
 

@@ -1,4 +1,4 @@
-use Rattle.std.proofs.Common.{true, false, refl, sym, ◌∙◌}
+use Rattle.std.proofs.Common.{sym, ◌∙◌}
 use Rattle.szg_place.proofs.Keys.{plain_if, turned_if, other_if}
 use Rattle.szg_place.proofs.Slotted.{few_men}
 use Rattle.szg_place.proofs.men.exchange_of.Goals as goal

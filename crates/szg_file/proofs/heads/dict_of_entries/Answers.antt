@@ -1,5 +1,5 @@
 use Rattle.szg_file.proofs.HeadReads.{entries_pass, entries_told}
-use Rattle.szg_file.proofs.heads.check_entries.Goals as goal
+use Rattle.szg_file.proofs.heads.dict_of_entries.Goals as goal
 
 pub returns-in-Ok-clause-passes : goal.returns-in-Ok-clause-passes
 returns-in-Ok-clause-passes c = entries_pass c.args.place c.args.entries.items c.in-Ok.ensures.accepted.1

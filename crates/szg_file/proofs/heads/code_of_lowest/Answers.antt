@@ -3,7 +3,7 @@ use Rattle.szg_code.specs.Canonical.{CanonicalCode}
 use Rattle.szg_code.specs.Acceptance.{IsCode}
 use Rattle.szg_file.specs.File.{code_with}
 use Rattle.szg_file.proofs.HeadReads.{lowest_passes, lowest_told}
-use Rattle.szg_file.proofs.heads.check_lowest.Goals as goal
+use Rattle.szg_file.proofs.heads.code_of_lowest.Goals as goal
 
 pub returns-in-Ok-clause-passes : goal.returns-in-Ok-clause-passes
 returns-in-Ok-clause-passes c =
