@@ -114,7 +114,7 @@ fn bits_fit(block_bits: u8, span_bits: u8) -> bool
 }
 
 /// The number of entries that a sparse index of so many values has: one for each span begun (`2^span_bits` values, the
-/// last span maybe fewer), so no more than there are values.
+/// last span maybe fewer), so no more than there are values. Span bits are at most 31.
 pub fn entry_count(size: u64, span_bits: u8) -> u64
     requires { span_bits ≤ 31 }
     ensures count { result ≡ entry_count_of span_bits size }
