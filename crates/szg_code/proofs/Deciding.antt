@@ -7,7 +7,7 @@ use Rattle.szg_code.specs.Acceptance.{HasLengths, IsOrderedAt, HasRoomAt, IsCode
 use Rattle.szg_code.specs.declared.CodeFault.TheVariants.{LowestOrder, TooFull}
 use Rattle.szg_code.specs.Least.{shifted_base, IsStart, HasShiftedBases, HasStarts}
 use Rattle.szg_code.specs.FirstFault.{rises_at, first_rise, overfills_below_max, overfull_item, first_overfull}
-use Rattle.szg_code.proofs.FirstFound.{find_none, find_some}
+use Rattle.szg_pairs.proofs.FirstFound.{find_none, find_some}
 
 second_false : (a b : Bool) → (a && b) ≡ false → a ≡ true → b ≡ false
 second_false a b e h = ap (λ (x : Bool). x && b) (sym h) ∙ e

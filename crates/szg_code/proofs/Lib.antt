@@ -6,7 +6,6 @@ pub mod Spelled
 pub mod Accepting
 pub mod Rows
 pub mod Verdicts
-pub mod FirstFound
 pub mod Deciding
 pub mod Finding
 pub mod ReadBack
