@@ -8,6 +8,7 @@ pub mod Values
 pub mod Reading
 pub mod WholeRead
 pub mod Grown
+pub mod Loading
 pub mod Held
 pub mod Parts
 pub mod HeadPieces

@@ -1,9 +1,12 @@
-ghost use Rattle.std.specs.Prelude.{◌≡◌, ◌+◌, ◌*◌, ◌≤◌, ◌<◌, ◌^◌, ◌∷◌, [], ◌++◌, Err, length, map, OnOk, OnErr, IfOk, IfSome, IfNone, None};
+ghost use Rattle.std.specs.Prelude.{ℕ, ◌≡◌, ◌+◌, ◌*◌, ◌≤◌, ◌<◌, ◌^◌, ◌∷◌, [], ◌++◌, Err, length, map, OnOk, OnErr, IfOk, IfSome, IfNone, None};
 ghost use Rattle.szg_block.specs.Subtable.{layout_of, IsShapedHead};
 ghost use Rattle.szg_file.specs.File.{each, sparse_field, lengths_field, index_check};
 ghost use Rattle.szg_file.specs.Reading.{Reading, Checks};
 ghost use Rattle.szg_file.specs.Grown.{HasCounted, begun_lengths};
 ghost use Rattle.szg_file.specs.WholeRead.{sub_lengths};
+ghost use Rattle.szg_file.specs.Loading.{MayTake, TakesFew, TakesAs};
+ghost use Rattle.szg_file.specs.Format.{Format};
+ghost use Rattle.std.specs.List.{sum_by};
 
 use crate::begun::{Begun, Indexed, Measured};
 use crate::fault::{ReadFault, Reason};
@@ -12,6 +15,37 @@ use crate::taking::{take_numbers, take_sparse};
 use std::alloc::Global;
 use szg_block::{Sub, SubFault, check_index, entry_count};
 use szg_io::Input;
+
+/// Takes something more into each item of a list, one after another, by a call of `take`.
+fn take_each<
+    T: Drop,
+    U: Drop,
+    R: Input,
+    F: Fn(Global, T, &mut R, &mut Front) -> Result<U, ReadFault>,
+>(
+    alloc: Global,
+    list: Vec<T>,
+    take: F,
+    input: &mut R,
+    front: &mut Front,
+) -> Result<Vec<U>, ReadFault>
+    requires may { MayTake F.Fn take }
+    requires few { TakesFew F.Fn take }
+    requires place { front.old.place < 2 ^ 60 }
+    requires short { length list.items ≤ 8 }
+    requires paid { front.old.growth ≤ 2 * front.old.place + 2 ^ 14 }
+    ensures each { (field : T → Format U) (before : T → ℕ) (after : U → ℕ) → TakesAs F.Fn R.Input take field before after → Reading (each field list.items) (λ taken. taken.items) front.old front.new R.Input input.old input.new result × IfOk result (λ taken. HasCounted front.old front.new (sum_by before list.items) (length taken.items + sum_by after taken.items)) }
+    ensures count { IfOk result (λ taken. length taken.items ≡ length list.items) }
+    ensures place { OnOk result (front.new.place ≤ front.old.place + 2 ^ 40) }
+    ensures growth { OnOk result (front.new.growth + 2 * front.old.place ≤ front.old.growth + 2 * front.new.place + 8) }
+{
+    let mut taken = Vec::new(alloc);
+    'items: for item in list {
+        let next = take(alloc, item, input, front)?;
+        append(&mut taken, next, front)?;
+    }
+    Ok(taken)
+}
 
 /// Takes the sparse index of each subtable that isn't constant.
 pub fn read_indexes<R: Input>(
@@ -29,12 +63,7 @@ pub fn read_indexes<R: Input>(
     ensures growth { OnOk result (front.new.growth + 2 * front.old.place ≤ front.old.growth + 2 * front.new.place + 8) }
     ensures grown { IfOk result (λ indexed. HasCounted front.old front.new (begun_lengths list.items) (length indexed.items + begun_lengths indexed.items)) }
 {
-    let mut indexed = Vec::new(alloc);
-    'indexes: for begun in list {
-        let next = read_index(alloc, begun, input, front)?;
-        append(&mut indexed, next, front)?;
-    }
-    Ok(indexed)
+    take_each(alloc, list, read_index, input, front)
 }
 
 /// Takes one subtable's sparse index into it, and tells where it stands; a constant subtable has none.
@@ -81,12 +110,7 @@ pub fn read_lengths<R: Input>(
     ensures growth { OnOk result (front.new.growth + 2 * front.old.place ≤ front.old.growth + 2 * front.new.place + 8) }
     ensures grown { IfOk result (λ measured. HasCounted front.old front.new (begun_lengths list.items) (length measured.items + begun_lengths measured.items)) }
 {
-    let mut measured = Vec::new(alloc);
-    'lengths: for indexed in list {
-        let next = read_measured(alloc, indexed, input, front)?;
-        append(&mut measured, next, front)?;
-    }
-    Ok(measured)
+    take_each(alloc, list, read_measured, input, front)
 }
 
 /// Takes one subtable's lengths into it, and checks them and the sparse index; a constant subtable has none.

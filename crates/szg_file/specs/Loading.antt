@@ -1,0 +1,33 @@
+-- Calls that take something more into a subtable, as they are handed to the loop over all subtables.
+use Rattle.std.specs.Prelude.{ℕ, ◌+◌, ◌*◌, ◌^◌, ◌<◌, ◌≤◌, Result, OnOk, IfOk}
+use denote.Ref.{MutBor}
+use denote.Param.Members.{Shared}
+use Rattle.szg_io.specs.declared.device.Input.{Ghosts}
+use Rattle.szg_file.specs.declared.front.Front.{Front}
+use Rattle.szg_file.specs.declared.fault.ReadFault.{ReadFault}
+use Rattle.szg_file.specs.Format.{Format}
+use Rattle.szg_file.specs.Grown.{HasCounted}
+use Rattle.szg_file.specs.Reading.{Reading}
+
+-- A call may be made where the front hasn't gone far and what has grown is paid for.
+abbrev pub MayTake : {M F T U R : Type 0} → Shared F (M × (T × (MutBor R × (MutBor Front × Unit {0})))) (Result U ReadFault × (MutBor R × (MutBor Front × Unit {0}))) → F → Type 0
+MayTake {M = M} {T = T} {R = R} calls take =
+    (alloc : M) (item : T) (input : MutBor R) (front : MutBor Front) →
+    front.now.place < 2 ^ 60 + 2 ^ 40 → front.now.growth ≤ 2 * front.now.place + 2 ^ 15 →
+    calls.pre take (alloc, (item, (input, (front, tt))))
+
+-- Each call that takes a whole field takes few enough bytes, and lists grow by at most twice as many items.
+abbrev pub TakesFew : {M F T U R : Type 0} → Shared F (M × (T × (MutBor R × (MutBor Front × Unit {0})))) (Result U ReadFault × (MutBor R × (MutBor Front × Unit {0}))) → F → Type 0
+TakesFew {M = M} {T = T} {U = U} {R = R} calls take =
+    (alloc : M) (item : T) (input left : MutBor R) (front rest : MutBor Front) (result : Result U ReadFault) →
+    calls.post take (alloc, (item, (input, (front, tt)))) (result, (left, (rest, tt))) →
+    OnOk result ((rest.now.place ≤ front.now.place + 2 ^ 36) × (rest.now.growth + 2 * front.now.place ≤ front.now.growth + 2 * rest.now.place))
+
+-- Each call reads an item's field, and what the item's lists have grown by was counted.
+abbrev pub TakesAs : {M F T U R : Type 0} → Shared F (M × (T × (MutBor R × (MutBor Front × Unit {0})))) (Result U ReadFault × (MutBor R × (MutBor Front × Unit {0}))) →
+    Ghosts R → F → (T → Format U) → (T → ℕ) → (U → ℕ) → Type 0
+TakesAs {M = M} {T = T} {U = U} {R = R} calls dev take field before after =
+    (alloc : M) (item : T) (input left : MutBor R) (front rest : MutBor Front) (result : Result U ReadFault) →
+    calls.post take (alloc, (item, (input, (front, tt)))) (result, (left, (rest, tt))) →
+    Reading (field item) (λ taken. taken) front.now rest.now dev input.now left.now result
+    × IfOk result (λ taken. HasCounted front.now rest.now (before item) (after taken))
