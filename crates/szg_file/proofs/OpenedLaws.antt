@@ -1,10 +1,9 @@
 -- Opened tables: what they keep is of the table with whose file the source's bytes begin, and sound over them.
-use Rattle.std.proofs.Common.{◌≡◌, ℕ, zero, suc, ◌+◌, ◌*◌, ◌^◌, ◌<◌, ◌≤◌, List, [], ◌∷◌, ◌++◌, length, map, take, drop, get_or, replicate, refl, sym, ap, subst, ◌∙◌, arith, Option, Some, None, Err, option_map}
+use Rattle.std.proofs.Common.{◌≡◌, ℕ, zero, suc, ◌+◌, ◌*◌, ◌^◌, ◌≤◌, List, [], ◌∷◌, ◌++◌, length, map, take, drop, replicate, sym, ap, subst, ◌∙◌, arith, Option, Some, None, Err, option_map}
 use Rattle.std.specs.Prelude.{IfSome, IfNone, position, slice_get, option_and_then}
 use Rattle.std.specs.List.{AllByRecursion}
 use Rattle.std.proofs.lemmas.List.{length-map, length-append, take-append-drop}
-use Rattle.std.proofs.lemmas.List.Quantifiers.{position-Some}
-use Rattle.std.proofs.lemmas.Option.{slice_get_read, slice_get-map}
+use Rattle.std.proofs.lemmas.Option.{slice_get-map}
 use Rattle.szg_values.specs.declared.Kind.{Kind}
 use Rattle.szg_values.specs.Material.{Sides}
 use Rattle.szg_block.specs.Lending.{bytes_at, packed_blocks, raised}
@@ -22,10 +21,10 @@ use Rattle.szg_file.specs.Held.{part_of}
 use Rattle.szg_file.specs.Lookup.{byte_of}
 use Rattle.szg_file.specs.Opened.{Opened, opened_at, asked_after, table_of, table_in, opened_fault, IsOpenRefusal, IsOpened}
 use Rattle.szg_file.specs.Outline.{outlined}
-use Rattle.szg_file.specs.Placed.{blocks_size, whole_sub, Fits}
+use Rattle.szg_file.specs.Placed.{blocks_size, whole_sub, Fits, IsSlotted, StandsIn}
 use Rattle.szg_file.specs.Reading.{Reading, Advances}
 use Rattle.szg_file.specs.WholeRead.{FollowsVerdict}
-use Rattle.szg_file.specs.Values.{item, found, subtable_at, constant_value, values_of}
+use Rattle.szg_file.specs.Values.{item, subtable_at, constant_value, values_of}
 use Rattle.szg_file.specs.declared.fault.Reason.{Reason}
 use Rattle.szg_file.specs.declared.fault.ReadFault.{ReadFault}
 use Rattle.szg_file.specs.declared.fault.ReadFault.TheVariants.{Refused, Device, Memory}
@@ -75,11 +74,6 @@ all_at P [] k x h e = let no : None ≡ Some x = e in absurd (cc no)
 all_at P (a ∷ xs) zero x h e = let same : a ≡ x = cc e in subst P same h.0
 all_at P (a ∷ xs) (suc k) x h e = all_at P xs k x h.1 e
 
-item_there : (xs : List PlacedSub) (k : ℕ) → k < length xs → (x : PlacedSub) × (slice_get xs k ≡ Some x)
-item_there [] k h = absurd (omega arith)
-item_there (x ∷ xs) zero h = (x, refl)
-item_there (x ∷ xs) (suc k) h = item_there xs k (omega arith)
-
 -- as many subtables are kept as slots
 pub as_many_kept : (material : Sides) (kind : Kind) (content : List ℕ) (room : ℕ) (placed : List Slot) (subs : List PlacedSub) → IsOpened material kind content room placed subs →
     length placed ≡ length subs
@@ -104,14 +98,12 @@ pub record IsKept (content : List ℕ) (room : ℕ) (there : Option (Slot × Sub
   pub stands : IsSubtable slot (whole_sub content sub)
   pub fits : Fits (length content) room sub
 
-pub opened_present : (material : Sides) (kind : Kind) (content : List ℕ) (room : ℕ) (placed : List Slot) (subs : List PlacedSub) (part side n : ℕ) (slot : Slot) (sub : PlacedSub) →
-    IsOpened material kind content room placed subs → position (is_at part side) placed ≡ Some n → n < length placed → slot ≡ get_or placed n slot → sub ≡ get_or subs n sub →
+pub opened_present : (material : Sides) (kind : Kind) (content : List ℕ) (room : ℕ) (placed : List Slot) (subs : List PlacedSub) (part side : ℕ) (slot : Slot) (sub : PlacedSub) →
+    IsOpened material kind content room placed subs → IsSlotted placed subs part side slot sub →
     IsKept content room (option_and_then (λ t. subtable_at t part side) (table_in material kind content)) slot sub
-opened_present material kind content room placed subs part side n slot sub h there lt eslot esub =
+opened_present material kind content room placed subs part side slot sub h (n, there, at, kept) =
     let t : Contents = h.table in
-    let many = as_many_kept material kind content room placed subs h in
-    let here = subst (λ (z : List Slot). slice_get z n ≡ Some slot) h.slots_are (slice_get_read placed (length placed) n slot refl lt eslot) in
-    let kept : slice_get subs n ≡ Some sub = slice_get_read subs (length subs) n sub refl (omega (arith, many)) esub in
+    let here = subst (λ (z : List Slot). slice_get z n ≡ Some slot) h.slots_are at in
     let held = subst (λ (z : List Subtable). slice_get z n ≡ Some (whole_sub content sub)) h.subs_are (slice_get-map (whole_sub content) subs n ∙ ap (option_map (whole_sub content)) kept) in
     record {
       is = at_table _ t part side h.there
@@ -120,28 +112,28 @@ opened_present material kind content room placed subs part side n slot sub h the
       fits = all_at (Fits (length content) room) subs n sub h.fits kept;
     }
 
--- what a search among the slots finds
-pub found_kept : (view now : Opened) (room : ℕ) (placed slice : List Slot) (subs : List PlacedSub) (part side n : ℕ) (slot : Slot) (sub : PlacedSub) (found : Option ℕ) →
-    IsOpened view.material view.kind view.content room placed subs → view ≡ now → slice ≡ placed → found ≡ position (is_at part side) slice → found ≡ Some n →
-    slot ≡ get_or slice n slot → sub ≡ get_or subs n sub → IsKept view.content room (opened_at now part side) slot sub
-found_kept view now room placed slice subs part side n slot sub found h shown same searched there eslot esub =
-    let at : position (is_at part side) placed ≡ Some n = ap (λ (z : List Slot). position (is_at part side) z) (sym same) ∙ sym searched ∙ there in
-    let below = (position-Some (is_at part side) placed n slot at).0 in
-    subst (λ (o : Opened). IsKept view.content room (opened_at o part side) slot sub) shown
-    (opened_present view.material view.kind view.content room placed subs part side n slot sub h at below (eslot ∙ ap (λ (z : List Slot). get_or z n slot) same) esub)
+-- with what is kept, its blocks stand among the bytes
+pub kept_stands : (content : List ℕ) (room : ℕ) (there : Option (Slot × Subtable)) (slot : Slot) (sub : PlacedSub) → IsKept content room there slot sub → StandsIn content slot sub
+kept_stands content room there slot sub h = record { stands = h.stands; inside = h.fits.inside }
 
--- its slot's size is the one that is found
-pub opened_at_slot : (material : Sides) (kind : Kind) (content : List ℕ) (room : ℕ) (placed : List Slot) (subs : List PlacedSub) (part side n : ℕ) (slot : Slot) →
-    IsOpened material kind content room placed subs → position (is_at part side) placed ≡ Some n → n < length placed → slot ≡ get_or placed n slot →
-    option_map (λ (found : Slot × Subtable). found.0.size) (option_and_then (λ t. subtable_at t part side) (table_in material kind content)) ≡ Some slot.size
-opened_at_slot material kind content room placed subs part side n slot h there lt eslot =
-    let many = as_many_kept material kind content room placed subs h in
-    let some : (sub : PlacedSub) × (slice_get subs n ≡ Some sub) = item_there subs n (omega (arith, many)) in
-    let t : Contents = h.table in
-    let here = subst (λ (z : List Slot). slice_get z n ≡ Some slot) h.slots_are (slice_get_read placed (length placed) n slot refl lt eslot) in
-    let held = subst (λ (z : List Subtable). slice_get z n ≡ Some (whole_sub content some.0)) h.subs_are (slice_get-map (whole_sub content) subs n ∙ ap (option_map (whole_sub content)) some.1) in
-    ap (option_map (λ (found : Slot × Subtable). found.0.size)) (at_table _ t part side h.there
-    ∙ found_there part side (slots t.material t.kind t.parts) t.subtables n slot (whole_sub content some.0) (ap (λ (z : List Slot). position (is_at part side) z) (sym h.slots_are) ∙ there) here held)
+-- what a search among the slots finds
+module _ (view now : Opened) (room : ℕ) (placed shown_slots : List Slot) (subs shown_subs : List PlacedSub) (part side : ℕ) (h : IsOpened view.material view.kind view.content room placed subs)
+    (is : view ≡ now) (same : shown_slots ≡ placed) (same_subs : shown_subs ≡ subs) where
+  pub as_many_opened : length shown_slots ≤ length shown_subs
+  as_many_opened =
+      let many = as_many_kept view.material view.kind view.content room placed subs h in
+      omega (arith, many, ap length same, ap length same_subs)
+
+  pub none_opened : position (is_at part side) shown_slots ≡ None → opened_at now part side ≡ None
+  none_opened none =
+      subst (λ (o : Opened). opened_at o part side ≡ None) is
+      (opened_absent view.material view.kind view.content room placed subs part side h (ap (λ (z : List Slot). position (is_at part side) z) (sym same) ∙ none))
+
+  pub one_opened : (slot : Slot) (sub : PlacedSub) → IsSlotted shown_slots shown_subs part side slot sub → IsKept view.content room (opened_at now part side) slot sub
+  one_opened slot sub held =
+      subst (λ (o : Opened). IsKept view.content room (opened_at o part side) slot sub) is
+      (opened_present view.material view.kind view.content room placed subs part side slot sub h
+      (subst (λ (z : List Slot). IsSlotted z subs part side slot sub) same (subst (λ (z : List PlacedSub). IsSlotted shown_slots z part side slot sub) same_subs held)))
 
 -- ---- one value
 

@@ -1,8 +1,7 @@
 -- The blocks that values of opened tables want, and the values in them.
-use Rattle.std.proofs.Common.{◌≡◌, ℕ, ◌+◌, ◌*◌, ◌^◌, ◌<◌, ◌≤◌, List, length, map, drop, length-take, length-drop, replicate, get_or, refl, sym, ap, subst, ◌∙◌, arith, Option, Some, None}
-use Rattle.std.specs.Prelude.{IfSome, IfNone, IsSomeAnd, MatchOption, slice_get}
+use Rattle.std.proofs.Common.{◌≡◌, ℕ, ◌+◌, ◌*◌, ◌^◌, ◌<◌, ◌≤◌, List, length, map, drop, length-take, length-drop, get_or, refl, sym, ap, subst, ◌∙◌, arith, Option, Some, None}
+use Rattle.std.specs.Prelude.{IfSome, IfNone, IsSomeAnd, slice_get}
 use Rattle.std.proofs.Math.Nat.{mul-le-mul_right}
-use Rattle.std.proofs.lemmas.List.{get_or-replicate, length-replicate}
 use Rattle.std.proofs.lemmas.Option.{slice_get-get_or}
 use Rattle.szg_values.specs.declared.Kind.{Kind}
 use Rattle.szg_block.specs.Block.{block_at, block_values}
@@ -19,11 +18,9 @@ use Rattle.szg_block.proofs.Values.{length-joined_values, joined_values-block_pl
 use Rattle.szg_file.specs.Accepted.{IsSubtable}
 use Rattle.szg_file.specs.Contents.{Slot, Subtable, Head, layout_of as held_layout}
 use Rattle.szg_file.specs.Held.{sparse_of}
-use Rattle.szg_file.specs.Lookup.{byte_of}
 use Rattle.szg_file.specs.Placed.{blocks_size, whole_sub}
-use Rattle.szg_file.specs.Values.{item, constant_value, values_of}
-use Rattle.szg_file.specs.Wanted.{wanted_block, IsSpelledBy}
-use Rattle.szg_file.specs.declared.wanted.Wanted.{Wanted}
+use Rattle.szg_file.specs.Values.{item, values_of}
+use Rattle.szg_file.specs.Wanted.{wanted_block}
 use Rattle.szg_file.proofs.OpenedLaws.{placed_ready}
 use Rattle.szg_file.proofs.PlacedSubs.{placed_at}
 use Rattle.szg_file.proofs.SoundLaws.{accepted_code, accepted_shape, accepted_subtable}
@@ -38,12 +35,6 @@ kept_sound slot content (Pairs flags block_bits span_bits extra blocks code dict
 )
 
 -- ---- which block
-
-pub nothing_wanted : (content : List ℕ) (sub : Sub) (first i : ℕ) (told : Option ℕ) → told ≡ None → IfSome (layout_of sub) (λ layout. told ≡ Some (block_place layout i).list) →
-    wanted_block (whole_sub content (placed_at sub first)) i ≡ None
-nothing_wanted content (Constant flags byte) first i told none block = refl
-nothing_wanted content (Pairs flags block_bits span_bits extra blocks code dict sparse lengths packed) first i told none block =
-    let no : None ≡ Some _ = sym none ∙ block in absurd (cc no)
 
 -- what holds of a constant subtable holds where no block is wanted
 pub constant_holds : (P : Type 0) (content : List ℕ) (sub : Sub) (first i : ℕ) → IfNone (layout_of sub) P → wanted_block (whole_sub content (placed_at sub first)) i ≡ None → P
@@ -83,14 +74,6 @@ wanted_there slot content (Pairs flags block_bits span_bits extra blocks code di
 
 -- ---- the value
 
-pub constant_told : (kind : Kind) (slot : Slot) (content : List ℕ) (sub : Sub) (first i : ℕ) → layout_of sub ≡ None → i < slot.size →
-    item (values_of kind (slot, whole_sub content (placed_at sub first))) i ≡ Some (constant_value kind (byte_of sub))
-constant_told kind slot content (Constant flags byte) first i none below =
-    let v : ℕ = constant_value kind byte in
-    item-slice_get (replicate slot.size v) i ∙ slice_get-get_or (replicate slot.size v) i 0 (omega (arith, length-replicate slot.size v, below))
-    ∙ ap (λ (k : ℕ). Some k) (get_or-replicate slot.size i v 0 below)
-constant_told kind slot content (Pairs flags block_bits span_bits extra blocks code dict sparse lengths packed) first i none below = absurd cc
-
 pub value_told : (kind : Kind) (slot : Slot) (content : List ℕ) (sub : Sub) (first i : ℕ) (piece : List ℕ) (told : Option ℕ) → (layout_of sub ≡ None → ⊥) → IsSubtable slot (whole_sub content (placed_at sub first)) →
     first + blocks_size sub ≤ length content → i < slot.size → IfSome (wanted_block (whole_sub content (placed_at sub first)) i) (λ block. block ≡ piece) →
     IfSome (layout_of sub) (λ layout. length piece ≡ 2 ^ layout.block_bits → told ≡ slice_get (block_values layout piece) (block_place layout i).item) →
@@ -115,23 +98,3 @@ value_told kind slot content (Pairs flags block_bits span_bits extra blocks code
     told_is ∙ ap (λ (z : List ℕ). slice_get (block_values layout z) (block_place layout i).item) (sym wanted)
     ∙ sym (joined_values-block_place layout packed slot.size accepted shaped sound i below) ∙ there in
     subst (λ (o : Option ℕ). IsSomeAnd o (λ value. item values i ≡ Some value)) (sym same) (item-slice_get values i ∙ there)
-
--- ---- what other bytes tell
-
-pub spelled_constant : (content : List ℕ) (sub : Sub) (first i : ℕ) (piece : List ℕ) (told : Option ℕ) → layout_of sub ≡ None → IsSpelledBy piece (whole_sub content (placed_at sub first)) i told
-spelled_constant content (Constant flags byte) first i piece told none = tt
-spelled_constant content (Pairs flags block_bits span_bits extra blocks code dict sparse lengths packed) first i piece told none = absurd cc
-
-pub spelled_told : (content : List ℕ) (sub : Sub) (first i : ℕ) (piece : List ℕ) (told : Option ℕ) →
-    IfSome (layout_of sub) (λ layout. length piece ≡ 2 ^ layout.block_bits → told ≡ slice_get (block_values layout piece) (block_place layout i).item) →
-    IfSome (layout_of sub) (λ layout. ¬ (length piece ≡ 2 ^ layout.block_bits) → told ≡ None) → IsSpelledBy piece (whole_sub content (placed_at sub first)) i told
-spelled_told content (Constant flags byte) first i piece told value whole = tt
-spelled_told content (Pairs flags block_bits span_bits extra blocks code dict sparse lengths packed) first i piece told value whole = (value, whole)
-
--- ---- what is told of what was found
-
-pub told_none : (there : Option (Slot × Subtable)) (slot : Slot) (subtable : Subtable) (content : List ℕ) (i : ℕ) (told : Option Wanted) → there ≡ Some (slot, subtable) → told ≡ None → wanted_block subtable i ≡ None →
-    IfSome there (λ found. MatchOption told (wanted_block found.1 i ≡ None) (λ wanted. wanted_block found.1 i ≡ Some (bytes_at content wanted.place wanted.count)))
-told_none there slot subtable content i told is none h =
-    subst (λ (o : Option (Slot × Subtable)). IfSome o (λ found. MatchOption told (wanted_block found.1 i ≡ None) (λ wanted. wanted_block found.1 i ≡ Some (bytes_at content wanted.place wanted.count)))) (sym is)
-    (subst (λ (r : Option Wanted). MatchOption r (wanted_block subtable i ≡ None) (λ wanted. wanted_block subtable i ≡ Some (bytes_at content wanted.place wanted.count))) (sym none) h)

@@ -1,11 +1,12 @@
 -- Subtables whose blocks stand elsewhere.
-use Rattle.std.specs.Prelude.{ℕ, ◌+◌, ◌*◌, ◌^◌, ◌≤◌, List, length, drop, IfSome}
+use Rattle.std.specs.Prelude.{ℕ, ◌≡◌, ◌&&◌, nat_eq, position, slice_get, Some, ◌+◌, ◌*◌, ◌^◌, ◌≤◌, List, length, drop, IfSome}
 use Rattle.szg_block.specs.Lending.{bytes_at}
 use Rattle.szg_block.specs.Subtable.{layout_of}
 use Rattle.szg_block.specs.declared.Sub.{Sub}
 use Rattle.szg_block.specs.declared.Sub.TheVariants.{Constant, Pairs}
 use Rattle.szg_file.specs.Blocks.{with_blocks}
-use Rattle.szg_file.specs.Contents.{Subtable}
+use Rattle.szg_file.specs.Accepted.{IsSubtable}
+use Rattle.szg_file.specs.Contents.{Slot, Subtable}
 use Rattle.szg_file.specs.Held.{subtable_of}
 use Rattle.szg_file.specs.declared.dropping.PlacedSub.{PlacedSub}
 
@@ -26,3 +27,13 @@ whole_sub bytes placed = with_blocks (subtable_of placed.sub) (bytes_at bytes pl
 pub record Fits (count room : ℕ) (placed : PlacedSub) : Type 0 where
   pub inside : placed.first + blocks_size placed.sub ≤ count
   pub roomy : IfSome (layout_of placed.sub) (λ layout. 2 ^ layout.block_bits ≤ room)
+
+-- its blocks stand among these bytes, and with them it is a subtable that every check accepts
+pub record StandsIn (content : List ℕ) (slot : Slot) (placed : PlacedSub) : Type 0 where
+  pub stands : IsSubtable slot (whole_sub content placed)
+  pub inside : placed.first + blocks_size placed.sub ≤ length content
+
+-- it is the first slot of a part and side, and this subtable is kept for it
+abbrev pub IsSlotted : List Slot → List PlacedSub → ℕ → ℕ → Slot → PlacedSub → Type 0
+IsSlotted slots subs part side slot placed =
+    (n : ℕ) × (position (λ slot. nat_eq slot.part part && nat_eq slot.side side) slots ≡ Some n) × (slice_get slots n ≡ Some slot) × (slice_get subs n ≡ Some placed)

@@ -1,14 +1,13 @@
 //! Tables without their source: whoever has the file reads the bytes that are wanted.
 
 use crate::begun::Slot;
-use crate::blocks::{block_bytes, is_constant};
 use crate::dropping::PlacedSub;
-use crate::lookup::{constant_value, slot_number};
+use crate::lookup::{slotted_at, value_of, wanted_of};
 use crate::opened::Opened;
 use crate::wanted::Wanted;
 use arrayvec::ArrayVec;
 use std::marker::Model;
-use szg_block::{Source, find_block, value_in_block};
+use szg_block::Source;
 use szg_values::{Kind, Material};
 
 /// What is kept of a table that every check of the format accepts, so that its values are found in bytes that the caller
@@ -77,9 +76,10 @@ impl Heads {
         ensures slot { result ≡ option_map (λ slot. slot.size) (slot_at self.now part side) }
         ensures size { (content : List ℕ) → IsKeptOf self.now content → result ≡ option_map (λ found. found.0.size) (kept_at self.now content part side) }
     {
-        let placed = self.placed.as_slice();
-        let n = slot_number(placed, part, side)?;
-        let slot = placed[n];
+        let Some(found) = slotted_at(self.placed.as_slice(), &self.subs, part, side) else {
+            return None;
+        };
+        let slot = found.slot;
         Some(slot.size)
     }
 
@@ -90,18 +90,10 @@ impl Heads {
         ensures wanted { (content : List ℕ) → IsKeptOf self.now content → IfSome (kept_at self.now content part side) (λ found. MatchOption result (wanted_block found.1 i ≡ None) (λ wanted. wanted_block found.1 i ≡ Some (bytes_at content wanted.place wanted.count))) }
         ensures inside { IfSome result (λ wanted. wanted.place + wanted.count ≤ self.now.length) }
     {
-        let placed = self.placed.as_slice();
-        let Some(n) = slot_number(placed, part, side) else {
+        let Some(found) = slotted_at(self.placed.as_slice(), &self.subs, part, side) else {
             unreachable!()
         };
-        let slot = placed[n];
-        let held = &self.subs[n];
-        let block = find_block(&held.sub, slot.size, i)?;
-        let count = block_bytes(&held.sub);
-        Some(Wanted {
-            place: held.first + u64::from(block) * count,
-            count,
-        })
+        wanted_of(&found, i)
     }
 
     /// Value i of a part's side, out of the bytes that it wants. A constant subtable has it without any.
@@ -113,15 +105,9 @@ impl Heads {
         ensures value { (content : List ℕ) → IsKeptOf self.now content → IfSome (kept_at self.now content part side) (λ found. IfSome (wanted_block found.1 i) (λ block. block ≡ piece.now) → IsSomeAnd result (λ value. item (values_of self.now.kind found) i ≡ Some value)) }
         ensures spelled { (content : List ℕ) → IsKeptOf self.now content → IfSome (kept_at self.now content part side) (λ found. IsSpelledBy piece.now found.1 i result) }
     {
-        let placed = self.placed.as_slice();
-        let Some(n) = slot_number(placed, part, side) else {
+        let Some(found) = slotted_at(self.placed.as_slice(), &self.subs, part, side) else {
             unreachable!()
         };
-        let slot = placed[n];
-        let held = &self.subs[n];
-        if is_constant(&held.sub) {
-            return Some(constant_value(self.kind, &held.sub));
-        }
-        value_in_block(&held.sub, slot.size, i, piece)
+        value_of(self.kind, &found, i, piece)
     }
 }

@@ -1,11 +1,18 @@
 //! Finding a subtable among a table's.
-ghost use Rattle.std.specs.Prelude.{◌≡◌, ◌&&◌, nat_eq, position};
+ghost use Rattle.std.specs.Prelude.{ℕ, List, ◌≡◌, ◌+◌, ◌^◌, ◌<◌, ◌≤◌, ◌&&◌, nat_eq, position, slice_get, length, MatchOption, IfSome, IsSomeAnd, Some, None};
+ghost use Rattle.szg_block.specs.Lending.{bytes_at};
 ghost use Rattle.szg_file.specs.Values.{constant_value as constant_of};
 ghost use Rattle.szg_file.specs.Held.{subtable_of};
 ghost use Rattle.szg_file.specs.Lookup.{byte_of};
+ghost use Rattle.szg_file.specs.Placed.{whole_sub, IsSlotted, StandsIn};
+ghost use Rattle.szg_file.specs.Values.{values_of, item};
+ghost use Rattle.szg_file.specs.Wanted.{wanted_block, IsSpelledBy};
 
 use crate::begun::Slot;
-use szg_block::Sub;
+use crate::blocks::{block_bytes, is_constant};
+use crate::dropping::PlacedSub;
+use crate::wanted::Wanted;
+use szg_block::{Sub, find_block, value_in_block};
 use szg_values::Kind;
 
 /// A subtable with its number of positions.
@@ -13,6 +20,13 @@ use szg_values::Kind;
 pub struct Found<'a> {
     pub size: u64,
     pub sub: &'a Sub,
+}
+
+/// A subtable that is kept without its blocks, with its slot.
+#[derive(Clone, Copy)]
+pub struct Slotted<'a> {
+    pub slot: Slot,
+    pub placed: &'a PlacedSub,
 }
 
 /// Which slot is this part's and side's, counted from 0.
@@ -32,4 +46,51 @@ pub fn constant_value(kind: Kind, sub: &Sub) -> u16
         (Kind::Wdl, Sub::Constant { byte, .. }) => u16::from(*byte),
         _ => 0,
     }
+}
+
+/// The first slot of this part and side, with the subtable that is kept for it.
+pub fn slotted_at<'a>(
+    slots: &[Slot],
+    subs: &'a [PlacedSub],
+    part: u8,
+    side: u8,
+) -> Option<Slotted<'a>>
+    requires { length slots.now ≤ length subs.now }
+    ensures { MatchOption result (position (λ slot. nat_eq slot.part part && nat_eq slot.side side) slots.now ≡ None) (λ found. IsSlotted slots.now subs.now part side found.slot found.placed.now) }
+{
+    let n = slot_number(slots, part, side)?;
+    Some(Slotted {
+        slot: slots[n],
+        placed: &subs[n],
+    })
+}
+
+/// The bytes that value i of a subtable wants; None in a constant one.
+pub fn wanted_of(found: &Slotted, i: u64) -> Option<Wanted>
+    requires known { (content : List ℕ) × StandsIn content found.now.slot found.now.placed.now × (length content < 2 ^ 64) }
+    requires below { i < found.now.slot.size }
+    ensures wanted { (content : List ℕ) → StandsIn content found.now.slot found.now.placed.now → MatchOption result (wanted_block (whole_sub content found.now.placed.now) i ≡ None) (λ wanted. wanted_block (whole_sub content found.now.placed.now) i ≡ Some (bytes_at content wanted.place wanted.count)) }
+    ensures inside { (content : List ℕ) → StandsIn content found.now.slot found.now.placed.now → IfSome result (λ wanted. wanted.place + wanted.count ≤ length content) }
+{
+    let Slotted { slot, placed } = *found;
+    let block = find_block(&placed.sub, slot.size, i)?;
+    let count = block_bytes(&placed.sub);
+    Some(Wanted {
+        place: placed.first + u64::from(block) * count,
+        count,
+    })
+}
+
+/// Value i of a subtable out of the bytes that it wants, or what others spell at its place.
+pub fn value_of(kind: Kind, found: &Slotted, i: u64, piece: &[u8]) -> Option<u16>
+    requires known { (content : List ℕ) × StandsIn content found.now.slot found.now.placed.now }
+    requires below { i < found.now.slot.size }
+    ensures value { (content : List ℕ) → StandsIn content found.now.slot found.now.placed.now → IfSome (wanted_block (whole_sub content found.now.placed.now) i) (λ block. block ≡ piece.now) → IsSomeAnd result (λ value. item (values_of kind (found.now.slot, whole_sub content found.now.placed.now)) i ≡ Some value) }
+    ensures spelled { (content : List ℕ) → IsSpelledBy piece.now (whole_sub content found.now.placed.now) i result }
+{
+    let Slotted { slot, placed } = *found;
+    if is_constant(&placed.sub) {
+        return Some(constant_value(kind, &placed.sub));
+    }
+    value_in_block(&placed.sub, slot.size, i, piece)
 }

@@ -11,7 +11,7 @@ use crate::dropping::PlacedSub;
 use crate::fault::{ReadFault, Reason};
 use crate::forward::Forward;
 use crate::front::Front;
-use crate::lookup::{constant_value, slot_number};
+use crate::lookup::{Slotted, constant_value, slotted_at};
 use crate::outline::{Outline, read_outline};
 use crate::table::{Map, PartBytes};
 use arrayvec::ArrayVec;
@@ -75,9 +75,10 @@ impl<S: Source + Drop> Opened<S> {
     pub fn size(&self, part: u8, side: u8) -> Option<u64>
         ensures { result ≡ option_map (λ found. found.0.size) (opened_at self.now part side) }
     {
-        let placed = self.placed.as_slice();
-        let n = slot_number(placed, part, side)?;
-        let slot = placed[n];
+        let Some(found) = slotted_at(self.placed.as_slice(), &self.subs, part, side) else {
+            return None;
+        };
+        let slot = found.slot;
         Some(slot.size)
     }
 
@@ -105,12 +106,10 @@ impl<S: Source + Drop> Opened<S> {
         ensures kind { self.new.kind ≡ self.old.kind }
         ensures content { self.new.content ≡ self.old.content }
     {
-        let placed = self.placed.as_slice();
-        let Some(n) = slot_number(placed, part, side) else {
+        let Some(found) = slotted_at(self.placed.as_slice(), &self.subs, part, side) else {
             unreachable!()
         };
-        let slot = placed[n];
-        let held = &self.subs[n];
+        let Slotted { slot, placed: held } = found;
         let constant = constant_value(self.kind, &held.sub);
         self.blocks.turn_to(
             held.first,

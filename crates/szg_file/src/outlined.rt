@@ -7,7 +7,7 @@ use crate::distances::{list_number, number_at};
 use crate::dropping::PlacedSub;
 use crate::fault::MapFault;
 use crate::flags::flags_of;
-use crate::lookup::slot_number;
+use crate::lookup::slotted_at;
 use crate::opened::Opened;
 use crate::table::{PartBytes, Table};
 use arrayvec::ArrayVec;
@@ -104,11 +104,10 @@ impl<S: Source + Drop> Opened<S> {
         let Some(list) = list_number(class) else {
             return Err(MapFault::Draw);
         };
-        let placed = self.placed.as_slice();
-        let Some(n) = slot_number(placed, part, 0) else {
+        let Some(found) = slotted_at(self.placed.as_slice(), &self.subs, part, 0) else {
             unreachable!()
         };
-        let flags = flags_of(&self.subs[n].sub);
+        let flags = flags_of(&found.placed.sub);
         let number = number_at(flags, &self.maps[part as usize], list, v);
         number.ok_or(MapFault::OutsideMap)
     }

@@ -1,9 +1,8 @@
 //! Look-ups by bytes that the caller brings: which bytes of the file a value wants, and the value out of them.
 
-use crate::blocks::{block_bytes, is_constant};
-use crate::lookup::{constant_value, slot_number};
+use crate::lookup::{slotted_at, value_of, wanted_of};
 use crate::opened::Opened;
-use szg_block::{Source, find_block, value_in_block};
+use szg_block::Source;
 
 /// The bytes of a file that a value wants.
 #[derive(Clone, Copy)]
@@ -29,20 +28,12 @@ impl<S: Source + Drop> Opened<S> {
         ensures wanted { IfSome (opened_at self.now part side) (λ found. MatchOption result (wanted_block found.1 i ≡ None) (λ wanted. wanted_block found.1 i ≡ Some (bytes_at self.now.content wanted.place wanted.count))) }
         ensures inside { IfSome result (λ wanted. wanted.place + wanted.count ≤ length self.now.content) }
     {
-        let placed = self.placed.as_slice();
-        let Some(n) = slot_number(placed, part, side) else {
+        let Some(found) = slotted_at(self.placed.as_slice(), &self.subs, part, side) else {
             unreachable!()
         };
-        let slot = placed[n];
-        let held = &self.subs[n];
-        let block = find_block(&held.sub, slot.size, i)?;
-        let count = block_bytes(&held.sub);
         // no place is past the source's end
         let _end = self.source().len();
-        Some(Wanted {
-            place: held.first + u64::from(block) * count,
-            count,
-        })
+        wanted_of(&found, i)
     }
 
     /// Value i of a part's side, out of the bytes that it wants. A constant subtable has it without any.
@@ -56,15 +47,9 @@ impl<S: Source + Drop> Opened<S> {
         ensures value { IfSome (opened_at self.now part side) (λ found. IfSome (wanted_block found.1 i) (λ block. block ≡ piece.now) → IsSomeAnd result (λ value. item (values_of self.now.kind found) i ≡ Some value)) }
         ensures spelled { IfSome (opened_at self.now part side) (λ found. IsSpelledBy piece.now found.1 i result) }
     {
-        let placed = self.placed.as_slice();
-        let Some(n) = slot_number(placed, part, side) else {
+        let Some(found) = slotted_at(self.placed.as_slice(), &self.subs, part, side) else {
             unreachable!()
         };
-        let slot = placed[n];
-        let held = &self.subs[n];
-        if is_constant(&held.sub) {
-            return Some(constant_value(self.kind, &held.sub));
-        }
-        value_in_block(&held.sub, slot.size, i, piece)
+        value_of(self.kind, &found, i, piece)
     }
 }

@@ -1,6 +1,5 @@
-use Rattle.std.proofs.Common.{◌≡◌, ◌<◌, ◌+◌, ◌*◌, ℕ, ap, ◌∙◌, sym, subst, None, Some, List, Option, arith, IsSome}
-use Rattle.std.specs.Prelude.{position, slice_get, IfSome, false, true}
-use Rattle.std.proofs.lemmas.List.Quantifiers.{position-Some}
+use Rattle.std.proofs.Common.{◌≡◌, ◌<◌, ◌+◌, ◌*◌, ℕ, ap, ◌∙◌, sym, subst, None, Some, List, Option, IsSome}
+use Rattle.std.specs.Prelude.{slice_get, IfSome, false, true}
 use Rattle.szg_values.specs.declared.Kind.{Kind}
 use Rattle.szg_block.specs.Lending.{bytes_at, packed_blocks}
 use Rattle.szg_block.specs.Paging.{room_of, size_of, count_of}
@@ -8,67 +7,50 @@ use Rattle.szg_block.specs.Shown.{IsReady}
 use Rattle.szg_block.specs.Subtable.{values_over}
 use Rattle.szg_file.specs.Contents.{Slot, Subtable}
 use Rattle.szg_file.specs.Lookup.{byte_of}
-use Rattle.szg_file.specs.Opened.{Opened, opened_at, asked_after}
+use Rattle.szg_file.specs.Opened.{Opened, asked_after}
 use Rattle.szg_file.specs.Placed.{whole_sub}
 use Rattle.szg_file.specs.Values.{item, values_of, constant_value}
 use Rattle.szg_file.specs.declared.dropping.PlacedSub.{PlacedSub}
-use Rattle.szg_file.proofs.TableFinds.{is_at}
-use Rattle.szg_file.proofs.OpenedLaws.{IsKept, opened_absent, found_kept, as_many_kept, few_bits, room_enough, turned_ready, turned_value, asked_placed}
+use Rattle.szg_file.proofs.OpenedLaws.{as_many_opened, none_opened, one_opened, few_bits, room_enough, turned_ready, turned_value, asked_placed}
 use Rattle.szg_file.proofs.WantedLaws.{constant_holds}
 use Rattle.szg_file.proofs.opened.Opened.get.Goals as goal
 
+pub slotted_at-requires : goal.slotted_at-requires
+slotted_at-requires g c =
+    as_many_opened _ c.args.self.now (room_of c.self.inside.blocks) c.self.inside.placed.items c.as_slice.result.now c.self.inside.subs.items c.deref.result.now c.args.part c.args.side c.self.invariant.0 c.self.view_is c.as_slice.ensures.value c.deref.ensures.value
+
 pub unreachable-requires : goal.unreachable-requires
 unreachable-requires g c =
-    let placed : List Slot = c.self.inside.placed.items in
-    let none : position (is_at c.args.part c.args.side) placed ≡ None = ap (λ (z : List Slot). position (is_at c.args.part c.args.side) z) (sym c.as_slice-placed.ensures.value) ∙ sym c.slot_number.ensures ∙ c.in_default.is in
-    let absent = subst (λ (o : Opened). opened_at o c.args.part c.args.side ≡ None) c.self.view_is
-    (opened_absent c.self.inside.material c.self.inside.kind (g.S.Source.content c.self.inside.blocks.source) (room_of c.self.inside.blocks) placed c.self.inside.subs.items c.args.part c.args.side c.self.invariant.0 none) in
+    let absent = none_opened _ c.args.self.now (room_of c.self.inside.blocks) c.self.inside.placed.items c.as_slice.result.now c.self.inside.subs.items c.deref.result.now c.args.part c.args.side c.self.invariant.0 c.self.view_is c.as_slice.ensures.value c.deref.ensures.value c.in_default.ensures in
     let no : IsSome {T = Slot × Subtable} None = subst (λ (o : Option (Slot × Subtable)). IsSome o) absent c.requires.there in
     cc
 
-pub index-held-requires : goal.index-held-requires
-index-held-requires g c =
-    let placed : List Slot = c.self.inside.placed.items in
-    let there : position (is_at c.args.part c.args.side) placed ≡ Some c.in-Some.n = ap (λ (z : List Slot). position (is_at c.args.part c.args.side) z) (sym c.as_slice-placed.ensures.value) ∙ sym c.slot_number.ensures ∙ c.in-Some.is in
-    let below = (position-Some (is_at c.args.part c.args.side) placed c.in-Some.n c.index-placed-n.result there).0 in
-    let many = as_many_kept c.self.inside.material c.self.inside.kind (g.S.Source.content c.self.inside.blocks.source) (room_of c.self.inside.blocks) placed c.self.inside.subs.items c.self.invariant.0 in
-    omega (arith, below, many)
-
 pub block_bytes-requires : goal.block_bytes-requires
 block_bytes-requires g c =
-    let placed : List Slot = c.self.inside.placed.items in
-    let held : PlacedSub = c.index-held.result.now in
+    let held : PlacedSub = c.in-Some.found.placed.now in
     let content : List ℕ = g.S.Source.content c.self.inside.blocks.source in
-    let kept : IsKept content (room_of c.self.inside.blocks) (opened_at c.args.self.now c.args.part c.args.side) c.index-placed-n.result held =
-    found_kept _ c.args.self.now (room_of c.self.inside.blocks) placed c.as_slice-placed.result.now c.self.inside.subs.items c.args.part c.args.side c.in-Some.n c.index-placed-n.result held
-    c.slot_number.result c.self.invariant.0 c.self.view_is c.as_slice-placed.ensures.value c.slot_number.ensures c.in-Some.is c.index-placed-n.is c.index-held.ensures in
-    few_bits c.index-placed-n.result content held.sub held.first kept.stands
+    let kept = one_opened _ c.args.self.now (room_of c.self.inside.blocks) c.self.inside.placed.items c.as_slice.result.now c.self.inside.subs.items c.deref.result.now c.args.part c.args.side c.self.invariant.0 c.self.view_is c.as_slice.ensures.value c.deref.ensures.value c.in-Some.found.slot c.in-Some.found.placed.now c.in-Some.ensures in
+    few_bits c.in-Some.found.slot content held.sub held.first kept.stands
 
 pub turn_to-requires : goal.turn_to-requires
 turn_to-requires g c =
-    let placed : List Slot = c.self.inside.placed.items in
-    let held : PlacedSub = c.index-held.result.now in
+    let held : PlacedSub = c.in-Some.found.placed.now in
     let content : List ℕ = g.S.Source.content c.self.inside.blocks.source in
-    let kept : IsKept content (room_of c.self.inside.blocks) (opened_at c.args.self.now c.args.part c.args.side) c.index-placed-n.result held =
-    found_kept _ c.args.self.now (room_of c.self.inside.blocks) placed c.as_slice-placed.result.now c.self.inside.subs.items c.args.part c.args.side c.in-Some.n c.index-placed-n.result held
-    c.slot_number.result c.self.invariant.0 c.self.view_is c.as_slice-placed.ensures.value c.slot_number.ensures c.in-Some.is c.index-placed-n.is c.index-held.ensures in
+    let kept = one_opened _ c.args.self.now (room_of c.self.inside.blocks) c.self.inside.placed.items c.as_slice.result.now c.self.inside.subs.items c.deref.result.now c.args.part c.args.side c.self.invariant.0 c.self.view_is c.as_slice.ensures.value c.deref.ensures.value c.in-Some.found.slot c.in-Some.found.placed.now c.in-Some.ensures in
     room_enough held.sub c.block_bytes.result (room_of c.self.inside.blocks) c.block_bytes.ensures.bytes c.block_bytes.ensures.none kept.fits.roomy
 
 pub look_up-requires : goal.look_up-requires
 look_up-requires g c =
-    let placed : List Slot = c.self.inside.placed.items in
-    let held : PlacedSub = c.index-held.result.now in
+    let held : PlacedSub = c.in-Some.found.placed.now in
     let content : List ℕ = g.S.Source.content c.self.inside.blocks.source in
-    let kept : IsKept content (room_of c.self.inside.blocks) (opened_at c.args.self.now c.args.part c.args.side) c.index-placed-n.result held =
-    found_kept _ c.args.self.now (room_of c.self.inside.blocks) placed c.as_slice-placed.result.now c.self.inside.subs.items c.args.part c.args.side c.in-Some.n c.index-placed-n.result held
-    c.slot_number.result c.self.invariant.0 c.self.view_is c.as_slice-placed.ensures.value c.slot_number.ensures c.in-Some.is c.index-placed-n.is c.index-held.ensures in
-    let sized : c.slot.inside.size ≡ c.index-placed-n.result.size = ap (λ (s : Slot). s.size) c.slot.view_is in
-    let turned : IsReady held.sub c.index-placed-n.result.size (count_of c.turn_to.new.self) (λ n. bytes_at (g.S.Source.content c.turn_to.new.self.source) (c.turn_to.new.self.at + n * size_of c.turn_to.new.self) (size_of c.turn_to.new.self)) =
-    turned_ready c.index-placed-n.result content _ held.sub held.first c.turn_to.new.self.at c.block_count.result (count_of c.turn_to.new.self) c.block_bytes.result (size_of c.turn_to.new.self)
+    let kept = one_opened _ c.args.self.now (room_of c.self.inside.blocks) c.self.inside.placed.items c.as_slice.result.now c.self.inside.subs.items c.deref.result.now c.args.part c.args.side c.self.invariant.0 c.self.view_is c.as_slice.ensures.value c.deref.ensures.value c.in-Some.found.slot c.in-Some.found.placed.now c.in-Some.ensures in
+    let sized : c.slot.inside.size ≡ c.in-Some.found.slot.size = ap (λ (s : Slot). s.size) c.slot.view_is in
+    let turned : IsReady held.sub c.in-Some.found.slot.size (count_of c.turn_to.new.self) (λ n. bytes_at (g.S.Source.content c.turn_to.new.self.source) (c.turn_to.new.self.at + n * size_of c.turn_to.new.self) (size_of c.turn_to.new.self)) =
+    turned_ready c.in-Some.found.slot content _ held.sub held.first c.turn_to.new.self.at c.block_count.result (count_of c.turn_to.new.self) c.block_bytes.result (size_of c.turn_to.new.self)
     kept.stands kept.fits.inside c.block_count.ensures c.block_bytes.ensures.bytes (ap (g.S.Source.content) c.turn_to.ensures.source) c.turn_to.ensures.first c.turn_to.ensures.count c.turn_to.ensures.size in
     let ready : IsReady held.sub c.slot.inside.size (count_of c.turn_to.new.self) (λ n. bytes_at (g.S.Source.content c.turn_to.new.self.source) (c.turn_to.new.self.at + n * size_of c.turn_to.new.self) (size_of c.turn_to.new.self)) =
     subst (λ (k : ℕ). IsReady held.sub k (count_of c.turn_to.new.self) (λ n. bytes_at (g.S.Source.content c.turn_to.new.self.source) (c.turn_to.new.self.at + n * size_of c.turn_to.new.self) (size_of c.turn_to.new.self))) (sym sized) turned in
-    let below : c.args.i < c.index-placed-n.result.size = subst (λ (o : Option (Slot × Subtable)). IfSome o (λ found. c.args.i < found.0.size)) kept.is c.requires.below in
+    let below : c.args.i < c.in-Some.found.slot.size = subst (λ (o : Option (Slot × Subtable)). IfSome o (λ found. c.args.i < found.0.size)) kept.is c.requires.below in
     record {
       head = ready.head;
       all = ready.all;
@@ -79,51 +61,39 @@ look_up-requires g c =
 
 pub returns-in_err-value-clause-asked : goal.returns-in_err-value-clause-asked
 returns-in_err-value-clause-asked g c =
-    let placed : List Slot = c.self.inside.placed.items in
-    let held : PlacedSub = c.index-held.result.now in
+    let held : PlacedSub = c.in-Some.found.placed.now in
     let content : List ℕ = g.S.Source.content c.self.inside.blocks.source in
-    let kept : IsKept content (room_of c.self.inside.blocks) (opened_at c.args.self.now c.args.part c.args.side) c.index-placed-n.result held =
-    found_kept _ c.args.self.now (room_of c.self.inside.blocks) placed c.as_slice-placed.result.now c.self.inside.subs.items c.args.part c.args.side c.in-Some.n c.index-placed-n.result held
-    c.slot_number.result c.self.invariant.0 c.self.view_is c.as_slice-placed.ensures.value c.slot_number.ensures c.in-Some.is c.index-placed-n.is c.index-held.ensures in
+    let kept = one_opened _ c.args.self.now (room_of c.self.inside.blocks) c.self.inside.placed.items c.as_slice.result.now c.self.inside.subs.items c.deref.result.now c.args.part c.args.side c.self.invariant.0 c.self.view_is c.as_slice.ensures.value c.deref.ensures.value c.in-Some.found.slot c.in-Some.found.placed.now c.in-Some.ensures in
     let before = ap (g.S.Source.asked) c.turn_to.ensures.source ∙ ap (λ (o : Opened). o.asked) c.self.view_is in
     rw kept.is (asked_placed content held.sub held.first _ _ (size_of c.turn_to.new.self) c.block_bytes.result c.block_bytes.ensures.bytes c.look_up.ensures.asked_none c.look_up.ensures.asked_one c.turn_to.ensures.size
     ∙ ap (λ (k : ℕ). asked_after (whole_sub content held) k) before)
 
 pub returns-in_err-value-clause-constant : goal.returns-in_err-value-clause-constant
 returns-in_err-value-clause-constant g c =
-    let placed : List Slot = c.self.inside.placed.items in
-    let held : PlacedSub = c.index-held.result.now in
+    let held : PlacedSub = c.in-Some.found.placed.now in
     let content : List ℕ = g.S.Source.content c.self.inside.blocks.source in
-    let kept : IsKept content (room_of c.self.inside.blocks) (opened_at c.args.self.now c.args.part c.args.side) c.index-placed-n.result held =
-    found_kept _ c.args.self.now (room_of c.self.inside.blocks) placed c.as_slice-placed.result.now c.self.inside.subs.items c.args.part c.args.side c.in-Some.n c.index-placed-n.result held
-    c.slot_number.result c.self.invariant.0 c.self.view_is c.as_slice-placed.ensures.value c.slot_number.ensures c.in-Some.is c.index-placed-n.is c.index-held.ensures in
+    let kept = one_opened _ c.args.self.now (room_of c.self.inside.blocks) c.self.inside.placed.items c.as_slice.result.now c.self.inside.subs.items c.deref.result.now c.args.part c.args.side c.self.invariant.0 c.self.view_is c.as_slice.ensures.value c.deref.ensures.value c.in-Some.found.slot c.in-Some.found.placed.now c.in-Some.ensures in
     rw kept.is (λ none. let no : false ≡ true = constant_holds (false ≡ true) content held.sub held.first c.args.i c.in_err-value.ensures.constant none in absurd (cc no))
 
 pub returns-clause-value : goal.returns-clause-value
 returns-clause-value g c =
-    let placed : List Slot = c.self.inside.placed.items in
-    let held : PlacedSub = c.index-held.result.now in
+    let held : PlacedSub = c.in-Some.found.placed.now in
     let content : List ℕ = g.S.Source.content c.self.inside.blocks.source in
-    let kept : IsKept content (room_of c.self.inside.blocks) (opened_at c.args.self.now c.args.part c.args.side) c.index-placed-n.result held =
-    found_kept _ c.args.self.now (room_of c.self.inside.blocks) placed c.as_slice-placed.result.now c.self.inside.subs.items c.args.part c.args.side c.in-Some.n c.index-placed-n.result held
-    c.slot_number.result c.self.invariant.0 c.self.view_is c.as_slice-placed.ensures.value c.slot_number.ensures c.in-Some.is c.index-placed-n.is c.index-held.ensures in
+    let kept = one_opened _ c.args.self.now (room_of c.self.inside.blocks) c.self.inside.placed.items c.as_slice.result.now c.self.inside.subs.items c.deref.result.now c.args.part c.args.side c.self.invariant.0 c.self.view_is c.as_slice.ensures.value c.deref.ensures.value c.in-Some.found.slot c.in-Some.found.placed.now c.in-Some.ensures in
     let kind : Kind = c.args.self.now.kind in
     let kind_is : c.self.inside.kind ≡ kind = ap (λ (o : Opened). o.kind) c.self.view_is in
-    let sized : c.slot.inside.size ≡ c.index-placed-n.result.size = ap (λ (s : Slot). s.size) c.slot.view_is in
+    let sized : c.slot.inside.size ≡ c.in-Some.found.slot.size = ap (λ (s : Slot). s.size) c.slot.view_is in
     let constant_is : c.constant_value-constant.result ≡ constant_value kind (byte_of held.sub) = c.constant_value-constant.ensures ∙ ap (λ (k : Kind). constant_value k (byte_of held.sub)) kind_is in
     let got = subst (λ (k : ℕ). slice_get (values_over held.sub (packed_blocks (λ n. bytes_at (g.S.Source.content c.turn_to.new.self.source) (c.turn_to.new.self.at + n * size_of c.turn_to.new.self) (size_of c.turn_to.new.self)) (count_of c.turn_to.new.self)) k c.constant_value-constant.result) c.args.i ≡ Some c.in_ok-value.value) sized c.in_ok-value.ensures.value in
     subst (λ (o : Option (Slot × Subtable)). IfSome o (λ found. item (values_of kind found) c.args.i ≡ Some c.in_ok-value.value)) (sym kept.is)
-    (turned_value kind c.index-placed-n.result content _ held.sub held.first c.turn_to.new.self.at c.block_count.result (count_of c.turn_to.new.self) c.block_bytes.result (size_of c.turn_to.new.self)
+    (turned_value kind c.in-Some.found.slot content _ held.sub held.first c.turn_to.new.self.at c.block_count.result (count_of c.turn_to.new.self) c.block_bytes.result (size_of c.turn_to.new.self)
     c.constant_value-constant.result c.args.i c.in_ok-value.value c.block_count.ensures c.block_bytes.ensures.bytes (ap (g.S.Source.content) c.turn_to.ensures.source) c.turn_to.ensures.first c.turn_to.ensures.count c.turn_to.ensures.size constant_is got)
 
 pub returns-clause-asked : goal.returns-clause-asked
 returns-clause-asked g c =
-    let placed : List Slot = c.self.inside.placed.items in
-    let held : PlacedSub = c.index-held.result.now in
+    let held : PlacedSub = c.in-Some.found.placed.now in
     let content : List ℕ = g.S.Source.content c.self.inside.blocks.source in
-    let kept : IsKept content (room_of c.self.inside.blocks) (opened_at c.args.self.now c.args.part c.args.side) c.index-placed-n.result held =
-    found_kept _ c.args.self.now (room_of c.self.inside.blocks) placed c.as_slice-placed.result.now c.self.inside.subs.items c.args.part c.args.side c.in-Some.n c.index-placed-n.result held
-    c.slot_number.result c.self.invariant.0 c.self.view_is c.as_slice-placed.ensures.value c.slot_number.ensures c.in-Some.is c.index-placed-n.is c.index-held.ensures in
+    let kept = one_opened _ c.args.self.now (room_of c.self.inside.blocks) c.self.inside.placed.items c.as_slice.result.now c.self.inside.subs.items c.deref.result.now c.args.part c.args.side c.self.invariant.0 c.self.view_is c.as_slice.ensures.value c.deref.ensures.value c.in-Some.found.slot c.in-Some.found.placed.now c.in-Some.ensures in
     let before = ap (g.S.Source.asked) c.turn_to.ensures.source ∙ ap (λ (o : Opened). o.asked) c.self.view_is in
     rw kept.is (asked_placed content held.sub held.first _ _ (size_of c.turn_to.new.self) c.block_bytes.result c.block_bytes.ensures.bytes c.look_up.ensures.asked_none c.look_up.ensures.asked_one c.turn_to.ensures.size
     ∙ ap (λ (k : ℕ). asked_after (whole_sub content held) k) before)
