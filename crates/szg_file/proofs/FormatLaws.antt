@@ -121,6 +121,44 @@ after_fill-truncated skipped (good a' more rest') count e = absurd cc
 after_fill-truncated skipped (refused at' reason' rest') count e = absurd cc
 after_fill-truncated skipped (truncated at') count e = e
 
+-- ---- a whole field, with a text behind it or cut behind one
+
+field-text : {A : Type 0} (size : ℕ) (next : List ℕ → Format A) (place : ℕ) (field_bytes text : List ℕ) → length field_bytes ≡ size →
+    verdict (field size next) place (field_bytes ++ text) ≡ verdict (next field_bytes) (place + size) text
+field-text size next place field_bytes text long =
+    field-whole size next place (field_bytes ++ text) (omega (arith, length-append field_bytes text, long))
+    ∙ ap (λ (z : List ℕ). verdict (next z) (place + size) (drop size (field_bytes ++ text))) (take_front size field_bytes text long)
+    ∙ ap (λ (z : List ℕ). verdict (next field_bytes) (place + size) z) (drop_front size field_bytes text long)
+
+fill-text : {A : Type 0} (size : ℕ) (next : Format A) (place : ℕ) (fill_bytes text : List ℕ) → length fill_bytes ≡ size →
+    verdict (fill size next) place (fill_bytes ++ text) ≡ after_fill fill_bytes (verdict next (place + size) text)
+fill-text size next place fill_bytes text long =
+    fill-whole size next place (fill_bytes ++ text) (omega (arith, length-append fill_bytes text, long))
+    ∙ ap (λ (z : List ℕ). after_fill z (verdict next (place + size) (drop size (fill_bytes ++ text)))) (take_front size fill_bytes text long)
+    ∙ ap (λ (z : List ℕ). after_fill fill_bytes (verdict next (place + size) z)) (drop_front size fill_bytes text long)
+
+taken_long : (size : ℕ) (bytes : List ℕ) → size ≤ length bytes → length (take size bytes) ≡ size
+taken_long size bytes whole = omega (arith, length-take size bytes)
+
+-- the first bytes, a text and what follows it
+taken_first : (size : ℕ) (bytes text rest : List ℕ) → drop size bytes ≡ text ++ rest → bytes ≡ (take size bytes ++ text) ++ rest
+taken_first size bytes text rest e =
+    sym (take-append-drop size bytes) ∙ ap (λ (z : List ℕ). take size bytes ++ z) e ∙ sym (append_assoc (take size bytes) text rest)
+
+field-more : {A : Type 0} (size : ℕ) (next : List ℕ → Format A) (place : ℕ) (bytes more : List ℕ) → size ≤ length bytes →
+    verdict (field size next) place (bytes ++ more) ≡ verdict (next (take size bytes)) (place + size) (drop size bytes ++ more)
+field-more size next place bytes more whole =
+    field-whole size next place (bytes ++ more) (omega (arith, length-append bytes more))
+    ∙ ap (λ (z : List ℕ). verdict (next z) (place + size) (drop size (bytes ++ more))) (take-append-le size bytes more whole)
+    ∙ ap (λ (z : List ℕ). verdict (next (take size bytes)) (place + size) z) (drop-append-le size bytes more whole)
+
+fill-more : {A : Type 0} (size : ℕ) (next : Format A) (place : ℕ) (bytes more : List ℕ) → size ≤ length bytes →
+    verdict (fill size next) place (bytes ++ more) ≡ after_fill (take size bytes) (verdict next (place + size) (drop size bytes ++ more))
+fill-more size next place bytes more whole =
+    fill-whole size next place (bytes ++ more) (omega (arith, length-append bytes more))
+    ∙ ap (λ (z : List ℕ). after_fill z (verdict next (place + size) (drop size (bytes ++ more)))) (take-append-le size bytes more whole)
+    ∙ ap (λ (z : List ℕ). after_fill (take size bytes) (verdict next (place + size) z)) (drop-append-le size bytes more whole)
+
 -- a whole text was taken off the front of the bytes
 pub good-split : {A : Type 0} (f : Format A) (place : ℕ) (bytes : List ℕ) (a : A) (filled rest : List ℕ) → verdict f place bytes ≡ good a filled rest →
     (text : List ℕ) × (bytes ≡ text ++ rest) × (verdict f place text ≡ good a filled [])
@@ -135,16 +173,7 @@ good-split (field size next) place bytes a filled rest e =
       | inl short ↦ let no : truncated (place + length bytes) ≡ good a filled rest = sym (field-short size next place bytes short) ∙ e in absurd cc
       | inr whole ↦
           let h = good-split (next (take size bytes)) (place + size) (drop size bytes) a filled rest (sym (field-whole size next place bytes whole) ∙ e) in
-          let long : size ≤ length (take size bytes ++ h.0) = omega (arith, length-append (take size bytes) h.0, length-take size bytes) in
-          let front : take size (take size bytes ++ h.0) ≡ take size bytes = take_front size (take size bytes) h.0 (omega (arith, length-take size bytes)) in
-          let back : drop size (take size bytes ++ h.0) ≡ h.0 = drop_front size (take size bytes) h.0 (omega (arith, length-take size bytes)) in (
-            take size bytes ++ h.0,
-            sym (take-append-drop size bytes) ∙ ap (λ (z : List ℕ). take size bytes ++ z) h.1 ∙ sym (append_assoc (take size bytes) h.0 rest),
-            field-whole size next place (take size bytes ++ h.0) long
-                ∙ ap (λ (z : List ℕ). verdict (next z) (place + size) (drop size (take size bytes ++ h.0))) front
-                ∙ ap (λ (z : List ℕ). verdict (next (take size bytes)) (place + size) z) back
-                ∙ h.2,
-          )
+          (take size bytes ++ h.0, taken_first size bytes h.0 rest h.1, field-text size next place (take size bytes) h.0 (taken_long size bytes whole) ∙ h.2)
     ]
 good-split (fill size next) place bytes a filled rest e =
     elim (cases_lt (length bytes) size) [
@@ -152,16 +181,10 @@ good-split (fill size next) place bytes a filled rest e =
       | inr whole ↦
           let g = after_fill-good (take size bytes) (verdict next (place + size) (drop size bytes)) a filled rest (sym (fill-whole size next place bytes whole) ∙ e) in
           let h = good-split next (place + size) (drop size bytes) a g.0 rest g.1 in
-          let long : size ≤ length (take size bytes ++ h.0) = omega (arith, length-append (take size bytes) h.0, length-take size bytes) in
-          let front : take size (take size bytes ++ h.0) ≡ take size bytes = take_front size (take size bytes) h.0 (omega (arith, length-take size bytes)) in
-          let back : drop size (take size bytes ++ h.0) ≡ h.0 = drop_front size (take size bytes) h.0 (omega (arith, length-take size bytes)) in (
+          (
             take size bytes ++ h.0,
-            sym (take-append-drop size bytes) ∙ ap (λ (z : List ℕ). take size bytes ++ z) h.1 ∙ sym (append_assoc (take size bytes) h.0 rest),
-            fill-whole size next place (take size bytes ++ h.0) long
-                ∙ ap (λ (z : List ℕ). after_fill z (verdict next (place + size) (drop size (take size bytes ++ h.0)))) front
-                ∙ ap (λ (z : List ℕ). after_fill (take size bytes) (verdict next (place + size) z)) back
-                ∙ ap (after_fill (take size bytes)) h.2
-                ∙ ap (λ (z : List ℕ). good a z []) (sym g.2),
+            taken_first size bytes h.0 rest h.1,
+            fill-text size next place (take size bytes) h.0 (taken_long size bytes whole) ∙ ap (after_fill (take size bytes)) h.2 ∙ ap (λ (z : List ℕ). good a z []) (sym g.2),
           )
     ]
 good-split (placed next) place bytes a filled rest e = good-split (next place) place bytes a filled rest e
@@ -179,9 +202,7 @@ good-more (field size next) place bytes more a filled rest e =
     elim (cases_lt (length bytes) size) [
       | inl short ↦ let no : truncated (place + length bytes) ≡ good a filled rest = sym (field-short size next place bytes short) ∙ e in absurd cc
       | inr whole ↦
-          field-whole size next place (bytes ++ more) (omega (arith, length-append bytes more))
-          ∙ ap (λ (z : List ℕ). verdict (next z) (place + size) (drop size (bytes ++ more))) (take-append-le size bytes more whole)
-          ∙ ap (λ (z : List ℕ). verdict (next (take size bytes)) (place + size) z) (drop-append-le size bytes more whole)
+          field-more size next place bytes more whole
           ∙ good-more (next (take size bytes)) (place + size) (drop size bytes) more a filled rest (sym (field-whole size next place bytes whole) ∙ e)
     ]
 good-more (fill size next) place bytes more a filled rest e =
@@ -189,9 +210,7 @@ good-more (fill size next) place bytes more a filled rest e =
       | inl short ↦ let no : truncated (place + length bytes) ≡ good a filled rest = sym (fill-short size next place bytes short) ∙ e in absurd cc
       | inr whole ↦
           let g = after_fill-good (take size bytes) (verdict next (place + size) (drop size bytes)) a filled rest (sym (fill-whole size next place bytes whole) ∙ e) in
-          fill-whole size next place (bytes ++ more) (omega (arith, length-append bytes more))
-          ∙ ap (λ (z : List ℕ). after_fill z (verdict next (place + size) (drop size (bytes ++ more)))) (take-append-le size bytes more whole)
-          ∙ ap (λ (z : List ℕ). after_fill (take size bytes) (verdict next (place + size) z)) (drop-append-le size bytes more whole)
+          fill-more size next place bytes more whole
           ∙ ap (after_fill (take size bytes)) (good-more next (place + size) (drop size bytes) more a g.0 rest g.1)
           ∙ ap (λ (z : List ℕ). good a z (rest ++ more)) (sym g.2)
     ]
@@ -210,9 +229,7 @@ refused-more (field size next) place bytes more at reason rest e =
     elim (cases_lt (length bytes) size) [
       | inl short ↦ let no : truncated (place + length bytes) ≡ refused at reason rest = sym (field-short size next place bytes short) ∙ e in absurd cc
       | inr whole ↦
-          field-whole size next place (bytes ++ more) (omega (arith, length-append bytes more))
-          ∙ ap (λ (z : List ℕ). verdict (next z) (place + size) (drop size (bytes ++ more))) (take-append-le size bytes more whole)
-          ∙ ap (λ (z : List ℕ). verdict (next (take size bytes)) (place + size) z) (drop-append-le size bytes more whole)
+          field-more size next place bytes more whole
           ∙ refused-more (next (take size bytes)) (place + size) (drop size bytes) more at reason rest (sym (field-whole size next place bytes whole) ∙ e)
     ]
 refused-more (fill size next) place bytes more at reason rest e =
@@ -220,9 +237,7 @@ refused-more (fill size next) place bytes more at reason rest e =
       | inl short ↦ let no : truncated (place + length bytes) ≡ refused at reason rest = sym (fill-short size next place bytes short) ∙ e in absurd cc
       | inr whole ↦
           let g = after_fill-refused (take size bytes) (verdict next (place + size) (drop size bytes)) at reason rest (sym (fill-whole size next place bytes whole) ∙ e) in
-          fill-whole size next place (bytes ++ more) (omega (arith, length-append bytes more))
-          ∙ ap (λ (z : List ℕ). after_fill z (verdict next (place + size) (drop size (bytes ++ more)))) (take-append-le size bytes more whole)
-          ∙ ap (λ (z : List ℕ). after_fill (take size bytes) (verdict next (place + size) z)) (drop-append-le size bytes more whole)
+          fill-more size next place bytes more whole
           ∙ ap (after_fill (take size bytes)) (refused-more next (place + size) (drop size bytes) more at reason rest g)
     ]
 refused-more (placed next) place bytes more at reason rest e = refused-more (next place) place bytes more at reason rest e
@@ -241,16 +256,7 @@ refused-split (field size next) place bytes at reason rest e =
       | inl short ↦ let no : truncated (place + length bytes) ≡ refused at reason rest = sym (field-short size next place bytes short) ∙ e in absurd cc
       | inr whole ↦
           let h = refused-split (next (take size bytes)) (place + size) (drop size bytes) at reason rest (sym (field-whole size next place bytes whole) ∙ e) in
-          let long : size ≤ length (take size bytes ++ h.0) = omega (arith, length-append (take size bytes) h.0, length-take size bytes) in
-          let front : take size (take size bytes ++ h.0) ≡ take size bytes = take_front size (take size bytes) h.0 (omega (arith, length-take size bytes)) in
-          let back : drop size (take size bytes ++ h.0) ≡ h.0 = drop_front size (take size bytes) h.0 (omega (arith, length-take size bytes)) in (
-            take size bytes ++ h.0,
-            sym (take-append-drop size bytes) ∙ ap (λ (z : List ℕ). take size bytes ++ z) h.1 ∙ sym (append_assoc (take size bytes) h.0 rest),
-            field-whole size next place (take size bytes ++ h.0) long
-                ∙ ap (λ (z : List ℕ). verdict (next z) (place + size) (drop size (take size bytes ++ h.0))) front
-                ∙ ap (λ (z : List ℕ). verdict (next (take size bytes)) (place + size) z) back
-                ∙ h.2,
-          )
+          (take size bytes ++ h.0, taken_first size bytes h.0 rest h.1, field-text size next place (take size bytes) h.0 (taken_long size bytes whole) ∙ h.2)
     ]
 refused-split (fill size next) place bytes at reason rest e =
     elim (cases_lt (length bytes) size) [
@@ -258,16 +264,7 @@ refused-split (fill size next) place bytes at reason rest e =
       | inr whole ↦
           let g = after_fill-refused (take size bytes) (verdict next (place + size) (drop size bytes)) at reason rest (sym (fill-whole size next place bytes whole) ∙ e) in
           let h = refused-split next (place + size) (drop size bytes) at reason rest g in
-          let long : size ≤ length (take size bytes ++ h.0) = omega (arith, length-append (take size bytes) h.0, length-take size bytes) in
-          let front : take size (take size bytes ++ h.0) ≡ take size bytes = take_front size (take size bytes) h.0 (omega (arith, length-take size bytes)) in
-          let back : drop size (take size bytes ++ h.0) ≡ h.0 = drop_front size (take size bytes) h.0 (omega (arith, length-take size bytes)) in (
-            take size bytes ++ h.0,
-            sym (take-append-drop size bytes) ∙ ap (λ (z : List ℕ). take size bytes ++ z) h.1 ∙ sym (append_assoc (take size bytes) h.0 rest),
-            fill-whole size next place (take size bytes ++ h.0) long
-                ∙ ap (λ (z : List ℕ). after_fill z (verdict next (place + size) (drop size (take size bytes ++ h.0)))) front
-                ∙ ap (λ (z : List ℕ). after_fill (take size bytes) (verdict next (place + size) z)) back
-                ∙ ap (after_fill (take size bytes)) h.2,
-          )
+          (take size bytes ++ h.0, taken_first size bytes h.0 rest h.1, fill-text size next place (take size bytes) h.0 (taken_long size bytes whole) ∙ ap (after_fill (take size bytes)) h.2)
     ]
 refused-split (placed next) place bytes at reason rest e = refused-split (next place) place bytes at reason rest e
 
