@@ -180,8 +180,7 @@ good-split (fill size next) place bytes a filled rest e =
       | inl short ↦ let no : truncated (place + length bytes) ≡ good a filled rest = sym (fill-short size next place bytes short) ∙ e in absurd cc
       | inr whole ↦
           let g = after_fill-good (take size bytes) (verdict next (place + size) (drop size bytes)) a filled rest (sym (fill-whole size next place bytes whole) ∙ e) in
-          let h = good-split next (place + size) (drop size bytes) a g.0 rest g.1 in
-          (
+          let h = good-split next (place + size) (drop size bytes) a g.0 rest g.1 in (
             take size bytes ++ h.0,
             taken_first size bytes h.0 rest h.1,
             fill-text size next place (take size bytes) h.0 (taken_long size bytes whole) ∙ ap (after_fill (take size bytes)) h.2 ∙ ap (λ (z : List ℕ). good a z []) (sym g.2),

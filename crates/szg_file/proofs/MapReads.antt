@@ -57,28 +57,25 @@ each_then {B = B} {C = C} f x xs k =
     then-then (f x) (λ y. each f xs >>= λ ys. means (y ∷ ys)) k
     ∙ ap (λ (h : B → Format C). f x >>= h) (λ i y. then-then (each f xs) (λ ys. means (y ∷ ys)) k i)
 
-module _ (size : ℕ) where
-  abbrev pub four_sizes : List ℕ
-  four_sizes = size ∷ size ∷ size ∷ size ∷ []
+module _ {B : Type 0} (f : Format B) where
+  abbrev pub after_three : B → B → B → Format (List B)
+  after_three w x y = f >>= λ z. means (w ∷ x ∷ y ∷ z ∷ [])
 
-  abbrev pub after_three : List ℕ → List ℕ → List ℕ → Format (List (List ℕ))
-  after_three w x y = list_field size >>= λ z. means (w ∷ x ∷ y ∷ z ∷ [])
+  abbrev pub after_two : B → B → Format (List B)
+  after_two w x = f >>= after_three w x
 
-  abbrev pub after_two : List ℕ → List ℕ → Format (List (List ℕ))
-  after_two w x = list_field size >>= after_three w x
+  abbrev pub after_one : B → Format (List B)
+  after_one w = f >>= after_two w
 
-  abbrev pub after_one : List ℕ → Format (List (List ℕ))
-  after_one w = list_field size >>= after_two w
-
-  -- four lists, step by step
-  pub four_steps : each list_field four_sizes ≡ list_field size >>= after_one
+  -- four times the same, step by step
+  pub four_steps : each (λ (_ : ℕ). f) (1 ∷ 2 ∷ 3 ∷ 4 ∷ []) ≡ f >>= after_one
   four_steps =
-      ap (λ (k : List ℕ → Format (List (List ℕ))). list_field size >>= k)
-      (λ i w. (each_then list_field size (size ∷ size ∷ []) (λ ys. means (w ∷ ys))
-      ∙ ap (λ (k : List ℕ → Format (List (List ℕ))). list_field size >>= k)
-      (λ i x. (each_then list_field size (size ∷ []) (λ ys. means (w ∷ x ∷ ys))
-      ∙ ap (λ (k : List ℕ → Format (List (List ℕ))). list_field size >>= k)
-      (λ i y. each_then list_field size [] (λ ys. means (w ∷ x ∷ y ∷ ys)) i)) i)) i)
+      ap (λ (k : B → Format (List B)). f >>= k)
+      (λ i w. (each_then (λ (_ : ℕ). f) 2 (3 ∷ 4 ∷ []) (λ ys. means (w ∷ ys))
+      ∙ ap (λ (k : B → Format (List B)). f >>= k)
+      (λ i x. (each_then (λ (_ : ℕ). f) 3 (4 ∷ []) (λ ys. means (w ∷ x ∷ ys))
+      ∙ ap (λ (k : B → Format (List B)). f >>= k)
+      (λ i y. each_then (λ (_ : ℕ). f) 4 [] (λ ys. means (w ∷ x ∷ y ∷ ys)) i)) i)) i)
 
 -- ---- flags
 

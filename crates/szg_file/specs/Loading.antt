@@ -1,4 +1,4 @@
--- Calls that take something more into a subtable, as they are handed to the loop over all subtables.
+-- Calls that are handed to a loop of readers: those that take something more into a subtable, and those that read a list.
 use Rattle.std.specs.Prelude.{ℕ, ◌+◌, ◌*◌, ◌^◌, ◌<◌, ◌≤◌, Result, OnOk, IfOk}
 use denote.Ref.{MutBor}
 use denote.Param.Members.{Shared}
@@ -31,3 +31,28 @@ TakesAs {M = M} {T = T} {U = U} {R = R} calls dev take field before after =
     calls.post take (alloc, (item, (input, (front, tt)))) (result, (left, (rest, tt))) →
     Reading (field item) (λ taken. taken) front.now rest.now dev input.now left.now result
     × IfOk result (λ taken. HasCounted front.now rest.now (before item) (after taken))
+
+-- ---- a list
+
+-- A call may be made where the front hasn't gone far and what has grown is paid for.
+abbrev pub MayRead : {M F X R : Type 0} → Shared F (M × (MutBor R × (MutBor Front × Unit {0}))) (Result X ReadFault × (MutBor R × (MutBor Front × Unit {0}))) → F → Type 0
+MayRead {M = M} {R = R} calls read =
+    (alloc : M) (input : MutBor R) (front : MutBor Front) →
+    front.now.place + 2 ^ 17 < 2 ^ 62 → front.now.growth ≤ 2 * front.now.place + 2 ^ 15 →
+    calls.pre read (alloc, (input, (front, tt)))
+
+-- Each call that reads a whole list takes few enough bytes, and what the list has grown by was counted.
+abbrev pub ReadsFew : {M F X R : Type 0} → Shared F (M × (MutBor R × (MutBor Front × Unit {0}))) (Result X ReadFault × (MutBor R × (MutBor Front × Unit {0}))) → F → (X → ℕ) → Type 0
+ReadsFew {M = M} {X = X} {R = R} calls read count =
+    (alloc : M) (input left : MutBor R) (front rest : MutBor Front) (result : Result X ReadFault) →
+    calls.post read (alloc, (input, (front, tt))) (result, (left, (rest, tt))) →
+    OnOk result ((rest.now.place ≤ front.now.place + 2 ^ 17) × (rest.now.growth + 2 * front.now.place ≤ front.now.growth + 2 * rest.now.place))
+    × IfOk result (λ list. HasCounted front.now rest.now 0 (count list))
+
+-- Each call reads this format.
+abbrev pub ReadsAs : {A M F X R : Type 0} → Shared F (M × (MutBor R × (MutBor Front × Unit {0}))) (Result X ReadFault × (MutBor R × (MutBor Front × Unit {0}))) →
+    Ghosts R → F → Format A → (X → A) → Type 0
+ReadsAs {M = M} {X = X} {R = R} calls dev read format view =
+    (alloc : M) (input left : MutBor R) (front rest : MutBor Front) (result : Result X ReadFault) →
+    calls.post read (alloc, (input, (front, tt))) (result, (left, (rest, tt))) →
+    Reading format view front.now rest.now dev input.now left.now result

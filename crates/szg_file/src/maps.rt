@@ -1,7 +1,9 @@
-ghost use Rattle.std.specs.Prelude.{◌≡◌, ◌+◌, ◌*◌, ◌≤◌, ◌<◌, ◌^◌, ◌∷◌, [], length, map, option_map, OnOk, IfOk, Some};
+ghost use Rattle.std.specs.Prelude.{ℕ, List, ◌≡◌, ◌+◌, ◌*◌, ◌≤◌, ◌<◌, ◌^◌, ◌∷◌, [], length, map, option_map, OnOk, IfOk, Some};
 ghost use Rattle.std.specs.List.{sum_by};
 ghost use Rattle.szg_file.specs.File.{each, list_field, map_lists, map_field, maps_field};
+ghost use Rattle.szg_file.specs.Format.{Format};
 ghost use Rattle.szg_file.specs.Held.{map_of};
+ghost use Rattle.szg_file.specs.Loading.{MayRead, ReadsFew, ReadsAs};
 ghost use Rattle.szg_file.specs.Reading.{Reading};
 ghost use Rattle.szg_file.specs.Grown.{HasCounted, maps_lengths};
 ghost use Rattle.szg_file.specs.WholeRead.{map_lengths};
@@ -119,50 +121,33 @@ fn read_lists<R: Input>(
 {
     if has_bit(4, flags) {
         take_fill(alloc, 2, input, front)?;
-        let lists = read_wide_lists(alloc, input, front)?;
+        let lists = read_four(alloc, read_numbers, input, front)?;
         return Ok(Map::Wide(lists));
     }
-    let lists = read_byte_lists(alloc, input, front)?;
+    let lists = read_four(alloc, read_bytes, input, front)?;
     Ok(Map::Bytes(lists))
 }
 
-/// Takes four lists of bytes: for wins, losses, cursed wins and blessed losses.
-fn read_byte_lists<R: Input>(
+/// Takes four lists, each by a call of `read`: for wins, losses, cursed wins and blessed losses.
+fn read_four<T: Drop, R: Input, F: Fn(Global, &mut R, &mut Front) -> Result<Vec<T>, ReadFault>>(
     alloc: Global,
+    read: F,
     input: &mut R,
     front: &mut Front,
-) -> Result<[Vec<u8>; 4], ReadFault>
-    requires place { front.old.place + 4 * 256 < 2 ^ 62 }
+) -> Result<[Vec<T>; 4], ReadFault>
+    requires may { MayRead F.Fn read }
+    requires few { ReadsFew F.Fn read (λ list. length list.items) }
+    requires place { front.old.place + 4 * 2 ^ 17 < 2 ^ 62 }
     requires paid { front.old.growth ≤ 2 * front.old.place + 2 ^ 15 }
-    ensures lists { Reading (each list_field (1 ∷ 1 ∷ 1 ∷ 1 ∷ [])) (map (λ list. list.items)) front.old front.new R.Input input.old input.new result }
-    ensures place { OnOk result (front.new.place ≤ front.old.place + 4 * 256) }
+    ensures lists { (format : Format (List T)) → ReadsAs F.Fn R.Input read format (λ list. list.items) → Reading (each {A = ℕ} (λ _. format) (1 ∷ 2 ∷ 3 ∷ 4 ∷ [])) (map (λ list. list.items)) front.old front.new R.Input input.old input.new result }
+    ensures place { OnOk result (front.new.place ≤ front.old.place + 4 * 2 ^ 17) }
     ensures growth { OnOk result (front.new.growth + 2 * front.old.place ≤ front.old.growth + 2 * front.new.place) }
     ensures grown { IfOk result (λ lists. HasCounted front.old front.new 0 (sum_by (λ list. length list.items) lists)) }
 {
-    let wins = read_bytes(alloc, input, front)?;
-    let losses = read_bytes(alloc, input, front)?;
-    let cursed_wins = read_bytes(alloc, input, front)?;
-    let blessed_losses = read_bytes(alloc, input, front)?;
-    Ok([wins, losses, cursed_wins, blessed_losses])
-}
-
-/// Takes four lists of numbers of two bytes: for wins, losses, cursed wins and blessed losses.
-fn read_wide_lists<R: Input>(
-    alloc: Global,
-    input: &mut R,
-    front: &mut Front,
-) -> Result<[Vec<u16>; 4], ReadFault>
-    requires place { front.old.place + 4 * 131072 < 2 ^ 62 }
-    requires paid { front.old.growth ≤ 2 * front.old.place + 2 ^ 15 }
-    ensures lists { Reading (each list_field (2 ∷ 2 ∷ 2 ∷ 2 ∷ [])) (map (λ list. list.items)) front.old front.new R.Input input.old input.new result }
-    ensures place { OnOk result (front.new.place ≤ front.old.place + 4 * 131072) }
-    ensures growth { OnOk result (front.new.growth + 2 * front.old.place ≤ front.old.growth + 2 * front.new.place) }
-    ensures grown { IfOk result (λ lists. HasCounted front.old front.new 0 (sum_by (λ list. length list.items) lists)) }
-{
-    let wins = read_numbers(alloc, input, front)?;
-    let losses = read_numbers(alloc, input, front)?;
-    let cursed_wins = read_numbers(alloc, input, front)?;
-    let blessed_losses = read_numbers(alloc, input, front)?;
+    let wins = read(alloc, input, front)?;
+    let losses = read(alloc, input, front)?;
+    let cursed_wins = read(alloc, input, front)?;
+    let blessed_losses = read(alloc, input, front)?;
     Ok([wins, losses, cursed_wins, blessed_losses])
 }
 
