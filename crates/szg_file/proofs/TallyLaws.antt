@@ -1,7 +1,7 @@
 -- Counts compose, and what they count is what a table's file asks for.
 use Rattle.std.proofs.Common.{◌≡◌, ℕ, suc, add-one, ◌+◌, ◌-◌, ◌*◌, ◌%◌, ◌^◌, ◌<◌, ◌≤◌, List, [], ◌∷◌, ◌++◌, length, map, take, get_or, refl, sym, ap, subst, ◌∙◌, append-nil, arith, Option, Some, None}
 use Rattle.std.specs.Prelude.{flat_map, replicate, slice_get}
-use Rattle.std.proofs.lemmas.List.{length-append, length-replicate, take_all}
+use Rattle.std.proofs.lemmas.List.{length-append, length-replicate}
 use Rattle.std.proofs.lemmas.List.Folds.{flat_map-map}
 use Rattle.std.proofs.lemmas.Grind.{flat_map-append}
 use Rattle.std.proofs.lemmas.Nat.Gcd.{dvd_of_mod-eq-zero}
@@ -99,11 +99,6 @@ counts_item f xs at x {a = a} {c = c} h is first second =
 pub counts_mapped : {A B : Type 0} (f : B → List Section) (view : A → B) (xs : List A) {a b : Tally} →
     Counts (flat_map (λ x. f (view x)) xs) a b → Counts (flat_map f (map view xs)) a b
 counts_mapped f view xs {a = a} {b = b} first = subst (λ (z : List Section). Counts z a b) (sym (flat_map-map f view xs)) first
-
-pub counts_all : {A B : Type 0} (f : B → List Section) (view : A → B) (xs : List A) (at : ℕ) {a b : Tally} → length xs ≤ at →
-    Counts (flat_map (λ x. f (view x)) (take at xs)) a b → Counts (flat_map f (map view xs)) a b
-counts_all f view xs at {a = a} {b = b} h first =
-    counts_mapped f view xs (subst (λ ys. Counts (flat_map (λ x. f (view x)) ys) a b) (take_all at xs h) first)
 
 -- ---- the sections of a table
 

@@ -120,22 +120,30 @@ pub fn count_heads(subs: &[Sub], tally: &mut Tally)
 
 // ---- maps
 
+fn add_short_list(list: &[u8], tally: &mut Tally)
+    ensures { Counts (list_sections 1 list.now) tally.old tally.new }
+{
+    tally.field(1);
+    tally.field(list.len() as u64);
+}
+
+fn add_wide_list(list: &[u16], tally: &mut Tally)
+    ensures { Counts (list_sections 2 list.now) tally.old tally.new }
+{
+    tally.field(2);
+    tally.field((list.len() as u64).wrapping_mul(2));
+}
+
 fn add_short_lists(lists: &[Vec<u8>; 4], tally: &mut Tally)
     ensures { Counts (flat_map (list_sections 1) (map (λ list. list.items) lists.now)) tally.old tally.new }
 {
-    'lists: for list in lists {
-        tally.field(1);
-        tally.field(list.len() as u64);
-    }
+    count_each(lists, |list, tally| add_short_list(list, tally), tally);
 }
 
 fn add_wide_lists(lists: &[Vec<u16>; 4], tally: &mut Tally)
     ensures { Counts (flat_map (list_sections 2) (map (λ list. list.items) lists.now)) tally.old tally.new }
 {
-    'lists: for list in lists {
-        tally.field(2);
-        tally.field((list.len() as u64).wrapping_mul(2));
-    }
+    count_each(lists, |list, tally| add_wide_list(list, tally), tally);
 }
 
 fn add_lists(map: &Map, tally: &mut Tally)
