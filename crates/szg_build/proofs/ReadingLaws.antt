@@ -57,6 +57,10 @@ error_in other (Err fault) = fault
 pub same_error : {X Y E : Type 0} {x y : E} → let r : Result X E = Err x in let s : Result Y E = Err x in IsErrOf r y → IsErrOf s y
 same_error {x = x} e = ap Err (ap (error_in x) e)
 
+-- the same text, told otherwise
+pub reads_as : {A X R : Type 0} {f g : Lines A} {view : X → A} {o n : Incoming} {dev : Ghosts R} {i k : R} {r : Result X DumpReadFault} → f ≡ g → ReadsLines g view o n dev i k r → ReadsLines f view o n dev i k r
+reads_as {view = view} {o = o} {n = n} {dev = dev} {i = i} {k = k} {r = r} e read = subst (λ z. ReadsLines z view o n dev i k r) (sym e) read
+
 -- One reader after another that gave a value.
 pub reads_then : {A B X Y R : Type 0} (f : Lines A) (g : A → Lines B) (view : X → A) (view' : Y → B) {o m n : Incoming}
     {dev : Ghosts R} {i j k : R} (v : X) {r : Result Y DumpReadFault} →

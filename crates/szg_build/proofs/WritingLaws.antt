@@ -202,8 +202,8 @@ value_line v = line_text (decimal v ∷ [])
 abbrev pub run_line : ℕ × ℕ → List ℕ
 run_line run = line_text (decimal run.0 ∷ decimal run.1 ∷ [])
 
-pub lines_of_values : (values : List ℕ) → lines_text (map (λ v. decimal v ∷ []) values) ≡ flat_map value_line values
-lines_of_values values = flat_map-map line_text (λ v. decimal v ∷ []) values
+pub lines_of_items : {A : Type 0} (number : A → ℕ) (items : List A) → lines_text (map (λ v. decimal v ∷ []) (map number items)) ≡ flat_map (λ item. value_line (number item)) items
+lines_of_items number items = flat_map-map line_text (λ v. decimal v ∷ []) (map number items) ∙ flat_map-map value_line number items
 
 pub lines_of_runs : (found : List (ℕ × ℕ)) → lines_text (map (λ run. decimal run.0 ∷ decimal run.1 ∷ []) found) ≡ flat_map run_line found
 lines_of_runs found = flat_map-map line_text (λ (run : ℕ × ℕ). decimal run.0 ∷ decimal run.1 ∷ []) found

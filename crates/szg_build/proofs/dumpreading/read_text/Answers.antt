@@ -3,8 +3,7 @@ use Rattle.szg_build.specs.Lines.{◌>>=◌}
 use Rattle.szg_build.specs.Grammar.{version_line, name_line, kind_line}
 use Rattle.szg_build.specs.Shown.{dump_seen, form_of}
 use Rattle.szg_build.specs.Wholes.{dump_behind_kind}
-use Rattle.szg_build.proofs.ReadingLaws.{reads_then, reads_stopped, same_error}
-use Rattle.szg_build.proofs.RestLaws.{reads_as}
+use Rattle.szg_build.proofs.ReadingLaws.{reads_as, reads_then, reads_stopped, same_error}
 use Rattle.szg_build.proofs.LackLaws.{lacks_as, lacks_then}
 use Rattle.szg_build.proofs.WholeLaws.{behind_form, whole_text}
 use Rattle.szg_build.proofs.dumpreading.read_text.Goals as goal

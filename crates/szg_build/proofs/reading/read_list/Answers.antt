@@ -1,21 +1,21 @@
-use Rattle.std.proofs.Common.{ℕ, [], ◌∷◌, arith}
+use Rattle.std.proofs.Common.{ℕ, [], ◌∷◌, map, arith}
 use Rattle.std.proofs.lemmas.Result.{err_from_is_err_and}
 use Rattle.szg_build.specs.Grammar.{value, number_line, repeated, greatest_count}
 use Rattle.szg_build.proofs.ReadingLaws.{reads_then, reads_stopped, same_error}
 use Rattle.szg_build.proofs.SayingLaws.{map_pattern, map_front}
 use Rattle.szg_build.proofs.LackLaws.{lacks_then}
-use Rattle.szg_build.proofs.reading.read_byte_list.Goals as goal
+use Rattle.szg_build.proofs.reading.read_list.Goals as goal
 
 pub returns-in_err-count-clause-lines : goal.returns-in_err-count-clause-lines
 returns-in_err-count-clause-lines g c =
     let p = err_from_is_err_and c.from_residual.result c.from_residual.ensures.1 in
-    rw (p.1, p.2) (reads_stopped (number_line (map_pattern c.args.j) greatest_count) (λ n. repeated n (number_line (value ∷ []) 255)) (λ (n : ℕ). n) (λ list. list.items) c.in_err-count.field-0.0
+    rw (p.1, p.2) (reads_stopped (number_line (map_pattern c.args.j) greatest_count) (λ n. repeated n (number_line (value ∷ []) g.T.Item.GREATEST)) (λ (n : ℕ). n) (λ list. map g.T.Item.number list.items) c.in_err-count.field-0.0
     (c.in_err-count.ensures.lines (map_pattern c.args.j) (map_front c.args.j (omega (arith, c.requires.list)))))
 
 pub returns-clause-lines : goal.returns-clause-lines
 returns-clause-lines g c =
-    reads_then (number_line (map_pattern c.args.j) greatest_count) (λ n. repeated n (number_line (value ∷ []) 255)) (λ (n : ℕ). n) (λ list. list.items) c.in_ok-count.count
-    (c.in_ok-count.ensures.lines (map_pattern c.args.j) (map_front c.args.j (omega (arith, c.requires.list)))) c.read_bytes.ensures.lines
+    reads_then (number_line (map_pattern c.args.j) greatest_count) (λ n. repeated n (number_line (value ∷ []) g.T.Item.GREATEST)) (λ (n : ℕ). n) (λ list. map g.T.Item.number list.items) c.in_ok-count.count
+    (c.in_ok-count.ensures.lines (map_pattern c.args.j) (map_front c.args.j (omega (arith, c.requires.list)))) c.read_items.ensures.lines
 
 pub returns-in_err-count-clause-memory : goal.returns-in_err-count-clause-memory
 returns-in_err-count-clause-memory g c =
@@ -24,5 +24,5 @@ returns-in_err-count-clause-memory g c =
 
 pub returns-clause-memory : goal.returns-clause-memory
 returns-clause-memory g c = λ e.
-    lacks_then (number_line (map_pattern c.args.j) greatest_count) (λ n. repeated n (number_line (value ∷ []) 255)) c.args.behind (λ (n : ℕ). n) c.in_ok-count.count
-    (c.in_ok-count.ensures.lines (map_pattern c.args.j) (map_front c.args.j (omega (arith, c.requires.list)))) (c.read_bytes.ensures.memory e)
+    lacks_then (number_line (map_pattern c.args.j) greatest_count) (λ n. repeated n (number_line (value ∷ []) g.T.Item.GREATEST)) c.args.behind (λ (n : ℕ). n) c.in_ok-count.count
+    (c.in_ok-count.ensures.lines (map_pattern c.args.j) (map_front c.args.j (omega (arith, c.requires.list)))) (c.read_items.ensures.memory e)
