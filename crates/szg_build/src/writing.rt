@@ -252,6 +252,19 @@ fn put_place<W: Output>(
     put_number(&front, u64::from(place.1), output, outgoing)
 }
 
+/// Puts the flags and the map of a DTZ table's part.
+fn put_flags_and_map<W: Output>(
+    flags: u8,
+    map: &Option<Map>,
+    output: &mut W,
+    outgoing: &mut Outgoing,
+) -> Result<(), WriteFault>
+    ensures { Writing (line_text (codes "flags" ∷ decimal flags ∷ []) ++ lines_text (map_lines (option_map map_of map.now))) outgoing.old outgoing.new W.Output output.old output.new result }
+{
+    put_number(b"flags ", u64::from(flags), output, outgoing)?;
+    put_map(map, output, outgoing)
+}
+
 /// Puts the flags and the map of a DTZ table's part; a WDL table has none.
 fn put_flags<W: Output>(
     dump: &Dump,
@@ -264,10 +277,7 @@ fn put_flags<W: Output>(
 {
     match dump.kind {
         Kind::Wdl => Ok(()),
-        Kind::Dtz => {
-            put_number(b"flags ", u64::from(dump.flags[s]), output, outgoing)?;
-            put_map(&dump.maps[s], output, outgoing)
-        }
+        Kind::Dtz => put_flags_and_map(dump.flags[s], &dump.maps[s], output, outgoing),
     }
 }
 
