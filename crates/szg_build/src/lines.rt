@@ -1,6 +1,7 @@
 //! A dump's lines from a device, one at a time.
 ghost use Rattle.std.specs.Prelude.{◌≡◌, ◌+◌, ◌<◌, ◌≤◌, List, [], length, IfOk, IsErrOf, OnOk};
-ghost use Rattle.szg_build.specs.Fronts.{IsFront, in_line, sub_line};
+ghost use Rattle.std.specs.Fn.{FnOnceReturnsAt};
+ghost use Rattle.szg_build.specs.Fronts.{IsFront, TellsLine, in_line, sub_line};
 ghost use Rattle.szg_build.specs.Grammar.{Word, version_line, name_line, kind_line, end_line, part_line, number_line, run_line};
 ghost use Rattle.szg_build.specs.Held.{held_of};
 ghost use Rattle.szg_build.specs.Reading.{ReadsLines};
@@ -29,6 +30,23 @@ fn with_line<T: Drop>(told: Result<T, DumpFault>, line: u64) -> Result<T, DumpRe
     }
 }
 
+/// Reads a line, and tells what it says.
+fn read_told<T: Drop, R: Input, F: FnOnce(&[u8]) -> Result<T, DumpFault> + Drop>(
+    tell: F,
+    behind: u64,
+    input: &mut R,
+    incoming: &mut Incoming,
+) -> Result<T, DumpReadFault>
+    requires short { (text : _) → length text.now ≤ 80 → F.pre tell text }
+    requires held { length (held_of incoming.old) ≤ behind + 1 }
+    ensures lines { TellsLine (FnOnceReturnsAt F.FnOnce tell) incoming.old incoming.new R.Input input.old input.new result }
+    ensures behind { OnOk result (length (held_of incoming.new) ≤ behind) }
+    ensures memory { IsErrOf result DumpReadFault.Memory → ⊥ }
+{
+    let text = next_line(behind, input, incoming)?;
+    with_line(tell(text.as_slice()), incoming.line)
+}
+
 /// The line of the form.
 pub(crate) fn read_form<R: Input>(
     behind: u64,
@@ -40,8 +58,7 @@ pub(crate) fn read_form<R: Input>(
     ensures behind { OnOk result (length (held_of incoming.new) ≤ behind) }
     ensures memory { IsErrOf result DumpReadFault.Memory → ⊥ }
 {
-    let text = next_line(behind, input, incoming)?;
-    with_line(form_told(text.as_slice()), incoming.line)
+    read_told(form_told, behind, input, incoming)
 }
 
 /// The line of the name.
@@ -55,8 +72,7 @@ pub(crate) fn read_material<R: Input>(
     ensures behind { OnOk result (length (held_of incoming.new) ≤ behind) }
     ensures memory { IsErrOf result DumpReadFault.Memory → ⊥ }
 {
-    let text = next_line(behind, input, incoming)?;
-    with_line(material_told(text.as_slice()), incoming.line)
+    read_told(material_told, behind, input, incoming)
 }
 
 /// The line of the kind.
@@ -70,8 +86,7 @@ pub(crate) fn read_kind<R: Input>(
     ensures behind { OnOk result (length (held_of incoming.new) ≤ behind) }
     ensures memory { IsErrOf result DumpReadFault.Memory → ⊥ }
 {
-    let text = next_line(behind, input, incoming)?;
-    with_line(kind_told(text.as_slice()), incoming.line)
+    read_told(kind_told, behind, input, incoming)
 }
 
 /// The line of the last bytes.
@@ -85,8 +100,7 @@ pub(crate) fn read_end<R: Input>(
     ensures behind { OnOk result (length (held_of incoming.new) ≤ behind) }
     ensures memory { IsErrOf result DumpReadFault.Memory → ⊥ }
 {
-    let text = next_line(behind, input, incoming)?;
-    with_line(end_told(text.as_slice()), incoming.line)
+    read_told(end_told, behind, input, incoming)
 }
 
 /// The line of a part.
@@ -102,8 +116,7 @@ pub(crate) fn read_part<R: Input>(
     ensures behind { OnOk result (length (held_of incoming.new) ≤ behind) }
     ensures memory { IsErrOf result DumpReadFault.Memory → ⊥ }
 {
-    let text = next_line(behind, input, incoming)?;
-    with_line(part_told(number, text.as_slice()), incoming.line)
+    read_told(|text| part_told(number, text), behind, input, incoming)
 }
 
 /// The line that names a subtable.
@@ -120,8 +133,7 @@ pub(crate) fn read_place<R: Input>(
     ensures behind { OnOk result (length (held_of incoming.new) ≤ behind) }
     ensures memory { IsErrOf result DumpReadFault.Memory → ⊥ }
 {
-    let text = next_line(behind, input, incoming)?;
-    with_line(place_told(place, text.as_slice()), incoming.line)
+    read_told(|text| place_told(place, text), behind, input, incoming)
 }
 
 /// The line of a run, of no more values than are left.
@@ -156,6 +168,5 @@ pub(crate) fn read_number<R: Input>(
     ensures memory { IsErrOf result DumpReadFault.Memory → ⊥ }
     ensures within { IfOk result (λ number. number ≤ limit) }
 {
-    let text = next_line(behind, input, incoming)?;
-    with_line(number_told(front, limit, text.as_slice()), incoming.line)
+    read_told(|text| number_told(front, limit, text), behind, input, incoming)
 }
