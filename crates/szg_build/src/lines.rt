@@ -9,13 +9,16 @@ ghost use Rattle.szg_build.specs.Shown.{form_of};
 
 use crate::dump::{DumpFault, DumpReadFault};
 use crate::incoming::Incoming;
-use crate::line::{next_line, next_line_of};
+use crate::line::next_line;
 use crate::saying::{
     end_told, form_told, kind_told, material_told, number_told, part_told, place_told, run_told,
 };
 use arrayvec::ArrayVec;
 use szg_io::Input;
 use szg_values::{Kind, Material};
+
+/// The bytes of a line, with its 0A, at least.
+const LEAST_LINE: usize = 1;
 
 /// The bytes of a run's line, with its 0A, at least.
 const LEAST_RUN: usize = 4;
@@ -43,7 +46,7 @@ fn read_told<T: Drop, R: Input, F: FnOnce(&[u8]) -> Result<T, DumpFault> + Drop>
     ensures behind { OnOk result (length (held_of incoming.new) ≤ behind) }
     ensures memory { IsErrOf result DumpReadFault.Memory → ⊥ }
 {
-    let text = next_line(behind, input, incoming)?;
+    let text = next_line(LEAST_LINE, behind, input, incoming)?;
     with_line(tell(text.as_slice()), incoming.line)
 }
 
@@ -150,7 +153,7 @@ pub(crate) fn read_run<R: Input>(
     ensures some { IfOk result (λ run. 0 < run.0) }
     ensures within { IfOk result (λ run. run.0 ≤ left) }
 {
-    let text = next_line_of(LEAST_RUN, behind, input, incoming)?;
+    let text = next_line(LEAST_RUN, behind, input, incoming)?;
     with_line(run_told(left, text.as_slice()), incoming.line)
 }
 
@@ -168,5 +171,10 @@ pub(crate) fn read_number<R: Input>(
     ensures memory { IsErrOf result DumpReadFault.Memory → ⊥ }
     ensures within { IfOk result (λ number. number ≤ limit) }
 {
-    read_told(|text| number_told(front, limit, text), behind, input, incoming)
+    read_told(
+        |text| number_told(front, limit, text),
+        behind,
+        input,
+        incoming,
+    )
 }

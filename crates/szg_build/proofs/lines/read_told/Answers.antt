@@ -1,4 +1,4 @@
-use Rattle.std.proofs.Common.{inl, inr, refl}
+use Rattle.std.proofs.Common.{rules, inl, inr, refl, arith}
 use Rattle.std.proofs.lemmas.Result.{err_from_is_err_and}
 use Rattle.szg_build.proofs.GoingLaws.{reads_seen, reads_fault}
 use Rattle.szg_build.proofs.LineSays.{no_memory}
@@ -21,3 +21,6 @@ pub returns-in_err-text-clause-lines : goal.returns-in_err-text-clause-lines
 returns-in_err-text-clause-lines g c =
     let p = err_from_is_err_and c.from_residual.result c.from_residual.ensures.1 in
     rw (p.1, p.2) (inr (c.in_err-text.field-0.0, reads_fault c.in_err-text.field-0.0 c.in_err-text.ensures.line, refl))
+
+pub returns-clause-behind : goal.returns-clause-behind
+returns-clause-behind g c = let few = c.in_ok-text.ensures.behind (omega arith) in search rules
