@@ -2,13 +2,11 @@ use Rattle.std.proofs.Common.{rules, inl, inr, refl, arith}
 use Rattle.std.proofs.lemmas.Result.{err_from_is_err_and}
 use Rattle.szg_build.proofs.GoingLaws.{reads_seen, reads_fault}
 use Rattle.szg_build.proofs.LineSays.{no_memory}
-use Rattle.szg_build.proofs.ReadingLaws.{same_error}
+use Rattle.szg_build.proofs.ReadingLaws.{passed_on}
 use Rattle.szg_build.proofs.lines.read_told.Goals as goal
 
 pub returns-in_err-text-clause-memory : goal.returns-in_err-text-clause-memory
-returns-in_err-text-clause-memory g c =
-    let p = err_from_is_err_and c.from_residual.result c.from_residual.ensures.1 in
-    rw (p.1, p.2) (λ e. c.in_err-text.ensures.memory (same_error e))
+returns-in_err-text-clause-memory g c = passed_on c.from_residual.ensures.1 c.in_err-text.ensures.memory
 
 pub returns-clause-memory : goal.returns-clause-memory
 returns-clause-memory g c = no_memory _ c.tell.result c.with_line.result c.with_line.ensures

@@ -5,7 +5,7 @@ use Rattle.szg_build.proofs.GoingLaws.{items_begun, item_more, item_stopped, ite
 use Rattle.szg_build.proofs.ItemLaws.{one_more}
 use Rattle.szg_build.proofs.LackLaws.{lacks_left}
 use Rattle.szg_build.proofs.LeastLaws.{asks_number, asks_repeated}
-use Rattle.szg_build.proofs.ReadingLaws.{same_error}
+use Rattle.szg_build.proofs.ReadingLaws.{passed_on}
 use Rattle.szg_build.proofs.reading.read_items.Goals as goal
 
 pub items-init : goal.items-init
@@ -47,9 +47,7 @@ returns-clause-lines g c =
     items_ended (number_line (value ∷ []) g.T.Item.GREATEST) (map g.T.Item.number c.items.list.items) (c.args.count - c.items.i) (λ list. map g.T.Item.number list.items) c.items.list (omega (arith, c.items-test.false)) refl c.items.invariant.0
 
 pub returns-in_err-item-clause-memory : goal.returns-in_err-item-clause-memory
-returns-in_err-item-clause-memory g c =
-    let p = err_from_is_err_and c.from_residual.result c.from_residual.ensures.1 in
-    rw (p.1, p.2) (λ e. absurd (c.in_err-item.ensures.memory (same_error e)))
+returns-in_err-item-clause-memory g c = passed_on c.from_residual.ensures.1 c.in_err-item.ensures.memory
 
 pub returns-in_err-push-clause-memory : goal.returns-in_err-push-clause-memory
 returns-in_err-push-clause-memory g c =

@@ -1,7 +1,7 @@
 use Rattle.std.proofs.Common.{ℕ, [], ◌∷◌, map, arith}
 use Rattle.std.proofs.lemmas.Result.{err_from_is_err_and}
 use Rattle.szg_build.specs.Grammar.{value, number_line, repeated, greatest_count}
-use Rattle.szg_build.proofs.ReadingLaws.{reads_then, reads_stopped, same_error}
+use Rattle.szg_build.proofs.ReadingLaws.{passed_on, reads_then, reads_stopped}
 use Rattle.szg_build.proofs.SayingLaws.{map_pattern, map_front}
 use Rattle.szg_build.proofs.LackLaws.{lacks_then}
 use Rattle.szg_build.proofs.reading.read_list.Goals as goal
@@ -18,9 +18,7 @@ returns-clause-lines g c =
     (c.in_ok-count.ensures.lines (map_pattern c.args.j) (map_front c.args.j (omega (arith, c.requires.list)))) c.read_items.ensures.lines
 
 pub returns-in_err-count-clause-memory : goal.returns-in_err-count-clause-memory
-returns-in_err-count-clause-memory g c =
-    let p = err_from_is_err_and c.from_residual.result c.from_residual.ensures.1 in
-    rw (p.1, p.2) (λ e. absurd (c.in_err-count.ensures.memory (same_error e)))
+returns-in_err-count-clause-memory g c = passed_on c.from_residual.ensures.1 c.in_err-count.ensures.memory
 
 pub returns-clause-memory : goal.returns-clause-memory
 returns-clause-memory g c = λ e.
