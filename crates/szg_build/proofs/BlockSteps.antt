@@ -32,24 +32,30 @@ block_spells code symbols b words block appended h =
     let all : bits block ≡ told.0 ++ h.rest = h.joined ∙ ap (λ (z : List Bool). z ++ h.rest) told.1 in
     subst (λ (z : List Bool). Spells code z symbols) (sym all) (told.2 h.rest)
 
+-- whole blocks, and no symbol behind them
+filled_so_far : (code : CanonicalCode) (entries : List (List ℕ)) (b : ℕ) (symbols lengths packed : List ℕ) (lists : List (List ℕ)) → concat lists ≡ symbols →
+    AreFilled (blocks_layout b code entries (length lengths) lengths) packed 0 lists → length packed ≡ length lengths * 2 ^ b → 4 * length lengths ≤ length (concat lists) →
+    IsFilling code entries b symbols lengths packed [] 0
+filled_so_far code entries b symbols lengths packed lists joined filled whole many = record {
+  lists = lists;
+  current = [];
+  joined = append-nil (concat lists) ∙ joined;
+  filled = filled;
+  whole = whole;
+  written = refl;
+  told = refl;
+  fits = omega arith;
+  most = omega arith;
+  short_words = omega arith;
+  short_symbols = omega arith;
+  some = omega arith;
+  many = many;
+}
+
 pub filling_none : (code : CanonicalCode) (entries : List (List ℕ)) (b : ℕ) (symbols lengths packed : List ℕ) (words : List Bool) (values : ℕ) → symbols ≡ [] → lengths ≡ [] → packed ≡ [] → words ≡ [] → values ≡ 0 →
     IsFilling code entries b symbols lengths packed words values
 filling_none code entries b symbols lengths packed words values e1 e2 e3 e4 e5 =
-    rw (e1, e2, e3, e4, e5) (record {
-      lists = [];
-      current = [];
-      joined = refl;
-      filled = filled_none b code entries;
-      whole = omega arith;
-      written = refl;
-      told = refl;
-      fits = omega arith;
-      most = omega arith;
-      short_words = omega arith;
-      short_symbols = omega arith;
-      some = omega arith;
-      many = omega arith;
-    })
+    rw (e1, e2, e3, e4, e5) (filled_so_far code entries b [] [] [] [] refl (filled_none b code entries) (omega arith) (omega arith))
 
 pub filling_more : (code : CanonicalCode) (entries : List (List ℕ)) (b : ℕ) (symbols lengths packed : List ℕ) (words word : List Bool) (values s n : ℕ) → IsFilling code entries b symbols lengths packed words values →
     IsWord code word s → length word ≤ 12 → n ≡ length (expansion_of entries s) → 1 ≤ n → n ≤ 256 → length words + length word ≤ 8 * 2 ^ b → values + n ≤ 65536 →
@@ -102,21 +108,9 @@ filling_closed code entries b symbols lengths packed words values block h is lar
     ] in
     let count : length (lengths ++ (values - 1) ∷ []) ≡ length lengths + 1 = length-append lengths ((values - 1) ∷ []) in
     let all : length (concat (h.lists ++ h.current ∷ [])) ≡ length (concat h.lists) + length h.current = ap length (concat-last h.lists h.current) ∙ length-append (concat h.lists) h.current in
-    record {
-      lists = h.lists ++ h.current ∷ [];
-      current = [];
-      joined = append-nil (concat (h.lists ++ h.current ∷ [])) ∙ concat-last h.lists h.current ∙ h.joined;
-      filled = closed code entries b symbols lengths packed words values block h is (omega (arith, four, h.some));
-      whole = closed_whole b lengths packed block (values - 1) h.whole is.size;
-      written = refl;
-      told = refl;
-      fits = omega arith;
-      most = omega arith;
-      short_words = omega arith;
-      short_symbols = omega arith;
-      some = omega arith;
-      many = omega (arith, count, all, four, h.many);
-    }
+    filled_so_far code entries b symbols (lengths ++ (values - 1) ∷ []) (packed ++ block) (h.lists ++ h.current ∷ []) (concat-last h.lists h.current ∙ h.joined)
+    (closed code entries b symbols lengths packed words values block h is (omega (arith, four, h.some))) (closed_whole b lengths packed block (values - 1) h.whole is.size)
+    (omega (arith, count, all, four, h.many))
 
 -- The last block is closed, however many words it has.
 pub filling_done : (code : CanonicalCode) (entries : List (List ℕ)) (b : ℕ) (symbols lengths packed : List ℕ) (words : List Bool) (values : ℕ) (block after blocks : List ℕ) → IsFilling code entries b symbols lengths packed words values →

@@ -8,7 +8,7 @@ use Rattle.szg_io.specs.declared.device.Input.{Ghosts}
 use Rattle.szg_io.proofs.DeviceLaws.{Takes-on, Takes-none, Takes-more}
 use Rattle.szg_build.specs.declared.incoming.Incoming.{Incoming}
 use Rattle.szg_build.specs.declared.dump.DumpReadFault.{DumpReadFault}
-use Rattle.szg_build.specs.declared.dump.DumpReadFault.TheVariants.{Memory}
+use Rattle.szg_build.specs.declared.dump.DumpReadFault.TheVariants.{Line, Build, Device, Memory}
 use Rattle.szg_build.specs.Held.{held_of}
 use Rattle.szg_build.specs.Lines.{Lines, means, Verdict, good, refused, ended, verdict, ◌>>=◌}
 use Rattle.szg_build.specs.Grammar.{each, repeated, run_line, run_values}
@@ -278,6 +278,18 @@ reads_seen {n = n} read same = record {
   taken = read.taken;
   answer = λ count told. let a = read.answer count told in (a.0, a.1, a.2 ∙ ap (λ z. good z a.0 (held_of n)) same, a.3);
 }
+
+pub reads_fault : {A X Y R : Type 0} {f : Lines A} {view : X → A} {view' : Y → A} {o n n' : Incoming} {dev : Ghosts R} {i k : R} (fault : DumpReadFault) →
+    ReadsLines f view o n dev i k (Err fault) → ReadsLines f view' o n' dev i k (Err fault)
+reads_fault (Line number fault) read = record { bytes = read.bytes; taken = read.taken; answer = read.answer }
+reads_fault (Build fault) read = record { bytes = read.bytes; taken = read.taken; answer = read.answer }
+reads_fault Device read = record { bytes = read.bytes; taken = read.taken; answer = read.answer }
+reads_fault Memory read = record { bytes = read.bytes; taken = read.taken; answer = read.answer }
+
+pub reads_alike : {A X R : Type 0} {f : Lines A} {view view' : X → A} {o n : Incoming} {dev : Ghosts R} {i k : R} (r : Result X DumpReadFault) →
+    ((x : X) → view x ≡ view' x) → ReadsLines f view o n dev i k r → ReadsLines f view' o n dev i k r
+reads_alike (Ok x) same read = reads_seen read (same x)
+reads_alike (Err fault) same read = reads_fault fault read
 
 pub same_part : (a a' b b' : List ℕ) → a ≡ a' → b ≡ b' → let p : Part = record { order = a; men = b } in let q : Part = record { order = a'; men = b' } in p ≡ q
 same_part a a' b b' e e' =

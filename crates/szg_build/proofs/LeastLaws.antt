@@ -1,5 +1,5 @@
 -- How many lines the texts of a dump's grammar have at least.
-use Rattle.std.proofs.Common.{◌≡◌, ℕ, zero, suc, ◌+◌, ◌-◌, ◌*◌, ◌<◌, ◌≤◌, List, [], ◌∷◌, ◌++◌, length, drop, length-drop, subst, arith, Option}
+use Rattle.std.proofs.Common.{◌≡◌, ℕ, zero, suc, ◌+◌, ◌-◌, ◌*◌, ◌<◌, ◌≤◌, List, [], ◌∷◌, ◌++◌, length, drop, length-drop, ap, subst, arith, Option}
 use Rattle.std.specs.Prelude.{get_or}
 use Rattle.szg_values.specs.Material.{Sides}
 use Rattle.szg_values.specs.declared.Kind.{Kind}
@@ -80,14 +80,15 @@ asks_subs_left form material kind last parts read s left few =
     (asks_mapped (λ rest. dump_of_subs material kind parts last (read ++ rest)) (subs_text form kind (sizes_told material kind parts) s (drop s places)) (2 * length (drop s places)) (asks_subs form kind (sizes_told material kind parts) s (drop s places)))
 
 -- or in it
-pub lacks_subs : {R : Type 0} {f : Lines Dump} (form : Form) (material : Sides) (kind : Kind) (last : List ℕ) (parts : List Part) (read : List SubDump) (s : ℕ) (place : ℕ × ℕ) (sizes : Option (List ℕ)) (wide behind : ℕ)
-    {o m : Incoming} {dev : Ghosts R} {i j k : R} → s < length (places_of material kind) → place ≡ get_or (places_of material kind) s (0, 0) → sizes ≡ sizes_told material kind parts → wide ≤ behind + 2 * (length (places_of material kind) - suc s) →
-    GoesOn f (subs_left form material kind last parts read s) o m dev i j → LacksLines (sub_text form kind sizes s place) wide m dev j k → LacksLines f behind o dev i k
-lacks_subs {f = f} form material kind last parts read s place sizes wide behind {o = o} {m = m} {dev = dev} {i = i} {j = j} {k = k} few same e le a lacks =
+pub lacks_subs : {R : Type 0} {f : Lines Dump} (form : Form) (material : Sides) (kind : Kind) (last : List ℕ) (parts : List Part) (read : List SubDump) (s : ℕ) (due : List (ℕ × ℕ)) (sizes : Option (List ℕ)) (wide behind : ℕ)
+    {o m : Incoming} {dev : Ghosts R} {i j k : R} → s < length due → due ≡ places_of material kind → sizes ≡ sizes_told material kind parts → wide ≤ behind + 2 * (length due - suc s) →
+    GoesOn f (subs_left form material kind last parts read s) o m dev i j → LacksLines (sub_text form kind sizes s (get_or due s (0, 0))) wide m dev j k → LacksLines f behind o dev i k
+lacks_subs {f = f} form material kind last parts read s due sizes wide behind {o = o} {m = m} {dev = dev} {i = i} {j = j} {k = k} few same e le a lacks =
     let places = places_of material kind in
+    let place = get_or due s (0, 0) in
     let told = sizes_told material kind parts in
     lacks_item (sub_text form kind told s place) (λ x. subs_text form kind told (suc s) (drop (suc s) places) >>= λ xs. means (x ∷ xs)) (λ rest. dump_of_subs material kind parts last (read ++ rest))
-    wide behind (2 * length (drop (suc s) places)) (omega (arith, le, length-drop (suc s) places))
+    wide behind (2 * length (drop (suc s) places)) (omega (arith, le, ap length same, length-drop (suc s) places))
     (λ x. asks_mapped (λ xs. x ∷ xs) (subs_text form kind told (suc s) (drop (suc s) places)) (2 * length (drop (suc s) places)) (asks_subs form kind told (suc s) (drop (suc s) places)))
-    (subst (λ (z : List (ℕ × ℕ)). GoesOn f (left_of form material kind last parts read s z) o m dev i j) (next_place places s place few same) a)
+    (subst (λ (z : List (ℕ × ℕ)). GoesOn f (left_of form material kind last parts read s z) o m dev i j) (next_place due places s few same) a)
     (subst (λ (z : Option (List ℕ)). LacksLines (sub_text form kind z s place) wide m dev j k) e lacks)

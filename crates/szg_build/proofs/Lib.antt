@@ -34,6 +34,7 @@ pub mod SayingLaws
 pub mod LineSays
 pub mod CutLaws
 pub mod GoingLaws
+pub mod ItemLaws
 pub mod LackLaws
 pub mod LeastLaws
 pub mod MapReads

@@ -1,12 +1,12 @@
 -- A line that was read says what its words say.
-use Rattle.std.proofs.Common.{◌≡◌, ℕ, List, sym, subst, Ok, Err}
+use Rattle.std.proofs.Common.{◌≡◌, ℕ, List, refl, sym, subst, inl, inr, Ok, Err}
 use Rattle.std.specs.Prelude.{Result, IfOk, OnOk, IsErrOf}
 use Rattle.szg_io.specs.declared.device.Input.{Ghosts}
 use Rattle.szg_build.specs.declared.incoming.Incoming.{Incoming}
 use Rattle.szg_build.specs.declared.dump.DumpFault.{DumpFault}
 use Rattle.szg_build.specs.declared.dump.DumpReadFault.{DumpReadFault}
 use Rattle.szg_build.specs.declared.dump.DumpReadFault.TheVariants.{Memory}
-use Rattle.szg_build.specs.Fronts.{in_line}
+use Rattle.szg_build.specs.Fronts.{TellsLine, in_line}
 use Rattle.szg_build.specs.Lines.{Lines, line, words_of}
 use Rattle.szg_build.specs.Reading.{ReadsLines, Says}
 use Rattle.szg_build.proofs.LineRead.{words_line}
@@ -27,6 +27,13 @@ reads_said next view words seen text {o = o} {m = m} {dev = dev} {i = i} {k = k}
 pub reads_unread : {A X T R : Type 0} (next : List (List ℕ) → Lines A) (words : T → List (List ℕ)) (view : X → A) {o m n : Incoming} {dev : Ghosts R} {i k : R} (fault : DumpReadFault) →
     ReadsLines words_line words o m dev i k (Err fault) → ReadsLines (line next) view o n dev i k (Err fault)
 reads_unread next words view fault first = reads_stopped words_line next words view fault first
+
+-- a line that was told says what is told of its words
+pub reads_told : {A T R : Type 0} (next : List (List ℕ) → Lines A) (view : T → A) {tells : List ℕ → Result T DumpFault → Type 0} {o n : Incoming} {dev : Ghosts R} {i k : R} {result : Result T DumpReadFault} →
+    ((text : List ℕ) (told : Result T DumpFault) → tells text told → Says (next (words_of text)) view told) → TellsLine tells o n dev i k result → ReadsLines (line next) view o n dev i k result
+reads_told next view {result = result} says (inl (text, told, said, first, same)) = reads_said next view words_of text text told result refl first (says text told said) same
+reads_told next view {o = o} {n = n} {dev = dev} {i = i} {k = k} says (inr (fault, first, same)) =
+    subst (λ r. ReadsLines (line next) view o n dev i k r) (sym same) (reads_unread next words_of view fault first)
 
 -- a line takes no memory
 pub no_memory : {X : Type 0} (number : ℕ) (r : Result X DumpFault) (answer : Result X DumpReadFault) → answer ≡ in_line number r → IsErrOf answer Memory → ⊥

@@ -1,15 +1,14 @@
 -- The map that flags ask for, as it is read.
-use Rattle.std.proofs.Common.{◌≡◌, ℕ, Bool, true, false, List, refl, sym, ap, subst, arith, Option, Some, None, Ok, Err}
-use Rattle.std.specs.Prelude.{Result}
+use Rattle.std.proofs.Common.{◌≡◌, ℕ, Bool, true, false, List, refl, sym, ap, arith, Option, Some, None, Ok, Err}
 use Rattle.szg_file.specs.Contents.{Map, narrow, wide}
 use Rattle.szg_io.specs.declared.device.Input.{Ghosts}
 use Rattle.szg_build.specs.declared.incoming.Incoming.{Incoming}
 use Rattle.szg_build.specs.declared.dump.DumpReadFault.{DumpReadFault}
-use Rattle.szg_build.specs.Lines.{Lines, means, ◌>>=◌}
+use Rattle.szg_build.specs.Lines.{means, ◌>>=◌}
 use Rattle.szg_build.specs.Grammar.{each, list_numbers, map_list, map_of, greatest_item}
 use Rattle.szg_build.specs.Reading.{ReadsLines}
 use Rattle.szg_build.specs.Lacks.{LacksLines}
-use Rattle.szg_build.proofs.ReadingLaws.{reads_then, reads_stopped, reads_nothing}
+use Rattle.szg_build.proofs.ReadingLaws.{reads_as, reads_then, reads_stopped, reads_nothing}
 use Rattle.szg_build.proofs.LackLaws.{lacks_first, lacks_as, asks_means}
 
 no_map : (b c : Bool) → b ≡ false → map_of b c ≡ means None
@@ -21,29 +20,26 @@ wide_map b c e e' = rw (e, e') refl
 narrow_map : (b c : Bool) → b ≡ true → c ≡ false → map_of b c ≡ (each (map_list 255) list_numbers >>= λ lists. means (Some (narrow lists)))
 narrow_map b c e e' = rw (e, e') refl
 
-as_text : {X R : Type 0} {f g : Lines (Option Map)} {view : X → Option Map} {o n : Incoming} {dev : Ghosts R} {i k : R} {r : Result X DumpReadFault} → f ≡ g → ReadsLines g view o n dev i k r → ReadsLines f view o n dev i k r
-as_text {view = view} {o = o} {n = n} {dev = dev} {i = i} {k = k} {r = r} e read = subst (λ z. ReadsLines z view o n dev i k r) (sym e) read
-
 pub map_absent : {X R : Type 0} (b c : Bool) (view : X → Option Map) (x : X) {o : Incoming} {dev : Ghosts R} {i : R} → b ≡ false → view x ≡ None → ReadsLines (map_of b c) view o o dev i i (Ok x)
-map_absent b c view x e none = as_text (no_map b c e) (reads_nothing (means None) view x (ap means (sym none)))
+map_absent b c view x e none = reads_as (no_map b c e) (reads_nothing (means None) view x (ap means (sym none)))
 
 pub wide_read : {X Y R : Type 0} (b c : Bool) (view : X → List (List ℕ)) (view' : Y → Option Map) (x : X) (y : Y) {o n : Incoming} {dev : Ghosts R} {i k : R} → b ≡ true → c ≡ true → Some (wide (view x)) ≡ view' y →
     ReadsLines (each (map_list greatest_item) list_numbers) view o n dev i k (Ok x) → ReadsLines (map_of b c) view' o n dev i k (Ok y)
 wide_read b c view view' x y e e' same read =
-    as_text (wide_map b c e e') (reads_then (each (map_list greatest_item) list_numbers) (λ lists. means (Some (wide lists))) view view' x read (reads_nothing (means (Some (wide (view x)))) view' y (ap means same)))
+    reads_as (wide_map b c e e') (reads_then (each (map_list greatest_item) list_numbers) (λ lists. means (Some (wide lists))) view view' x read (reads_nothing (means (Some (wide (view x)))) view' y (ap means same)))
 
 pub narrow_read : {X Y R : Type 0} (b c : Bool) (view : X → List (List ℕ)) (view' : Y → Option Map) (x : X) (y : Y) {o n : Incoming} {dev : Ghosts R} {i k : R} → b ≡ true → c ≡ false → Some (narrow (view x)) ≡ view' y →
     ReadsLines (each (map_list 255) list_numbers) view o n dev i k (Ok x) → ReadsLines (map_of b c) view' o n dev i k (Ok y)
 narrow_read b c view view' x y e e' same read =
-    as_text (narrow_map b c e e') (reads_then (each (map_list 255) list_numbers) (λ lists. means (Some (narrow lists))) view view' x read (reads_nothing (means (Some (narrow (view x)))) view' y (ap means same)))
+    reads_as (narrow_map b c e e') (reads_then (each (map_list 255) list_numbers) (λ lists. means (Some (narrow lists))) view view' x read (reads_nothing (means (Some (narrow (view x)))) view' y (ap means same)))
 
 pub wide_stopped : {X Y R : Type 0} (b c : Bool) (view : X → List (List ℕ)) (view' : Y → Option Map) (fault : DumpReadFault) {o n n' : Incoming} {dev : Ghosts R} {i k : R} → b ≡ true → c ≡ true →
     ReadsLines (each (map_list greatest_item) list_numbers) view o n dev i k (Err fault) → ReadsLines (map_of b c) view' o n' dev i k (Err fault)
-wide_stopped b c view view' fault e e' read = as_text (wide_map b c e e') (reads_stopped (each (map_list greatest_item) list_numbers) (λ lists. means (Some (wide lists))) view view' fault read)
+wide_stopped b c view view' fault e e' read = reads_as (wide_map b c e e') (reads_stopped (each (map_list greatest_item) list_numbers) (λ lists. means (Some (wide lists))) view view' fault read)
 
 pub narrow_stopped : {X Y R : Type 0} (b c : Bool) (view : X → List (List ℕ)) (view' : Y → Option Map) (fault : DumpReadFault) {o n n' : Incoming} {dev : Ghosts R} {i k : R} → b ≡ true → c ≡ false →
     ReadsLines (each (map_list 255) list_numbers) view o n dev i k (Err fault) → ReadsLines (map_of b c) view' o n' dev i k (Err fault)
-narrow_stopped b c view view' fault e e' read = as_text (narrow_map b c e e') (reads_stopped (each (map_list 255) list_numbers) (λ lists. means (Some (narrow lists))) view view' fault read)
+narrow_stopped b c view view' fault e e' read = reads_as (narrow_map b c e e') (reads_stopped (each (map_list 255) list_numbers) (λ lists. means (Some (narrow lists))) view view' fault read)
 
 pub wide_lacks : {R : Type 0} (b c : Bool) (behind : ℕ) {o : Incoming} {dev : Ghosts R} {i k : R} → b ≡ true → c ≡ true → LacksLines (each (map_list greatest_item) list_numbers) behind o dev i k → LacksLines (map_of b c) behind o dev i k
 wide_lacks b c behind e e' lacks =

@@ -106,19 +106,21 @@ mapped_at f (x ∷ xs) (suc i) d e h = mapped_at f xs i d e (omega (arith, h))
 abbrev pub no_pair : Slot × Subtable
 no_pair = (record { part = 0; side = 0; size = 0 }, constant 0 0)
 
-pub place_count : (t : Contents) (fill : List ℕ) → IsAccepted t fill → length (subtables_in t) ≡ length (places_of t.material t.kind)
-place_count t fill h =
-    sym (length-map (subtables_in t) Some) ∙ ap length (places_stand t fill h) ∙ length-map (places_of t.material t.kind) (λ (place : ℕ × ℕ). subtable_at t place.0 place.1)
+-- these places have the subtables of a table
+abbrev pub PlacesStand : Contents → List (ℕ × ℕ) → Type 0
+PlacesStand t places = map Some (subtables_in t) ≡ map (λ (place : ℕ × ℕ). subtable_at t place.0 place.1) places
+
+pub place_count : (t : Contents) (places : List (ℕ × ℕ)) → PlacesStand t places → length (subtables_in t) ≡ length places
+place_count t places stand =
+    sym (length-map (subtables_in t) Some) ∙ ap length stand ∙ length-map places (λ (place : ℕ × ℕ). subtable_at t place.0 place.1)
 
 -- The subtable of the i-th place.
-pub place_at : (t : Contents) (fill : List ℕ) (places : List (ℕ × ℕ)) (i : ℕ) (d : ℕ × ℕ) → IsAccepted t fill → places ≡ places_of t.material t.kind → i < length places →
+pub place_at : (t : Contents) (places : List (ℕ × ℕ)) (i : ℕ) (d : ℕ × ℕ) → PlacesStand t places → i < length places →
     subtable_at t (get_or places i d).0 (get_or places i d).1 ≡ Some (get_or (subtables_in t) i no_pair)
-place_at t fill places i d h same below =
-    let there : i < length (places_of t.material t.kind) = omega (arith, below, ap length same) in
-    let inside : i < length (subtables_in t) = omega (arith, there, place_count t fill h) in
-    ap (λ z. subtable_at t (get_or z i d).0 (get_or z i d).1) same
-    ∙ sym (mapped_at (λ (place : ℕ × ℕ). subtable_at t place.0 place.1) (places_of t.material t.kind) i d None there)
-    ∙ ap (λ z. get_or z i None) (sym (places_stand t fill h))
+place_at t places i d stand below =
+    let inside : i < length (subtables_in t) = omega (arith, below, place_count t places stand) in
+    sym (mapped_at (λ (place : ℕ × ℕ). subtable_at t place.0 place.1) places i d None below)
+    ∙ ap (λ z. get_or z i None) (sym stand)
     ∙ mapped_at Some (subtables_in t) i no_pair None inside
 
 flags_beside : (slots : List Slot) (subs : List Subtable) → length slots ≡ length subs → map (λ (pair : Slot × Subtable). flags_of pair.1 % 32) (slotted slots subs) ≡ map (λ subtable. flags_of subtable % 32) subs

@@ -1,6 +1,7 @@
 -- Readers of lines compose: what two calls read one after another is what the two texts one after another are.
 use Rattle.std.proofs.Common.{◌≡◌, ℕ, List, [], ◌++◌, refl, sym, ap, subst, ◌∙◌, append_assoc, append-nil, Option, Some, None, Ok, Err, Bool}
-use Rattle.std.specs.Prelude.{Result, IsOk, IsErrOf, IsTrue}
+use Rattle.std.specs.Prelude.{Result, IsOk, IsErrOf, IsErrAnd, IsTrue}
+use Rattle.std.proofs.lemmas.Result.{err_from_is_err_and}
 use Rattle.std.specs.Io.KnownBytes.{Consumes}
 use Rattle.szg_io.specs.Device.{HasFailed}
 use Rattle.szg_io.specs.Moved.{Takes}
@@ -56,6 +57,14 @@ error_in other (Err fault) = fault
 
 pub same_error : {X Y E : Type 0} {x y : E} → let r : Result X E = Err x in let s : Result Y E = Err x in IsErrOf r y → IsErrOf s y
 same_error {x = x} e = ap Err (ap (error_in x) e)
+
+-- what never is this error isn't it where it is passed on
+pub passed_on : {X Y E P : Type 0} {x y : E} {s : Result Y E} → IsErrAnd s (λ z. z ≡ x) → (let r : Result X E = Err x in IsErrOf r y → ⊥) → IsErrOf s y → P
+passed_on {x = x} {s = s} same never e = let p = err_from_is_err_and s same in absurd (never (ap Err (sym p.2 ∙ ap (error_in x) (sym p.1 ∙ e))))
+
+-- the same text, told otherwise
+pub reads_as : {A X R : Type 0} {f g : Lines A} {view : X → A} {o n : Incoming} {dev : Ghosts R} {i k : R} {r : Result X DumpReadFault} → f ≡ g → ReadsLines g view o n dev i k r → ReadsLines f view o n dev i k r
+reads_as {view = view} {o = o} {n = n} {dev = dev} {i = i} {k = k} {r = r} e read = subst (λ z. ReadsLines z view o n dev i k r) (sym e) read
 
 -- One reader after another that gave a value.
 pub reads_then : {A B X Y R : Type 0} (f : Lines A) (g : A → Lines B) (view : X → A) (view' : Y → B) {o m n : Incoming}

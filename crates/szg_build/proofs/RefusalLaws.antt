@@ -1,6 +1,7 @@
 -- The refusals of a plan and its lists, in their order, and what stands where none of them does.
 use Rattle.std.proofs.Common.{ℕ, ◌≡◌, ◌+◌, ◌<◌, ◌≤◌, ◌^◌, Bool, true, false, cond, List, [], ◌∷◌, length, map, get_or, refl, sym, ap, subst, ◌∙◌, arith, inl, inr, Option, Some, None}
 use Rattle.std.specs.Prelude.{◌==◌, ◌&&◌, not, nat_lt, nat_le, option_map}
+use Rattle.std.specs.Bool.{then_some}
 use Rattle.std.specs.List.{AllByRecursion, All, list_any, list_all, position, prefix_len, zip}
 use Rattle.std.proofs.lemmas.Bool.{cases_lt, lt-ltb, eqb-true, or_parts, not-true, not-false}
 use Rattle.std.proofs.lemmas.List.{length-map}
@@ -152,13 +153,13 @@ valued b1 b2 b3 o4 o5 o6 false e1 e2 e3 e4 e5 e6 =
     listed b1 b2 b3 o4 o5 o6 false e1 e2 e3 ∙ ap (λ (o : Option ℕ). chain true true true o o5 o6 false) e4 ∙ ap (λ (o : Option ℕ). chain true true true None o o6 false) e5
     ∙ ap (λ (o : Option ℕ). chain true true true None None o false) e6
 
-at_map : (b1 b2 b3 : Bool) (o4 o5 o6 : Option ℕ) (b7 : Bool) → b1 ≡ true → b2 ≡ true → b3 ≡ true → o4 ≡ None → o5 ≡ None → o6 ≡ None → b7 ≡ false →
-    Some fault.Map ≡ chain b1 b2 b3 o4 o5 o6 b7
-at_map b1 b2 b3 o4 o5 o6 b7 e1 e2 e3 e4 e5 e6 e7 = sym (valued b1 b2 b3 o4 o5 o6 b7 e1 e2 e3 e4 e5 e6 ∙ ap (λ (b : Bool). unless b fault.Map) e7)
+unless_not : (b : Bool) (fault : BuildFault) → then_some (not b) fault ≡ unless b fault
+unless_not true fault = refl
+unless_not false fault = refl
 
-at_none : (b1 b2 b3 : Bool) (o4 o5 o6 : Option ℕ) (b7 : Bool) → b1 ≡ true → b2 ≡ true → b3 ≡ true → o4 ≡ None → o5 ≡ None → o6 ≡ None → b7 ≡ true →
-    None ≡ chain b1 b2 b3 o4 o5 o6 b7
-at_none b1 b2 b3 o4 o5 o6 b7 e1 e2 e3 e4 e5 e6 e7 = sym (valued b1 b2 b3 o4 o5 o6 b7 e1 e2 e3 e4 e5 e6 ∙ ap (λ (b : Bool). unless b fault.Map) e7)
+at_maps : (b1 b2 b3 : Bool) (o4 o5 o6 : Option ℕ) (b7 : Bool) → b1 ≡ true → b2 ≡ true → b3 ≡ true → o4 ≡ None → o5 ≡ None → o6 ≡ None →
+    then_some (not b7) fault.Map ≡ chain b1 b2 b3 o4 o5 o6 b7
+at_maps b1 b2 b3 o4 o5 o6 b7 e1 e2 e3 e4 e5 e6 = unless_not b7 fault.Map ∙ sym (valued b1 b2 b3 o4 o5 o6 b7 e1 e2 e3 e4 e5 e6)
 
 -- where nothing is refused, every test passes
 pub record Passed (b1 b2 b3 : Bool) (o4 o5 o6 : Option ℕ) (b7 : Bool) : Type 0 where
@@ -235,16 +236,10 @@ told_many sizes plan lists n e1 e2 e3 e4 e5 e6 =
     at_many (bits_told plan) (nat_le plan.rounds 4000) (length lists == length sizes) (wrong_length sizes lists) (wrong_value plan.kind lists) (too_many_values lists) (has_maps plan) n e1 e2 e3 e4 e5 e6
     ∙ sym (fault_told sizes plan lists)
 
-pub told_map : (sizes : List ℕ) (plan : Plan) (lists : List (List ℕ)) → bits_told plan ≡ true → nat_le plan.rounds 4000 ≡ true → (length lists == length sizes) ≡ true → wrong_length sizes lists ≡ None → wrong_value plan.kind lists ≡ None → too_many_values lists ≡ None → has_maps plan ≡ false →
-    Some fault.Map ≡ fault_for (Some sizes) plan lists
-told_map sizes plan lists e1 e2 e3 e4 e5 e6 e7 =
-    at_map (bits_told plan) (nat_le plan.rounds 4000) (length lists == length sizes) (wrong_length sizes lists) (wrong_value plan.kind lists) (too_many_values lists) (has_maps plan) e1 e2 e3 e4 e5 e6 e7
-    ∙ sym (fault_told sizes plan lists)
-
-pub told_none : (sizes : List ℕ) (plan : Plan) (lists : List (List ℕ)) → bits_told plan ≡ true → nat_le plan.rounds 4000 ≡ true → (length lists == length sizes) ≡ true → wrong_length sizes lists ≡ None → wrong_value plan.kind lists ≡ None → too_many_values lists ≡ None → has_maps plan ≡ true →
-    None ≡ fault_for (Some sizes) plan lists
-told_none sizes plan lists e1 e2 e3 e4 e5 e6 e7 =
-    at_none (bits_told plan) (nat_le plan.rounds 4000) (length lists == length sizes) (wrong_length sizes lists) (wrong_value plan.kind lists) (too_many_values lists) (has_maps plan) e1 e2 e3 e4 e5 e6 e7
+pub told_maps : (sizes : List ℕ) (plan : Plan) (lists : List (List ℕ)) → bits_told plan ≡ true → nat_le plan.rounds 4000 ≡ true → (length lists == length sizes) ≡ true → wrong_length sizes lists ≡ None → wrong_value plan.kind lists ≡ None → too_many_values lists ≡ None →
+    then_some (not (has_maps plan)) fault.Map ≡ fault_for (Some sizes) plan lists
+told_maps sizes plan lists e1 e2 e3 e4 e5 e6 =
+    at_maps (bits_told plan) (nat_le plan.rounds 4000) (length lists == length sizes) (wrong_length sizes lists) (wrong_value plan.kind lists) (too_many_values lists) (has_maps plan) e1 e2 e3 e4 e5 e6
     ∙ sym (fault_told sizes plan lists)
 
 -- lists that are lent

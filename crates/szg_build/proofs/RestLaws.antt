@@ -1,5 +1,5 @@
 -- A subtable's text behind its first lines, as it is read.
-use Rattle.std.proofs.Common.{◌≡◌, ℕ, ◌+◌, arith, true, false, List, [], ◌∷◌, sym, ap, subst, Option, Ok, Err}
+use Rattle.std.proofs.Common.{◌≡◌, ℕ, ◌+◌, arith, true, false, List, [], ◌∷◌, ap, Option, Ok, Err}
 use Rattle.std.specs.Prelude.{Result, codes}
 use Rattle.szg_values.specs.declared.Kind.{Kind}
 use Rattle.szg_values.specs.declared.Kind.TheVariants.{Dtz}
@@ -17,13 +17,9 @@ use Rattle.szg_build.specs.Grammar.{fixed, value, number_line, greatest_count, d
 use Rattle.szg_build.specs.Reading.{ReadsLines}
 use Rattle.szg_build.specs.Lacks.{LacksLines}
 use Rattle.szg_build.specs.Rests.{counted_text, fields_text}
-use Rattle.szg_build.proofs.ReadingLaws.{reads_then, reads_stopped, reads_nothing, reads_unbuilt}
+use Rattle.szg_build.proofs.ReadingLaws.{reads_as, reads_then, reads_stopped, reads_nothing, reads_unbuilt}
 use Rattle.szg_build.proofs.LackLaws.{lacks_first, lacks_then, lacks_as, asks_means}
 use Rattle.szg_build.proofs.LeastLaws.{asks_counted}
-
--- a text that is another one
-pub reads_as : {A X R : Type 0} {f g : Lines A} {view : X → A} {o n : Incoming} {dev : Ghosts R} {i k : R} {r : Result X DumpReadFault} → f ≡ g → ReadsLines g view o n dev i k r → ReadsLines f view o n dev i k r
-reads_as {view = view} {o = o} {n = n} {dev = dev} {i = i} {k = k} {r = r} e read = subst (λ z. ReadsLines z view o n dev i k r) (sym e) read
 
 pub flags_read : {R : Type 0} (kind : Kind) {o n : Incoming} {dev : Ghosts R} {i k : R} {r : Result ℕ DumpReadFault} → kind ≡ Dtz →
     ReadsLines (number_line (fixed (codes "flags") ∷ value ∷ []) 31) (λ (flags : ℕ). flags) o n dev i k r → ReadsLines (flags_line kind) (λ (flags : ℕ). flags) o n dev i k r

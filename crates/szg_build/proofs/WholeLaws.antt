@@ -84,31 +84,33 @@ abbrev pub left_of : Form → Sides → Kind → List ℕ → List Part → List
 left_of form material kind last parts read s places =
     mapped (λ rest. dump_of_subs material kind parts last (read ++ rest)) (subs_text form kind (sizes_told material kind parts) s places)
 
-pub next_place : (places : List (ℕ × ℕ)) (s : ℕ) (place : ℕ × ℕ) → s < length places → place ≡ get_or places s (0, 0) → drop s places ≡ place ∷ drop (suc s) places
-next_place places s place few same = drop-cons places s (0, 0) few ∙ ap (λ (p : ℕ × ℕ). p ∷ drop (suc s) places) (sym same)
+pub next_place : (due places : List (ℕ × ℕ)) (s : ℕ) → s < length due → due ≡ places → drop s places ≡ get_or due s (0, 0) ∷ drop (suc s) places
+next_place due places s few same = subst (λ (z : List (ℕ × ℕ)). drop s z ≡ get_or due s (0, 0) ∷ drop (suc s) z) same (drop-cons due s (0, 0) few)
 
-pub subs_more : {X R : Type 0} {f : Lines Dump} (form : Form) (material : Sides) (kind : Kind) (last : List ℕ) (parts : List Part) (read : List SubDump) (s next : ℕ) (place : ℕ × ℕ) (sizes : Option (List ℕ)) (view : X → SubDump) (v : X)
-    {o m n : Incoming} {dev : Ghosts R} {i j k : R} → next ≡ suc s → s < length (places_of material kind) → place ≡ get_or (places_of material kind) s (0, 0) → sizes ≡ sizes_told material kind parts →
-    GoesOn f (subs_left form material kind last parts read s) o m dev i j → ReadsLines (sub_text form kind sizes s place) view m n dev j k (Ok v) →
+pub subs_more : {X R : Type 0} {f : Lines Dump} (form : Form) (material : Sides) (kind : Kind) (last : List ℕ) (parts : List Part) (read : List SubDump) (s next : ℕ) (due : List (ℕ × ℕ)) (sizes : Option (List ℕ)) (view : X → SubDump) (v : X)
+    {o m n : Incoming} {dev : Ghosts R} {i j k : R} → next ≡ suc s → s < length due → due ≡ places_of material kind → sizes ≡ sizes_told material kind parts →
+    GoesOn f (subs_left form material kind last parts read s) o m dev i j → ReadsLines (sub_text form kind sizes s (get_or due s (0, 0))) view m n dev j k (Ok v) →
     GoesOn f (subs_left form material kind last parts (read ++ view v ∷ []) next) o n dev i k
-subs_more {f = f} form material kind last parts read s next place sizes view v {o = o} {m = m} {n = n} {dev = dev} {i = i} {j = j} {k = k} after few same e a sub =
+subs_more {f = f} form material kind last parts read s next due sizes view v {o = o} {m = m} {n = n} {dev = dev} {i = i} {j = j} {k = k} after few same e a sub =
     let places = places_of material kind in
+    let place = get_or due s (0, 0) in
     let told = sizes_told material kind parts in
     subst (λ (z : ℕ). GoesOn f (subs_left form material kind last parts (read ++ view v ∷ []) z) o n dev i k) (sym after)
     (goes_as f (λ rest. dump_of_subs material kind parts last (read ++ view v ∷ rest)) (λ rest. dump_of_subs material kind parts last ((read ++ view v ∷ []) ++ rest)) (subs_text form kind told (suc s) (drop (suc s) places))
     (λ (rest : List SubDump). ap (dump_of_subs material kind parts last) (sym (append_assoc read (view v ∷ []) rest)))
-    (goes_then (subst (λ (z : List (ℕ × ℕ)). GoesOn f (left_of form material kind last parts read s z) o m dev i j) (next_place places s place few same) a)
+    (goes_then (subst (λ (z : List (ℕ × ℕ)). GoesOn f (left_of form material kind last parts read s z) o m dev i j) (next_place due places s few same) a)
     (goes_step (sub_text form kind told s place) (λ _. subs_text form kind told (suc s) (drop (suc s) places)) (λ x xs. x ∷ xs) (λ rest. dump_of_subs material kind parts last (read ++ rest)) view v
     (subst (λ (z : Option (List ℕ)). ReadsLines (sub_text form kind z s place) view m n dev j k (Ok v)) e sub))))
 
-pub subs_stopped : {X Y R : Type 0} {f : Lines Dump} (form : Form) (material : Sides) (kind : Kind) (last : List ℕ) (parts : List Part) (read : List SubDump) (s : ℕ) (place : ℕ × ℕ) (sizes : Option (List ℕ)) (view : X → SubDump) (view' : Y → Dump) (fault : DumpReadFault)
-    {o m n n' : Incoming} {dev : Ghosts R} {i j k : R} → s < length (places_of material kind) → place ≡ get_or (places_of material kind) s (0, 0) → sizes ≡ sizes_told material kind parts →
-    GoesOn f (subs_left form material kind last parts read s) o m dev i j → ReadsLines (sub_text form kind sizes s place) view m n dev j k (Err fault) → ReadsLines f view' o n' dev i k (Err fault)
-subs_stopped {f = f} form material kind last parts read s place sizes view view' fault {o = o} {m = m} {n = n} {dev = dev} {i = i} {j = j} {k = k} few same e a sub =
+pub subs_stopped : {X Y R : Type 0} {f : Lines Dump} (form : Form) (material : Sides) (kind : Kind) (last : List ℕ) (parts : List Part) (read : List SubDump) (s : ℕ) (due : List (ℕ × ℕ)) (sizes : Option (List ℕ)) (view : X → SubDump) (view' : Y → Dump) (fault : DumpReadFault)
+    {o m n n' : Incoming} {dev : Ghosts R} {i j k : R} → s < length due → due ≡ places_of material kind → sizes ≡ sizes_told material kind parts →
+    GoesOn f (subs_left form material kind last parts read s) o m dev i j → ReadsLines (sub_text form kind sizes s (get_or due s (0, 0))) view m n dev j k (Err fault) → ReadsLines f view' o n' dev i k (Err fault)
+subs_stopped {f = f} form material kind last parts read s due sizes view view' fault {o = o} {m = m} {n = n} {dev = dev} {i = i} {j = j} {k = k} few same e a sub =
     let places = places_of material kind in
+    let place = get_or due s (0, 0) in
     let told = sizes_told material kind parts in
     goes_stopped (sub_text form kind told s place) (λ x. subs_text form kind told (suc s) (drop (suc s) places) >>= λ xs. means (x ∷ xs)) (λ rest. dump_of_subs material kind parts last (read ++ rest)) view view' fault
-    (subst (λ (z : List (ℕ × ℕ)). GoesOn f (left_of form material kind last parts read s z) o m dev i j) (next_place places s place few same) a)
+    (subst (λ (z : List (ℕ × ℕ)). GoesOn f (left_of form material kind last parts read s z) o m dev i j) (next_place due places s few same) a)
     (subst (λ (z : Option (List ℕ)). ReadsLines (sub_text form kind z s place) view m n dev j k (Err fault)) e sub)
 
 pub subs_ended : {Y R : Type 0} {f : Lines Dump} (form : Form) (material : Sides) (kind : Kind) (last : List ℕ) (parts : List Part) (read : List SubDump) (s : ℕ) (view : Y → Dump) (v : Y) {o m : Incoming} {dev : Ghosts R} {i j : R} →

@@ -24,7 +24,7 @@ use Rattle.szg_build.specs.Dump.{Dump, SubDump, parts_of, places_of, subs_of}
 use Rattle.szg_build.specs.Text.{Form, runs, single, form_number, with_value, runs_of, line_text, lines_text, flat_map_beside, front_lines, part_lines, sub_lines, dump_lines, dump_text, kind_word, flags_lines, map_lines}
 use Rattle.szg_file.specs.Held.{map_of}
 use Rattle.szg_build.specs.declared.dump.Dump as declared
-use Rattle.szg_build.specs.Shown.{form_of, count_at, sub_at, sub_count, subs_seen}
+use Rattle.szg_build.specs.Shown.{form_of, count_at, sub_at, sub_in, sub_count, subs_seen}
 use Rattle.szg_build.specs.Writing.{Writing, Writes, Stops, Answer, told, turns_of}
 use Rattle.szg_build.proofs.LinesLaws.{bool_cases}
 use Rattle.szg_build.proofs.Runs.{with_value-same, with_value-other}
@@ -202,8 +202,8 @@ value_line v = line_text (decimal v ∷ [])
 abbrev pub run_line : ℕ × ℕ → List ℕ
 run_line run = line_text (decimal run.0 ∷ decimal run.1 ∷ [])
 
-pub lines_of_values : (values : List ℕ) → lines_text (map (λ v. decimal v ∷ []) values) ≡ flat_map value_line values
-lines_of_values values = flat_map-map line_text (λ v. decimal v ∷ []) values
+pub lines_of_items : {A : Type 0} (number : A → ℕ) (items : List A) → lines_text (map (λ v. decimal v ∷ []) (map number items)) ≡ flat_map (λ item. value_line (number item)) items
+lines_of_items number items = flat_map-map line_text (λ v. decimal v ∷ []) (map number items) ∙ flat_map-map value_line number items
 
 pub lines_of_runs : (found : List (ℕ × ℕ)) → lines_text (map (λ run. decimal run.0 ∷ decimal run.1 ∷ []) found) ≡ flat_map run_line found
 lines_of_runs found = flat_map-map line_text (λ (run : ℕ × ℕ). decimal run.0 ∷ decimal run.1 ∷ []) found
@@ -375,6 +375,28 @@ seen_counted dump =
     subs_counted dump.kind dump.flags.items (map (option_map map_of) dump.maps.items) (map (λ list. list.items) dump.lists.items)
     ∙ ap (λ (z : ℕ). count_at dump.kind (length dump.flags.items) z (length (map (λ list. list.items) dump.lists.items))) (length-map dump.maps.items (option_map map_of))
     ∙ ap (λ (z : ℕ). count_at dump.kind (length dump.flags.items) (length dump.maps.items) z) (length-map dump.lists.items (λ list. list.items))
+
+-- subtable s of a dump, as it is told at its place
+pub sub_told : (form : Form) (dump : declared.Dump) (places : List (ℕ × ℕ)) (s : ℕ) → places ≡ places_of dump.material dump.kind → s < length places → s < sub_count dump →
+    (s < length (places_of dump.material dump.kind)) × (s < length (subs_seen dump))
+    × (lines_text (sub_lines form dump.kind (get_or (places_of dump.material dump.kind) s (0, 0)) (get_or (subs_seen dump) s (sub_in dump s))) ≡ lines_text (sub_lines form dump.kind (get_or places s (0, 0)) (sub_in dump s)))
+sub_told form dump places s same few there =
+    let sub = sub_there dump.kind dump.flags.items (map (option_map map_of) dump.maps.items) (map (λ list. list.items) dump.lists.items) s (sub_in dump s) (mapped_count dump s there) in (
+      omega (arith, few, ap length same),
+      sub.0,
+      ap (λ z. lines_text (sub_lines form dump.kind (get_or (places_of dump.material dump.kind) s (0, 0)) z)) sub.1
+          ∙ ap (λ z. lines_text (sub_lines form dump.kind (get_or z s (0, 0)) (sub_in dump s))) (sym same),
+    )
+
+-- the n-th part, as it is told under its number
+pub part_told : {A : Type 0} (part : A → held.Part) (parts : List A) (numbers : List ℕ) (count n : ℕ) (x : A) → numbers ≡ range_with_len 0 count → n < count → n < length parts → x ≡ get_or parts n x →
+    (n < length numbers) × (n < length (map part parts)) × (lines_text (part_lines (get_or numbers n 0) (get_or (map part parts) n (part x))) ≡ lines_text (part_lines n (part x)))
+part_told part parts numbers count n x same few there is =
+    let here = number_at numbers count n same few in (
+      here.0,
+      omega (arith, length-map parts part, there),
+      ap (λ z. lines_text (part_lines z (get_or (map part parts) n (part x)))) here.1 ∙ ap (λ z. lines_text (part_lines n z)) (mapped_item parts part n x (part x) there is),
+    )
 
 -- ---- the front
 

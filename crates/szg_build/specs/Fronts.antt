@@ -1,12 +1,15 @@
 -- How the fixed words and the values of a line stand in its text.
-use Rattle.std.specs.Prelude.{◌≡◌, ℕ, suc, ◌==◌, false, List, [], ◌∷◌, ◌++◌, codes, Result, Ok, Err}
+use Rattle.std.specs.Prelude.{◌≡◌, ◌⊎◌, ℕ, suc, ◌==◌, false, List, [], ◌∷◌, ◌++◌, codes, Result, Ok, Err}
 use Rattle.std.specs.Fmt.{decimal}
 use Rattle.std.specs.List.{list_any}
+use Rattle.szg_io.specs.declared.device.Input.{Ghosts}
+use Rattle.szg_build.specs.declared.incoming.Incoming.{Incoming}
 use Rattle.szg_build.specs.declared.dump.DumpFault.{DumpFault}
 use Rattle.szg_build.specs.declared.dump.DumpReadFault.{DumpReadFault}
 use Rattle.szg_build.specs.declared.dump.DumpReadFault.TheVariants.{Line}
 use Rattle.szg_build.specs.Text.{spaced, part_word}
-use Rattle.szg_build.specs.Lines.{Lines, means, refuses, line}
+use Rattle.szg_build.specs.Lines.{Lines, means, refuses, line, words_of}
+use Rattle.szg_build.specs.Reading.{ReadsLines}
 use Rattle.szg_build.specs.Grammar.{Word, fixed, value, line_of}
 
 -- there is no space in it
@@ -54,6 +57,12 @@ said (refuses why) words = refuses why
 abbrev pub in_line : {X : Type 0} → ℕ → Result X DumpFault → Result X DumpReadFault
 in_line number (Ok x) = Ok x
 in_line number (Err fault) = Err (Line number fault)
+
+-- A line was read, and the answer is what is told of it; or no line was read.
+abbrev pub TellsLine : {T R : Type 0} → (List ℕ → Result T DumpFault → Type 0) → Incoming → Incoming → Ghosts R → R → R → Result T DumpReadFault → Type 0
+TellsLine {T = T} tells old new dev input input' result =
+    ((text : List ℕ) × (told : Result T DumpFault) × tells text told × ReadsLines (line means) words_of old new dev input input' (Ok text) × (result ≡ in_line new.line told))
+    ⊎ ((fault : DumpReadFault) × ReadsLines (line means) words_of old new dev input input' (Err fault) × (result ≡ Err fault))
 
 -- the line that names a subtable
 abbrev pub sub_line : ℕ × ℕ → Lines (List (List ℕ))

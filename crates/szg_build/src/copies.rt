@@ -1,9 +1,10 @@
 //! What a dump takes over from a table.
-ghost use Rattle.std.specs.Prelude.{◌≡◌, ◌%◌, map, option_map, IfOk};
+ghost use Rattle.std.specs.Prelude.{◌≡◌, ◌%◌, map, Some, option_map, IfOk};
 ghost use Rattle.szg_values.specs.Material.{IsMaterial};
 ghost use Rattle.szg_file.specs.File.{flags_of};
 ghost use Rattle.szg_file.specs.Held.{part_of, map_of, subtable_of};
-ghost use Rattle.szg_build.specs.Built.{plan_flags, value_lists};
+ghost use Rattle.szg_file.specs.Values.{subtable_at};
+ghost use Rattle.szg_build.specs.Built.{plan_flags, subtables_in, value_lists};
 
 use crate::places::places;
 use std::alloc::{AllocError, Global};
@@ -44,20 +45,8 @@ pub(crate) fn copy_parts(alloc: Global, parts: &[PartBytes]) -> Result<Vec<PartB
     Ok(copies)
 }
 
-/// The same four lists of bytes.
-fn copy_byte_lists(alloc: Global, lists: &[Vec<u8>; 4]) -> Result<[Vec<u8>; 4], AllocError>
-    ensures { IfOk result (λ copies. map (λ list. list.items) copies ≡ map (λ list. list.items) lists.now) }
-{
-    let [wins, losses, cursed_wins, blessed_losses] = lists;
-    let wins = Vec::from_slice(alloc, wins)?;
-    let losses = Vec::from_slice(alloc, losses)?;
-    let cursed_wins = Vec::from_slice(alloc, cursed_wins)?;
-    let blessed_losses = Vec::from_slice(alloc, blessed_losses)?;
-    Ok([wins, losses, cursed_wins, blessed_losses])
-}
-
-/// The same four lists of numbers of two bytes.
-fn copy_wide_lists(alloc: Global, lists: &[Vec<u16>; 4]) -> Result<[Vec<u16>; 4], AllocError>
+/// The same four lists.
+fn copy_lists<T: Copy>(alloc: Global, lists: &[Vec<T>; 4]) -> Result<[Vec<T>; 4], AllocError>
     ensures { IfOk result (λ copies. map (λ list. list.items) copies ≡ map (λ list. list.items) lists.now) }
 {
     let [wins, losses, cursed_wins, blessed_losses] = lists;
@@ -75,11 +64,11 @@ fn copy_map(alloc: Global, map: &Option<Map>) -> Result<Option<Map>, AllocError>
     match map {
         None => Ok(None),
         Some(Map::Bytes(lists)) => {
-            let copies = copy_byte_lists(alloc, lists)?;
+            let copies = copy_lists(alloc, lists)?;
             Ok(Some(Map::Bytes(copies)))
         }
         Some(Map::Wide(lists)) => {
-            let copies = copy_wide_lists(alloc, lists)?;
+            let copies = copy_lists(alloc, lists)?;
             Ok(Some(Map::Wide(copies)))
         }
     }
@@ -116,13 +105,21 @@ pub(crate) fn copy_flags(alloc: Global, table: &Table) -> Result<Vec<u8>, AllocE
     }
 }
 
+/// Part and side of each subtable of a table.
+fn table_places(table: &Table) -> &'static [(u8, u8)]
+    ensures { map Some (subtables_in table.now.contents) ≡ map (λ place. subtable_at table.now.contents place.0 place.1) result.now }
+{
+    let _fill = table.fill();
+    places(table.material(), table.kind())
+}
+
 /// The flags of all subtables, without the one that says constant.
 fn copy_dtz_flags(alloc: Global, table: &Table) -> Result<Vec<u8>, AllocError>
     ensures { IfOk result (λ flags. flags.items ≡ map (λ subtable. flags_of subtable % 32) table.now.contents.subtables) }
 {
     let _fill = table.fill();
     let mut flags = Vec::new(alloc);
-    'places: for place in places(table.material(), table.kind()) {
+    'places: for place in table_places(table) {
         let Some(sub) = table.sub(place.0, place.1) else {
             unreachable!()
         };
@@ -135,9 +132,8 @@ fn copy_dtz_flags(alloc: Global, table: &Table) -> Result<Vec<u8>, AllocError>
 pub(crate) fn copy_values(alloc: Global, table: &Table) -> Result<Vec<Vec<u16>>, AllocError>
     ensures { IfOk result (λ lists. map (λ list. list.items) lists.items ≡ value_lists table.now.contents) }
 {
-    let _fill = table.fill();
     let mut lists = Vec::new(alloc);
-    'places: for place in places(table.material(), table.kind()) {
+    'places: for place in table_places(table) {
         let values = table.values(alloc, place.0, place.1)?;
         lists.push(values)?;
     }

@@ -10,6 +10,7 @@ mod counts;
 mod dump;
 mod dumpreading;
 mod incoming;
+mod item;
 pub mod laws;
 mod leaves;
 mod line;

@@ -1,5 +1,5 @@
 //! One line of text.
-ghost use Rattle.std.specs.Prelude.{◌≡◌, ◌≢◌, ℕ, ◌+◌, ◌<◌, ◌≤◌, length, slice_index, MatchOption, IfOk, IsErrOf, OnOk};
+ghost use Rattle.std.specs.Prelude.{◌≡◌, ◌≢◌, ℕ, ◌+◌, ◌<◌, ◌≤◌, length, slice_index, MatchOption, IfOk, IsErrOf};
 ghost use Rattle.szg_build.specs.Held.{held_of};
 ghost use Rattle.szg_build.specs.Lines.{line, means, words_of};
 ghost use Rattle.szg_build.specs.Reading.{ReadsLines};
@@ -31,7 +31,7 @@ fn line_len(held: &[u8]) -> Option<usize>
 /// be taken at once. Of a line that is long enough no byte behind those is taken.
 ///
 /// `Field` where the line has more than 80 bytes before its 0A, `Ended` where the bytes end before it.
-pub(crate) fn next_line_of<R: Input>(
+pub(crate) fn next_line<R: Input>(
     least: usize,
     behind: u64,
     input: &mut R,
@@ -62,18 +62,4 @@ pub(crate) fn next_line_of<R: Input>(
             Err(DeviceFault) => return Err(DumpReadFault::Device),
         }
     }
-}
-
-/// Reads a line of any length, where `behind` more bytes at least are due after it.
-pub(crate) fn next_line<R: Input>(
-    behind: u64,
-    input: &mut R,
-    incoming: &mut Incoming,
-) -> Result<ArrayVec<u8, 80>, DumpReadFault>
-    requires { length (held_of incoming.old) ≤ behind + 1 }
-    ensures line { ReadsLines (line means) (λ text. words_of text.items) incoming.old incoming.new R.Input input.old input.new result }
-    ensures behind { OnOk result (length (held_of incoming.new) ≤ behind) }
-    ensures memory { IsErrOf result DumpReadFault.Memory → ⊥ }
-{
-    next_line_of(1, behind, input, incoming)
 }

@@ -1,6 +1,7 @@
 //! A dump's lines from a device, one at a time.
 ghost use Rattle.std.specs.Prelude.{◌≡◌, ◌+◌, ◌<◌, ◌≤◌, List, [], length, IfOk, IsErrOf, OnOk};
-ghost use Rattle.szg_build.specs.Fronts.{IsFront, in_line, sub_line};
+ghost use Rattle.std.specs.Fn.{FnOnceReturnsAt};
+ghost use Rattle.szg_build.specs.Fronts.{IsFront, TellsLine, in_line, sub_line};
 ghost use Rattle.szg_build.specs.Grammar.{Word, version_line, name_line, kind_line, end_line, part_line, number_line, run_line};
 ghost use Rattle.szg_build.specs.Held.{held_of};
 ghost use Rattle.szg_build.specs.Reading.{ReadsLines};
@@ -8,13 +9,16 @@ ghost use Rattle.szg_build.specs.Shown.{form_of};
 
 use crate::dump::{DumpFault, DumpReadFault};
 use crate::incoming::Incoming;
-use crate::line::{next_line, next_line_of};
+use crate::line::next_line;
 use crate::saying::{
     end_told, form_told, kind_told, material_told, number_told, part_told, place_told, run_told,
 };
 use arrayvec::ArrayVec;
 use szg_io::Input;
 use szg_values::{Kind, Material};
+
+/// The bytes of a line, with its 0A, at least.
+const LEAST_LINE: usize = 1;
 
 /// The bytes of a run's line, with its 0A, at least.
 const LEAST_RUN: usize = 4;
@@ -29,6 +33,23 @@ fn with_line<T: Drop>(told: Result<T, DumpFault>, line: u64) -> Result<T, DumpRe
     }
 }
 
+/// Reads a line, and tells what it says.
+fn read_told<T: Drop, R: Input, F: FnOnce(&[u8]) -> Result<T, DumpFault> + Drop>(
+    tell: F,
+    behind: u64,
+    input: &mut R,
+    incoming: &mut Incoming,
+) -> Result<T, DumpReadFault>
+    requires short { (text : _) → length text.now ≤ 80 → F.pre tell text }
+    requires held { length (held_of incoming.old) ≤ behind + 1 }
+    ensures lines { TellsLine (FnOnceReturnsAt F.FnOnce tell) incoming.old incoming.new R.Input input.old input.new result }
+    ensures behind { OnOk result (length (held_of incoming.new) ≤ behind) }
+    ensures memory { IsErrOf result DumpReadFault.Memory → ⊥ }
+{
+    let text = next_line(LEAST_LINE, behind, input, incoming)?;
+    with_line(tell(text.as_slice()), incoming.line)
+}
+
 /// The line of the form.
 pub(crate) fn read_form<R: Input>(
     behind: u64,
@@ -40,8 +61,7 @@ pub(crate) fn read_form<R: Input>(
     ensures behind { OnOk result (length (held_of incoming.new) ≤ behind) }
     ensures memory { IsErrOf result DumpReadFault.Memory → ⊥ }
 {
-    let text = next_line(behind, input, incoming)?;
-    with_line(form_told(text.as_slice()), incoming.line)
+    read_told(form_told, behind, input, incoming)
 }
 
 /// The line of the name.
@@ -55,8 +75,7 @@ pub(crate) fn read_material<R: Input>(
     ensures behind { OnOk result (length (held_of incoming.new) ≤ behind) }
     ensures memory { IsErrOf result DumpReadFault.Memory → ⊥ }
 {
-    let text = next_line(behind, input, incoming)?;
-    with_line(material_told(text.as_slice()), incoming.line)
+    read_told(material_told, behind, input, incoming)
 }
 
 /// The line of the kind.
@@ -70,8 +89,7 @@ pub(crate) fn read_kind<R: Input>(
     ensures behind { OnOk result (length (held_of incoming.new) ≤ behind) }
     ensures memory { IsErrOf result DumpReadFault.Memory → ⊥ }
 {
-    let text = next_line(behind, input, incoming)?;
-    with_line(kind_told(text.as_slice()), incoming.line)
+    read_told(kind_told, behind, input, incoming)
 }
 
 /// The line of the last bytes.
@@ -85,8 +103,7 @@ pub(crate) fn read_end<R: Input>(
     ensures behind { OnOk result (length (held_of incoming.new) ≤ behind) }
     ensures memory { IsErrOf result DumpReadFault.Memory → ⊥ }
 {
-    let text = next_line(behind, input, incoming)?;
-    with_line(end_told(text.as_slice()), incoming.line)
+    read_told(end_told, behind, input, incoming)
 }
 
 /// The line of a part.
@@ -102,8 +119,7 @@ pub(crate) fn read_part<R: Input>(
     ensures behind { OnOk result (length (held_of incoming.new) ≤ behind) }
     ensures memory { IsErrOf result DumpReadFault.Memory → ⊥ }
 {
-    let text = next_line(behind, input, incoming)?;
-    with_line(part_told(number, text.as_slice()), incoming.line)
+    read_told(|text| part_told(number, text), behind, input, incoming)
 }
 
 /// The line that names a subtable.
@@ -120,8 +136,7 @@ pub(crate) fn read_place<R: Input>(
     ensures behind { OnOk result (length (held_of incoming.new) ≤ behind) }
     ensures memory { IsErrOf result DumpReadFault.Memory → ⊥ }
 {
-    let text = next_line(behind, input, incoming)?;
-    with_line(place_told(place, text.as_slice()), incoming.line)
+    read_told(|text| place_told(place, text), behind, input, incoming)
 }
 
 /// The line of a run, of no more values than are left.
@@ -138,7 +153,7 @@ pub(crate) fn read_run<R: Input>(
     ensures some { IfOk result (λ run. 0 < run.0) }
     ensures within { IfOk result (λ run. run.0 ≤ left) }
 {
-    let text = next_line_of(LEAST_RUN, behind, input, incoming)?;
+    let text = next_line(LEAST_RUN, behind, input, incoming)?;
     with_line(run_told(left, text.as_slice()), incoming.line)
 }
 
@@ -156,6 +171,10 @@ pub(crate) fn read_number<R: Input>(
     ensures memory { IsErrOf result DumpReadFault.Memory → ⊥ }
     ensures within { IfOk result (λ number. number ≤ limit) }
 {
-    let text = next_line(behind, input, incoming)?;
-    with_line(number_told(front, limit, text.as_slice()), incoming.line)
+    read_told(
+        |text| number_told(front, limit, text),
+        behind,
+        input,
+        incoming,
+    )
 }

@@ -2,7 +2,7 @@
 ghost use Rattle.std.specs.Prelude.{◌≡◌, ◌+◌, ◌<◌, ◌≤◌, ◌^◌, [], ◌∷◌, ◌++◌, length, map, option_map, replicate, IsErrOf, OnOk};
 ghost use Rattle.szg_file.specs.Contents.{has_bit, part_numbers};
 ghost use Rattle.szg_file.specs.Held.{map_of, part_of};
-ghost use Rattle.szg_build.specs.Grammar.{each, list_numbers, map_list, map_of as map_text, part_line, value, values_lines, repeated, number_line, run_values, greatest_item};
+ghost use Rattle.szg_build.specs.Grammar.{each, list_numbers, map_list, map_of as map_text, part_line, value, values_lines, repeated, number_line, run_values};
 ghost use Rattle.szg_build.specs.Held.{held_of};
 ghost use Rattle.szg_build.specs.Lacks.{LacksLines};
 ghost use Rattle.szg_build.specs.Reading.{ReadsLines};
@@ -10,10 +10,11 @@ ghost use Rattle.szg_build.specs.Shown.{form_of};
 
 use crate::dump::DumpReadFault;
 use crate::incoming::Incoming;
+use crate::item::Item;
 use crate::lines::{read_number, read_part, read_run};
 use crate::places::part_count;
 use crate::refusing::{is_mapped, is_wide};
-use crate::saying::{GREATEST_COUNT, GREATEST_ITEM};
+use crate::saying::GREATEST_COUNT;
 use std::alloc::{AllocError, AllocFailed, Global};
 use szg_file::{Map, PartBytes};
 use szg_io::Input;
@@ -21,52 +22,39 @@ use szg_values::Material;
 
 // ---- values
 
-/// Bytes, one a line.
-fn read_bytes<R: Input>(
-    alloc: Global,
-    count: u64,
+/// An item, in a line of its own.
+fn read_item<T: Item, R: Input>(
     behind: u64,
     input: &mut R,
     incoming: &mut Incoming,
-) -> Result<Vec<u8>, DumpReadFault>
-    requires few { behind + count < 2 ^ 64 }
-    requires held { length (held_of incoming.old) ≤ behind + count }
-    ensures lines { ReadsLines (repeated count (number_line (value ∷ []) 255)) (λ list. list.items) incoming.old incoming.new R.Input input.old input.new result }
+) -> Result<T, DumpReadFault>
+    requires { length (held_of incoming.old) ≤ behind + 1 }
+    ensures lines { ReadsLines (number_line (value ∷ []) T.GREATEST) T.number incoming.old incoming.new R.Input input.old input.new result }
     ensures behind { OnOk result (length (held_of incoming.new) ≤ behind) }
-    ensures memory { IsErrOf result DumpReadFault.Memory → LacksLines (repeated count (number_line (value ∷ []) 255)) behind incoming.old R.Input input.old input.new }
+    ensures memory { IsErrOf result DumpReadFault.Memory → ⊥ }
 {
-    let mut list = Vec::new(alloc);
-    'items: for i in 0..count {
-        let item = read_number(b"", 255, behind + (count - 1 - i), input, incoming)?;
-        list.push(item as u8)?;
-    }
-    Ok(list)
+    let number = read_number(b"", T::GREATEST, behind, input, incoming)?;
+    Ok(T::of(number))
 }
 
-/// Values, one a line.
-fn read_singles<R: Input>(
+/// Items, one a line.
+fn read_items<T: Item, R: Input>(
     alloc: Global,
     count: u64,
     behind: u64,
     input: &mut R,
     incoming: &mut Incoming,
-) -> Result<Vec<u16>, DumpReadFault>
+) -> Result<Vec<T>, DumpReadFault>
     requires few { behind + count < 2 ^ 64 }
     requires held { length (held_of incoming.old) ≤ behind + count }
-    ensures lines { ReadsLines (repeated count (number_line (value ∷ []) greatest_item)) (λ list. list.items) incoming.old incoming.new R.Input input.old input.new result }
+    ensures lines { ReadsLines (repeated count (number_line (value ∷ []) T.GREATEST)) (λ list. map T.number list.items) incoming.old incoming.new R.Input input.old input.new result }
     ensures behind { OnOk result (length (held_of incoming.new) ≤ behind) }
-    ensures memory { IsErrOf result DumpReadFault.Memory → LacksLines (repeated count (number_line (value ∷ []) greatest_item)) behind incoming.old R.Input input.old input.new }
+    ensures memory { IsErrOf result DumpReadFault.Memory → LacksLines (repeated count (number_line (value ∷ []) T.GREATEST)) behind incoming.old R.Input input.old input.new }
 {
     let mut list = Vec::new(alloc);
     'items: for i in 0..count {
-        let item = read_number(
-            b"",
-            GREATEST_ITEM,
-            behind + (count - 1 - i),
-            input,
-            incoming,
-        )?;
-        list.push(item as u16)?;
+        let item = read_item(behind + (count - 1 - i), input, incoming)?;
+        list.push(item)?;
     }
     Ok(list)
 }
@@ -122,89 +110,49 @@ pub(crate) fn read_values<R: Input>(
     if form == 2 {
         read_runs(alloc, count, behind, input, incoming)
     } else {
-        read_singles(alloc, count, behind, input, incoming)
+        read_items(alloc, count, behind, input, incoming)
     }
 }
 
 // ---- maps
 
-/// List `j` of a map of bytes.
-fn read_byte_list<R: Input>(
+/// List `j` of a map.
+fn read_list<T: Item, R: Input>(
     alloc: Global,
     j: u8,
     behind: u64,
     input: &mut R,
     incoming: &mut Incoming,
-) -> Result<Vec<u8>, DumpReadFault>
+) -> Result<Vec<T>, DumpReadFault>
     requires list { j < 4 }
     requires few { behind < 2 ^ 32 }
     requires held { length (held_of incoming.old) ≤ behind + 1 }
-    ensures lines { ReadsLines (map_list 255 j) (λ list. list.items) incoming.old incoming.new R.Input input.old input.new result }
+    ensures lines { ReadsLines (map_list T.GREATEST j) (λ list. map T.number list.items) incoming.old incoming.new R.Input input.old input.new result }
     ensures behind { OnOk result (length (held_of incoming.new) ≤ behind) }
-    ensures memory { IsErrOf result DumpReadFault.Memory → LacksLines (map_list 255 j) behind incoming.old R.Input input.old input.new }
+    ensures memory { IsErrOf result DumpReadFault.Memory → LacksLines (map_list T.GREATEST j) behind incoming.old R.Input input.old input.new }
 {
     let front = [b'm', b'a', b'p', b' ', b'0' + j, b' '];
     let count = read_number(&front, GREATEST_COUNT, behind, input, incoming)?;
-    read_bytes(alloc, count, behind, input, incoming)
+    read_items(alloc, count, behind, input, incoming)
 }
 
-/// List `j` of a wide map.
-fn read_wide_list<R: Input>(
-    alloc: Global,
-    j: u8,
-    behind: u64,
-    input: &mut R,
-    incoming: &mut Incoming,
-) -> Result<Vec<u16>, DumpReadFault>
-    requires list { j < 4 }
-    requires few { behind < 2 ^ 32 }
-    requires held { length (held_of incoming.old) ≤ behind + 1 }
-    ensures lines { ReadsLines (map_list greatest_item j) (λ list. list.items) incoming.old incoming.new R.Input input.old input.new result }
-    ensures behind { OnOk result (length (held_of incoming.new) ≤ behind) }
-    ensures memory { IsErrOf result DumpReadFault.Memory → LacksLines (map_list greatest_item j) behind incoming.old R.Input input.old input.new }
-{
-    let front = [b'm', b'a', b'p', b' ', b'0' + j, b' '];
-    let count = read_number(&front, GREATEST_COUNT, behind, input, incoming)?;
-    read_singles(alloc, count, behind, input, incoming)
-}
-
-/// The four lists of a map of bytes.
-fn read_byte_lists<R: Input>(
+/// The four lists of a map.
+fn read_lists<T: Item, R: Input>(
     alloc: Global,
     behind: u64,
     input: &mut R,
     incoming: &mut Incoming,
-) -> Result<[Vec<u8>; 4], DumpReadFault>
+) -> Result<[Vec<T>; 4], DumpReadFault>
     requires few { behind < 2 ^ 31 }
     requires held { length (held_of incoming.old) ≤ behind + 4 }
-    ensures lines { ReadsLines (each (map_list 255) list_numbers) (λ lists. map (λ list. list.items) lists) incoming.old incoming.new R.Input input.old input.new result }
+    ensures lines { ReadsLines (each (map_list T.GREATEST) list_numbers) (λ lists. map (λ list. map T.number list.items) lists) incoming.old incoming.new R.Input input.old input.new result }
     ensures behind { OnOk result (length (held_of incoming.new) ≤ behind) }
-    ensures memory { IsErrOf result DumpReadFault.Memory → LacksLines (each (map_list 255) list_numbers) behind incoming.old R.Input input.old input.new }
+    ensures memory { IsErrOf result DumpReadFault.Memory → LacksLines (each (map_list T.GREATEST) list_numbers) behind incoming.old R.Input input.old input.new }
 {
-    let wins = read_byte_list(alloc, 0, behind + 3, input, incoming)?;
-    let losses = read_byte_list(alloc, 1, behind + 2, input, incoming)?;
-    let cursed_wins = read_byte_list(alloc, 2, behind + 1, input, incoming)?;
-    let blessed_losses = read_byte_list(alloc, 3, behind, input, incoming)?;
-    Ok([wins, losses, cursed_wins, blessed_losses])
-}
-
-/// The four lists of a wide map.
-fn read_wide_lists<R: Input>(
-    alloc: Global,
-    behind: u64,
-    input: &mut R,
-    incoming: &mut Incoming,
-) -> Result<[Vec<u16>; 4], DumpReadFault>
-    requires few { behind < 2 ^ 31 }
-    requires held { length (held_of incoming.old) ≤ behind + 4 }
-    ensures lines { ReadsLines (each (map_list greatest_item) list_numbers) (λ lists. map (λ list. list.items) lists) incoming.old incoming.new R.Input input.old input.new result }
-    ensures behind { OnOk result (length (held_of incoming.new) ≤ behind) }
-    ensures memory { IsErrOf result DumpReadFault.Memory → LacksLines (each (map_list greatest_item) list_numbers) behind incoming.old R.Input input.old input.new }
-{
-    let wins = read_wide_list(alloc, 0, behind + 3, input, incoming)?;
-    let losses = read_wide_list(alloc, 1, behind + 2, input, incoming)?;
-    let cursed_wins = read_wide_list(alloc, 2, behind + 1, input, incoming)?;
-    let blessed_losses = read_wide_list(alloc, 3, behind, input, incoming)?;
+    let wins = read_list(alloc, 0, behind + 3, input, incoming)?;
+    let losses = read_list(alloc, 1, behind + 2, input, incoming)?;
+    let cursed_wins = read_list(alloc, 2, behind + 1, input, incoming)?;
+    let blessed_losses = read_list(alloc, 3, behind, input, incoming)?;
     Ok([wins, losses, cursed_wins, blessed_losses])
 }
 
@@ -226,10 +174,10 @@ pub(crate) fn read_map<R: Input>(
         return Ok(None);
     }
     if is_wide(flags) {
-        let wide = read_wide_lists(alloc, behind, input, incoming)?;
+        let wide = read_lists(alloc, behind, input, incoming)?;
         return Ok(Some(Map::Wide(wide)));
     }
-    let narrow = read_byte_lists(alloc, behind, input, incoming)?;
+    let narrow = read_lists(alloc, behind, input, incoming)?;
     Ok(Some(Map::Bytes(narrow)))
 }
 

@@ -201,8 +201,5 @@ pub(crate) fn first_fault(plan: &Plan, sizes: &[u64], lists: &[&[u16]]) -> Optio
     if let Some(n) = too_many_values(lists) {
         return Some(BuildFault::TooManyValues(n));
     }
-    if !maps_stand(plan) {
-        return Some(BuildFault::Map);
-    }
-    None
+    (!maps_stand(plan)).then_some(BuildFault::Map)
 }

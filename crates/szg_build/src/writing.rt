@@ -13,6 +13,7 @@ ghost use Rattle.szg_build.specs.Writing.{Writing};
 ghost use Rattle.szg_build.specs.Shown.{dump_seen, form_of, sub_in, sub_count, subs_seen};
 
 use crate::dump::Dump;
+use crate::item::Item;
 use crate::outgoing::{Outgoing, flush, put};
 use crate::places::{part_count, places};
 use arrayvec::ArrayVec;
@@ -129,30 +130,16 @@ fn put_hex<W: Output>(
 
 // ---- values
 
-/// Puts a line for each byte.
-fn put_bytes<W: Output>(
-    list: &[u8],
+/// Puts a line for each item.
+fn put_items<T: Item, W: Output>(
+    items: &[T],
     output: &mut W,
     outgoing: &mut Outgoing,
 ) -> Result<(), WriteFault>
-    ensures { Writing (lines_text (map (λ v. decimal v ∷ []) list.now)) outgoing.old outgoing.new W.Output output.old output.new result }
+    ensures { Writing (lines_text (map (λ v. decimal v ∷ []) (map T.number items.now))) outgoing.old outgoing.new W.Output output.old output.new result }
 {
-    'bytes: for byte in list {
-        put_number(b"", u64::from(*byte), output, outgoing)?;
-    }
-    Ok(())
-}
-
-/// Puts a line for each value.
-fn put_values<W: Output>(
-    values: &[u16],
-    output: &mut W,
-    outgoing: &mut Outgoing,
-) -> Result<(), WriteFault>
-    ensures { Writing (lines_text (map (λ v. decimal v ∷ []) values.now)) outgoing.old outgoing.new W.Output output.old output.new result }
-{
-    'values: for value in values {
-        put_number(b"", u64::from(*value), output, outgoing)?;
+    'items: for item in items {
+        put_number(b"", item.number(), output, outgoing)?;
     }
     Ok(())
 }
@@ -202,62 +189,35 @@ fn put_list<W: Output>(
     if form == 2 {
         put_runs(values, output, outgoing)
     } else {
-        put_values(values, output, outgoing)
+        put_items(values, output, outgoing)
     }
 }
 
 // ---- maps
 
-/// Puts list `j` of a map of bytes: how many there are, and a line for each.
-fn put_byte_list<W: Output>(
+/// Puts list `j` of a map: how many items there are, and a line for each.
+fn put_map_list<T: Item, W: Output>(
     j: usize,
-    list: &[u8],
+    list: &[T],
     output: &mut W,
     outgoing: &mut Outgoing,
 ) -> Result<(), WriteFault>
-    ensures { Writing (lines_text (map_list_lines j list.now)) outgoing.old outgoing.new W.Output output.old output.new result }
+    ensures { Writing (lines_text (map_list_lines j (map T.number list.now))) outgoing.old outgoing.new W.Output output.old output.new result }
 {
     put_pair(b"map ", j as u64, list.len() as u64, output, outgoing)?;
-    put_bytes(list, output, outgoing)
+    put_items(list, output, outgoing)
 }
 
-/// Puts list `j` of a wide map.
-fn put_wide_list<W: Output>(
-    j: usize,
-    list: &[u16],
+/// Puts the four lists of a map.
+fn put_map_lists<T: Item, W: Output>(
+    lists: &[Vec<T>; 4],
     output: &mut W,
     outgoing: &mut Outgoing,
 ) -> Result<(), WriteFault>
-    ensures { Writing (lines_text (map_list_lines j list.now)) outgoing.old outgoing.new W.Output output.old output.new result }
-{
-    put_pair(b"map ", j as u64, list.len() as u64, output, outgoing)?;
-    put_values(list, output, outgoing)
-}
-
-/// Puts the four lists of a map of bytes.
-fn put_byte_lists<W: Output>(
-    lists: &[Vec<u8>; 4],
-    output: &mut W,
-    outgoing: &mut Outgoing,
-) -> Result<(), WriteFault>
-    ensures { Writing (lines_text (flat_map_beside map_list_lines (0 ∷ 1 ∷ 2 ∷ 3 ∷ []) (map (λ list. list.items) lists.now))) outgoing.old outgoing.new W.Output output.old output.new result }
+    ensures { Writing (lines_text (flat_map_beside map_list_lines (0 ∷ 1 ∷ 2 ∷ 3 ∷ []) (map (λ list. map T.number list.items) lists.now))) outgoing.old outgoing.new W.Output output.old output.new result }
 {
     'lists: for j in 0..4 {
-        put_byte_list(j, &lists[j], output, outgoing)?;
-    }
-    Ok(())
-}
-
-/// Puts the four lists of a wide map.
-fn put_wide_lists<W: Output>(
-    lists: &[Vec<u16>; 4],
-    output: &mut W,
-    outgoing: &mut Outgoing,
-) -> Result<(), WriteFault>
-    ensures { Writing (lines_text (flat_map_beside map_list_lines (0 ∷ 1 ∷ 2 ∷ 3 ∷ []) (map (λ list. list.items) lists.now))) outgoing.old outgoing.new W.Output output.old output.new result }
-{
-    'lists: for j in 0..4 {
-        put_wide_list(j, &lists[j], output, outgoing)?;
+        put_map_list(j, &lists[j], output, outgoing)?;
     }
     Ok(())
 }
@@ -272,8 +232,8 @@ fn put_map<W: Output>(
 {
     match map {
         None => Ok(()),
-        Some(Map::Bytes(lists)) => put_byte_lists(lists, output, outgoing),
-        Some(Map::Wide(lists)) => put_wide_lists(lists, output, outgoing),
+        Some(Map::Bytes(lists)) => put_map_lists(lists, output, outgoing),
+        Some(Map::Wide(lists)) => put_map_lists(lists, output, outgoing),
     }
 }
 
@@ -292,6 +252,19 @@ fn put_place<W: Output>(
     put_number(&front, u64::from(place.1), output, outgoing)
 }
 
+/// Puts the flags and the map of a DTZ table's part.
+fn put_flags_and_map<W: Output>(
+    flags: u8,
+    map: &Option<Map>,
+    output: &mut W,
+    outgoing: &mut Outgoing,
+) -> Result<(), WriteFault>
+    ensures { Writing (line_text (codes "flags" ∷ decimal flags ∷ []) ++ lines_text (map_lines (option_map map_of map.now))) outgoing.old outgoing.new W.Output output.old output.new result }
+{
+    put_number(b"flags ", u64::from(flags), output, outgoing)?;
+    put_map(map, output, outgoing)
+}
+
 /// Puts the flags and the map of a DTZ table's part; a WDL table has none.
 fn put_flags<W: Output>(
     dump: &Dump,
@@ -304,10 +277,7 @@ fn put_flags<W: Output>(
 {
     match dump.kind {
         Kind::Wdl => Ok(()),
-        Kind::Dtz => {
-            put_number(b"flags ", u64::from(dump.flags[s]), output, outgoing)?;
-            put_map(&dump.maps[s], output, outgoing)
-        }
+        Kind::Dtz => put_flags_and_map(dump.flags[s], &dump.maps[s], output, outgoing),
     }
 }
 

@@ -4,7 +4,6 @@ use Rattle.std.proofs.lemmas.List.{map-append, take_all}
 use Rattle.szg_values.specs.declared.Kind.{Kind}
 use Rattle.szg_file.specs.Contents.{Slot, Subtable}
 use Rattle.szg_file.specs.Values.{values_of}
-use Rattle.szg_build.specs.Dump.{places_of}
 use Rattle.szg_build.specs.Built.{subtables_in}
 use Rattle.szg_build.proofs.PlaceLaws.{place_at, place_count, pairs_more}
 use Rattle.szg_build.proofs.copies.copy_values.Goals as goal
@@ -15,23 +14,15 @@ told_values kind list e h = subst (λ o. IfSome o (λ found. list ≡ values_of 
 
 pub values-requires : goal.values-requires
 values-requires c =
-    let t = c.args.table.now.contents in
-    let i = c.places.place-index in
-    let items = c.places-place-items.result.now in
-    let same = c.places-place-items.ensures.places ∙ ap (λ m. places_of m c.kind.result) c.material.ensures ∙ ap (λ k. places_of t.material k) c.kind.ensures in
-    let accepted = c.fill-fill.ensures.accepted in
-    ap is_some (place_at t c.args.table.now.filled items i (0, 0) accepted same c.places-test.true)
+    ap is_some (place_at c.args.table.now.contents c.table_places-place-items.result.now c.places.place-index (0, 0) c.table_places-place-items.ensures c.places-test.true)
 
 pub places-preserved : goal.places-preserved
 places-preserved c =
     let t = c.args.table.now.contents in
     let i = c.places.place-index in
-    let items = c.places-place-items.result.now in
-    let same = c.places-place-items.ensures.places ∙ ap (λ m. places_of m c.kind.result) c.material.ensures ∙ ap (λ k. places_of t.material k) c.kind.ensures in
-    let accepted = c.fill-fill.ensures.accepted in
-    let at = place_at t c.args.table.now.filled items i (0, 0) accepted same c.places-test.true in
+    let at = place_at t c.table_places-place-items.result.now i (0, 0) c.table_places-place-items.ensures c.places-test.true in
     let values = c.in_ok-values.values in
-    let below : i < length (subtables_in t) = omega (arith, place_count t c.args.table.now.filled accepted, ap length same, c.places-test.true) in
+    let below : i < length (subtables_in t) = omega (arith, place_count t c.table_places-place-items.result.now c.table_places-place-items.ensures, c.places-test.true) in
     ap (map (λ list. list.items)) c.in_ok-push.ensures.items
     ∙ map-append (λ list. list.items) c.places.lists.items (values ∷ [])
     ∙ pairs_more (values_of t.kind) (subtables_in t) i (map (λ list. list.items) c.places.lists.items) values.items below c.places.invariant
@@ -40,8 +31,5 @@ places-preserved c =
 pub returns : goal.returns
 returns c =
     let t = c.args.table.now.contents in
-    let i = c.places.place-index in
-    let items = c.places-place-items.result.now in
-    let same = c.places-place-items.ensures.places ∙ ap (λ m. places_of m c.kind.result) c.material.ensures ∙ ap (λ k. places_of t.material k) c.kind.ensures in
-    let accepted = c.fill-fill.ensures.accepted in
-    c.places.invariant ∙ ap (map (values_of t.kind)) (take_all i (subtables_in t) (omega (arith, place_count t c.args.table.now.filled accepted, ap length same, c.places-test.false)))
+    let all = take_all c.places.place-index (subtables_in t) (omega (arith, place_count t c.table_places-place-items.result.now c.table_places-place-items.ensures, c.places-test.false)) in
+    c.places.invariant ∙ ap (map (values_of t.kind)) all

@@ -6,7 +6,7 @@ use Rattle.szg_build.specs.Lines.{◌>>=◌}
 use Rattle.szg_build.specs.Grammar.{each, end_line, part_line}
 use Rattle.szg_build.specs.Shown.{dump_seen, form_of}
 use Rattle.szg_build.specs.Wholes.{dump_behind_parts}
-use Rattle.szg_build.proofs.ReadingLaws.{reads_then, reads_stopped, same_error}
+use Rattle.szg_build.proofs.ReadingLaws.{passed_on, reads_then, reads_stopped, same_error}
 use Rattle.szg_build.proofs.LackLaws.{lacks_first, lacks_then}
 use Rattle.szg_build.proofs.LeastLaws.{asks_behind_parts}
 use Rattle.szg_build.proofs.dumpreading.read_behind_kind.Goals as goal
@@ -31,9 +31,7 @@ returns-clause-lines g c =
     c.in_ok-parts.ensures.lines c.read_subs.ensures.lines)
 
 pub returns-in_err-last-clause-memory : goal.returns-in_err-last-clause-memory
-returns-in_err-last-clause-memory g c =
-    let p = err_from_is_err_and c.from_residual.result c.from_residual.ensures.1 in
-    rw (p.1, p.2) (λ e. absurd (c.in_err-last.ensures.memory (same_error e)))
+returns-in_err-last-clause-memory g c = passed_on c.from_residual.ensures.1 c.in_err-last.ensures.memory
 
 pub returns-in_err-parts-clause-memory : goal.returns-in_err-parts-clause-memory
 returns-in_err-parts-clause-memory g c =

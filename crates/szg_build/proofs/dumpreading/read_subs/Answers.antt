@@ -1,4 +1,4 @@
-use Rattle.std.proofs.Common.{ℕ, suc, ◌+◌, ◌-◌, ◌*◌, ◌<◌, [], ◌∷◌, ◌++◌, length, map, option_map, get_or, ap, refl, ◌∙◌, arith}
+use Rattle.std.proofs.Common.{ℕ, suc, ◌+◌, ◌-◌, ◌*◌, [], ◌∷◌, ◌++◌, length, map, option_map, ap, refl, ◌∙◌, arith}
 use Rattle.std.proofs.lemmas.Result.{err_from_is_err_and}
 use Rattle.szg_file.specs.Held.{part_of}
 use Rattle.szg_build.specs.Dump.{places_of}
@@ -26,34 +26,28 @@ returns-in_err-sub-clause-lines g c =
     let p = err_from_is_err_and c.from_residual.result c.from_residual.ensures.1 in
     let front = c.args.front in
     let v = c.each.invariant in
-    let same = c.places-places.ensures.places in
-    let few : c.each.s < length (places_of front.material front.kind) = omega (arith, c.each-test.true, ap length same) in
     let sizes = c.sizes_of-sizes.ensures ∙ ap (λ z. sizes_told front.material front.kind (map part_of z)) c.deref.ensures.value in
-    rw (p.1, p.2) (subs_stopped (form_of c.args.form) front.material front.kind front.last (map part_of front.parts.items) v.0 c.each.s (get_or c.places-places.result.now c.each.s (0, 0))
-    (option_map (λ list. list.items) c.sizes_of-sizes.result) sub_told dump_seen c.in_err-sub.field-0.0 few (ap (λ z. get_or z c.each.s (0, 0)) same) sizes v.2 c.in_err-sub.ensures.lines)
+    rw (p.1, p.2) (subs_stopped (form_of c.args.form) front.material front.kind front.last (map part_of front.parts.items) v.0 c.each.s c.places-places.result.now
+    (option_map (λ list. list.items) c.sizes_of-sizes.result) sub_told dump_seen c.in_err-sub.field-0.0 (omega (arith, c.each-test.true)) c.places-places.ensures.places sizes v.2 c.in_err-sub.ensures.lines)
 
 pub returns-in_err-add_sub-clause-lines : goal.returns-in_err-add_sub-clause-lines
 returns-in_err-add_sub-clause-lines g c =
     let p = err_from_is_err_and c.from_residual-in_err-add_sub.result c.from_residual-in_err-add_sub.ensures.1 in
     let front = c.args.front in
     let v = c.each.invariant in
-    let same = c.places-places.ensures.places in
-    let few : c.each.s < length (places_of front.material front.kind) = omega (arith, c.each-test.true, ap length same) in
     let sizes = c.sizes_of-sizes.ensures ∙ ap (λ z. sizes_told front.material front.kind (map part_of z)) c.deref.ensures.value in
-    rw (p.1, p.2) (goes_unheld dump_seen (subs_more (form_of c.args.form) front.material front.kind front.last (map part_of front.parts.items) v.0 c.each.s (suc c.each.s) (get_or c.places-places.result.now c.each.s (0, 0))
-    (option_map (λ list. list.items) c.sizes_of-sizes.result) sub_told c.in_ok-sub.sub refl few (ap (λ z. get_or z c.each.s (0, 0)) same) sizes v.2 c.in_ok-sub.ensures.lines))
+    rw (p.1, p.2) (goes_unheld dump_seen (subs_more (form_of c.args.form) front.material front.kind front.last (map part_of front.parts.items) v.0 c.each.s (suc c.each.s) c.places-places.result.now
+    (option_map (λ list. list.items) c.sizes_of-sizes.result) sub_told c.in_ok-sub.sub refl (omega (arith, c.each-test.true)) c.places-places.ensures.places sizes v.2 c.in_ok-sub.ensures.lines))
 
 pub each-preserved : goal.each-preserved
 each-preserved g c =
     let front = c.args.front in
     let v = c.each.invariant in
-    let same = c.places-places.ensures.places in
-    let few : c.each.s < length (places_of front.material front.kind) = omega (arith, c.each-test.true, ap length same) in
     let sizes = c.sizes_of-sizes.ensures ∙ ap (λ z. sizes_told front.material front.kind (map part_of z)) c.deref.ensures.value in (
       v.0 ++ sub_told c.in_ok-sub.sub ∷ [],
       are_more front.kind c.each.subs c.add_sub.new.subs v.0 c.in_ok-sub.sub c.in_ok-add_sub.ensures.flags c.in_ok-add_sub.ensures.maps c.in_ok-add_sub.ensures.lists v.1,
-      subs_more (form_of c.args.form) front.material front.kind front.last (map part_of front.parts.items) v.0 c.each.s (c.each.s + 1) (get_or c.places-places.result.now c.each.s (0, 0))
-          (option_map (λ list. list.items) c.sizes_of-sizes.result) sub_told c.in_ok-sub.sub (omega arith) few (ap (λ z. get_or z c.each.s (0, 0)) same) sizes v.2 c.in_ok-sub.ensures.lines,
+      subs_more (form_of c.args.form) front.material front.kind front.last (map part_of front.parts.items) v.0 c.each.s (c.each.s + 1) c.places-places.result.now
+          (option_map (λ list. list.items) c.sizes_of-sizes.result) sub_told c.in_ok-sub.sub (omega arith) (omega (arith, c.each-test.true)) c.places-places.ensures.places sizes v.2 c.in_ok-sub.ensures.lines,
       omega (arith, c.in_ok-sub.ensures.behind, c.each-test.true),
     )
 
@@ -69,22 +63,18 @@ returns-in_err-sub-clause-memory g c =
     let p = err_from_is_err_and c.from_residual.result c.from_residual.ensures.1 in
     let front = c.args.front in
     let v = c.each.invariant in
-    let same = c.places-places.ensures.places in
-    let few : c.each.s < length (places_of front.material front.kind) = omega (arith, c.each-test.true, ap length same) in
     let sizes = c.sizes_of-sizes.ensures ∙ ap (λ z. sizes_told front.material front.kind (map part_of z)) c.deref.ensures.value in
-    rw (p.1, p.2) (λ e. lacks_subs (form_of c.args.form) front.material front.kind front.last (map part_of front.parts.items) v.0 c.each.s (get_or c.places-places.result.now c.each.s (0, 0))
-    (option_map (λ list. list.items) c.sizes_of-sizes.result) _ 0 few (ap (λ z. get_or z c.each.s (0, 0)) same) sizes (omega (arith, c.each-test.true, ap length same)) v.2 (c.in_err-sub.ensures.memory (same_error e)))
+    rw (p.1, p.2) (λ e. lacks_subs (form_of c.args.form) front.material front.kind front.last (map part_of front.parts.items) v.0 c.each.s c.places-places.result.now
+    (option_map (λ list. list.items) c.sizes_of-sizes.result) _ 0 (omega (arith, c.each-test.true)) c.places-places.ensures.places sizes (omega (arith, c.each-test.true)) v.2 (c.in_err-sub.ensures.memory (same_error e)))
 
 pub returns-in_err-add_sub-clause-memory : goal.returns-in_err-add_sub-clause-memory
 returns-in_err-add_sub-clause-memory g c =
     let p = err_from_is_err_and c.from_residual-in_err-add_sub.result c.from_residual-in_err-add_sub.ensures.1 in
     let front = c.args.front in
     let v = c.each.invariant in
-    let same = c.places-places.ensures.places in
-    let few : c.each.s < length (places_of front.material front.kind) = omega (arith, c.each-test.true, ap length same) in
     let sizes = c.sizes_of-sizes.ensures ∙ ap (λ z. sizes_told front.material front.kind (map part_of z)) c.deref.ensures.value in
     let left : ℕ = 2 * (length (places_of front.material front.kind) - suc c.each.s) in
-    rw (p.1, p.2) (λ e. lacks_here 0 left (subs_more (form_of c.args.form) front.material front.kind front.last (map part_of front.parts.items) v.0 c.each.s (suc c.each.s) (get_or c.places-places.result.now c.each.s (0, 0))
-    (option_map (λ list. list.items) c.sizes_of-sizes.result) sub_told c.in_ok-sub.sub refl few (ap (λ z. get_or z c.each.s (0, 0)) same) sizes v.2 c.in_ok-sub.ensures.lines)
+    rw (p.1, p.2) (λ e. lacks_here 0 left (subs_more (form_of c.args.form) front.material front.kind front.last (map part_of front.parts.items) v.0 c.each.s (suc c.each.s) c.places-places.result.now
+    (option_map (λ list. list.items) c.sizes_of-sizes.result) sub_told c.in_ok-sub.sub refl (omega (arith, c.each-test.true)) c.places-places.ensures.places sizes v.2 c.in_ok-sub.ensures.lines)
     (asks_subs_left (form_of c.args.form) front.material front.kind front.last (map part_of front.parts.items) (v.0 ++ sub_told c.in_ok-sub.sub ∷ []) (suc c.each.s) left (omega arith))
-    (omega (arith, c.in_ok-sub.ensures.behind, c.each-test.true, ap length same)))
+    (omega (arith, c.in_ok-sub.ensures.behind, c.each-test.true, ap length c.places-places.ensures.places)))

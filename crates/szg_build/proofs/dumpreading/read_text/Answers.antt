@@ -3,8 +3,7 @@ use Rattle.szg_build.specs.Lines.{◌>>=◌}
 use Rattle.szg_build.specs.Grammar.{version_line, name_line, kind_line}
 use Rattle.szg_build.specs.Shown.{dump_seen, form_of}
 use Rattle.szg_build.specs.Wholes.{dump_behind_kind}
-use Rattle.szg_build.proofs.ReadingLaws.{reads_then, reads_stopped, same_error}
-use Rattle.szg_build.proofs.RestLaws.{reads_as}
+use Rattle.szg_build.proofs.ReadingLaws.{passed_on, reads_as, reads_then, reads_stopped}
 use Rattle.szg_build.proofs.LackLaws.{lacks_as, lacks_then}
 use Rattle.szg_build.proofs.WholeLaws.{behind_form, whole_text}
 use Rattle.szg_build.proofs.dumpreading.read_text.Goals as goal
@@ -34,19 +33,13 @@ returns-clause-lines g c =
     (reads_then kind_line (λ kind. dump_behind_kind (form_of c.in_ok-form.form) c.in_ok-material.material kind) (λ kind. kind) dump_seen c.in_ok-kind.kind c.in_ok-kind.ensures.lines c.read_behind_kind.ensures.lines)))
 
 pub returns-in_err-form-clause-memory : goal.returns-in_err-form-clause-memory
-returns-in_err-form-clause-memory g c =
-    let p = err_from_is_err_and c.from_residual.result c.from_residual.ensures.1 in
-    rw (p.1, p.2) (λ e. absurd (c.in_err-form.ensures.memory (same_error e)))
+returns-in_err-form-clause-memory g c = passed_on c.from_residual.ensures.1 c.in_err-form.ensures.memory
 
 pub returns-in_err-material-clause-memory : goal.returns-in_err-material-clause-memory
-returns-in_err-material-clause-memory g c =
-    let p = err_from_is_err_and c.from_residual-in_err-material.result c.from_residual-in_err-material.ensures.1 in
-    rw (p.1, p.2) (λ e. absurd (c.in_err-material.ensures.memory (same_error e)))
+returns-in_err-material-clause-memory g c = passed_on c.from_residual-in_err-material.ensures.1 c.in_err-material.ensures.memory
 
 pub returns-in_err-kind-clause-memory : goal.returns-in_err-kind-clause-memory
-returns-in_err-kind-clause-memory g c =
-    let p = err_from_is_err_and c.from_residual-in_err-kind.result c.from_residual-in_err-kind.ensures.1 in
-    rw (p.1, p.2) (λ e. absurd (c.in_err-kind.ensures.memory (same_error e)))
+returns-in_err-kind-clause-memory g c = passed_on c.from_residual-in_err-kind.ensures.1 c.in_err-kind.ensures.memory
 
 pub returns-clause-memory : goal.returns-clause-memory
 returns-clause-memory g c = λ e.

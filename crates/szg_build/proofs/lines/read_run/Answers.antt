@@ -4,7 +4,7 @@ use Rattle.szg_build.specs.Fronts.{said}
 use Rattle.szg_build.specs.Lines.{words_of}
 use Rattle.szg_build.specs.Grammar.{run_line}
 use Rattle.szg_build.proofs.LineSays.{reads_said, reads_unread, no_memory, short_behind}
-use Rattle.szg_build.proofs.ReadingLaws.{same_error}
+use Rattle.szg_build.proofs.ReadingLaws.{passed_on}
 use Rattle.szg_build.proofs.lines.read_run.Goals as goal
 
 pub returns-in_err-text-clause-lines : goal.returns-in_err-text-clause-lines
@@ -18,9 +18,7 @@ returns-clause-lines g c =
     (ap words_of (sym c.as_slice.ensures.value)) c.in_ok-text.ensures.line c.run_told.ensures.run c.with_line.ensures
 
 pub returns-in_err-text-clause-memory : goal.returns-in_err-text-clause-memory
-returns-in_err-text-clause-memory g c =
-    let p = err_from_is_err_and c.from_residual.result c.from_residual.ensures.1 in
-    rw (p.1, p.2) (λ e. c.in_err-text.ensures.memory (same_error e))
+returns-in_err-text-clause-memory g c = passed_on c.from_residual.ensures.1 c.in_err-text.ensures.memory
 
 pub returns-clause-memory : goal.returns-clause-memory
 returns-clause-memory g c = no_memory _ c.run_told.result c.with_line.result c.with_line.ensures

@@ -3,7 +3,7 @@ use Rattle.szg_build.proofs.GoingLaws.{reads_seen, same_part}
 use Rattle.std.proofs.lemmas.Result.{err_from_is_err_and}
 use Rattle.szg_build.specs.Grammar.{part_line}
 use Rattle.szg_build.proofs.LackLaws.{lacks_whole}
-use Rattle.szg_build.proofs.ReadingLaws.{same_error}
+use Rattle.szg_build.proofs.ReadingLaws.{passed_on}
 use Rattle.szg_build.proofs.reading.read_part_bytes.Goals as goal
 
 pub returns-clause-lines : goal.returns-clause-lines
@@ -13,9 +13,7 @@ returns-clause-lines g c =
     (sym (c.in_ok-order-2.ensures.items ∙ c.as_slice.ensures.value)) (sym (c.in_ok-men.ensures.items ∙ c.as_slice-2.ensures.value)))
 
 pub returns-in_err-order-clause-memory : goal.returns-in_err-order-clause-memory
-returns-in_err-order-clause-memory g c =
-    let p = err_from_is_err_and c.from_residual.result c.from_residual.ensures.1 in
-    rw (p.1, p.2) (λ e. absurd (c.in_err-order.ensures.memory (same_error e)))
+returns-in_err-order-clause-memory g c = passed_on c.from_residual.ensures.1 c.in_err-order.ensures.memory
 
 pub returns-in_err-order-2-clause-memory : goal.returns-in_err-order-2-clause-memory
 returns-in_err-order-2-clause-memory g c =

@@ -4,7 +4,7 @@ use Rattle.szg_build.proofs.GoingLaws.{runs_begun, run_more, run_stopped, runs_e
 use Rattle.szg_build.specs.Grammar.{run_values}
 use Rattle.szg_build.proofs.LackLaws.{lacks_left}
 use Rattle.szg_build.proofs.LeastLaws.{asks_runs}
-use Rattle.szg_build.proofs.ReadingLaws.{same_error}
+use Rattle.szg_build.proofs.ReadingLaws.{passed_on}
 use Rattle.szg_build.proofs.reading.read_runs.Goals as goal
 
 pub runs-init : goal.runs-init
@@ -28,9 +28,7 @@ returns-clause-lines g c =
     runs_ended c.runs.list.items v.0 c.runs.left (λ list. list.items) c.runs.list (omega (arith, c.runs-test.false)) refl v.2
 
 pub returns-in_err-size-clause-memory : goal.returns-in_err-size-clause-memory
-returns-in_err-size-clause-memory g c =
-    let p = err_from_is_err_and c.from_residual.result c.from_residual.ensures.1 in
-    rw (p.1, p.2) (λ e. absurd (c.in_err-size.ensures.memory (same_error e)))
+returns-in_err-size-clause-memory g c = passed_on c.from_residual.ensures.1 c.in_err-size.ensures.memory
 
 pub returns-in_err-add_run-clause-memory : goal.returns-in_err-add_run-clause-memory
 returns-in_err-add_run-clause-memory g c =

@@ -1,7 +1,9 @@
-use Rattle.std.proofs.Common.{ℕ, ◌≡◌, List, length, map, true, false, sym, ◌∙◌}
-use Rattle.std.specs.Prelude.{◌==◌}
+use Rattle.std.proofs.Common.{ℕ, ◌≡◌, List, length, map, true, false, sym, ap, ◌∙◌}
+use Rattle.std.specs.Prelude.{◌==◌, not}
+use Rattle.std.specs.Bool.{then_some}
 use Rattle.std.proofs.lemmas.Bool.{ne_eqb, eq-eqb, le-leb}
 use Rattle.std.proofs.lemmas.List.{length-map}
+use Rattle.szg_build.specs.declared.BuildFault.TheVariants.{Map}
 use Rattle.szg_build.specs.Shown.{plan_seen}
 use Rattle.szg_build.proofs.RefusalLaws as laws
 use Rattle.szg_build.proofs.refusing.first_fault.Goals as goal
@@ -56,22 +58,13 @@ returns-in-Some-too_many_values c =
     (sym (laws.values_lent (λ list. list.now) c.args.plan.now.kind c.args.lists.now) ∙ sym c.wrong_value.ensures ∙ laws.not_some c.wrong_value.result c.in_default-wrong_value.not-Some)
     (sym (laws.many_lent (λ list. list.now) c.args.lists.now) ∙ sym c.in-Some-too_many_values.ensures)
 
-pub returns-then-not-maps_stand : goal.returns-then-not-maps_stand
-returns-then-not-maps_stand c =
-    laws.told_map c.args.sizes.now (plan_seen c.args.plan.now) (map (λ list. list.now) c.args.lists.now) (sym c.if-not-bits_stand.ensures)
-    (le-leb c.args.plan.now.rounds 4000 c.if-plan-gt-MAX_ROUNDS.false)
-    (count_is (λ list. list.now) c.args.sizes.now c.args.lists.now c.if-lists-sizes.false)
-    (sym (laws.lengths_lent (λ list. list.now) c.args.sizes.now c.args.lists.now) ∙ sym c.wrong_length.ensures ∙ laws.not_some c.wrong_length.result c.in_default.not-Some)
-    (sym (laws.values_lent (λ list. list.now) c.args.plan.now.kind c.args.lists.now) ∙ sym c.wrong_value.ensures ∙ laws.not_some c.wrong_value.result c.in_default-wrong_value.not-Some)
-    (sym (laws.many_lent (λ list. list.now) c.args.lists.now) ∙ sym c.too_many_values.ensures ∙ laws.not_some c.too_many_values.result c.in_default-too_many_values.not-Some)
-    (sym c.if-not-maps_stand.ensures)
-
 pub returns : goal.returns
 returns c =
-    laws.told_none c.args.sizes.now (plan_seen c.args.plan.now) (map (λ list. list.now) c.args.lists.now) (sym c.if-not-bits_stand.ensures)
+    c.then_some.ensures
+    ∙ ap (λ b. then_some (not b) Map) c.maps_stand.ensures
+    ∙ laws.told_maps c.args.sizes.now (plan_seen c.args.plan.now) (map (λ list. list.now) c.args.lists.now) (sym c.if-not-bits_stand.ensures)
     (le-leb c.args.plan.now.rounds 4000 c.if-plan-gt-MAX_ROUNDS.false)
     (count_is (λ list. list.now) c.args.sizes.now c.args.lists.now c.if-lists-sizes.false)
     (sym (laws.lengths_lent (λ list. list.now) c.args.sizes.now c.args.lists.now) ∙ sym c.wrong_length.ensures ∙ laws.not_some c.wrong_length.result c.in_default.not-Some)
     (sym (laws.values_lent (λ list. list.now) c.args.plan.now.kind c.args.lists.now) ∙ sym c.wrong_value.ensures ∙ laws.not_some c.wrong_value.result c.in_default-wrong_value.not-Some)
     (sym (laws.many_lent (λ list. list.now) c.args.lists.now) ∙ sym c.too_many_values.ensures ∙ laws.not_some c.too_many_values.result c.in_default-too_many_values.not-Some)
-    (sym c.if-not-maps_stand.ensures)

@@ -8,7 +8,7 @@ use Rattle.szg_build.specs.Rests.{sub_told}
 use Rattle.szg_build.specs.Shown.{form_of}
 use Rattle.szg_build.proofs.SayingLaws.{values_front}
 use Rattle.szg_build.proofs.RestLaws.{count_stopped, count_refused, values_behind, values_stopped, values_read, values_lack}
-use Rattle.szg_build.proofs.ReadingLaws.{same_error}
+use Rattle.szg_build.proofs.ReadingLaws.{passed_on, same_error}
 use Rattle.szg_build.proofs.subreading.read_counted.Goals as goal
 
 pub returns-in_err-count-clause-lines : goal.returns-in_err-count-clause-lines
@@ -36,9 +36,7 @@ returns-clause-lines g c =
     (values_read (form_of c.args.form) c.args.flags (option_map map_of c.args.map) (λ list. list.items) sub_told c.in_ok-count.count c.in_ok-values.values _ refl c.in_ok-values.ensures.lines)
 
 pub returns-in_err-count-clause-memory : goal.returns-in_err-count-clause-memory
-returns-in_err-count-clause-memory g c =
-    let p = err_from_is_err_and c.from_residual.result c.from_residual.ensures.1 in
-    rw (p.1, p.2) (λ e. absurd (c.in_err-count.ensures.memory (same_error e)))
+returns-in_err-count-clause-memory g c = passed_on c.from_residual.ensures.1 c.in_err-count.ensures.memory
 
 pub returns-in_err-values-clause-memory : goal.returns-in_err-values-clause-memory
 returns-in_err-values-clause-memory g c =

@@ -4,7 +4,7 @@ use Rattle.szg_file.specs.Held.{map_of}
 use Rattle.szg_build.specs.Rests.{sub_told}
 use Rattle.szg_build.specs.Shown.{form_of}
 use Rattle.szg_build.proofs.RestLaws.{flags_stopped, map_stopped, fields_read, map_lacks, counted_lacks}
-use Rattle.szg_build.proofs.ReadingLaws.{same_error}
+use Rattle.szg_build.proofs.ReadingLaws.{passed_on, same_error}
 use Rattle.szg_build.proofs.subreading.read_fields.Goals as goal
 
 pub returns-in_err-flags-clause-lines : goal.returns-in_err-flags-clause-lines
@@ -24,9 +24,7 @@ returns-clause-lines g c =
     c.in_ok-flags.ensures.lines c.in_ok-map.ensures.lines c.read_counted.ensures.lines
 
 pub returns-in_err-flags-clause-memory : goal.returns-in_err-flags-clause-memory
-returns-in_err-flags-clause-memory g c =
-    let p = err_from_is_err_and c.from_residual.result c.from_residual.ensures.1 in
-    rw (p.1, p.2) (λ e. absurd (c.in_err-flags.ensures.memory (same_error e)))
+returns-in_err-flags-clause-memory g c = passed_on c.from_residual.ensures.1 c.in_err-flags.ensures.memory
 
 pub returns-in_err-map-clause-memory : goal.returns-in_err-map-clause-memory
 returns-in_err-map-clause-memory g c =

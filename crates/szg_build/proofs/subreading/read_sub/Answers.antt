@@ -4,7 +4,7 @@ use Rattle.szg_build.specs.declared.BuildFault.TheVariants.{Order}
 use Rattle.szg_build.specs.Rests.{sub_told}
 use Rattle.szg_build.specs.Shown.{form_of}
 use Rattle.szg_build.proofs.RestLaws.{place_stopped, order_refused, sub_read, fields_lack}
-use Rattle.szg_build.proofs.ReadingLaws.{same_error}
+use Rattle.szg_build.proofs.ReadingLaws.{passed_on}
 use Rattle.szg_build.proofs.subreading.read_sub.Goals as goal
 
 pub returns-in_err-read_place-clause-lines : goal.returns-in_err-read_place-clause-lines
@@ -22,9 +22,7 @@ returns-clause-lines g c =
     c.in_ok-read_place.ensures.lines c.read_fields.ensures.lines
 
 pub returns-in_err-read_place-clause-memory : goal.returns-in_err-read_place-clause-memory
-returns-in_err-read_place-clause-memory g c =
-    let p = err_from_is_err_and c.from_residual.result c.from_residual.ensures.1 in
-    rw (p.1, p.2) (λ e. absurd (c.in_err-read_place.ensures.memory (same_error e)))
+returns-in_err-read_place-clause-memory g c = passed_on c.from_residual.ensures.1 c.in_err-read_place.ensures.memory
 
 pub returns-clause-memory : goal.returns-clause-memory
 returns-clause-memory g c = λ e.

@@ -1,36 +1,21 @@
-use Rattle.std.proofs.Common.{◌≡◌, [], ◌∷◌, length, map, get_or, option_map, ap, sym, ◌∙◌, None}
+use Rattle.std.proofs.Common.{[], ◌∷◌, ◌++◌, length, map, get_or, option_map, ap, sym, ◌∙◌, None}
 use Rattle.std.specs.Prelude.{codes}
 use Rattle.std.specs.Fmt.{decimal}
 use Rattle.std.proofs.lemmas.List.{get_or_read}
-use Rattle.std.proofs.lemmas.Result.{err_from_is_err_and}
 use Rattle.szg_file.specs.Held.{map_of}
 use Rattle.szg_build.specs.Text.{line_text, lines_text, map_lines}
-use Rattle.szg_build.proofs.WritingLaws.{writes_then, writes_stopped, writes_as, mapped_item, dtz_below, dtz_lines}
+use Rattle.szg_build.proofs.WritingLaws.{writes_as, mapped_item, dtz_below, dtz_lines}
 use Rattle.szg_build.proofs.writing.put_flags.Goals as goal
 
-pub returns-in_err-put_number-in-Dtz : goal.returns-in_err-put_number-in-Dtz
-returns-in_err-put_number-in-Dtz g c =
-    let p = err_from_is_err_and c.from_residual.result c.from_residual.ensures.1 in
+pub returns-in-Dtz : goal.returns-in-Dtz
+returns-in-Dtz g c =
     let dump = c.args.dump.now in
     let s = c.args.s in
     let maps = map (option_map map_of) dump.maps.items in
     let lists = map (λ list. list.items) dump.lists.items in
     let below = dtz_below dump.kind (length dump.flags.items) (length dump.maps.items) (length dump.lists.items) s c.in-Dtz.is c.requires in
-    let flag : get_or dump.flags.items s 0 ≡ c.from.result = sym (c.from.ensures ∙ get_or_read dump.flags.items _ _ below.0 c.index.ensures 0) in
-    rw (p.1, p.2) (writes_as (dtz_lines dump.kind dump.flags.items maps lists s c.in-Dtz.is)
-    (writes_stopped (line_text (codes "flags" ∷ decimal (get_or dump.flags.items s 0) ∷ [])) (lines_text (map_lines (get_or maps s None))) c.in_err-put_number-in-Dtz.field-0.0
-    (writes_as (ap (λ z. line_text (codes "flags" ∷ decimal z ∷ [])) flag) c.in_err-put_number-in-Dtz.ensures)))
-
-pub returns-in_ok-put_number-in-Dtz : goal.returns-in_ok-put_number-in-Dtz
-returns-in_ok-put_number-in-Dtz g c =
-    let dump = c.args.dump.now in
-    let s = c.args.s in
-    let maps = map (option_map map_of) dump.maps.items in
-    let lists = map (λ list. list.items) dump.lists.items in
-    let below = dtz_below dump.kind (length dump.flags.items) (length dump.maps.items) (length dump.lists.items) s c.in-Dtz.is c.requires in
-    let flag : get_or dump.flags.items s 0 ≡ c.from.result = sym (c.from.ensures ∙ get_or_read dump.flags.items _ _ below.0 c.index.ensures 0) in
+    let flag = get_or_read dump.flags.items _ _ below.0 c.index.ensures 0 in
     let told = mapped_item dump.maps.items (option_map map_of) s c.index-in-Dtz.result.now None below.1 (get_or_read dump.maps.items _ _ below.1 c.index-in-Dtz.ensures c.index-in-Dtz.result.now) in
-    writes_as (dtz_lines dump.kind dump.flags.items maps lists s c.in-Dtz.is)
-    (writes_then (line_text (codes "flags" ∷ decimal (get_or dump.flags.items s 0) ∷ [])) (lines_text (map_lines (get_or maps s None))) c.in_ok-put_number-in-Dtz.field-0
-    (writes_as (ap (λ z. line_text (codes "flags" ∷ decimal z ∷ [])) flag) c.in_ok-put_number-in-Dtz.ensures)
-    (writes_as (ap (λ z. lines_text (map_lines z)) told) c.put_map.ensures))
+    writes_as (dtz_lines dump.kind dump.flags.items maps lists s c.in-Dtz.is
+    ∙ ap (λ z. line_text (codes "flags" ∷ decimal z ∷ []) ++ lines_text (map_lines (get_or maps s None))) (sym flag)
+    ∙ ap (λ z. line_text (codes "flags" ∷ decimal c.index.result.now ∷ []) ++ lines_text (map_lines z)) told) c.put_flags_and_map.ensures

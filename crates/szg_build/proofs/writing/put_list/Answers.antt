@@ -1,4 +1,5 @@
-use Rattle.std.proofs.Common.{List, ℕ, [], ◌∷◌, ◌++◌, length, ap}
+use Rattle.std.proofs.Common.{List, ℕ, [], ◌∷◌, ◌++◌, length, ap, sym}
+use Rattle.std.proofs.lemmas.List.{map-id}
 use Rattle.std.proofs.lemmas.Result.{err_from_is_err_and}
 use Rattle.std.specs.Prelude.{codes}
 use Rattle.std.specs.Fmt.{decimal}
@@ -23,4 +24,5 @@ returns-then-form-eq2 g c =
 pub returns-else-form-eq2 : goal.returns-else-form-eq2
 returns-else-form-eq2 g c =
     writes_as (ap (λ (f : Form). count_line c.args.values.now ++ lines_text (value_lines f c.args.values.now)) (form_single c.args.form c.if-form-eq2.false))
-    (writes_then (count_line c.args.values.now) (lines_text (value_lines single c.args.values.now)) c.in_ok-put_number.field-0 c.in_ok-put_number.ensures c.put_values.ensures)
+    (writes_then (count_line c.args.values.now) (lines_text (value_lines single c.args.values.now)) c.in_ok-put_number.field-0 c.in_ok-put_number.ensures
+    (writes_as (ap (λ z. lines_text (value_lines single z)) (sym (map-id c.args.values.now))) c.put_items.ensures))

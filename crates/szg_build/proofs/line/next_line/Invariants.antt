@@ -1,7 +1,7 @@
 use Rattle.std.proofs.Common.{◌≡◌, ℕ, ◌+◌, ◌-◌, ◌<◌, ◌≤◌, List, ◌++◌, length, get_or}
 use Rattle.szg_io.specs.Moved.{Takes}
 use Rattle.szg_build.specs.Held.{held_of}
-use Rattle.szg_build.proofs.line.next_line_of.Given as goal
+use Rattle.szg_build.proofs.line.next_line.Given as goal
 
 -- Some bytes were taken, and are held behind the others; where a line that is long enough ends in them, no more than
 -- are due stand behind it.

@@ -1,0 +1,11 @@
+use Rattle.std.proofs.Common.{ℕ, map, ap, sym, ◌∙◌}
+use Rattle.szg_file.specs.Values.{subtable_at}
+use Rattle.szg_build.specs.Dump.{places_of}
+use Rattle.szg_build.proofs.PlaceLaws.{places_stand}
+use Rattle.szg_build.proofs.copies.table_places.Goals as goal
+
+pub returns : goal.returns
+returns c =
+    let t = c.args.table.now.contents in
+    let same = c.places.ensures.places ∙ ap (λ m. places_of m c.kind.result) c.material.ensures ∙ ap (λ k. places_of t.material k) c.kind.ensures in
+    places_stand t c.args.table.now.filled c.fill-fill.ensures.accepted ∙ ap (map (λ (place : ℕ × ℕ). subtable_at t place.0 place.1)) (sym same)
