@@ -29,7 +29,7 @@ pub fn index_of_opened<S: Source + Drop>(
     let material = Traits::of(opened.material());
     let flags = opened.flags();
     let (kind, parts) = (opened.kind(), opened.parts());
-    index_in(&material, kind, parts, flags.as_slice(), placement)
+    index_in(&material, kind, parts, flags.as_slice(), placement, None)
 }
 
 // A placement's spot, and its value.

@@ -14,7 +14,7 @@ index_in-requires g c =
     let l = layout_in c.kind-kind.result c.of-material.result (map part_of c.parts-parts.result.now) c.as_slice.result.now in
     let h = numbered_by o c.args.opened.now.material c.of-material.result c.args.opened.now.kind c.kind-kind.result (map part_of c.parts-parts.result.now) c.flags-flags.result.items c.as_slice.result.now
     (c.of-material.ensures.same ∙ c.material.ensures) c.kind-kind.ensures c.as_slice.ensures.value (subst (λ (m : Sides). IsMaterial m) (sym c.of-material.ensures.same) c.of-material.ensures.named) c.parts-parts.ensures.bytes c.parts-parts.ensures.table c.flags-flags.ensures in
-    (layout_of_opened o l h, (refl, refl))
+    (layout_of_opened o l h, (refl, (refl, tt)))
 
 pub returns-clause-refused : goal.returns-clause-refused
 returns-clause-refused g c =
@@ -38,4 +38,4 @@ returns-clause-below g c =
     let l = layout_in c.kind-kind.result c.of-material.result (map part_of c.parts-parts.result.now) c.as_slice.result.now in
     let h = numbered_by o c.args.opened.now.material c.of-material.result c.args.opened.now.kind c.kind-kind.result (map part_of c.parts-parts.result.now) c.flags-flags.result.items c.as_slice.result.now
     (c.of-material.ensures.same ∙ c.material.ensures) c.kind-kind.ensures c.as_slice.ensures.value (subst (λ (m : Sides). IsMaterial m) (sym c.of-material.ensures.same) c.of-material.ensures.named) c.parts-parts.ensures.bytes c.parts-parts.ensures.table c.flags-flags.ensures in
-    below_opened o l board result h c.index_in.ensures.spot c.index_in.ensures.answered
+    below_opened o l board result h c.index_in.ensures

@@ -1,0 +1,34 @@
+use Rattle.std.proofs.Common.{◌∙◌, map, refl, sym, subst}
+use Rattle.std.specs.Prelude.{Some}
+use Rattle.szg_values.specs.Material.{Sides, IsMaterial}
+use Rattle.szg_count.specs.Laws.{IsIn}
+use Rattle.szg_file.specs.Held.{Shown, part_of}
+use Rattle.szg_place.specs.Known.{IsLocated, IsLocatedIn}
+use Rattle.szg_place.specs.Layout.{Layout, IsLayout}
+use Rattle.szg_place.specs.Prepared.{IsPrepared}
+use Rattle.szg_place.proofs.Accepted.{accepted_numbering}
+use Rattle.szg_place.proofs.Indexed.{layout_same, located_in}
+use Rattle.szg_place.proofs.prepared.PreparedTable.located.Goals as goal
+
+pub index_among-requires : goal.index_among-requires
+index_among-requires c =
+    let t = c.self.inside.table.contents in let fill = c.self.inside.table.filled in
+    let same = layout_same t c.kind-kind.result c.self.inside.material (map part_of c.parts-parts.result.now) c.as_slice.result.now c.kind-kind.ensures c.self.invariant.material_is c.parts-parts.ensures (c.as_slice.ensures.value ∙ c.self.invariant.flags_are) in
+    let layout = accepted_numbering t fill (subst (λ (m : Sides). IsMaterial m) c.self.invariant.material_is c.material-material.ensures.named) c.fill-fill.ensures.accepted in (
+      subst (λ (l : Layout). IsLayout l) same layout,
+      (
+        refl,
+        (
+          refl,
+          λ p i. subst (λ (l : Layout). IsPrepared l p) same (c.self.invariant.sides_are p (subst (λ l. IsIn (Some p) l) c.as_slice-2.ensures.value i)),
+        ),
+      ),
+    )
+
+pub returns : goal.returns
+returns c =
+    let t = c.self.inside.table.contents in let fill = c.self.inside.table.filled in
+    let same = layout_same t c.kind-kind.result c.self.inside.material (map part_of c.parts-parts.result.now) c.as_slice.result.now c.kind-kind.ensures c.self.invariant.material_is c.parts-parts.ensures (c.as_slice.ensures.value ∙ c.self.invariant.flags_are) in
+    let layout = accepted_numbering t fill (subst (λ (m : Sides). IsMaterial m) c.self.invariant.material_is c.material-material.ensures.named) c.fill-fill.ensures.accepted in
+    subst (λ (s : Shown). IsLocatedIn s.contents c.args.placement.now c.index_among.result) c.self.view_is
+    (located_in layout c.fill-fill.ensures.accepted (subst (λ (l : Layout). IsLocated l c.args.placement.now c.index_among.result) (sym same) c.index_among.ensures))
