@@ -1,6 +1,6 @@
 -- What the code knows of a placement where it looks for its index.
 use Rattle.std.proofs.Common.{◌≡◌, ℕ, ◌<◌, ◌≤◌, inl, inr, List, [], ◌∷◌, length, map, take, refl, sym, ap, ◌∙◌, subst, Bool, true, false, cond, arith, length-take}
-use Rattle.std.specs.Prelude.{◌==◌, Option, Some, None, IsNone, IfSome, IfOk, IsSomeAnd, Result, Ok, Err, slice_get, slice_index, unwrap_or}
+use Rattle.std.specs.Prelude.{◌==◌, Option, Some, None, IsNone, IsSome, IfSome, IfOk, IsSomeAnd, Result, Ok, Err, slice_get, slice_index, unwrap_or}
 use Rattle.std.specs.List.{All, concat, list_all}
 use Rattle.std.proofs.lemmas.List.Elements.{All-head, All-tail}
 use Rattle.std.proofs.Math.Bool.{not, ◌&&◌}
@@ -38,7 +38,8 @@ use Rattle.szg_place.proofs.Standing.{pieces_stood}
 use Rattle.szg_place.proofs.Normals.{fit, lead_only, in_lists, below_size}
 use Rattle.szg_place.proofs.Indexing.{sets_long, sets_many}
 use Rattle.szg_place.proofs.Grouped.{takes_all, some_group}
-use Rattle.szg_place.proofs.Found.{size_there}
+use Rattle.szg_place.proofs.Found.{size_there, there_below}
+use Rattle.szg_place.proofs.Accepted.{accepted_numbering}
 
 -- ---- the men
 
@@ -317,6 +318,11 @@ there_asked {l} {board} {pieces} {part} {side} h a =
     let f = found_asked {n = nibbles_at l part side} h a refl in
     there_of l part side h (subst (λ (p : ℕ). p < part_count l) (sym a.part_is) (part_below l.material (pieces_of l.material board)))
     (subst (λ (k : ℕ). k < side_count l) (sym f.side_is) (side_below l board))
+
+pub there_in : {t : Contents} {fill : List ℕ} {m : Sides} (part side : ℕ) → IsAccepted t fill → m ≡ t.material → IsMaterial m → IsSome (subtable_at t part side) → IsThere (numbering_of t) part side
+there_in {t} {fill} part side a e h some =
+    let r = there_below t fill part side a some in
+    there_of (numbering_of t) part side (accepted_numbering t fill (subst (λ (m : Sides). IsMaterial m) e h) a) r.0 r.1
 
 pub ordered_found : {l : Layout} {board : Board} {part side asked : ℕ} {n : Nibbles} → IsFound l board part side asked n → order_fault l.material n ≡ None
 ordered_found {l} {board} f =
