@@ -1,9 +1,14 @@
 -- What is known of a placement on the way to its index.
-use Rattle.std.specs.Prelude.{◌≡◌, ℕ, ◌<◌, ◌≤◌, true, List, length, None, IsNone, IfSome, IsSomeAnd, Result, Ok, Err, IfOk, if◌then◌else◌}
+use Rattle.std.specs.List.{concat}
+use Rattle.std.specs.Prelude.{◌≡◌, ℕ, ◌<◌, ◌≤◌, ◌==◌, ◌&&◌, true, List, length, None, IsNone, IfSome, IsSomeAnd, Result, Ok, Err, IfOk, if◌then◌else◌}
 use Rattle.szg_values.specs.declared.Kind.{Kind}
 use Rattle.szg_values.specs.Material.{Sides, IsMaterial}
 use Rattle.szg_values.specs.Placement.{Board, placement_fault}
-use Rattle.szg_count.specs.Groups.{Nibbles}
+use Rattle.szg_count.specs.Groups.{IsPart, Nibbles, order_fault, counted, has_other_pawns}
+use Rattle.szg_count.specs.Leads.{pawn_squares, squares_down}
+use Rattle.szg_count.specs.Laws.{IsIn, AllDiffer}
+use Rattle.szg_count.specs.Seen.{groups_told}
+use Rattle.szg_count.specs.declared.Group.{Group}
 use Rattle.szg_file.specs.Contents.{Contents}
 use Rattle.szg_file.specs.Values.{subtable_at}
 use Rattle.szg_place.specs.Layout.{Layout, IsLayout, is_dtz, nibbles_at}
@@ -51,3 +56,17 @@ pub record IsLocatedIn (t : Contents) (board : Board) (result : Result Spot Plac
   pub refused : IfSome (place_fault (numbering_of t) board) (λ fault. result ≡ Err fault)
   pub spot : IsNone (place_fault (numbering_of t) board) → result ≡ Ok (spot_of (numbering_of t) board)
   pub below : IfOk result (λ spot. IsSomeAnd (subtable_at t spot.part spot.side) (λ found. spot.index < found.0.size))
+
+-- the groups of an order without a fault, in a part of the material
+pub record AreGrouped (sides : Sides) (part : ℕ) (n : Nibbles) (groups : List Group) : Type 0 where
+  pub has_part : IsPart sides part
+  pub ordered : order_fault sides n ≡ None
+  pub groups_are : groups ≡ groups_told (counted sides part n)
+
+-- a group comes behind others, so many, that stand on the squares taken
+pub record IsBehind (sides : Sides) (part number : ℕ) (taken : List ℕ) (before : List (List ℕ)) : Type 0 where
+  pub has_part : IsPart sides part
+  pub taken_are : taken ≡ concat before
+  pub number_is : number ≡ length before
+  pub differ : AllDiffer taken
+  pub inside : 0 < number → (x : ℕ) → IsIn x taken → IsIn x (if has_other_pawns sides && number == 1 then pawn_squares else squares_down)
