@@ -242,23 +242,23 @@ all_in [] h s i = absurd i
 all_in (x ∷ xs) h s (inl e) = subst (λ (y : Standing). y.2 < 64) (sym e) (All-head (λ (y : Standing). y.2 < 64) x xs h)
 all_in (x ∷ xs) h s (inr i) = all_in xs (All-tail (λ (y : Standing). y.2 < 64) x xs h) s i
 
-pub board_inside : (list : List Standing) (board : Board) → list ≡ board.standing → AreOnBoard list → IsOnBoard board
+board_inside : (list : List Standing) (board : Board) → list ≡ board.standing → AreOnBoard list → IsOnBoard board
 board_inside list board e h = all_in board.standing (subst (λ (l : List Standing). AreOnBoard l) e h)
 
-pub known_by : (m : Sides) (board : Board) (list : List Standing) → IsMaterial m → IsOnBoard board → list ≡ board.standing → IsNone (placement_fault list) → is_of_material m board ≡ true → IsKnown m board
-known_by m board list mat inside e h found = record {
+pub known_by : {m : Sides} {board : Board} {list : List Standing} → IsMaterial m → list ≡ board.standing → AreOnBoard list → IsNone (placement_fault list) → is_of_material m board ≡ true → IsKnown m board
+known_by {m} {board} {list} mat e inside h found = record {
   material = mat;
-  inside = inside;
+  inside = board_inside list board e inside;
   placement = none_is (placement_fault board.standing) (subst (λ (s : List Standing). IsNone (placement_fault s)) e h);
   men = found;
 }
 
-pub stood_slice : (m : Sides) (board : Board) (slice items : List Piece) → IsKnown m board → slice ≡ items → items ≡ pieces_of m board → IsStood m (man_codes m) slice
-stood_slice m board slice items k e f = subst (λ (l : List Piece). IsStood m (man_codes m) l) (sym (e ∙ f)) (stood_first m board k)
+pub stood_slice : {m : Sides} {board : Board} {slice items : List Piece} → IsKnown m board → slice ≡ items → items ≡ pieces_of m board → IsStood m (man_codes m) slice
+stood_slice {m} {board} k e f = subst (λ (l : List Piece). IsStood m (man_codes m) l) (sym (e ∙ f)) (stood_first m board k)
 
-pub asked_by : (m : Sides) (kind : Kind) (board : Board) (slice items : List Piece) (part side asked : ℕ) (exchanged : Bool) (mover : Color) → IsKnown m board → slice ≡ items → items ≡ pieces_of m board → length items ≤ 6 →
+pub asked_by : {m : Sides} {kind : Kind} {board : Board} {slice items : List Piece} {part side asked : ℕ} {exchanged : Bool} {mover : Color} → IsKnown m board → slice ≡ items → items ≡ pieces_of m board → length items ≤ 6 →
     exchanged ≡ is_exchanged m board → mover ≡ board.mover → asked ≡ cond (is_color White (exchanged_color exchanged mover)) 0 1 → part ≡ part_of m slice → side ≡ cond (is_dtz kind) 0 asked → IsAsked m kind board items part side asked
-asked_by m kind board slice items part side asked exchanged mover k s i few x v a p z = record {
+asked_by {m} {kind} {board} {slice} {items} {part} {side} {asked} {exchanged} {mover} k s i few x v a p z = record {
   known = k;
   pieces_are = i;
   few = few;

@@ -31,10 +31,10 @@ pub record IsNumbered (t : Contents) (l : Layout) : Type 0 where
   pub same : numbering_of t ≡ l
   pub layout : IsLayout (numbering_of t)
 
-pub numbered_by : (o : Option Contents) (m m' : Sides) (kind kind' : Kind) (parts : List Part) (flags slice : List ℕ) → m' ≡ m → kind' ≡ kind → slice ≡ flags → IsMaterial m' →
+pub numbered_by : (o : Option Contents) (parts : List Part) {m m' : Sides} {kind kind' : Kind} {flags slice : List ℕ} → m' ≡ m → kind' ≡ kind → slice ≡ flags → IsMaterial m' →
     IsSomeAnd o (λ t. parts ≡ t.parts) → IsSomeAnd o (IsTableOf m kind) → IsSomeAnd o (λ t. flags ≡ map flags_of t.subtables) → IsSomeAnd o (λ t. IsNumbered t (layout_in kind' m' parts slice))
-numbered_by None m m' kind kind' parts flags slice em ek es mat a b c = absurd a
-numbered_by (Some t) m m' kind kind' parts flags slice em ek es mat a b c = record {
+numbered_by None parts em ek es mat a b c = absurd a
+numbered_by (Some t) parts {m} {m'} {kind} {kind'} {flags} {slice} em ek es mat a b c = record {
   filled = b.filled;
   accepted = b.accepted;
   same = layout_same t kind' m' parts slice (ek ∙ sym b.kind_is) (em ∙ sym b.material_is) a (es ∙ c);
