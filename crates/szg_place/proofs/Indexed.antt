@@ -237,6 +237,12 @@ located_in {t} {fill} {board} {result} h a told = record {
         let k : ◌≡◌ {A = Result Spot PlaceFault} (Ok spot) (Ok (spot_of (numbering_of t) board)) = told (none_holds (place_fault (numbering_of t) board) answered.place) in
         spot_below t fill board h a answered spot (cc k)
 
+pub located_by : {t : Contents} {fill : List ℕ} {kind : Kind} {m : Sides} {parts : List Part} {flags : List ℕ} {board : Board} {result : Result Spot PlaceFault} → IsAccepted t fill → kind ≡ t.kind → m ≡ t.material →
+    IsMaterial m → parts ≡ t.parts → flags ≡ map flags_of t.subtables → IsLocated (layout_in kind m parts flags) board result → IsLocatedIn t board result
+located_by {t} {fill} {kind} {m} {parts} {flags} {board} {result} a k e h p f told =
+    located_in (accepted_numbering t fill (subst (λ (x : Sides). IsMaterial x) e h) a) a
+    (subst (λ (l : Layout). IsLocated l board result) (sym (layout_same t kind m parts flags k e p f)) told)
+
 all_in : (xs : List Standing) → All (λ (s : Standing). s.2 < 64) xs → (s : Standing) → IsIn s xs → s.2 < 64
 all_in [] h s i = absurd i
 all_in (x ∷ xs) h s (inl e) = subst (λ (y : Standing). y.2 < 64) (sym e) (All-head (λ (y : Standing). y.2 < 64) x xs h)

@@ -39,7 +39,6 @@ impl Model for PreparedTable {
 impl PreparedTable {
     ghost use Rattle.std.specs.Prelude.{◌≡◌, ◌<◌, ◌≤ℤ◌, pos, neg_ℤ, IsNone, IfSome, IfOk, IsSomeAnd, MatchResult, Ok, Err};
     ghost use Rattle.szg_file.specs.Values.{subtable_at};
-    ghost use Rattle.szg_place.specs.Known.{IsLocatedIn};
     ghost use Rattle.szg_place.specs.Spots.{place_fault, spot_of};
     ghost use Rattle.szg_place.specs.Tables.{numbering_of, value_at, class_of, mapped_number};
 
@@ -71,13 +70,6 @@ impl PreparedTable {
         ensures spot { IsNone (place_fault (numbering_of self.now.contents) placement.now) → result ≡ Ok (spot_of (numbering_of self.now.contents) placement.now) }
         // So the table has a value there.
         ensures below { IfOk result (λ spot. IsSomeAnd (subtable_at self.now.contents spot.part spot.side) (λ found. spot.index < found.0.size)) }
-    {
-        self.located(placement)
-    }
-
-    // The same, told at once.
-    fn located(&self, placement: &Placement) -> Result<Spot, PlaceFault>
-        ensures { IsLocatedIn self.now.contents placement.now result }
     {
         // The fill tells that this is a table, and the material that it is a name's.
         let _fill = self.table.fill();
