@@ -11,10 +11,12 @@ use Rattle.szg_count.specs.Seen.{groups_told}
 use Rattle.szg_count.specs.declared.Group.{Group}
 use Rattle.szg_count.specs.Laws.{IsIn}
 use Rattle.szg_place.specs.Normal.{Piece, squares_with, lead_squares, squares_by_group}
+use Rattle.szg_place.specs.Known.{AreGrouped}
+use Rattle.szg_place.specs.Ranks.{EachInList}
 use Rattle.szg_place.specs.Spots.{is_regular}
 use Rattle.szg_place.proofs.Spotted.{ordered}
 use Rattle.szg_place.proofs.Codes.{IsRun, later_groups, later_runs, concat-groups}
-use Rattle.szg_place.proofs.Indexing.{group_is, groups_many, groups_are, squares_here, squares_room}
+use Rattle.szg_place.proofs.Indexing.{group_is, groups_many, groups_are, squares_here, squares_room, step_in}
 use Rattle.szg_place.proofs.Slotted.{IsIn-at, run_squares}
 
 pub record IsCut (men : List ℕ) (sets : List (List ℕ)) (i : ℕ) (group : Group) : Type 0 where
@@ -185,3 +187,26 @@ takes_all [] zero h = refl
 takes_all [] (suc i) h = refl
 takes_all (set ∷ sets) zero h = absurd (omega (arith, h))
 takes_all (set ∷ sets) (suc i) h = ap (λ l. set ∷ l) (takes_all sets i (omega (arith, h)))
+
+-- what the code has of a later group: its men's squares, and room for them
+pub record IsGroupSet (sides : Sides) (n : Nibbles) (pieces : List Piece) (i size code : ℕ) : Type 0 where
+  pub set : squares_with (code ∷ []) pieces squares_down ≡ get_or (squares_by_group sides (groups_of sides n.men) pieces) i []
+  pub size_is : size ≡ length (squares_with (code ∷ []) pieces squares_down)
+  pub room : length (concat (take i (squares_by_group sides (groups_of sides n.men) pieces))) + size ≤ length (concat (squares_by_group sides (groups_of sides n.men) pieces))
+  pub more : concat (take (i + 1) (squares_by_group sides (groups_of sides n.men) pieces)) ≡
+      concat (take i (squares_by_group sides (groups_of sides n.men) pieces)) ++ squares_with (code ∷ []) pieces squares_down
+
+pub group_set : {sides : Sides} {part : ℕ} {n : Nibbles} {pieces : List Piece} {i count from : ℕ} {group : Group} {groups : List Group} {men : List ℕ} → IsMaterial sides → AreGrouped sides part n groups →
+    EachInList sides part [] (groups_of sides n.men) (squares_by_group sides (groups_of sides n.men) pieces) → 0 < i → i < count → count ≡ length groups → slice_get groups i ≡ Some group →
+    from ≡ group.first → men ≡ n.men → IsGroupSet sides n pieces i group.length (get_or men from 0)
+group_set {sides} {part} {n} {pieces} {i} {count} {from} {group} {groups} {men} m g listed p k q e f w =
+    let sets = squares_by_group sides (groups_of sides n.men) pieces in
+    let cut = cut_of sides part n i group groups g.groups_are (omega (arith, k, q)) e in
+    let later = later_of sides n pieces i from m g.ordered p cut.inside (f ∙ cut.first) in
+    let set = ap (λ (c : ℕ). squares_with (c ∷ []) pieces squares_down) (ap (λ (l : List ℕ). get_or l from 0) w) ∙ later.set in
+    let size = (step_in m g listed k q e).size in let room = later.room in record {
+      set = set;
+      size_is = size ∙ sym (ap length set);
+      room = omega (arith, size, room);
+      more = later.more ∙ ap (λ (l : List ℕ). concat (take i sets) ++ l) (sym set);
+    }

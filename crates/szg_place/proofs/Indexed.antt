@@ -1,6 +1,6 @@
 -- What the code knows of a placement where it looks for its index.
 use Rattle.std.proofs.Common.{◌≡◌, ℕ, ◌<◌, ◌≤◌, inl, inr, List, [], ◌∷◌, length, map, take, refl, sym, ap, ◌∙◌, subst, Bool, true, false, cond, arith, length-take}
-use Rattle.std.specs.Prelude.{◌==◌, Option, Some, None, IsNone, IfSome, IfOk, IsSomeAnd, Result, Ok, Err, slice_get, slice_index, unwrap_or}
+use Rattle.std.specs.Prelude.{◌==◌, Option, Some, None, IsNone, IsSome, IfSome, IfOk, IsSomeAnd, Result, Ok, Err, slice_get, slice_index, unwrap_or}
 use Rattle.std.specs.List.{All, concat, list_all}
 use Rattle.std.proofs.lemmas.List.Elements.{All-head, All-tail}
 use Rattle.std.proofs.Math.Bool.{not, ◌&&◌}
@@ -26,7 +26,7 @@ use Rattle.szg_place.specs.Slots.{AreReady}
 use Rattle.szg_place.specs.Spots.{place_fault, is_of_material, is_regular, is_kings_touching, is_wrong_side, spot_of, index_from, places_in_lists, size_at}
 use Rattle.szg_place.specs.Ranks.{EachInList}
 use Rattle.szg_place.specs.Laws.{IsOnBoard, IsAnswered}
-use Rattle.szg_place.specs.Known.{IsKnown, IsAsked, IsFound}
+use Rattle.szg_place.specs.Known.{IsKnown, IsAsked, IsFound, IsLocated, IsLocatedIn}
 use Rattle.szg_place.specs.Tables.{numbering_of}
 use Rattle.szg_place.specs.declared.Spot.{Spot}
 use Rattle.szg_place.specs.declared.PlaceFault.{PlaceFault}
@@ -38,7 +38,8 @@ use Rattle.szg_place.proofs.Standing.{pieces_stood}
 use Rattle.szg_place.proofs.Normals.{fit, lead_only, in_lists, below_size}
 use Rattle.szg_place.proofs.Indexing.{sets_long, sets_many}
 use Rattle.szg_place.proofs.Grouped.{takes_all, some_group}
-use Rattle.szg_place.proofs.Found.{size_there}
+use Rattle.szg_place.proofs.Found.{size_there, there_below}
+use Rattle.szg_place.proofs.Accepted.{accepted_numbering}
 
 -- ---- the men
 
@@ -128,6 +129,21 @@ pub answered_is : (P : PlaceFault → Type 0) (o : Option PlaceFault) → o ≡ 
 answered_is P None e = tt
 answered_is P (Some x) e = cc
 
+pub located_not : {l : Layout} {board : Board} {f : PlaceFault} → place_fault l board ≡ Some f → IsLocated l board (Err f)
+located_not {l} {board} {f} e = record { refused = refused_is Spot (place_fault l board) f e; spot = refused_not (place_fault l board) f e; answered = tt }
+
+pub located_other : {l : Layout} {board b : Board} {f : PlaceFault} → b ≡ board → (f ≡ fault.OtherMaterial) × (is_of_material l.material b ≡ false) → IsLocated l board (Err f)
+located_other {l} {board} {b} {f} e h =
+    subst (λ (x : PlaceFault). IsLocated l board (Err x)) (sym h.0) (located_not (fault_material l board (ap (is_of_material l.material) (sym e) ∙ h.1)))
+
+-- and of a spot
+pub located_at : {l : Layout} {board : Board} {spot : Spot} → IsAnswered l board → spot ≡ spot_of l board → IsLocated l board (Ok spot)
+located_at {l} {board} {spot} a e = record {
+  refused = answered_is _ (place_fault l board) a.place;
+  spot = λ _. ap (λ (s : Spot). Ok s) e;
+  answered = a;
+}
+
 -- ---- the normal form
 
 -- the lead group of the placement's groups
@@ -203,55 +219,67 @@ layout_same t kind m parts flags a b c d =
     ∙ ap (λ (s : Sides). layout_in kind s t.parts (map flags_of t.subtables)) (sym b)
     ∙ ap (λ (p : List Part). layout_in kind m p (map flags_of t.subtables)) (sym c) ∙ ap (layout_in kind m parts) (sym d)
 
-pub below_answered : (t : Contents) (fill : List ℕ) (board : Board) (result : Result Spot PlaceFault) → IsLayout (numbering_of t) → IsAccepted t fill →
-    (IsNone (place_fault (numbering_of t) board) → result ≡ Ok (spot_of (numbering_of t) board)) → IfOk result (λ _. IsAnswered (numbering_of t) board) →
-    IfOk result (λ spot. IsSomeAnd (subtable_at t spot.part spot.side) (λ found. spot.index < found.0.size))
-below_answered t fill board (Err fault) h a told answered = tt
-below_answered t fill board (Ok spot) h a told answered =
-    let none = none_holds (place_fault (numbering_of t) board) answered.place in
-    let k : ◌≡◌ {A = Result Spot PlaceFault} (Ok spot) (Ok (spot_of (numbering_of t) board)) = told none in
-    spot_below t fill board h a answered spot (cc k)
+pub located_in : {t : Contents} {fill : List ℕ} {board : Board} {result : Result Spot PlaceFault} → IsLayout (numbering_of t) → IsAccepted t fill → IsLocated (numbering_of t) board result → IsLocatedIn t board result
+located_in {t} {fill} {board} {result} h a told = record {
+  refused = told.refused;
+  spot = told.spot;
+  below = below result told.spot told.answered;
+}
   where
     none_holds : (o : Option PlaceFault) → o ≡ None → IsNone o
     none_holds None e = refl
     none_holds (Some x) e = cc
+
+    below : (r : Result Spot PlaceFault) → (IsNone (place_fault (numbering_of t) board) → r ≡ Ok (spot_of (numbering_of t) board)) → IfOk r (λ _. IsAnswered (numbering_of t) board) →
+        IfOk r (λ spot. IsSomeAnd (subtable_at t spot.part spot.side) (λ found. spot.index < found.0.size))
+    below (Err fault) told answered = tt
+    below (Ok spot) told answered =
+        let k : ◌≡◌ {A = Result Spot PlaceFault} (Ok spot) (Ok (spot_of (numbering_of t) board)) = told (none_holds (place_fault (numbering_of t) board) answered.place) in
+        spot_below t fill board h a answered spot (cc k)
+
+pub located_by : {t : Contents} {fill : List ℕ} {kind : Kind} {m : Sides} {parts : List Part} {flags : List ℕ} {board : Board} {result : Result Spot PlaceFault} → IsAccepted t fill → kind ≡ t.kind → m ≡ t.material →
+    IsMaterial m → parts ≡ t.parts → flags ≡ map flags_of t.subtables → IsLocated (layout_in kind m parts flags) board result → IsLocatedIn t board result
+located_by {t} {fill} {kind} {m} {parts} {flags} {board} {result} a k e h p f told =
+    located_in (accepted_numbering t fill (subst (λ (x : Sides). IsMaterial x) e h) a) a
+    (subst (λ (l : Layout). IsLocated l board result) (sym (layout_same t kind m parts flags k e p f)) told)
 
 all_in : (xs : List Standing) → All (λ (s : Standing). s.2 < 64) xs → (s : Standing) → IsIn s xs → s.2 < 64
 all_in [] h s i = absurd i
 all_in (x ∷ xs) h s (inl e) = subst (λ (y : Standing). y.2 < 64) (sym e) (All-head (λ (y : Standing). y.2 < 64) x xs h)
 all_in (x ∷ xs) h s (inr i) = all_in xs (All-tail (λ (y : Standing). y.2 < 64) x xs h) s i
 
-pub board_inside : (list : List Standing) (board : Board) → list ≡ board.standing → AreOnBoard list → IsOnBoard board
+board_inside : (list : List Standing) (board : Board) → list ≡ board.standing → AreOnBoard list → IsOnBoard board
 board_inside list board e h = all_in board.standing (subst (λ (l : List Standing). AreOnBoard l) e h)
 
-pub known_by : (m : Sides) (board : Board) (list : List Standing) → IsMaterial m → IsOnBoard board → list ≡ board.standing → IsNone (placement_fault list) → is_of_material m board ≡ true → IsKnown m board
-known_by m board list mat inside e h found = record {
+pub known_by : {m : Sides} {board : Board} {list : List Standing} → IsMaterial m → list ≡ board.standing → AreOnBoard list → IsNone (placement_fault list) → is_of_material m board ≡ true → IsKnown m board
+known_by {m} {board} {list} mat e inside h found = record {
   material = mat;
-  inside = inside;
+  inside = board_inside list board e inside;
   placement = none_is (placement_fault board.standing) (subst (λ (s : List Standing). IsNone (placement_fault s)) e h);
   men = found;
 }
 
-pub stood_slice : (m : Sides) (board : Board) (slice items : List Piece) → IsKnown m board → slice ≡ items → items ≡ pieces_of m board → IsStood m (man_codes m) slice
-stood_slice m board slice items k e f = subst (λ (l : List Piece). IsStood m (man_codes m) l) (sym (e ∙ f)) (stood_first m board k)
+pub stood_slice : {m : Sides} {board : Board} {slice items : List Piece} → IsKnown m board → slice ≡ items → items ≡ pieces_of m board → IsStood m (man_codes m) slice
+stood_slice {m} {board} k e f = subst (λ (l : List Piece). IsStood m (man_codes m) l) (sym (e ∙ f)) (stood_first m board k)
 
-pub asked_by : (m : Sides) (board : Board) (slice items : List Piece) (part asked : ℕ) (exchanged : Bool) (mover : Color) → IsKnown m board → slice ≡ items → items ≡ pieces_of m board → length items ≤ 6 →
-    exchanged ≡ is_exchanged m board → mover ≡ board.mover → asked ≡ cond (is_color White (exchanged_color exchanged mover)) 0 1 → part ≡ part_of m slice → IsAsked m board items part asked
-asked_by m board slice items part asked exchanged mover k s i few x v a p = record {
+pub asked_by : {m : Sides} {kind : Kind} {board : Board} {slice items : List Piece} {part side asked : ℕ} {exchanged : Bool} {mover : Color} → IsKnown m board → slice ≡ items → items ≡ pieces_of m board → length items ≤ 6 →
+    exchanged ≡ is_exchanged m board → mover ≡ board.mover → asked ≡ cond (is_color White (exchanged_color exchanged mover)) 0 1 → part ≡ part_of m slice → side ≡ cond (is_dtz kind) 0 asked → IsAsked m kind board items part side asked
+asked_by {m} {kind} {board} {slice} {items} {part} {side} {asked} {exchanged} {mover} k s i few x v a p z = record {
   known = k;
   pieces_are = i;
   few = few;
   part_is = p ∙ ap (part_of m) (s ∙ i);
+  side_is = z;
   asked_is = a ∙ ap (λ (y : Bool). number (is_color White (exchanged_color y mover))) x ∙ ap (λ (y : Color). number (is_color White (exchanged_color (is_exchanged m board) y))) v;
 }
   where
     number : Bool → ℕ
     number b = cond b 0 1
 
-pub found_asked : (l : Layout) (board : Board) (pieces : List Piece) (part side asked : ℕ) (n : Nibbles) → IsLayout l → IsAsked l.material board pieces part asked → side ≡ cond (is_dtz l.kind) 0 asked →
+pub found_asked : {l : Layout} {board : Board} {pieces : List Piece} {part side asked : ℕ} {n : Nibbles} → IsLayout l → IsAsked l.material l.kind board pieces part side asked →
     n ≡ nibbles_at l part side → IsFound l board part side asked n
-found_asked l board pieces part side asked n h a b o =
-    let side' : side ≡ subtable_side l board = b ∙ ap (zero_if (is_dtz l.kind)) a.asked_is in record {
+found_asked {l} {board} {pieces} {part} {side} h a o =
+    let side' : side ≡ subtable_side l board = a.side_is ∙ ap (zero_if (is_dtz l.kind)) a.asked_is in record {
       layout = h;
       known = a.known;
       part_is = a.part_is;
@@ -291,40 +319,41 @@ there_of l part side h p s =
       ordered = none;
     }
 
--- what is known of a placement is known of one that is equal
-pub asked_on : {sides : Sides} {items : List Piece} {part asked : ℕ} {a b : Board} → a ≡ b → IsAsked sides a items part asked → IsAsked sides b items part asked
-asked_on {sides} {items} {part} {asked} e h = subst (λ (x : Board). IsAsked sides x items part asked) e h
-
-pub there_asked : (l : Layout) (board : Board) (pieces : List Piece) (part side asked : ℕ) → IsLayout l → IsAsked l.material board pieces part asked → side ≡ cond (is_dtz l.kind) 0 asked → IsThere l part side
-there_asked l board pieces part side asked h a b =
-    let f = found_asked l board pieces part side asked (nibbles_at l part side) h a b refl in
+pub there_asked : {l : Layout} {board : Board} {pieces : List Piece} {part side asked : ℕ} → IsLayout l → IsAsked l.material l.kind board pieces part side asked → IsThere l part side
+there_asked {l} {board} {pieces} {part} {side} h a =
+    let f = found_asked {n = nibbles_at l part side} h a refl in
     there_of l part side h (subst (λ (p : ℕ). p < part_count l) (sym a.part_is) (part_below l.material (pieces_of l.material board)))
     (subst (λ (k : ℕ). k < side_count l) (sym f.side_is) (side_below l board))
 
-pub ordered_found : (l : Layout) (board : Board) (part side asked : ℕ) (n : Nibbles) → IsFound l board part side asked n → order_fault l.material n ≡ None
-ordered_found l board part side asked n f =
+pub there_in : {t : Contents} {fill : List ℕ} {m : Sides} (part side : ℕ) → IsAccepted t fill → m ≡ t.material → IsMaterial m → IsSome (subtable_at t part side) → IsThere (numbering_of t) part side
+there_in {t} {fill} part side a e h some =
+    let r = there_below t fill part side a some in
+    there_of (numbering_of t) part side (accepted_numbering t fill (subst (λ (m : Sides). IsMaterial m) e h) a) r.0 r.1
+
+pub ordered_found : {l : Layout} {board : Board} {part side asked : ℕ} {n : Nibbles} → IsFound l board part side asked n → order_fault l.material n ≡ None
+ordered_found {l} {board} f =
     ap (order_fault l.material) f.nibbles
     ∙ order_none l (part_of l.material (pieces_of l.material board)) (subtable_side l board) f.layout (part_below l.material (pieces_of l.material board)) (side_below l board)
 
-pub groups_found : (l : Layout) (board : Board) (part side asked : ℕ) (n : Nibbles) → IsFound l board part side asked n → groups_of l.material n.men ≡ chosen_groups l board
-groups_found l board part side asked n f = ap (λ (x : Nibbles). groups_of l.material x.men) f.nibbles ∙ sym (groups_chosen l board)
+pub groups_found : {l : Layout} {board : Board} {part side asked : ℕ} {n : Nibbles} → IsFound l board part side asked n → groups_of l.material n.men ≡ chosen_groups l board
+groups_found {l} {board} f = ap (λ (x : Nibbles). groups_of l.material x.men) f.nibbles ∙ sym (groups_chosen l board)
 
-lead_found : (l : Layout) (board : Board) (part side asked : ℕ) (n : Nibbles) → IsFound l board part side asked n → take (lead_length l.material) n.men ≡ unwrap_or (slice_get (chosen_groups l board) 0) []
-lead_found l board part side asked n f = ap (λ (x : Nibbles). take (lead_length l.material) x.men) f.nibbles ∙ sym (lead_chosen l board)
+lead_found : {l : Layout} {board : Board} {part side asked : ℕ} {n : Nibbles} → IsFound l board part side asked n → take (lead_length l.material) n.men ≡ unwrap_or (slice_get (chosen_groups l board) 0) []
+lead_found {l} {board} f = ap (λ (x : Nibbles). take (lead_length l.material) x.men) f.nibbles ∙ sym (lead_chosen l board)
 
-regular_found : (l : Layout) (board : Board) (part side asked : ℕ) (n : Nibbles) (regular b : Bool) → IsFound l board part side asked n → regular ≡ is_regular l.material (groups_of l.material n.men) → regular ≡ b →
+regular_found : {l : Layout} {board : Board} {part side asked : ℕ} {n : Nibbles} {regular b : Bool} → IsFound l board part side asked n → regular ≡ is_regular l.material (groups_of l.material n.men) → regular ≡ b →
     is_regular l.material (chosen_groups l board) ≡ b
-regular_found l board part side asked n regular b f r e = ap (is_regular l.material) (sym (groups_found l board part side asked n f)) ∙ sym r ∙ e
+regular_found {l} f r e = ap (is_regular l.material) (sym (groups_found f)) ∙ sym r ∙ e
 
-pub irregular_found : (l : Layout) (board : Board) (part side asked : ℕ) (n : Nibbles) (regular : Bool) → IsFound l board part side asked n → regular ≡ is_regular l.material (groups_of l.material n.men) → regular ≡ false →
+pub irregular_found : {l : Layout} {board : Board} {part side asked : ℕ} {n : Nibbles} {regular : Bool} → IsFound l board part side asked n → regular ≡ is_regular l.material (groups_of l.material n.men) → regular ≡ false →
     place_fault l board ≡ Some fault.Irregular
-irregular_found l board part side asked n regular f r e = fault_irregular l board f.known.men (regular_found l board part side asked n regular false f r e)
+irregular_found {l} {board} f r e = fault_irregular l board f.known.men (regular_found f r e)
 
-pub ready_found : (l : Layout) (board : Board) (part side asked : ℕ) (n : Nibbles) (items : List Piece) (lead : List ℕ) (regular : Bool) → IsFound l board part side asked n →
+pub ready_found : {l : Layout} {board : Board} {part side asked : ℕ} {n : Nibbles} {items : List Piece} {lead : List ℕ} {regular : Bool} → IsFound l board part side asked n →
     regular ≡ is_regular l.material (groups_of l.material n.men) → regular ≡ true → items ≡ pieces_of l.material board → length items ≤ 6 → lead ≡ take (lead_length l.material) n.men → AreReady l.material lead items
-ready_found l board part side asked n items lead regular f r e i few s =
+ready_found {l} {board} {part} {side} {asked} {n} {items} f r e i few s =
     let size = ap length i in
-    let ready = ready_of l.material n board f.known (ordered_found l board part side asked n f) (sym r ∙ e) (omega (arith, few, size)) in
+    let ready = ready_of l.material n board f.known (ordered_found f) (sym r ∙ e) (omega (arith, few, size)) in
     subst (λ (x : List ℕ). AreReady l.material x items) (sym s) (subst (λ (x : List Piece). AreReady l.material (take (lead_length l.material) n.men) x) (sym i) ready)
 
 -- and then the regular groups, the men after the flips and the lead squares
@@ -335,71 +364,71 @@ pub record IsLed (l : Layout) (board : Board) (part side asked : ℕ) (n : Nibbl
   pub normal_is : normal ≡ normal_pieces l.material lead (pieces_of l.material board)
   pub leads_is : leads ≡ lead_squares l.material lead normal
 
-pub led_of : (l : Layout) (board : Board) (part side asked : ℕ) (n : Nibbles) (items : List Piece) (regular : Bool) (lead leads leads' : List ℕ) (normal slice : List Piece) → IsFound l board part side asked n →
+pub led_of : {l : Layout} {board : Board} {part side asked : ℕ} {n : Nibbles} {items : List Piece} {regular : Bool} {lead leads leads' : List ℕ} {normal slice : List Piece} → IsFound l board part side asked n →
     regular ≡ is_regular l.material (groups_of l.material n.men) → regular ≡ true → items ≡ pieces_of l.material board → lead ≡ take (lead_length l.material) n.men →
     normal ≡ normal_pieces l.material lead items → slice ≡ normal → leads ≡ lead_squares l.material lead slice → leads' ≡ leads → IsLed l board part side asked n lead leads' normal
-led_of l board part side asked n items regular lead leads leads' normal slice f r e i s m q g h = record {
+led_of {l} {board} {part} {side} {asked} {n} {items} {regular} {lead} f r e i s m q g h = record {
   found = f;
-  regular = regular_found l board part side asked n regular true f r e;
+  regular = regular_found f r e;
   lead_is = s;
   normal_is = m ∙ ap (normal_pieces l.material lead) i;
   leads_is = h ∙ g ∙ ap (lead_squares l.material lead) q;
 }
 
-touching_led : (l : Layout) (board : Board) (part side asked : ℕ) (n : Nibbles) (lead leads : List ℕ) (normal : List Piece) (touching b : Bool) → IsLed l board part side asked n lead leads normal →
+touching_led : {l : Layout} {board : Board} {part side asked : ℕ} {n : Nibbles} {lead leads : List ℕ} {normal : List Piece} {touching b : Bool} → IsLed l board part side asked n lead leads normal →
     touching ≡ (not (has_pawns l.material) && lead_length l.material == 2 && is_touching (slice_index leads 0) (slice_index leads 1)) → touching ≡ b → is_kings_touching l.material (normal_of l board).squares ≡ b
-touching_led l board part side asked n lead leads normal touching b d t e =
-    let some = some_group l.material n.men in let size = ap length (groups_found l board part side asked n d.found) in
-    sym (touching_is l board lead leads normal (d.lead_is ∙ lead_found l board part side asked n d.found) d.normal_is d.leads_is (omega (arith, some, size))) ∙ sym t ∙ e
+touching_led {l} {board} {part} {side} {asked} {n} {lead} {leads} {normal} d t e =
+    let some = some_group l.material n.men in let size = ap length (groups_found d.found) in
+    sym (touching_is l board lead leads normal (d.lead_is ∙ lead_found d.found) d.normal_is d.leads_is (omega (arith, some, size))) ∙ sym t ∙ e
 
-pub touch_led : (l : Layout) (board : Board) (part side asked : ℕ) (n : Nibbles) (lead leads : List ℕ) (normal : List Piece) (touching : Bool) → IsLed l board part side asked n lead leads normal →
+pub touch_led : {l : Layout} {board : Board} {part side asked : ℕ} {n : Nibbles} {lead leads : List ℕ} {normal : List Piece} {touching : Bool} → IsLed l board part side asked n lead leads normal →
     touching ≡ (not (has_pawns l.material) && lead_length l.material == 2 && is_touching (slice_index leads 0) (slice_index leads 1)) → touching ≡ true → place_fault l board ≡ Some fault.KingsTouch
-touch_led l board part side asked n lead leads normal touching d t e =
-    fault_touch l board d.found.known.men d.regular (touching_led l board part side asked n lead leads normal touching true d t e)
+touch_led {l} {board} d t e =
+    fault_touch l board d.found.known.men d.regular (touching_led d t e)
 
-wrong_led : (l : Layout) (board : Board) (part side asked : ℕ) (n : Nibbles) (wrong b : Bool) → IsFound l board part side asked n → wrong ≡ is_wrong_side l part asked → wrong ≡ b →
+wrong_led : {l : Layout} {board : Board} {part side asked : ℕ} {n : Nibbles} {wrong b : Bool} → IsFound l board part side asked n → wrong ≡ is_wrong_side l part asked → wrong ≡ b →
     is_wrong_side l (normal_of l board).part (asked_side l.material board) ≡ b
-wrong_led l board part side asked n wrong b f w e =
+wrong_led {l} {board} {part} f w e =
     ap (λ (p : ℕ). is_wrong_side l p (asked_side l.material board)) (part_normal l board ∙ sym f.part_is) ∙ ap (is_wrong_side l part) (sym f.asked_is) ∙ sym w ∙ e
 
-pub side_led : (l : Layout) (board : Board) (part side asked : ℕ) (n : Nibbles) (lead leads : List ℕ) (normal : List Piece) (touching wrong : Bool) → IsLed l board part side asked n lead leads normal →
+pub side_led : {l : Layout} {board : Board} {part side asked : ℕ} {n : Nibbles} {lead leads : List ℕ} {normal : List Piece} {touching wrong : Bool} → IsLed l board part side asked n lead leads normal →
     touching ≡ (not (has_pawns l.material) && lead_length l.material == 2 && is_touching (slice_index leads 0) (slice_index leads 1)) → touching ≡ false →
     wrong ≡ is_wrong_side l part asked → wrong ≡ true → place_fault l board ≡ Some fault.WrongSide
-side_led l board part side asked n lead leads normal touching wrong d t e w f =
-    fault_side l board d.found.known.men d.regular (touching_led l board part side asked n lead leads normal touching false d t e) (wrong_led l board part side asked n wrong true d.found w f)
+side_led {l} {board} d t e w f =
+    fault_side l board d.found.known.men d.regular (touching_led d t e) (wrong_led d.found w f)
 
-pub none_led : (l : Layout) (board : Board) (part side asked : ℕ) (n : Nibbles) (lead leads : List ℕ) (normal : List Piece) (touching wrong : Bool) → IsLed l board part side asked n lead leads normal →
+pub none_led : {l : Layout} {board : Board} {part side asked : ℕ} {n : Nibbles} {lead leads : List ℕ} {normal : List Piece} {touching wrong : Bool} → IsLed l board part side asked n lead leads normal →
     touching ≡ (not (has_pawns l.material) && lead_length l.material == 2 && is_touching (slice_index leads 0) (slice_index leads 1)) → touching ≡ false →
     wrong ≡ is_wrong_side l part asked → wrong ≡ false → place_fault l board ≡ None
-none_led l board part side asked n lead leads normal touching wrong d t e w f =
-    fault_none l board d.found.known.men d.regular (touching_led l board part side asked n lead leads normal touching false d t e) (wrong_led l board part side asked n wrong false d.found w f)
+none_led {l} {board} d t e w f =
+    fault_none l board d.found.known.men d.regular (touching_led d t e) (wrong_led d.found w f)
 
 -- the squares of the groups are the normal form's
-sets_led : (l : Layout) (board : Board) (part side asked : ℕ) (n : Nibbles) (lead leads : List ℕ) (normal slice : List Piece) → IsLed l board part side asked n lead leads normal → slice ≡ normal →
+sets_led : {l : Layout} {board : Board} {part side asked : ℕ} {n : Nibbles} {lead leads : List ℕ} {normal slice : List Piece} → IsLed l board part side asked n lead leads normal → slice ≡ normal →
     squares_by_group l.material (groups_of l.material n.men) slice ≡ (normal_of l board).squares
-sets_led l board part side asked n lead leads normal slice d e =
+sets_led {l} {board} {part} {side} {asked} {n} {lead} d e =
     ap (squares_by_group l.material (groups_of l.material n.men)) (e ∙ d.normal_is)
-    ∙ ap (λ (x : List (List ℕ)). squares_by_group l.material x (normal_pieces l.material lead (pieces_of l.material board))) (groups_found l board part side asked n d.found)
-    ∙ ap (λ (x : List ℕ). squares_by_group l.material (chosen_groups l board) (normal_pieces l.material x (pieces_of l.material board))) (d.lead_is ∙ lead_found l board part side asked n d.found)
+    ∙ ap (λ (x : List (List ℕ)). squares_by_group l.material x (normal_pieces l.material lead (pieces_of l.material board))) (groups_found d.found)
+    ∙ ap (λ (x : List ℕ). squares_by_group l.material (chosen_groups l board) (normal_pieces l.material x (pieces_of l.material board))) (d.lead_is ∙ lead_found d.found)
     ∙ sym (squares_normal l board)
 
-pub answered_led : (l : Layout) (board : Board) (part side asked : ℕ) (n : Nibbles) → IsFound l board part side asked n → place_fault l board ≡ None → IsAnswered l board
-answered_led l board part side asked n f e = record { inside = f.known.inside; placement = f.known.placement; place = e }
+pub answered_led : {l : Layout} {board : Board} {part side asked : ℕ} {n : Nibbles} → IsFound l board part side asked n → place_fault l board ≡ None → IsAnswered l board
+answered_led f e = record { inside = f.known.inside; placement = f.known.placement; place = e }
 
-pub listed_led : (l : Layout) (board : Board) (part side asked : ℕ) (n : Nibbles) (lead leads : List ℕ) (normal slice : List Piece) → IsLed l board part side asked n lead leads normal → slice ≡ normal →
+pub listed_led : {l : Layout} {board : Board} {part side asked : ℕ} {n : Nibbles} {lead leads : List ℕ} {normal slice : List Piece} → IsLed l board part side asked n lead leads normal → slice ≡ normal →
     place_fault l board ≡ None → EachInList l.material part [] (groups_of l.material n.men) (squares_by_group l.material (groups_of l.material n.men) slice)
 unfolding normal_of
-listed_led l board part side asked n lead leads normal slice d e none =
+listed_led {l} {board} {part} {side} {asked} {n} d e none =
     let m = l.material in let p = part_of m (pieces_of m board) in let s = subtable_side l board in
-    let lists : EachInList m p [] (groups_of m (nibbles_at l p s).men) (normal_of l board).squares = in_lists l board d.found.layout (answered_led l board part side asked n d.found none) in
-    subst (λ (x : List (List ℕ)). EachInList m part [] (groups_of m n.men) x) (sym (sets_led l board part side asked n lead leads normal slice d e))
+    let lists : EachInList m p [] (groups_of m (nibbles_at l p s).men) (normal_of l board).squares = in_lists l board d.found.layout (answered_led d.found none) in
+    subst (λ (x : List (List ℕ)). EachInList m part [] (groups_of m n.men) x) (sym (sets_led d e))
     (subst (λ (x : Nibbles). EachInList m part [] (groups_of m x.men) (normal_of l board).squares) (sym d.found.nibbles)
     (subst (λ (x : ℕ). EachInList m x [] (groups_of m (nibbles_at l p s).men) (normal_of l board).squares) (sym d.found.part_is) lists))
 
-pub spot_led : (l : Layout) (board : Board) (part side asked : ℕ) (n : Nibbles) (lead leads : List ℕ) (normal slice : List Piece) (index : ℕ) → IsLed l board part side asked n lead leads normal → slice ≡ normal →
+pub spot_led : {l : Layout} {board : Board} {part side asked : ℕ} {n : Nibbles} {lead leads : List ℕ} {normal slice : List Piece} {index : ℕ} → IsLed l board part side asked n lead leads normal → slice ≡ normal →
     index ≡ index_with (places_in_lists l.material part [] (squares_by_group l.material (groups_of l.material n.men) slice)) (counted l.material part n).factors →
     (let spot : Spot = record { part = part; side = side; index = index } in spot) ≡ spot_of l board
-spot_led l board part side asked n lead leads normal slice index d e g =
+spot_led {l} {board} {part} {side} {asked} {n} {lead} {leads} {normal} {slice} {index} d e g =
     spot_is l board part side index d.found.part_is d.found.side_is
-    (g ∙ ap (λ (x : List (List ℕ)). index_with (places_in_lists l.material part [] x) (counted l.material part n).factors) (sets_led l board part side asked n lead leads normal slice d e)
+    (g ∙ ap (λ (x : List (List ℕ)). index_with (places_in_lists l.material part [] x) (counted l.material part n).factors) (sets_led d e)
     ∙ ap (λ (x : Nibbles). index_with (places_in_lists l.material part [] (normal_of l board).squares) (counted l.material part x).factors) d.found.at)

@@ -3,12 +3,12 @@ use Rattle.std.proofs.Common.{◌≡◌, ℕ, zero, suc, ◌+◌, ◌*◌, ◌<�
 use Rattle.std.specs.Prelude.{Some, None, slice_get, unwrap_or, ◌==◌, ◌&&◌, ◌^◌}
 use Rattle.std.specs.List.{zip, concat, range_with_len}
 use Rattle.std.proofs.lemmas.Bool.{cases_Bool, and_parts, eqb-true}
-use Rattle.std.proofs.lemmas.List.{length-map}
+use Rattle.std.proofs.lemmas.List.{length-map, length-take-le}
 use Rattle.std.proofs.lemmas.List.FromFn.{get_or-map-range_with_len, length-map-range_with_len}
 use Rattle.std.proofs.lemmas.Option.{slice_get-get_or, unwrap_or-slice_get}
 use Rattle.std.proofs.lemmas.List.{take_more, take_at, drop_at}
 use Rattle.std.proofs.lemmas.List.Sums.{sum_by-cons}
-use Rattle.szg_values.specs.Material.{Sides, IsMaterial}
+use Rattle.szg_values.specs.Material.{Sides, IsMaterial, has_pawns}
 use Rattle.szg_count.specs.Leads.{place_in}
 use Rattle.szg_count.specs.Groups.{IsPart, Nibbles, Counted, order_fault, groups_of, counted, factors_of, has_other_pawns}
 use Rattle.szg_count.specs.Seen.{group_at, groups_told}
@@ -16,9 +16,10 @@ use Rattle.szg_count.specs.declared.Group.{Group}
 use Rattle.szg_count.proofs.Free.{places_order}
 use Rattle.szg_count.proofs.Sizes.{size_below}
 use Rattle.szg_count.proofs.Places.{place_in-slice_get}
-use Rattle.szg_count.specs.Laws.{IsIn}
+use Rattle.szg_count.specs.Laws.{IsIn, AllDiffer}
 use Rattle.szg_count.specs.Radix.{index_with}
 use Rattle.szg_place.specs.Spots.{ordered_sets, places_in_lists}
+use Rattle.szg_place.specs.Known.{AreGrouped, IsBehind}
 use Rattle.szg_place.specs.Ranks.{EachInList}
 use Rattle.szg_place.proofs.Ranking.{AllDiffer-ordered_sets}
 use Rattle.szg_place.proofs.Ways.{IsLaid, laid_more, laid_none, IsIn-squares_down}
@@ -245,3 +246,54 @@ gained sides part n sets i place index group s e h =
     let f = s.factor in
     let k : place_at sides part sets i * get_or factors i 0 ≡ place * group.factor = ap (λ x. x * get_or factors i 0) e ∙ ap (λ x. place * x) (sym f) in
     omega (arith, t, k, h)
+
+-- ---- the code's turns
+
+pub step_in : {sides : Sides} {part i count : ℕ} {n : Nibbles} {sets : List (List ℕ)} {group : Group} {groups : List Group} → IsMaterial sides → AreGrouped sides part n groups →
+    EachInList sides part [] (groups_of sides n.men) sets → i < count → count ≡ length groups → slice_get groups i ≡ Some group → IsStep sides part n sets i group
+step_in {sides} {part} {i} {count} {n} {sets} {group} {groups} m g h k l f =
+    step_of sides part n sets i group m g.has_part g.ordered h (let a = ap length g.groups_are in omega (arith, k, l, a)) (subst (λ (x : List Group). slice_get x i ≡ Some group) g.groups_are f)
+
+pub behind_at : {sides : Sides} {part i : ℕ} {n : Nibbles} {sets : List (List ℕ)} {group : Group} {taken : List ℕ} → IsPart sides part → IsStep sides part n sets i group → taken ≡ concat (take i sets) →
+    IsBehind sides part i taken (take i sets)
+behind_at {sides} {part} {i} {n} {sets} p s e =
+    let number : i ≡ length (take i sets) = sym (length-take-le i sets (let k = s.count in omega (arith, k))) in record {
+      has_part = p;
+      taken_are = e;
+      number_is = number;
+      differ = subst (λ (l : List ℕ). AllDiffer l) (sym e) s.turn.laid.differ;
+      inside = λ pos x h. left_to sides (take i sets) i (sym number) s.turn.laid x (subst (λ (l : List ℕ). IsIn x l) e h);
+    }
+
+-- the squares before a group's, and its own
+pub record IsSplit (sides : Sides) (part : ℕ) (n : Nibbles) (sets : List (List ℕ)) (i : ℕ) (group : Group) (taken set : List ℕ) : Type 0 where
+  pub step : IsStep sides part n sets i group
+  pub taken_is : taken ≡ concat (take i sets)
+  pub set_is : set ≡ get_or sets i []
+
+pub split_of : {sides : Sides} {part : ℕ} {n : Nibbles} {sets : List (List ℕ)} {i first size : ℕ} {group : Group} {squares taken rest set : List ℕ} → IsStep sides part n sets i group → squares ≡ concat sets →
+    first ≡ group.first → size ≡ group.length → taken ≡ take first squares → rest ≡ drop first squares → set ≡ take size rest → IsSplit sides part n sets i group taken set
+split_of {sets = sets} {i} {first} {size} s e f z a b d = record {
+  step = s;
+  taken_is = a ∙ ap (λ (l : List ℕ). take first l) e ∙ squares_before sets i first s.count (f ∙ s.first);
+  set_is = d ∙ ap (λ (l : List ℕ). take size l) (b ∙ ap (λ (l : List ℕ). drop first l) e) ∙ squares_here sets i first size s.count (f ∙ s.first) (z ∙ s.size);
+}
+
+pub gained_at : {sides : Sides} {part : ℕ} {n : Nibbles} {sets : List (List ℕ)} {i : ℕ} {group : Group} {taken set : List ℕ} (place index : ℕ) → IsPart sides part → IsSplit sides part n sets i group taken set →
+    slice_get (ordered_sets sides part (take i sets) (length set)) place ≡ Some set →
+    index + index_behind sides part sets (counted sides part n).factors i ≡ index_behind sides part sets (counted sides part n).factors 0 →
+    (index + place * group.factor) + index_behind sides part sets (counted sides part n).factors (i + 1) ≡ index_behind sides part sets (counted sides part n).factors 0
+gained_at {sides} {part} {n} {sets} {i} {group} {set = set} place index p c e h =
+    gained sides part n sets i place index group c.step (place_is sides part sets i place set (part_small (has_pawns sides) part p) c.set_is e) h
+
+-- an index so far fits
+pub room_at : {sides : Sides} {part : ℕ} {n : Nibbles} {sets : List (List ℕ)} {i : ℕ} {group : Group} {groups : List Group} {taken set : List ℕ} (place index : ℕ) → IsMaterial sides → AreGrouped sides part n groups →
+    EachInList sides part [] (groups_of sides n.men) sets → IsSplit sides part n sets i group taken set → slice_get (ordered_sets sides part (take i sets) (length set)) place ≡ Some set →
+    index + index_behind sides part sets (counted sides part n).factors i ≡ index_behind sides part sets (counted sides part n).factors 0 → index + place * group.factor < 2 ^ 33
+room_at {sides} {part} {n} {sets} place index m g l c e h =
+    let k = gained_at place index g.has_part c e h in let f = index_fits sides part n sets m g.has_part g.ordered l in omega (arith, k, f)
+
+pub index_small : (sides : Sides) (part : ℕ) (n : Nibbles) (sets : List (List ℕ)) → IsMaterial sides → IsPart sides part → order_fault sides n ≡ None → EachInList sides part [] (groups_of sides n.men) sets →
+    index_with (places_in_lists sides part [] sets) (counted sides part n).factors < 2 ^ 33
+index_small sides part n sets m p o l =
+    let f = index_fits sides part n sets m p o l in let a = index_start sides part sets (counted sides part n).factors in omega (arith, f, a)

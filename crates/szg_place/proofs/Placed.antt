@@ -102,9 +102,9 @@ size_below : (o : Option (Slot × Subtable)) (i n : ℕ) → IsSomeAnd o (λ fou
 size_below None i n e h = absurd e
 size_below (Some x) i n e h = omega (arith, e, h)
 
-pub at_of : (t : Contents) (fill : List ℕ) (part side index : ℕ) (m : Sides) (n : Nibbles) → IsAccepted t fill → m ≡ t.material → IsMaterial m → IsSome (subtable_at t part side) →
+pub at_of : {t : Contents} {fill : List ℕ} {m : Sides} {n : Nibbles} (part side index : ℕ) → IsAccepted t fill → m ≡ t.material → IsMaterial m → IsSome (subtable_at t part side) →
     IfSome (subtable_at t part side) (λ found. index < found.0.size) → n ≡ nibbles_at (numbering_of t) part side → IsAt t part side index m n
-at_of t fill part side index m n a e k some below o =
+at_of {t} {fill} part side index a e k some below o =
     let r = there_below t fill part side a some in record {
       layout = accepted_numbering t fill (subst (λ (x : Sides). IsMaterial x) e k) a;
       material = k;
@@ -115,65 +115,65 @@ at_of t fill part side index m n a e k some below o =
       nibbles = o;
     }
 
-pub part_at : (t : Contents) (part side index : ℕ) (m : Sides) (n : Nibbles) → IsAt t part side index m n → IsPart m part
-part_at t part side index m n a = subst (λ (x : Sides). IsPart x part) (sym a.same) a.has_part
+pub part_at : {t : Contents} {part side index : ℕ} {m : Sides} {n : Nibbles} → IsAt t part side index m n → IsPart m part
+part_at {t} {part} a = subst (λ (x : Sides). IsPart x part) (sym a.same) a.has_part
 
-pub ordered_at : (t : Contents) (part side index : ℕ) (m : Sides) (n : Nibbles) → IsAt t part side index m n → order_fault m n ≡ None
-ordered_at t part side index m n a =
+pub ordered_at : {t : Contents} {part side index : ℕ} {m : Sides} {n : Nibbles} → IsAt t part side index m n → order_fault m n ≡ None
+ordered_at {t} {part} {side} {index} {m} {n} a =
     ap (λ (x : Sides). order_fault x n) a.same ∙ ap (λ (y : Nibbles). order_fault t.material y) a.nibbles ∙ order_none (numbering_of t) part side a.layout a.has_part a.has_side
 
-pub below_at : (t : Contents) (part side index : ℕ) (m : Sides) (n : Nibbles) → IsAt t part side index m n → index < product (counted m part n).ways
-below_at t part side index m n a =
+pub below_at : {t : Contents} {part side index : ℕ} {m : Sides} {n : Nibbles} → IsAt t part side index m n → index < product (counted m part n).ways
+below_at {t} {part} {side} {index} {m} {n} a =
     let e : product (counted m part n).ways ≡ size_at (numbering_of t) part side =
     ap (λ (x : Sides). product (counted x part n).ways) a.same ∙ ap (λ (y : Nibbles). product (counted t.material part y).ways) a.nibbles in
     subst (λ (k : ℕ). index < k) (sym e) a.below
 
-men_at : (t : Contents) (part side index : ℕ) (m : Sides) (n : Nibbles) → IsAt t part side index m n → men_told m part n index ≡ (board_at (numbering_of t) part side index).standing
+men_at : {t : Contents} {part side index : ℕ} {m : Sides} {n : Nibbles} → IsAt t part side index m n → men_told m part n index ≡ (board_at (numbering_of t) part side index).standing
 unfolding board_at
-men_at t part side index m n a = ap (λ (x : Sides). men_told x part n index) a.same ∙ ap (λ (y : Nibbles). men_told t.material part y index) a.nibbles
+men_at {t} {part} {side} {index} {m} {n} a = ap (λ (x : Sides). men_told x part n index) a.same ∙ ap (λ (y : Nibbles). men_told t.material part y index) a.nibbles
 
-answered_at : (t : Contents) (part side index : ℕ) (m : Sides) (n : Nibbles) → IsAt t part side index m n → placement_refusal (numbering_of t) part side ≡ None →
+answered_at : {t : Contents} {part side index : ℕ} {m : Sides} {n : Nibbles} → IsAt t part side index m n → placement_refusal (numbering_of t) part side ≡ None →
     IsAnswered (numbering_of t) (board_at (numbering_of t) part side index)
-answered_at t part side index m n a none =
+answered_at {t} {part} {side} {index} a none =
     (spot_of_placement (numbering_of t) part side index a.layout (record { has_part = a.has_part; has_side = a.has_side; below = a.below; allowed = none })).0
 
-pub inside_at : (t : Contents) (part side index : ℕ) (m : Sides) (n : Nibbles) → IsAt t part side index m n → placement_refusal (numbering_of t) part side ≡ None →
+pub inside_at : {t : Contents} {part side index : ℕ} {m : Sides} {n : Nibbles} → IsAt t part side index m n → placement_refusal (numbering_of t) part side ≡ None →
     (s : Standing) → IsIn s (men_told m part n index) → s.2 < 64
-inside_at t part side index m n a none s i =
-    (answered_at t part side index m n a none).inside s (subst (λ (l : List Standing). IsIn s l) (men_at t part side index m n a) i)
+inside_at a none s i =
+    (answered_at a none).inside s (subst (λ (l : List Standing). IsIn s l) (men_at a) i)
 
-pub placed_at : (t : Contents) (part side index : ℕ) (m : Sides) (n : Nibbles) (slice items : List Standing) → IsAt t part side index m n → placement_refusal (numbering_of t) part side ≡ None →
+pub placed_at : {t : Contents} {part side index : ℕ} {m : Sides} {n : Nibbles} {slice items : List Standing} → IsAt t part side index m n → placement_refusal (numbering_of t) part side ≡ None →
     slice ≡ items → items ≡ men_told m part n index → placement_fault slice ≡ None
-placed_at t part side index m n slice items a none e f =
-    ap placement_fault (e ∙ f ∙ men_at t part side index m n a) ∙ (answered_at t part side index m n a none).placement
+placed_at a none e f =
+    ap placement_fault (e ∙ f ∙ men_at a) ∙ (answered_at a none).placement
 
-pub board_same : (t : Contents) (part side index : ℕ) (m : Sides) (n : Nibbles) (slice items : List Standing) (mover : Color) → IsAt t part side index m n →
+pub board_same : {t : Contents} {part side index : ℕ} {m : Sides} {n : Nibbles} {slice items : List Standing} {mover : Color} → IsAt t part side index m n →
     slice ≡ items → items ≡ men_told m part n index → mover ≡ mover_at (numbering_of t) part side →
     (let board : Board = record { standing = slice; mover = mover } in board) ≡ board_at (numbering_of t) part side index
 unfolding board_at
-board_same t part side index m n slice items mover a e f v =
+board_same {t} {part} {side} {index} {m} {n} {slice} {items} {mover} a e f v =
     let make : List Standing → Color → Board = λ s x. record { standing = s; mover = x } in
-    ap (λ (s : List Standing). make s mover) (e ∙ f ∙ men_at t part side index m n a) ∙ ap (λ (x : Color). make (board_at (numbering_of t) part side index).standing x) v
+    ap (λ (s : List Standing). make s mover) (e ∙ f ∙ men_at a) ∙ ap (λ (x : Color). make (board_at (numbering_of t) part side index).standing x) v
 
 -- ---- the refusals
 
-regular_at : (t : Contents) (part side index : ℕ) (m : Sides) (n : Nibbles) (regular b : Bool) → IsAt t part side index m n → regular ≡ is_regular m (groups_of m n.men) → regular ≡ b →
+regular_at : {t : Contents} {part side index : ℕ} {m : Sides} {n : Nibbles} {regular b : Bool} → IsAt t part side index m n → regular ≡ is_regular m (groups_of m n.men) → regular ≡ b →
     is_regular t.material (counted_at (numbering_of t) part side).groups ≡ b
-regular_at t part side index m n regular b a r e =
+regular_at {t} {part} {side} {index} {m} {n} a r e =
     let test : Sides → Nibbles → Bool = λ x y. is_regular x (groups_of x y.men) in
     ap (is_regular t.material) (groups_are t.material part (nibbles_at (numbering_of t) part side))
     ∙ sym (ap (λ (x : Sides). test x n) a.same ∙ ap (λ (y : Nibbles). test t.material y) a.nibbles) ∙ sym r ∙ e
 
-pub refused_irregular : (t : Contents) (part side index : ℕ) (m : Sides) (n : Nibbles) (regular : Bool) → IsAt t part side index m n → regular ≡ is_regular m (groups_of m n.men) → regular ≡ false →
+pub refused_irregular : {t : Contents} {part side index : ℕ} {m : Sides} {n : Nibbles} {regular : Bool} → IsAt t part side index m n → regular ≡ is_regular m (groups_of m n.men) → regular ≡ false →
     placement_refusal (numbering_of t) part side ≡ Some fault.Irregular
 unfolding placement_refusal
-refused_irregular t part side index m n regular a r e = let k = regular_at t part side index m n regular false a r e in rw k refl
+refused_irregular a r e = let k = regular_at a r e in rw k refl
 
 -- a DTZ subtable with pawns that stores Black where both sides have the same men
 abbrev pub is_untold : Contents → ℕ → Bool
 is_untold t part = is_dtz t.kind && is_symmetric t.material && has_pawns t.material && stored_side (numbering_of t) part == 1
 
-pub untold_is : (t : Contents) (m : Sides) (part : ℕ) (kind : Kind) (stored : ℕ) (untold : Bool) → untold ≡ (is_dtz kind && is_symmetric m && has_pawns m && stored == 1) → kind ≡ t.kind → m ≡ t.material →
+untold_is : (t : Contents) (m : Sides) (part : ℕ) (kind : Kind) (stored : ℕ) (untold : Bool) → untold ≡ (is_dtz kind && is_symmetric m && has_pawns m && stored == 1) → kind ≡ t.kind → m ≡ t.material →
     stored ≡ stored_side (numbering_of t) part → untold ≡ is_untold t part
 untold_is t m part kind stored untold e a b d =
     e ∙ ap (λ (k : Kind). is_dtz k && is_symmetric m && has_pawns m && stored == 1) a
@@ -190,17 +190,17 @@ mover_is t m part side kind stored mover e a b d =
     ∙ ap (λ (s : Sides). mover_by (is_symmetric s) (is_dtz t.kind) stored side) b
     ∙ ap (λ (k : ℕ). mover_by (is_symmetric t.material) (is_dtz t.kind) k side) d
 
-pub refused_untold : (t : Contents) (part side index : ℕ) (m : Sides) (n : Nibbles) (regular untold : Bool) → IsAt t part side index m n → regular ≡ is_regular m (groups_of m n.men) → regular ≡ true →
-    untold ≡ is_untold t part → untold ≡ true → placement_refusal (numbering_of t) part side ≡ Some fault.WrongSide
+pub refused_untold : {t : Contents} {part side index : ℕ} {m : Sides} {n : Nibbles} {kind : Kind} {stored : ℕ} {regular untold : Bool} → IsAt t part side index m n → regular ≡ is_regular m (groups_of m n.men) → regular ≡ true →
+    untold ≡ (is_dtz kind && is_symmetric m && has_pawns m && stored == 1) → kind ≡ t.kind → stored ≡ stored_side (numbering_of t) part → untold ≡ true → placement_refusal (numbering_of t) part side ≡ Some fault.WrongSide
 unfolding placement_refusal
-refused_untold t part side index m n regular untold a r e u f =
-    let k = regular_at t part side index m n regular true a r e in let j : is_untold t part ≡ true = sym u ∙ f in rw (k, j) refl
+refused_untold {t} {part} {m = m} {kind} {stored} {untold = untold} a r e u v w f =
+    let k = regular_at a r e in let j : is_untold t part ≡ true = sym (untold_is t m part kind stored untold u v a.same w) ∙ f in rw (k, j) refl
 
-pub refused_none : (t : Contents) (part side index : ℕ) (m : Sides) (n : Nibbles) (regular untold : Bool) → IsAt t part side index m n → regular ≡ is_regular m (groups_of m n.men) → regular ≡ true →
-    untold ≡ is_untold t part → untold ≡ false → placement_refusal (numbering_of t) part side ≡ None
+pub refused_none : {t : Contents} {part side index : ℕ} {m : Sides} {n : Nibbles} {kind : Kind} {stored : ℕ} {regular untold : Bool} → IsAt t part side index m n → regular ≡ is_regular m (groups_of m n.men) → regular ≡ true →
+    untold ≡ (is_dtz kind && is_symmetric m && has_pawns m && stored == 1) → kind ≡ t.kind → stored ≡ stored_side (numbering_of t) part → untold ≡ false → placement_refusal (numbering_of t) part side ≡ None
 unfolding placement_refusal
-refused_none t part side index m n regular untold a r e u f =
-    let k = regular_at t part side index m n regular true a r e in let j : is_untold t part ≡ false = sym u ∙ f in rw (k, j) refl
+refused_none {t} {part} {m = m} {kind} {stored} {untold = untold} a r e u v w f =
+    let k = regular_at a r e in let j : is_untold t part ≡ false = sym (untold_is t m part kind stored untold u v a.same w) ∙ f in rw (k, j) refl
 
 pub none_holds : {A : Type 0} (o : Option A) → o ≡ None → IsNone o
 none_holds None e = refl

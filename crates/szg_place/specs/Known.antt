@@ -1,12 +1,23 @@
 -- What is known of a placement on the way to its index.
-use Rattle.std.specs.Prelude.{◌≡◌, ℕ, ◌≤◌, true, List, length, None}
+use Rattle.std.specs.List.{concat}
+use Rattle.std.specs.Prelude.{◌≡◌, ℕ, ◌<◌, ◌≤◌, ◌==◌, ◌&&◌, true, List, length, None, IsNone, IfSome, IsSomeAnd, Result, Ok, Err, IfOk, if◌then◌else◌}
+use Rattle.szg_values.specs.declared.Kind.{Kind}
 use Rattle.szg_values.specs.Material.{Sides, IsMaterial}
 use Rattle.szg_values.specs.Placement.{Board, placement_fault}
-use Rattle.szg_count.specs.Groups.{Nibbles}
-use Rattle.szg_place.specs.Layout.{Layout, IsLayout, nibbles_at}
+use Rattle.szg_count.specs.Groups.{IsPart, Nibbles, order_fault, counted, has_other_pawns}
+use Rattle.szg_count.specs.Leads.{pawn_squares, squares_down}
+use Rattle.szg_count.specs.Laws.{IsIn, AllDiffer}
+use Rattle.szg_count.specs.Seen.{groups_told}
+use Rattle.szg_count.specs.declared.Group.{Group}
+use Rattle.szg_file.specs.Contents.{Contents}
+use Rattle.szg_file.specs.Values.{subtable_at}
+use Rattle.szg_place.specs.Layout.{Layout, IsLayout, is_dtz, nibbles_at}
 use Rattle.szg_place.specs.Normal.{Piece, pieces_of, part_of, asked_side, subtable_side}
-use Rattle.szg_place.specs.Spots.{is_of_material}
-use Rattle.szg_place.specs.Laws.{IsOnBoard}
+use Rattle.szg_place.specs.Spots.{is_of_material, place_fault, spot_of}
+use Rattle.szg_place.specs.Laws.{IsOnBoard, IsAnswered}
+use Rattle.szg_place.specs.Tables.{numbering_of}
+use Rattle.szg_place.specs.declared.Spot.{Spot}
+use Rattle.szg_place.specs.declared.PlaceFault.{PlaceFault}
 
 -- a placement of a table's men
 pub record IsKnown (sides : Sides) (board : Board) : Type 0 where
@@ -15,12 +26,13 @@ pub record IsKnown (sides : Sides) (board : Board) : Type 0 where
   pub placement : placement_fault board.standing ≡ None
   pub men : is_of_material sides board ≡ true
 
--- its men as the file codes them, its part and the asked side
-pub record IsAsked (sides : Sides) (board : Board) (pieces : List Piece) (part asked : ℕ) : Type 0 where
+-- its men as the file codes them, its part, its subtable's side and the asked side
+pub record IsAsked (sides : Sides) (kind : Kind) (board : Board) (pieces : List Piece) (part side asked : ℕ) : Type 0 where
   pub known : IsKnown sides board
   pub pieces_are : pieces ≡ pieces_of sides board
   pub few : length pieces ≤ 6
   pub part_is : part ≡ part_of sides (pieces_of sides board)
+  pub side_is : side ≡ (if is_dtz kind then 0 else asked)
   pub asked_is : asked ≡ asked_side sides board
 
 -- its subtable, and the nibbles of that part's side
@@ -32,3 +44,29 @@ pub record IsFound (l : Layout) (board : Board) (part side asked : ℕ) (n : Nib
   pub asked_is : asked ≡ asked_side l.material board
   pub nibbles : n ≡ nibbles_at l (part_of l.material (pieces_of l.material board)) (subtable_side l board)
   pub at : n ≡ nibbles_at l part side
+
+-- what is answered of a placement: the first reason that stands, or else its spot
+pub record IsLocated (l : Layout) (board : Board) (result : Result Spot PlaceFault) : Type 0 where
+  pub refused : IfSome (place_fault l board) (λ fault. result ≡ Err fault)
+  pub spot : IsNone (place_fault l board) → result ≡ Ok (spot_of l board)
+  pub answered : IfOk result (λ _. IsAnswered l board)
+
+-- and a table has a value there
+pub record IsLocatedIn (t : Contents) (board : Board) (result : Result Spot PlaceFault) : Type 0 where
+  pub refused : IfSome (place_fault (numbering_of t) board) (λ fault. result ≡ Err fault)
+  pub spot : IsNone (place_fault (numbering_of t) board) → result ≡ Ok (spot_of (numbering_of t) board)
+  pub below : IfOk result (λ spot. IsSomeAnd (subtable_at t spot.part spot.side) (λ found. spot.index < found.0.size))
+
+-- the groups of an order without a fault, in a part of the material
+pub record AreGrouped (sides : Sides) (part : ℕ) (n : Nibbles) (groups : List Group) : Type 0 where
+  pub has_part : IsPart sides part
+  pub ordered : order_fault sides n ≡ None
+  pub groups_are : groups ≡ groups_told (counted sides part n)
+
+-- a group comes behind others, so many, that stand on the squares taken
+pub record IsBehind (sides : Sides) (part number : ℕ) (taken : List ℕ) (before : List (List ℕ)) : Type 0 where
+  pub has_part : IsPart sides part
+  pub taken_are : taken ≡ concat before
+  pub number_is : number ≡ length before
+  pub differ : AllDiffer taken
+  pub inside : 0 < number → (x : ℕ) → IsIn x taken → IsIn x (if has_other_pawns sides && number == 1 then pawn_squares else squares_down)

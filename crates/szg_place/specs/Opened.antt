@@ -3,7 +3,7 @@ use Rattle.std.specs.Prelude.{◌≡◌, ℕ, ℤ, Option, Some, None, Result, O
 use Rattle.szg_values.specs.Placement.{Board}
 use Rattle.szg_block.specs.Lending.{raised}
 use Rattle.szg_file.specs.Contents.{Contents, Slot, Subtable}
-use Rattle.szg_file.specs.Opened.{asked_after}
+use Rattle.szg_file.specs.Opened.{Opened, asked_after}
 use Rattle.szg_file.specs.Values.{subtable_at}
 use Rattle.szg_place.specs.Spots.{place_fault, spot_of}
 use Rattle.szg_place.specs.Tables.{numbering_of, value_at, class_of, mapped_number}
@@ -18,6 +18,12 @@ abbrev pub IsProbed : {A : Type 0} → Option PlaceFault → (A → Type 0) → 
 IsProbed (Some fault) told missed result = result ≡ Err (Probe (Place fault))
 IsProbed None told missed (Ok answer) = told answer
 IsProbed None told missed (Err fault) = missed fault
+
+-- which table it is stays as it was
+pub record IsSameTable (before after : Opened) : Type 0 where
+  pub material : after.material ≡ before.material
+  pub kind : after.kind ≡ before.kind
+  pub content : after.content ≡ before.content
 
 -- a placement's spot in a table
 abbrev pub spot_in : Contents → Board → Spot

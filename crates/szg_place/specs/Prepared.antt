@@ -17,6 +17,12 @@ pub record IsPrepared (l : Layout) (p : Prepared) : Type 0 where
   pub groups : p.grouped.groups ≡ groups_told (counted l.material p.part (nibbles_in p.grouped.order))
   pub regular : p.grouped.regular ≡ is_regular l.material (groups_of l.material p.grouped.order.men.items)
 
+-- and it is that of this part's side
+pub record IsPreparedFor (l : Layout) (p : Prepared) (part side : ℕ) : Type 0 where
+  pub prepared : IsPrepared l p
+  pub part_is : p.part ≡ part
+  pub side_is : p.side ≡ side
+
 -- what is kept of a table: what its material tells, the flags of its subtables, and numberings of its parts' sides
 pub record ArePrepared (t : Contents) (material : Sides) (flags : List ℕ) (sides : List (Option Prepared)) : Type 0 where
   pub material_is : material ≡ t.material

@@ -7,6 +7,7 @@ ghost use Rattle.szg_values.specs.Material.{IsMaterial};
 ghost use Rattle.szg_count.specs.Groups.{IsPart, Nibbles, order_fault, groups_of, counted, product};
 ghost use Rattle.szg_count.specs.Seen.{groups_told};
 ghost use Rattle.szg_count.specs.Radix.{index_with};
+ghost use Rattle.szg_place.specs.Known.{AreGrouped};
 ghost use Rattle.szg_place.specs.Spots.{places_in_lists, squares_told, places_told};
 ghost use Rattle.szg_place.specs.Ranks.{EachInList};
 
@@ -35,14 +36,11 @@ pub fn index_with(material: &Material, part: u8, groups: &Groups, squares: &[u8]
 /// The same for a caller that knows what the material tells.
 pub(crate) fn index_by(material: &Traits, part: u8, groups: &Groups, squares: &[u8]) -> u64
     ghost given: { Nibbles × List (List ℕ) }
-    requires part { IsPart material.now part }
-    requires ordered { order_fault material.now given.0 ≡ None }
-    requires groups { groups.now ≡ groups_told (counted material.now part given.0) }
+    requires grouped { AreGrouped material.now part given.0 groups.now }
     requires squares { squares.now ≡ concat given.1 }
     requires few { length squares.now ≤ 6 }
     requires listed { EachInList material.now part [] (groups_of material.now given.0.men) given.1 }
-    ensures index { result ≡ index_with (places_in_lists material.now part [] given.1) (counted material.now part given.0).factors }
-    ensures fits { result < 2 ^ 33 }
+    ensures { result ≡ index_with (places_in_lists material.now part [] given.1) (counted material.now part given.0).factors }
 {
     // It tells that it is a name's.
     let _material = material.material();
@@ -83,9 +81,7 @@ pub(crate) fn squares_by(
     index: u64,
 ) -> ArrayVec<u8, MAX_MEN>
     ghost given: { Nibbles × List (List ℕ) }
-    requires part { IsPart material.now part }
-    requires ordered { order_fault material.now given.0 ≡ None }
-    requires groups { groups.now ≡ groups_told (counted material.now part given.0) }
+    requires grouped { AreGrouped material.now part given.0 groups.now }
     requires below { index < product (counted material.now part given.0).ways }
     requires told { given.1 ≡ squares_told material.now part [] (zip (counted material.now part given.0).groups (places_told (counted material.now part given.0) index)) }
     requires few { length (concat given.1) ≤ 6 }

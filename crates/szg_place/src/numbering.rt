@@ -1,19 +1,21 @@
 //! How a table numbers the placements of a part and side: its order, its groups, and the side that it stores.
 
-ghost use Rattle.std.specs.Prelude.{◌≡◌, ◌≤◌, ◌<◌, ◌%◌, ◌==◌, ◌&&◌, ◌||◌, not, [], length, map, None, drop, slice_index, slice_index_or, if◌then◌else◌};
+ghost use Rattle.std.specs.Prelude.{◌≡◌, ◌≤◌, ◌<◌, ◌%◌, ◌==◌, ◌&&◌, ◌||◌, not, [], length, map, None, IsSome, drop, slice_index, slice_index_or, if◌then◌else◌};
 ghost use Rattle.std.specs.List.{list_all};
 ghost use Rattle.szg_values.specs.Material.{count_of, has_pawns, is_symmetric};
 ghost use Rattle.szg_count.specs.Groups.{IsPart, nibble, nibbles_of, order_fault, counted, groups_of};
 ghost use Rattle.szg_count.specs.Seen.{nibbles_in, groups_told};
 ghost use Rattle.szg_file.specs.Held.{part_of};
-ghost use Rattle.szg_place.specs.Layout.{is_dtz, layout_in, nibbles_in_part};
+ghost use Rattle.szg_file.specs.Values.{subtable_at};
+ghost use Rattle.szg_place.specs.Layout.{is_dtz, layout_in, nibbles_at, nibbles_in_part};
 ghost use Rattle.szg_place.specs.Spots.{is_regular, is_wrong_side};
+ghost use Rattle.szg_place.specs.Tables.{numbering_of};
 
 use crate::men::code_count;
 use crate::traits::Traits;
 use arrayvec::ArrayVec;
 use szg_count::{Groups, Order};
-use szg_file::PartBytes;
+use szg_file::{PartBytes, Table};
 use szg_values::{Kind, Material};
 
 /// The subtable's side where this side is asked: a DTZ table has one for both.
@@ -35,6 +37,19 @@ pub fn order_in(parts: &[PartBytes], part: u8, side: u8) -> Order
 {
     let bytes = &parts[usize::from(part)];
     order_of(side, &bytes.order, &bytes.men)
+}
+
+/// The nibbles of a part's side that the table has.
+pub fn order_at(table: &Table, part: u8, side: u8) -> Order
+    requires { IsSome (subtable_at table.now.contents part side) }
+    ensures nibbles { nibbles_in result ≡ nibbles_at (numbering_of table.now.contents) part side }
+    ensures part { IsPart table.now.contents.material part }
+    ensures ordered { order_fault table.now.contents.material (nibbles_in result) ≡ None }
+{
+    // The fill tells that this is a table, and the men that they are a material's.
+    let _fill = table.fill();
+    let _men = table.material().men();
+    order_in(table.parts(), part, side)
 }
 
 fn order_of(side: u8, order: &[u8], men: &[u8]) -> Order

@@ -2,7 +2,7 @@
 
 ghost use Rattle.std.specs.Prelude.{◌≡◌, ◌<◌, ◌≤ℤ◌, pos, neg_ℤ, IsNone, IsSome, IfSome, IfOk, IsSomeAnd, MatchResult, Ok, Err};
 ghost use Rattle.szg_file.specs.Opened.{opened_at, opened_table};
-ghost use Rattle.szg_place.specs.Opened.{IsValueIn, IsClassIn, IsNumberIn, failed_by, asked_in};
+ghost use Rattle.szg_place.specs.Opened.{IsSameTable, IsValueIn, IsClassIn, IsNumberIn, failed_by, asked_in};
 ghost use Rattle.szg_place.specs.Spots.{place_fault, spot_of};
 ghost use Rattle.szg_place.specs.Tables.{mapped_number, numbering_of};
 
@@ -29,7 +29,7 @@ pub fn index_of_opened<S: Source + Drop>(
     let material = Traits::of(opened.material());
     let flags = opened.flags();
     let (kind, parts) = (opened.kind(), opened.parts());
-    index_in(&material, kind, parts, flags.as_slice(), placement)
+    index_in(&material, kind, parts, flags.as_slice(), placement, None)
 }
 
 // A placement's spot, and its value.
@@ -41,9 +41,7 @@ fn value_of<S: Source + Drop>(
     ensures there { IfOk result (λ found. IsSome (opened_at opened.old found.0.part found.0.side)) }
     ensures asked { IsSomeAnd (opened_table opened.old) (λ t. opened.new.asked ≡ asked_in t placement.now opened.old.asked) }
     ensures failed { opened.new.failed ≡ failed_by result opened.old.failed }
-    ensures material { opened.new.material ≡ opened.old.material }
-    ensures kind { opened.new.kind ≡ opened.old.kind }
-    ensures content { opened.new.content ≡ opened.old.content }
+    ensures same { IsSameTable opened.old opened.new }
 {
     // The parts tell the table's kind.
     let _parts = opened.parts();

@@ -14,7 +14,7 @@ ghost use Rattle.szg_place.specs.Tables.{numbering_of};
 
 use crate::PlaceFault;
 use crate::index::squares_at;
-use crate::numbering::{groups_of, is_regular, order_in, stored_side};
+use crate::numbering::{groups_of, is_regular, order_at, stored_side};
 use arrayvec::ArrayVec;
 use szg_count::{Groups, Order};
 use szg_file::Table;
@@ -38,7 +38,7 @@ pub fn placement_of(table: &Table, part: u8, side: u8, index: u64) -> Result<Pla
     let _fill = table.fill();
     let material = table.material();
     let _men = material.men();
-    let order = order_in(table.parts(), part, side);
+    let order = order_at(table, part, side);
     let groups = groups_of(material, part, &order);
     if !is_regular(material, part, &order, &groups) {
         return Err(PlaceFault::Irregular);

@@ -80,8 +80,8 @@ impl PreparedTable {
             kind,
             parts,
             self.flags.as_slice(),
-            self.sides.as_slice(),
             placement,
+            self.sides.as_slice(),
         )
     }
 

@@ -10,5 +10,5 @@ pub number_of-requires-clause-part : goal.number_of-requires-clause-part
 number_of-requires-clause-part g c =
     let old = c.args.opened.now in let new = c.value_of.new.opened in let found = c.in-Ok.found in let e = c.in-Ok.ensures in
     let zero = one_side (opened_table old) c.args.placement.now found old.material old.kind c.parts-parts.ensures.table c.requires.kind e.value in
-    subst (λ (o : Option Contents). IsSome (option_and_then (λ t. subtable_at t found.0.part 0) o)) (sym (table_same new old e.material e.kind e.content))
+    subst (λ (o : Option Contents). IsSome (option_and_then (λ t. subtable_at t found.0.part 0) o)) (sym (table_same new old e.same.material e.same.kind e.same.content))
     (subst (λ (k : ℕ). IsSome (opened_at old found.0.part k)) zero e.there)

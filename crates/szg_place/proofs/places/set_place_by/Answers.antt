@@ -1,47 +1,20 @@
-use Rattle.std.proofs.Common.{◌≡◌, ◌<◌, ℕ, List, length, sym, ap, ◌∙◌, subst, Bool, arith}
-use Rattle.std.specs.Prelude.{slice_get, ◌==◌, ◌&&◌}
-use Rattle.szg_count.specs.Sets.{sets_of}
-use Rattle.szg_count.specs.Leads.{without}
-use Rattle.szg_count.specs.Groups.{has_other_pawns}
+use Rattle.std.proofs.Common.{ℕ, List, length, ap, ◌∙◌, subst}
+use Rattle.std.specs.Prelude.{slice_get}
 use Rattle.szg_count.specs.Laws.{IsIn}
-use Rattle.szg_place.specs.Spots.{ordered_sets}
-use Rattle.szg_place.proofs.FreeSquares.{base_of}
-use Rattle.szg_place.proofs.Leading.{ordered_lead, ordered_free}
+use Rattle.szg_place.proofs.Leading.{lists_lead, lists_free, inside_free}
 use Rattle.szg_place.proofs.places.set_place_by.Goals as goal
 
 pub lead_place_by-requires-clause-listed : goal.lead_place_by-requires-clause-listed
-lead_place_by-requires-clause-listed g c =
-    let z : length g.before ≡ 0 = let a = c.requires.1.1.0 in let b = c.if-number-eq0.true in omega (arith, a, b) in
-    subst (λ (l : List (List ℕ)). IsIn c.args.squares.now l) (ordered_lead c.args.material.now c.args.part g.before (length c.args.squares.now) z) c.requires.1.1.1.1.1.1
+lead_place_by-requires-clause-listed g c = subst (λ (l : List (List ℕ)). IsIn c.args.squares.now l) (lists_lead (length c.args.squares.now) c.requires.0 c.if-number-eq0.true) c.requires.1.1
 
 pub returns-then-number-eq0 : goal.returns-then-number-eq0
-returns-then-number-eq0 g c =
-    let z : length g.before ≡ 0 = let a = c.requires.1.1.0 in let b = c.if-number-eq0.true in omega (arith, a, b) in
-    ap (λ (l : List (List ℕ)). slice_get l c.lead_place_by.result) (ordered_lead c.args.material.now c.args.part g.before (length c.args.squares.now) z) ∙ c.lead_place_by.ensures
-
-some : (n : ℕ) → (n ≡ 0 → ⊥) → 0 < n
-some n h = omega (arith, h)
+returns-then-number-eq0 g c = ap (λ (l : List (List ℕ)). slice_get l c.lead_place_by.result) (lists_lead (length c.args.squares.now) c.requires.0 c.if-number-eq0.true) ∙ c.lead_place_by.ensures
 
 pub free_place-requires-clause-inside : goal.free_place-requires-clause-inside
-free_place-requires-clause-inside g c = λ x i.
-    subst (λ (b : Bool). IsIn x (base_of b)) (sym c.is_pawns.ensures) (c.requires.1.1.1.1.1.0 (some c.args.number c.if-number-eq0.false) x i)
+free_place-requires-clause-inside g c = inside_free c.requires.0 c.if-number-eq0.false c.is_pawns.ensures
 
 pub free_place-requires-clause-listed : goal.free_place-requires-clause-listed
-free_place-requires-clause-listed g c =
-    let size = length c.args.squares.now in
-    let e = c.is_pawns.ensures in let t = c.requires.1.0 in
-    let lists : ordered_sets c.args.material.now c.args.part g.before size ≡ sets_of size (without c.args.taken.now (base_of c.is_pawns.result)) =
-    ordered_free c.args.material.now c.args.part g.before c.args.number size c.requires.1.1.0 (some c.args.number c.if-number-eq0.false)
-    ∙ ap (λ (l : List ℕ). sets_of size (without l (base_of (has_other_pawns c.args.material.now && c.args.number == 1)))) (sym t)
-    ∙ ap (λ b. sets_of size (without c.args.taken.now (base_of b))) (sym e) in
-    subst (λ (l : List (List ℕ)). IsIn c.args.squares.now l) lists c.requires.1.1.1.1.1.1
+free_place-requires-clause-listed g c = subst (λ (l : List (List ℕ)). IsIn c.args.squares.now l) (lists_free (length c.args.squares.now) c.requires.0 c.if-number-eq0.false c.is_pawns.ensures) c.requires.1.1
 
 pub returns-else-number-eq0 : goal.returns-else-number-eq0
-returns-else-number-eq0 g c =
-    let size = length c.args.squares.now in
-    let e = c.is_pawns.ensures in let t = c.requires.1.0 in
-    let lists : ordered_sets c.args.material.now c.args.part g.before size ≡ sets_of size (without c.args.taken.now (base_of c.is_pawns.result)) =
-    ordered_free c.args.material.now c.args.part g.before c.args.number size c.requires.1.1.0 (some c.args.number c.if-number-eq0.false)
-    ∙ ap (λ (l : List ℕ). sets_of size (without l (base_of (has_other_pawns c.args.material.now && c.args.number == 1)))) (sym t)
-    ∙ ap (λ b. sets_of size (without c.args.taken.now (base_of b))) (sym e) in
-    ap (λ (l : List (List ℕ)). slice_get l c.free_place.result) lists ∙ c.free_place.ensures
+returns-else-number-eq0 g c = ap (λ (l : List (List ℕ)). slice_get l c.free_place.result) (lists_free (length c.args.squares.now) c.requires.0 c.if-number-eq0.false c.is_pawns.ensures) ∙ c.free_place.ensures
