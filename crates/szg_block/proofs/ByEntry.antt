@@ -21,7 +21,7 @@ use Rattle.szg_block.specs.declared.Sub.{Sub}
 use Rattle.szg_block.specs.declared.probing.Steps.{Steps}
 use Rattle.szg_block.proofs.Parts.{length-entries, good_entry-to}
 use Rattle.szg_block.proofs.Reading.{StandsIn, block_is, value_stands}
-use Rattle.szg_block.proofs.Values.{IsHolder-block_place, start-monotone}
+use Rattle.szg_block.proofs.Values.{block_place-IsHolder, start-monotone}
 use Rattle.szg_block.proofs.Walking.{one_block}
 use Rattle.szg_block.proofs.WordAt.{word_count-at, descent_count-at}
 
@@ -81,7 +81,7 @@ module _ (block_bits span_bits extra blocks : ℕ) (code : CanonicalCode) (dict 
         → IsFoundAt (layout_from block_bits span_bits extra blocks code dict sparse lengths) i j p ((entry.block - j) + (j - entry.block))
     unfolding move_count
     found_at j p there place inside =
-        let h = IsHolder-block_place (layout_from block_bits span_bits extra blocks code dict sparse lengths) size shaped index.0 i below in
+        let h = block_place-IsHolder (layout_from block_bits span_bits extra blocks code dict sparse lengths) size shaped index.0 i below in
         let n : length lengths ≡ blocks + extra = shaped.lengths in
         let b : (block_place (layout_from block_bits span_bits extra blocks code dict sparse lengths) i).list ≡ j =
         one_block lengths _ j _ p (omega (arith, h.block, n)) there (sym h.is_at ∙ place) h.item inside in
