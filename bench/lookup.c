@@ -11,7 +11,7 @@
 #include <string.h>
 #include <time.h>
 
-enum { LOOK_UPS = 1 << 20, ROUNDS = 15, LEAF = 0xFFF, MOST_LENGTHS = 32, MOST_VALUES = 256 };
+enum { LOOK_UPS = 1 << 20, ROUNDS = 15, PASSES = 8, LEAF = 0xFFF, MOST_LENGTHS = 32, MOST_VALUES = 256 };
 
 struct numbers {
     uint64_t size;
@@ -288,56 +288,60 @@ static void fail(const char *what)
     exit(1);
 }
 
-static struct times time_look_ups(const struct table *t, const uint32_t *indexes)
+/* work in plain C, over values at these indexes or over all blocks, and what it came to */
+typedef uint64_t plain_work(const struct table *t, const uint32_t *indexes);
+
+static uint64_t look_all_up(const struct table *t, const uint32_t *indexes)
 {
-    double plain = 1e9, whole = 1e9, begun = 1e9;
-    struct work work = {0, 0};
-    for (int round = 0; round < ROUNDS; round++) {
-        uint64_t mix = 0;
-        double t0 = now();
-        for (size_t k = 0; k < LOOK_UPS; k++)
-            mix = 31 * mix + look_up(t, indexes[k]);
-        double t1 = now();
-        uint64_t other = szg(t, work, indexes, LOOK_UPS);
-        double t2 = now();
-        szg(t, work, indexes, 0);
-        double t3 = now();
-        if (mix != other)
-            fail("the look-ups");
-        least(&plain, t1 - t0);
-        least(&whole, t2 - t1);
-        least(&begun, t3 - t2);
-    }
-    return (struct times){plain, whole - begun};
+    uint64_t mix = 0;
+    for (size_t k = 0; k < LOOK_UPS; k++)
+        mix = 31 * mix + look_up(t, indexes[k]);
+    return mix;
 }
 
-static struct times time_blocks(const struct table *t, bool lists)
+static uint64_t check_all(const struct table *t, const uint32_t *indexes)
 {
-    double plain = 1e9, whole = 1e9, begun = 1e9;
-    struct work work = {lists ? 0 : 8, lists ? 8 : 0}, none = {0, 0};
+    (void)indexes;
+    for (int k = 0; k < PASSES; k++)
+        if (!read_blocks(t, NULL))
+            fail("the checks");
+    return 0;
+}
+
+static uint64_t list_all(const struct table *t, const uint32_t *indexes)
+{
+    (void)indexes;
+    uint64_t mix = 0;
+    for (int k = 0; k < PASSES; k++) {
+        uint16_t *list = malloc(2 * t->n.size);
+        if (!read_blocks(t, list))
+            fail("the checks");
+        mix = 31 * (31 * mix + list[0]) + list[t->n.size - 1];
+        free(list);
+    }
+    return mix;
+}
+
+/* the least times of some work done `times` times, for one of them */
+static struct times time_work(plain_work *plain, struct work work, const struct table *t, const uint32_t *indexes,
+                              size_t count, int times)
+{
+    double in_c = 1e9, whole = 1e9, begun = 1e9;
     for (int round = 0; round < ROUNDS; round++) {
         double t0 = now();
-        uint64_t mix = 0;
-        for (int k = 0; k < 8; k++) {
-            uint16_t *list = lists ? malloc(2 * t->n.size) : NULL;
-            if (!read_blocks(t, list))
-                fail("the checks");
-            if (lists)
-                mix = 31 * (31 * mix + list[0]) + list[t->n.size - 1];
-            free(list);
-        }
+        uint64_t mix = plain(t, indexes);
         double t1 = now();
-        uint64_t other = szg(t, work, NULL, 0);
+        uint64_t other = szg(t, work, indexes, count);
         double t2 = now();
-        szg(t, none, NULL, 0);
+        szg(t, (struct work){0, 0}, indexes, 0);
         double t3 = now();
         if (mix != other)
             fail("the values");
-        least(&plain, t1 - t0);
+        least(&in_c, t1 - t0);
         least(&whole, t2 - t1);
         least(&begun, t3 - t2);
     }
-    return (struct times){plain / 8, (whole - begun) / 8};
+    return (struct times){in_c / times, (whole - begun) / times};
 }
 
 /* The calls of the C library, which is a shared one here: szg_bench brings the same runtime. */
@@ -371,9 +375,7 @@ static double time_source(const struct table *t, const uint32_t *indexes, const 
 {
     const uint8_t name[] = {'K', 'Q', 'R', 'v', 'K'};
     double whole = 1e9, begun = 1e9;
-    uint64_t mix = 0;
-    for (size_t k = 0; k < LOOK_UPS; k++)
-        mix = 31 * mix + look_up(t, indexes[k]);
+    uint64_t mix = look_all_up(t, indexes);
     for (int round = 0; round < ROUNDS; round++) {
         double t0 = now();
         uint64_t other = szg_bench_opened(name, sizeof name, file, length, indexes, LOOK_UPS);
@@ -404,11 +406,9 @@ static struct called time_calls(const struct table *t, const uint32_t *indexes, 
         szg.open_heads("KQRvK", 5, false, file, length, &heads, &answer) != SZG_DONE)
         fail("the files");
     for (int round = 0; round < ROUNDS; round++) {
-        uint64_t mix = 0, held = 0, placed = 0;
+        uint64_t mix = look_all_up(t, indexes), held = 0, placed = 0;
         uint16_t value = 0;
         szg_wanted wanted = {0, 0};
-        for (size_t k = 0; k < LOOK_UPS; k++)
-            mix = 31 * mix + look_up(t, indexes[k]);
         double t0 = now();
         for (size_t k = 0; k < LOOK_UPS; k++) {
             szg.get(&table, 0, 0, indexes[k], &value);
@@ -447,10 +447,11 @@ int main(int argc, char **argv)
         state = state * 6364136223846793005u + 1442695040888963407u;
         indexes[k] = (state >> 16) % t.n.size;
     }
-    struct times memory = time_look_ups(&t, indexes);
+    struct times memory = time_work(look_all_up, (struct work){0, 0}, &t, indexes, LOOK_UPS, 1);
     double source = time_source(&t, indexes, file, length);
     struct called library = time_calls(&t, indexes, library_at(argv[3]), file, length);
-    struct times check = time_blocks(&t, false), list = time_blocks(&t, true);
+    struct times check = time_work(check_all, (struct work){.checks = PASSES}, &t, NULL, 0, PASSES);
+    struct times list = time_work(list_all, (struct work){.lists = PASSES}, &t, NULL, 0, PASSES);
     printf("%" PRIu64 " values, %u blocks, %u symbols\n", t.n.size, t.n.blocks, t.n.symbols);
     printf("look-up:             C %6.1f ns, szg_block %6.1f ns, ratio %.2f\n", memory.plain / LOOK_UPS * 1e9, memory.szg / LOOK_UPS * 1e9, memory.szg / memory.plain);
     printf("by a source:         Opened  %6.1f ns, ratio %.2f\n", source / LOOK_UPS * 1e9, source / memory.plain);

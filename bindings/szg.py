@@ -19,7 +19,7 @@ import os
 from ctypes import POINTER, addressof, byref, c_bool, c_char, c_char_p, c_int8, c_int64, c_size_t, c_void_p
 from ctypes import c_uint8, c_uint16, c_uint32, c_uint64
 from pathlib import Path
-from typing import Any, Iterable, Mapping, NamedTuple, Optional, Protocol, Tuple, Union
+from typing import Any, Iterable, Mapping, NamedTuple, Optional, Protocol, Tuple, TypeVar, Union
 
 PAWN, KNIGHT, BISHOP, ROOK, QUEEN, KING = range(1, 7)
 WHITE, BLACK = True, False
@@ -173,18 +173,45 @@ def _judge(status: int) -> None:
         raise IndexError("the table has no such part, side, index or class")
 
 
-class Table:
+_Same = TypeVar("_Same", bound="_Opened")
+
+
+class _Opened:
+    """A table that the library holds until it is closed."""
+
+    _held: _Held
+    # the library's call that lets it go
+    _close_call: str
+
+    def close(self) -> None:
+        """Lets the table go. Later calls raise ValueError. A file's map goes with the last MappedTable that shares it."""
+        getattr(_library, self._close_call)(byref(self._held))
+
+    def __enter__(self: _Same) -> _Same:
+        return self
+
+    def __exit__(self, *_) -> None:
+        self.close()
+
+    def __del__(self) -> None:
+        if _library is not None:
+            self.close()
+
+
+class Table(_Opened):
     """A table in memory."""
+
+    _close_call = "szg_close"
 
     def __init__(self, name: str, kind: str, data: bytes):
         """The table of this name (as "KQvKR") and kind ("wdl" or "dtz") that the bytes begin with.
 
         Raises Refused where the bytes are no table's, ValueError for another name or kind, MemoryError."""
-        self._table = _Held()
+        self._held = _Held()
         if kind not in KINDS.values():
             raise ValueError(f"{kind!r} is neither 'wdl' nor 'dtz'")
         self.name, self.kind = name, kind
-        _open("szg_open", name, kind, data, len(data), self._table)
+        _open("szg_open", name, kind, data, len(data), self._held)
 
     @classmethod
     def open(cls, path: Union[str, Path]) -> "Table":
@@ -195,8 +222,8 @@ class Table:
     def share(self) -> "Table":
         """Another Table for the same table in memory, as for another thread. Each is closed by itself."""
         other = Table.__new__(Table)
-        other._table, other.name, other.kind = _Held(), self.name, self.kind
-        _judge(_library.szg_share(byref(self._table), byref(other._table)))
+        other._held, other.name, other.kind = _Held(), self.name, self.kind
+        _judge(_library.szg_share(byref(self._held), byref(other._held)))
         return other
 
     def size(self, part: int = 0, side: int = 0) -> int:
@@ -257,20 +284,6 @@ class Table:
             raise IndexError(class_of_position)
         return self._probe(board, turn, class_of_position)
 
-    def close(self) -> None:
-        """Lets the table go. Later calls raise ValueError."""
-        _library.szg_close(byref(self._table))
-
-    def __enter__(self) -> "Table":
-        return self
-
-    def __exit__(self, *_) -> None:
-        self.close()
-
-    def __del__(self) -> None:
-        if _library is not None:
-            _library.szg_close(byref(self._table))
-
     def _probe(self, board, turn: Optional[bool], class_of_position: int) -> int:
         outcome = c_int64()
         self._ask_men(_library.szg_probe, board, turn, class_of_position, byref(outcome))
@@ -282,13 +295,13 @@ class Table:
             turn = board.turn if hasattr(board, "turn") else None
         if turn is None:
             raise TypeError("men that are no board want `turn`, the side that moves")
-        _judge(call(byref(self._table), men, len(men), 0 if turn else 1, *words))
+        _judge(call(byref(self._held), men, len(men), 0 if turn else 1, *words))
 
     def _ask(self, call, part: int, *words) -> None:
         # a number that is no byte would be cut to one
         if not 0 <= part < 256:
             raise IndexError(part)
-        _judge(call(byref(self._table), part, *words))
+        _judge(call(byref(self._held), part, *words))
 
     def _ask_side(self, call, part: int, side: int, *words) -> None:
         if not 0 <= side < 256:
@@ -296,31 +309,33 @@ class Table:
         self._ask(call, part, side, *words)
 
 
-class MappedTable:
+class MappedTable(_Opened):
     """A table whose file is mapped. Its heads are in memory, and a look-up reads one block of the file.
 
     The file is to stay as it is. Where it is changed, a value may be another or raise Changed; where it is cut, the
     system may end the program."""
+
+    _close_call = "szg_close_heads"
 
     def __init__(self, path: Union[str, Path]):
         """The table of a file whose name tells the material and the kind, as KQvKR.rtbw. All of it is read and checked
         once.
 
         Raises Refused where the file is no table's, ValueError for another name or an empty file, MemoryError."""
-        self._heads, path = _Held(), Path(path)
+        self._held, path = _Held(), Path(path)
         self.name, self.kind = path.stem, _kind_of(path)
         with path.open("rb") as file:
             # a map of one's own, which ctypes wants; nothing writes it
             self._map = mmap.mmap(file.fileno(), 0, access=mmap.ACCESS_COPY)
         self._bytes = (c_char * len(self._map)).from_buffer(self._map)
-        _open("szg_open_heads", self.name, self.kind, self._bytes, len(self._bytes), self._heads)
+        _open("szg_open_heads", self.name, self.kind, self._bytes, len(self._bytes), self._held)
 
     def share(self) -> "MappedTable":
         """Another MappedTable of the same table, as for another thread. Each is closed by itself."""
         other = MappedTable.__new__(MappedTable)
-        other._heads, other.name, other.kind = _Held(), self.name, self.kind
+        other._held, other.name, other.kind = _Held(), self.name, self.kind
         other._map, other._bytes = self._map, self._bytes
-        _judge(_library.szg_share_heads(byref(self._heads), byref(other._heads)))
+        _judge(_library.szg_share_heads(byref(self._held), byref(other._held)))
         return other
 
     def get(self, index: int, part: int = 0, side: int = 0) -> int:
@@ -328,21 +343,7 @@ class MappedTable:
         if not (0 <= index < 1 << 64 and 0 <= part < 256 and 0 <= side < 256):
             raise IndexError(index)
         wanted, value = _Wanted(), c_uint16()
-        _judge(_library.szg_find(byref(self._heads), part, side, index, byref(wanted)))
+        _judge(_library.szg_find(byref(self._held), part, side, index, byref(wanted)))
         place = addressof(self._bytes) + wanted.place
-        _judge(_library.szg_value(byref(self._heads), part, side, index, place, wanted.count, byref(value)))
+        _judge(_library.szg_value(byref(self._held), part, side, index, place, wanted.count, byref(value)))
         return value.value
-
-    def close(self) -> None:
-        """Lets the heads go. Later calls raise ValueError. The map goes with the last MappedTable that shares it."""
-        _library.szg_close_heads(byref(self._heads))
-
-    def __enter__(self) -> "MappedTable":
-        return self
-
-    def __exit__(self, *_) -> None:
-        self.close()
-
-    def __del__(self) -> None:
-        if _library is not None:
-            _library.szg_close_heads(byref(self._heads))

@@ -1,5 +1,6 @@
 -- A look-up from the sparse index: its entry, the block that it leads to, and its steps.
-use Rattle.std.proofs.Common.{ℕ, suc, ◌≡◌, ◌+◌, ◌-◌, ◌*◌, ◌/◌, ◌^◌, ◌<◌, ◌≤◌, List, Some, length, ap, sym, ◌∙◌, subst, arith, get_or}
+use Rattle.std.proofs.Common.{ℕ, suc, ◌≡◌, refl, ◌+◌, ◌-◌, ◌*◌, ◌/◌, ◌^◌, ◌<◌, ◌≤◌, List, Some, length, ap, sym, ◌∙◌, subst, arith, get_or}
+use Rattle.std.specs.Prelude.{IfSome}
 use Rattle.std.specs.List.{slice_index}
 use Rattle.std.proofs.Math.Nat.{div-mul-le_self, le-div_iff_mul-le}
 use Rattle.std.proofs.lemmas.Nat.{pow_pos}
@@ -11,15 +12,16 @@ use Rattle.szg_block.specs.Layout.{Layout, SparseEntry}
 use Rattle.szg_block.specs.Block.{start, block_at}
 use Rattle.szg_block.specs.Lending.{packed_blocks}
 use Rattle.szg_block.specs.Parts.{IsGoodAt}
-use Rattle.szg_block.specs.Sound.{entry_count, IsShapedLayout, IsSoundLayout}
+use Rattle.szg_block.specs.Sound.{entry_count, HasGoodEntry, HasTotal, IsShapedLayout, IsSoundLayout}
 use Rattle.szg_block.specs.Spelled.{word_at, pairs_above}
-use Rattle.szg_block.specs.Steps.{block_place, entry_block, move_count, word_count, descent_count}
-use Rattle.szg_block.specs.Subtable.{steps_from}
+use Rattle.szg_block.specs.Steps.{block_place, entry_block, move_count}
+use Rattle.szg_block.specs.Subtable.{layout_from, layout_of, IsShapedHead, IsSoundOver, steps_from}
 use Rattle.szg_block.specs.declared.Entry.{Entry}
+use Rattle.szg_block.specs.declared.Sub.{Sub}
 use Rattle.szg_block.specs.declared.probing.Steps.{Steps}
-use Rattle.szg_block.proofs.Parts.{layout_from, length-entries, good_entry-to}
-use Rattle.szg_block.proofs.Reading.{block_is, block_of_value}
-use Rattle.szg_block.proofs.Values.{IsHolder, IsHolder-block_place}
+use Rattle.szg_block.proofs.Parts.{length-entries, good_entry-to}
+use Rattle.szg_block.proofs.Reading.{StandsIn, block_is, value_stands}
+use Rattle.szg_block.proofs.Values.{block_place-IsHolder, start-monotone}
 use Rattle.szg_block.proofs.Walking.{one_block}
 use Rattle.szg_block.proofs.WordAt.{word_count-at, descent_count-at}
 
@@ -34,10 +36,16 @@ span_there span_bits size i h =
     let m : suc (i / w) * w ≤ size + w - 1 = omega arith in
     (le-div_iff_mul-le p).1 m
 
-module _ (block_bits span_bits extra blocks : ℕ) (code : CanonicalCode) (dict : List (List ℕ)) (sparse : List Entry) (lengths : List ℕ) (size count : ℕ) (bytes : ℕ → List ℕ)
-    (shaped : IsShapedLayout (layout_from block_bits span_bits extra blocks code dict sparse lengths) size) (accepted : IsCode code) (all : count ≡ blocks)
-    (whole : (k : ℕ) → k < blocks → length (bytes k) ≡ 2 ^ block_bits)
-    (sound : IsSoundLayout (layout_from block_bits span_bits extra blocks code dict sparse lengths) (packed_blocks bytes count) size) (i : ℕ) (below : i < size) where
+-- what a walk from the sparse entry finds of value i: its block, its place there, and the moves to that block
+pub record IsFoundAt (layout : Layout) (i j p m : ℕ) : Type 0 where
+  pub there : j < layout.blocks
+  pub block : j ≡ (block_place layout i).list
+  pub item : p ≡ (block_place layout i).item
+  pub moves : m ≡ move_count layout i
+
+module _ (block_bits span_bits extra blocks : ℕ) (code : CanonicalCode) (dict : List (List ℕ)) (sparse : List Entry) (lengths : List ℕ) (size : ℕ)
+    (shaped : IsShapedLayout (layout_from block_bits span_bits extra blocks code dict sparse lengths) size) (index : HasTotal (layout_from block_bits span_bits extra blocks code dict sparse lengths) size × ((j : ℕ) → HasGoodEntry (layout_from block_bits span_bits extra blocks code dict sparse lengths) j))
+    (i : ℕ) (below : i < size) where
   layout : Layout
   layout = layout_from block_bits span_bits extra blocks code dict sparse lengths
 
@@ -48,54 +56,63 @@ module _ (block_bits span_bits extra blocks : ℕ) (code : CanonicalCode) (dict 
       let e = length-entries sparse in
       omega arith
 
-  pub entry_good : (d entry : Entry) → entry ≡ get_or sparse (i / 2 ^ span_bits) d → IsGoodAt lengths span_bits (i / 2 ^ span_bits) entry
-  entry_good d entry e =
-      let g = good_entry-to block_bits span_bits extra blocks code dict sparse lengths shaped.lengths (i / 2 ^ span_bits) (sound.entries (i / 2 ^ span_bits)) in
-      let g' = rw (slice_get-get_or sparse (i / 2 ^ span_bits) d entry_there) at g in
-      subst (IsGoodAt lengths span_bits (i / 2 ^ span_bits)) (sym e) g'
+  pub value_below : i < start lengths (length lengths)
+  value_below =
+      let n : length lengths ≡ blocks + extra = shaped.lengths in
+      let t : size ≤ start lengths blocks = index.0 in
+      let m : start lengths blocks ≤ start lengths (length lengths) = start-monotone lengths blocks (length lengths) (omega arith) (omega arith) in
+      omega arith
 
-  entry_block_is : (d entry : Entry) → entry ≡ get_or sparse (i / 2 ^ span_bits) d → entry_block (layout_from block_bits span_bits extra blocks code dict sparse lengths) i ≡ entry.block
-  unfolding entry_block
-  entry_block_is d entry e =
-      let m = slice_get-map (λ (entry : Entry). let e : SparseEntry = record { block = entry.block; offset = entry.offset } in e) sparse (i / 2 ^ span_bits) in
-      let n = slice_get-get_or sparse (i / 2 ^ span_bits) d entry_there in
-      rw (m, n, ← e)
+  module _ (d entry : Entry) (e : entry ≡ get_or sparse (i / 2 ^ span_bits) d) where
+    pub entry_good : IsGoodAt lengths span_bits (i / 2 ^ span_bits) entry
+    entry_good =
+        let g = good_entry-to block_bits span_bits extra blocks code dict sparse lengths shaped.lengths (i / 2 ^ span_bits) (index.1 (i / 2 ^ span_bits)) in
+        let g' = rw (slice_get-get_or sparse (i / 2 ^ span_bits) d entry_there) at g in
+        subst (IsGoodAt lengths span_bits (i / 2 ^ span_bits)) (sym e) g'
 
-  module _ (j p : ℕ) (there : j < length lengths) (place : i ≡ start lengths j + p) (inside : p < slice_index lengths j + 1) where
-    holder : IsHolder (layout_from block_bits span_bits extra blocks code dict sparse lengths) i (block_place (layout_from block_bits span_bits extra blocks code dict sparse lengths) i)
-    holder = IsHolder-block_place (layout_from block_bits span_bits extra blocks code dict sparse lengths) (packed_blocks bytes count) size accepted shaped sound i below
+    entry_block_is : entry_block (layout_from block_bits span_bits extra blocks code dict sparse lengths) i ≡ entry.block
+    unfolding entry_block
+    entry_block_is =
+        let m = slice_get-map (λ (entry : Entry). let e : SparseEntry = record { block = entry.block; offset = entry.offset } in e) sparse (i / 2 ^ span_bits) in
+        let n = slice_get-get_or sparse (i / 2 ^ span_bits) d entry_there in
+        rw (m, n, ← e)
 
-    pub block_is_holder : (block_place (layout_from block_bits span_bits extra blocks code dict sparse lengths) i).list ≡ j
-    block_is_holder =
-        let h = holder in
-        let few = shaped.lengths in
-        let l = h.block in
-        let a = h.is_at in
-        one_block lengths (block_place (layout_from block_bits span_bits extra blocks code dict sparse lengths) i).list j (block_place (layout_from block_bits span_bits extra blocks code dict sparse lengths) i).item p (omega arith) there (omega arith) h.item inside
+    pub found_at : (j p : ℕ) → j < length lengths → i ≡ start lengths j + p → p < slice_index lengths j + 1
+        → IsFoundAt (layout_from block_bits span_bits extra blocks code dict sparse lengths) i j p ((entry.block - j) + (j - entry.block))
+    unfolding move_count
+    found_at j p there place inside =
+        let h = block_place-IsHolder (layout_from block_bits span_bits extra blocks code dict sparse lengths) size shaped index.0 i below in
+        let n : length lengths ≡ blocks + extra = shaped.lengths in
+        let b : (block_place (layout_from block_bits span_bits extra blocks code dict sparse lengths) i).list ≡ j =
+        one_block lengths _ j _ p (omega (arith, h.block, n)) there (sym h.is_at ∙ place) h.item inside in
+        let s = ap (λ k. start lengths k) b in
+        record {
+          there = omega (arith, h.block, b);
+          block = sym b;
+          item = omega (arith, h.is_at, place, s);
+          moves = rw (entry_block_is, b) refl;
+        }
 
-    pub item_is : (block_place (layout_from block_bits span_bits extra blocks code dict sparse lengths) i).item ≡ p
-    item_is =
-        let h = holder in
-        let a = h.is_at in
-        let e : start lengths (block_place (layout_from block_bits span_bits extra blocks code dict sparse lengths) i).list ≡ start lengths j = ap (λ k. start lengths k) block_is_holder in
-        omega arith
+-- the steps to value i, from what a walk finds and what the words of its block tell
+module _ (layout : Layout) (size count : ℕ) (bytes : ℕ → List ℕ) (shaped : IsShapedLayout layout size) (accepted : IsCode layout.code) (all : count ≡ layout.blocks)
+    (whole : (k : ℕ) → k < layout.blocks → length (bytes k) ≡ 2 ^ layout.block_bits) (sound : IsSoundLayout layout (packed_blocks bytes count) size) where
+  pub steps_are : (i j p moves words pairs : ℕ) → j < layout.blocks → j ≡ (block_place layout i).list → p ≡ (block_place layout i).item → moves ≡ move_count layout i
+      → words ≡ (word_at layout.code layout.entries (bits (bytes j)) p).list + 1 → pairs ≡ pairs_above layout.code layout.entries (bits (bytes j)) p
+      → (let s : Steps = record { moves = moves; words = words; descents = pairs; fetches = 1 } in s) ≡ steps_from (Some layout) (packed_blocks bytes count) i
+  steps_are i j p moves words pairs there block item em ew ep =
+      let b : block_at layout.block_bits (packed_blocks bytes count) j ≡ bytes j = block_is layout size count bytes shaped accepted all whole sound j there in
+      rw (← block, ← item, b, word_count-at layout (bytes j) p, descent_count-at layout (bytes j) p, em, ew, ep) refl
 
-    pub steps_are : (d entry : Entry) → entry ≡ get_or sparse (i / 2 ^ span_bits) d → (moves words pairs : ℕ) → moves ≡ (entry.block - j) + (j - entry.block)
-        → words ≡ (word_at code dict (bits (bytes j)) p).list + 1 → pairs ≡ pairs_above code dict (bits (bytes j)) p
-        → (let s : Steps = record { moves = moves; words = words; descents = pairs; fetches = 1 } in s) ≡ steps_from (Some (layout_from block_bits span_bits extra blocks code dict sparse lengths)) (packed_blocks bytes count) i
-    steps_are d entry e moves words pairs em ew ep =
-        let layout : Layout = layout_from block_bits span_bits extra blocks code dict sparse lengths in
-        let few : length lengths ≡ blocks + extra = shaped.lengths in
-        let jb : j < blocks = block_of_value layout size count bytes shaped accepted all whole sound i j p below there place in
-        let b : block_at block_bits (packed_blocks bytes count) j ≡ bytes j = block_is layout size count bytes shaped accepted all whole sound j jb in
-        let m : move_count layout i ≡ (entry.block - j) + (j - entry.block) =
-        unfold move_count in (ap (λ k. (k - (block_place layout i).list) + ((block_place layout i).list - k)) (entry_block_is d entry e) ∙ ap (λ k. (entry.block - k) + (k - entry.block)) block_is_holder) in
-        let w : word_count layout (block_at block_bits (packed_blocks bytes count) (block_place layout i).list) (block_place layout i).item ≡ (word_at code dict (bits (bytes j)) p).list + 1 =
-        ap (λ k. word_count layout (block_at block_bits (packed_blocks bytes count) k) (block_place layout i).item) block_is_holder ∙ ap (λ k. word_count layout (block_at block_bits (packed_blocks bytes count) j) k) item_is
-        ∙ ap (λ u. word_count layout u p) b ∙ word_count-at layout (bytes j) p in
-        let q : descent_count layout (block_at block_bits (packed_blocks bytes count) (block_place layout i).list) (block_place layout i).item ≡ pairs_above code dict (bits (bytes j)) p =
-        ap (λ k. descent_count layout (block_at block_bits (packed_blocks bytes count) k) (block_place layout i).item) block_is_holder ∙ ap (λ k. descent_count layout (block_at block_bits (packed_blocks bytes count) j) k) item_is
-        ∙ ap (λ u. descent_count layout u p) b ∙ descent_count-at layout (bytes j) p in
-        let f : ℕ → ℕ → ℕ → Steps = λ (x : ℕ) (y : ℕ) (z : ℕ). record { moves = x; words = y; descents = z; fetches = 1 } in
-        ap (λ x. f x words pairs) (em ∙ sym m) ∙ ap (λ y. f (move_count layout i) y pairs) (ew ∙ sym w)
-        ∙ ap (λ z. f (move_count layout i) (word_count layout (block_at block_bits (packed_blocks bytes count) (block_place layout i).list) (block_place layout i).item) z) (ep ∙ sym q)
+-- the same of a subtable that isn't constant
+module _ (sub : Sub) (layout : Layout) (is : layout_of sub ≡ Some layout) (size count : ℕ) (bytes : ℕ → List ℕ) (head : IsShapedHead sub size) (accepted : IsCode layout.code)
+    (all : IfSome (layout_of sub) (λ layout. count ≡ layout.blocks)) (whole : IfSome (layout_of sub) (λ layout. (k : ℕ) → k < layout.blocks → length (bytes k) ≡ 2 ^ layout.block_bits))
+    (sound : IsSoundOver sub (packed_blocks bytes count) size) (i : ℕ) (below : i < size) (j p : ℕ)
+    (block : IfSome (layout_of sub) (λ layout. j ≡ (block_place layout i).list)) (item : IfSome (layout_of sub) (λ layout. p ≡ (block_place layout i).item)) where
+  pub stands : StandsIn layout (packed_blocks bytes count) size i j p (bytes j)
+  stands = value_stands layout size count bytes (rw is at head).1 accepted (rw is at all) (rw is at whole) (rw is at sound) i j p below (rw is at block) (rw is at item)
+
+  pub steps : (moves words pairs : ℕ) → IfSome (layout_of sub) (λ layout. moves ≡ move_count layout i)
+      → words ≡ (word_at layout.code layout.entries (bits (bytes j)) p).list + 1 → pairs ≡ pairs_above layout.code layout.entries (bits (bytes j)) p
+      → (let s : Steps = record { moves = moves; words = words; descents = pairs; fetches = 1 } in s) ≡ steps_from (Some layout) (packed_blocks bytes count) i
+  steps moves words pairs em ew ep =
+      steps_are layout size count bytes (rw is at head).1 accepted (rw is at all) (rw is at whole) (rw is at sound) i j p moves words pairs stands.there (rw is at block) (rw is at item) (rw is at em) ew ep

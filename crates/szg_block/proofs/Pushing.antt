@@ -28,18 +28,16 @@ module _ (entries : List (List ℕ)) (accepted : IsDictionary entries) (s : ℕ)
       take-append_both items (expansion_of entries (left_of entry)) (expansion_of entries (right_of entry)) count n (omega (arith, is, more))
       ∙ ap (λ u. items ++ take count u) (sym p.joined)
 
-  pub left_is_there : is_leaf entry ≡ false → left_of entry < length entries
-  left_is_there paired = (pair_at entries accepted s entry there at paired).left_there
-
-  pub right_is_there : is_leaf entry ≡ false → right_of entry < length entries
-  right_is_there paired = (pair_at entries accepted s entry there at paired).right_there
-
-  pub left_is_shorter : is_leaf entry ≡ false → length (expansion_of entries (left_of entry)) < length (expansion_of entries s)
-  left_is_shorter paired =
+  -- the left symbol of a pair, by the number that the code reads
+  pub left_falls : is_leaf entry ≡ false → (left : ℕ) → left ≡ left_of entry → (left < length entries) × (length (expansion_of entries left) < length (expansion_of entries s))
+  left_falls paired left is =
       let p : IsPairAt entries s entry = pair_at entries accepted s entry there at paired in
       let whole = ap length p.joined in
       let n = length-append (expansion_of entries (left_of entry)) (expansion_of entries (right_of entry)) in
-      omega (arith, whole, n, p.right_some)
+      rw is (p.left_there, omega (arith, whole, n, p.right_some))
+
+  pub right_is_there : is_leaf entry ≡ false → right_of entry < length entries
+  right_is_there paired = (pair_at entries accepted s entry there at paired).right_there
 
   pub lengths_joined : is_leaf entry ≡ false → length (expansion_of entries s) ≡ length (expansion_of entries (left_of entry)) + length (expansion_of entries (right_of entry))
   lengths_joined paired =

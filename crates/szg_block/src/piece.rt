@@ -7,38 +7,8 @@ ghost use Rattle.szg_block.specs.Steps.{block_place};
 ghost use Rattle.szg_block.specs.Subtable.{layout_of};
 
 use crate::Sub;
-use crate::lengths::{BlockPlace, find_by_entry};
+use crate::probing::place_of_value;
 use crate::words::{find_in_block, spells};
-
-/// Where value `i` of a sound subtable of `size` values stands: its block, and its place there. A constant one has no blocks.
-fn place_of_value(sub: &Sub, size: u64, i: u64) -> Option<BlockPlace>
-    requires sound { IsSound sub.now size }
-    requires below { i < size }
-    ensures none { IfNone (layout_of sub.now) (result ≡ None) }
-    ensures there { IfSome (layout_of sub.now) (λ layout. IsSomeAnd result (λ place. place.block < layout.blocks)) }
-    ensures block { IfSome (layout_of sub.now) (λ layout. IsSomeAnd result (λ place. place.block ≡ (block_place layout i).list)) }
-    ensures item { IfSome (layout_of sub.now) (λ layout. IsSomeAnd result (λ place. place.item ≡ (block_place layout i).item)) }
-    ensures short { IfSome result (λ place. place.item < 65536) }
-    ensures small { IfSome result (λ place. place.block < 2 ^ 32) }
-{
-    let Sub::Pairs {
-        span_bits,
-        extra,
-        blocks,
-        code,
-        dict,
-        sparse,
-        lengths,
-        ..
-    } = sub
-    else {
-        return None;
-    };
-    prove_eq!(code.symbols(), dict.symbols());
-    prove_eq!(lengths.len(), *blocks as usize + usize::from(*extra));
-    let entry = sparse[(i >> *span_bits) as usize];
-    Some(find_by_entry(lengths, entry, *span_bits, i))
-}
 
 /// The number of the block that has value `i` of a sound subtable of `size` values. None in a constant subtable.
 ///
@@ -51,7 +21,7 @@ pub fn find_block(sub: &Sub, size: u64, i: u64) -> Option<u32>
     ensures there { IfSome (layout_of sub.now) (λ layout. IfSome result (λ n. n < layout.blocks)) }
 {
     let place = place_of_value(sub, size, i)?;
-    Some(place.block as u32)
+    Some(place.block)
 }
 
 /// Value `i` of a sound subtable of `size` values, out of the bytes of the block that has it.

@@ -6,6 +6,5 @@ pub mod TableKind
 pub mod HeldValues
 pub mod HeadsTold
 pub mod ByPlace
-pub mod Saying
 pub mod Sizes
 pub mod Values

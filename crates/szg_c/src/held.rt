@@ -109,9 +109,10 @@ pub extern "C" fn szg_get(
 }
 
 /// The number of positions of a part's side, where there is one.
-fn size_in(table: &Table, part: u8, side: u8, size: &mut u64) -> u32
+pub fn size_in(table: &Table, part: u8, side: u8, size: &mut u64) -> u32
     ensures done { (result ≡ 0) → IsSomeAnd (subtable_at table.now.contents part side) (λ found. size.new ≡ found.0.size) }
     ensures there { IfSome (subtable_at table.now.contents part side) (λ found. result ≡ 0) }
+    ensures missing { (result ≡ 4) → IsNone (subtable_at table.now.contents part side) }
     ensures statuses { (result ≡ 0) ⊎ (result ≡ 4) }
     ensures stays { (result ≡ 0 → ⊥) → size.new ≡ size.old }
 {
@@ -149,7 +150,7 @@ pub extern "C" fn szg_positions(
 }
 
 /// All values of a part's side, where the list has room for just them.
-fn values_in(alloc: Global, table: &Table, part: u8, side: u8, values: &mut [u16]) -> u32
+pub fn values_in(alloc: Global, table: &Table, part: u8, side: u8, values: &mut [u16]) -> u32
     ensures done { (result ≡ 0) → IsSomeAnd (subtable_at table.now.contents part side) (λ found. values.new ≡ values_of table.now.contents.kind found) }
     ensures there { IfSome (subtable_at table.now.contents part side) (λ found. length values.old ≡ found.0.size → (result ≡ 0) ⊎ (result ≡ 3)) }
     ensures missing { IsNone (subtable_at table.now.contents part side) → result ≡ 4 }

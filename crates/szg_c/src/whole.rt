@@ -5,8 +5,9 @@ ghost use Rattle.szg_file.specs.Values.{subtable_at, values_of};
 ghost use Rattle.szg_c.specs.Told.{Says};
 ghost use Rattle.szg_c.specs.Lists.{AreValuesAt, HasIndexFrom};
 
+use crate::held::{size_in, values_in};
 use crate::opening::{Answer, open};
-use crate::status::{DONE, MEMORY, RANGE};
+use crate::status::{DONE, RANGE};
 use std::alloc::Global;
 use szg_file::{Table, file_len};
 
@@ -46,13 +47,7 @@ pub extern "C" fn szg_size(
     ensures stays { (result ≡ 0 → ⊥) → size.new ≡ size.old }
 {
     match open(alloc, name, dtz, bytes, answer) {
-        Ok(table) => {
-            let Some(count) = table.size(part, side) else {
-                return RANGE;
-            };
-            *size = count;
-            DONE
-        }
+        Ok(table) => size_in(&table, part, side, size),
         Err(status) => status,
     }
 }
@@ -73,21 +68,7 @@ pub extern "C" fn szg_values(
     ensures stays { (result ≡ 0 → ⊥) → values.new ≡ values.old }
 {
     match open(alloc, name, dtz, bytes, answer) {
-        Ok(table) => {
-            // Its fill tells that this is a table, so that it has as many values as positions.
-            let _fill = table.fill();
-            let Some(size) = table.size(part, side) else {
-                return RANGE;
-            };
-            if values.len() as u64 != size {
-                return RANGE;
-            }
-            let Ok(list) = table.values(alloc, part, side) else {
-                return MEMORY;
-            };
-            values.copy_from_slice(&list);
-            DONE
-        }
+        Ok(table) => values_in(alloc, &table, part, side, values),
         Err(status) => status,
     }
 }

@@ -12,13 +12,13 @@ ghost use Rattle.szg_tool.specs.declared.request.Task.{Task};
 
 use crate::building::build_told;
 use crate::description::description;
-use crate::lookups::{tell_counted, tell_value, tell_values};
+use crate::lookups::{counted_answer, get_answer, tell_values};
 use crate::outcome::Outcome;
-use crate::placements::{tell_outcome, tell_placement, tell_spot};
+use crate::placements::{outcome_answer, placement_answer, spot_answer};
 use crate::refusal::{Refusal, Stop};
 use crate::refusal_lines::refusal_line;
 use crate::request::{Action, Form, Request, Task, parse};
-use crate::saying::say;
+use crate::saying::{say, say_line};
 use clap::Error;
 use clap::error::ErrorKind;
 use std::alloc::Global;
@@ -172,17 +172,26 @@ fn tell<W: Output>(
             let text = description(alloc, table)?;
             say(writer, text.as_bytes())
         }
-        Action::Get(index) => tell_value(alloc, table, request, *index, writer),
-        Action::GetCounted(index) => tell_counted(alloc, table, request, *index, writer),
+        Action::Get(index) => say_line(writer, get_answer(alloc, table, request, *index)),
+        Action::GetCounted(index) => say_line(
+            writer,
+            counted_answer(alloc, table, request, *index),
+        ),
         Action::Values => tell_values(alloc, table, request, writer),
         Action::Copy => match write(table, writer) {
             Ok(()) => Ok(()),
             Err(_) => Err(Stop::Device),
         },
         Action::Dump(form) => tell_dump(alloc, table, *form, writer),
-        Action::Index(placement) => tell_spot(alloc, table, placement, writer),
-        Action::Probe(placement, class) => tell_outcome(alloc, table, placement, *class, writer),
-        Action::Placement(index) => tell_placement(alloc, table, request, *index, writer),
+        Action::Index(placement) => say_line(writer, spot_answer(alloc, table, placement)),
+        Action::Probe(placement, class) => say_line(
+            writer,
+            outcome_answer(alloc, table, placement, *class),
+        ),
+        Action::Placement(index) => say_line(
+            writer,
+            placement_answer(alloc, table, request, *index),
+        ),
         Action::Unplaced(refusal) => Err(Stop::Refused(*refusal)),
     }
 }

@@ -37,40 +37,36 @@ pub fn check_index(table: &Table, request: &Request, index: u64) -> Result<(), R
     }
 }
 
-/// Writes the value at an index.
-pub fn tell_value<W: Output>(
+/// The line of the value at an index.
+pub fn get_answer(
     alloc: Global,
     table: &Table,
     request: &Request,
     index: u64,
-    writer: &mut W,
-) -> Result<(), Stop>
-    ensures told { OnOk result ((text : List ℕ) × IsAnswer (Action.Get index) request.now.part request.now.side table.now text × Gives W.Output writer.old writer.new text 0) }
-    ensures device { IsErrOf result Stop.Device → HasFailed (W.failures writer.old) (W.failures writer.new) (W.interrupted writer.new) }
-    ensures refused { (refusal : Refusal) → IsErrOf result (Stop.Refused refusal) → (writer.new ≡ writer.old) × IsRefused (Action.Get index) request.now.part request.now.side table.now.contents refusal }
+) -> Result<String, Stop>
+    ensures told { IfOk result (λ line. IsAnswer (Action.Get index) request.now.part request.now.side table.now (string_bytes line)) }
+    ensures refused { (refusal : Refusal) → IsErrOf result (Stop.Refused refusal) → IsRefused (Action.Get index) request.now.part request.now.side table.now.contents refusal }
+    ensures device { IsErrOf result Stop.Device → ⊥ }
 {
     check_index(table, request, index)?;
     let value = table.get(request.part, request.side, index);
-    let text = format!(in alloc; "{value}\n")?;
-    say(writer, text.as_bytes())
+    Ok(format!(in alloc; "{value}\n")?)
 }
 
-/// Writes the value at an index, and the steps by which it is found.
-pub fn tell_counted<W: Output>(
+/// The line of the value at an index, and of the steps by which it is found.
+pub fn counted_answer(
     alloc: Global,
     table: &Table,
     request: &Request,
     index: u64,
-    writer: &mut W,
-) -> Result<(), Stop>
-    ensures told { OnOk result ((text : List ℕ) × IsAnswer (Action.GetCounted index) request.now.part request.now.side table.now text × Gives W.Output writer.old writer.new text 0) }
-    ensures device { IsErrOf result Stop.Device → HasFailed (W.failures writer.old) (W.failures writer.new) (W.interrupted writer.new) }
-    ensures refused { (refusal : Refusal) → IsErrOf result (Stop.Refused refusal) → (writer.new ≡ writer.old) × IsRefused (Action.GetCounted index) request.now.part request.now.side table.now.contents refusal }
+) -> Result<String, Stop>
+    ensures told { IfOk result (λ line. IsAnswer (Action.GetCounted index) request.now.part request.now.side table.now (string_bytes line)) }
+    ensures refused { (refusal : Refusal) → IsErrOf result (Stop.Refused refusal) → IsRefused (Action.GetCounted index) request.now.part request.now.side table.now.contents refusal }
+    ensures device { IsErrOf result Stop.Device → ⊥ }
 {
     check_index(table, request, index)?;
     let (value, steps) = table.get_counted(request.part, request.side, index);
-    let text = counted_line(alloc, value, steps)?;
-    say(writer, text.as_bytes())
+    Ok(counted_line(alloc, value, steps)?)
 }
 
 /// A line of a value and the steps to it.

@@ -2,7 +2,7 @@ use Rattle.std.proofs.Common.{ℕ, true, false, ◌≡◌, ◌-◌, ◌<◌, Lis
 use Rattle.std.specs.Prelude.{OnOk}
 use Rattle.szg_pairs.specs.Entry.{left_of, right_of, is_leaf}
 use Rattle.szg_pairs.specs.Expansion.{expansion_of}
-use Rattle.szg_block.proofs.Pushing.{first_of_leaf, first_of_left, first_of_both, left_is_there, right_is_there, left_is_shorter, lengths_joined, left_has_some}
+use Rattle.szg_block.proofs.Pushing.{first_of_leaf, first_of_left, first_of_both, left_falls, right_is_there, lengths_joined, left_has_some}
 use Rattle.szg_block.proofs.words.+push_symbol.Goals as goal
 
 pub returns-then-is_leaf : goal.returns-then-is_leaf
@@ -14,18 +14,14 @@ returns-then-is_leaf t c =
 pub len-length-requires : goal.len-length-requires
 len-length-requires t c =
     let paired : is_leaf c.entry-entry.result ≡ false = sym c.is_leaf.ensures ∙ c.if-is_leaf.false in
-    let h = left_is_there c.args.dict.now c.requires.dictionary c.args.symbol c.entry-entry.result c.requires.there c.entry-entry.ensures paired in
-    omega (arith, h, c.left-first.ensures)
+    let left = left_falls c.args.dict.now c.requires.dictionary c.args.symbol c.entry-entry.result c.requires.there c.entry-entry.ensures paired c.left-first.result c.left-first.ensures in
+    left.0
 
 pub push_symbol-requires : goal.push_symbol-requires
 push_symbol-requires t c =
     let paired : is_leaf c.entry-entry.result ≡ false = sym c.is_leaf.ensures ∙ c.if-is_leaf.false in
-    let l : left_of c.entry-entry.result ≡ c.left-first.result = sym c.left-first.ensures in
-    let there = left_is_there c.args.dict.now c.requires.dictionary c.args.symbol c.entry-entry.result c.requires.there c.entry-entry.ensures paired in
-    let shorter = left_is_shorter c.args.dict.now c.requires.dictionary c.args.symbol c.entry-entry.result c.requires.there c.entry-entry.ensures paired in
-    let same : length (expansion_of c.args.dict.now (left_of c.entry-entry.result)) ≡ length (expansion_of c.args.dict.now c.left-first.result) = ap (λ k. length (expansion_of c.args.dict.now k)) l in
-    let falls : length (expansion_of c.args.dict.now c.left-first.result) < t = omega (arith, shorter, same, c.decreases) in
-    (falls, (c.requires.dictionary, (omega (arith, there, l), (c.requires.some, omega (arith, c.if-count-length.true, c.len-length.ensures.number)))))
+    let left = left_falls c.args.dict.now c.requires.dictionary c.args.symbol c.entry-entry.result c.requires.there c.entry-entry.ensures paired c.left-first.result c.left-first.ensures in
+    (omega (arith, left.1, c.decreases), (c.requires.dictionary, (left.0, (c.requires.some, omega (arith, c.if-count-length.true, c.len-length.ensures.number)))))
 
 pub returns-then-count-length : goal.returns-then-count-length
 returns-then-count-length t c =
@@ -39,12 +35,8 @@ returns-then-count-length t c =
 pub push_symbol-requires-2 : goal.push_symbol-requires-2
 push_symbol-requires-2 t c =
     let paired : is_leaf c.entry-entry.result ≡ false = sym c.is_leaf.ensures ∙ c.if-is_leaf.false in
-    let l : left_of c.entry-entry.result ≡ c.left-first.result = sym c.left-first.ensures in
-    let there = left_is_there c.args.dict.now c.requires.dictionary c.args.symbol c.entry-entry.result c.requires.there c.entry-entry.ensures paired in
-    let shorter = left_is_shorter c.args.dict.now c.requires.dictionary c.args.symbol c.entry-entry.result c.requires.there c.entry-entry.ensures paired in
-    let same : length (expansion_of c.args.dict.now (left_of c.entry-entry.result)) ≡ length (expansion_of c.args.dict.now c.left-first.result) = ap (λ k. length (expansion_of c.args.dict.now k)) l in
-    let falls : length (expansion_of c.args.dict.now c.left-first.result) < t = omega (arith, shorter, same, c.decreases) in
-    (falls, (c.requires.dictionary, (omega (arith, there, l), (c.len-length.ensures.at_least, omega (arith, c.len-length.ensures.number)))))
+    let left = left_falls c.args.dict.now c.requires.dictionary c.args.symbol c.entry-entry.result c.requires.there c.entry-entry.ensures paired c.left-first.result c.left-first.ensures in
+    (omega (arith, left.1, c.decreases), (c.requires.dictionary, (left.0, (c.len-length.ensures.at_least, omega (arith, c.len-length.ensures.number)))))
 
 pub push_symbol-requires-3 : goal.push_symbol-requires-3
 push_symbol-requires-3 t c =

@@ -1,1 +1,0 @@
--- From the contracts below to what a status says.
