@@ -146,8 +146,8 @@ static void read_table(struct table *t, struct table *other, const uint8_t *file
     t->packed = file + (p - file + 63) / 64 * 64;
 }
 
-/* the look-up of the probing code */
-static uint16_t look_up(const struct table *t, uint64_t i)
+/* the look-up of the probing code: a function of its own, which isn't written into the loop that times it */
+__attribute__((noinline)) static uint16_t look_up(const struct table *t, uint64_t i)
 {
     uint64_t span = i >> t->n.span_bits;
     uint32_t block = u32(t->index + 6 * span);
