@@ -10,22 +10,22 @@ use Rattle.szg_code.specs.Bits.{bits}
 use Rattle.szg_code.specs.Canonical.{CanonicalCode}
 use Rattle.szg_block.specs.Layout.{Layout, SparseEntry}
 use Rattle.szg_block.specs.Block.{start, block_at}
-use Rattle.szg_block.specs.Lending.{packed_blocks}
+use Rattle.szg_block.specs.BlocksTrait.{packed_blocks}
 use Rattle.szg_block.specs.Parts.{IsGoodAt}
 use Rattle.szg_block.specs.Sound.{entry_count, HasGoodEntry, HasTotal, IsShapedLayout, IsSoundLayout}
 use Rattle.szg_block.specs.Spelled.{word_at, pairs_above}
-use Rattle.szg_block.specs.Steps.{block_place, entry_block, move_count}
+use Rattle.szg_block.specs.Steps.{block_location, entry_block, move_count}
 use Rattle.szg_block.specs.Subtable.{layout_from, layout_of, IsShapedHead, IsSoundOver, steps_from}
 use Rattle.szg_block.specs.declared.Entry.{Entry}
 use Rattle.szg_block.specs.declared.Sub.{Sub}
 use Rattle.szg_block.specs.declared.probing.Steps.{Steps}
 use Rattle.szg_block.proofs.Parts.{length-entries, good_entry-to}
-use Rattle.szg_block.proofs.Reading.{StandsIn, block_is, value_stands}
-use Rattle.szg_block.proofs.Values.{block_place-IsHolder, start-monotone}
+use Rattle.szg_block.proofs.Reading.{IsValueAt, block_is, value_at}
+use Rattle.szg_block.proofs.Values.{block_location-IsLocationOfValue, start-monotone}
 use Rattle.szg_block.proofs.Walking.{one_block}
 use Rattle.szg_block.proofs.WordAt.{word_count-at, descent_count-at}
 
--- each value has a span begun
+-- each value has a span
 span_there : (span_bits size i : ℕ) → i < size → i / 2 ^ span_bits < entry_count span_bits size
 unfolding entry_count
 span_there span_bits size i h =
@@ -36,11 +36,11 @@ span_there span_bits size i h =
     let m : suc (i / w) * w ≤ size + w - 1 = omega arith in
     (le-div_iff_mul-le p).1 m
 
--- what a walk from the sparse entry finds of value i: its block, its place there, and the moves to that block
+-- the result of a walk from the sparse entry to value i: its block, its index there, and the moves to that block
 pub record IsFoundAt (layout : Layout) (i j p m : ℕ) : Type 0 where
   pub there : j < layout.blocks
-  pub block : j ≡ (block_place layout i).list
-  pub item : p ≡ (block_place layout i).item
+  pub block : j ≡ (block_location layout i).list
+  pub item : p ≡ (block_location layout i).item
   pub moves : m ≡ move_count layout i
 
 module _ (block_bits span_bits extra blocks : ℕ) (code : CanonicalCode) (dict : List (List ℕ)) (sparse : List Entry) (lengths : List ℕ) (size : ℕ)
@@ -80,36 +80,36 @@ module _ (block_bits span_bits extra blocks : ℕ) (code : CanonicalCode) (dict 
     pub found_at : (j p : ℕ) → j < length lengths → i ≡ start lengths j + p → p < slice_index lengths j + 1
         → IsFoundAt (layout_from block_bits span_bits extra blocks code dict sparse lengths) i j p ((entry.block - j) + (j - entry.block))
     unfolding move_count
-    found_at j p there place inside =
-        let h = block_place-IsHolder (layout_from block_bits span_bits extra blocks code dict sparse lengths) size shaped index.0 i below in
+    found_at j p there location inside =
+        let h = block_location-IsLocationOfValue (layout_from block_bits span_bits extra blocks code dict sparse lengths) size shaped index.0 i below in
         let n : length lengths ≡ blocks + extra = shaped.lengths in
-        let b : (block_place (layout_from block_bits span_bits extra blocks code dict sparse lengths) i).list ≡ j =
-        one_block lengths _ j _ p (omega (arith, h.block, n)) there (sym h.is_at ∙ place) h.item inside in
+        let b : (block_location (layout_from block_bits span_bits extra blocks code dict sparse lengths) i).list ≡ j =
+        one_block lengths _ j _ p (omega (arith, h.block, n)) there (sym h.is_at ∙ location) h.item inside in
         let s = ap (λ k. start lengths k) b in
         record {
           there = omega (arith, h.block, b);
           block = sym b;
-          item = omega (arith, h.is_at, place, s);
+          item = omega (arith, h.is_at, location, s);
           moves = rw (entry_block_is, b) refl;
         }
 
--- the steps to value i, from what a walk finds and what the words of its block tell
+-- the steps to value i, from the result of a walk and the words of its block
 module _ (layout : Layout) (size count : ℕ) (bytes : ℕ → List ℕ) (shaped : IsShapedLayout layout size) (accepted : IsCode layout.code) (all : count ≡ layout.blocks)
     (whole : (k : ℕ) → k < layout.blocks → length (bytes k) ≡ 2 ^ layout.block_bits) (sound : IsSoundLayout layout (packed_blocks bytes count) size) where
-  pub steps_are : (i j p moves words pairs : ℕ) → j < layout.blocks → j ≡ (block_place layout i).list → p ≡ (block_place layout i).item → moves ≡ move_count layout i
+  pub steps_are : (i j p moves words pairs : ℕ) → j < layout.blocks → j ≡ (block_location layout i).list → p ≡ (block_location layout i).item → moves ≡ move_count layout i
       → words ≡ (word_at layout.code layout.entries (bits (bytes j)) p).list + 1 → pairs ≡ pairs_above layout.code layout.entries (bits (bytes j)) p
       → (let s : Steps = record { moves = moves; words = words; descents = pairs; fetches = 1 } in s) ≡ steps_from (Some layout) (packed_blocks bytes count) i
   steps_are i j p moves words pairs there block item em ew ep =
       let b : block_at layout.block_bits (packed_blocks bytes count) j ≡ bytes j = block_is layout size count bytes shaped accepted all whole sound j there in
       rw (← block, ← item, b, word_count-at layout (bytes j) p, descent_count-at layout (bytes j) p, em, ew, ep) refl
 
--- the same of a subtable that isn't constant
+-- the same for a subtable that is not constant
 module _ (sub : Sub) (layout : Layout) (is : layout_of sub ≡ Some layout) (size count : ℕ) (bytes : ℕ → List ℕ) (head : IsShapedHead sub size) (accepted : IsCode layout.code)
     (all : IfSome (layout_of sub) (λ layout. count ≡ layout.blocks)) (whole : IfSome (layout_of sub) (λ layout. (k : ℕ) → k < layout.blocks → length (bytes k) ≡ 2 ^ layout.block_bits))
     (sound : IsSoundOver sub (packed_blocks bytes count) size) (i : ℕ) (below : i < size) (j p : ℕ)
-    (block : IfSome (layout_of sub) (λ layout. j ≡ (block_place layout i).list)) (item : IfSome (layout_of sub) (λ layout. p ≡ (block_place layout i).item)) where
-  pub stands : StandsIn layout (packed_blocks bytes count) size i j p (bytes j)
-  stands = value_stands layout size count bytes (rw is at head).1 accepted (rw is at all) (rw is at whole) (rw is at sound) i j p below (rw is at block) (rw is at item)
+    (block : IfSome (layout_of sub) (λ layout. j ≡ (block_location layout i).list)) (item : IfSome (layout_of sub) (λ layout. p ≡ (block_location layout i).item)) where
+  pub stands : IsValueAt layout (packed_blocks bytes count) size i j p (bytes j)
+  stands = value_at layout size count bytes (rw is at head).1 accepted (rw is at all) (rw is at whole) (rw is at sound) i j p below (rw is at block) (rw is at item)
 
   pub steps : (moves words pairs : ℕ) → IfSome (layout_of sub) (λ layout. moves ≡ move_count layout i)
       → words ≡ (word_at layout.code layout.entries (bits (bytes j)) p).list + 1 → pairs ≡ pairs_above layout.code layout.entries (bits (bytes j)) p

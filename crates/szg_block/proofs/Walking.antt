@@ -1,11 +1,11 @@
--- Walks by lengths from a block on, forth and back.
+-- Walks by lengths from a block on, forwards and backwards.
 use Rattle.std.proofs.Common.{ℕ, zero, suc, ◌≡◌, ◌+◌, ◌<◌, ◌≤◌, inl, inr, List, length, ap, arith}
 use Rattle.std.specs.List.{slice_index}
 use Rattle.std.proofs.lemmas.Bool.{cases_lt, cases_order}
 use Rattle.szg_block.specs.Block.{start}
 use Rattle.szg_block.proofs.Values.{start-zero, start-step, start-monotone}
 
--- a place before the end of all values is in a block
+-- an index before the end of all values is in a block
 pub block_there : (lengths : List ℕ) (block item : ℕ) → block ≤ length lengths → start lengths block + item < start lengths (length lengths) → block < length lengths
 block_there lengths block item h l =
     elim (cases_lt block (length lengths)) [
@@ -16,12 +16,12 @@ block_there lengths block item h l =
           absurd (omega arith)
     ]
 
--- where values stand before a block, it isn't the first
-pub block_behind : (lengths : List ℕ) (block : ℕ) → 0 < start lengths block → 1 ≤ block
-block_behind lengths zero h = absurd (omega (arith, start-zero lengths))
-block_behind lengths (suc block) h = omega arith
+-- if there are values before a block, it is not the first
+pub block_after : (lengths : List ℕ) (block : ℕ) → 0 < start lengths block → 1 ≤ block
+block_after lengths zero h = absurd (omega (arith, start-zero lengths))
+block_after lengths (suc block) h = omega arith
 
--- one block has a value
+-- exactly one block contains a value
 pub one_block : (lengths : List ℕ) (j k p q : ℕ) → j < length lengths → k < length lengths → start lengths j + p ≡ start lengths k + q → p < slice_index lengths j + 1 → q < slice_index lengths k + 1 → j ≡ k
 one_block lengths j k p q a b e l m =
     let s : start lengths (suc j) ≡ start lengths j + (slice_index lengths j + 1) = start-step lengths j a in

@@ -1,4 +1,4 @@
--- Where the word of a value stands, word by word.
+-- The word of a value, word by word.
 use Rattle.std.proofs.Common.{ℕ, suc, ◌≡◌, ◌+◌, ◌-◌, ◌<◌, ◌≤◌, List, ◌∷◌, length, map, refl, ap, ◌∙◌}
 use Rattle.std.specs.List.{slice_index}
 use Rattle.std.proofs.lemmas.Bool.{lt-ltb, le-ltb}
@@ -10,56 +10,56 @@ use Rattle.szg_code.specs.Spelling.{symbols_spelled}
 use Rattle.szg_code.specs.Cursor.{Cursor, TakesWord}
 use Rattle.szg_block.specs.Layout.{Layout}
 use Rattle.szg_block.specs.Spelled.{word_at, pairs_above}
-use Rattle.szg_block.specs.Steps.{Place, place_in, place_of, word_place, word_count, descent_count}
+use Rattle.szg_block.specs.Steps.{Location, location_in, location_of, word_location, word_count, descent_count}
 use Rattle.szg_block.proofs.Spelling.{symbols_spelled-word}
 
-place_of-here : (n : ℕ) (ns : List ℕ) (i : ℕ) → i < n → place_of (n ∷ ns) i ≡ record { list = 0; item = i }
-unfolding place_of
-place_of-here n ns i h = ap (λ b. place_in b i (place_of ns (i - n))) (lt-ltb i n h)
+location_of-here : (n : ℕ) (ns : List ℕ) (i : ℕ) → i < n → location_of (n ∷ ns) i ≡ record { list = 0; item = i }
+unfolding location_of
+location_of-here n ns i h = ap (λ b. location_in b i (location_of ns (i - n))) (lt-ltb i n h)
 
-place_of-behind : (n : ℕ) (ns : List ℕ) (i : ℕ) → n ≤ i → place_of (n ∷ ns) i ≡ record { list = suc (place_of ns (i - n)).list; item = (place_of ns (i - n)).item }
-unfolding place_of
-place_of-behind n ns i h = ap (λ b. place_in b i (place_of ns (i - n))) (le-ltb i n h)
+location_of-before_end : (n : ℕ) (ns : List ℕ) (i : ℕ) → n ≤ i → location_of (n ∷ ns) i ≡ record { list = suc (location_of ns (i - n)).list; item = (location_of ns (i - n)).item }
+unfolding location_of
+location_of-before_end n ns i h = ap (λ b. location_in b i (location_of ns (i - n))) (le-ltb i n h)
 
 module _ (code : CanonicalCode) (accepted : IsCode code) (entries : List (List ℕ)) (old new : Cursor) (s : ℕ) (h : TakesWord code old new s) where
   first_word : symbols_spelled code old.left ≡ s ∷ symbols_spelled code new.left
   first_word = symbols_spelled-word code accepted old.left new.left s (record { word = h.word; is_one = h.is_one; joined = h.left })
 
-  word_at-first : (p : ℕ) → word_at code entries old.left p ≡ place_of (length (expansion_of entries s) ∷ map (λ s. length (expansion_of entries s)) (symbols_spelled code new.left)) p
+  word_at-first : (p : ℕ) → word_at code entries old.left p ≡ location_of (length (expansion_of entries s) ∷ map (λ s. length (expansion_of entries s)) (symbols_spelled code new.left)) p
   unfolding word_at
-  word_at-first p = ap (λ u. place_of (map (λ s. length (expansion_of entries s)) u) p) first_word
+  word_at-first p = ap (λ u. location_of (map (λ s. length (expansion_of entries s)) u) p) first_word
 
-  -- the value stands in the first word
+  -- the value is in the first word
   pub word_at-here : (p : ℕ) → p < length (expansion_of entries s) → (word_at code entries old.left p).list ≡ 0
-  word_at-here p l = ap (λ (w : Place). w.list) (word_at-first p ∙ place_of-here (length (expansion_of entries s)) (map (λ s. length (expansion_of entries s)) (symbols_spelled code new.left)) p l)
+  word_at-here p l = ap (λ (w : Location). w.list) (word_at-first p ∙ location_of-here (length (expansion_of entries s)) (map (λ s. length (expansion_of entries s)) (symbols_spelled code new.left)) p l)
 
   pub pairs_above-here : (p : ℕ) → p < length (expansion_of entries s) → pairs_above code entries old.left p ≡ slice_index (depths_of entries s) p
   unfolding pairs_above
   pairs_above-here p l =
-      let e : word_at code entries old.left p ≡ record { list = 0; item = p } = word_at-first p ∙ place_of-here (length (expansion_of entries s)) (map (λ s. length (expansion_of entries s)) (symbols_spelled code new.left)) p l in
-      ap (λ (w : Place). slice_index (depths_of entries (slice_index (symbols_spelled code old.left) w.list)) w.item) e
+      let e : word_at code entries old.left p ≡ record { list = 0; item = p } = word_at-first p ∙ location_of-here (length (expansion_of entries s)) (map (λ s. length (expansion_of entries s)) (symbols_spelled code new.left)) p l in
+      ap (λ (w : Location). slice_index (depths_of entries (slice_index (symbols_spelled code old.left) w.list)) w.item) e
       ∙ ap (λ u. slice_index (depths_of entries (slice_index u 0)) p) first_word
 
-  -- the value stands in a word behind the first
-  word_at-behind_is : (p : ℕ) → length (expansion_of entries s) ≤ p → word_at code entries old.left p ≡ record { list = suc (word_at code entries new.left (p - length (expansion_of entries s))).list; item = (word_at code entries new.left (p - length (expansion_of entries s))).item }
+  -- the value is in a word after the first
+  word_at-after_is : (p : ℕ) → length (expansion_of entries s) ≤ p → word_at code entries old.left p ≡ record { list = suc (word_at code entries new.left (p - length (expansion_of entries s))).list; item = (word_at code entries new.left (p - length (expansion_of entries s))).item }
   unfolding word_at
-  word_at-behind_is p l = unfold word_at in (word_at-first p ∙ place_of-behind (length (expansion_of entries s)) (map (λ s. length (expansion_of entries s)) (symbols_spelled code new.left)) p l)
+  word_at-after_is p l = unfold word_at in (word_at-first p ∙ location_of-before_end (length (expansion_of entries s)) (map (λ s. length (expansion_of entries s)) (symbols_spelled code new.left)) p l)
 
-  pub word_at-behind : (p : ℕ) → length (expansion_of entries s) ≤ p → (word_at code entries old.left p).list ≡ suc (word_at code entries new.left (p - length (expansion_of entries s))).list
-  word_at-behind p l = ap (λ (w : Place). w.list) (word_at-behind_is p l)
+  pub word_at-before_end : (p : ℕ) → length (expansion_of entries s) ≤ p → (word_at code entries old.left p).list ≡ suc (word_at code entries new.left (p - length (expansion_of entries s))).list
+  word_at-before_end p l = ap (λ (w : Location). w.list) (word_at-after_is p l)
 
-  pub pairs_above-behind : (p : ℕ) → length (expansion_of entries s) ≤ p → pairs_above code entries old.left p ≡ pairs_above code entries new.left (p - length (expansion_of entries s))
+  pub pairs_above-before_end : (p : ℕ) → length (expansion_of entries s) ≤ p → pairs_above code entries old.left p ≡ pairs_above code entries new.left (p - length (expansion_of entries s))
   unfolding pairs_above
-  pairs_above-behind p l =
+  pairs_above-before_end p l =
       let q : ℕ = p - length (expansion_of entries s) in
-      ap (λ (w : Place). slice_index (depths_of entries (slice_index (symbols_spelled code old.left) w.list)) w.item) (word_at-behind_is p l)
+      ap (λ (w : Location). slice_index (depths_of entries (slice_index (symbols_spelled code old.left) w.list)) w.item) (word_at-after_is p l)
       ∙ ap (λ u. slice_index (depths_of entries (slice_index u (suc (word_at code entries new.left q).list))) (word_at code entries new.left q).item) first_word
 
 -- the words and the descents of a value of a block
 pub word_count-at : (layout : Layout) (block : List ℕ) (p : ℕ) → word_count layout block p ≡ (word_at layout.code layout.entries (bits block) p).list + 1
-unfolding word_count word_place word_at
+unfolding word_count word_location word_at
 word_count-at layout block p = refl
 
 pub descent_count-at : (layout : Layout) (block : List ℕ) (p : ℕ) → descent_count layout block p ≡ pairs_above layout.code layout.entries (bits block) p
-unfolding descent_count word_place word_at pairs_above
+unfolding descent_count word_location word_at pairs_above
 descent_count-at layout block p = refl

@@ -1,15 +1,15 @@
--- What blocks that are read from a source show.
+-- Public views of blocks that are read from a source.
 use Rattle.std.specs.Prelude.{ℕ, length, min}
 use Rattle.szg_block.specs.declared.paged.Paged.{Paged}
 
 abbrev pub source_of : {S : Type 0} → Paged S → S
 source_of paged = paged.source
 
--- how long its buffer is
-abbrev pub room_of : {S : Type 0} → Paged S → ℕ
-room_of paged = length paged.buffer.items
+-- the length of its buffer
+abbrev pub buffer_len_of : {S : Type 0} → Paged S → ℕ
+buffer_len_of paged = length paged.buffer.items
 
--- where the first block stands, how many there are, and how many bytes each has
+-- the offset of the first block, the number of blocks, and the number of bytes of each
 abbrev pub first_of : {S : Type 0} → Paged S → ℕ
 first_of paged = paged.at
 

@@ -2,13 +2,13 @@
 
 ghost use Rattle.std.specs.Prelude.{◌≡◌, ◌<◌, ◌≤◌, ◌+◌, ◌^◌, ◌*◌, IfNone, IfOk, IfSome, IsOk, IsOkAnd, Some, length, slice_get};
 ghost use Rattle.szg_block.specs.Subtable.{layout_of, packed_of, IsShaped, IsShapedHead, IsSoundOver};
-ghost use Rattle.szg_block.specs.Lending.{raised, failed_after, bytes_at};
+ghost use Rattle.szg_block.specs.BlocksTrait.{raised, failed_after, bytes_at};
 ghost use Rattle.szg_block.specs.Paging.{source_of, first_of, count_of, size_of};
-ghost use Rattle.szg_block.specs.Shown.{values_shown, steps_shown};
+ghost use Rattle.szg_block.specs.Views.{values_shown, steps_shown};
 
 use crate::Sub;
+use crate::blocks::{Blocks, SourceFault, Whole, blocks_in};
 use crate::lengths::needed_from;
-use crate::lent::{Blocks, SourceFault, Whole, blocks_in};
 use crate::packed::block_of;
 use crate::paged::Paged;
 use crate::probing::{Steps, look_up};
@@ -17,7 +17,7 @@ use crate::words::push_values;
 use std::alloc::{AllocError, Global};
 use std::marker::Model;
 
-/// A subtable that passed `check`, with what lends its blocks.
+/// A subtable that passed `check`, with the value that gives access to its blocks.
 #[derive(Drop)]
 pub struct Sound<'a, B: Blocks> {
     sub: &'a Sub,
@@ -27,8 +27,8 @@ pub struct Sound<'a, B: Blocks> {
 }
 
 impl<'a, B: Blocks> Model for Sound<'a, B> {
-    ghost use Rattle.szg_block.specs.Shown.{Shown, IsReady};
-    ghost use Rattle.szg_block.specs.Lending.{packed_blocks};
+    ghost use Rattle.szg_block.specs.Views.{Shown, IsReady};
+    ghost use Rattle.szg_block.specs.BlocksTrait.{packed_blocks};
 
     ghost Value = { Shown };
 
@@ -38,7 +38,7 @@ impl<'a, B: Blocks> Model for Sound<'a, B> {
       constant = sound.constant;
       packed = packed_blocks (B.bytes sound.blocks) (B.count sound.blocks);
       failures = B.failures sound.blocks;
-      asked = B.asked sound.blocks;
+      requested = B.requested sound.blocks;
       cost = B.cost sound.blocks;
     } };
 
@@ -46,7 +46,7 @@ impl<'a, B: Blocks> Model for Sound<'a, B> {
 }
 
 impl<'a, B: Blocks> Sound<'a, B> {
-    /// How many values it has.
+    /// Returns the number of values.
     pub fn size(&self) -> u64
         ensures { result ≡ self.now.size }
     {
@@ -55,13 +55,14 @@ impl<'a, B: Blocks> Sound<'a, B> {
 }
 
 impl<'a> Sound<'a, Whole<'a>> {
-    /// A subtable in memory of `size` values that passed `check`; `constant` is the value that a constant one stands for.
+    /// Creates the view of a subtable in memory with `size` values that passed `check`. `constant` is the value
+    /// that a constant subtable has at each index.
     ///
-    /// It borrows the subtable, and copies nothing of it.
+    /// It borrows the subtable and copies nothing of it.
     pub fn of(sub: &'a Sub, size: u64, constant: u16) -> Sound<'a, Whole<'a>>
         requires shaped { IsShaped sub.now size }
         requires sound { IsSoundOver sub.now (packed_of sub.now) size }
-        ensures { result ≡ record { sub = sub.now; size = size; constant = constant; packed = packed_of sub.now; failures = 0; asked = 0; cost = 0 } }
+        ensures { result ≡ record { sub = sub.now; size = size; constant = constant; packed = packed_of sub.now; failures = 0; requested = 0; cost = 0 } }
     {
         Sound {
             sub,
@@ -71,7 +72,7 @@ impl<'a> Sound<'a, Whole<'a>> {
         }
     }
 
-    /// Value `i`, by the sparse index. It takes no memory.
+    /// Returns value `i`, found by the sparse index. It takes no memory.
     pub fn get(&self, i: u64) -> u16
         requires { i < self.now.size }
         ensures { slice_get (values_shown self.now) i ≡ Some result }
@@ -83,18 +84,18 @@ impl<'a> Sound<'a, Whole<'a>> {
         }
     }
 
-    /// Value `i`, and the steps to it. Blocks in memory never fail.
+    /// Returns value `i` and the steps of the look-up. Blocks in memory never fail.
     pub fn get_counted(&mut self, i: u64) -> Result<(u16, Steps), SourceFault>
         requires { i < self.old.size }
         ensures value { IsOkAnd result (λ found. slice_get (values_shown self.old) i ≡ Some found.0) }
         ensures steps { IsOkAnd result (λ found. found.1 ≡ steps_shown self.old i) }
-        ensures kept { self.new ≡ self.old }
+        ensures unchanged { self.new ≡ self.old }
     {
         let mut blocks = self.blocks;
         look_up(self.sub, self.size, self.constant, i, &mut blocks)
     }
 
-    /// All values in order, block by block. The error is want of memory.
+    /// Decodes all values in order, block by block. Errors: refused memory.
     pub fn values(&self, alloc: Global) -> Result<Vec<u16>, AllocError>
         ensures { IfOk result (λ values. values.items ≡ values_shown self.now) }
     {
@@ -128,8 +129,8 @@ impl<'a> Sound<'a, Whole<'a>> {
 }
 
 impl<'a, S: Source + Drop> Sound<'a, Paged<S>> {
-    /// A subtable of `size` values over the blocks of a source: with these as its own it passes `check`. `constant` is the
-    /// value that a constant one stands for. It takes no memory.
+    /// Creates the view of a subtable with `size` values over the blocks of a source; with these blocks as its own
+    /// it passes `check`. `constant` is the value that a constant subtable has at each index. It takes no memory.
     pub fn paged(sub: &'a Sub, size: u64, constant: u16, blocks: Paged<S>) -> Sound<'a, Paged<S>>
         requires head { IsShapedHead sub.now size }
         requires count { IfSome (layout_of sub.now) (λ layout. count_of blocks ≡ layout.blocks) }
@@ -141,11 +142,11 @@ impl<'a, S: Source + Drop> Sound<'a, Paged<S>> {
         ensures constant { result.constant ≡ constant }
         ensures packed { result.packed ≡ bytes_at (S.content (source_of blocks)) (first_of blocks) (count_of blocks * size_of blocks) }
         ensures failures { result.failures ≡ S.failed (source_of blocks) }
-        ensures asked { result.asked ≡ S.asked (source_of blocks) }
+        ensures requested { result.requested ≡ S.requested (source_of blocks) }
         ensures cost { result.cost ≡ size_of blocks }
     {
-        // what a look-up stands on: no word of the code begins another
-        let _held = blocks_in(sub);
+        // a fact that look-ups need: no word of the code begins another
+        let _accepted = blocks_in(sub);
         Sound {
             sub,
             size,
@@ -154,16 +155,16 @@ impl<'a, S: Source + Drop> Sound<'a, Paged<S>> {
         }
     }
 
-    /// Value `i`, by the sparse index. It takes no memory. A fault comes only where the source failed; the next call is
-    /// answered as if there had been none.
+    /// Returns value `i`, found by the sparse index. It takes no memory. Errors: the source failed. The next call
+    /// returns as if there had been no fault.
     pub fn get(&mut self, i: u64) -> Result<u16, SourceFault>
         requires { i < self.old.size }
         ensures value { IfOk result (λ value. slice_get (values_shown self.old) i ≡ Some value) }
-        ensures constant_answers { IfNone (layout_of self.old.sub) (IsOk result) }
+        ensures constant_returned { IfNone (layout_of self.old.sub) (IsOk result) }
         ensures failures { self.new.failures ≡ failed_after result self.old.failures }
-        // one block is asked for, and none for a constant subtable
-        ensures asked_none { IfNone (layout_of self.old.sub) (self.new.asked ≡ self.old.asked) }
-        ensures asked_one { IfSome (layout_of self.old.sub) (λ _. self.new.asked ≡ raised self.old.asked self.old.cost) }
+        // one block is requested, and none for a constant subtable
+        ensures requested_none { IfNone (layout_of self.old.sub) (self.new.requested ≡ self.old.requested) }
+        ensures requested_one { IfSome (layout_of self.old.sub) (λ _. self.new.requested ≡ raised self.old.requested self.old.cost) }
         ensures cost { self.new.cost ≡ self.old.cost }
         ensures sub { self.new.sub ≡ self.old.sub }
         ensures size { self.new.size ≡ self.old.size }
@@ -174,16 +175,16 @@ impl<'a, S: Source + Drop> Sound<'a, Paged<S>> {
         Ok(value)
     }
 
-    /// Value `i`, and the steps to it.
+    /// Returns value `i` and the steps of the look-up.
     pub fn get_counted(&mut self, i: u64) -> Result<(u16, Steps), SourceFault>
         requires { i < self.old.size }
         ensures value { IfOk result (λ found. slice_get (values_shown self.old) i ≡ Some found.0) }
         ensures steps { IfOk result (λ found. found.1 ≡ steps_shown self.old i) }
-        ensures constant_answers { IfNone (layout_of self.old.sub) (IsOk result) }
+        ensures constant_returned { IfNone (layout_of self.old.sub) (IsOk result) }
         ensures failures { self.new.failures ≡ failed_after result self.old.failures }
-        // one block is asked for, and none for a constant subtable
-        ensures asked_none { IfNone (layout_of self.old.sub) (self.new.asked ≡ self.old.asked) }
-        ensures asked_one { IfSome (layout_of self.old.sub) (λ _. self.new.asked ≡ raised self.old.asked self.old.cost) }
+        // one block is requested, and none for a constant subtable
+        ensures requested_none { IfNone (layout_of self.old.sub) (self.new.requested ≡ self.old.requested) }
+        ensures requested_one { IfSome (layout_of self.old.sub) (λ _. self.new.requested ≡ raised self.old.requested self.old.cost) }
         ensures cost { self.new.cost ≡ self.old.cost }
         ensures sub { self.new.sub ≡ self.old.sub }
         ensures size { self.new.size ≡ self.old.size }

@@ -1,4 +1,5 @@
-//! Subtables of a Syzygy table: their shape, the check that tells the sound ones, and the values that a sound one has.
+//! Subtables of a Syzygy table: their shape, the check that accepts exactly the sound ones, and the values of a
+//! sound one.
 //!
 //! A subtable is a constant, or blocks of packed words with a sparse index and lengths, as in de Man's format.
 #![tactic(auto)]
@@ -8,13 +9,13 @@ ghost use Rattle.szg_block.specs.Block.{start};
 ghost use Rattle.szg_block.specs.Sound.{SpellsNeeded, entry_count as entry_count_of};
 ghost use Rattle.szg_block.specs.Subtable.{layout_of, packed_of, IsShaped, IsShapedHead, IsSoundOver, HasSoundIndex, IsFaultOf, IsIndexFault};
 
+pub use block_value::{checked_value, find_block, value_in_block};
+pub use blocks::{Blocks, SourceFault, Whole};
 pub use expanding::Sound;
 use lengths::{needed_from, total};
-pub use lent::{Blocks, SourceFault, Whole};
 use packed::first_bad_block;
 pub use paged::Paged;
-pub use piece::{find_block, value_in_block};
-pub use probing::{Steps, look_up};
+pub use probing::{Steps, ValueLocation, locate_value, look_up};
 pub use source::{Image, Source};
 use sparse::first_bad_entry;
 use szg_code::Code;
@@ -22,13 +23,13 @@ use szg_pairs::Dict;
 pub use watch::Watch;
 use words::spells;
 
+mod block_value;
+mod blocks;
 mod expanding;
 pub mod laws;
 mod lengths;
-mod lent;
 mod packed;
 mod paged;
-mod piece;
 mod probing;
 mod source;
 mod sparse;
@@ -38,31 +39,31 @@ mod words;
 /// An entry of the sparse index.
 #[derive(Clone, Copy)]
 pub struct Entry {
-    /// The number of a block; the number of all lengths stands for the end behind the last.
+    /// The number of a block. The number of all lengths means the end after the last block.
     pub block: u32,
-    /// A number of values, counted from where that block starts.
+    /// A number of values, counted from the start of that block.
     pub offset: u16,
 }
 
 /// A subtable.
 #[derive(Drop)]
 pub enum Sub {
-    /// One value at each index.
+    /// The same value at each index.
     Constant {
         /// The flags byte; its highest bit is set.
         flags: u8,
-        /// The byte behind it.
+        /// The byte after it.
         byte: u8,
     },
-    /// Blocks of words, each word the code of a symbol that expands to values.
+    /// Blocks of words. Each word is the code of a symbol, which expands to values.
     Pairs {
         /// The flags byte; its highest bit is not set.
         flags: u8,
-        /// A block has 2 to this power bytes, 0 to 18.
+        /// A block has 2^block_bits bytes; 0 to 18.
         block_bits: u8,
-        /// An entry of the sparse index serves 2 to this power values, 1 to 31.
+        /// An entry of the sparse index covers 2^span_bits values; 1 to 31.
         span_bits: u8,
-        /// The number of lengths behind those of the blocks.
+        /// The number of lengths after those of the blocks.
         extra: u8,
         /// The number of blocks.
         blocks: u32,
@@ -70,51 +71,51 @@ pub enum Sub {
         code: Code,
         /// The values of the symbols.
         dict: Dict,
-        /// For each span that the values begin, the place of its middle.
+        /// For each span that has a value, the location of its middle.
         sparse: Vec<Entry>,
-        /// For each block, and each extra length, its number of values less one.
+        /// For each block and each extra length, the number of values less one.
         lengths: Vec<u16>,
-        /// The blocks, one behind another.
+        /// The blocks, one after another.
         packed: Vec<u8>,
     },
 }
 
-/// Why a subtable isn't sound.
+/// Why a subtable is not sound.
 #[derive(Debug, Clone, Copy, PartialEq, Eq)]
 pub enum SubFault {
-    /// The lengths of the blocks, without the extra ones, tell of fewer values than the subtable has.
+    /// The lengths of the blocks, without the extra ones, sum to fewer values than the subtable has.
     ShortTotal,
-    /// The first entry of the sparse index that doesn't lead to the middle of its span.
+    /// The first entry of the sparse index that does not lead to the middle of its span.
     SparseEntry(u64),
-    /// The first block whose own bits don't spell the values that it needs.
+    /// The first block whose own bits do not spell the values that it needs.
     Word(u32),
 }
 
-/// The highest bit of a flags byte: set in a constant subtable and no other.
+/// The highest bit of a flags byte, set exactly in constant subtables.
 const CONSTANT: u8 = 128;
 
-/// The most bits of a block's number of bytes.
+/// The greatest block bits: a block has 2^18 bytes at most.
 const MAX_BLOCK_BITS: u8 = 18;
 
-/// The most bits of a span's number of values.
+/// The greatest span bits: a span has 2^31 values at most.
 const MAX_SPAN_BITS: u8 = 31;
 
-/// Whether a flags byte is that of a constant subtable.
+/// Returns whether a flags byte is that of a constant subtable.
 fn is_constant(flags: u8) -> bool
     ensures { IsTrue result ↔ (flags / 128 % 2 ≡ 1) }
 {
     flags >= CONSTANT
 }
 
-/// Whether the bits of blocks and of spans are in their ranges.
+/// Returns whether block bits and span bits are in their ranges.
 fn bits_fit(block_bits: u8, span_bits: u8) -> bool
     ensures { IsTrue result ↔ ((block_bits ≤ 18) × (1 ≤ span_bits) × (span_bits ≤ 31)) }
 {
     block_bits <= MAX_BLOCK_BITS && (1..=MAX_SPAN_BITS).contains(&span_bits)
 }
 
-/// The number of entries that a sparse index of so many values has: one for each span begun (`2^span_bits` values, the
-/// last span maybe fewer), so no more than there are values. Span bits are at most 31.
+/// Returns the number of entries of the sparse index of a subtable with `size` values: one for each span of
+/// `2^span_bits` values that has a value. So there are no more entries than values. `span_bits` is at most 31.
 pub fn entry_count(size: u64, span_bits: u8) -> u64
     requires { span_bits ≤ 31 }
     ensures count { result ≡ entry_count_of span_bits size }
@@ -123,9 +124,10 @@ pub fn entry_count(size: u64, span_bits: u8) -> u64
     size.div_ceil(1 << span_bits)
 }
 
-/// Whether flag, numbers and lists of a subtable of `size` values fit one another, whatever they say of the blocks.
+/// Returns whether the flag, the numbers and the lists of a subtable with `size` values fit together, apart from
+/// the blocks.
 ///
-/// It is the same as `shaped` without the bytes of the blocks.
+/// This is `shaped` without the bytes of the blocks.
 pub fn shaped_head(sub: &Sub, size: u64) -> bool
     ensures { IsTrue result ↔ IsShapedHead sub.now size }
 {
@@ -152,11 +154,12 @@ pub fn shaped_head(sub: &Sub, size: u64) -> bool
     }
 }
 
-/// Whether flag, numbers and lists of a subtable of `size` values fit one another, whatever they say.
+/// Returns whether the flag, the numbers and the lists of a subtable with `size` values fit together, whatever
+/// their contents.
 ///
-/// The flags byte has its highest bit set exactly in a constant subtable. Else block bits are at most 18, span bits
-/// 1 to 31, the code has as many symbols as the dictionary, the sparse index has an entry for each span that the
-/// values begin, there is a length for each block and each extra one, and the blocks stand whole.
+/// The flags byte has its highest bit set exactly in a constant subtable. Otherwise block bits are at most 18, span
+/// bits 1 to 31, the code has as many symbols as the dictionary, the sparse index has an entry for each span that
+/// has a value, there is a length for each block and each extra one, and `packed` has the bytes of all blocks.
 pub fn shaped(sub: &Sub, size: u64) -> bool
     ensures { IsTrue result ↔ IsShaped sub.now size }
 {
@@ -172,11 +175,11 @@ pub fn shaped(sub: &Sub, size: u64) -> bool
         }
 }
 
-/// Checks the lengths and the sparse index of a subtable of `size` values, whatever its blocks hold.
+/// Checks the lengths and the sparse index of a subtable with `size` values, without its blocks.
 ///
-/// `ShortTotal` comes where the lengths of the blocks, without extra ones, tell of fewer values than `size`. Else
-/// `SparseEntry(k)` tells the first entry that isn't good: its block number is above the number of all lengths, or its offset doesn't lead
-/// from that block's start to the middle of span k.
+/// Errors: `ShortTotal` if the lengths of the blocks, without the extra ones, sum to fewer values than `size`. Else
+/// `SparseEntry(k)` for the first entry whose block number is above the number of all lengths, or whose offset does
+/// not lead from the start of that block to the middle of span k.
 pub fn check_index(sub: &Sub, size: u64) -> Result<(), SubFault>
     requires { IsShapedHead sub.now size }
     ensures ok { OnOk result (HasSoundIndex sub.now size) }
@@ -203,10 +206,10 @@ pub fn check_index(sub: &Sub, size: u64) -> Result<(), SubFault>
     }
 }
 
-/// Checks that the words of block `n`, whose bytes are `block`, spell the values that it needs of `size`. The subtable
-/// isn't constant, `n` is one of its blocks, and `block` is as long as its blocks are.
+/// Checks that the words of block `n`, whose bytes are `block`, spell the values that it needs. The subtable has
+/// `size` values and is not constant, `n` is one of its blocks, and `block` has the length of its blocks.
 ///
-/// `Word(n)` comes where its own bits don't. It adds the lengths before the block.
+/// Errors: `Word(n)` if the block's own bits do not spell these values. It adds the lengths before the block.
 pub fn check_block(sub: &Sub, size: u64, n: u32, block: &[u8]) -> Result<(), SubFault>
     requires head { IsShapedHead sub.now size }
     requires there { IsSomeAnd (layout_of sub.now) (λ layout. n < layout.blocks) }
@@ -221,7 +224,8 @@ pub fn check_block(sub: &Sub, size: u64, n: u32, block: &[u8]) -> Result<(), Sub
     check_block_from(sub, size, n, before, block)
 }
 
-/// The same as `check_block`, for a reader that carries its sum from block to block: `before` values come before block `n`.
+/// The same as `check_block`, for a caller that carries the sum of lengths from block to block: `before` values
+/// come before block `n`.
 pub fn check_block_from(
     sub: &Sub,
     size: u64,
@@ -254,9 +258,9 @@ pub fn check_block_from(
     }
 }
 
-/// Checks a subtable of `size` values: it passes exactly the sound ones.
+/// Checks a subtable with `size` values. It accepts exactly the sound ones.
 ///
-/// The faults come as in `check_index`, and then as in `check_block` for each block in order.
+/// Errors: those of `check_index`, then those of `check_block` for each block in order.
 pub fn check(sub: &Sub, size: u64) -> Result<(), SubFault>
     requires { IsShaped sub.now size }
     ensures ok { OnOk result (IsSoundOver sub.now (packed_of sub.now) size) }

@@ -1,6 +1,6 @@
 //! The words of one block, and the values of their symbols.
 
-ghost use Rattle.std.specs.Prelude.{◌≡◌, ◌<◌, ◌≤◌, ◌+◌, ◌↔◌, ◌++◌, ◌^◌, IsTrue, OnOk, length, take, slice_get, Some};
+ghost use Rattle.std.specs.Prelude.{◌≡◌, ◌<◌, ◌≤◌, ◌+◌, ◌↔◌, ◌++◌, ◌^◌, IsTrue, IfNone, IfSome, OnOk, length, take, slice_get, Some};
 ghost use Rattle.szg_code.specs.Acceptance.{IsCode};
 ghost use Rattle.szg_code.specs.Bits.{bits};
 ghost use Rattle.szg_pairs.specs.Dictionary.{IsDictionary};
@@ -12,15 +12,24 @@ use szg_code::{Bits, Code, next};
 use szg_pairs::Dict;
 use szg_pairs::entry::{is_leaf, left, right};
 
-/// Whether a block's own bits spell `wanted` values or more.
-pub fn spells(code: &Code, dict: &Dict, block: &[u8], wanted: u64) -> bool
+/// Returns whether a block's own bits spell at least `needed` values.
+pub fn spells(code: &Code, dict: &Dict, block: &[u8], needed: u64) -> bool
     requires accepted { IsCode code.now }
     requires symbols { code.now.symbols ≡ length dict.now }
     requires size { length block.now ≤ 2 ^ 60 }
-    ensures { IsTrue result ↔ (wanted ≤ length (values_spelled code.now dict.now (bits block.now))) }
+    ensures { IsTrue result ↔ (needed ≤ length (values_spelled code.now dict.now (bits block.now))) }
 {
-    let mut words = Bits::new(block);
-    let mut missing = wanted;
+    spells_on(code, dict, Bits::new(block), needed)
+}
+
+/// Whether the bits left spell `needed` values or more.
+fn spells_on(code: &Code, dict: &Dict, left: Bits, needed: u64) -> bool
+    requires accepted { IsCode code.now }
+    requires symbols { code.now.symbols ≡ length dict.now }
+    ensures { IsTrue result ↔ (needed ≤ length (values_spelled code.now dict.now left.entry.left)) }
+{
+    let mut words = left;
+    let mut missing = needed;
     while missing > 0 {
         let Some(symbol) = next(code, &mut words) else {
             return false;
@@ -30,29 +39,58 @@ pub fn spells(code: &Code, dict: &Dict, block: &[u8], wanted: u64) -> bool
     true
 }
 
-/// A value that was found in a block, and the work that it took.
+/// Returns the value at `index` in a block, by one pass over the words that its `needed` values take. None if the
+/// block's bits spell fewer than `needed` values.
+pub fn find_verified(code: &Code, dict: &Dict, block: &[u8], index: u64, needed: u64) -> Option<u16>
+    requires accepted { IsCode code.now }
+    requires symbols { code.now.symbols ≡ length dict.now }
+    requires size { length block.now ≤ 2 ^ 60 }
+    requires within { index < needed }
+    ensures value { IfSome result (λ value. slice_get (values_spelled code.now dict.now (bits block.now)) index ≡ Some value) }
+    ensures enough { IfSome result (λ _. needed ≤ length (values_spelled code.now dict.now (bits block.now))) }
+    ensures few { IfNone result (¬ (needed ≤ length (values_spelled code.now dict.now (bits block.now)))) }
+{
+    let mut words = Bits::new(block);
+    let mut ahead = index;
+    let mut missing = needed;
+    while let Some(symbol) = next(code, &mut words) {
+        let count = u64::from(dict.len(symbol));
+        missing = missing.saturating_sub(count);
+        if ahead < count {
+            if !spells_on(code, dict, words, missing) {
+                return None;
+            }
+            return Some(dict.descend(symbol, ahead as u16).value);
+        }
+        ahead -= count;
+    }
+    None
+}
+
+/// A value that was found in a block, and the work done for it.
 #[derive(Clone, Copy)]
 pub struct Found {
     pub value: u16,
-    /// The number of words read, with the value's own.
+    /// The number of words read, the value's own included.
     pub words: u64,
     /// The number of pairs above the value in its symbol.
     pub pairs: u16,
 }
 
-/// The value at a place in a block whose own bits spell more values than that, word by word from the block's start.
-pub fn find_in_block(code: &Code, dict: &Dict, block: &[u8], place: u64) -> Found
+/// Decodes the value at an index in a block, word by word from the block's start. The block's own bits spell more
+/// values than that.
+pub fn find_in_block(code: &Code, dict: &Dict, block: &[u8], index: u64) -> Found
     requires accepted { IsCode code.now }
     requires symbols { code.now.symbols ≡ length dict.now }
     requires size { length block.now ≤ 2 ^ 60 }
-    requires small { place < 2 ^ 62 }
-    requires within { place < length (values_spelled code.now dict.now (bits block.now)) }
-    ensures value { slice_get (values_spelled code.now dict.now (bits block.now)) place ≡ Some result.value }
-    ensures words { result.words ≡ (word_at code.now dict.now (bits block.now) place).list + 1 }
-    ensures pairs { result.pairs ≡ pairs_above code.now dict.now (bits block.now) place }
+    requires small { index < 2 ^ 62 }
+    requires within { index < length (values_spelled code.now dict.now (bits block.now)) }
+    ensures value { slice_get (values_spelled code.now dict.now (bits block.now)) index ≡ Some result.value }
+    ensures words { result.words ≡ (word_at code.now dict.now (bits block.now) index).list + 1 }
+    ensures pairs { result.pairs ≡ pairs_above code.now dict.now (bits block.now) index }
 {
     let mut words = Bits::new(block);
-    let mut ahead = place;
+    let mut ahead = index;
     let mut before = 0;
     while let Some(symbol) = next(code, &mut words) {
         let count = dict.len(symbol);
@@ -70,9 +108,10 @@ pub fn find_in_block(code: &Code, dict: &Dict, block: &[u8], place: u64) -> Foun
     unreachable!()
 }
 
-/// Appends the first values of a symbol, so many of them: first those of a pair's left symbol, then those of its right.
+/// Appends the first `count` values of a symbol: for a pair first those of its left symbol, then those of its right
+/// symbol.
 ///
-/// It enters each pair once. Its calls nest by the depth of the pairs, below 256.
+/// It enters each pair once. The recursion is as deep as the pairs, below 256.
 fn push_symbol(
     dict: &Dict,
     symbol: u16,
@@ -99,23 +138,23 @@ fn push_symbol(
     push_symbol(dict, right(entry), count - length, values)
 }
 
-/// Appends the first values of a block, so many of them, where its own bits spell as many.
+/// Appends the first `needed` values of a block whose own bits spell that many.
 pub fn push_values(
     code: &Code,
     dict: &Dict,
     block: &[u8],
-    wanted: u64,
+    needed: u64,
     values: &mut Vec<u16>,
 ) -> Result<(), AllocError>
     requires accepted { IsCode code.now }
     requires symbols { code.now.symbols ≡ length dict.now }
     requires size { length block.now ≤ 2 ^ 60 }
-    requires within { wanted ≤ length (values_spelled code.now dict.now (bits block.now)) }
-    ensures { OnOk result (values.new.items ≡ values.old.items ++ take wanted (values_spelled code.now dict.now (bits block.now))) }
+    requires within { needed ≤ length (values_spelled code.now dict.now (bits block.now)) }
+    ensures { OnOk result (values.new.items ≡ values.old.items ++ take needed (values_spelled code.now dict.now (bits block.now))) }
 {
     prove_eq!(code.symbols(), dict.symbols());
     let mut words = Bits::new(block);
-    let mut missing = wanted;
+    let mut missing = needed;
     while missing > 0 {
         let Some(symbol) = next(code, &mut words) else {
             unreachable!()

@@ -58,7 +58,7 @@ filling_none code entries b symbols lengths packed words values e1 e2 e3 e4 e5 =
     rw (e1, e2, e3, e4, e5) (filled_so_far code entries b [] [] [] [] refl (filled_none b code entries) (omega arith) (omega arith))
 
 pub filling_more : (code : CanonicalCode) (entries : List (List ℕ)) (b : ℕ) (symbols lengths packed : List ℕ) (words word : List Bool) (values s n : ℕ) → IsFilling code entries b symbols lengths packed words values →
-    IsWord code word s → length word ≤ 12 → n ≡ length (expansion_of entries s) → 1 ≤ n → n ≤ 256 → length words + length word ≤ 8 * 2 ^ b → values + n ≤ 65536 →
+    IsWord code word s → length word ≤ 32 → n ≡ length (expansion_of entries s) → 1 ≤ n → n ≤ 256 → length words + length word ≤ 8 * 2 ^ b → values + n ≤ 65536 →
     IsFilling code entries b (symbols ++ s ∷ []) lengths packed (words ++ word) (values + n)
 filling_more code entries b symbols lengths packed words word values s n h w short is some few fits most =
     let long : length (words ++ word) ≡ length words + length word = length-append words word in
@@ -100,7 +100,7 @@ closed_whole b lengths packed block n whole size =
 
 -- A block that a word of twelve bits or less, or one of 256 values or less, doesn't fit any more is closed.
 pub filling_closed : (code : CanonicalCode) (entries : List (List ℕ)) (b : ℕ) (symbols lengths packed : List ℕ) (words : List Bool) (values : ℕ) (block : List ℕ) → IsFilling code entries b symbols lengths packed words values →
-    IsBlockOf b words block → 32 ≤ 2 ^ b → (8 * 2 ^ b < length words + 12) ⊎ (65536 < values + 256) → IsFilling code entries b symbols (lengths ++ (values - 1) ∷ []) (packed ++ block) [] 0
+    IsBlockOf b words block → 32 ≤ 2 ^ b → (8 * 2 ^ b < length words + 32) ⊎ (65536 < values + 256) → IsFilling code entries b symbols (lengths ++ (values - 1) ∷ []) (packed ++ block) [] 0
 filling_closed code entries b symbols lengths packed words values block h is large full =
     let four : 4 ≤ length h.current = elim full [
       | inl bits_full ↦ omega (arith, bits_full, large, h.short_words)
@@ -152,7 +152,7 @@ padded_block b words fill bytes n is whole = record {
 
 -- a block that a symbol doesn't fit any more isn't empty
 pub full_some : (code : CanonicalCode) (entries : List (List ℕ)) (b : ℕ) (symbols lengths packed : List ℕ) (words : List Bool) (values k n : ℕ) → IsFilling code entries b symbols lengths packed words values → 32 ≤ 2 ^ b →
-    k ≤ 12 → n ≤ 256 → (8 * 2 ^ b < length words + k) ⊎ (65536 < values + n) → 0 < values
+    k ≤ 32 → n ≤ 256 → (8 * 2 ^ b < length words + k) ⊎ (65536 < values + n) → 0 < values
 full_some code entries b symbols lengths packed words values k n h large short few (inl full) = omega (arith, full, large, short, h.short_words, h.some)
 full_some code entries b symbols lengths packed words values k n h large short few (inr full) = omega (arith, full, few)
 

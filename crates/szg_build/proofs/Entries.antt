@@ -14,7 +14,7 @@ start-front lengths extra j h = ap (sum_by (λ n. n + 1)) (take-append-le j leng
 -- an entry whose offset is counted from its block's start
 pub entry_is_good : (layout : Layout) (j block offset : ℕ) → block ≤ layout.blocks + layout.extra → start layout.lengths block ≤ middle_of_span layout.span_bits j →
     offset ≡ middle_of_span layout.span_bits j - start layout.lengths block → IsGoodEntry layout j (record { block = block; offset = offset })
-entry_is_good layout j block offset there before e = record { there = there; place = omega (arith, before, e) }
+entry_is_good layout j block offset there before e = record { there = there; location = omega (arith, before, e) }
 
 found : {P : Type 0} (front : List SparseEntry) (entry : SparseEntry) (j : ℕ) (e : SparseEntry) → slice_get (front ++ entry ∷ []) j ≡ Some e →
     (slice_get front j ≡ Some e → P) → (j ≡ length front → entry ≡ e → P) → P

@@ -5,7 +5,7 @@ use Rattle.std.proofs.lemmas.List.{length-take, length-drop, drop-take, drop-dro
 use Rattle.std.proofs.lemmas.List.Edits.{take-paste}
 use Rattle.std.proofs.Math.Seq.{paste}
 use borrow.Rule.Slice.PartMut.{put_mid}
-use Rattle.szg_io.proofs.DeviceLaws.{part_front}
+use Rattle.szg_io.proofs.DeviceLaws.{chunk_prefix}
 
 drop_front : (bytes : List ℕ) (from to n : ℕ) → from + n ≤ to → take (to - (from + n)) (drop (from + n) bytes) ≡ drop n (take (to - from) (drop from bytes))
 drop_front bytes from to n le =
@@ -30,5 +30,5 @@ refill_held bytes room piece from to got k e within fits =
     let packed : take n room ≡ take n (drop from bytes) = ap (λ (z : List ℕ). take n z) e ∙ ap (λ (m : ℕ). take m (paste bytes 0 (drop from bytes) n)) (sym zeroed) ∙ take-paste bytes 0 (drop from bytes) n (omega arith) long in
     let there : n ≤ length room = omega (arith, ap length packed, length-take n room, length-take n (drop from bytes), long) in
     ap (λ (m : ℕ). take m (put_mid n k room piece)) none
-    ∙ part_front n got k room piece there fits
+    ∙ chunk_prefix n got k room piece there fits
     ∙ ap (λ (z : List ℕ). z ++ take got piece) packed

@@ -8,6 +8,7 @@ pub mod Tallying
 pub mod LastCount
 pub mod LeafLaws
 pub mod RoundLaws
+pub mod ProposalLaws
 pub mod CodeChoice
 pub mod BlockLaws
 pub mod Filling

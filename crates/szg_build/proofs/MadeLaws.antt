@@ -150,7 +150,7 @@ module _ (values : List ℕ) (flags block_bits span_bits rounds : ℕ) (head : H
       let middle : start made.own entry.block + entry.offset ≡ middle_of_span head.span_bits j = told.place ∙ ap (λ (k : ℕ). middle_of_span k j) (sym made.span_bits_kept) in
       record {
         there = omega (arith, told.block, made.cut.count);
-        place = ap (λ (k : ℕ). k + entry.offset) front ∙ middle;
+        location = ap (λ (k : ℕ). k + entry.offset) front ∙ middle;
       }
 
   sound : IsSoundLayout layout packed (length values)

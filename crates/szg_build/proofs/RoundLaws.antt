@@ -129,7 +129,7 @@ paired_all values entries symbols done rounds round e = record { done = done; ro
 pub paired_full : (values : List ℕ) (entries : List (List ℕ)) (symbols : List ℕ) (done rounds : ℕ) → IsRound values done entries symbols → done < rounds → length entries ≡ 4095 → IsPairing values rounds entries symbols
 paired_full values entries symbols done rounds round less full = record { done = done; round = round; finished = inr (omega (arith, round.pairs, less), inl full) }
 
-exhausted : (entries : List (List ℕ)) (lens symbols : List ℕ) → AreLens entries lens → AllByRecursion (λ s. s < length entries) symbols →
+pub exhausted : (entries : List (List ℕ)) (lens symbols : List ℕ) → AreLens entries lens → AllByRecursion (λ s. s < length entries) symbols →
     ((l r : ℕ) → l < length lens → r < length lens → get_or lens l 0 + get_or lens r 0 ≤ 256 → pair_count l r symbols < 4) → IsExhausted entries symbols
 exhausted entries lens symbols are below none l r short =
     elim (cases_lt 0 (pair_count l r symbols)) [

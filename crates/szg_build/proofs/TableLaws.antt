@@ -20,11 +20,12 @@ use Rattle.std.proofs.Math.Seq.{take-suc}
 use Rattle.std.proofs.lemmas.List.Elements.{All-from_recursion, All-get_or}
 use Rattle.szg_build.specs.declared.BuildFault.{BuildFault}
 use Rattle.szg_build.specs.declared.BuildFault.TheVariants as fault
-use Rattle.szg_build.specs.Pairing.{IsPaired}
+use Rattle.szg_build.specs.declared.building.Choice.{Choice}
+use Rattle.szg_build.specs.declared.building.Choice.TheVariants.{Fixed, Small}
 use Rattle.szg_build.specs.Plan.{Plan, has_parts, is_part, has_maps, is_map_of, sizes_told, build_fault, fault_for, wrong_length, wrong_value, too_many_values}
-use Rattle.szg_build.specs.Building.{IsBuiltSub}
-use Rattle.szg_build.specs.Built.{IsPacked, layout_in, packed_in, flags_byte, flags_bytes}
-use Rattle.szg_build.specs.Tabling.{AreBuilt, IsBuiltBare, IsOfBytes, IsOfItems, Stands}
+use Rattle.szg_build.specs.Building.{IsBuiltSub, IsPackedBy}
+use Rattle.szg_build.specs.Built.{IsBuilt, IsBuiltSmall, layout_in, packed_in, flags_byte, flags_bytes}
+use Rattle.szg_build.specs.Tabling.{AreBuilt, IsBuiltBare, IsBuiltBy, IsOfBytes, IsOfItems, Stands}
 use Rattle.szg_build.proofs.RefusalLaws.{all_held, all_both, none_pass, sizes_are, lists_stand, fault_told, passed, bits_told, maps_pass}
 
 -- ---- parts
@@ -120,41 +121,41 @@ split_stands material Dtz byte e = refl
 -- ---- subtables
 
 -- one more subtable behind the others
-pub built_more : (plan : Plan) (flags : List ℕ) (lists : List (List ℕ)) (subtables : List Subtable) (values : List ℕ) (subtable : Subtable) → AreBuilt plan flags lists subtables →
-    IsBuiltSub plan.kind (get_or flags (length lists) 0) values plan.block_bits plan.span_bits plan.rounds subtable →
-    AreBuilt plan flags (lists ++ values ∷ []) (subtables ++ subtable ∷ [])
-built_more plan [] [] [] values subtable h here = (here, tt)
-built_more plan (f ∷ flags) [] [] values subtable h here = (here, tt)
-built_more plan flags [] (s ∷ subtables) values subtable h here = absurd h
-built_more plan flags (v ∷ lists) [] values subtable h here = absurd h
-built_more plan [] (v ∷ lists) (s ∷ subtables) values subtable h here = (h.0, built_more plan [] lists subtables values subtable h.1 here)
-built_more plan (f ∷ flags) (v ∷ lists) (s ∷ subtables) values subtable h here = (h.0, built_more plan flags lists subtables values subtable h.1 here)
+pub built_more : (choice : Choice) (plan : Plan) (flags : List ℕ) (lists : List (List ℕ)) (subtables : List Subtable) (values : List ℕ) (subtable : Subtable) → AreBuilt choice plan flags lists subtables →
+    IsBuiltSub plan.kind (get_or flags (length lists) 0) values choice subtable →
+    AreBuilt choice plan flags (lists ++ values ∷ []) (subtables ++ subtable ∷ [])
+built_more choice plan [] [] [] values subtable h here = (here, tt)
+built_more choice plan (f ∷ flags) [] [] values subtable h here = (here, tt)
+built_more choice plan flags [] (s ∷ subtables) values subtable h here = absurd h
+built_more choice plan flags (v ∷ lists) [] values subtable h here = absurd h
+built_more choice plan [] (v ∷ lists) (s ∷ subtables) values subtable h here = (h.0, built_more choice plan [] lists subtables values subtable h.1 here)
+built_more choice plan (f ∷ flags) (v ∷ lists) (s ∷ subtables) values subtable h here = (h.0, built_more choice plan flags lists subtables values subtable h.1 here)
 
 -- one more list of those that are lent
-pub built_next : {A : Type 0} (now : A → List ℕ) (plan : Plan) (flags : List ℕ) (lists : List A) (n : ℕ) (d : A) (subtables : List Subtable) (subtable : Subtable) (f : ℕ) → n < length lists →
-    AreBuilt plan flags (map now (take n lists)) subtables → f ≡ get_or flags n 0 → IsBuiltSub plan.kind f (now (get_or lists n d)) plan.block_bits plan.span_bits plan.rounds subtable →
-    AreBuilt plan flags (map now (take (n + 1) lists)) (subtables ++ subtable ∷ [])
-built_next now plan flags lists n d subtables subtable f lt before same here =
+pub built_next : {A : Type 0} (now : A → List ℕ) (choice : Choice) (plan : Plan) (flags : List ℕ) (lists : List A) (n : ℕ) (d : A) (subtables : List Subtable) (subtable : Subtable) (f : ℕ) → n < length lists →
+    AreBuilt choice plan flags (map now (take n lists)) subtables → f ≡ get_or flags n 0 → IsBuiltSub plan.kind f (now (get_or lists n d)) choice subtable →
+    AreBuilt choice plan flags (map now (take (n + 1) lists)) (subtables ++ subtable ∷ [])
+built_next now choice plan flags lists n d subtables subtable f lt before same here =
     let count : n ≡ length (map now (take n lists)) = omega (arith, length-map (take n lists) now, length-take n lists, lt) in
     let longer : map now (take (n + 1) lists) ≡ map now (take n lists) ++ now (get_or lists n d) ∷ [] =
     ap (λ (m : ℕ). map now (take m lists)) (add-one n) ∙ ap (map now) (take-suc lists n d lt) ∙ map-append now (take n lists) (get_or lists n d ∷ []) in
-    subst (λ (z : List (List ℕ)). AreBuilt plan flags z (subtables ++ subtable ∷ [])) (sym longer)
-    (built_more plan flags (map now (take n lists)) subtables (now (get_or lists n d)) subtable before
-    (subst (λ (g : ℕ). IsBuiltSub plan.kind g (now (get_or lists n d)) plan.block_bits plan.span_bits plan.rounds subtable) (same ∙ ap (λ (k : ℕ). get_or flags k 0) count) here))
+    subst (λ (z : List (List ℕ)). AreBuilt choice plan flags z (subtables ++ subtable ∷ [])) (sym longer)
+    (built_more choice plan flags (map now (take n lists)) subtables (now (get_or lists n d)) subtable before
+    (subst (λ (g : ℕ). IsBuiltSub plan.kind g (now (get_or lists n d)) choice subtable) (same ∙ ap (λ (k : ℕ). get_or flags k 0) count) here))
 
 pub lent_at : {A : Type 0} (P : List ℕ → Type 0) (now : A → List ℕ) (lists : List A) (n : ℕ) (d : A) → n < length lists → AllByRecursion P (map now lists) → P (now (get_or lists n d))
 lent_at P now lists n d lt h = All-get_or (λ x. P (now x)) lists n d lt (All-from_recursion (λ x. P (now x)) lists (all_held P now lists h))
 
 -- a subtable built of a list, with some flags
-abbrev IsOf : Plan → List ℕ → Subtable → Type 0
-IsOf plan values subtable = (flags : ℕ) × IsBuiltSub plan.kind flags values plan.block_bits plan.span_bits plan.rounds subtable
+abbrev IsOf : Choice → Plan → List ℕ → Subtable → Type 0
+IsOf choice plan values subtable = (flags : ℕ) × IsBuiltSub plan.kind flags values choice subtable
 
-beside : (plan : Plan) (flags : List ℕ) (lists : List (List ℕ)) (subtables : List Subtable) → AreBuilt plan flags lists subtables → SideBySide (IsOf plan) lists subtables
-beside plan flags [] [] h = tt
-beside plan flags [] (s ∷ subtables) h = absurd h
-beside plan flags (v ∷ lists) [] h = absurd h
-beside plan [] (v ∷ lists) (s ∷ subtables) h = ((0, h.0), beside plan [] lists subtables h.1)
-beside plan (f ∷ flags) (v ∷ lists) (s ∷ subtables) h = ((f, h.0), beside plan flags lists subtables h.1)
+beside : (choice : Choice) (plan : Plan) (flags : List ℕ) (lists : List (List ℕ)) (subtables : List Subtable) → AreBuilt choice plan flags lists subtables → SideBySide (IsOf choice plan) lists subtables
+beside choice plan flags [] [] h = tt
+beside choice plan flags [] (s ∷ subtables) h = absurd h
+beside choice plan flags (v ∷ lists) [] h = absurd h
+beside choice plan [] (v ∷ lists) (s ∷ subtables) h = ((0, h.0), beside choice plan [] lists subtables h.1)
+beside choice plan (f ∷ flags) (v ∷ lists) (s ∷ subtables) h = ((f, h.0), beside choice plan flags lists subtables h.1)
 
 -- sizes of slots that are the lengths of lists
 abbrev AreSized : List Slot → List (List ℕ) → Type 0
@@ -168,37 +169,37 @@ abbrev rest_of : List ℕ → List ℕ
 rest_of [] = []
 rest_of (n ∷ ns) = ns
 
-subs_stand : (plan : Plan) (places : List Slot) (lists : List (List ℕ)) (subtables : List Subtable) → AreSized places lists → SideBySide (IsOf plan) lists subtables →
+subs_stand : (choice : Choice) (plan : Plan) (places : List Slot) (lists : List (List ℕ)) (subtables : List Subtable) → AreSized places lists → SideBySide (IsOf choice plan) lists subtables →
     SideBySide IsSubtable places subtables
-subs_stand plan [] [] [] e h = tt
-subs_stand plan [] [] (s ∷ subtables) e h = absurd h
-subs_stand plan [] (v ∷ lists) subtables e h = absurd (omega (arith, ap length e))
-subs_stand plan (p ∷ places) [] subtables e h = absurd (omega (arith, ap length e))
-subs_stand plan (p ∷ places) (v ∷ lists) [] e h = absurd h
-subs_stand plan (p ∷ places) (v ∷ lists) (s ∷ subtables) e h = (h.0.1.stands p (ap first_or e), subs_stand plan places lists subtables (ap rest_of e) h.1)
+subs_stand choice plan [] [] [] e h = tt
+subs_stand choice plan [] [] (s ∷ subtables) e h = absurd h
+subs_stand choice plan [] (v ∷ lists) subtables e h = absurd (omega (arith, ap length e))
+subs_stand choice plan (p ∷ places) [] subtables e h = absurd (omega (arith, ap length e))
+subs_stand choice plan (p ∷ places) (v ∷ lists) [] e h = absurd h
+subs_stand choice plan (p ∷ places) (v ∷ lists) (s ∷ subtables) e h = (h.0.1.stands p (ap first_or e), subs_stand choice plan places lists subtables (ap rest_of e) h.1)
 
-values_stand : (plan : Plan) (places : List Slot) (lists : List (List ℕ)) (subtables : List Subtable) → AreSized places lists → SideBySide (IsOf plan) lists subtables →
+values_stand : (choice : Choice) (plan : Plan) (places : List Slot) (lists : List (List ℕ)) (subtables : List Subtable) → AreSized places lists → SideBySide (IsOf choice plan) lists subtables →
     map (values_of plan.kind) (slotted places subtables) ≡ lists
-values_stand plan [] [] [] e h = refl
-values_stand plan [] [] (s ∷ subtables) e h = absurd h
-values_stand plan [] (v ∷ lists) subtables e h = absurd (omega (arith, ap length e))
-values_stand plan (p ∷ places) [] subtables e h = absurd (omega (arith, ap length e))
-values_stand plan (p ∷ places) (v ∷ lists) [] e h = absurd h
-values_stand plan (p ∷ places) (v ∷ lists) (s ∷ subtables) e h =
+values_stand choice plan [] [] [] e h = refl
+values_stand choice plan [] [] (s ∷ subtables) e h = absurd h
+values_stand choice plan [] (v ∷ lists) subtables e h = absurd (omega (arith, ap length e))
+values_stand choice plan (p ∷ places) [] subtables e h = absurd (omega (arith, ap length e))
+values_stand choice plan (p ∷ places) (v ∷ lists) [] e h = absurd h
+values_stand choice plan (p ∷ places) (v ∷ lists) (s ∷ subtables) e h =
     ap (λ (z : List ℕ). z ∷ map (values_of plan.kind) (slotted places subtables)) (ap (λ (n : ℕ). values_in plan.kind n s) (ap first_or e) ∙ h.0.1.expands)
-    ∙ ap (λ (z : List (List ℕ)). v ∷ z) (values_stand plan places lists subtables (ap rest_of e) h.1)
+    ∙ ap (λ (z : List (List ℕ)). v ∷ z) (values_stand choice plan places lists subtables (ap rest_of e) h.1)
 
-packed_stand : (plan : Plan) (places : List Slot) (lists : List (List ℕ)) (subtables : List Subtable) → AreSized places lists → SideBySide (IsOf plan) lists subtables →
-    AllByRecursion (IsPacked plan) (slotted places subtables)
-packed_stand plan [] [] [] e h = tt
-packed_stand plan [] [] (s ∷ subtables) e h = absurd h
-packed_stand plan [] (v ∷ lists) subtables e h = absurd (omega (arith, ap length e))
-packed_stand plan (p ∷ places) [] subtables e h = absurd (omega (arith, ap length e))
-packed_stand plan (p ∷ places) (v ∷ lists) [] e h = absurd h
-packed_stand plan (p ∷ places) (v ∷ lists) (s ∷ subtables) e h = (
-  subst (λ (n : ℕ). IfSome (layout_in s) (λ layout. (layout.block_bits ≡ plan.block_bits) × (layout.span_bits ≡ plan.span_bits) × IsPaired layout (packed_in s) n plan.rounds))
+packed_stand : (choice : Choice) (plan : Plan) (places : List Slot) (lists : List (List ℕ)) (subtables : List Subtable) → AreSized places lists → SideBySide (IsOf choice plan) lists subtables →
+    AllByRecursion (λ pair. IfSome (layout_in pair.1) (λ layout. IsPackedBy choice layout (packed_in pair.1) pair.0.size)) (slotted places subtables)
+packed_stand choice plan [] [] [] e h = tt
+packed_stand choice plan [] [] (s ∷ subtables) e h = absurd h
+packed_stand choice plan [] (v ∷ lists) subtables e h = absurd (omega (arith, ap length e))
+packed_stand choice plan (p ∷ places) [] subtables e h = absurd (omega (arith, ap length e))
+packed_stand choice plan (p ∷ places) (v ∷ lists) [] e h = absurd h
+packed_stand choice plan (p ∷ places) (v ∷ lists) (s ∷ subtables) e h = (
+  subst (λ (n : ℕ). IfSome (layout_in s) (λ layout. IsPackedBy choice layout (packed_in s) n))
       (sym (ap first_or e)) h.0.1.packed,
-  packed_stand plan places lists subtables (ap rest_of e) h.1,
+  packed_stand choice plan places lists subtables (ap rest_of e) h.1,
 )
 
 -- ---- flags and maps
@@ -222,24 +223,24 @@ kept_wide : (flags byte : ℕ) → Kept flags byte → has_bit 4 byte ≡ has_bi
 kept_wide flags byte (inl e) = ap (has_bit 4) e
 kept_wide flags byte (inr e) = ap (λ (n : ℕ). n == 1) (let same : (byte / 16) % 2 ≡ (flags / 16) % 2 = omega (arith, e) in same)
 
-pub flags_stand : (plan : Plan) (flags : List ℕ) (lists : List (List ℕ)) (subtables : List Subtable) → AreBuilt plan flags lists subtables → length flags ≡ length lists →
+pub flags_stand : (choice : Choice) (plan : Plan) (flags : List ℕ) (lists : List (List ℕ)) (subtables : List Subtable) → AreBuilt choice plan flags lists subtables → length flags ≡ length lists →
     AllByRecursion (λ byte. byte < 32) flags → map (λ subtable. flags_of subtable % 32) subtables ≡ flags
-flags_stand plan [] [] [] h e small = refl
-flags_stand plan (f ∷ flags) [] subtables h e small = absurd (omega (arith, e))
-flags_stand plan flags [] (s ∷ subtables) h e small = absurd h
-flags_stand plan flags (v ∷ lists) [] h e small = absurd h
-flags_stand plan [] (v ∷ lists) (s ∷ subtables) h e small = absurd (omega (arith, e))
-flags_stand plan (f ∷ flags) (v ∷ lists) (s ∷ subtables) h e small =
+flags_stand choice plan [] [] [] h e small = refl
+flags_stand choice plan (f ∷ flags) [] subtables h e small = absurd (omega (arith, e))
+flags_stand choice plan flags [] (s ∷ subtables) h e small = absurd h
+flags_stand choice plan flags (v ∷ lists) [] h e small = absurd h
+flags_stand choice plan [] (v ∷ lists) (s ∷ subtables) h e small = absurd (omega (arith, e))
+flags_stand choice plan (f ∷ flags) (v ∷ lists) (s ∷ subtables) h e small =
     ap (λ (n : ℕ). n ∷ map (λ subtable. flags_of subtable % 32) subtables) (kept_mod f (flags_of s) small.0 (kept_of f s h.0.flags_kept))
-    ∙ ap (λ (z : List ℕ). f ∷ z) (flags_stand plan flags lists subtables h.1 (omega (arith, e)) small.1)
+    ∙ ap (λ (z : List ℕ). f ∷ z) (flags_stand choice plan flags lists subtables h.1 (omega (arith, e)) small.1)
 
-bytes_stand : (plan : Plan) (flags : List ℕ) (lists : List (List ℕ)) (subtables : List Subtable) → AreBuilt plan flags lists subtables → map flags_of subtables ≡ flags_bytes flags subtables
-bytes_stand plan flags lists [] h = refl
-bytes_stand plan flags [] (s ∷ subtables) h = absurd h
-bytes_stand plan [] (v ∷ lists) (s ∷ subtables) h =
-    ap (λ (n : ℕ). n ∷ map flags_of subtables) h.0.flags_kept ∙ ap (λ (z : List ℕ). flags_byte 0 s ∷ z) (bytes_stand plan [] lists subtables h.1)
-bytes_stand plan (f ∷ flags) (v ∷ lists) (s ∷ subtables) h =
-    ap (λ (n : ℕ). n ∷ map flags_of subtables) h.0.flags_kept ∙ ap (λ (z : List ℕ). flags_byte f s ∷ z) (bytes_stand plan flags lists subtables h.1)
+bytes_stand : (choice : Choice) (plan : Plan) (flags : List ℕ) (lists : List (List ℕ)) (subtables : List Subtable) → AreBuilt choice plan flags lists subtables → map flags_of subtables ≡ flags_bytes flags subtables
+bytes_stand choice plan flags lists [] h = refl
+bytes_stand choice plan flags [] (s ∷ subtables) h = absurd h
+bytes_stand choice plan [] (v ∷ lists) (s ∷ subtables) h =
+    ap (λ (n : ℕ). n ∷ map flags_of subtables) h.0.flags_kept ∙ ap (λ (z : List ℕ). flags_byte 0 s ∷ z) (bytes_stand choice plan [] lists subtables h.1)
+bytes_stand choice plan (f ∷ flags) (v ∷ lists) (s ∷ subtables) h =
+    ap (λ (n : ℕ). n ∷ map flags_of subtables) h.0.flags_kept ∙ ap (λ (z : List ℕ). flags_byte f s ∷ z) (bytes_stand choice plan flags lists subtables h.1)
 
 lists_fit : (size most : ℕ) (lists : List (List ℕ)) → most ≡ 256 ^ size → list_all (λ list. nat_lt (length list) most) lists ≡ true → AllByRecursion (AreNumbers size) lists →
     AllByRecursion (λ list. (length list < 256 ^ size) × AreNumbers size list) lists
@@ -263,18 +264,18 @@ map_stands flags subtable (Some (wide lists)) kept e fit =
       (fit.0, lists_fit 2 65536 lists refl parts.2 fit.1),
     )
 
-maps_beside : (plan : Plan) (flags : List ℕ) (lists : List (List ℕ)) (subtables : List Subtable) (items : List (Option Map)) → AreBuilt plan flags lists subtables → length flags ≡ length lists →
+maps_beside : (choice : Choice) (plan : Plan) (flags : List ℕ) (lists : List (List ℕ)) (subtables : List Subtable) (items : List (Option Map)) → AreBuilt choice plan flags lists subtables → length flags ≡ length lists →
     length items ≡ length flags → list_all is_map_of (zip flags items) ≡ true → AllByRecursion IsOfItems items → SideBySide IsMapOf subtables items
-maps_beside plan [] [] [] [] h e e' all fit = tt
-maps_beside plan (f ∷ flags) [] subtables items h e e' all fit = absurd (omega (arith, e))
-maps_beside plan flags [] (s ∷ subtables) items h e e' all fit = absurd h
-maps_beside plan flags (v ∷ lists) [] items h e e' all fit = absurd h
-maps_beside plan [] (v ∷ lists) (s ∷ subtables) items h e e' all fit = absurd (omega (arith, e))
-maps_beside plan [] [] [] (m ∷ items) h e e' all fit = absurd (omega (arith, e'))
-maps_beside plan (f ∷ flags) (v ∷ lists) (s ∷ subtables) [] h e e' all fit = absurd (omega (arith, e'))
-maps_beside plan (f ∷ flags) (v ∷ lists) (s ∷ subtables) (m ∷ items) h e e' all fit =
+maps_beside choice plan [] [] [] [] h e e' all fit = tt
+maps_beside choice plan (f ∷ flags) [] subtables items h e e' all fit = absurd (omega (arith, e))
+maps_beside choice plan flags [] (s ∷ subtables) items h e e' all fit = absurd h
+maps_beside choice plan flags (v ∷ lists) [] items h e e' all fit = absurd h
+maps_beside choice plan [] (v ∷ lists) (s ∷ subtables) items h e e' all fit = absurd (omega (arith, e))
+maps_beside choice plan [] [] [] (m ∷ items) h e e' all fit = absurd (omega (arith, e'))
+maps_beside choice plan (f ∷ flags) (v ∷ lists) (s ∷ subtables) [] h e e' all fit = absurd (omega (arith, e'))
+maps_beside choice plan (f ∷ flags) (v ∷ lists) (s ∷ subtables) (m ∷ items) h e e' all fit =
     let halves = and_parts (is_map_of (f, m)) (list_all is_map_of (zip flags items)) all in
-    (map_stands f s m (kept_of f s h.0.flags_kept) halves.0 fit.0, maps_beside plan flags lists subtables items h.1 (omega (arith, e)) (omega (arith, e')) halves.1 fit.1)
+    (map_stands f s m (kept_of f s h.0.flags_kept) halves.0 fit.0, maps_beside choice plan flags lists subtables items h.1 (omega (arith, e)) (omega (arith, e')) halves.1 fit.1)
 
 -- a DTZ table has a slot for each part
 one_each : (material : Sides) (n : ℕ) (parts : List Part) → length (slots_from material (0 ∷ []) n parts) ≡ length parts
@@ -297,21 +298,21 @@ abbrev pub flags_shown : Kind → List Subtable → List ℕ
 flags_shown kind subtables = elim kind [ Wdl ↦ [] | Dtz ↦ map (λ subtable. flags_of subtable % 32) subtables ]
 
 -- flags and maps of a table of built subtables
-pub maps_and_flags : (kind : Kind) (plan : Plan) (lists : List (List ℕ)) (subtables : List Subtable) → plan.kind ≡ kind → maps_pass kind plan.material plan.flags plan.maps ≡ true →
+pub maps_and_flags : (choice : Choice) (kind : Kind) (plan : Plan) (lists : List (List ℕ)) (subtables : List Subtable) → plan.kind ≡ kind → maps_pass kind plan.material plan.flags plan.maps ≡ true →
     AllByRecursion IsOfItems plan.maps → SideBySide (λ _. IsPart plan.material kind) (part_numbers plan.material) plan.parts →
-    AreSized (slots plan.material kind plan.parts) lists → AreBuilt plan plan.flags lists subtables → AreMaps kind subtables plan.maps × (flags_shown kind subtables ≡ plan.flags)
-maps_and_flags Wdl plan lists subtables is pass fit parts sized built =
+    AreSized (slots plan.material kind plan.parts) lists → AreBuilt choice plan plan.flags lists subtables → AreMaps kind subtables plan.maps × (flags_shown kind subtables ≡ plan.flags)
+maps_and_flags choice Wdl plan lists subtables is pass fit parts sized built =
     let halves = and_parts (length plan.flags == 0) (length plan.maps == 0) pass in
     (no_items plan.maps (eqb-true (length plan.maps) 0 halves.1), sym (no_items plan.flags (eqb-true (length plan.flags) 0 halves.0)))
-maps_and_flags Dtz plan lists subtables is pass fit parts sized built =
+maps_and_flags choice Dtz plan lists subtables is pass fit parts sized built =
     let tests = four (length plan.flags == length (part_numbers plan.material)) (length plan.maps == length (part_numbers plan.material)) (list_all (λ byte. nat_lt byte 32) plan.flags) (list_all is_map_of (zip plan.flags plan.maps)) pass in
     let places : length (slots plan.material Dtz plan.parts) ≡ length lists =
     sym (length-map (slots plan.material Dtz plan.parts) (λ slot. slot.size)) ∙ ap length sized ∙ length-map lists length in
     let flags : length plan.flags ≡ length lists = eqb-true (length plan.flags) (length (part_numbers plan.material)) tests.0
     ∙ side_lengths (λ _. IsPart plan.material Dtz) (part_numbers plan.material) plan.parts parts ∙ sym (one_each plan.material 0 plan.parts) ∙ places in
     let items : length plan.maps ≡ length plan.flags = eqb-true (length plan.maps) (length (part_numbers plan.material)) tests.1 ∙ sym (eqb-true (length plan.flags) (length (part_numbers plan.material)) tests.0) in (
-      maps_beside plan plan.flags lists subtables plan.maps built flags items tests.3 fit,
-      flags_stand plan plan.flags lists subtables built flags (all_told (λ byte. nat_lt byte 32) (λ byte. byte < 32) plan.flags (λ byte h. ltb-true byte 32 h) tests.2),
+      maps_beside choice plan plan.flags lists subtables plan.maps built flags items tests.3 fit,
+      flags_stand choice plan plan.flags lists subtables built flags (all_told (λ byte. nat_lt byte 32) (λ byte. byte < 32) plan.flags (λ byte h. ltb-true byte 32 h) tests.2),
     )
 
 -- ---- the table
@@ -328,47 +329,76 @@ table_with plan byte4 subtables = record {
   last = plan.last;
 }
 
-pub table_stands : (plan : Plan) (byte4 : ℕ) (lists : List (List ℕ)) (subtables : List Subtable) → byte4 < 256 → has_bit 0 byte4 ≡ not (is_symmetric plan.material) → has_bit 1 byte4 ≡ has_pawns plan.material →
-    AreBytes 16 plan.last → AllByRecursion IsOfItems plan.maps → Stands plan lists → AreBuilt plan plan.flags lists subtables → IsBuiltBare plan lists (table_with plan byte4 subtables)
-table_stands plan byte4 lists subtables small split pawns last fit stands built =
+pub table_stands : (choice : Choice) (plan : Plan) (byte4 : ℕ) (lists : List (List ℕ)) (subtables : List Subtable) → byte4 < 256 → has_bit 0 byte4 ≡ not (is_symmetric plan.material) → has_bit 1 byte4 ≡ has_pawns plan.material →
+    AreBytes 16 plan.last → AllByRecursion IsOfItems plan.maps → Stands plan lists → AreBuilt choice plan plan.flags lists subtables → IsBuiltBare choice plan lists (table_with plan byte4 subtables)
+table_stands choice plan byte4 lists subtables small split pawns last fit stands built =
     let parts = stands.parts in
     let sized = stands.sizes in
     let pass = stands.maps in
-    let told = maps_and_flags plan.kind plan lists subtables refl pass fit parts sized built in
-    let each = beside plan plan.flags lists subtables built in
+    let told = maps_and_flags choice plan.kind plan lists subtables refl pass fit parts sized built in
+    let each = beside choice plan plan.flags lists subtables built in
     record {
       built = record {
         material = refl;
         kind = refl;
         parts = refl;
         flags = told.1;
-        bytes = bytes_stand plan plan.flags lists subtables built;
+        bytes = bytes_stand choice plan plan.flags lists subtables built;
         maps = refl;
         last = refl;
-        packed = packed_stand plan (slots plan.material plan.kind plan.parts) lists subtables sized each;
-        values = values_stand plan (slots plan.material plan.kind plan.parts) lists subtables sized each;
+        packed = packed_stand choice plan (slots plan.material plan.kind plan.parts) lists subtables sized each;
+        values = values_stand choice plan (slots plan.material plan.kind plan.parts) lists subtables sized each;
       };
       accepted = λ fill asked. record {
         byte4 = small;
         split = split_stands plan.material plan.kind byte4 split;
         pawns = ap (λ (b : Bool). agrees b (has_pawns plan.material)) pawns ∙ agrees_itself (has_pawns plan.material);
         parts = parts;
-        subtables = subs_stand plan (slots plan.material plan.kind plan.parts) lists subtables sized each;
+        subtables = subs_stand choice plan (slots plan.material plan.kind plan.parts) lists subtables sized each;
         maps = told.0;
         last = last;
         fill_fits = asked;
       };
     }
 
+-- packed by the plan's numbers
+pub fixed_is_built : (plan : Plan) (lists : List (List ℕ)) (t : Contents) →
+    IsBuiltBy (Fixed (record { block_bits = plan.block_bits; span_bits = plan.span_bits; rounds = plan.rounds })) plan lists t → IsBuilt plan lists t
+fixed_is_built plan lists t h = record {
+  material = h.material;
+  kind = h.kind;
+  parts = h.parts;
+  flags = h.flags;
+  bytes = h.bytes;
+  maps = h.maps;
+  last = h.last;
+  packed = h.packed;
+  values = h.values;
+}
+
+-- packed by numbers that were chosen
+pub small_is_built : (plan : Plan) (lists : List (List ℕ)) (t : Contents) → IsBuiltBy Small plan lists t → IsBuiltSmall plan lists t
+small_is_built plan lists t h = record {
+  material = h.material;
+  kind = h.kind;
+  parts = h.parts;
+  flags = h.flags;
+  bytes = h.bytes;
+  maps = h.maps;
+  last = h.last;
+  packed = h.packed;
+  values = h.values;
+}
+
 -- the same table, whose fields are copies
-pub table_copied : (plan : Plan) (lists : List (List ℕ)) (byte4 : ℕ) (subtables : List Subtable) (material : Sides) (parts : List Part) (items : List (Option Map)) (last : List ℕ) →
-    material ≡ plan.material → parts ≡ plan.parts → items ≡ plan.maps → last ≡ plan.last → IsBuiltBare plan lists (table_with plan byte4 subtables) →
-    IsBuiltBare plan lists (record { material = material; kind = plan.kind; byte4 = byte4; parts = parts; subtables = subtables; maps = items; last = last })
-table_copied plan lists byte4 subtables material parts items last e1 e2 e3 e4 h =
-    subst (λ (m : Sides). IsBuiltBare plan lists (record { material = m; kind = plan.kind; byte4 = byte4; parts = parts; subtables = subtables; maps = items; last = last })) (sym e1)
-    (subst (λ (p : List Part). IsBuiltBare plan lists (record { material = plan.material; kind = plan.kind; byte4 = byte4; parts = p; subtables = subtables; maps = items; last = last })) (sym e2)
-    (subst (λ (i : List (Option Map)). IsBuiltBare plan lists (record { material = plan.material; kind = plan.kind; byte4 = byte4; parts = plan.parts; subtables = subtables; maps = i; last = last })) (sym e3)
-    (subst (λ (l : List ℕ). IsBuiltBare plan lists (record { material = plan.material; kind = plan.kind; byte4 = byte4; parts = plan.parts; subtables = subtables; maps = plan.maps; last = l })) (sym e4) h)))
+pub table_copied : (choice : Choice) (plan : Plan) (lists : List (List ℕ)) (byte4 : ℕ) (subtables : List Subtable) (material : Sides) (parts : List Part) (items : List (Option Map)) (last : List ℕ) →
+    material ≡ plan.material → parts ≡ plan.parts → items ≡ plan.maps → last ≡ plan.last → IsBuiltBare choice plan lists (table_with plan byte4 subtables) →
+    IsBuiltBare choice plan lists (record { material = material; kind = plan.kind; byte4 = byte4; parts = parts; subtables = subtables; maps = items; last = last })
+table_copied choice plan lists byte4 subtables material parts items last e1 e2 e3 e4 h =
+    subst (λ (m : Sides). IsBuiltBare choice plan lists (record { material = m; kind = plan.kind; byte4 = byte4; parts = parts; subtables = subtables; maps = items; last = last })) (sym e1)
+    (subst (λ (p : List Part). IsBuiltBare choice plan lists (record { material = plan.material; kind = plan.kind; byte4 = byte4; parts = p; subtables = subtables; maps = items; last = last })) (sym e2)
+    (subst (λ (i : List (Option Map)). IsBuiltBare choice plan lists (record { material = plan.material; kind = plan.kind; byte4 = byte4; parts = plan.parts; subtables = subtables; maps = i; last = last })) (sym e3)
+    (subst (λ (l : List ℕ). IsBuiltBare choice plan lists (record { material = plan.material; kind = plan.kind; byte4 = byte4; parts = plan.parts; subtables = subtables; maps = plan.maps; last = l })) (sym e4) h)))
 
 -- zeros are bytes
 zeros : (n : ℕ) → AreBytes n (replicate n 0)

@@ -16,6 +16,8 @@ use Rattle.szg_file.specs.Accepted.{AreNumbers, AreBytes, IsEntry, IsSubtable}
 use Rattle.szg_file.specs.File.{flags_of}
 use Rattle.szg_file.specs.Values.{values_in}
 use Rattle.szg_file.specs.Contents.{Head, Slot, Subtable, constant, pairs}
+use Rattle.szg_build.specs.declared.building.Choice.{Choice}
+use Rattle.szg_build.specs.declared.building.Choice.TheVariants.{Fixed, Small}
 use Rattle.szg_build.specs.Plan.{values_below, different_values}
 use Rattle.szg_build.specs.Built.{layout_in, packed_in, flags_byte}
 use Rattle.szg_build.specs.Pairing.{pair_count, values_of, pairs_in, IsUsed, IsFinished, IsPaired}
@@ -71,11 +73,11 @@ pub record IsPairing (values : List ℕ) (rounds : ℕ) (entries : List (List �
 
 -- ---- words
 
--- an accepted code of so many symbols, of which each has a word of at most twelve bits
+-- an accepted code of so many symbols, of which each has a word
 pub record IsChosen (count : ℕ) (code : CanonicalCode) : Type 0 where
   pub accepted : IsCode code
   pub symbols : code.symbols ≡ count
-  pub longest : code.max_length ≤ 12
+  pub longest : code.max_length ≤ 32
   pub fit : AreNumbers 2 code.lowest
   pub words : (s : ℕ) → s < count → (word : List Bool) × IsWord code word s
 
@@ -119,7 +121,7 @@ pub record IsFilling (code : CanonicalCode) (entries : List (List ℕ)) (block_b
   pub told : values ≡ length (values_of entries current)
   pub fits : length words ≤ 8 * 2 ^ block_bits
   pub most : values ≤ 65536
-  pub short_words : length words ≤ 12 * length current
+  pub short_words : length words ≤ 32 * length current
   pub short_symbols : values ≤ 256 * length current
   pub some : length current ≤ values
   pub many : 4 * length lengths ≤ length (concat lists)
@@ -171,11 +173,32 @@ abbrev pub IsMadeSub : List ℕ → ℕ → ℕ → ℕ → ℕ → Subtable →
 IsMadeSub values flags block_bits span_bits rounds (constant _ byte) = ⊥
 IsMadeSub values flags block_bits span_bits rounds (pairs head sparse lengths packed) = IsMade values flags block_bits span_bits rounds head sparse lengths packed
 
+-- the same, by some numbers in their ranges
+pub record IsMadeSmall (values : List ℕ) (flags : ℕ) (subtable : Subtable) : Type 0 where
+  pub block_bits : ℕ
+  pub span_bits : ℕ
+  pub rounds : ℕ
+  pub least_block : 5 ≤ block_bits
+  pub most_block : block_bits ≤ 10
+  pub least_span : 1 ≤ span_bits
+  pub most_span : span_bits ≤ 16
+  pub made : IsMadeSub values flags block_bits span_bits rounds subtable
+
+-- the numbers of a choice are in their ranges
+abbrev pub IsInBounds : Choice → Type 0
+IsInBounds (Fixed packing) = (5 ≤ packing.block_bits) × (packing.block_bits ≤ 10) × (1 ≤ packing.span_bits) × (packing.span_bits ≤ 16) × (packing.rounds ≤ 4000)
+IsInBounds Small = Unit {0}
+
+-- what isn't constant is packed by the numbers of a choice, or by some where it has none
+abbrev pub IsPackedBy : Choice → Layout → List ℕ → ℕ → Type 0
+IsPackedBy (Fixed packing) layout packed size =
+    (layout.block_bits ≡ packing.block_bits) × (layout.span_bits ≡ packing.span_bits) × IsPaired layout packed size packing.rounds
+IsPackedBy Small layout packed size = (rounds : ℕ) × IsPaired layout packed size rounds
+
 -- A subtable of a list of values: it passes the checks of a file, and expands to the values; its flags byte has these
--- flags; and if it isn't constant it is packed as it was asked for.
-pub record IsBuiltSub (kind : Kind) (flags : ℕ) (values : List ℕ) (block_bits span_bits rounds : ℕ) (subtable : Subtable) : Type 0 where
+-- flags; and if it isn't constant it is packed as chosen.
+pub record IsBuiltSub (kind : Kind) (flags : ℕ) (values : List ℕ) (choice : Choice) (subtable : Subtable) : Type 0 where
   pub stands : (slot : Slot) → slot.size ≡ length values → IsSubtable slot subtable
   pub expands : values_in kind (length values) subtable ≡ values
   pub flags_kept : flags_of subtable ≡ flags_byte flags subtable
-  pub packed : IfSome (layout_in subtable) (λ layout. (layout.block_bits ≡ block_bits) × (layout.span_bits ≡ span_bits)
-      × IsPaired layout (packed_in subtable) (length values) rounds)
+  pub packed : IfSome (layout_in subtable) (λ layout. IsPackedBy choice layout (packed_in subtable) (length values))

@@ -60,6 +60,22 @@ pub record IsBuilt (plan : Plan) (lists : List (List ℕ)) (t : Contents) : Type
   pub packed : AllByRecursion (IsPacked plan) (subtables_in t)
   pub values : value_lists t ≡ lists
 
+-- a subtable that isn't constant has pairs as some rounds leave them
+abbrev pub IsSmallPacked : Slot × Subtable → Type 0
+IsSmallPacked pair = IfSome (layout_in pair.1) (λ layout. (rounds : ℕ) × IsPaired layout (packed_in pair.1) pair.0.size rounds)
+
+-- a built table whose subtables are packed by numbers that the builder chose; the plan's own bind nothing
+pub record IsBuiltSmall (plan : Plan) (lists : List (List ℕ)) (t : Contents) : Type 0 where
+  pub material : t.material ≡ plan.material
+  pub kind : t.kind ≡ plan.kind
+  pub parts : t.parts ≡ plan.parts
+  pub flags : plan_flags t ≡ plan.flags
+  pub bytes : map flags_of t.subtables ≡ flags_bytes plan.flags t.subtables
+  pub maps : t.maps ≡ plan.maps
+  pub last : t.last ≡ plan.last
+  pub packed : AllByRecursion IsSmallPacked (subtables_in t)
+  pub values : value_lists t ≡ lists
+
 -- the dump tells this table
 pub record IsDumpOf (dump : Dump) (t : Contents) : Type 0 where
   pub material : t.material ≡ dump.material

@@ -1,13 +1,16 @@
 -- What the last steps of the builder, from lists of values to a table, hand on.
-use Rattle.std.specs.Prelude.{◌≡◌, ℕ, ◌^◌, ◌<◌, ◌≤◌, List, [], ◌∷◌, length, map, true, Option, Some, None}
+use Rattle.std.specs.Prelude.{◌≡◌, ℕ, ◌^◌, ◌<◌, ◌≤◌, List, [], ◌∷◌, length, map, true, Option, Some, None, IfSome}
 use Rattle.std.specs.List.{AllByRecursion}
 use Rattle.szg_values.specs.declared.Kind.{Kind}
 use Rattle.szg_file.specs.Accepted.{SideBySide, AreNumbers, AreBytes, IsPart, IsAccepted}
 use Rattle.szg_file.specs.Contents.{Part, Subtable, Map, narrow, wide, Contents, slots, part_numbers}
+use Rattle.szg_file.specs.File.{flags_of}
 use Rattle.szg_file.specs.FileOf.{fill_asked}
+use Rattle.szg_build.specs.declared.building.Choice.{Choice}
+use Rattle.szg_build.specs.declared.building.Choice.TheVariants.{Fixed, Small}
 use Rattle.szg_build.specs.Plan.{Plan, different_values, greatest_value, has_maps}
-use Rattle.szg_build.specs.Building.{IsBuiltSub}
-use Rattle.szg_build.specs.Built.{IsBuilt}
+use Rattle.szg_build.specs.Building.{IsBuiltSub, IsPackedBy}
+use Rattle.szg_build.specs.Built.{layout_in, packed_in, subtables_in, value_lists, plan_flags, flags_bytes}
 
 -- a list of values of which a subtable can be built
 pub record IsBuildable (kind : Kind) (values : List ℕ) : Type 0 where
@@ -24,15 +27,20 @@ pub record IsInRange (plan : Plan) : Type 0 where
   pub rounds : plan.rounds ≤ 4000
   pub flags : AllByRecursion (λ flags. flags < 32) plan.flags
 
+-- the choice is the plan's numbers, or none
+abbrev pub IsChoiceOf : Plan → Choice → Type 0
+IsChoiceOf plan (Fixed packing) = (packing.block_bits ≡ plan.block_bits) × (packing.span_bits ≡ plan.span_bits) × (packing.rounds ≡ plan.rounds)
+IsChoiceOf plan Small = Unit {0}
+
 -- subtables built of lists, each with its flags; where flags end, with none
-abbrev pub AreBuilt : Plan → List ℕ → List (List ℕ) → List Subtable → Type 0
-AreBuilt plan flags [] [] = Unit {0}
-AreBuilt plan flags [] (subtable ∷ subtables) = ⊥
-AreBuilt plan flags (values ∷ lists) [] = ⊥
-AreBuilt plan [] (values ∷ lists) (subtable ∷ subtables) =
-    IsBuiltSub plan.kind 0 values plan.block_bits plan.span_bits plan.rounds subtable × AreBuilt plan [] lists subtables
-AreBuilt plan (first ∷ flags) (values ∷ lists) (subtable ∷ subtables) =
-    IsBuiltSub plan.kind first values plan.block_bits plan.span_bits plan.rounds subtable × AreBuilt plan flags lists subtables
+abbrev pub AreBuilt : Choice → Plan → List ℕ → List (List ℕ) → List Subtable → Type 0
+AreBuilt choice plan flags [] [] = Unit {0}
+AreBuilt choice plan flags [] (subtable ∷ subtables) = ⊥
+AreBuilt choice plan flags (values ∷ lists) [] = ⊥
+AreBuilt choice plan [] (values ∷ lists) (subtable ∷ subtables) =
+    IsBuiltSub plan.kind 0 values choice subtable × AreBuilt choice plan [] lists subtables
+AreBuilt choice plan (first ∷ flags) (values ∷ lists) (subtable ∷ subtables) =
+    IsBuiltSub plan.kind first values choice subtable × AreBuilt choice plan flags lists subtables
 
 -- a part's numbers are bytes
 abbrev pub IsOfBytes : Part → Type 0
@@ -44,9 +52,21 @@ IsOfItems None = Unit {0}
 IsOfItems (Some (narrow lists)) = (length lists ≡ 4) × AllByRecursion (AreNumbers 1) lists
 IsOfItems (Some (wide lists)) = (length lists ≡ 4) × AllByRecursion (AreNumbers 2) lists
 
+-- a built table, packed as chosen
+pub record IsBuiltBy (choice : Choice) (plan : Plan) (lists : List (List ℕ)) (t : Contents) : Type 0 where
+  pub material : t.material ≡ plan.material
+  pub kind : t.kind ≡ plan.kind
+  pub parts : t.parts ≡ plan.parts
+  pub flags : plan_flags t ≡ plan.flags
+  pub bytes : map flags_of t.subtables ≡ flags_bytes plan.flags t.subtables
+  pub maps : t.maps ≡ plan.maps
+  pub last : t.last ≡ plan.last
+  pub packed : AllByRecursion (λ pair. IfSome (layout_in pair.1) (λ layout. IsPackedBy choice layout (packed_in pair.1) pair.0.size)) (subtables_in t)
+  pub values : value_lists t ≡ lists
+
 -- all of a built table but its fill
-pub record IsBuiltBare (plan : Plan) (lists : List (List ℕ)) (t : Contents) : Type 0 where
-  pub built : IsBuilt plan lists t
+pub record IsBuiltBare (choice : Choice) (plan : Plan) (lists : List (List ℕ)) (t : Contents) : Type 0 where
+  pub built : IsBuiltBy choice plan lists t
   pub accepted : (fill : List ℕ) → AreBytes (fill_asked t) fill → IsAccepted t fill
 
 -- nothing of a plan and its lists is refused

@@ -111,7 +111,7 @@ fn is_full(filling: &Filling, bits: u64, values: u16, block_bits: u8) -> bool
     requires bits { block_bits ≤ 10 }
     requires fits { length filling.now.buffer.written ≤ 8 * 2 ^ block_bits }
     requires most { filling.now.values ≤ 65536 }
-    requires short { bits ≤ 12 }
+    requires short { bits ≤ 32 }
     ensures { IsTrue result ↔ ((8 * 2 ^ block_bits < length filling.now.buffer.written + bits) ⊎ (65536 < filling.now.values + values)) }
 {
     filling.buffer.bits() + bits > 8 * block_size(block_bits) as u64
@@ -147,12 +147,12 @@ fn add(
 }
 
 /// A proof's step that takes no time: what `u16` holds fits two bytes.
-fn fit_two_bytes(numbers: &[u16])
+pub(crate) fn fit_two_bytes(numbers: &[u16])
     ensures { AreNumbers 2 numbers.now }
 {}
 
 /// A proof's step that takes no time: what `u8` holds fits one byte.
-fn fit_one_byte(numbers: &[u8])
+pub(crate) fn fit_one_byte(numbers: &[u8])
     ensures { AreNumbers 1 numbers.now }
 {}
 

@@ -4,16 +4,20 @@ ghost use Rattle.std.specs.List.{AllByRecursion};
 ghost use Rattle.szg_pairs.specs.Dictionary.{IsDictionary};
 ghost use Rattle.szg_file.specs.Accepted.{AreNumbers};
 ghost use Rattle.szg_file.specs.Held.{subtable_of};
-ghost use Rattle.szg_build.specs.Building.{IsMadeSub};
+ghost use Rattle.szg_build.specs.Building.{IsChosen, IsMadeSmall, IsMadeSub, IsPairing};
 ghost use Rattle.szg_build.specs.Plan.{different_values};
 
+use crate::accepting::count_pairs_in;
 use crate::blocks::{Cut, fill_blocks};
-use crate::coding::choose_code;
+use crate::coding::{MAX_BITS, choose_code, choose_short_code};
 use crate::leaves::Paired;
-use crate::rounds::pair_up;
+use crate::numbering::counts_of;
+use crate::rounds::{pair_shortly, pair_up};
+use crate::sizing::choose_sizes;
 use crate::sparse::sparse_index;
 use std::alloc::{AllocError, Global};
 use szg_block::{Entry, Sub};
+use szg_code::Code;
 use szg_pairs::{Dict, DictFault};
 
 /// How a subtable is packed.
@@ -22,6 +26,15 @@ pub(crate) struct Packing {
     pub block_bits: u8,
     pub span_bits: u8,
     pub rounds: u32,
+}
+
+/// How the packing of subtables is chosen.
+#[derive(Clone, Copy)]
+pub(crate) enum Choice {
+    /// By these numbers.
+    Fixed(Packing),
+    /// By what takes the fewest bytes.
+    Small,
 }
 
 /// The dictionary of entries that are one.
@@ -53,31 +66,44 @@ fn push_extra(lengths: &mut Vec<u16>, sparse: &[Entry]) -> Result<u8, AllocError
     Ok(1)
 }
 
-/// A subtable that isn't constant, of these values.
-pub(crate) fn build_pairs(
+/// The code of a dictionary's symbols: by how often they are in the text, or of words of at most two lengths.
+fn code_for(alloc: Global, dict: &Dict, symbols: &[u16], by_use: bool) -> Result<Code, AllocError>
+    requires some { 1 ≤ length dict.now }
+    requires few { length dict.now ≤ 4095 }
+    ensures { IfOk result (λ code. IsChosen (length dict.now) code) }
+{
+    if by_use {
+        let counts = counts_of(alloc, usize::from(dict.symbols()), symbols)?;
+        return choose_short_code(alloc, &counts);
+    }
+    choose_code(alloc, dict.symbols())
+}
+
+/// A subtable that isn't constant, of these values and their pairs.
+fn build_paired(
     alloc: Global,
     values: &[u16],
     flags: u8,
+    paired: Paired,
     packing: Packing,
+    by_use: bool,
 ) -> Result<Sub, AllocError>
     requires some { 0 < length values.now }
     requires few { length values.now < 2 ^ 33 }
-    requires small { AllByRecursion (λ v. v ≤ 4095) values.now }
-    requires different { length (different_values values.now) ≤ 4095 }
+    requires pairing { IsPairing values.now packing.rounds paired.entries.items paired.symbols.items }
     requires least_block { 5 ≤ packing.block_bits }
     requires most_block { packing.block_bits ≤ 10 }
     requires least_span { 1 ≤ packing.span_bits }
     requires most_span { packing.span_bits ≤ 16 }
-    requires rounds { packing.rounds ≤ 4000 }
     ensures { IfOk result (λ sub. IsMadeSub values.now flags packing.block_bits packing.span_bits packing.rounds (subtable_of sub)) }
 {
     let Paired {
         entries,
         symbols,
         ..
-    } = pair_up(alloc, values, packing.rounds)?;
+    } = paired;
     let dict = dictionary(alloc, entries)?;
-    let code = choose_code(alloc, dict.symbols())?;
+    let code = code_for(alloc, &dict, &symbols, by_use)?;
     let Cut {
         mut lengths,
         packed,
@@ -97,4 +123,46 @@ pub(crate) fn build_pairs(
         lengths,
         packed,
     })
+}
+
+/// A subtable that isn't constant, of these values.
+pub(crate) fn build_pairs(
+    alloc: Global,
+    values: &[u16],
+    flags: u8,
+    packing: Packing,
+) -> Result<Sub, AllocError>
+    requires some { 0 < length values.now }
+    requires few { length values.now < 2 ^ 33 }
+    requires small { AllByRecursion (λ v. v ≤ 4095) values.now }
+    requires different { length (different_values values.now) ≤ 4095 }
+    requires least_block { 5 ≤ packing.block_bits }
+    requires most_block { packing.block_bits ≤ 10 }
+    requires least_span { 1 ≤ packing.span_bits }
+    requires most_span { packing.span_bits ≤ 16 }
+    requires rounds { packing.rounds ≤ 4000 }
+    ensures { IfOk result (λ sub. IsMadeSub values.now flags packing.block_bits packing.span_bits packing.rounds (subtable_of sub)) }
+{
+    let paired = pair_up(alloc, values, packing.rounds)?;
+    build_paired(alloc, values, flags, paired, packing, false)
+}
+
+/// A subtable that isn't constant, of these values, with as many pairs as pay, words by use, and the block bits and span
+/// bits by which it takes the fewest bytes.
+pub(crate) fn build_short_pairs(alloc: Global, values: &[u16], flags: u8) -> Result<Sub, AllocError>
+    requires some { 0 < length values.now }
+    requires few { length values.now < 2 ^ 33 }
+    requires small { AllByRecursion (λ v. v ≤ 4095) values.now }
+    requires different { length (different_values values.now) ≤ 4095 }
+    ensures { IfOk result (λ sub. IsMadeSmall values.now flags (subtable_of sub)) }
+{
+    let paired = pair_shortly(alloc, values)?;
+    let pairs = count_pairs_in(&paired.entries);
+    let sizes = choose_sizes(alloc, values.len() as u64, &paired, MAX_BITS)?;
+    let packing = Packing {
+        block_bits: sizes.block_bits,
+        span_bits: sizes.span_bits,
+        rounds: pairs as u32,
+    };
+    build_paired(alloc, values, flags, paired, packing, true)
 }

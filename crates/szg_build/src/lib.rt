@@ -2,26 +2,33 @@
 //! of a table, which a person can read and compare.
 #![tactic(auto)]
 
+mod accepting;
 mod blocks;
 mod building;
+mod cells;
 mod coding;
 mod copies;
-mod counts;
+mod costs;
 mod dump;
 mod dumpreading;
 mod incoming;
 mod item;
 pub mod laws;
 mod leaves;
+mod lengths;
 mod line;
 mod lines;
+mod numbering;
+mod occurrences;
 mod outgoing;
 mod pairing;
 mod places;
+mod proposing;
 mod reading;
 mod refusing;
 mod rounds;
 mod saying;
+mod sizing;
 mod sparse;
 mod subreading;
 mod subtables;
@@ -33,7 +40,7 @@ pub use dump::{Dump, DumpFault, DumpReadFault};
 pub use dumpreading::read_dump;
 use szg_file::{Map, PartBytes};
 use szg_values::{Kind, Material};
-pub use table::build;
+pub use table::{build, build_small};
 use thiserror::Error;
 pub use writing::write_dump;
 
@@ -49,6 +56,18 @@ pub struct Plan {
     pub span_bits: u8,
     /// The most pairs that a dictionary gets, at most 4,000.
     pub rounds: u32,
+    /// One item a part in DTZ, none in WDL; so is `maps`.
+    pub flags: Vec<u8>,
+    pub maps: Vec<Option<Map>>,
+    pub last: [u8; 16],
+}
+
+/// What a small table is to be built of, beside its values: a `Plan` without the three numbers.
+#[derive(Drop)]
+pub struct SmallPlan {
+    pub material: Material,
+    pub kind: Kind,
+    pub parts: Vec<PartBytes>,
     /// One item a part in DTZ, none in WDL; so is `maps`.
     pub flags: Vec<u8>,
     pub maps: Vec<Option<Map>>,

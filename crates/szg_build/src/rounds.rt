@@ -1,29 +1,16 @@
-//! Rounds: each makes a pair of two symbols that stand side by side most often.
+//! Pairs: those that are proposed, where they pass the tests, else one a round by a count anew.
 ghost use Rattle.std.specs.Prelude.{ℕ, ◌≡◌, ◌+◌, ◌*◌, ◌<◌, ◌≤◌, true, List, length, slice_index, IfOk, IfSome, IfNone, OnOk};
 ghost use Rattle.std.specs.List.{AllByRecursion};
 ghost use Rattle.szg_build.specs.Building.{AreLens, IsCandidate, IsPairing, IsRound};
-ghost use Rattle.szg_build.specs.Pairing.{pair_count};
+ghost use Rattle.szg_build.specs.Pairing.{IsFinished, pair_count, pairs_in};
 ghost use Rattle.szg_build.specs.Plan.{different_values};
 
-use crate::counts::{Counts, LEAST_COUNT, Pair, is_short};
-use crate::leaves::{Paired, begin, entry};
-use crate::pairing::{count_pairs, replace};
+use crate::accepting::{accept, count_pairs_in};
+use crate::leaves::{MAX_SYMBOLS, Paired, begin, entry};
+use crate::numbering::numbered_by_count;
+use crate::pairing::{LEAST_COUNT, Pair, count_pairs, is_short, replace};
+use crate::proposing::{propose, propose_short};
 use std::alloc::{AllocError, Global};
-
-/// The most symbols that a dictionary may have.
-const MAX_SYMBOLS: usize = 4095;
-
-/// Whether a pair stands somewhere among symbols.
-fn stands(symbols: &[u16], pair: Pair) -> bool
-    ensures { result ≡ true → 0 < pair_count pair.left pair.right symbols.now }
-{
-    for place in 1..symbols.len() {
-        if symbols[place - 1] == pair.left && symbols[place] == pair.right {
-            return true;
-        }
-    }
-    false
-}
 
 /// A right symbol with which a left one makes a pair that counts four or more and may be made.
 fn find_right(counts: &[u32], lens: &[u16], left: usize) -> Option<usize>
@@ -84,27 +71,6 @@ fn find_left(alloc: Global, symbols: &[u16], lens: &[u16]) -> Result<Option<Pair
     Ok(find_pair(&counts, lens))
 }
 
-/// The pair of the next round: the one that the counts pick, where it stands, else one that a count anew finds.
-fn next_pair(
-    alloc: Global,
-    counts: &mut Counts,
-    paired: &Paired,
-) -> Result<Option<Pair>, AllocError>
-    requires few { length paired.now.lens.items ≤ 4095 }
-    requires below { AllByRecursion (λ s. s < length paired.now.lens.items) paired.now.symbols.items }
-    ensures pair { IfOk result (λ found. IfSome found (λ pair. IsCandidate paired.now.lens.items paired.now.symbols.items pair.left pair.right)) }
-    ensures none { IfOk result (λ found. IfNone found ((left right : ℕ) → left < length paired.now.lens.items → right < length paired.now.lens.items →
-        slice_index paired.now.lens.items left + slice_index paired.now.lens.items right ≤ 256 → pair_count left right paired.now.symbols.items < 4)) }
-{
-    if let Some(pair) = counts.pick(&paired.lens) {
-        if stands(&paired.symbols, pair) {
-            return Ok(Some(pair));
-        }
-    }
-    counts.give_up(alloc);
-    find_left(alloc, &paired.symbols, &paired.lens)
-}
-
 /// How many values the two symbols of a pair have together.
 fn joined_length(lens: &[u16], pair: Pair) -> u16
     requires left { pair.left < length lens.now }
@@ -116,7 +82,7 @@ fn joined_length(lens: &[u16], pair: Pair) -> u16
 }
 
 /// Makes a pair the next symbol.
-fn make_pair(paired: &mut Paired, counts: &mut Counts, pair: Pair) -> Result<(), AllocError>
+fn make_pair(paired: &mut Paired, pair: Pair) -> Result<(), AllocError>
     requires few { length paired.old.entries.items < 4095 }
     requires count { length paired.old.lens.items ≡ length paired.old.entries.items }
     requires candidate { IsCandidate paired.old.lens.items paired.old.symbols.items pair.left pair.right }
@@ -129,29 +95,103 @@ fn make_pair(paired: &mut Paired, counts: &mut Counts, pair: Pair) -> Result<(),
     let length = joined_length(&paired.lens, pair);
     paired.entries.push(entry(pair.left, pair.right))?;
     paired.lens.push(length)?;
-    replace(&mut paired.symbols, counts, pair, new);
+    replace(&mut paired.symbols, pair, new);
     Ok(())
+}
+
+/// Makes pairs by a count anew in each round, which needs nothing but itself.
+fn pair_slowly(alloc: Global, values: &[u16], rounds: u32) -> Result<Paired, AllocError>
+    requires small { AllByRecursion (λ v. v ≤ 4095) values.now }
+    requires different { length (different_values values.now) ≤ 4095 }
+    ensures pairing { IfOk result (λ p. IsPairing values.now rounds p.entries.items p.symbols.items) }
+    ensures lens { IfOk result (λ p. AreLens p.entries.items p.lens.items) }
+{
+    let mut paired = begin(alloc, values)?;
+    for done in 0..rounds {
+        if paired.entries.len() == MAX_SYMBOLS {
+            return Ok(paired);
+        }
+        let Some(pair) = find_left(alloc, &paired.symbols, &paired.lens)? else {
+            return Ok(paired);
+        };
+        make_pair(&mut paired, pair)?;
+    }
+    Ok(paired)
+}
+
+/// Whether no more pairs are to be made.
+fn is_finished(alloc: Global, paired: &Paired, rounds: u32) -> Result<bool, AllocError>
+    requires lens { AreLens paired.now.entries.items paired.now.lens.items }
+    requires few { length paired.now.entries.items ≤ 4095 }
+    requires below { AllByRecursion (λ s. s < length paired.now.entries.items) paired.now.symbols.items }
+    ensures { IfOk result (λ finished. finished ≡ true → IsFinished paired.now.entries.items paired.now.symbols.items rounds) }
+{
+    let pairs = count_pairs_in(&paired.entries);
+    if pairs >= rounds as usize {
+        return Ok(pairs == rounds as usize);
+    }
+    if paired.entries.len() == MAX_SYMBOLS {
+        return Ok(true);
+    }
+    let Some(_) = find_left(alloc, &paired.symbols, &paired.lens)? else {
+        return Ok(true);
+    };
+    Ok(false)
+}
+
+/// Pairs as they are proposed, where the proposal passes all tests. A list of 2^32 values or more gets none.
+fn pair_by_proposal(
+    alloc: Global,
+    values: &[u16],
+    rounds: u32,
+) -> Result<Option<Paired>, AllocError>
+    requires small { AllByRecursion (λ v. v ≤ 4095) values.now }
+    requires different { length (different_values values.now) ≤ 4095 }
+    ensures pairing { IfOk result (λ found. IfSome found (λ p. IsPairing values.now rounds p.entries.items p.symbols.items)) }
+    ensures lens { IfOk result (λ found. IfSome found (λ p. AreLens p.entries.items p.lens.items)) }
+{
+    if values.len() > u32::MAX as usize {
+        return Ok(None);
+    }
+    let proposal = propose(alloc, begin(alloc, values)?, rounds)?;
+    let Some(paired) = accept(alloc, values, proposal)? else {
+        return Ok(None);
+    };
+    if !is_finished(alloc, &paired, rounds)? {
+        return Ok(None);
+    }
+    Ok(Some(paired))
 }
 
 /// Makes pairs of the most frequent neighbours, at most so many.
 pub(crate) fn pair_up(alloc: Global, values: &[u16], rounds: u32) -> Result<Paired, AllocError>
     requires small { AllByRecursion (λ v. v ≤ 4095) values.now }
     requires different { length (different_values values.now) ≤ 4095 }
-    requires rounds { rounds ≤ 4000 }
     ensures pairing { IfOk result (λ p. IsPairing values.now rounds p.entries.items p.symbols.items) }
     ensures lens { IfOk result (λ p. AreLens p.entries.items p.lens.items) }
 {
-    let mut paired = begin(alloc, values)?;
-    let width = (paired.entries.len() + rounds as usize).min(MAX_SYMBOLS) as u16;
-    let mut counts = Counts::new(alloc, width, &paired.symbols)?;
-    for done in 0..rounds {
-        if paired.entries.len() == MAX_SYMBOLS {
+    if rounds > 0 {
+        if let Some(paired) = pair_by_proposal(alloc, values, rounds)? {
             return Ok(paired);
         }
-        let Some(pair) = next_pair(alloc, &mut counts, &paired)? else {
-            return Ok(paired);
-        };
-        make_pair(&mut paired, &mut counts, pair)?;
     }
-    Ok(paired)
+    pair_slowly(alloc, values, rounds)
+}
+
+/// Makes pairs while they pay; symbols are numbered by how often they are in the text, the rarest first.
+pub(crate) fn pair_shortly(alloc: Global, values: &[u16]) -> Result<Paired, AllocError>
+    requires small { AllByRecursion (λ v. v ≤ 4095) values.now }
+    requires different { length (different_values values.now) ≤ 4095 }
+    ensures round { IfOk result (λ p. IsRound values.now (length (pairs_in p.entries.items)) p.entries.items p.symbols.items) }
+    ensures lens { IfOk result (λ p. AreLens p.entries.items p.lens.items) }
+{
+    let begun = begin(alloc, values)?;
+    if values.len() > u32::MAX as usize {
+        return Ok(begun);
+    }
+    let proposal = numbered_by_count(alloc, propose_short(alloc, begun)?)?;
+    if let Some(paired) = accept(alloc, values, proposal)? {
+        return Ok(paired);
+    }
+    begin(alloc, values)
 }

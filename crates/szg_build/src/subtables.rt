@@ -3,10 +3,10 @@ ghost use Rattle.std.specs.Prelude.{◌≡◌, ◌<◌, ◌≤◌, ◌^◌, leng
 ghost use Rattle.std.specs.List.{AllByRecursion};
 ghost use Rattle.szg_file.specs.Held.{subtable_of};
 ghost use Rattle.szg_file.specs.Values.{constant_value};
-ghost use Rattle.szg_build.specs.Building.{IsBuiltSub};
+ghost use Rattle.szg_build.specs.Building.{IsBuiltSub, IsInBounds};
 ghost use Rattle.szg_build.specs.Plan.{different_values, greatest_value};
 
-use crate::building::{Packing, build_pairs};
+use crate::building::{Choice, build_pairs, build_short_pairs};
 use std::alloc::{AllocError, Global};
 use szg_block::Sub;
 use szg_values::Kind;
@@ -55,18 +55,14 @@ pub(crate) fn build_sub(
     kind: Kind,
     values: &[u16],
     flags: u8,
-    packing: Packing,
+    choice: Choice,
 ) -> Result<Sub, AllocError>
     requires few { length values.now < 2 ^ 33 }
     requires small { AllByRecursion (λ v. v ≤ greatest_value kind) values.now }
     requires different { length (different_values values.now) ≤ 4095 }
     requires flags { flags < 32 }
-    requires least_block { 5 ≤ packing.block_bits }
-    requires most_block { packing.block_bits ≤ 10 }
-    requires least_span { 1 ≤ packing.span_bits }
-    requires most_span { packing.span_bits ≤ 16 }
-    requires rounds { packing.rounds ≤ 4000 }
-    ensures { IfOk result (λ sub. IsBuiltSub kind flags values.now packing.block_bits packing.span_bits packing.rounds (subtable_of sub)) }
+    requires choice { IsInBounds choice }
+    ensures { IfOk result (λ sub. IsBuiltSub kind flags values.now choice (subtable_of sub)) }
 {
     if let Some(byte) = constant_byte(kind, values) {
         return Ok(Sub::Constant {
@@ -74,5 +70,8 @@ pub(crate) fn build_sub(
             byte,
         });
     }
-    build_pairs(alloc, values, flags, packing)
+    match choice {
+        Choice::Fixed(packing) => build_pairs(alloc, values, flags, packing),
+        Choice::Small => build_short_pairs(alloc, values, flags),
+    }
 }

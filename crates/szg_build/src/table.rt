@@ -6,17 +6,17 @@ ghost use Rattle.szg_file.specs.Accepted.{AreNumbers, AreBytes, IsAccepted};
 ghost use Rattle.szg_file.specs.Assembled.{fields_shown};
 ghost use Rattle.szg_file.specs.Contents.{has_bit};
 ghost use Rattle.szg_file.specs.Held.{map_of, part_of, subtable_of};
-ghost use Rattle.szg_build.specs.Built.{IsBuilt};
+ghost use Rattle.szg_build.specs.Built.{IsBuilt, IsBuiltSmall};
 ghost use Rattle.szg_build.specs.Plan.{build_fault};
-ghost use Rattle.szg_build.specs.Shown.{plan_seen};
-ghost use Rattle.szg_build.specs.Tabling.{AreBuilt, IsBuildable, IsBuiltBare, IsInRange, IsOfBytes, IsOfItems, Stands};
+ghost use Rattle.szg_build.specs.Shown.{plan_seen, small_seen};
+ghost use Rattle.szg_build.specs.Tabling.{AreBuilt, IsBuildable, IsBuiltBare, IsBuiltBy, IsChoiceOf, IsInRange, IsOfBytes, IsOfItems, Stands};
 
 use crate::blocks::pad;
-use crate::building::Packing;
+use crate::building::{Choice, Packing};
 use crate::copies::{copy_maps, copy_material, copy_parts};
 use crate::refusing::first_fault;
 use crate::subtables::build_sub;
-use crate::{BuildFault, Plan};
+use crate::{BuildFault, Plan, SmallPlan};
 use std::alloc::{AllocError, Global};
 use szg_block::Sub;
 use szg_file::{Fields, Map, PartBytes, Table, subtable_sizes};
@@ -114,32 +114,39 @@ fn flags_at(flags: &[u8], n: usize) -> u8
 }
 
 /// The subtables of lists of values.
-fn build_subs(alloc: Global, plan: &Plan, lists: &[&[u16]]) -> Result<Vec<Sub>, AllocError>
+fn build_subs(
+    alloc: Global,
+    plan: &Plan,
+    choice: Choice,
+    lists: &[&[u16]],
+) -> Result<Vec<Sub>, AllocError>
     requires range { IsInRange (plan_seen plan.now) }
+    requires choice { IsChoiceOf (plan_seen plan.now) choice }
     requires lists { AllByRecursion (IsBuildable plan.now.kind) (map (λ list. list.now) lists.now) }
-    ensures { IfOk result (λ subs. AreBuilt (plan_seen plan.now) plan.now.flags.items (map (λ list. list.now) lists.now) (map subtable_of subs.items)) }
+    ensures { IfOk result (λ subs. AreBuilt choice (plan_seen plan.now) plan.now.flags.items (map (λ list. list.now) lists.now) (map subtable_of subs.items)) }
 {
-    let packing = Packing {
-        block_bits: plan.block_bits,
-        span_bits: plan.span_bits,
-        rounds: plan.rounds,
-    };
     let mut subs = Vec::new(alloc);
     'lists: for (n, list) in lists.iter().enumerate() {
         let flags = flags_at(&plan.flags, n);
-        let sub = build_sub(alloc, plan.kind, list, flags, packing)?;
+        let sub = build_sub(alloc, plan.kind, list, flags, choice)?;
         subs.push(sub)?;
     }
     Ok(subs)
 }
 
 /// All of a table but its fill.
-fn build_fields(alloc: Global, plan: &Plan, lists: &[&[u16]]) -> Result<Fields, AllocError>
-    requires { Stands (plan_seen plan.now) (map (λ list. list.now) lists.now) }
-    ensures { IfOk result (λ fields. IsBuiltBare (plan_seen plan.now) (map (λ list. list.now) lists.now) (fields_shown fields).contents) }
+fn build_fields(
+    alloc: Global,
+    plan: &Plan,
+    choice: Choice,
+    lists: &[&[u16]],
+) -> Result<Fields, AllocError>
+    requires stands { Stands (plan_seen plan.now) (map (λ list. list.now) lists.now) }
+    requires choice { IsChoiceOf (plan_seen plan.now) choice }
+    ensures { IfOk result (λ fields. IsBuiltBare choice (plan_seen plan.now) (map (λ list. list.now) lists.now) (fields_shown fields).contents) }
 {
     maps_fit(&plan.maps);
-    let subs = build_subs(alloc, plan, lists)?;
+    let subs = build_subs(alloc, plan, choice, lists)?;
     let parts = copy_parts(alloc, &plan.parts)?;
     let maps = copy_maps(alloc, &plan.maps)?;
     let last = end_bytes(&plan.last);
@@ -156,17 +163,50 @@ fn build_fields(alloc: Global, plan: &Plan, lists: &[&[u16]]) -> Result<Fields, 
 }
 
 /// The table of a plan and lists of which nothing is refused.
-fn build_table(alloc: Global, plan: &Plan, lists: &[&[u16]]) -> Result<Table, AllocError>
-    requires { Stands (plan_seen plan.now) (map (λ list. list.now) lists.now) }
-    ensures built { IfOk result (λ t. IsBuilt (plan_seen plan.now) (map (λ list. list.now) lists.now) t.contents) }
+fn build_table(
+    alloc: Global,
+    plan: &Plan,
+    choice: Choice,
+    lists: &[&[u16]],
+) -> Result<Table, AllocError>
+    requires stands { Stands (plan_seen plan.now) (map (λ list. list.now) lists.now) }
+    requires choice { IsChoiceOf (plan_seen plan.now) choice }
+    ensures built { IfOk result (λ t. IsBuiltBy choice (plan_seen plan.now) (map (λ list. list.now) lists.now) t.contents) }
     ensures accepted { IfOk result (λ t. IsAccepted t.contents t.filled) }
 {
-    let mut fields = build_fields(alloc, plan, lists)?;
+    let mut fields = build_fields(alloc, plan, choice, lists)?;
     let asked = fields.fill_asked() as usize;
     let mut fill = Vec::new(alloc);
     pad(&mut fill, asked)?;
     fields.fill = fill;
     Ok(Table::assemble(fields))
+}
+
+/// The table of a plan and of lists, packed as chosen, or the first refusal.
+fn build_by(
+    alloc: Global,
+    plan: &Plan,
+    choice: Choice,
+    lists: &[&[u16]],
+) -> Result<Table, BuildFault>
+    requires { IsChoiceOf (plan_seen plan.now) choice }
+    ensures refused { MatchOption (build_fault (plan_seen plan.now) (map (λ list. list.now) lists.now))
+        (IfErr result (λ fault. fault ≡ BuildFault.Memory))
+        (λ fault. result ≡ Err fault) }
+    ensures built { IfOk result (λ t. IsBuiltBy choice (plan_seen plan.now) (map (λ list. list.now) lists.now) t.contents) }
+    ensures accepted { IfOk result (λ t. IsAccepted t.contents t.filled) }
+{
+    parts_fit(&plan.parts);
+    let Some(sizes) = subtable_sizes(&plan.material, plan.kind, &plan.parts) else {
+        return Err(BuildFault::Order);
+    };
+    if let Some(fault) = first_fault(plan, sizes.as_slice(), lists) {
+        return Err(fault);
+    }
+    match build_table(alloc, plan, choice, lists) {
+        Ok(table) => Ok(table),
+        Err(_failed) => Err(BuildFault::Memory),
+    }
 }
 
 /// Builds the table of a plan and of its subtables' values, in their order.
@@ -185,15 +225,36 @@ pub fn build(alloc: Global, plan: &Plan, lists: &[&[u16]]) -> Result<Table, Buil
     ensures built { IfOk result (λ t. IsBuilt (plan_seen plan.now) (map (λ list. list.now) lists.now) t.contents) }
     ensures accepted { IfOk result (λ t. IsAccepted t.contents t.filled) }
 {
-    parts_fit(&plan.parts);
-    let Some(sizes) = subtable_sizes(&plan.material, plan.kind, &plan.parts) else {
-        return Err(BuildFault::Order);
+    let packing = Packing {
+        block_bits: plan.block_bits,
+        span_bits: plan.span_bits,
+        rounds: plan.rounds,
     };
-    if let Some(fault) = first_fault(plan, sizes.as_slice(), lists) {
-        return Err(fault);
-    }
-    match build_table(alloc, plan, lists) {
-        Ok(table) => Ok(table),
-        Err(_failed) => Err(BuildFault::Memory),
-    }
+    build_by(alloc, plan, Choice::Fixed(packing), lists)
+}
+
+/// Builds the table of a plan and of its subtables' values, in their order, as small as the builder can make it.
+///
+/// Each subtable gets pairs while they pay, words by how often their symbols are used, and the block bits and span bits by
+/// which it takes the fewest bytes. Refuses as `build` does, but never by `Bits` or `Rounds`.
+pub fn build_small(alloc: Global, plan: SmallPlan, lists: &[&[u16]]) -> Result<Table, BuildFault>
+    ensures refused { MatchOption (build_fault (small_seen plan) (map (λ list. list.now) lists.now))
+        (IfErr result (λ fault. fault ≡ BuildFault.Memory))
+        (λ fault. result ≡ Err fault) }
+    ensures built { IfOk result (λ t. IsBuiltSmall (small_seen plan) (map (λ list. list.now) lists.now) t.contents) }
+    ensures accepted { IfOk result (λ t. IsAccepted t.contents t.filled) }
+{
+    let last = plan.last;
+    let numbered = Plan {
+        material: plan.material,
+        kind: plan.kind,
+        parts: plan.parts,
+        block_bits: 5,
+        span_bits: 1,
+        rounds: 0,
+        flags: plan.flags,
+        maps: plan.maps,
+        last,
+    };
+    build_by(alloc, &numbered, Choice::Small, lists)
 }

@@ -1,7 +1,7 @@
 -- Indexes that a table has, and what their values want.
 use Rattle.std.proofs.Common.{◌≡◌, ℕ, Bool, true, false, List, Option, None, Some, IfSome, option_map, cond, refl}
 use Rattle.std.specs.Prelude.{nat_lt, is_some, MatchOption}
-use Rattle.szg_block.specs.Lending.{bytes_at}
+use Rattle.szg_block.specs.BlocksTrait.{bytes_at}
 use Rattle.szg_file.specs.Contents.{Slot, Subtable}
 use Rattle.szg_file.specs.declared.wanted.Wanted.{Wanted}
 use Rattle.szg_c.specs.ByPlace.{AreWanted, with_index}

@@ -1,6 +1,6 @@
 -- What is told of a table whose file C reads itself. Status 4 is outside the table, 17 bytes that can't be the file's.
 use Rattle.std.specs.Prelude.{◌≡◌, ℕ, nat_lt, Bool, List, Option, Some, None, if◌then◌else◌}
-use Rattle.szg_block.specs.Lending.{bytes_at}
+use Rattle.szg_block.specs.BlocksTrait.{bytes_at}
 use Rattle.szg_file.specs.Contents.{Slot, Subtable}
 use Rattle.szg_file.specs.Heads.{Kept, IsKeptOf}
 use Rattle.szg_file.specs.Held.{Shown}

@@ -1,7 +1,7 @@
 -- Placements, as C hands them in.
 use Rattle.std.specs.Prelude.{ℕ, Bool, not, ◌&&◌, ◌==◌, nat_lt, List, map, Option, Some, None, Result, Ok, Err, if◌then◌else◌}
 use Rattle.std.specs.List.{list_all}
-use Rattle.szg_values.specs.Placement.{Standing, Board, placement_fault}
+use Rattle.szg_values.specs.Placement.{PlacedMan, Board, placement_fault}
 use Rattle.szg_values.specs.declared.Man.{Man}
 use Rattle.szg_values.specs.declared.Man.TheVariants.{Pawn, Knight, Bishop, Rook, Queen, King}
 use Rattle.szg_values.specs.declared.Color.{Color}
@@ -26,7 +26,7 @@ man_told kind =
 abbrev pub color_of : ℕ → Color
 color_of color = if color == 0 then White else Black
 
-abbrev pub standing_of : CodedMan → Standing
+abbrev pub standing_of : CodedMan → PlacedMan
 standing_of man = (man_told man.kind, color_of man.color, man.square)
 
 -- ---- statuses: 6 a number that tells nothing, 7 to 9 no placement
@@ -45,4 +45,4 @@ board_unless (Some why) board = Err (placement_status why)
 unfoldable pub board_of : List CodedMan → ℕ → Result Board ℕ
 board_of men mover =
     if not (nat_lt mover 2 && list_all is_told men) then Err 6 else
-    board_unless (placement_fault (map standing_of men)) (record { standing = map standing_of men; mover = color_of mover })
+    board_unless (placement_fault (map standing_of men)) (record { placed_men = map standing_of men; mover = color_of mover })

@@ -32,10 +32,10 @@ pub fn placement_of(men: &[CodedMan], mover: u8) -> Result<Placement, u32>
     if men.len() > MAX_MEN {
         return Err(if are_told(men) { MEN } else { MAN });
     }
-    let Some(standing) = standing(men) else {
+    let Some(placed_men) = placed_men(men) else {
         return Err(MAN);
     };
-    match Placement::of(standing, color_of(mover)) {
+    match Placement::of(placed_men, color_of(mover)) {
         Ok(placement) => Ok(placement),
         Err(fault) => Err(placement_status(fault)),
     }
@@ -55,16 +55,16 @@ fn is_told(man: &CodedMan) -> bool
 }
 
 /// The men that numbers tell, where each man's do.
-fn standing(men: &[CodedMan]) -> Option<ArrayVec<(Man, Color, Square), MAX_MEN>>
+fn placed_men(men: &[CodedMan]) -> Option<ArrayVec<(Man, Color, Square), MAX_MEN>>
     requires { length men.now ≤ 6 }
-    ensures told { IfSome result (λ standing. IsTrue (list_all is_told men.now) × (standing.items ≡ map standing_of men.now)) }
+    ensures told { IfSome result (λ placed_men. IsTrue (list_all is_told men.now) × (placed_men.items ≡ map standing_of men.now)) }
     ensures untold { IsNone result → IsFalse (list_all is_told men.now) }
 {
-    let mut standing = ArrayVec::new();
+    let mut placed_men = ArrayVec::new();
     for man in men {
-        standing.push(standing_of(man)?);
+        placed_men.push(standing_of(man)?);
     }
-    Some(standing)
+    Some(placed_men)
 }
 
 fn standing_of(man: &CodedMan) -> Option<(Man, Color, Square)>

@@ -1,4 +1,4 @@
--- What the computing of bases, from the greatest length down, keeps true.
+-- Invariants of the computation of bases, from the greatest length down.
 use Rattle.std.proofs.Common.{ℕ, suc, ◌≡◌, ◌≢◌, ◌+◌, ◌-◌, ◌*◌, ◌/◌, ◌%◌, ◌^◌, ◌<◌, ◌≤◌, inl, inr, List, length, get_or, set, ap, sym, ◌∙◌, subst, arith}
 use Rattle.std.specs.List.{slice_index}
 use Rattle.std.proofs.lemmas.Bool.{cases_lt}
@@ -15,13 +15,13 @@ use Rattle.szg_code.proofs.Words.{base-step, base-max, base-spread}
 -- the values of a function at the last items of a list, and one item before them
 pub values_more : (f : ℕ → ℕ) (xs : List ℕ) (count below v j : ℕ) → count ≤ length xs → j + 1 + below ≡ count →
     ((k : ℕ) → count ≤ k + below → k < count → get_or xs k 0 ≡ f k) → v ≡ f j → (k : ℕ) → count ≤ k + (below + 1) → k < count → get_or (set xs j v) k 0 ≡ f k
-values_more f xs count below v j fits place old e k from less =
+values_more f xs count below v j fits count_is old e k from less =
     elim (cases_lt j k) [
       | inl later ↦ let other : k ≢ j = omega arith in get_or-set_other xs j k v 0 other ∙ old k (omega arith) less
       | inr no_later ↦ let here : k ≡ j = omega arith in get_or-set_at xs j k v 0 here (omega arith) ∙ e ∙ ap f (sym here)
     ]
 
--- the values of a function at the first items of a list, and one more
+-- the values of a function at the first items of a list, and at one more
 pub values_next : (f : ℕ → ℕ) (xs : List ℕ) (j v : ℕ) → j < length xs →
     ((k : ℕ) → k < j → get_or xs k 0 ≡ f k) → v ≡ f j → (k : ℕ) → k < j + 1 → get_or (set xs j v) k 0 ≡ f k
 values_next f xs j v fits old e k less =
@@ -30,7 +30,7 @@ values_next f xs j v fits old e k less =
       | inr at ↦ let here : k ≡ j = omega arith in get_or-set_at xs j k v 0 here fits ∙ e ∙ ap f (sym here)
     ]
 
--- a property of the first items of a list, and of one more that is set
+-- a property of the first items of a list, and of one more item that is set
 pub items_next : (P : ℕ → ℕ → Type 0) (xs : List ℕ) (j v : ℕ) → j < length xs →
     ((k : ℕ) → k < j → P k (get_or xs k 0)) → P j v → (k : ℕ) → k < j + 1 → P k (get_or (set xs j v) k 0)
 items_next P xs j v fits old holds k less =
@@ -65,9 +65,9 @@ module _ (code : CanonicalCode) (lengths : HasLengths code) where
   pub rooms_none : RoomsAbove 1
   rooms_none k above from below = absurd (omega arith)
 
-  -- a length more holds
+  -- one more length fits
   pub rooms_more : (j below : ℕ) → j + 1 + below ≡ length code.lowest → base code (code.min_length + (j + 1)) ≤ 2 * base code (code.min_length + j) → RoomsAbove below → RoomsAbove (below + 1)
-  rooms_more j below place fits old k above from less =
+  rooms_more j below count_is fits old k above from less =
       let each : length code.lowest + code.min_length ≡ code.max_length + 1 = lengths.each in
       elim (cases_lt code.max_length (k + below)) [
         | inl later ↦ old k later from less
@@ -82,9 +82,9 @@ module _ (code : CanonicalCode) (lengths : HasLengths code) where
       let each : length code.lowest + code.min_length ≡ code.max_length + 1 = lengths.each in
       rooms l (omega arith) from below
 
-  -- a length whose base, doubled, is below the next
+  -- a length whose base, doubled, is below the next base
   pub overfull_here : (j below : ℕ) → 0 < below → j + 1 + below ≡ length code.lowest → 2 * base code (code.min_length + j) < base code (code.min_length + (j + 1)) → RoomsAbove below → IsLastOverfull code (code.min_length + j)
-  overfull_here j below some place over rooms =
+  overfull_here j below some count_is over rooms =
       let each : length code.lowest + code.min_length ≡ code.max_length + 1 = lengths.each in
       record {
         after = λ k later. rooms k (omega arith);
@@ -114,7 +114,7 @@ module _ (code : CanonicalCode) (accepted : IsCode code) where
       let p : 2 ^ (code.min_length + j) ≤ 2 ^ 32 = pow-le-pow_right {n = 2} (omega arith) {i = code.min_length + j} {j = 32} (omega arith) in
       omega (arith, small, p)
 
-  -- so its shift to the top of 64 bits loses none
+  -- so shifting it to the top of 64 bits loses no bit
   pub shift_whole : (j b : ℕ) → j < length code.lowest → b ≡ base code (code.min_length + j) → (b * 2 ^ (64 - code.min_length - j)) % 18446744073709551616 ≡ shifted_base code 64 (code.min_length + j)
   unfolding shifted_base
   shift_whole j b below e =
@@ -125,7 +125,7 @@ module _ (code : CanonicalCode) (accepted : IsCode code) where
       rw (e, s) (shl_whole (base code (code.min_length + j)) (code.min_length + j) (64 - (code.min_length + j)) 64 small (omega arith))
 
 module _ (code : CanonicalCode) (lengths : HasLengths code) (ordered : (j : ℕ) → IsOrderedAt code j) where
-  -- of two items that were read, the later is not above the earlier
+  -- of two items that were compared, the later is not above the earlier
   pub read_falls : (j a b : ℕ) → j + 1 < length code.lowest → a ≡ get_or code.lowest j a → b ≡ get_or code.lowest (j + 1) b → b ≤ a
   read_falls j a b below at next =
       let falls : slice_index code.lowest (j + 1) ≤ slice_index code.lowest (j + 1 - 1) = ordered (j + 1) (omega arith) below in
@@ -135,7 +135,7 @@ module _ (code : CanonicalCode) (lengths : HasLengths code) (ordered : (j : ℕ)
       let falls' : slice_index code.lowest (j + 1) ≤ slice_index code.lowest j = rw e at falls in
       omega arith
 
-  -- the base that is computed from the items that were read
+  -- the base that is computed from the items
   pub base_here : (j a b longer apart : ℕ) → j + 1 < length code.lowest → a ≡ get_or code.lowest j a → b ≡ get_or code.lowest (j + 1) b →
       longer ≡ base code (code.min_length + (j + 1)) → apart ≡ a - b → (longer + apart) / 2 ≡ base code (code.min_length + j)
   base_here j a b longer apart below at next longer_is apart_is =

@@ -1,4 +1,4 @@
--- Bytes that hold so many bits: none, and those of a word more.
+-- Bytes that hold a number of bits: no bits, and the bits of one more word.
 use Rattle.std.proofs.Common.{ℕ, Bool, false, ◌≡◌, ◌+◌, ◌-◌, ◌*◌, ◌/◌, ◌%◌, ◌^◌, ◌<◌, ◌≤◌, inl, inr, List, [], ◌∷◌, ◌++◌, length, get_or, take, drop, replicate, refl, ap, sym, ◌∙◌, arith, length-append}
 use Rattle.std.specs.Int.{bytes_high_first}
 use Rattle.std.specs.Prelude.{bit_or}
@@ -12,18 +12,18 @@ use Rattle.szg_code.proofs.Numbers.{length-bits_of_number, number-bits_of_number
 use Rattle.szg_code.proofs.ByteBits.{bits-nil, bits-cons, bits-append, length-bits, length-taken, take-bits, bits-bytes_high_first}
 
 pub HoldsBits-none : (bytes : List ℕ) → bytes ≡ [] → HoldsBits bytes 0
-HoldsBits-none bytes e = rw e (record { whole = omega arith; filled = rw bits-nil refl })
+HoldsBits-none bytes e = rw e (record { whole = omega arith; zero_padded = rw bits-nil refl })
 
--- bytes whose bits are so many, and zeros behind them
-pub HoldsBits-from : (bytes : List ℕ) (front : List Bool) (count : ℕ) → length bytes ≡ (count + 7) / 8 → length front ≡ count →
-    bits bytes ≡ front ++ replicate (8 * length bytes - count) false → (take count (bits bytes) ≡ front) × HoldsBits bytes count
-HoldsBits-from bytes front count whole long e =
-    let t : take count (bits bytes) ≡ front = ap (λ (u : List Bool). take count u) e ∙ take_at front (replicate (8 * length bytes - count) false) count long in
-    (t, record { whole = whole; filled = e ∙ ap (λ (u : List Bool). u ++ replicate (8 * length bytes - count) false) (sym t) })
+-- bytes that hold this number of bits, followed by zeros
+pub HoldsBits-from : (bytes : List ℕ) (prefix : List Bool) (count : ℕ) → length bytes ≡ (count + 7) / 8 → length prefix ≡ count →
+    bits bytes ≡ prefix ++ replicate (8 * length bytes - count) false → (take count (bits bytes) ≡ prefix) × HoldsBits bytes count
+HoldsBits-from bytes prefix count whole long e =
+    let t : take count (bits bytes) ≡ prefix = ap (λ (u : List Bool). take count u) e ∙ take_at prefix (replicate (8 * length bytes - count) false) count long in
+    (t, record { whole = whole; zero_padded = e ∙ ap (λ (u : List Bool). u ++ replicate (8 * length bytes - count) false) (sym t) })
 
--- the byte that is begun holds the last bits, and zeros
-record Begun (bytes : List ℕ) (count : ℕ) (b : ℕ) : Type 0 where
-  front : take count (bits bytes) ≡ bits (take (count / 8) bytes) ++ bits_of_number (count % 8) (b / 2 ^ (8 - count % 8))
+-- the partial byte holds the last bits, followed by zeros
+record PartialByte (bytes : List ℕ) (count : ℕ) (b : ℕ) : Type 0 where
+  prefix : take count (bits bytes) ≡ bits (take (count / 8) bytes) ++ bits_of_number (count % 8) (b / 2 ^ (8 - count % 8))
   zeros : b ≡ b / 2 ^ (8 - count % 8) * 2 ^ (8 - count % 8)
 
 -- the bits of the last byte
@@ -35,8 +35,8 @@ last_byte bytes k b n e =
     ∙ ap (λ (u : List Bool). bits_of_number 8 (get_or bytes k 0) ++ u) bits-nil ∙ append-nil (bits_of_number 8 (get_or bytes k 0)) ∙ ap (λ (m : ℕ). bits_of_number 8 m) (sym e) in
     ap bits (sym (take-append-drop k bytes)) ∙ bits-append (take k bytes) (drop k bytes) ∙ ap (λ (u : List Bool). bits (take k bytes) ++ u) g
 
-begun : (bytes : List ℕ) (count b : ℕ) → HoldsBits bytes count → b ≡ get_or bytes (count / 8) 0 → Begun bytes count b
-begun bytes count b holds e =
+partial_byte : (bytes : List ℕ) (count b : ℕ) → HoldsBits bytes count → b ≡ get_or bytes (count / 8) 0 → PartialByte bytes count b
+partial_byte bytes count b holds e =
     let whole : length bytes ≡ (count + 7) / 8 = holds.whole in
     let k : ℕ = count / 8 in
     let u : ℕ = count % 8 in
@@ -53,18 +53,18 @@ begun bytes count b holds e =
           let a : length (bits (take k bytes)) ≡ 8 * length (take k bytes) = length-bits (take k bytes) in
           let f : length (bits_of_number u (b / 2 ^ (8 - u))) ≡ u = length-bits_of_number u (b / 2 ^ (8 - u)) in
           let g : length (bits (take k bytes) ++ bits_of_number u (b / 2 ^ (8 - u))) ≡ length (bits (take k bytes)) + length (bits_of_number u (b / 2 ^ (8 - u))) = length-append (bits (take k bytes)) (bits_of_number u (b / 2 ^ (8 - u))) in
-          let front : take count (bits bytes) ≡ bits (take k bytes) ++ bits_of_number u (b / 2 ^ (8 - u)) =
+          let prefix : take count (bits bytes) ≡ bits (take k bytes) ++ bits_of_number u (b / 2 ^ (8 - u)) =
           ap (λ (x : List Bool). take count x) all ∙ take_at (bits (take k bytes) ++ bits_of_number u (b / 2 ^ (8 - u))) (bits_of_number (8 - u) b) count (omega arith) in
-          let filled : bits bytes ≡ take count (bits bytes) ++ replicate (8 * length bytes - count) false = holds.filled in
+          let zero_padded : bits bytes ≡ take count (bits bytes) ++ replicate (8 * length bytes - count) false = holds.zero_padded in
           let same : take count (bits bytes) ++ bits_of_number (8 - u) b ≡ take count (bits bytes) ++ replicate (8 * length bytes - count) false =
-          ap (λ (x : List Bool). x ++ bits_of_number (8 - u) b) front ∙ sym all ∙ filled in
+          ap (λ (x : List Bool). x ++ bits_of_number (8 - u) b) prefix ∙ sym all ∙ zero_padded in
           let tail : bits_of_number (8 - u) b ≡ replicate (8 * length bytes - count) false = append_cancel_left (take count (bits bytes)) (bits_of_number (8 - u) b) (replicate (8 * length bytes - count) false) same in
           let r : 8 * length bytes - count ≡ 8 - u = omega arith in
           let tail' : bits_of_number (8 - u) b ≡ bits_of_number (8 - u) 0 = tail ∙ ap (λ (i : ℕ). replicate i false) r ∙ sym (bits_of_number-zeros (8 - u)) in
           let rest : b % 2 ^ (8 - u) ≡ 0 % 2 ^ (8 - u) = sym (number-bits_of_number (8 - u) b) ∙ ap (λ (x : List Bool). number x) tail' ∙ number-bits_of_number (8 - u) 0 in
           let parts : b / 2 ^ (8 - u) * 2 ^ (8 - u) + b % 2 ^ (8 - u) ≡ b = div-add-mod' b (2 ^ (8 - u)) in
           let zero_rest : 0 % 2 ^ (8 - u) ≡ 0 = mod-small 0 (2 ^ (8 - u)) (pow_pos (8 - u)) in
-          record { front = front; zeros = omega (arith, parts, rest, zero_rest) }
+          record { prefix = prefix; zeros = omega (arith, parts, rest, zero_rest) }
       | inr none ↦
           let at : count ≡ 8 * k = omega arith in
           let b_zero : b ≡ 0 = e ∙ get_or_past bytes k 0 (omega arith) in
@@ -72,12 +72,12 @@ begun bytes count b holds e =
           let none_used : u ≡ 0 = omega arith in
           let f : bits_of_number u (b / 2 ^ (8 - u)) ≡ [] = ap (λ (m : ℕ). bits_of_number m (b / 2 ^ (8 - u))) none_used in
           record {
-            front = ap (λ (m : ℕ). take m (bits bytes)) at ∙ take-bits k bytes ∙ sym (append-nil (bits (take k bytes))) ∙ ap (λ (x : List Bool). bits (take k bytes) ++ x) (sym f);
+            prefix = ap (λ (m : ℕ). take m (bits bytes)) at ∙ take-bits k bytes ∙ sym (append-nil (bits (take k bytes))) ∙ ap (λ (x : List Bool). bits (take k bytes) ++ x) (sym f);
             zeros = omega (arith, parts, b_zero);
           }
     ]
 
--- a word's bits, joined to those of the byte that is begun, and filled with zeros
+-- a word's bits, appended to those of the partial byte and padded with zeros
 joined_bits : (q u l v : ℕ) → u + l ≤ 64 → v < 2 ^ l → bits_of_number 64 (q * 2 ^ (64 - u) + v * 2 ^ (64 - u - l)) ≡ (bits_of_number u q ++ bits_of_number l v) ++ replicate (64 - (u + l)) false
 joined_bits q u l v fits small =
     let r : ℕ = 64 - (u + l) in
@@ -91,19 +91,19 @@ joined_bits q u l v fits small =
     ∙ ap (λ (x : List Bool). x ++ bits_of_number r 0) (bits_of_number-join u l q v small)
     ∙ ap (λ (x : List Bool). (bits_of_number u q ++ bits_of_number l v) ++ x) (bits_of_number-zeros r)
 
--- so many of its bytes have the bits, and zeros
+-- the first bytes of the joined number hold the bits, followed by zeros
 taken_bits : (x : List Bool) (i r n : ℕ) → length x ≡ n → n ≤ i → i ≤ n + r → take i (x ++ replicate r false) ≡ x ++ replicate (i - n) false
 taken_bits x i r n long from to =
     let e : i ≡ length x + (i - n) = omega arith in
     ap (λ (m : ℕ). take m (x ++ replicate r false)) e ∙ take-append-add x (replicate r false) (i - n) ∙ ap (λ (z : List Bool). x ++ z) (take-replicate (i - n) r false (omega arith))
 
--- the word's number, behind the byte that is begun, touches none of its bits
+-- the word's number, shifted below the partial byte, shares no bit with it
 pub joined-or : (bytes : List ℕ) (count l v b : ℕ) → HoldsBits bytes count → b ≡ get_or bytes (count / 8) 0 → b < 256 → l ≤ 32 → v < 2 ^ l →
     bit_or (b * 2 ^ 56 % 18446744073709551616) (v * 2 ^ (64 - count % 8 - l) % 18446744073709551616) ≡ b * 2 ^ 56 + v * 2 ^ (64 - count % 8 - l)
 joined-or bytes count l v b holds at byte short small =
     let u : ℕ = count % 8 in
     let q : ℕ = b / 2 ^ (8 - u) in
-    let g = begun bytes count b holds at in
+    let g = partial_byte bytes count b holds at in
     let p : 2 ^ (8 - u + 56) ≡ 2 ^ (8 - u) * 2 ^ 56 = pow-add 2 (8 - u) 56 in
     let c : 8 - u + 56 ≡ 64 - u = omega arith in
     let p' : 2 ^ (64 - u) ≡ 2 ^ (8 - u) * 2 ^ 56 = rw c at p in
@@ -116,8 +116,8 @@ joined-or bytes count l v b holds at byte short small =
     let o : bit_or (q * 2 ^ (64 - u)) (v * 2 ^ (64 - u - l)) ≡ q * 2 ^ (64 - u) + v * 2 ^ (64 - u - l) = or_shifted q (64 - u) (v * 2 ^ (64 - u - l)) below in
     ap (λ (m : ℕ). bit_or m (v * 2 ^ (64 - u - l) % 2 ^ 64)) (hi ∙ e) ∙ ap (λ (m : ℕ). bit_or (q * 2 ^ (64 - u)) m) lo ∙ o ∙ ap (λ (m : ℕ). m + v * 2 ^ (64 - u - l)) (sym e)
 
--- The bytes that hold a word more: the whole ones, and behind them those of the number that joins the
--- byte that is begun and the word.
+-- The bytes that hold one more word: the whole bytes, followed by those of the number that joins the partial byte
+-- and the word.
 pub HoldsBits-word : (bytes after : List ℕ) (count l v b joined : ℕ) → HoldsBits bytes count → b ≡ get_or bytes (count / 8) 0 → l ≤ 32 → v < 2 ^ l →
     joined ≡ b * 2 ^ 56 + v * 2 ^ (64 - count % 8 - l) → after ≡ take (count / 8) bytes ++ take ((count % 8 + l + 7) / 8) (bytes_high_first 8 joined) →
     (take (count + l) (bits after) ≡ take count (bits bytes) ++ bits_of_number l v) × HoldsBits after (count + l)
@@ -126,7 +126,7 @@ HoldsBits-word bytes after count l v b joined holds at short small is made =
     let u : ℕ = count % 8 in
     let w : ℕ = (u + l + 7) / 8 in
     let q : ℕ = b / 2 ^ (8 - u) in
-    let g = begun bytes count b holds at in
+    let g = partial_byte bytes count b holds at in
     let split : 8 * k + u ≡ count = omega arith in
     let p : 2 ^ (8 - u + 56) ≡ 2 ^ (8 - u) * 2 ^ 56 = pow-add 2 (8 - u) 56 in
     let c : 8 - u + 56 ≡ 64 - u = omega arith in
@@ -153,7 +153,7 @@ HoldsBits-word bytes after count l v b joined holds at short small is made =
     let groups : t ++ ((x ++ y) ++ z') ≡ ((t ++ x) ++ y) ++ z' = regroup t x y z' in
     let all : bits after ≡ (old ++ y) ++ replicate (8 * length after - (count + l)) false =
     ap bits made ∙ bits-append (take k bytes) (take w spelled) ∙ ap (λ (a : List Bool). t ++ a) cut ∙ groups
-    ∙ ap (λ (a : List Bool). (a ++ y) ++ z') (sym g.front) ∙ ap (λ (m : ℕ). (old ++ y) ++ replicate m false) free in
+    ∙ ap (λ (a : List Bool). (a ++ y) ++ z') (sym g.prefix) ∙ ap (λ (m : ℕ). (old ++ y) ++ replicate m false) free in
     let n_front : length (old ++ y) ≡ count + l = length-append old y ∙ ap (λ (m : ℕ). m + length y) n_old ∙ ap (λ (m : ℕ). count + m) (length-bits_of_number l v) in
     HoldsBits-from after (old ++ y) (count + l) (omega arith) n_front all
   where

@@ -1,4 +1,4 @@
--- The bits of bytes: how many there are, where a byte's bits begin, and what one more adds to a number.
+-- The bits of bytes: their number, the offset of a byte's bits, and what one more bit adds to a number.
 use Rattle.std.proofs.Common.{ℕ, zero, suc, ◌≡◌, ◌+◌, ◌-◌, ◌*◌, ◌/◌, ◌%◌, ◌^◌, ◌≤◌, inl, inr, List, [], ◌∷◌, ◌++◌, length, take, drop, refl, ap, sym, ◌∙◌, arith, length-append, length-drop}
 use Rattle.std.proofs.lemmas.List.{append_assoc, take-append-drop, take_all, take_at, length-take-le, drop_all, drop_at, drop-drop}
 use Rattle.szg_code.specs.Bits.{bits, bits_of_number}
@@ -23,7 +23,7 @@ length-bits (b ∷ bytes) =
     let n : length (bits_of_number 8 b) ≡ 8 = length-bits_of_number 8 b in
     omega arith
 
--- whole bytes are dropped with their bits
+-- dropping whole bytes drops their bits
 pub drop-bits : (i : ℕ) (bytes : List ℕ) → drop (8 * i) (bits bytes) ≡ bits (drop i bytes)
 drop-bits zero bytes = refl
 drop-bits (suc i) [] = rw bits-nil (drop_all (8 * suc i) [] (omega arith))
@@ -34,13 +34,13 @@ drop-bits (suc i) (b ∷ bytes) =
     ∙ sym (drop-drop (8 * i) 8 (bits_of_number 8 b ++ bits bytes)) ∙ ap (λ u. drop (8 * i) u) d ∙ drop-bits i bytes
 
 -- the bits taken and those left
-pub length-taken : (place : ℕ) (bytes : List ℕ) → place ≤ 8 * length bytes → length (take place (bits bytes)) ≡ place
-length-taken place bytes h = let n : length (bits bytes) ≡ 8 * length bytes = length-bits bytes in length-take-le place (bits bytes) (omega arith)
+pub length-taken : (offset : ℕ) (bytes : List ℕ) → offset ≤ 8 * length bytes → length (take offset (bits bytes)) ≡ offset
+length-taken offset bytes h = let n : length (bits bytes) ≡ 8 * length bytes = length-bits bytes in length-take-le offset (bits bytes) (omega arith)
 
-pub length-left : (place : ℕ) (bytes : List ℕ) → length (drop place (bits bytes)) ≡ 8 * length bytes - place
-length-left place bytes =
+pub length-left : (offset : ℕ) (bytes : List ℕ) → length (drop offset (bits bytes)) ≡ 8 * length bytes - offset
+length-left offset bytes =
     let n : length (bits bytes) ≡ 8 * length bytes = length-bits bytes in
-    let d : length (drop place (bits bytes)) ≡ length (bits bytes) - place = length-drop place (bits bytes) in
+    let d : length (drop offset (bits bytes)) ≡ length (bits bytes) - offset = length-drop offset (bits bytes) in
     omega arith
 
 pub bits-append : (xs ys : List ℕ) → bits (xs ++ ys) ≡ bits xs ++ bits ys
@@ -49,7 +49,7 @@ bits-append (x ∷ xs) ys =
     bits-cons x (xs ++ ys) ∙ ap (λ u. bits_of_number 8 x ++ u) (bits-append xs ys) ∙ sym (append_assoc (bits_of_number 8 x) (bits xs) (bits ys))
     ∙ ap (λ u. u ++ bits ys) (sym (bits-cons x xs))
 
--- whole bytes are taken with their bits
+-- taking whole bytes takes their bits
 pub take-bits : (i : ℕ) (bytes : List ℕ) → take (8 * i) (bits bytes) ≡ bits (take i bytes)
 take-bits i bytes =
     let split : bits bytes ≡ bits (take i bytes) ++ bits (drop i bytes) = ap bits (sym (take-append-drop i bytes)) ∙ bits-append (take i bytes) (drop i bytes) in
@@ -64,7 +64,7 @@ take-bits i bytes =
           ap (λ u. take (8 * i) u) split ∙ take_at (bits (take i bytes)) (bits (drop i bytes)) (8 * i) (omega arith)
     ]
 
--- a number's bytes, the highest first, have its bits
+-- a number's bytes, the highest first, hold its bits
 pub bits-bytes_high_first : (k n : ℕ) → bits (bytes_high_first k n) ≡ bits_of_number (8 * k) n
 bits-bytes_high_first zero n = bits-nil
 bits-bytes_high_first (suc k) n =

@@ -1,4 +1,4 @@
--- The functions that find where the lowest symbols fail first, and the rules of accepted codes.
+-- The functions that find the first fault of the lowest symbols, related to the rules of accepted codes.
 use Rattle.std.proofs.Common.{ℕ, zero, suc, Bool, true, false, cond, ◌≡◌, ◌+◌, ◌-◌, ◌*◌, ◌/◌, ◌^◌, ◌<◌, ◌≤◌, ◌⊎◌, inl, inr, Option, Some, None, List, length, refl, ap, sym, ◌∙◌, subst, arith, nat_lt, nat_le, ◌&&◌}
 use Rattle.std.specs.List.{find, range_with_len, slice_index}
 use Rattle.std.proofs.lemmas.Bool.{ltb-true, ltb-false, lt-ltb, leb-true, le-leb, cases_lt, and_parts}
@@ -37,7 +37,7 @@ first_rise-Some code j e =
 
 -- ---- room
 
--- a length between the least and the greatest, told by its distance below the greatest
+-- a length between the least and the greatest, by its distance from the greatest
 room_at : (code : CanonicalCode) (l : ℕ) → (l < code.max_length → overfills_below_max code (code.max_length - suc l) ≡ false) → HasRoomAt code l
 room_at code l e from below =
     let here : code.max_length - suc (code.max_length - suc l) ≡ l = omega (arith, below) in
@@ -107,9 +107,9 @@ first_overfull-Some code j e = some_if code j (lengths_below code) refl e
 
 -- ---- verdicts
 
--- a code whose list fails nowhere is accepted
-pub code_stands : (code : CanonicalCode) → HasLengths code → first_rise code ≡ None → first_overfull code ≡ None → IsCode code
-code_stands code lengths rise over =
+-- a code whose list has no fault is accepted
+pub code_holds : (code : CanonicalCode) → HasLengths code → first_rise code ≡ None → first_overfull code ≡ None → IsCode code
+code_holds code lengths rise over =
     let r = first_overfull-None code over in
     record { lengths = lengths; ordered = first_rise-None code rise; room = r.0; least = r.1 }
 
@@ -119,7 +119,7 @@ rise_is_fault code j lengths e = (lengths, first_rise-Some code j e)
 pub overfull_is_fault : (code : CanonicalCode) (j : ℕ) → HasLengths code → first_rise code ≡ None → first_overfull code ≡ Some j → IsCodeFault code (TooFull j)
 overfull_is_fault code j lengths rise e = (lengths, first_rise-None code rise, first_overfull-Some code j e)
 
--- ---- the number of symbols doesn't matter
+-- ---- the number of symbols does not matter
 
 abbrev pub with_symbols : CanonicalCode → ℕ → CanonicalCode
 with_symbols code n = record { min_length = code.min_length; max_length = code.max_length; lowest = code.lowest; symbols = n }
@@ -145,13 +145,13 @@ shifted_base-symbols : (code : CanonicalCode) (n l : ℕ) → shifted_base (with
 unfolding shifted_base
 shifted_base-symbols code n l = ap (λ (b : ℕ). b * 2 ^ (64 - l)) (base-symbols code n l)
 
-start-symbols : (code : CanonicalCode) (n first place : ℕ) → IsStart code first place → IsStart (with_symbols code n) first place
-start-symbols code n first place start = record {
+start-symbols : (code : CanonicalCode) (n first index : ℕ) → IsStart code first index → IsStart (with_symbols code n) first index
+start-symbols code n first index start = record {
   inside = start.inside;
   before = λ k earlier. subst (λ (b : ℕ). (first + 1) * 2 ^ 56 ≤ b) (sym (shifted_base-symbols code n (code.min_length + k))) (start.before k earlier);
 }
 
--- what is kept of a code is kept of it with another number of symbols
+-- the fields of a code also fit a code with another number of symbols
 pub kept-symbols : (code : CanonicalCode) (n : ℕ) (bases starts : List ℕ) → IsCode code × HasShiftedBases code bases × HasStarts code starts →
     IsCode (with_symbols code n) × HasShiftedBases (with_symbols code n) bases × HasStarts (with_symbols code n) starts
 kept-symbols code n bases starts (accepted, has_bases, has_starts) = (

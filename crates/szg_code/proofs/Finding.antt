@@ -1,4 +1,5 @@
--- The functions that find where the lowest symbols fail first, and the rules and faults of codes, both ways.
+-- The functions that find the first fault of the lowest symbols, and the rules and faults of codes, in both
+-- directions.
 use Rattle.std.proofs.Common.{ℕ, ◌≡◌, ◌+◌, ◌^◌, ◌<◌, ◌≤◌, ◌⊎◌, ◌↔◌, inl, inr, Option, Some, None, refl, ap, arith}
 use Rattle.szg_code.specs.Canonical.{CanonicalCode, base}
 use Rattle.szg_code.specs.Acceptance.{HasLengths, IsOrderedAt, HasRoomAt, IsCode, IsFirstRise, IsLastOverfull, IsOverfullAtLeast, IsCodeFault}
@@ -6,9 +7,9 @@ use Rattle.szg_code.specs.declared.CodeFault.TheVariants.{TooFull}
 use Rattle.szg_code.specs.FirstFault.{first_rise, first_overfull}
 use Rattle.szg_code.specs.Laws.{FirstRiseFinds, FirstOverfullFinds, FoundIsFault}
 use Rattle.szg_code.proofs.Accepting.{first_rise as one_rise, too_full}
-use Rattle.szg_code.proofs.Deciding.{first_rise-None, first_rise-Some, first_overfull-None, first_overfull-Some, code_stands}
+use Rattle.szg_code.proofs.Deciding.{first_rise-None, first_rise-Some, first_overfull-None, first_overfull-Some, code_holds}
 
--- All is the rule, and Fails j the fault at item j
+-- All is the rule, and Fails j is the fault at item j
 none_of : (All : Type 0) (Fails : ℕ → Type 0) → ((j : ℕ) → Fails j → ¬ All) → (found : Option ℕ) → ((j : ℕ) → found ≡ Some j → Fails j) → All → found ≡ None
 none_of All Fails refutes None fails all = refl
 none_of All Fails refutes (Some j) fails all = absurd (refutes j (fails j refl) all)
@@ -60,7 +61,7 @@ overfull code lengths j =
 
 pub found_is_fault : FoundIsFault
 found_is_fault code lengths = (
-  (accepted code, λ e. code_stands code lengths e.0 e.1),
+  (accepted code, λ e. code_holds code lengths e.0 e.1),
   λ j. let rise = (first_rise_finds code).1 j in (λ h. rise.1 h.1, λ e. (lengths, rise.0 e)),
   overfull code lengths,
 )

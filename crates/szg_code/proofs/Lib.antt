@@ -12,5 +12,5 @@ pub mod ReadBack
 pub mod Windows
 pub mod BaseSteps
 pub mod ByteBits
-pub mod Fronts
+pub mod Prefixes
 pub mod Buffers

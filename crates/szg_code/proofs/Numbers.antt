@@ -26,7 +26,7 @@ number-append (b ∷ x) y =
     let h : number (x ++ y) ≡ number x * 2 ^ length y + number y = number-append x y in
     rw (e, p, h) (omega arith)
 
--- bits of one length and one number are one list
+-- bit lists of one length and one number are equal
 pub number-injective : (x y : List Bool) → length x ≡ length y → number x ≡ number y → x ≡ y
 number-injective [] [] e h = refl
 number-injective [] (b ∷ y) e h = absurd (omega arith)
@@ -36,13 +36,13 @@ number-injective (a ∷ x) (b ∷ y) e h =
     let below_x : number x < 2 ^ length x = number-below x in
     let below_y : number y < 2 ^ length x = rw s (number-below y) in
     let t : bit_value a * 2 ^ length x + number x ≡ bit_value b * 2 ^ length x + number y = h ∙ ap (λ n. bit_value b * 2 ^ n + number y) (sym s) in
-    heads a b t below_x below_y (number-injective x y s)
+    first_bits a b t below_x below_y (number-injective x y s)
   where
-    heads : (a b : Bool) → bit_value a * 2 ^ length x + number x ≡ bit_value b * 2 ^ length x + number y → number x < 2 ^ length x → number y < 2 ^ length x → (number x ≡ number y → x ≡ y) → a ∷ x ≡ b ∷ y
-    heads true true t p q r = ap (λ z. true ∷ z) (r (omega arith))
-    heads false false t p q r = ap (λ z. false ∷ z) (r (omega arith))
-    heads true false t p q r = absurd (omega arith)
-    heads false true t p q r = absurd (omega arith)
+    first_bits : (a b : Bool) → bit_value a * 2 ^ length x + number x ≡ bit_value b * 2 ^ length x + number y → number x < 2 ^ length x → number y < 2 ^ length x → (number x ≡ number y → x ≡ y) → a ∷ x ≡ b ∷ y
+    first_bits true true t p q r = ap (λ z. true ∷ z) (r (omega arith))
+    first_bits false false t p q r = ap (λ z. false ∷ z) (r (omega arith))
+    first_bits true false t p q r = absurd (omega arith)
+    first_bits false true t p q r = absurd (omega arith)
 
 bit_value-of : (n : ℕ) → n < 2 → bit_value (n == 1) ≡ n
 bit_value-of zero h = refl
@@ -76,14 +76,14 @@ bits_of_number-split (suc a) b n =
     let h : n / 2 ^ b / 2 ^ a ≡ n / 2 ^ (a + b) = rw f at (shr-shr n b a) in
     rw (e, h) (ap (λ (x : List Bool). (n / 2 ^ (a + b) % 2 == 1) ∷ x) (bits_of_number-split a b n))
 
--- higher bits don't matter
+-- higher bits do not matter
 pub bits_of_number-mod : (l n : ℕ) → bits_of_number l (n % 2 ^ l) ≡ bits_of_number l n
 bits_of_number-mod l n =
     let p : 0 < 2 ^ l = pow_pos l in
     number-injective (bits_of_number l (n % 2 ^ l)) (bits_of_number l n) (length-bits_of_number l (n % 2 ^ l) ∙ sym (length-bits_of_number l n))
     (number-bits_of_number l (n % 2 ^ l) ∙ mod-small (n % 2 ^ l) (2 ^ l) (mod_below n (2 ^ l) p) ∙ sym (number-bits_of_number l n))
 
--- two numbers side by side
+-- two numbers side by side in one word
 pub bits_of_number-join : (a b x y : ℕ) → y < 2 ^ b → bits_of_number (a + b) (x * 2 ^ b + y) ≡ bits_of_number a x ++ bits_of_number b y
 bits_of_number-join a b x y h =
     let hi : (x * 2 ^ b + y) / 2 ^ b ≡ x = shr_high x b y h in

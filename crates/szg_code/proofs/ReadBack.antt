@@ -1,4 +1,4 @@
--- Laws of writing and reading: what was written is read back.
+-- Laws of writing and reading: written words are read back.
 use Rattle.std.proofs.Common.{ℕ, Bool, ◌≡◌, List, [], ◌∷◌, ◌++◌, ap, sym, ◌∙◌}
 use Rattle.std.proofs.lemmas.List.{append_assoc, append-nil, append_cancel_left}
 use Rattle.szg_code.specs.Canonical.{CanonicalCode, IsWord}

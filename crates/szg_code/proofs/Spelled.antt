@@ -1,4 +1,4 @@
--- Laws of what bits spell: one list of symbols, and the functions give it.
+-- Laws of what bits spell: one list of symbols, which the functions return.
 use Rattle.std.proofs.Common.{ℕ, zero, suc, Bool, true, false, ◌≡◌, ◌+◌, ◌-◌, ◌*◌, ◌^◌, ◌<◌, ◌≤◌, inl, inr, List, [], ◌∷◌, ◌++◌, Option, Some, None, ◌&&◌, nat_le, nat_lt, length, take, drop, map, refl, ap, sym, ◌∙◌, subst, arith, length-append, get_or}
 use Rattle.std.proofs.Math.Seq.{drop-append_seam, take-append_seam}
 use Rattle.szg_code.specs.Bits.{number, bits_of_number}
@@ -16,7 +16,7 @@ use Rattle.szg_code.proofs.Numbers.{bits_of_number-number, number-bits_of_number
 use Rattle.szg_code.proofs.Words.{no_word_begins_another, top-least, top-spread}
 
 module _ (code : CanonicalCode) (accepted : IsCode code) where
-  -- one word begins the bits at most
+  -- at most one word begins the bits
   pub BeginsWithWord-unique : (bits : List Bool) (s t : ℕ) (r q : List Bool) → BeginsWithWord code bits s r → BeginsWithWord code bits t q → (s ≡ t) × (r ≡ q)
   BeginsWithWord-unique bits s t r q a b =
       let e : a.word ++ r ≡ b.word ++ q = sym a.joined ∙ b.joined in
@@ -26,7 +26,7 @@ module _ (code : CanonicalCode) (accepted : IsCode code) where
       let h : drop (length a.word) (a.word ++ r) ≡ drop (length b.word) (b.word ++ q) = cc in
       (u.1, sym f ∙ h ∙ g)
 
-  -- of two lists of symbols that the bits spell the shorter begins the longer
+  -- of two lists of symbols that the bits spell, the shorter is a prefix of the longer
   pub Spells-unique : (bits : List Bool) (xs ys : List ℕ) → Spells code bits xs → Spells code bits ys → length xs ≤ length ys → take (length xs) ys ≡ xs
   Spells-unique bits [] ys a b h = refl
   Spells-unique bits (x ∷ xs) [] a b h = absurd (omega arith)
@@ -65,7 +65,7 @@ module _ (code : CanonicalCode) where
       (le-leb (base code (length word)) (number word) w.from_base)) (le-leb (suc (number word)) (top code (length word)) w.below_top))
       (le-leb (suc (symbol_at code (length word) (number word))) code.symbols there)
 
-  -- what first_word finds begins the bits, and is a word
+  -- the result of first_word is a word, and the bits begin with it
   pub first_word-Some : (bits word : List Bool) → first_word code bits ≡ Some word → BeginsWithWord code bits (symbol_at code (length word) (number word)) (drop (length word) bits)
   unfolding first_word
   first_word-Some bits word e =
@@ -82,7 +82,7 @@ module _ (code : CanonicalCode) where
         joined = sym k ∙ ap (λ u. word ++ u) (sym d');
       }
 
-  -- where it finds none, no word begins the bits
+  -- if first_word returns None, no word begins the bits
   pub first_word-None : (bits : List Bool) → first_word code bits ≡ None → BeginsWithNoWord code bits
   unfolding first_word word_lengths
   first_word-None bits e s rest b =
@@ -96,7 +96,7 @@ module _ (code : CanonicalCode) where
       let y : is_word code w ≡ true = is_word-from_IsWord w s i in
       absurd (let f' : is_word code w ≡ false = subst (λ u. is_word code u ≡ false) t f in cc)
 
-  -- the bits spell the symbols that the function gives
+  -- the bits spell the symbols that the function returns
   symbols_after-Spells : (bits : List Bool) (found : Option (List Bool)) (f : List Bool → List ℕ) → first_word code bits ≡ found → ((x : List Bool) → Spells code x (f x)) → Spells code bits (symbols_after code bits found f)
   symbols_after-Spells bits None f e h = tt
   symbols_after-Spells bits (Some word) f e h = (drop (length word) bits, first_word-Some bits word e, h (drop (length word) bits))
@@ -111,24 +111,24 @@ module _ (code : CanonicalCode) where
   Spells-symbols_spelled bits = symbols_within-Spells (length bits) bits
 
 module _ (code : CanonicalCode) (accepted : IsCode code) where
-  symbols_after-front : (bits : List Bool) (found : Option (List Bool)) (f : List Bool → List ℕ) (s : ℕ) (xs : List ℕ) (rest : List Bool) → first_word code bits ≡ found → BeginsWithWord code bits s rest → take (length xs) (f rest) ≡ xs → take (length (s ∷ xs)) (symbols_after code bits found f) ≡ s ∷ xs
-  symbols_after-front bits None f s xs rest e b h = absurd (first_word-None code bits e s rest b)
-  symbols_after-front bits (Some word) f s xs rest e b h =
+  symbols_after-prefix : (bits : List Bool) (found : Option (List Bool)) (f : List Bool → List ℕ) (s : ℕ) (xs : List ℕ) (rest : List Bool) → first_word code bits ≡ found → BeginsWithWord code bits s rest → take (length xs) (f rest) ≡ xs → take (length (s ∷ xs)) (symbols_after code bits found f) ≡ s ∷ xs
+  symbols_after-prefix bits None f s xs rest e b h = absurd (first_word-None code bits e s rest b)
+  symbols_after-prefix bits (Some word) f s xs rest e b h =
       let u = BeginsWithWord-unique code accepted bits s (symbol_at code (length word) (number word)) rest (drop (length word) bits) b (first_word-Some code bits word e) in
       let p : s ≡ symbol_at code (length word) (number word) = u.0 in
       let q : rest ≡ drop (length word) bits = u.1 in
       let i : take (length xs) (f (drop (length word) bits)) ≡ xs = subst (λ r. take (length xs) (f r) ≡ xs) q h in
       cc
 
-  -- any symbols that the bits spell are the first of those that the function gives
-  pub symbols_within-front : (count : ℕ) (bits : List Bool) (xs : List ℕ) → Spells code bits xs → length xs ≤ count → take (length xs) (symbols_within code count bits) ≡ xs
+  -- any symbols that the bits spell are the first of those that the function returns
+  pub symbols_within-prefix : (count : ℕ) (bits : List Bool) (xs : List ℕ) → Spells code bits xs → length xs ≤ count → take (length xs) (symbols_within code count bits) ≡ xs
   unfolding symbols_within
-  symbols_within-front count bits [] a h = refl
-  symbols_within-front zero bits (x ∷ xs) a h = absurd (omega arith)
-  symbols_within-front (suc count) bits (x ∷ xs) a h =
-      symbols_after-front bits (first_word code bits) (symbols_within code count) x xs a.0 refl a.1 (symbols_within-front count a.0 xs a.2 (omega arith))
+  symbols_within-prefix count bits [] a h = refl
+  symbols_within-prefix zero bits (x ∷ xs) a h = absurd (omega arith)
+  symbols_within-prefix (suc count) bits (x ∷ xs) a h =
+      symbols_after-prefix bits (first_word code bits) (symbols_within code count) x xs a.0 refl a.1 (symbols_within-prefix count a.0 xs a.2 (omega arith))
 
-  -- each word has a bit or more
+  -- each word has at least one bit
   pub Spells-length : (bits : List Bool) (xs : List ℕ) → Spells code bits xs → length xs ≤ length bits
   Spells-length bits [] a = omega arith
   Spells-length bits (x ∷ xs) a =
@@ -140,11 +140,11 @@ module _ (code : CanonicalCode) (accepted : IsCode code) where
       let m : 1 ≤ code.min_length = accepted.lengths.some_bits in
       omega arith
 
-  pub symbols_spelled-front : (bits : List Bool) (xs : List ℕ) → Spells code bits xs → take (length xs) (symbols_spelled code bits) ≡ xs
+  pub symbols_spelled-prefix : (bits : List Bool) (xs : List ℕ) → Spells code bits xs → take (length xs) (symbols_spelled code bits) ≡ xs
   unfolding symbols_spelled
-  symbols_spelled-front bits xs a = symbols_within-front (length bits) bits xs a (Spells-length bits xs a)
+  symbols_spelled-prefix bits xs a = symbols_within-prefix (length bits) bits xs a (Spells-length bits xs a)
 
-  -- a number from the base to the top of a length has that many bits
+  -- a number from the base to the end of a length has that many bits
   pub top-fits : (l : ℕ) → code.min_length ≤ l → l ≤ code.max_length → top code l ≤ 2 ^ l
   top-fits l g h =
       elim (cases_order l code.min_length) [
@@ -217,7 +217,7 @@ module _ (code : CanonicalCode) (accepted : IsCode code) where
       pair_of : {a b : List Bool} {m n : ℕ} → a ≡ b → m ≡ n → (let p : List Bool × ℕ = (a, m) in p) ≡ (b, n)
       pair_of e f = cc
 
--- each symbol that bits spell is there
+-- each symbol that bits spell exists
 pub Spells-there : (code : CanonicalCode) (bits : List Bool) (xs : List ℕ) → Spells code bits xs → (k : ℕ) → k < length xs → get_or xs k 0 < code.symbols
 Spells-there code bits [] a k h = absurd (omega arith)
 Spells-there code bits (x ∷ xs) a zero h = let b : BeginsWithWord code bits x a.0 = a.1 in b.is_one.symbol_there

@@ -1,9 +1,10 @@
--- How a reader finds the word that begins the bits: by the least length at which their number reaches the base.
+-- How a reader finds the word that begins the bits: the least length at which the number of the leading bits is at
+-- least the base.
 use Rattle.std.specs.Prelude.{ℕ, Bool, ◌≡◌, ◌+◌, ◌-◌, ◌*◌, ◌^◌, ◌<◌, ◌≤◌, List, length, take, slice_index}
 use Rattle.szg_code.specs.Bits.{number}
 use Rattle.szg_code.specs.Canonical.{CanonicalCode, base, symbol_at}
 
--- l is the least length at which the number of the first l bits is not below the base of l
+-- l is the least length at which the number of the first l bits is at least the base of l
 pub record IsLeastLength (code : CanonicalCode) (bits : List Bool) (l : ℕ) : Type 0 where
   pub long_enough : code.min_length ≤ l
   pub short_enough : l ≤ code.max_length
@@ -11,31 +12,31 @@ pub record IsLeastLength (code : CanonicalCode) (bits : List Bool) (l : ℕ) : T
   pub reaches : base code l ≤ number (take l bits)
   pub before : (k : ℕ) → code.min_length ≤ k → k < l → number (take k bits) < base code k
 
--- at no length does the number of the first bits reach the base
+-- at no length is the number of the leading bits at least the base
 abbrev pub ReachesNoBase : CanonicalCode → List Bool → Type 0
 ReachesNoBase code bits = (k : ℕ) → code.min_length ≤ k → k ≤ code.max_length → k ≤ length bits → number (take k bits) < base code k
 
 -- the symbol of the first l bits
-unfoldable pub symbol_of_front : CanonicalCode → List Bool → ℕ → ℕ
-symbol_of_front code bits l = symbol_at code l (number (take l bits))
+unfoldable pub symbol_of_prefix : CanonicalCode → List Bool → ℕ → ℕ
+symbol_of_prefix code bits l = symbol_at code l (number (take l bits))
 
--- the base of a length at the top of a window of so many bits
+-- the base of a length, shifted to the top of a window of `window` bits
 unfoldable pub shifted_base : CanonicalCode → ℕ → ℕ → ℕ
 shifted_base code window l = base code l * 2 ^ (window - l)
 
--- the list has the base of each length from the least on
+-- the list contains the base of each length, from the least on
 abbrev pub HasBases : CanonicalCode → List ℕ → Type 0
 HasBases code bases = (j : ℕ) → j < length code.lowest → slice_index bases j ≡ base code (code.min_length + j)
 
--- the list has the same bases, each at the top of a window of 64 bits
+-- the list contains the same bases, each shifted to the top of a 64-bit window
 abbrev pub HasShiftedBases : CanonicalCode → List ℕ → Type 0
 HasShiftedBases code bases = (j : ℕ) → j < length code.lowest → slice_index bases j ≡ shifted_base code 64 (code.min_length + j)
 
--- the lengths before a place have bases above all windows of 64 bits with this first byte
-pub record IsStart (code : CanonicalCode) (first place : ℕ) : Type 0 where
-  pub inside : place < length code.lowest
-  pub before : (k : ℕ) → k < place → (first + 1) * 2 ^ 56 ≤ shifted_base code 64 (code.min_length + k)
+-- the lengths before this index have bases above all 64-bit windows with this first byte
+pub record IsStart (code : CanonicalCode) (first index : ℕ) : Type 0 where
+  pub inside : index < length code.lowest
+  pub before : (k : ℕ) → k < index → (first + 1) * 2 ^ 56 ≤ shifted_base code 64 (code.min_length + k)
 
--- the list has such a place for each first byte
+-- the list has such an index for each first byte
 abbrev pub HasStarts : CanonicalCode → List ℕ → Type 0
 HasStarts code starts = (first : ℕ) → first < 256 → IsStart code first (slice_index starts first)

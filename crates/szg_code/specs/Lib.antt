@@ -6,6 +6,6 @@ pub mod Cursor
 pub mod Least
 pub mod Laws
 pub mod FirstFault
-pub mod CodeHead
+pub mod CodeHeader
 pub mod Buffer
 pub mod Window

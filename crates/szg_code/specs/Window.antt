@@ -1,20 +1,20 @@
--- What a reader by windows keeps: the bits left that were read, at the top of 64 bits.
+-- The state of a reader by windows: the bits that were read but not taken, at the top of 64 bits.
 use Rattle.std.specs.Prelude.{ℕ, zero, suc, Bool, false, ◌≡◌, ◌-◌, ◌*◌, ◌%◌, ◌^◌, ◌≤◌, List, [], ◌∷◌, length, drop}
 use Rattle.szg_code.specs.Bits.{bits, number}
 
--- the first so many bits, and zeros where there are fewer
-abbrev pub front : ℕ → List Bool → List Bool
-front zero bits = []
-front (suc n) [] = false ∷ front n []
-front (suc n) (b ∷ bits) = b ∷ front n bits
+-- the first n bits, padded with zeros if there are fewer
+abbrev pub padded : ℕ → List Bool → List Bool
+padded zero bits = []
+padded (suc n) [] = false ∷ padded n []
+padded (suc n) (b ∷ bits) = b ∷ padded n bits
 
--- Bits are read by 32, up to the end of the second such piece from the one in which the place is. The
--- window has those from the place on, and zeros below them.
+-- Bits are read 32 at a time, up to the end of the 32 bits after those that contain the offset. The window holds
+-- the bits from the offset on, followed by zeros.
 unfoldable pub window_at : List Bool → ℕ → ℕ
-window_at bits place = number (front (64 - place % 32) (drop place bits)) * 2 ^ (place % 32)
+window_at bits offset = number (padded (64 - offset % 32) (drop offset bits)) * 2 ^ (offset % 32)
 
--- a reader's fields are right
-pub record IsReader (bytes : List ℕ) (place window : ℕ) : Type 0 where
+-- the fields of a reader are valid
+pub record IsReader (bytes : List ℕ) (offset window : ℕ) : Type 0 where
   pub fits : length bytes ≤ 2 ^ 60
-  pub inside : place ≤ 8 * length bytes
-  pub window_is : window ≡ window_at (bits bytes) place
+  pub inside : offset ≤ 8 * length bytes
+  pub window_is : window ≡ window_at (bits bytes) offset

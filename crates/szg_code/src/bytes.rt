@@ -1,9 +1,13 @@
-//! Bytes of a slice, with zeros past its end.
+//! Reading bytes of a slice, with zeros past its end.
 ghost use Rattle.std.specs.Prelude.{◌≡◌, slice_index};
 
-/// The byte at a place, or 0 past the end.
-pub fn byte_or_zero(bytes: &[u8], place: usize) -> u8
-    ensures { result ≡ slice_index bytes.now place }
+/// Returns the byte at `offset`, or 0 past the end.
+pub fn byte_or_zero(bytes: &[u8], offset: usize) -> u8
+    ensures { result ≡ slice_index bytes.now offset }
 {
-    if place < bytes.len() { bytes[place] } else { 0 }
+    if offset < bytes.len() {
+        bytes[offset]
+    } else {
+        0
+    }
 }

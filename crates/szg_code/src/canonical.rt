@@ -7,16 +7,16 @@ ghost use Rattle.szg_code.specs.Acceptance.{IsCode, IsCodeFault};
 ghost use Rattle.szg_code.specs.Least.{shifted_base};
 
 use crate::CodeFault;
-use crate::checks::Head;
-use crate::found::Word;
+use crate::checks::CodeHeader;
+use crate::code_word::Word;
 use std::marker::Model;
 
-/// An accepted code: words of 1 to 32 bits, of which none begins another, for symbols below their number.
-/// It keeps the base of each length at the top of 64 bits, as de Man's probing code does, and for each first byte of a
-/// window where the search for a word's length begins.
+/// An accepted code: words of 1 to 32 bits, none of which begins another, for symbols below the number of symbols.
+/// As in de Man's probing code, it stores the base of each length shifted to the top of 64 bits. For each first
+/// byte of a window it also stores the length index from which the search for a word's length starts.
 #[derive(Drop)]
 pub struct Code {
-    head: Head,
+    header: CodeHeader,
     bases: [u64; 32],
     starts: [u8; 256],
 }
@@ -25,119 +25,119 @@ impl Model for Code {
     ghost use Rattle.szg_code.specs.Canonical.{CanonicalCode};
     ghost use Rattle.szg_code.specs.Acceptance.{IsCode};
     ghost use Rattle.szg_code.specs.Least.{HasShiftedBases, HasStarts};
-    ghost use Rattle.szg_code.specs.CodeHead.{code_of};
+    ghost use Rattle.szg_code.specs.CodeHeader.{code_of};
 
     ghost Value = { CanonicalCode };
 
-    ghost view = { λ code. code_of code.head };
+    ghost view = { λ code. code_of code.header };
 
-    ghost invariant = { λ code. IsCode (code_of code.head) × HasShiftedBases (code_of code.head) code.bases × HasStarts (code_of code.head) code.starts };
+    ghost invariant = { λ code. IsCode (code_of code.header) × HasShiftedBases (code_of code.header) code.bases × HasStarts (code_of code.header) code.starts };
 }
 
 impl Code {
-    /// The code of a subtable's head: the least and the greatest length of a word in bits, the lowest
-    /// symbol of each length from the least on, and the number of symbols n. The list is kept as it is. That
-    /// no memory is taken, on the list's allocator either, is seen by reading; no clause says it.
+    /// Creates the code of a subtable header: the least and the greatest length of a word in bits, the lowest
+    /// symbol of each length from the least on, and the number of symbols `n`. The list is moved, not copied. That
+    /// the call takes no memory, from the list's allocator either, is seen by reading; no clause says it.
     ///
-    /// Refused, with the first of these that stands: `Lengths` where min is 0, min is above max, max is
-    /// above 32, or the list has another length than max - min + 1; `LowestOrder` where the list rises;
-    /// `TooFull` where, by the bases that follow from the list as in de Man's format, the words of some
-    /// length leave too few numbers for the next, or those of the least length don't fit it.
+    /// Errors: `Lengths` if `min` is 0, `min` is above `max`, `max` is above 32, or the length of the list is not
+    /// `max - min + 1`. Else `LowestOrder` if the list increases somewhere. Else `TooFull` if the bases that follow
+    /// from the list, as in de Man's format, leave too few words for the next length, or if the words of the least
+    /// length do not fit it.
     pub fn new(min: u8, max: u8, lowest: Vec<u16>, n: u16) -> Result<Code, CodeFault>
         ensures accepted { IfOk result (λ code. IsCode code
             × (code ≡ record { min_length = min; max_length = max; lowest = lowest.items; symbols = n })) }
         ensures refused { IfErr result (λ fault. IsCodeFault (record { min_length = min; max_length = max; lowest = lowest.items; symbols = n }) fault) }
     {
-        let head = Head {
+        let header = CodeHeader {
             min,
             max,
             lowest,
             symbols: n,
         };
-        if !head.has_lengths() {
+        if !header.has_lengths() {
             return Err(CodeFault::Lengths);
         }
-        if let Some(j) = head.first_rise() {
+        if let Some(j) = header.first_rise() {
             return Err(CodeFault::LowestOrder(j));
         }
-        match head.bases() {
+        match header.bases() {
             Err(j) => Err(CodeFault::TooFull(j)),
             Ok(bases) => {
-                let bases = head.shifted(&bases);
+                let bases = header.shifted(&bases);
                 Ok(Code {
-                    starts: head.starts(&bases),
+                    starts: header.starts(&bases),
                     bases,
-                    head,
+                    header,
                 })
             }
         }
     }
 
-    /// The least length of a word, in bits: 1 to 32.
+    /// Returns the least length of a word in bits, 1 to 32.
     pub fn min(&self) -> u8
         ensures { result ≡ self.now.min_length }
     {
-        self.head.min
+        self.header.min
     }
 
-    /// The greatest length of a word, in bits: from the least to 32.
+    /// Returns the greatest length of a word in bits, from the least to 32.
     pub fn max(&self) -> u8
         ensures { result ≡ self.now.max_length }
     {
-        self.head.max
+        self.header.max
     }
 
-    /// The lowest symbol of each length, from the least on.
+    /// Returns the lowest symbol of each length, from the least length on.
     pub fn lowest(&self) -> &[u16]
         ensures { result.now ≡ self.now.lowest }
     {
-        &self.head.lowest
+        &self.header.lowest
     }
 
-    /// The number of symbols n: each symbol is below it. Not every one has a word.
+    /// Returns the number of symbols. Each symbol is below it, and some may have no word.
     pub fn symbols(&self) -> u16
         ensures number { result ≡ self.now.symbols }
         ensures accepted { IsCode self.now }
     {
-        self.head.symbols
+        self.header.symbols
     }
 
-    /// The same lengths and lowest symbols for another number of symbols n. The list isn't copied.
+    /// Replaces the number of symbols by `n`. The lengths and the lowest symbols stay, and the list is not copied.
     pub fn with_symbols(self, n: u16) -> Code
         ensures code { result ≡ record { min_length = self.min_length; max_length = self.max_length; lowest = self.lowest; symbols = n } }
         ensures accepted { IsCode result }
     {
-        let head = Head {
+        let header = CodeHeader {
             symbols: n,
-            ..self.head
+            ..self.header
         };
-        Code { head, ..self }
+        Code { header, ..self }
     }
 
-    /// The base of the length at place j, from the least on.
+    /// Returns the base of the length at index `j`; index 0 is the least length.
     fn base_at(&self, j: usize) -> u64
         requires { j < length self.now.lowest }
         ensures accepted { IsCode self.now }
         ensures base { result ≡ base self.now (self.now.min_length + j) }
         ensures fits { result < 2 ^ 32 }
     {
-        let min = usize::from(self.head.min);
+        let min = usize::from(self.header.min);
         self.bases[j] >> (64 - min - j)
     }
 
-    /// The end of the numbers of the length at place j.
+    /// Returns the end of the numbers of the length at index `j`, exclusive.
     fn top_at(&self, j: usize) -> u64
         requires { j < length self.now.lowest }
         ensures { result ≡ top self.now (self.now.min_length + j) }
     {
         if j == 0 {
-            1 << self.head.min
+            1 << self.header.min
         } else {
             2 * self.base_at(j - 1)
         }
     }
 
-    /// The word of the length at place j that stands for the symbol.
+    /// Returns the symbol's word of the length at index `j`. None if it has no word of that length.
     fn word_at(&self, j: usize, s: u16) -> Option<Word>
         requires length { j < length self.now.lowest }
         requires there { s < self.now.symbols }
@@ -159,20 +159,21 @@ impl Code {
         })
     }
 
-    /// The place of the least length whose base, at the top of 64 bits, the window reaches. Shifted bases
-    /// don't rise with the length, and may be equal: the first that is reached counts.
+    /// Returns the index of the least length whose base, shifted to the top of 64 bits, is at most the window. The
+    /// shifted bases do not increase with the length, and neighbours may be equal; the first one counts.
     #[inline(always)]
-    pub(crate) fn place_reached(&self, window: u64) -> usize
+    pub(crate) fn reached_index(&self, window: u64) -> usize
         ensures accepted { IsCode self.now }
         ensures inside { result < length self.now.lowest }
         ensures reaches { shifted_base self.now 64 (self.now.min_length + result) ≤ window }
         ensures before { (k : ℕ) → k < result → window < shifted_base self.now 64 (self.now.min_length + k) }
     {
         let start = usize::from(self.starts[(window >> 56) as usize]);
-        self.head.place_from(&self.bases, start, window)
+        self.header.reached_index_from(&self.bases, start, window)
     }
 
-    /// The symbol of the first bits of a window, as many as the length at place j, if it is there.
+    /// Returns the symbol of the window's leading bits, whose number is the length at index `j`. None if it is not
+    /// below the number of symbols.
     #[inline(always)]
     pub(crate) fn symbol_in(&self, window: u64, j: usize) -> Option<u16>
         requires length { j < length self.now.lowest }
@@ -181,7 +182,7 @@ impl Code {
         ensures found { IfSome result (λ s. (s ≡ symbol_at self.now (self.now.min_length + j) (window / 2 ^ (64 - (self.now.min_length + j)))) × (s < self.now.symbols)) }
         ensures none { IfNone result (self.now.symbols ≤ symbol_at self.now (self.now.min_length + j) (window / 2 ^ (64 - (self.now.min_length + j)))) }
     {
-        let min = usize::from(self.head.min);
+        let min = usize::from(self.header.min);
         let above = (window - self.bases[j]) >> (64 - min - j);
         let symbol = u64::from(self.lowest()[j]) + above;
         if symbol < u64::from(self.symbols()) {
@@ -192,7 +193,7 @@ impl Code {
     }
 }
 
-/// The word of a symbol, of 1 to 32 bits, or None where the symbol has none.
+/// Returns the word of a symbol, of 1 to 32 bits. None if the symbol has no word.
 pub fn word(code: &Code, s: u16) -> Option<Word>
     ensures short { IfSome result (λ word. (1 ≤ word.length) × (word.length ≤ 32)) }
     ensures found { IfSome result (λ word. (word.number < 2 ^ word.length) × IsWord code.now (bits_of_number word.length word.number) s) }

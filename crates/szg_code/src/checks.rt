@@ -1,29 +1,29 @@
-//! The code section of a subtable's head, and the checks that make a code of it.
+//! The code section of a subtable header, and the checks that turn it into a code.
 ghost use Rattle.std.specs.Prelude.{ℕ, ◌≡◌, ◌+◌, ◌-◌, ◌*◌, ◌^◌, ◌<◌, ◌≤◌, ◌↔◌, ◌⊎◌, length, IsTrue, IfOk, IfErr, IfSome, IfNone};
 ghost use Rattle.szg_code.specs.Canonical.{base};
 ghost use Rattle.szg_code.specs.Acceptance.{HasLengths, IsOrderedAt, HasRoomAt, IsCode, IsFirstRise, IsLastOverfull, IsOverfullAtLeast};
 ghost use Rattle.szg_code.specs.Least.{HasBases, HasShiftedBases, HasStarts, IsStart, shifted_base};
 
-/// How many windows of 64 bits have one first byte.
+/// The number of 64-bit windows that share a first byte.
 const WINDOWS: u64 = 1 << 56;
 
-/// What a subtable's head says of its code.
+/// The code section of a subtable header.
 #[derive(Drop)]
-pub struct Head {
+pub struct CodeHeader {
     /// The least length of a word, in bits.
     pub min: u8,
     /// The greatest length of a word, in bits.
     pub max: u8,
-    /// The lowest symbol of each length, from the least on.
+    /// The lowest symbol of each length, from the least length on.
     pub lowest: Vec<u16>,
     /// The number of symbols.
     pub symbols: u16,
 }
 
-impl Head {
-    ghost use Rattle.szg_code.specs.CodeHead.{code_of};
+impl CodeHeader {
+    ghost use Rattle.szg_code.specs.CodeHeader.{code_of};
 
-    /// Whether words have 1 to 32 bits, and each length has a lowest symbol.
+    /// Returns whether words have 1 to 32 bits and each length has one lowest symbol.
     pub fn has_lengths(&self) -> bool
         ensures { IsTrue result ↔ HasLengths (code_of self.now) }
     {
@@ -33,7 +33,8 @@ impl Head {
             && self.lowest.len() == usize::from(self.max - self.min) + 1
     }
 
-    /// The first item of the lowest symbols that is above the one before it.
+    /// Returns the first index of a lowest symbol that is above the one before it. None if the list never
+    /// increases.
     pub fn first_rise(&self) -> Option<u8>
         requires { HasLengths (code_of self.now) }
         ensures found { IfSome result (λ j. IsFirstRise (code_of self.now) j) }
@@ -47,10 +48,10 @@ impl Head {
         None
     }
 
-    /// The base of each length from the least on, from the greatest length down: `base(max) = 0`, and
-    /// else `base(l) = (base(l + 1) + lowest(l) - lowest(l + 1)) / 2`, as in de Man's format. Or the item
-    /// of the greatest length whose base, doubled, is below the next; or of the least length, where at
-    /// it alone the numbers don't fit.
+    /// Computes the base of each length, from the greatest length down: `base(max) = 0`, and else `base(l) =
+    /// (base(l + 1) + lowest(l) - lowest(l + 1)) / 2`, as in de Man's format. The result begins with the least
+    /// length. Errors: the index of the greatest length whose base, doubled, is below the base of the next length;
+    /// or 0, if only the words of the least length do not fit.
     pub fn bases(&self) -> Result<[u32; 32], u8>
         requires lengths { HasLengths (code_of self.now) }
         requires ordered { (j : ℕ) → IsOrderedAt (code_of self.now) j }
@@ -76,7 +77,7 @@ impl Head {
         Ok(bases)
     }
 
-    /// Each base at the top of a window of 64 bits.
+    /// Shifts each base to the top of a 64-bit window.
     pub fn shifted(&self, bases: &[u32; 32]) -> [u64; 32]
         requires accepted { IsCode (code_of self.now) }
         requires bases { HasBases (code_of self.now) bases.now }
@@ -89,8 +90,9 @@ impl Head {
         shifted
     }
 
-    /// From a place on, the place of the first length whose base, at the top of 64 bits, the window reaches.
-    pub fn place_from(&self, bases: &[u64; 32], from: usize, window: u64) -> usize
+    /// Returns the index of the first length, from index `from` on, whose base, shifted to the top of 64 bits, is
+    /// at most the window.
+    pub fn reached_index_from(&self, bases: &[u64; 32], from: usize, window: u64) -> usize
         requires accepted { IsCode (code_of self.now) }
         requires bases { HasShiftedBases (code_of self.now) bases.now }
         requires inside { from < length self.now.lowest.items }
@@ -106,17 +108,17 @@ impl Head {
         j
     }
 
-    /// The place of the first length whose base some window with this first byte reaches.
+    /// Returns the index of the first length whose base is reached by some window with this first byte.
     fn start_of(&self, bases: &[u64; 32], first: u8) -> u8
         requires accepted { IsCode (code_of self.now) }
         requires bases { HasShiftedBases (code_of self.now) bases.now }
         ensures { IsStart (code_of self.now) first result }
     {
         let last = u64::from(first) * WINDOWS + (WINDOWS - 1);
-        self.place_from(bases, 0, last) as u8
+        self.reached_index_from(bases, 0, last) as u8
     }
 
-    /// For each first byte of a window the place from which the first length that it reaches is looked for.
+    /// Computes, for each first byte of a window, the length index from which the search starts.
     pub fn starts(&self, bases: &[u64; 32]) -> [u8; 256]
         requires accepted { IsCode (code_of self.now) }
         requires bases { HasShiftedBases (code_of self.now) bases.now }

@@ -1,33 +1,33 @@
-//! Canonical codes of de Man's table format: the words of a subtable's symbols, a reader of words in
-//! lent bytes, and a writer that appends them to a buffer.
+//! Canonical codes of de Man's table format: the words of a subtable's symbols, a reader that decodes words from
+//! borrowed bytes, and a writer that appends them to a buffer.
 //!
-//! A code is told by the least and the greatest length of a word, the lowest symbol of each length, and
-//! the number of symbols. Bits are taken from bytes high bit first.
+//! A code is given by the least and the greatest length of a word, the lowest symbol of each length, and the number
+//! of symbols. Bits are read from each byte high bit first.
 #![tactic(auto)]
 
 mod bytes;
 mod canonical;
 mod checks;
-mod found;
+mod code_word;
 pub mod laws;
 mod reader;
 mod writer;
 
 pub use canonical::{Code, word};
-pub use found::Word;
+pub use code_word::Word;
 pub use reader::{Bits, next};
 pub use writer::{BitBuf, put};
 
-/// Why a code is refused: the first of these that stands.
+/// Why a code is refused: the first fault in this order.
 #[derive(Debug, Clone, Copy, PartialEq, Eq)]
 pub enum CodeFault {
-    /// The least length is 0 or above the greatest, the greatest is above 32, or the lowest symbols are
-    /// not as many as the lengths.
+    /// The least length is 0 or above the greatest, the greatest is above 32, or the number of lowest symbols is
+    /// not the number of lengths.
     Lengths,
-    /// The lowest symbols rise: the first item that is above the one before it.
+    /// The lowest symbols increase; carries the first index that is above the one before it.
     LowestOrder(u8),
-    /// The words don't fit: the item of the greatest length whose base, doubled, is below the base of the
-    /// next length; or 0, where only the words of the least length are more than its bits can number.
+    /// The words do not fit. Carries the index of the greatest length whose base, doubled, is below the base of the
+    /// next length; or 0, if only the words of the least length are too many for its bits.
     TooFull(u8),
 }
 
@@ -36,6 +36,6 @@ pub enum CodeFault {
 pub enum PutFault {
     /// The symbol has no word.
     NoWord,
-    /// The word didn't fit into the buffer's memory, and no more was given.
+    /// The word did not fit into the buffer's capacity, and no memory was granted.
     Memory,
 }

@@ -1,23 +1,23 @@
-//! A reader of words in lent bytes, by windows of 64 bits as in de Man's probing code.
+//! A reader that decodes words from borrowed bytes, by 64-bit windows as in de Man's probing code.
 ghost use Rattle.std.specs.Prelude.{◌≡◌, ◌+◌, ◌*◌, ◌^◌, ◌<◌, ◌≤◌, [], ◌++◌, length, slice_index, take, drop, IfSome, IfNone};
 ghost use Rattle.szg_code.specs.Bits.{bits, number};
 ghost use Rattle.szg_code.specs.Spelling.{BeginsWithNoWord};
 ghost use Rattle.szg_code.specs.Cursor.{TakesWord};
-ghost use Rattle.szg_code.specs.Window.{front};
+ghost use Rattle.szg_code.specs.Window.{padded};
 
 use crate::bytes::byte_or_zero;
 use crate::canonical::Code;
 use byteorder::{BigEndian, ByteOrder};
 use std::marker::Model;
 
-/// A reader in the bits of lent bytes, each byte's high bit first.
+/// A bit reader over borrowed bytes, each byte's high bit first.
 ///
-/// Its window has the bits from the place on at the top of 64 bits, as far as they were read; they are
-/// read by 32, so at least 33 of them stand there. Past the bytes' end it has zeros.
+/// The window holds the bits from the current offset on, at the top of 64 bits. It is refilled by 32 bits at a
+/// time, so it always holds at least 33. Past the end of the bytes it holds zeros.
 #[derive(Drop)]
 pub struct Bits<'a> {
     bytes: &'a [u8],
-    place: u64,
+    offset: u64,
     window: u64,
 }
 
@@ -29,13 +29,13 @@ impl<'a> Model for Bits<'a> {
 
     ghost Value = { Cursor };
 
-    ghost view = { λ reader. record { taken = take reader.place (bits reader.bytes.now); left = drop reader.place (bits reader.bytes.now) } };
+    ghost view = { λ reader. record { taken = take reader.offset (bits reader.bytes.now); left = drop reader.offset (bits reader.bytes.now) } };
 
-    ghost invariant = { λ reader. IsReader reader.bytes.now reader.place reader.window };
+    ghost invariant = { λ reader. IsReader reader.bytes.now reader.offset reader.window };
 }
 
 impl<'a> Bits<'a> {
-    /// A reader at the first bit, of at most 2^60 bytes.
+    /// Creates a reader at the first bit of at most 2^60 bytes.
     pub fn new(bytes: &'a [u8]) -> Bits<'a>
         requires { length bytes.now ≤ 2 ^ 60 }
         ensures taken { result.taken ≡ [] }
@@ -43,49 +43,50 @@ impl<'a> Bits<'a> {
     {
         Bits {
             bytes,
-            place: 0,
-            window: u64::from(piece_at(bytes, 0)) << 32 | u64::from(piece_at(bytes, 4)),
+            offset: 0,
+            window: u64::from(read_u32_at(bytes, 0)) << 32 | u64::from(read_u32_at(bytes, 4)),
         }
     }
 
-    /// The number of bits taken.
+    /// Returns the bit offset: the number of bits taken.
     pub fn place(&self) -> u64
         ensures { result ≡ length self.now.taken }
     {
-        self.place
+        self.offset
     }
 
-    /// The number of bits left.
+    /// Returns the number of bits left.
     #[inline(always)]
     fn count_left(&self) -> u64
         ensures { result ≡ length self.now.left }
     {
-        8 * self.bytes.len() as u64 - self.place
+        8 * self.bytes.len() as u64 - self.offset
     }
 
-    /// Moves over so many of the bits left. Where the window comes into its second piece, the next is read.
+    /// Skips `count` of the remaining bits. When the offset passes a multiple of 32, the next 32 bits are read into
+    /// the window.
     #[inline(always)]
-    fn move_over(&mut self, count: u64)
+    fn skip(&mut self, count: u64)
         requires short { count ≤ 32 }
         requires inside { count ≤ length self.old.left }
         ensures taken { self.new.taken ≡ self.old.taken ++ take count self.old.left }
         ensures left { self.new.left ≡ drop count self.old.left }
     {
-        let begun = self.place % 32 + count;
-        self.place += count;
+        let in_window = self.offset % 32 + count;
+        self.offset += count;
         self.window <<= count;
-        if begun >= 32 {
-            let at = 4 * (self.place / 32) + 4;
-            self.window |= u64::from(piece_at(self.bytes, at as usize)) << (self.place % 32);
+        if in_window >= 32 {
+            let at = 4 * (self.offset / 32) + 4;
+            self.window |= u64::from(read_u32_at(self.bytes, at as usize)) << (self.offset % 32);
         }
     }
 }
 
-/// The number of four bytes from a place on, the first highest; zeros past the end.
+/// Reads four bytes at offset `at` as a big-endian number, with zeros past the end.
 #[inline(always)]
-fn piece_at(bytes: &[u8], at: usize) -> u32
+fn read_u32_at(bytes: &[u8], at: usize) -> u32
     requires { at < 2 ^ 62 }
-    ensures { result ≡ number (front 32 (drop (8 * at) (bits bytes.now))) }
+    ensures { result ≡ number (padded 32 (drop (8 * at) (bits bytes.now))) }
 {
     if at + 4 <= bytes.len() {
         BigEndian::read_u32(&bytes[at..])
@@ -99,22 +100,22 @@ fn piece_at(bytes: &[u8], at: usize) -> u32
     }
 }
 
-/// The symbol of the word that begins the bits left, which then are those behind the word.
+/// Decodes the word at the reader's offset, moves the reader past it, and returns its symbol.
 ///
-/// None where no word begins them, or the word would run past the bytes: the bits stay as they were.
-/// The rule is that of de Man's format: the word has the least length at which the number of the first
-/// bits is not below the base.
+/// None if the remaining bits do not begin with a word, or if the word would extend past the bytes; then the reader
+/// does not move. As in de Man's format, the word has the least length at which the number of the leading bits is
+/// at least the base.
 #[inline(always)]
 pub fn next(code: &Code, bits: &mut Bits) -> Option<u16>
     ensures found { IfSome result (λ s. TakesWord code.now bits.old bits.new s) }
     ensures none { IfNone result (BeginsWithNoWord code.now bits.old.left × (bits.new ≡ bits.old)) }
 {
-    let j = code.place_reached(bits.window);
+    let j = code.reached_index(bits.window);
     let count = u64::from(code.min()) + j as u64;
     if count > bits.count_left() {
         return None;
     }
     let symbol = code.symbol_in(bits.window, j)?;
-    bits.move_over(count);
+    bits.skip(count);
     Some(symbol)
 }

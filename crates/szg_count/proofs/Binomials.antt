@@ -1,4 +1,4 @@
--- Binomials: where there are none, where there are some, how large they are, and the next one of a product.
+-- Binomials: which are 0, which are positive, their bounds, and the next one of a product.
 use Rattle.std.proofs.Common.{◌≡◌, ℕ, zero, suc, ◌+◌, ◌-◌, ◌*◌, ◌/◌, ◌^◌, ◌<◌, ◌≤◌, map, length, refl, arith, add-one}
 use Rattle.std.specs.Prelude.{sum}
 use Rattle.std.specs.List.{range_with_len}
@@ -35,11 +35,11 @@ choose_fits m i c e h k =
     let b : m + 1 ≤ 64 = omega arith in
     let d : c * (m + 1) ≤ 1073741824 * 64 = mul-le-mul a b in omega (arith, d)
 
--- the ways of the i-th square of a lead pawn
+-- the ways of square i of a lead pawn
 abbrev pub pawn_ways : ℕ → ℕ → ℕ → ℕ
 pawn_ways pawns file i = choose (47 - 12 * file - 2 * i) (pawns - 1)
 
--- the squares of a file have 47 squares after them, 12 less a file and 2 less a rank
+-- the squares of a file have 47 squares after them, less 12 for each file and less 2 for each rank
 pub lead_pawn_sum : (pawns file : ℕ) → file < 4 → length (lead_pawn_sets pawns file) ≡ sum (map (pawn_ways pawns file) (range_with_len 0 6))
 unfolding pawn_order after
 lead_pawn_sum pawns zero h = lead_pawn_count pawns 0

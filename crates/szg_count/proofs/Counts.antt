@@ -1,4 +1,4 @@
--- The ways of lead groups and of groups in turn, by the lengths.
+-- The ways of lead groups and of all groups, by the lengths.
 use Rattle.std.proofs.Common.{◌≡◌, ℕ, zero, suc, ◌+◌, ◌-◌, ◌*◌, ◌<◌, ◌≤◌, List, [], ◌∷◌, length, map, get_or, take, refl, sym, ap, ◌∙◌, subst, inl, inr, Bool, true, false, cond, arith}
 use Rattle.std.specs.Prelude.{◌==◌, sum, slice_get, slice_index, unwrap_or}
 use Rattle.std.specs.List.{range_with_len, concat}
@@ -45,7 +45,7 @@ lead_ways-kings sides part e f = pick_kings (has_pawns sides) (has_single_lead s
 pub part_file : (sides : Sides) (part : ℕ) → has_pawns sides ≡ true → IsPart sides part → part < 4
 part_file sides part e h = subst (λ (b : Bool). part < cond b 4 1) e h
 
--- a lead group can stand somewhere
+-- a lead group has at least one way
 pawns-positive : (k file : ℕ) → k ≤ 4 → file < 4 → 0 < length (lead_pawn_sets k file)
 pawns-positive k file h f =
     let all = lead_pawn_sum k file f in
@@ -65,7 +65,7 @@ get_or-le-sum [] i = omega arith
 get_or-le-sum (x ∷ xs) zero = let s = sum_by-cons (λ (n : ℕ). n) x xs in omega (arith, s)
 get_or-le-sum (x ∷ xs) (suc i) = let s = sum_by-cons (λ (n : ℕ). n) x xs in let r = get_or-le-sum xs i in omega (arith, s, r)
 
--- each group can stand somewhere
+-- each group has at least one way
 pub ways_by-positive : (lead : ℕ) (other : Bool) (lengths : List ℕ) (i : ℕ) → 0 < lead → sum lengths ≤ 6 → 0 < ways_by lead other lengths i
 ways_by-positive lead other lengths i h k = turn (i == 0) (other && i == 1) where
   turn : (b p : Bool) → 0 < cond b lead (choose (cond p 48 64 - sum (take i lengths)) (slice_index lengths i))

@@ -1,4 +1,4 @@
--- The format's formulas for the ways of groups, and that nothing stands twice among the sets of numbers.
+-- The format's formulas for the ways of groups, and that the sets of numbers are all different.
 use Rattle.std.proofs.Common.{◌≡◌, ℕ, zero, suc, ◌+◌, ◌-◌, ◌<◌, ◌≤◌, List, [], ◌∷◌, ◌++◌, length, map, take, drop, inl, inr, refl, ap, ◌∙◌, Bool, true, false, cond, arith, length-take, length-drop, length-append}
 use Rattle.std.specs.Prelude.{◌==◌, nat_lt, sum, slice_get, unwrap_or, Option, Some, None}
 use Rattle.std.specs.List.{range_with_len, concat}

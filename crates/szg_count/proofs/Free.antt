@@ -1,4 +1,4 @@
--- How many elements are left, and that the places told and those left order the groups.
+-- The number of remaining elements, and that the given and the remaining positions order the groups.
 use Rattle.std.proofs.Common.{◌≡◌, ℕ, zero, suc, ◌+◌, ◌<◌, ◌≤◌, inl, inr, List, [], ◌∷◌, ◌++◌, length, refl, sym, ap, subst, Bool, true, false, cond, arith, length-append}
 use Rattle.std.specs.Prelude.{◌==◌, nat_lt, Option, Some, None, option_to_list, is_some}
 use Rattle.std.specs.List.{list_all, list_any, range_with_len}
@@ -6,9 +6,9 @@ use Rattle.std.proofs.Math.Bool.{not, ◌&&◌}
 use Rattle.std.proofs.lemmas.Bool.{cases_Bool, eqb-true, eq-eqb, ltb-true, or_cases, and_parts}
 use Rattle.std.proofs.lemmas.Bool.Decides.{eqb_tells}
 use Rattle.szg_count.specs.Leads.{contains, without}
-use Rattle.szg_count.specs.Groups.{told_places, groups_of, has_other_pawns}
+use Rattle.szg_count.specs.Groups.{given_positions, groups_of, has_other_pawns}
 use Rattle.szg_count.specs.Laws.{IsIn, AllDiffer, LawFreeCount}
-use Rattle.szg_count.specs.Radix.{IsOrdering, LawPlacesOrder}
+use Rattle.szg_count.specs.Radix.{IsOrdering, LawPositionsOrderGroups}
 use Rattle.szg_count.proofs.Differ.{IsIn-append, IsIn-filter, AllDiffer-append, AllDiffer-filter, contains_it}
 
 pub contains-IsIn : (x : ℕ) (xs : List ℕ) → contains xs x ≡ true → IsIn x xs
@@ -22,7 +22,7 @@ without-nothing : (xs : List ℕ) → without [] xs ≡ xs
 without-nothing [] = refl
 without-nothing (x ∷ xs) = ap (λ l. x ∷ l) (without-nothing xs)
 
--- an element that isn't there takes nothing away
+-- removing an element that is not in the list changes nothing
 without-absent : (y : ℕ) (ys xs : List ℕ) → (IsIn y xs → ⊥) → without (y ∷ ys) xs ≡ without ys xs
 without-absent y ys [] out = refl
 without-absent y ys (x ∷ xs) out = elim (eqb_tells x y) [
@@ -30,7 +30,7 @@ without-absent y ys (x ∷ xs) out = elim (eqb_tells x y) [
   | inr n ↦ rw (n.0, without-absent y ys xs (λ h. out (inr h))) refl
 ]
 
--- one that is there takes itself away
+-- removing an element of the list removes one
 without-one : (y : ℕ) (ys xs : List ℕ) → AllDiffer xs → IsIn y xs → contains ys y ≡ false → suc (length (without (y ∷ ys) xs)) ≡ length (without ys xs)
 without-one y ys [] d h c = absurd h
 without-one y ys (x ∷ xs) d (inl e) c =
@@ -52,15 +52,15 @@ free_count_law (y ∷ ys) xs d e h =
     let m = without-one y ys xs e (h y (inl refl)) (not_in y ys d.0) in
     omega (arith, k, m)
 
--- ---- places
+-- ---- positions
 
 not_both : (b : Bool) → not b ≡ true → b ≡ true → ⊥
 not_both true e f = cc
 not_both false e f = cc
 
-pub told_differ : (lead : ℕ) (other : Option ℕ) → not (list_any (λ place. place == lead) (option_to_list other)) ≡ true → AllDiffer (lead ∷ option_to_list other)
-told_differ lead None e = (λ h. h, tt)
-told_differ lead (Some p) e = (λ h. elim h [ inl f ↦ let k : (p == lead) ≡ true = eq-eqb p lead (sym f) in let c = rw k at e in absurd (cc) | inr g ↦ absurd g ], (λ h. h, tt))
+pub given_differ : (lead : ℕ) (other : Option ℕ) → not (list_any (λ position. position == lead) (option_to_list other)) ≡ true → AllDiffer (lead ∷ option_to_list other)
+given_differ lead None e = (λ h. h, tt)
+given_differ lead (Some p) e = (λ h. elim h [ inl f ↦ let k : (p == lead) ≡ true = eq-eqb p lead (sym f) in let c = rw k at e in absurd (cc) | inr g ↦ absurd g ], (λ h. h, tt))
 
 pub range-below : (a n x : ℕ) → IsIn x (range_with_len a n) → (a ≤ x) × (x < a + n)
 range-below a zero x h = absurd h
@@ -82,12 +82,12 @@ length-range : (a n : ℕ) → length (range_with_len a n) ≡ n
 length-range a zero = refl
 length-range a (suc n) = ap suc (length-range (a + 1) n)
 
-pub all_below : (xs : List ℕ) (n : ℕ) → list_all (λ place. nat_lt place n) xs ≡ true → (x : ℕ) → IsIn x xs → x < n
+pub all_below : (xs : List ℕ) (n : ℕ) → list_all (λ position. nat_lt position n) xs ≡ true → (x : ℕ) → IsIn x xs → x < n
 all_below [] n e x h = absurd h
-all_below (y ∷ ys) n e x (inl f) = let a = ltb-true y n (and_parts (nat_lt y n) (list_all (λ place. nat_lt place n) ys) e).0 in omega (arith, f, a)
-all_below (y ∷ ys) n e x (inr h) = all_below ys n (and_parts (nat_lt y n) (list_all (λ place. nat_lt place n) ys) e).1 x h
+all_below (y ∷ ys) n e x (inl f) = let a = ltb-true y n (and_parts (nat_lt y n) (list_all (λ position. nat_lt position n) ys) e).0 in omega (arith, f, a)
+all_below (y ∷ ys) n e x (inr h) = all_below ys n (and_parts (nat_lt y n) (list_all (λ position. nat_lt position n) ys) e).1 x h
 
--- different numbers below m, and the others below m after them
+-- different numbers below m, followed by the other numbers below m
 pub ordering_of : (told : List ℕ) (m : ℕ) → AllDiffer told → ((x : ℕ) → IsIn x told → x < m) →
     IsOrdering (told ++ without told (range_with_len 0 m)) × (length (told ++ without told (range_with_len 0 m)) ≡ m)
 ordering_of told m d b =
@@ -107,11 +107,11 @@ ordering_of told m d b =
       len,
     )
 
-pub places_order : LawPlacesOrder
-places_order sides n h =
+pub positions_order_groups : LawPositionsOrderGroups
+positions_order_groups sides n h =
     let m = length (groups_of sides n.men) in
     let front = (cond (is_some n.other) (has_other_pawns sides) (not (has_other_pawns sides))) in
-    let all = list_all (λ place. nat_lt place m) (told_places n) in
-    let last = not (list_any (λ place. place == n.lead) (option_to_list n.other)) in
+    let all = list_all (λ position. nat_lt position m) (given_positions n) in
+    let last = not (list_any (λ position. position == n.lead) (option_to_list n.other)) in
     let x = (and_parts (front && all) last h).0 in
-    ordering_of (told_places n) m (told_differ n.lead n.other (and_parts (front && all) last h).1) (all_below (told_places n) m (and_parts front all x).1)
+    ordering_of (given_positions n) m (given_differ n.lead n.other (and_parts (front && all) last h).1) (all_below (given_positions n) m (and_parts front all x).1)

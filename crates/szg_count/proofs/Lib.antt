@@ -2,7 +2,7 @@ pub mod Rows
 pub mod Counting
 pub mod Differ
 pub mod Radix
-pub mod Places
+pub mod RanksInLists
 pub mod Free
 pub mod Sizes
 pub mod LeadSets
@@ -11,8 +11,8 @@ pub mod Products
 pub mod Cutting
 pub mod Pawns
 pub mod Counts
-pub mod Told
+pub mod Positions
 pub mod Whole
 pub mod Formulas
-pub mod SubsetPlaces
+pub mod SubsetRanks
 pub mod Rearranged

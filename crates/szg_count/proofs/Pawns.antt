@@ -1,4 +1,4 @@
--- How many men and pawns a material has, and whose pawns lead.
+-- The numbers of men and pawns of a material, and whose pawns lead.
 use Rattle.std.proofs.Common.{◌≡◌, ℕ, ◌+◌, ◌<◌, ◌≤◌, List, [], ◌∷◌, length, map, refl, sym, ap, ◌∙◌, Bool, true, false, cond, arith, length-append, take, drop}
 use Rattle.std.specs.Prelude.{◌==◌, nat_lt, nat_le}
 use Rattle.std.specs.List.{list_all}
@@ -125,13 +125,13 @@ told true k m lead other x y men f g h = rw (f refl, g refl) refl
 told false k m lead other x y men f g h = let e = h refl in
     let i : k ≡ 0 = omega (arith, e) in let j : m ≡ 0 = omega (arith, e) in rw (i, j) refl
 
-pub pawns_first_told : (sides : Sides) (lead other k m : ℕ) (men front behind next : List ℕ) (a b : Bool) →
+pub pawns_first_given : (sides : Sides) (lead other k m : ℕ) (men front behind next : List ℕ) (a b : Bool) →
     (has_pawns sides ≡ true → lead ≡ lead_pawn_code sides) → (has_pawns sides ≡ true → other ≡ other_pawn_code sides) →
     k ≡ lead_pawns sides → m ≡ other_pawns sides →
     front ≡ take k men → behind ≡ drop k men → next ≡ take m behind →
     a ≡ list_all (λ man. man == lead) front → b ≡ list_all (λ man. man == other) next →
     (a && b) ≡ has_pawns_first sides men
-pawns_first_told sides lead other k m men front behind next a b f g kk mm x y z p q =
+pawns_first_given sides lead other k m men front behind next a b f g kk mm x y z p q =
     let t = told (has_pawns sides) (lead_pawns sides) (other_pawns sides) lead other (lead_pawn_code sides) (other_pawn_code sides) men f g (no_pawns sides) in
     let p' : a ≡ list_all (λ man. man == lead) (take (lead_pawns sides) men) = p ∙ ap (λ l. list_all (λ man. man == lead) l) (x ∙ ap (λ n. take n men) kk) in
     let q' : b ≡ list_all (λ man. man == other) (take (other_pawns sides) (drop (lead_pawns sides) men)) =

@@ -1,4 +1,4 @@
--- Products of ways: of those that are left, and of those at places before one.
+-- Products of ways: of the remaining ones, and of those at positions before one.
 use Rattle.std.proofs.Common.{◌≡◌, ℕ, zero, suc, ◌+◌, ◌*◌, ◌<◌, ◌≤◌, List, [], ◌∷◌, length, get_or, drop, refl, Bool, true, false, cond, arith}
 use Rattle.std.specs.Prelude.{nat_lt}
 use Rattle.std.proofs.Math.Nat.{mul-le-mul, mul-le-mul_left}
@@ -41,6 +41,6 @@ ways_below-drop p i ps ws h l = rw (drop_more ps i 0 h, drop_more ws i 0 (omega 
 pub product-drop : (i : ℕ) (ws : List ℕ) → i < length ws → product (drop i ws) ≡ get_or ws i 0 * product (drop (i + 1) ws)
 product-drop i ws h = rw (drop_more ws i 0 h) refl
 
--- a factor of a product is no larger, the other not being 0
+-- a factor of a product is at most the product, if the other factor is not 0
 pub factor_below : (a b c m : ℕ) → a * b ≡ c → 0 < b → c < m → a < m
 factor_below a b c m e h k = let s : a * 1 ≤ a * b = mul-le-mul_left a h in omega (arith, s)

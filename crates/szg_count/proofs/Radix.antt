@@ -1,4 +1,4 @@
--- Indexes and digits, with factors by place.
+-- Indexes and digits, with factors by position.
 use Rattle.std.proofs.Common.{◌≡◌, ℕ, zero, suc, ◌+◌, ◌-◌, ◌*◌, ◌/◌, ◌%◌, ◌<◌, ◌≤◌, inl, inr, List, [], ◌∷◌, length, map, refl, sym, ap, ◌∙◌, subst, true, false, cond, arith}
 use Rattle.std.specs.Prelude.{◌==◌, nat_lt}
 use Rattle.std.specs.List.{zip}
@@ -9,9 +9,9 @@ use Rattle.std.proofs.Math.Nat.{mul-le-mul_left, add-mul-div_left, div-eq_of_lt,
 use Rattle.std.proofs.lemmas.Nat.{mod-mul-add}
 use Rattle.szg_count.specs.Groups.{factors_of, product, ways_before}
 use Rattle.szg_count.specs.Laws.{IsIn, AllDiffer}
-use Rattle.szg_count.specs.Radix.{EachBelow, index_with, digits_told, LawIndexBelow, LawDigitsTold, LawIndexTold}
+use Rattle.szg_count.specs.Radix.{EachBelow, index_with, decode_digits, LawIndexBelow, LawDecodeEncoded, LawEncodeDecoded}
 
--- ---- the parts of a sum and of a product below a place and at it
+-- ---- the parts of a sum and of a product below a position and at it
 
 abbrev pub ways_below : ℕ → List ℕ → List ℕ → ℕ
 ways_below p [] ws = 1
@@ -36,7 +36,7 @@ digit_at p (q ∷ ps) (d ∷ ds) = cond (q == p) d 0 + digit_at p ps ds
 not_same : (q p : ℕ) → (q ≡ p → ⊥) → (q == p) ≡ false
 not_same q p absent = elim (eqb_tells q p) [ inl e ↦ absurd (absent e.1) | inr n ↦ n.0 ]
 
--- ---- one step of the place
+-- ---- one step of the rank
 
 pub ways-step : (p : ℕ) (ps ws : List ℕ) → ways_below (suc p) ps ws ≡ ways_below p ps ws * ways_at p ps ws
 ways-step p [] ws = refl
@@ -80,7 +80,7 @@ sum-none f [] ds = refl
 sum-none f (q ∷ ps) [] = refl
 sum-none f (q ∷ ps) (d ∷ ds) = rw (le-ltb q 0 (omega arith), sum-none f ps ds) refl
 
--- ---- a place that isn't there, and one that is
+-- ---- a position that is not given, and one that is
 
 ways-absent : (p : ℕ) (ps ws : List ℕ) → (IsIn p ps → ⊥) → ways_at p ps ws ≡ 1
 ways-absent p [] ws absent = refl
@@ -116,7 +116,7 @@ sum-below (suc p) ps ws ds a l b =
     (fits (sum_below p (λ q. ways_below q ps ws) ps ds) (ways_below p ps ws) (digit_at p ps ds) (ways_at p ps ws)
     (sum-below p ps ws ds a l b) (digit-below p ps ws ds a l b))
 
--- ---- past all places
+-- ---- past all positions
 
 ways-all : (n : ℕ) (ps ws : List ℕ) → length ws ≡ length ps → ((q : ℕ) → IsIn q ps → q < n) → ways_below n ps ws ≡ product ws
 ways-all n [] [] l b = refl
@@ -157,7 +157,7 @@ index_below ps ws ds o l b =
     let h = sum-below n ps ws ds o.differ l b in
     rw (factors_of-below ps ws, ← sum-all n (λ q. ways_below q ps ws) ps ds o.below, ← ways-all n ps ws l o.below) h
 
--- ---- an index tells its digits
+-- ---- decoding encoded digits
 
 -- k above n
 abbrev up : ℕ → ℕ → ℕ
@@ -168,13 +168,13 @@ up-is : (k n : ℕ) → up k n ≡ k + n
 up-is zero n = omega arith
 up-is (suc k) n = let h = up-is k n in omega (arith, h)
 
--- the ways below a later place are a multiple
+-- the ways below a later position are a multiple
 ways-multiple : (k m : ℕ) (ps ws : List ℕ) → (e : ℕ) × (ways_below (up k m) ps ws ≡ ways_below m ps ws * e)
 ways-multiple zero m ps ws = (1, omega arith)
 ways-multiple (suc k) m ps ws = let h = ways-multiple k m ps ws in
     (h.0 * ways_at (up k m) ps ws, rw (ways-step (up k m) ps ws, h.1) (omega arith))
 
--- what later places add is a multiple too
+-- what later positions add is a multiple too
 sum-multiple : (k m : ℕ) (ps ws qs ds : List ℕ) →
     (r : ℕ) × (sum_below (up k m) (λ q. ways_below q ps ws) qs ds ≡ sum_below m (λ q. ways_below q ps ws) qs ds + ways_below m ps ws * r)
 sum-multiple zero m ps ws qs ds = (0, omega arith)
@@ -202,7 +202,7 @@ digit-told k p ps ws ds a l b =
     (one_digit (sum_below p (λ q. ways_below q ps ws) ps ds) (ways_below p ps ws) (digit_at p ps ds) (ways_at p ps ws) h.0
     (sum-below p ps ws ds a l b) (digit-below p ps ws ds a l b))
 
--- at each place of the first list stand the way and the digit of the others
+-- each position of the first list has the way and the digit of the others
 abbrev Agrees : List ℕ → List ℕ → List ℕ → List ℕ → List ℕ → List ℕ → Type 0
 Agrees ps ws ds [] [] [] = Unit {0}
 Agrees ps ws ds [] [] (d ∷ more) = ⊥
@@ -235,7 +235,7 @@ agrees (q ∷ ps) (w ∷ ws) (d ∷ ds) a l b =
     )
 
 told : (i : ℕ) (f : ℕ → ℕ) (ps ws ds qs us more : List ℕ) → ((p : ℕ) → IsIn p qs → i / f p % ways_at p ps ws ≡ digit_at p ps ds) →
-    Agrees ps ws ds qs us more → digits_told (map f qs) us i ≡ more
+    Agrees ps ws ds qs us more → decode_digits (map f qs) us i ≡ more
 told i f ps ws ds [] [] [] each h = refl
 told i f ps ws ds [] [] (d ∷ more) each h = absurd h
 told i f ps ws ds [] (w ∷ us) more each h = absurd h
@@ -248,7 +248,7 @@ told i f ps ws ds (q ∷ qs) (w ∷ us) (d ∷ more) each h =
 past : (p n : ℕ) → p < n → up (n - suc p) (suc p) ≡ n
 past p n h = up-is (n - suc p) (suc p) ∙ omega arith
 
-pub digits_again : LawDigitsTold
+pub digits_again : LawDecodeEncoded
 digits_again ps ws ds o l b =
     let n = length ps in let f : ℕ → ℕ = λ q. ways_below q ps ws in
     let each : (p : ℕ) → IsIn p ps → sum_below n f ps ds / f p % ways_at p ps ws ≡ digit_at p ps ds =
@@ -257,15 +257,15 @@ digits_again ps ws ds o l b =
     rw (factors_of-below ps ws, ← sum-all n f ps ds o.below)
     (told (sum_below n f ps ds) f ps ws ds ps ws ds each (agrees ps ws ds o.differ l b))
 
--- ---- the digits of an index tell it
+-- ---- encoding decoded digits
 
 digits-at : (p i : ℕ) (f : ℕ → ℕ) (ps ws : List ℕ) → AllDiffer ps → length ws ≡ length ps →
-    digit_at p ps (digits_told (map f ps) ws i) ≡ i / f p % ways_at p ps ws
+    digit_at p ps (decode_digits (map f ps) ws i) ≡ i / f p % ways_at p ps ws
 digits-at p i f [] ws a l = sym (mod-one (i / f p))
 digits-at p i f (q ∷ ps) [] a l = cc
 digits-at p i f (q ∷ ps) (w ∷ ws) a l = let m : length ws ≡ length ps = omega arith in elim (eqb_tells q p) [
   | inl e ↦ let out : IsIn p ps → ⊥ = λ h. a.0 (subst (λ (x : ℕ). IsIn x ps) (sym e.1) h) in
-      rw (e.0, digit-absent p ps (digits_told (map f ps) ws i) out, ways-absent p ps ws out)
+      rw (e.0, digit-absent p ps (decode_digits (map f ps) ws i) out, ways-absent p ps ws out)
       (let x : w * 1 ≡ w = omega arith in let y : i / f q % w + 0 ≡ i / f q % w = omega arith in
       y ∙ ap (λ z. i / f z % w) e.1 ∙ ap (λ z. i / f p % z) (sym x))
   | inr k ↦ rw (k.0, digits-at p i f ps ws a.1 m)
@@ -292,10 +292,10 @@ pos_right a zero n e h = absurd (omega (arith, e, h))
 pos_right a (suc b) n e h = omega arith
 
 sum-told : (p n i : ℕ) (ps ws : List ℕ) → AllDiffer ps → length ws ≡ length ps → p ≤ n → 0 < ways_below n ps ws →
-    sum_below p (λ q. ways_below q ps ws) ps (digits_told (map (λ q. ways_below q ps ws) ps) ws i) ≡ i % ways_below p ps ws
-sum-told zero n i ps ws a l h v = rw (sum-none (λ q. ways_below q ps ws) ps (digits_told (map (λ q. ways_below q ps ws) ps) ws i), ways-none ps ws) (sym (mod-one i))
+    sum_below p (λ q. ways_below q ps ws) ps (decode_digits (map (λ q. ways_below q ps ws) ps) ws i) ≡ i % ways_below p ps ws
+sum-told zero n i ps ws a l h v = rw (sum-none (λ q. ways_below q ps ws) ps (decode_digits (map (λ q. ways_below q ps ws) ps) ws i), ways-none ps ws) (sym (mod-one i))
 sum-told (suc p) n i ps ws a l h v =
-    let f : ℕ → ℕ = λ q. ways_below q ps ws in let ds = digits_told (map f ps) ws i in
+    let f : ℕ → ℕ = λ q. ways_below q ps ws in let ds = decode_digits (map f ps) ws i in
     let lt : p < n = omega arith in let le : p ≤ n = omega arith in
     let m = ways-multiple (n - suc p) (suc p) ps ws in
     let e : ways_below n ps ws ≡ ways_below (suc p) ps ws * m.0 = subst (λ (x : ℕ). ways_below x ps ws ≡ ways_below (suc p) ps ws * m.0) (past p n lt) m.1 in
@@ -305,11 +305,11 @@ sum-told (suc p) n i ps ws a l h v =
     rw (sum-step p f ps ds, sum-told p n i ps ws a l le v, digits-at p i f ps ws a l, ways-step p ps ws)
     (two_steps i (ways_below p ps ws) (ways_at p ps ws) here at_p)
 
-pub index_again : LawIndexTold
+pub index_again : LawEncodeDecoded
 index_again ps ws i o l h =
     let n = length ps in let f : ℕ → ℕ = λ q. ways_below q ps ws in
     let v : ways_below n ps ws ≡ product ws = ways-all n ps ws l o.below in
     let pos : 0 < ways_below n ps ws = omega (arith, v, h) in
     let le : n ≤ n = omega arith in
-    rw (factors_of-below ps ws, ← sum-all n f ps (digits_told (map f ps) ws i) o.below)
+    rw (factors_of-below ps ws, ← sum-all n f ps (decode_digits (map f ps) ws i) o.below)
     (sum-told n n i ps ws o.differ l le pos ∙ ap (λ z. i % z) v ∙ mod-eq_of_lt h)

@@ -1,4 +1,4 @@
--- An accepted order has the material's men, each as often; and its groups are cut from them.
+-- The men of an accepted order are the material's, each as often as there, and its groups are made of them.
 use Rattle.std.proofs.Common.{◌≡◌, ℕ, zero, suc, ◌+◌, ◌<◌, inl, inr, List, [], ◌∷◌, ◌++◌, length, take, drop, refl, sym, ap, ◌∙◌, subst, Bool, true, false, cond, arith, take-append-drop}
 use Rattle.std.specs.Prelude.{◌==◌, nat_lt, Option, Some, None}
 use Rattle.std.specs.List.{concat, list_all}
@@ -9,7 +9,7 @@ use Rattle.std.proofs.lemmas.List.Sums.{sum_by-cons}
 use Rattle.szg_values.specs.Material.{has_pawns, count_of, other_pawns, man_codes}
 use Rattle.szg_count.specs.declared.OrderFault.{OrderFault}
 use Rattle.szg_count.specs.declared.OrderFault.TheVariants as fault
-use Rattle.szg_count.specs.Groups.{groups_of, runs_of, in_front, lead_length, is_rearrangement, order_fault}
+use Rattle.szg_count.specs.Groups.{groups_of, runs_of, prepend_man, lead_length, is_rearrangement, order_fault}
 use Rattle.szg_count.specs.Laws.{IsIn, IsRun, DiffersFromFirst, NeighboursDiffer, LawMenOfOrder, LawGroupsJoined, LawRuns}
 
 -- ---- counts
@@ -29,7 +29,7 @@ count_of-some c (x ∷ xs) h = elim (cases_Bool (x == c)) [
   | inr f ↦ let k : count_of c (x ∷ xs) ≡ count_of c xs = count_of-cons c x xs ∙ rw f (omega arith) in inr (count_of-some c xs (omega (arith, k)))
 ]
 
--- ---- lists with as many of each
+-- ---- lists with the same numbers of each
 
 removed : ℕ → List ℕ → List ℕ
 removed c [] = []
@@ -62,7 +62,8 @@ removed-length c (x ∷ xs) h = elim (cases_Bool (x == c)) [
   | inr f ↦ rw f (ap suc (removed-length c xs (in_rest c x xs f h)))
 ]
 
--- of two lists of one length: where the first has as many of each element of the second, it has as many of any
+-- for two lists of one length: if the first has as many of each element of the second, it has as many of any
+-- element
 pub same_counts : (used codes : List ℕ) → length used ≡ length codes → ((c : ℕ) → IsIn c codes → count_of c used ≡ count_of c codes) → (c : ℕ) → count_of c used ≡ count_of c codes
 same_counts [] [] e h c = refl
 same_counts (x ∷ used) [] e h c = absurd (omega arith)
@@ -94,10 +95,10 @@ men_of_order sides n e = rearranged_counts n.men (man_codes sides) (passed (is_r
 
 -- ---- the cut into groups
 
-concat-in_front : (x : ℕ) (runs : List (List ℕ)) → concat (in_front x runs) ≡ x ∷ concat runs
-concat-in_front x [] = refl
-concat-in_front x ([] ∷ runs) = refl
-concat-in_front x ((y ∷ run) ∷ runs) = either (x == y) where
+concat-prepend_man : (x : ℕ) (runs : List (List ℕ)) → concat (prepend_man x runs) ≡ x ∷ concat runs
+concat-prepend_man x [] = refl
+concat-prepend_man x ([] ∷ runs) = refl
+concat-prepend_man x ((y ∷ run) ∷ runs) = either (x == y) where
   either : (b : Bool) → concat (cond b ((x ∷ y ∷ run) ∷ runs) ((x ∷ []) ∷ (y ∷ run) ∷ runs)) ≡ x ∷ y ∷ run ++ concat runs
   either true = refl
   either false = refl
@@ -105,7 +106,7 @@ concat-in_front x ((y ∷ run) ∷ runs) = either (x == y) where
 pub concat-runs : (xs : List ℕ) → concat (runs_of xs) ≡ xs
 unfolding runs_of
 concat-runs [] = refl
-concat-runs (x ∷ xs) = concat-in_front x (runs_of xs) ∙ ap (λ l. x ∷ l) (concat-runs xs)
+concat-runs (x ∷ xs) = concat-prepend_man x (runs_of xs) ∙ ap (λ l. x ∷ l) (concat-runs xs)
 
 later_joined : (pawns : Bool) (o n : ℕ) (men : List ℕ) →
     concat (cond (pawns && nat_lt 0 o) (take o (drop n men) ∷ []) [] ++ runs_of (drop (n + cond pawns o 0) men)) ≡ drop n men
@@ -124,7 +125,7 @@ groups_joined sides men =
 
 -- ---- runs
 
--- runs of equal men, of which no two neighbours have one man
+-- runs of equal men; neighbouring runs have different men
 record AreRuns (runs : List (List ℕ)) : Type 0 where
   equal : (run : List ℕ) → IsIn run runs → IsRun run
   differ : NeighboursDiffer runs
@@ -132,10 +133,10 @@ record AreRuns (runs : List (List ℕ)) : Type 0 where
 alone : (x : ℕ) (run : List ℕ) → run ≡ x ∷ [] → IsRun run
 alone x run e = subst IsRun (sym e) (λ y i. absurd i)
 
-in_front-runs : (x : ℕ) (runs : List (List ℕ)) → AreRuns runs → AreRuns (in_front x runs)
-in_front-runs x [] h = record { equal = λ run i. elim i [ inl e ↦ alone x run e | inr j ↦ absurd j ]; differ = (tt, tt) }
-in_front-runs x ([] ∷ runs) h = absurd (h.equal [] (inl refl))
-in_front-runs x ((y ∷ run) ∷ runs) h = either (x == y) (λ t. eqb-true x y t) (λ f e. clash (x == y) (eq-eqb x y e) f) where
+prepend_man-runs : (x : ℕ) (runs : List (List ℕ)) → AreRuns runs → AreRuns (prepend_man x runs)
+prepend_man-runs x [] h = record { equal = λ run i. elim i [ inl e ↦ alone x run e | inr j ↦ absurd j ]; differ = (tt, tt) }
+prepend_man-runs x ([] ∷ runs) h = absurd (h.equal [] (inl refl))
+prepend_man-runs x ((y ∷ run) ∷ runs) h = either (x == y) (λ t. eqb-true x y t) (λ f e. clash (x == y) (eq-eqb x y e) f) where
   all_equal : IsRun (y ∷ run)
   all_equal = h.equal (y ∷ run) (inl refl)
 
@@ -165,7 +166,7 @@ in_front-runs x ((y ∷ run) ∷ runs) h = either (x == y) (λ t. eqb-true x y t
 are_runs : (men : List ℕ) → AreRuns (runs_of men)
 unfolding runs_of
 are_runs [] = record { equal = λ run i. absurd i; differ = tt }
-are_runs (x ∷ men) = in_front-runs x (runs_of men) (are_runs men)
+are_runs (x ∷ men) = prepend_man-runs x (runs_of men) (are_runs men)
 
 pub runs : LawRuns
 runs men = (concat-runs men, (are_runs men).equal, (are_runs men).differ)

@@ -1,4 +1,4 @@
--- How large a size can be.
+-- Bounds of a size.
 use Rattle.std.proofs.Common.{◌≡◌, ℕ, zero, suc, ◌+◌, ◌-◌, ◌*◌, ◌<◌, ◌≤◌, List, [], ◌∷◌, ◌++◌, length, map, refl, ap, ◌∙◌, subst, Bool, true, false, cond, arith, take, drop, length-append, length-take, length-drop}
 use Rattle.std.specs.Prelude.{◌==◌, nat_lt, nat_le, Option, Some, None, slice_get, unwrap_or}
 use Rattle.std.specs.List.{concat, range_with_len, list_any}
@@ -14,7 +14,7 @@ use Rattle.szg_values.specs.declared.Man.{Man}
 use Rattle.szg_values.specs.declared.Man.TheVariants.{Pawn, King}
 use Rattle.szg_count.specs.Sets.{choose}
 use Rattle.szg_count.specs.Leads.{lead_pawn_sets, triples, king_pairs}
-use Rattle.szg_count.specs.Groups.{IsPart, groups_of, runs_of, in_front, later_men, lead_length, lead_ways, lead_sets, group_ways, free_count, has_other_pawns, counted, product, order_fault, is_rearrangement}
+use Rattle.szg_count.specs.Groups.{IsPart, groups_of, runs_of, prepend_man, later_men, lead_length, lead_ways, lead_sets, group_ways, free_count, has_other_pawns, counted, product, order_fault, is_rearrangement}
 use Rattle.szg_count.specs.Laws.{LawSizeBelow}
 use Rattle.szg_count.proofs.Counting.{choose-zero, choose-suc, choose-none, subset_count}
 use Rattle.szg_count.proofs.Rows.{king_pairs_length, triples_length, lead_pawn_sets_one, lead_pawn_sets_two, lead_pawn_sets_three, lead_pawn_sets_four}
@@ -86,12 +86,12 @@ later-power sides part groups (g ∷ gs) a h each =
       shifted : (i a : ℕ) → suc i + a ≡ i + (a + 1)
       shifted i a = omega arith
 
--- ---- how many men the later groups have
+-- ---- the number of men of the later groups
 
-length-in_front : (x : ℕ) (runs : List (List ℕ)) → length (concat (in_front x runs)) ≡ suc (length (concat runs))
-length-in_front x [] = refl
-length-in_front x ([] ∷ runs) = refl
-length-in_front x ((y ∷ run) ∷ runs) = elim (x == y) as (λ b. length (concat (cond b ((x ∷ y ∷ run) ∷ runs) ((x ∷ []) ∷ (y ∷ run) ∷ runs))) ≡ suc (suc (length (run ++ concat runs)))) [
+length-prepend_man : (x : ℕ) (runs : List (List ℕ)) → length (concat (prepend_man x runs)) ≡ suc (length (concat runs))
+length-prepend_man x [] = refl
+length-prepend_man x ([] ∷ runs) = refl
+length-prepend_man x ((y ∷ run) ∷ runs) = elim (x == y) as (λ b. length (concat (cond b ((x ∷ y ∷ run) ∷ runs) ((x ∷ []) ∷ (y ∷ run) ∷ runs))) ≡ suc (suc (length (run ++ concat runs)))) [
   | true ↦ refl
   | false ↦ refl
 ]
@@ -99,7 +99,7 @@ length-in_front x ((y ∷ run) ∷ runs) = elim (x == y) as (λ b. length (conca
 pub length-runs : (xs : List ℕ) → length (concat (runs_of xs)) ≡ length xs
 unfolding runs_of
 length-runs [] = refl
-length-runs (x ∷ xs) = length-in_front x (runs_of xs) ∙ ap suc (length-runs xs)
+length-runs (x ∷ xs) = length-prepend_man x (runs_of xs) ∙ ap suc (length-runs xs)
 
 pub later_length : (pawns : Bool) (m l : ℕ) (men : List ℕ) →
     length (concat ((cond (pawns && nat_lt 0 m) (take m (drop l men) ∷ []) []) ++ runs_of (drop (l + cond pawns m 0) men))) ≤ length men - l
@@ -109,7 +109,7 @@ later_length true m l men = elim (nat_lt 0 m) as (λ b. length (concat ((cond b 
   | false ↦ rw (length-runs (drop (l + m) men), length-drop (l + m) men) (omega arith)
 ]
 
--- ---- how many pawns lead
+-- ---- the number of lead pawns
 
 pub pawns_beside_king : (men : List Man) → has_king_first men ≡ true → suc (pawn_count men) ≤ length men
 pawns_beside_king [] e = cc
@@ -147,7 +147,7 @@ either_range : (b : Bool) (p q : ℕ) → 0 < p → p ≤ 4 → 0 < q → q ≤ 
 either_range true p q a b c d = (a, b)
 either_range false p q a b c d = (c, d)
 
--- one to four pawns lead where there are pawns
+-- one to four pawns lead if there are pawns
 pub lead_range : (p q : ℕ) → p + q ≤ 4 → 0 < p + q → let k = cond (nat_lt 0 p && ((q == 0) || nat_le p q)) p q in (0 < k) × (k ≤ 4)
 lead_range zero q a b = (omega arith, omega arith)
 lead_range (suc p) zero a b = let t : nat_lt 0 (suc p) ≡ true = lt-ltb 0 (suc p) (omega arith) in rw t (omega arith, omega arith)
@@ -159,14 +159,14 @@ lead_range (suc p) (suc q) a b = let t : nat_lt 0 (suc p) ≡ true = lt-ltb 0 (s
 abbrev bound : ℕ
 bound = 8589934592
 
-same_heads : (a b c d w x y z : ℕ) → a ∷ b ∷ c ∷ d ∷ [] ≡ w ∷ x ∷ y ∷ z ∷ [] → (a ≡ w) × (b ≡ x) × (c ≡ y) × (d ≡ z)
-same_heads a b c d w x y z e = (cc, cc, cc, cc)
+same_firsts : (a b c d w x y z : ℕ) → a ∷ b ∷ c ∷ d ∷ [] ≡ w ∷ x ∷ y ∷ z ∷ [] → (a ≡ w) × (b ≡ x) × (c ≡ y) × (d ≡ z)
+same_firsts a b c d w x y z e = (cc, cc, cc, cc)
 
 on_file : (f : ℕ → ℕ) (w x y z m : ℕ) → map f (0 ∷ 1 ∷ 2 ∷ 3 ∷ []) ≡ w ∷ x ∷ y ∷ z ∷ [] → w ≤ m → x ≤ m → y ≤ m → z ≤ m → (file : ℕ) → file < 4 → f file ≤ m
-on_file f w x y z m e p q r s zero h = let k = same_heads (f 0) (f 1) (f 2) (f 3) w x y z e in let i = k.0 in omega (arith, i, p)
-on_file f w x y z m e p q r s (suc zero) h = let k = same_heads (f 0) (f 1) (f 2) (f 3) w x y z e in let i = k.1 in omega (arith, i, q)
-on_file f w x y z m e p q r s (suc (suc zero)) h = let k = same_heads (f 0) (f 1) (f 2) (f 3) w x y z e in let i = k.2 in omega (arith, i, r)
-on_file f w x y z m e p q r s (suc (suc (suc zero))) h = let k = same_heads (f 0) (f 1) (f 2) (f 3) w x y z e in let i = k.3 in omega (arith, i, s)
+on_file f w x y z m e p q r s zero h = let k = same_firsts (f 0) (f 1) (f 2) (f 3) w x y z e in let i = k.0 in omega (arith, i, p)
+on_file f w x y z m e p q r s (suc zero) h = let k = same_firsts (f 0) (f 1) (f 2) (f 3) w x y z e in let i = k.1 in omega (arith, i, q)
+on_file f w x y z m e p q r s (suc (suc zero)) h = let k = same_firsts (f 0) (f 1) (f 2) (f 3) w x y z e in let i = k.2 in omega (arith, i, r)
+on_file f w x y z m e p q r s (suc (suc (suc zero))) h = let k = same_firsts (f 0) (f 1) (f 2) (f 3) w x y z e in let i = k.3 in omega (arith, i, s)
 on_file f w x y z m e p q r s (suc (suc (suc (suc file)))) h = absurd (omega arith)
 
 pawn_lead : (k file : ℕ) → 0 < k → k ≤ 4 → file < 4 → length (lead_pawn_sets k file) * power (6 - k) < bound

@@ -1,4 +1,4 @@
--- The checks of an order in turn, and what is counted, from lists of lengths, ways and places.
+-- The checks of an order one after another, and the groups made from lists of lengths, ways and positions.
 use Rattle.std.proofs.Common.{◌≡◌, ℕ, ◌^◌, ◌<◌, List, length, map, refl, sym, ap, ◌∙◌, subst, Bool, true, false, cond, arith}
 use Rattle.std.specs.Prelude.{nat_lt, Option, Some, None, is_some}
 use Rattle.std.specs.List.{range_with_len}
@@ -8,13 +8,13 @@ use Rattle.szg_values.specs.Material.{Sides, IsMaterial, man_codes, other_pawns}
 use Rattle.szg_count.specs.declared.OrderFault.{OrderFault}
 use Rattle.szg_count.specs.declared.OrderFault.TheVariants as fault
 use Rattle.szg_count.specs.declared.Group.{Group}
-use Rattle.szg_count.specs.Groups.{Nibbles, IsPart, is_rearrangement, has_pawns_first, has_places, has_other_pawns, order_fault, groups_of, counted, lead_ways, group_ways, ways_of, factors_of, ways_before, product}
-use Rattle.szg_count.specs.Seen.{group_at, groups_told}
-use Rattle.szg_count.specs.Steps.{are_places, places_from, ways_by, group_from}
+use Rattle.szg_count.specs.Groups.{Nibbles, IsPart, is_rearrangement, has_pawns_first, has_valid_positions, has_other_pawns, order_fault, groups_of, counted, lead_ways, group_ways, ways_of, factors_of, ways_before, product}
+use Rattle.szg_count.specs.Views.{group_at, groups_in_slot_order}
+use Rattle.szg_count.specs.Steps.{are_valid_positions, positions_from, ways_by, group_from}
 use Rattle.szg_count.proofs.Sizes.{size_below}
 use Rattle.szg_count.proofs.Pawns.{has_other_pawns-told}
 use Rattle.szg_count.proofs.Counts.{group_ways-by, sum-take, length-at}
-use Rattle.szg_count.proofs.Told.{length-places_from, map-range-same}
+use Rattle.szg_count.proofs.Positions.{length-positions_from, map-range-same}
 
 -- ---- the checks
 
@@ -44,31 +44,31 @@ none_fails false b c e f g = cc
 
 pub order_fault-pieces : (sides : Sides) (n : Nibbles) → is_rearrangement n.men (man_codes sides) ≡ false → order_fault sides n ≡ Some fault.Pieces
 unfolding order_fault
-order_fault-pieces sides n e = first_fails (is_rearrangement n.men (man_codes sides)) (has_pawns_first sides n.men) (has_places sides n) e
+order_fault-pieces sides n e = first_fails (is_rearrangement n.men (man_codes sides)) (has_pawns_first sides n.men) (has_valid_positions sides n) e
 
 pub order_fault-pawns : (sides : Sides) (n : Nibbles) → is_rearrangement n.men (man_codes sides) ≡ true → has_pawns_first sides n.men ≡ false → order_fault sides n ≡ Some fault.PawnsFirst
 unfolding order_fault
-order_fault-pawns sides n e f = second_fails (is_rearrangement n.men (man_codes sides)) (has_pawns_first sides n.men) (has_places sides n) e f
+order_fault-pawns sides n e f = second_fails (is_rearrangement n.men (man_codes sides)) (has_pawns_first sides n.men) (has_valid_positions sides n) e f
 
-pub order_fault-place : (sides : Sides) (n : Nibbles) → is_rearrangement n.men (man_codes sides) ≡ true → has_pawns_first sides n.men ≡ true → has_places sides n ≡ false →
+pub order_fault-position : (sides : Sides) (n : Nibbles) → is_rearrangement n.men (man_codes sides) ≡ true → has_pawns_first sides n.men ≡ true → has_valid_positions sides n ≡ false →
     order_fault sides n ≡ Some fault.OrderPlace
 unfolding order_fault
-order_fault-place sides n e f g = third_fails (is_rearrangement n.men (man_codes sides)) (has_pawns_first sides n.men) (has_places sides n) e f g
+order_fault-position sides n e f g = third_fails (is_rearrangement n.men (man_codes sides)) (has_pawns_first sides n.men) (has_valid_positions sides n) e f g
 
-pub order_fault-none : (sides : Sides) (n : Nibbles) → is_rearrangement n.men (man_codes sides) ≡ true → has_pawns_first sides n.men ≡ true → has_places sides n ≡ true →
+pub order_fault-none : (sides : Sides) (n : Nibbles) → is_rearrangement n.men (man_codes sides) ≡ true → has_pawns_first sides n.men ≡ true → has_valid_positions sides n ≡ true →
     order_fault sides n ≡ None
 unfolding order_fault
-order_fault-none sides n e f g = none_fails (is_rearrangement n.men (man_codes sides)) (has_pawns_first sides n.men) (has_places sides n) e f g
+order_fault-none sides n e f g = none_fails (is_rearrangement n.men (man_codes sides)) (has_pawns_first sides n.men) (has_valid_positions sides n) e f g
 
--- places that stand in the code's words
-pub has_places-told : (sides : Sides) (n : Nibbles) (other count : ℕ) → other ≡ other_pawns sides → count ≡ length (groups_of sides n.men) →
-    are_places (nat_lt 0 other) n.lead n.other count ≡ has_places sides n
-has_places-told sides n other count e f =
-    ap (λ m. are_places (nat_lt 0 m) n.lead n.other count) e
-    ∙ ap (λ b. are_places b n.lead n.other count) (has_other_pawns-told sides)
-    ∙ ap (λ m. are_places (has_other_pawns sides) n.lead n.other m) f
+-- valid positions in the code's terms
+pub has_valid_positions-told : (sides : Sides) (n : Nibbles) (other count : ℕ) → other ≡ other_pawns sides → count ≡ length (groups_of sides n.men) →
+    are_valid_positions (nat_lt 0 other) n.lead n.other count ≡ has_valid_positions sides n
+has_valid_positions-told sides n other count e f =
+    ap (λ m. are_valid_positions (nat_lt 0 m) n.lead n.other count) e
+    ∙ ap (λ b. are_valid_positions b n.lead n.other count) (has_other_pawns-told sides)
+    ∙ ap (λ m. are_valid_positions (has_other_pawns sides) n.lead n.other m) f
 
--- ---- what is counted
+-- ---- the results
 
 abbrev lengths : List (List ℕ) → List ℕ
 lengths gs = map (λ group. length group) gs
@@ -93,24 +93,24 @@ group a b c d = record { first = a; length = b; ways = c; factor = d }
 same_group : (a b c d x y z : ℕ) → a ≡ x → b ≡ y → d ≡ z → group a b c d ≡ group x y c z
 same_group a b c d x y z e f g = ap (λ n. group n b c d) e ∙ ap (λ n. group x n c d) f ∙ ap (λ n. group x y c n) g
 
--- the groups from lists are those that are told
-pub groups_told-from : (sides : Sides) (part : ℕ) (n : Nibbles) → has_places sides n ≡ true →
-    map (group_from (lengths (groups_of sides n.men)) (counts sides part (lengths (groups_of sides n.men))) (places_from n.lead n.other (length (groups_of sides n.men))))
+-- the groups from lists are those of the definition
+pub groups_in_slot_order-from : (sides : Sides) (part : ℕ) (n : Nibbles) → has_valid_positions sides n ≡ true →
+    map (group_from (lengths (groups_of sides n.men)) (counts sides part (lengths (groups_of sides n.men))) (positions_from n.lead n.other (length (groups_of sides n.men))))
     (range_with_len 0 (length (lengths (groups_of sides n.men))))
-    ≡ groups_told (counted sides part n)
-unfolding groups_told counted factors_of
-groups_told-from sides part n h =
+    ≡ groups_in_slot_order (counted sides part n)
+unfolding groups_in_slot_order counted factors_of
+groups_in_slot_order-from sides part n h =
     let gs = groups_of sides n.men in
     let ways = ways_of sides part gs in
-    let places = places_from n.lead n.other (length gs) in
-    let many = length-places_from (has_other_pawns sides) n.lead n.other (length gs) h in
-    ap (λ ws. map (group_from (lengths gs) ws places) (range_with_len 0 (length (lengths gs)))) (counts-ways_of sides part gs)
-    ∙ ap (λ m. map (group_from (lengths gs) ways places) (range_with_len 0 m)) (length-map gs (λ group. length group))
-    ∙ map-range-same (group_from (lengths gs) ways places) (group_at (counted sides part n)) 0 (length gs)
+    let positions = positions_from n.lead n.other (length gs) in
+    let many = length-positions_from (has_other_pawns sides) n.lead n.other (length gs) h in
+    ap (λ ws. map (group_from (lengths gs) ws positions) (range_with_len 0 (length (lengths gs)))) (counts-ways_of sides part gs)
+    ∙ ap (λ m. map (group_from (lengths gs) ways positions) (range_with_len 0 m)) (length-map gs (λ group. length group))
+    ∙ map-range-same (group_from (lengths gs) ways positions) (group_at (counted sides part n)) 0 (length gs)
     (λ i p q. same_group _ _ _ _ _ _ _ (sym (sum-take i gs)) (sym (length-at i gs))
-    (sym (get_or-map (λ place. product (ways_before place places ways)) places i 0 0 (omega (arith, many, q)))))
+    (sym (get_or-map (λ position. product (ways_before position positions ways)) positions i 0 0 (omega (arith, many, q)))))
 
--- ---- the program's steps, on what they were given
+-- ---- the program's steps, on their arguments
 
 pub rearranged : (sides : Sides) (men used codes : List ℕ) (b v : Bool) → used ≡ men → codes ≡ man_codes sides → b ≡ is_rearrangement used codes → b ≡ v →
     is_rearrangement men (man_codes sides) ≡ v

@@ -1,4 +1,4 @@
--- What is said of the ordered lists: their lengths, that nothing stands twice in them, what they hold and how that is ordered.
+-- Laws of the ordered lists: their lengths, that their members are different, what they contain and in which order.
 use Rattle.std.specs.Prelude.{◌≡◌, ℕ, suc, ◌+◌, ◌-◌, ◌*◌, ◌^◌, ◌<◌, ◌⊎◌, Bool, List, [], ◌∷◌, map, length, filter, take, sum, ⊤, None, IsTrue, if◌then◌else◌, slice_get, slice_index, unwrap_or, Some, reverse, ◌↔◌}
 use Rattle.std.specs.List.{range_with_len, concat}
 use Rattle.szg_values.specs.Men.{square_at}
@@ -12,7 +12,7 @@ abbrev pub IsIn : {A : Type 0} → A → List A → Type 0
 IsIn x [] = ⊥
 IsIn x (y ∷ ys) = (x ≡ y) ⊎ IsIn x ys
 
--- nothing stands twice in the list
+-- the members of the list are all different
 abbrev pub AllDiffer : {A : Type 0} → List A → Type 0
 AllDiffer [] = ⊤
 AllDiffer (x ∷ xs) = (IsIn x xs → ⊥) × AllDiffer xs
@@ -21,7 +21,7 @@ AllDiffer (x ∷ xs) = (IsIn x xs → ⊥) × AllDiffer xs
 abbrev pub LawSetCount : Type 0
 LawSetCount = (r : ℕ) (xs : List ℕ) → length (sets_of r xs) ≡ choose (length xs) r
 
--- and as many sets of r numbers below n as the binomial says
+-- and the number of sets of r numbers below n is the binomial
 abbrev pub LawSubsetCount : Type 0
 LawSubsetCount = (n r : ℕ) → length (subsets n r) ≡ choose n r
 
@@ -35,7 +35,8 @@ LawTripleCount = length triples ≡ 31332
 abbrev pub LawKingPairCount : Type 0
 LawKingPairCount = length king_pairs ≡ 462
 
--- the value P of the squares of ranks 2 to 7, from a2 to h7, as the format's table has them: how many squares come after each in the order
+-- the value P of the squares of ranks 2 to 7, from a2 to h7, as the format's table has them: the number of squares
+-- after each in the order
 abbrev pub pawn_table : List ℕ
 pawn_table = 47 ∷ 35 ∷ 23 ∷ 11 ∷ 10 ∷ 22 ∷ 34 ∷ 46
     ∷ 45 ∷ 33 ∷ 21 ∷ 9 ∷ 8 ∷ 20 ∷ 32 ∷ 44
@@ -47,7 +48,7 @@ pawn_table = 47 ∷ 35 ∷ 23 ∷ 11 ∷ 10 ∷ 22 ∷ 34 ∷ 46
 abbrev pub LawPawnValues : Type 0
 LawPawnValues = map (λ square. length (after square pawn_order)) (range_with_len 8 48) ≡ pawn_table
 
--- k lead pawns on a file: the sum over its squares of the ways to set the others on squares of smaller P
+-- k lead pawns on a file: the sum over its squares of the ways to place the others on squares of smaller P
 abbrev pub LawLeadPawnCount : Type 0
 LawLeadPawnCount = (k file : ℕ) →
     length (lead_pawn_sets k file) ≡ sum (map (λ q. choose (length (after q pawn_order)) (k - 1)) (map (square_at file) (range_with_len 1 6)))
@@ -57,8 +58,8 @@ abbrev pub LawLeadPawnTable : Type 0
 LawLeadPawnTable = map (λ k. map (λ file. length (lead_pawn_sets k file)) (range_with_len 0 4)) (range_with_len 1 4) ≡
     (6 ∷ 6 ∷ 6 ∷ 6 ∷ []) ∷ (252 ∷ 180 ∷ 108 ∷ 36 ∷ []) ∷ (5201 ∷ 2645 ∷ 953 ∷ 125 ∷ []) ∷ (70315 ∷ 25375 ∷ 5491 ∷ 295 ∷ []) ∷ []
 
--- The ways of a lead group. The lead pawns' is the sum over the squares of the part's file, of which the
--- first has 47 - 12 part squares after it and each further one two less.
+-- The ways of a lead group. For lead pawns it is the sum over the squares of the part's file; the first has 47 - 12
+-- part squares after it, and each further one two fewer.
 abbrev pub LawLeadWays : Type 0
 LawLeadWays = (sides : Sides) (part : ℕ) → IsPart sides part → lead_ways sides part ≡
     (if has_pawns sides then sum (map (λ rank. choose (47 - 12 * part - 2 * rank) (lead_pawns sides - 1)) (range_with_len 0 6)) else
@@ -74,7 +75,7 @@ abbrev pub LawRunWays : Type 0
 LawRunWays = (sides : Sides) (part : ℕ) (groups : List (List ℕ)) (i : ℕ) → (if has_other_pawns sides then 1 else 0) < i →
     group_ways sides part groups i ≡ choose (64 - length (concat (take i groups))) (length (unwrap_or (slice_get groups i) []))
 
--- nothing stands twice
+-- the sets are all different
 abbrev pub LawSetsDiffer : Type 0
 LawSetsDiffer = (r : ℕ) (xs : List ℕ) → AllDiffer xs → AllDiffer (sets_of r xs)
 
@@ -85,59 +86,63 @@ abbrev pub LawLeadsDiffer : Type 0
 LawLeadsDiffer = (sides : Sides) (part : ℕ) → part < 4 → AllDiffer (lead_sets sides part)
 
 -- the elements of a list that pass a test are one of its sets
-abbrev pub LawSetsHold : Type 0
-LawSetsHold = (test : ℕ → Bool) (xs : List ℕ) → IsIn (filter test xs) (sets_of (length (filter test xs)) xs)
+abbrev pub LawSetsContainFiltered : Type 0
+LawSetsContainFiltered = (test : ℕ → Bool) (xs : List ℕ) → IsIn (filter test xs) (sets_of (length (filter test xs)) xs)
 
--- the sets of r numbers below n are the lists of r numbers that fall from below n
+-- the sets of r numbers below n are the lists of r numbers that decrease from below n
 abbrev pub LawSubsetsFall : Type 0
 LawSubsetsFall = (n r : ℕ) (set : List ℕ) → IsIn set (subsets n r) ↔ ((length set ≡ r) × IsFallingBelow n set)
 
--- of two lists of one length: the first member that differs is less
+-- for two lists of one length: at the first difference the first list has the lesser member
 abbrev pub IsBefore : List ℕ → List ℕ → Type 0
 IsBefore [] ys = ⊥
 IsBefore (x ∷ xs) [] = ⊥
 IsBefore (x ∷ xs) (y ∷ ys) = (x < y) ⊎ ((x ≡ y) × IsBefore xs ys)
 
--- the sets, each listed from its greatest member down, stand by the greatest member, then by the next one, and so on
+-- the sets, each listed from its greatest member down, are ordered by the greatest member, then by the next one,
+-- and so on
 abbrev pub LawSubsetsRise : Type 0
 LawSubsetsRise = (n r i j : ℕ) (a b : List ℕ) → slice_get (subsets n r) i ≡ Some a → slice_get (subsets n r) j ≡ Some b → i < j → IsBefore a b
 
--- so the place of a set is the sum of its binomials
-abbrev pub LawSubsetPlace : Type 0
-LawSubsetPlace = (n : ℕ) (set : List ℕ) → IsFallingBelow n set → slice_get (subsets n (length set)) (binomial_sum set) ≡ Some set
+-- so the rank of a set is the sum of its binomials
+abbrev pub LawRankSubset : Type 0
+LawRankSubset = (n : ℕ) (set : List ℕ) → IsFallingBelow n set → slice_get (subsets n (length set)) (binomial_sum set) ≡ Some set
 
--- the sets of a list are the sets of the places of its elements, counted from its last element, in the same order
+-- the sets of a list correspond to the sets of the indexes of its elements, counted from its last element, in the
+-- same order
 abbrev pub LawSetsNumbered : Type 0
 LawSetsNumbered = (r : ℕ) (xs : List ℕ) → sets_of r xs ≡ map (map (slice_index (reverse xs))) (subsets (length xs) r)
 
--- of a list in which nothing stands twice, as many elements are left as some of its elements are not
+-- for a list of different elements: the number of elements outside some of its elements is the difference of the
+-- numbers
 abbrev pub LawFreeCount : Type 0
 LawFreeCount = (some xs : List ℕ) → AllDiffer some → AllDiffer xs → ((x : ℕ) → IsIn x some → IsIn x xs) → length (without some xs) + length some ≡ length xs
 
--- so the sets of the elements left are as many as the binomial of their number says
+-- so the number of sets of the remaining elements is the binomial of their number
 abbrev pub LawFreeSetCount : Type 0
 LawFreeSetCount = (some xs : List ℕ) (r : ℕ) → AllDiffer some → AllDiffer xs → ((x : ℕ) → IsIn x some → IsIn x xs) →
     length (sets_of r (without some xs)) ≡ choose (length xs - length some) r
 
--- a size fits 64 bits by far
+-- a size fits into 64 bits
 abbrev pub LawSizeBelow : Type 0
 LawSizeBelow = (sides : Sides) (part : ℕ) (n : Nibbles) → IsMaterial sides → IsPart sides part → order_fault sides n ≡ None →
     product (counted sides part n).ways < 2 ^ 33
 
--- a set of a lead list has as many squares as the lead group has men, all different and on the board
+-- the squares of a set of a lead list are all different and on the board, and their number is the number of men of
+-- the lead group
 abbrev pub LawLeadSets : Type 0
 LawLeadSets = (sides : Sides) (part : ℕ) (set : List ℕ) → IsMaterial sides → IsPart sides part → IsIn set (lead_sets sides part) →
     (length set ≡ lead_length sides) × AllDiffer set × ((square : ℕ) → IsIn square set → square < 64)
 
--- An accepted order has the material's men, each as often as the material has it, and no others.
+-- The men of an accepted order are the material's, each as often as there, and no others.
 abbrev pub LawMenOfOrder : Type 0
 LawMenOfOrder = (sides : Sides) (n : Nibbles) → order_fault sides n ≡ None → (code : ℕ) → count_of code n.men ≡ count_of code (man_codes sides)
 
--- the groups, joined, are the men
+-- the groups joined are the men
 abbrev pub LawGroupsJoined : Type 0
 LawGroupsJoined = (sides : Sides) (men : List ℕ) → concat (groups_of sides men) ≡ men
 
--- some man, and all men equal to the first
+-- at least one man, and all men equal to the first
 abbrev pub IsRun : List ℕ → Type 0
 IsRun [] = ⊥
 IsRun (x ∷ run) = (y : ℕ) → IsIn y run → y ≡ x
@@ -151,6 +156,7 @@ abbrev pub NeighboursDiffer : List (List ℕ) → Type 0
 NeighboursDiffer [] = ⊤
 NeighboursDiffer (run ∷ runs) = DiffersFromFirst run runs × NeighboursDiffer runs
 
--- The runs, joined, are the men; each has some man, and equal men; and two neighbours have different men.
+-- The runs joined are the men. Each run has at least one man and equal men, and neighbouring runs have different
+-- men.
 abbrev pub LawRuns : Type 0
 LawRuns = (men : List ℕ) → (concat (runs_of men) ≡ men) × ((run : List ℕ) → IsIn run (runs_of men) → IsRun run) × NeighboursDiffer (runs_of men)

@@ -1,7 +1,7 @@
 pub mod Sets
 pub mod Leads
 pub mod Groups
-pub mod Seen
+pub mod Views
 pub mod Steps
 pub mod Laws
 pub mod Radix

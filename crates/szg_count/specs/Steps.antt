@@ -1,4 +1,4 @@
--- What the parts of a count are, over plain lists: of men, of lengths, of ways and of places.
+-- The parts of a computation over plain lists: of men, of lengths, of ways and of positions.
 use Rattle.std.specs.Prelude.{ℕ, suc, ◌+◌, ◌-◌, ◌<◌, Bool, not, ◌&&◌, ◌==◌, nat_lt, List, [], ◌∷◌, ◌++◌, map, length, take, drop, sum, Option, option_to_list, is_some, if◌then◌else◌, slice_index}
 use Rattle.std.specs.List.{list_any, list_all, range_with_len}
 use Rattle.szg_count.specs.Sets.{choose}
@@ -6,7 +6,7 @@ use Rattle.szg_count.specs.Leads.{without}
 use Rattle.szg_count.specs.Groups.{runs_of, ways_before, product}
 use Rattle.szg_count.specs.declared.Group.{Group}
 
--- how many men in front of a list are this one
+-- the number of men at the beginning of a list that are this one
 abbrev pub leading : ℕ → List ℕ → ℕ
 leading man [] = 0
 leading man (x ∷ men) = if man == x then suc (leading man men) else 0
@@ -15,34 +15,35 @@ leading man (x ∷ men) = if man == x then suc (leading man men) else 0
 abbrev pub run_lengths : List ℕ → List ℕ
 run_lengths men = map (λ run. length run) (runs_of men)
 
--- the lengths of the groups: of the lead group, of the other pawns (if any), of the runs behind them
+-- the lengths of the groups: of the lead group, of the other pawns (if any), of the runs after them
 abbrev pub lengths_of : ℕ → ℕ → List ℕ → List ℕ
 lengths_of lead other men = lead ∷ (if nat_lt 0 other then other ∷ [] else []) ++ run_lengths (drop (lead + other) men)
 
--- the ways of the i-th group by the lengths; of the lead group as told
+-- the ways of group i by the lengths; `lead` for the lead group
 abbrev pub ways_by : ℕ → Bool → List ℕ → ℕ → ℕ
 ways_by lead has_other lengths i = if i == 0 then lead else choose ((if has_other && i == 1 then 48 else 64) - sum (take i lengths)) (slice_index lengths i)
 
--- the places told stand: a second one just where there are other pawns, and different ones below the number of groups
-abbrev pub are_places : Bool → ℕ → Option ℕ → ℕ → Bool
-are_places has_other lead other count = (if is_some other then has_other else not has_other)
-    && list_all (λ place. nat_lt place count) (lead ∷ option_to_list other)
-    && not (list_any (λ place. place == lead) (option_to_list other))
+-- the given positions are valid: a second one exactly if there are other pawns, and different ones below the number
+-- of groups
+abbrev pub are_valid_positions : Bool → ℕ → Option ℕ → ℕ → Bool
+are_valid_positions has_other lead other count = (if is_some other then has_other else not has_other)
+    && list_all (λ position. nat_lt position count) (lead ∷ option_to_list other)
+    && not (list_any (λ position. position == lead) (option_to_list other))
 
--- the places told, and then those left
-abbrev pub places_from : ℕ → Option ℕ → ℕ → List ℕ
-places_from lead other count = let told = lead ∷ option_to_list other in told ++ without told (range_with_len 0 count)
+-- the given positions, followed by the remaining ones
+abbrev pub positions_from : ℕ → Option ℕ → ℕ → List ℕ
+positions_from lead other count = let told = lead ∷ option_to_list other in told ++ without told (range_with_len 0 count)
 
 -- no number is 0
 abbrev pub ArePositive : List ℕ → Type 0
 ArePositive [] = Unit {0}
 ArePositive (x ∷ xs) = (0 < x) × ArePositive xs
 
--- the i-th group of lists of lengths, ways and places
+-- group i of lists of lengths, ways and positions
 abbrev pub group_from : List ℕ → List ℕ → List ℕ → ℕ → Group
-group_from lengths ways places i = record {
+group_from lengths ways positions i = record {
   first = sum (take i lengths);
   length = slice_index lengths i;
   ways = slice_index ways i;
-  factor = product (ways_before (slice_index places i) places ways);
+  factor = product (ways_before (slice_index positions i) positions ways);
 }

@@ -1,4 +1,4 @@
-//! The men of a part: whether they are the material's, and how they are cut into groups.
+//! The used men of a part: whether they are the material's, and how they are divided into groups.
 
 ghost use Rattle.std.specs.Prelude.{◌≡◌, ◌<◌, ◌≤◌, ◌+◌, ◌++◌, ◌∷◌, [], ◌==◌, nat_lt, if◌then◌else◌, length, map, sum, IsTrue};
 ghost use Rattle.std.specs.List.{list_all};
@@ -16,14 +16,14 @@ const FIRST_PAWN: u8 = 1;
 /// The code of a pawn of the name's second side.
 const SECOND_PAWN: u8 = 9;
 
-/// Whether the used men are a rearrangement of the material's.
+/// Returns whether the used men are a rearrangement of the material's.
 pub fn is_rearrangement(used: &[u8], codes: &[u8]) -> bool
     ensures { result ≡ is_rearrangement used.now codes.now }
 {
     used.len() == codes.len() && are_as_many(used, codes)
 }
 
-// Whether each code of a list is used as often as it stands there.
+// Returns whether each code occurs in `used` as often as in `codes`.
 fn are_as_many(used: &[u8], codes: &[u8]) -> bool
     ensures { result ≡ list_all (λ code. count_of code used.now == count_of code codes.now) codes.now }
 {
@@ -32,15 +32,15 @@ fn are_as_many(used: &[u8], codes: &[u8]) -> bool
         .all(|code| count_of(*code, used) == count_of(*code, codes))
 }
 
-// How many men have this code.
+// Counts the men with this code.
 fn count_of(code: u8, codes: &[u8]) -> usize
     ensures { result ≡ count_of code codes.now }
 {
     codes.iter().filter(|man| **man == code).count()
 }
 
-/// Whether the first slots are the lead pawns and then the other pawns; `codes` are the material's
-/// man codes.
+/// Returns whether the first slots are the lead pawns followed by the other pawns. `codes` are the material's man
+/// codes.
 pub fn has_pawns_first(material: &Material, codes: &[u8], men: &[u8]) -> bool
     requires codes { codes.now ≡ man_codes material.now }
     requires material { IsMaterial material.now }
@@ -53,15 +53,15 @@ pub fn has_pawns_first(material: &Material, codes: &[u8], men: &[u8]) -> bool
     are_all(lead, front) && are_all(other, next)
 }
 
-// Whether all of these men have this code.
+// Returns whether all these men have this code.
 fn are_all(code: u8, men: &[u8]) -> bool
     ensures { result ≡ list_all (λ man. man == code) men.now }
 {
     men.iter().all(|man| *man == code)
 }
 
-// The codes of the lead pawns and of the other pawns, where there are pawns: the first side leads
-// where it has just as many pawns as lead.
+// Returns the codes of the lead pawns and of the other pawns, for a material with pawns. The first side leads if
+// its number of pawns is the number of lead pawns.
 fn pawn_codes(material: &Material, codes: &[u8]) -> (u8, u8)
     requires { codes.now ≡ man_codes material.now }
     ensures lead { IsTrue (has_pawns material.now) → result.0 ≡ lead_pawn_code material.now }
@@ -74,7 +74,7 @@ fn pawn_codes(material: &Material, codes: &[u8]) -> (u8, u8)
     }
 }
 
-/// How many men the lead group has.
+/// Returns the number of men in the lead group.
 pub fn lead_length(material: &Material) -> u8
     ensures { result ≡ lead_length material.now }
 {
@@ -87,24 +87,24 @@ pub fn lead_length(material: &Material) -> u8
     }
 }
 
-/// The lengths of the groups: the lead group, the other pawns (if any) and runs of equal men.
+/// Returns the lengths of the groups: the lead group, the other pawns (if any) and runs of equal men.
 pub fn group_lengths(material: &Material, men: &[u8]) -> ArrayVec<u8, MAX_MEN>
     requires material { IsMaterial material.now }
     requires pieces { IsTrue (is_rearrangement men.now (man_codes material.now)) }
     ensures lengths { result.items ≡ map (λ group. length group) (groups_of material.now men.now) }
     ensures few { sum result.items ≤ 6 }
-    ensures room { length result.items ≤ 6 }
+    ensures capacity { length result.items ≤ 6 }
 {
     let lead = lead_length(material);
     let others = material.other_pawns();
-    let mut lengths = front_lengths(lead, others);
+    let mut lengths = leading_lengths(lead, others);
     let (_, behind) = men.split_at(usize::from(lead + others));
     push_runs(&mut lengths, behind);
     lengths
 }
 
-// The lengths of the lead group and of the other pawns, if any.
-fn front_lengths(lead: u8, others: u8) -> ArrayVec<u8, MAX_MEN>
+// Returns the lengths of the lead group and of the other pawns, if any.
+fn leading_lengths(lead: u8, others: u8) -> ArrayVec<u8, MAX_MEN>
     ensures { result.items ≡ lead ∷ (if nat_lt 0 others then others ∷ [] else []) }
 {
     let mut lengths = ArrayVec::new();
@@ -128,7 +128,7 @@ fn push_runs(lengths: &mut ArrayVec<u8, MAX_MEN>, men: &[u8])
     }
 }
 
-// How many men in front are this one.
+// Returns the length of the first run of equal men.
 fn leading(man: u8, men: &[u8]) -> usize
     ensures count { result ≡ leading man men.now }
     ensures within { result ≤ length men.now }

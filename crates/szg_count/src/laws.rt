@@ -1,14 +1,14 @@
-//! Laws over the definitions: each is a function whose one clause is the law.
+//! Laws over the definitions. The contract of each function is a law, and its body is empty.
 
-ghost use Rattle.szg_count.specs.Laws.{LawSetCount, LawSubsetCount, LawChooseStep, LawTripleCount, LawKingPairCount, LawPawnValues, LawLeadPawnCount, LawLeadPawnTable, LawLeadWays, LawOtherPawnWays, LawRunWays, LawSetsDiffer, LawSubsetsDiffer, LawSubsetsFall, LawSubsetsRise, LawSubsetPlace, LawSetsNumbered, LawLeadsDiffer, LawSetsHold, LawFreeCount, LawFreeSetCount, LawSizeBelow, LawLeadSets, LawMenOfOrder, LawGroupsJoined, LawRuns};
-ghost use Rattle.szg_count.specs.Radix.{LawIndexBelow, LawDigitsTold, LawIndexTold, LawPlacesOrder};
+ghost use Rattle.szg_count.specs.Laws.{LawSetCount, LawSubsetCount, LawChooseStep, LawTripleCount, LawKingPairCount, LawPawnValues, LawLeadPawnCount, LawLeadPawnTable, LawLeadWays, LawOtherPawnWays, LawRunWays, LawSetsDiffer, LawSubsetsDiffer, LawSubsetsFall, LawSubsetsRise, LawRankSubset, LawSetsNumbered, LawLeadsDiffer, LawSetsContainFiltered, LawFreeCount, LawFreeSetCount, LawSizeBelow, LawLeadSets, LawMenOfOrder, LawGroupsJoined, LawRuns};
+ghost use Rattle.szg_count.specs.Radix.{LawIndexBelow, LawDecodeEncoded, LawEncodeDecoded, LawPositionsOrderGroups};
 
 /// A list of n elements has `choose n r` sets of r elements.
 pub fn set_count()
     ensures { LawSetCount }
 {}
 
-/// So have the numbers below n.
+/// There are `choose n r` sets of r of the numbers below n.
 pub fn subset_count()
     ensures { LawSubsetCount }
 {}
@@ -28,83 +28,83 @@ pub fn king_pair_count()
     ensures { LawKingPairCount }
 {}
 
-/// The order of pawn squares is the one of the format's table of their values.
+/// The order of pawn squares is the order of the format's table of their values.
 pub fn pawn_values()
     ensures { LawPawnValues }
 {}
 
-/// The sets of lead pawns on a file are as many as the format's sum of binomials says.
+/// The number of sets of lead pawns on a file is the format's sum of binomials.
 pub fn lead_pawn_count()
     ensures { LawLeadPawnCount }
 {}
 
-/// How many sets of one to four lead pawns there are on each file.
+/// The number of sets of one to four lead pawns on each file.
 pub fn lead_pawn_table()
     ensures { LawLeadPawnTable }
 {}
 
-/// A lead group's ways are the format's: a sum of binomials with pawns, else 31332 or 462.
+/// The ways of a lead group are the format's: a sum of binomials with pawns, else 31332 or 462.
 pub fn lead_group_ways()
     ensures { LawLeadWays }
 {}
 
-/// The other pawns' ways are the format's: m of 48 squares less the k lead pawns.
+/// The ways of the other pawns are the format's: m of the 48 squares less the k lead pawns.
 pub fn other_pawn_ways()
     ensures { LawOtherPawnWays }
 {}
 
-/// A run's ways are the format's: sets of the squares that the groups before it leave free.
+/// The ways of a run are the format's: sets of the squares that the groups before it leave free.
 pub fn run_ways()
     ensures { LawRunWays }
 {}
 
-/// No set stands twice among the sets of a list.
+/// The sets of a list are all different.
 pub fn sets_differ()
     ensures { LawSetsDiffer }
 {}
 
-/// No set stands twice among the sets of numbers below n.
+/// The sets of numbers below n are all different.
 pub fn subsets_differ()
     ensures { LawSubsetsDiffer }
 {}
 
-/// The sets of r numbers below n are the falling lists of r numbers below n, all of them.
+/// The sets of r numbers below n are all decreasing lists of r numbers below n.
 pub fn subsets_fall()
     ensures { LawSubsetsFall }
 {}
 
-/// The sets of numbers stand by the greatest member, then by the next one, and so on.
+/// The sets of numbers are ordered by the greatest member, then by the next one, and so on.
 pub fn subsets_rise()
     ensures { LawSubsetsRise }
 {}
 
-/// The place of a set of numbers is the sum of the binomials of its members.
-pub fn subset_place_sum()
-    ensures { LawSubsetPlace }
+/// The rank of a set of numbers is the sum of the binomials of its members.
+pub fn rank_subset_sum()
+    ensures { LawRankSubset }
 {}
 
-/// The sets of a list, as of squares, stand as the sets of its elements' numbers do: a number counts the
-/// elements behind one.
+/// The sets of a list, as of squares, have the order of the sets of its elements' numbers. The number of an element
+/// is the number of elements after it.
 pub fn sets_numbered()
     ensures { LawSetsNumbered }
 {}
 
-/// No set stands twice in the list of a lead group.
+/// The sets in the list of a lead group are all different.
 pub fn leads_differ()
     ensures { LawLeadsDiffer }
 {}
 
 /// The elements of a list that pass a test are one of its sets.
-pub fn sets_hold()
-    ensures { LawSetsHold }
+pub fn sets_contain_filtered()
+    ensures { LawSetsContainFiltered }
 {}
 
-/// As many squares are left free as there are squares less those taken.
+/// The number of free squares is the number of squares less the number of taken ones.
 pub fn free_count()
     ensures { LawFreeCount }
 {}
 
-/// The sets of the squares that are left free are as many as the binomial of their number.
+/// The number of sets of the free squares is the binomial of their number.
 pub fn free_set_count()
     ensures { LawFreeSetCount }
 {}
@@ -124,32 +124,33 @@ pub fn index_below()
     ensures { LawIndexBelow }
 {}
 
-/// An index tells each group's number.
-pub fn digits_told()
-    ensures { LawDigitsTold }
+/// Encoding the groups' numbers to an index and decoding it returns the numbers.
+pub fn decode_encoded()
+    ensures { LawDecodeEncoded }
 {}
 
-/// The numbers that an index tells, tell it again.
-pub fn index_told()
-    ensures { LawIndexTold }
+/// Decoding an index to the groups' numbers and encoding them returns the index.
+pub fn encode_decoded()
+    ensures { LawEncodeDecoded }
 {}
 
-/// Accepted nibbles give each group a place of its own.
-pub fn places_order()
-    ensures { LawPlacesOrder }
+/// Accepted nibbles give each group a position of its own.
+pub fn positions_order_groups()
+    ensures { LawPositionsOrderGroups }
 {}
 
-/// The men of an accepted order are the material's, each as often.
+/// The men of an accepted order are the material's, each as often as there.
 pub fn men_of_order()
     ensures { LawMenOfOrder }
 {}
 
-/// The groups, joined, are the men that were cut into them.
+/// The groups joined are the men that were divided into them.
 pub fn groups_joined()
     ensures { LawGroupsJoined }
 {}
 
-/// The runs, joined, are the men; each has some man, and equal men; and neighbouring runs have different men.
+/// The runs joined are the men. Each run has at least one man and equal men, and neighbouring runs have different
+/// men.
 pub fn runs()
     ensures { LawRuns }
 {}

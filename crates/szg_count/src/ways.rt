@@ -1,4 +1,4 @@
-//! In how many ways groups can stand: binomials, and the lists of a lead group.
+//! The number of ways to place groups: binomials, and the lists of a lead group.
 
 ghost use Rattle.std.specs.Prelude.{◌≡◌, ◌<◌, ◌≤◌, ◌-◌, ◌&&◌, ◌==◌, if◌then◌else◌, length, map, sum};
 ghost use Rattle.std.specs.List.{range_with_len};
@@ -11,10 +11,10 @@ ghost use Rattle.szg_count.specs.Steps.{ArePositive, ways_by};
 use arrayvec::ArrayVec;
 use szg_values::{MAX_MEN, Material};
 
-/// The ways of three men that lead, up to reflection.
+/// The ways of a lead group of three men, up to symmetry.
 const TRIPLES: u64 = 31332;
 
-/// The ways of two kings that lead, up to reflection.
+/// The ways of a lead group of two kings, up to symmetry.
 const KING_PAIRS: u64 = 462;
 
 /// The squares of the board.
@@ -23,8 +23,7 @@ const SQUARES: u64 = 64;
 /// The squares of ranks 2 to 7.
 const PAWN_SQUARES: u64 = 48;
 
-/// How many sets of `k` things `n` things have, for `n` up to 64 and `k` up to 6: 0 where `k` is above
-/// `n`.
+/// Returns the number of sets of `k` of `n` things, for `n` up to 64 and `k` up to 6; 0 if `k` is above `n`.
 pub fn choose(n: u64, k: u64) -> u64
     requires things { n ≤ 64 }
     requires chosen { k ≤ 6 }
@@ -41,16 +40,16 @@ pub fn choose(n: u64, k: u64) -> u64
     count
 }
 
-/// In how many ways the lead group of a part can stand: with pawns by the part's file (`pfactor` in
-/// the probing code), else 31332 for three men and 462 for two kings (`pivfac`).
+/// Returns the number of ways to place the lead group of a part: with pawns by the part's file (`pfactor` in the
+/// probing code), else 31332 for three men and 462 for two kings (`pivfac`).
 ///
-/// With pawns there are the parts 0 to 3, of the files a and h, b and g, c and f, d and e; without
-/// them part 0 alone.
+/// With pawns there are the parts 0 to 3, of the files a and h, b and g, c and f, d and e; without pawns there is
+/// only part 0.
 pub fn lead_ways(material: &Material, part: u8) -> u64
     requires { IsPart material.now part }
     ensures { result ≡ lead_ways material.now part }
 {
-    // Its men tell that this is a material, and so that at most four pawns lead.
+    // Reading the men shows that this is a material, and so that at most four pawns lead.
     let _men = material.men();
     ways_of_lead(material, part)
 }
@@ -70,9 +69,9 @@ fn ways_of_lead(material: &Material, part: u8) -> u64
     }
 }
 
-// The ways of lead pawns on a file: for each square of the lead pawn, the sets of the others on
-// squares after it in the order of pawn squares, which are 47 at the first square of file a, 12 less
-// at each further file and 2 less at each further rank.
+// Returns the ways of lead pawns on a file: for each square of the lead pawn, the sets of the others on squares
+// after it in the order of pawn squares. There are 47 such squares after the first square of file a, 12 less for
+// each further file and 2 less for each further rank.
 fn lead_pawn_ways(pawns: u8, file: u8) -> u64
     requires some { 0 < pawns }
     requires few { pawns ≤ 4 }
@@ -87,13 +86,13 @@ fn lead_pawn_ways(pawns: u8, file: u8) -> u64
     count
 }
 
-/// The ways of groups of these lengths, each on the squares that the groups before it leave free: of
-/// ranks 2 to 7 for the other pawns.
+/// Returns the ways of groups of these lengths, each on the squares that the groups before it leave free: only
+/// squares of ranks 2 to 7 for the other pawns.
 pub fn group_ways(material: &Material, part: u8, lengths: &[u8]) -> ArrayVec<u64, MAX_MEN>
     requires material { IsMaterial material.now }
     requires part { IsPart material.now part }
     requires few { sum lengths.now ≤ 6 }
-    requires room { length lengths.now ≤ 6 }
+    requires capacity { length lengths.now ≤ 6 }
     ensures ways { result.items ≡ map (ways_by (lead_ways material.now part) (has_other_pawns material.now) lengths.now) (range_with_len 0 (length lengths.now)) }
     ensures positive { ArePositive result.items }
 {
@@ -103,15 +102,15 @@ pub fn group_ways(material: &Material, part: u8, lengths: &[u8]) -> ArrayVec<u64
     let mut before = 0;
     for (i, length) in lengths.iter().enumerate() {
         let length = u64::from(*length);
-        ways.push(ways_in_turn(i, lead, has_other, before, length));
+        ways.push(ways_of_next(i, lead, has_other, before, length));
         before += length;
     }
     ways
 }
 
-// The ways of the i-th group, with so many men before it: as told where it leads, else sets of the
-// squares that are free.
-fn ways_in_turn(i: usize, lead: u64, has_other: bool, before: u64, length: u64) -> u64
+// Returns the ways of group `i` with `before` men before it: `lead` for the lead group, else the number of sets of
+// the free squares.
+fn ways_of_next(i: usize, lead: u64, has_other: bool, before: u64, length: u64) -> u64
     requires before { before ≤ 6 }
     requires length { length ≤ 6 }
     ensures { result ≡ (if i == 0 then lead else choose ((if has_other && i == 1 then 48 else 64) - before) length) }

@@ -8,7 +8,7 @@ use Rattle.szg_code.specs.Acceptance.{HasLengths, IsCode, IsCodeFault}
 use Rattle.szg_code.specs.FirstFault.{first_rise, first_overfull}
 use Rattle.szg_code.specs.declared.CodeFault.{CodeFault}
 use Rattle.szg_code.specs.declared.CodeFault.TheVariants.{LowestOrder, TooFull}
-use Rattle.szg_code.proofs.Deciding.{rise_is_fault, overfull_is_fault, code_stands}
+use Rattle.szg_code.proofs.Deciding.{rise_is_fault, overfull_is_fault, code_holds}
 use Rattle.szg_code.proofs.Accepting as codes
 use Rattle.szg_pairs.specs.Dictionary.{IsDictionary, IsDictionaryFault}
 use Rattle.szg_pairs.specs.FirstFault.{first_child, first_cycle, first_long}
@@ -80,7 +80,7 @@ lowest_cases place code lengths fault wrong None (Some item) e h =
     ap (λ (o : Option ℕ). none_fails o (λ item. place + 2 * item) reason.LowestOrder >> none_fails (first_overfull code) (λ item. place + 2 * item) reason.TooFull) e
     ∙ ap (λ (o : Option ℕ). none_fails o (λ item. place + 2 * item) reason.TooFull) h
     ∙ ap (lowest_refusal place) (codes.one_fault_at_most code (TooFull item) fault (overfull_is_fault code item lengths e h) wrong)
-lowest_cases place code lengths fault wrong None None e h = absurd (codes.accepted_has_no_fault code (code_stands code lengths e h) fault wrong)
+lowest_cases place code lengths fault wrong None None e h = absurd (codes.accepted_has_no_fault code (code_holds code lengths e h) fault wrong)
 
 pub lowest_refused : (place : ℕ) (code : CanonicalCode) → HasLengths code → (fault : CodeFault) → IsCodeFault code fault → lowest_check place code ≡ lowest_refusal place fault
 lowest_refused place code lengths fault wrong = lowest_cases place code lengths fault wrong (first_rise code) (first_overfull code) refl refl

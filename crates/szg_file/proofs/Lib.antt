@@ -4,11 +4,16 @@ pub mod Bytes
 pub mod CompleteLaws
 pub mod Counted
 pub mod CutLaws
+pub mod DecodedLaws
 pub mod EachLaws
 pub mod FileLaws
 pub mod FileLengths
 pub mod FormatLaws
 pub mod ForwardLaws
+pub mod FrontFinds
+pub mod FrontLaws
+pub mod FrontStands
+pub mod FrontTables
 pub mod GoodHeads
 pub mod GoodLaws
 pub mod GoodWhole
@@ -16,6 +21,7 @@ pub mod Grown
 pub mod HeadLaws
 pub mod HeadReads
 pub mod IndexChecks
+pub mod IndexLaws
 pub mod ItemsRead
 pub mod KeptLaws
 pub mod LackingReads
@@ -28,6 +34,7 @@ pub mod PackedRows
 pub mod PartLaws
 pub mod PassedBlocks
 pub mod PlacedSubs
+pub mod PlacingLaws
 pub mod ReadAnswers
 pub mod ReadingLaws
 pub mod RefusalLaws
@@ -40,6 +47,7 @@ pub mod TableFinds
 pub mod TableLaws
 pub mod Taken
 pub mod TallyLaws
+pub mod UnreadLaws
 pub mod WantedLaws
 pub mod WholeLaws
 pub mod WholeReads

@@ -6,13 +6,13 @@ use Rattle.std.proofs.lemmas.List.{length-map, length-append, take-append-drop}
 use Rattle.std.proofs.lemmas.Option.{slice_get-map}
 use Rattle.szg_values.specs.declared.Kind.{Kind}
 use Rattle.szg_values.specs.Material.{Sides}
-use Rattle.szg_block.specs.Lending.{bytes_at, packed_blocks, raised}
-use Rattle.szg_block.specs.Shown.{IsReady}
+use Rattle.szg_block.specs.BlocksTrait.{bytes_at, packed_blocks, raised}
+use Rattle.szg_block.specs.Views.{IsReady}
 use Rattle.szg_block.specs.Subtable.{layout_of, IsSoundOver, values_over}
 use Rattle.szg_block.specs.declared.Sub.{Sub}
 use Rattle.szg_block.specs.declared.Sub.TheVariants.{Constant, Pairs}
-use Rattle.szg_block.proofs.Pieces.{packed_blocks-pieces}
-use Rattle.szg_block.proofs.Ready.{ready_paged}
+use Rattle.szg_block.proofs.Chunks.{packed_blocks-chunks}
+use Rattle.szg_block.proofs.SoundSources.{ready_paged}
 use Rattle.szg_file.specs.Accepted.{IsSubtable, IsAccepted}
 use Rattle.szg_file.specs.Contents.{Contents, Slot, slots, Subtable}
 use Rattle.szg_file.specs.File.{file}
@@ -63,13 +63,13 @@ value_placed kind slot content (Pairs flags block_bits span_bits extra blocks co
     let sub : Sub = Pairs flags block_bits span_bits extra blocks code dict sparse lengths packed in
     let many : blocks * 2 ^ block_bits ≡ count * w = ap (λ (k : ℕ). blocks * k) (sym long) ∙ ap (λ (k : ℕ). k * w) (sym all) in
     let same : bytes_at content first (blocks * 2 ^ block_bits) ≡ packed_blocks (λ n. bytes_at content (first + n * w) w) count =
-    ap (λ (k : ℕ). bytes_at content first k) many ∙ sym (packed_blocks-pieces content w first count) in
+    ap (λ (k : ℕ). bytes_at content first k) many ∙ sym (packed_blocks-chunks content w first count) in
     item-slice_get (values_of kind (slot, whole_sub content (placed_at sub first))) i
     ∙ ap (λ (z : List ℕ). slice_get (values_over sub z slot.size 0) i) same ∙ e
 
 -- ---- what is found
 
-all_at : (P : PlacedSub → Type 0) (xs : List PlacedSub) (k : ℕ) (x : PlacedSub) → AllByRecursion P xs → slice_get xs k ≡ Some x → P x
+pub all_at : (P : PlacedSub → Type 0) (xs : List PlacedSub) (k : ℕ) (x : PlacedSub) → AllByRecursion P xs → slice_get xs k ≡ Some x → P x
 all_at P [] k x h e = let no : None ≡ Some x = e in absurd (cc no)
 all_at P (a ∷ xs) zero x h e = let same : a ≡ x = cc e in subst P same h.0
 all_at P (a ∷ xs) (suc k) x h e = all_at P xs k x h.1 e

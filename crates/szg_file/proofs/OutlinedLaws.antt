@@ -3,27 +3,26 @@ use Rattle.std.proofs.Common.{◌≡◌, ℕ, ◌<◌, List, [], ◌∷◌, ◌+
 use Rattle.std.specs.Prelude.{IfSome, IsSomeAnd, ℤ, option_and_then}
 use Rattle.std.proofs.lemmas.List.{take-append-drop}
 use Rattle.szg_values.specs.declared.Kind.{Kind}
-use Rattle.szg_values.specs.declared.Kind.TheVariants.{Dtz}
 use Rattle.szg_values.specs.Material.{Sides}
 use Rattle.szg_block.specs.declared.Sub.{Sub}
 use Rattle.szg_file.specs.Blocks.{with_blocks}
-use Rattle.szg_file.specs.Contents.{Contents, Part, Map, Slot, Subtable, constant, pairs}
+use Rattle.szg_file.specs.Contents.{Contents, Slot, Subtable, constant, pairs}
 use Rattle.szg_file.specs.File.{file, flags_of}
 use Rattle.szg_file.specs.Format.{verdict, good}
 use Rattle.szg_file.specs.Held.{part_of, map_of, subtable_of}
-use Rattle.szg_file.specs.Lookup.{IsFound}
-use Rattle.szg_file.specs.Opened.{Opened, opened_table, opened_at, table_of, table_in, IsOpened, IsOutlined}
+use Rattle.szg_file.specs.Index.{Index, IsIndex, index_with, slot_in, number_in}
+use Rattle.szg_file.specs.Opened.{table_of, table_in, IsIndexIn}
 use Rattle.szg_file.specs.Outline.{outlined}
 use Rattle.szg_file.specs.Placed.{whole_sub}
 use Rattle.szg_file.specs.Reading.{Advances}
-use Rattle.szg_file.specs.Values.{item, subtable_at, list_number, number_at, number_of_value}
+use Rattle.szg_file.specs.Values.{subtable_at, number_of_value}
 use Rattle.szg_file.specs.declared.dropping.PlacedSub.{PlacedSub}
 use Rattle.szg_file.specs.declared.front.Front.{Front}
 use Rattle.szg_file.specs.declared.outline.Outline.{Outline}
 use Rattle.szg_file.proofs.FormatLaws.{good-more}
 use Rattle.szg_file.proofs.ReadAnswers.{whole_file}
-use Rattle.szg_file.proofs.OpenedLaws.{IsKept, forward_moved}
-use Rattle.szg_file.proofs.TableFinds.{mapped_part, number_told}
+use Rattle.szg_file.proofs.OpenedLaws.{forward_moved}
+use Rattle.szg_file.proofs.IndexLaws.{accepted_index, size_of_table, slot_there, number_of_table}
 
 -- what holds of the table that was opened
 pub told_in : (P : Contents → Type 0) (there : Option Contents) (t : Contents) → there ≡ Some t → P t → IsSomeAnd there P
@@ -33,7 +32,7 @@ pub told_if : (P : Contents → Type 0) (there : Option Contents) (t : Contents)
 told_if P there t e h = subst (λ (o : Option Contents). IfSome o P) (sym e) h
 
 -- blocks change no flags
-flags_with : (s : Subtable) (packed : List ℕ) → flags_of (with_blocks s packed) ≡ flags_of s
+pub flags_with : (s : Subtable) (packed : List ℕ) → flags_of (with_blocks s packed) ≡ flags_of s
 flags_with (constant flags byte) packed = refl
 flags_with (pairs head sparse lengths blocks) packed = refl
 
@@ -47,44 +46,53 @@ flags_whole bytes (sub ∷ subs) =
     ap (λ (k : ℕ). k ∷ map flags_of (map (whole_sub bytes) subs)) (flags_with (subtable_of sub.sub) _)
     ∙ ap (λ (l : List ℕ). flags_of (subtable_of sub.sub) ∷ l) (flags_whole bytes subs)
 
-pub flags_opened : (material : Sides) (kind : Kind) (content : List ℕ) (room : ℕ) (placed : List Slot) (subs : List PlacedSub) (flags : List ℕ) →
-    IsOpened material kind content room placed subs → flags ≡ map (λ held. flags_of (subtable_of held.sub)) subs → IsSomeAnd (table_in material kind content) (λ t. flags ≡ map flags_of t.subtables)
-flags_opened material kind content room placed subs flags h e =
-    told_in (λ t. flags ≡ map flags_of t.subtables) (table_in material kind content) h.table h.there
-    (e ∙ sym (flags_whole content subs) ∙ ap (map flags_of) h.subs_are)
+-- ---- an index of the table that was opened
 
--- the part has an item among the maps
-pub mapped_opened : (now : Opened) (parts : List Part) (maps : List (Option Map)) (part : ℕ) → (h : IsOutlined now.material now.kind now.content parts maps) → now.kind ≡ Dtz →
-    IsSome (opened_at now part 0) → part < length h.table.maps
-mapped_opened now parts maps part h dtz there =
-    let at : opened_at now part 0 ≡ subtable_at h.table part 0 = ap (option_and_then (λ t. subtable_at t part 0)) h.there in
-    mapped_part h.table h.stands.filled part h.stands.accepted (h.stands.kind_is ∙ dtz) (subst (λ (o : Option (Slot × Subtable)). IsSome o) at there)
+pub size_opened : (x : Index) (content : List ℕ) (part side : ℕ) → IsIndexIn x content →
+    option_map (λ (slot : Slot). slot.size) (slot_in x part side) ≡ option_map (λ found. found.0.size) (option_and_then (λ t. subtable_at t part side) (table_in x.material x.kind content))
+size_opened x content part side h =
+    ap (λ (y : Index). option_map (λ (slot : Slot). slot.size) (slot_in y part side)) h.index_is
+    ∙ size_of_table h.table h.stands.filled part side h.stands.accepted
+    ∙ sym (ap (λ (o : Option Contents). option_map (λ (found : Slot × Subtable). found.0.size) (option_and_then (λ t. subtable_at t part side) o)) h.there)
 
--- the number of a value
-pub number_opened : (now : Opened) (table : Contents) (part : ℕ) (class : ℤ) (v list flags room : ℕ) (slot : Slot) (held : PlacedSub) (m : Option Map) → opened_table now ≡ Some table →
-    list_number class ≡ Some list → IsKept now.content room (opened_at now part 0) slot held → flags ≡ flags_of (subtable_of held.sub) → item table.maps part ≡ Some m →
-    number_of_value table part class v ≡ number_at flags m list v
-number_opened now table part class v list flags room slot held m there class_is kept flags_are map_is =
-    let at : opened_at now part 0 ≡ subtable_at table part 0 = ap (option_and_then (λ t. subtable_at t part 0)) there in
-    let is : subtable_at table part 0 ≡ Some (slot, whole_sub now.content held) = sym at ∙ kept.is in
-    number_told table part class v list flags slot.size (whole_sub now.content held) m class_is
-    (subst (λ (o : Option (Slot × Subtable)). IsFound o slot.size (whole_sub now.content held)) (sym is) (refl, refl))
-    (flags_are ∙ sym (flags_with (subtable_of held.sub) _)) map_is
+pub there_opened : (x : Index) (content : List ℕ) (part side : ℕ) → IsIndexIn x content →
+    IsSome (option_and_then (λ t. subtable_at t part side) (table_in x.material x.kind content)) → IsSome (slot_in x part side)
+there_opened x content part side h there =
+    subst (λ (y : Index). IsSome (slot_in y part side)) (sym h.index_is)
+    (slot_there h.table h.stands.filled part side h.stands.accepted (subst (λ (o : Option Contents). IsSome (option_and_then (λ t. subtable_at t part side) o)) h.there there))
+
+pub number_opened : (P : Option ℕ → Type 0) (x : Index) (content : List ℕ) (part : ℕ) (class : ℤ) (v : ℕ) → IsIndexIn x content → P (number_in x part class v) →
+    IfSome (table_in x.material x.kind content) (λ t. P (number_of_value t part class v))
+number_opened P x content part class v h p =
+    told_if (λ t. P (number_of_value t part class v)) (table_in x.material x.kind content) h.table h.there
+    (subst P (ap (λ (y : Index). number_in y part class v) h.index_is ∙ sym (number_of_table h.table h.stands.filled part class v h.stands.accepted)) p)
+
+-- the index of what was read
+abbrev pub outline_index : Sides → Kind → Outline → Index
+outline_index material kind o =
+    index_with material kind (map part_of o.parts.bytes.items) (map (λ placed. flags_of (subtable_of placed.sub)) o.subs.items) (map (option_map map_of) o.maps.items)
+
+pub outlined_index : (material : Sides) (kind : Kind) (o : Outline) (begun ended : Front) (from to : ℕ) (old new bytes : List ℕ) → begun.place ≡ 0 → begun.fill.items ≡ [] →
+    Advances (file material kind) (outlined material kind (take to new) o) begun ended bytes → IsIndex (outline_index material kind o)
+outlined_index material kind o begun ended from to old new bytes place fill h =
+    let table : Contents = outlined material kind (take to new) o in
+    let w = whole_file material kind table begun ended bytes place fill h in
+    subst (λ (flags : List ℕ). IsIndex (index_with material kind table.parts flags table.maps)) (flags_whole (take to new) o.subs.items) (accepted_index table ended.fill.items w.accepted)
 
 -- what was read is the table with whose file the source's bytes begin
-pub outlined_by : (material : Sides) (kind : Kind) (o : Outline) (begun ended : Front) (from to : ℕ) (old new bytes content : List ℕ) → begun.place ≡ 0 → begun.fill.items ≡ [] →
+pub outlined_by : (material : Sides) (kind : Kind) (o : Outline) (begun ended : Front) (from to : ℕ) (old new bytes content : List ℕ) (x : Index) → begun.place ≡ 0 → begun.fill.items ≡ [] →
     from ≡ 0 → take to new ≡ take from old ++ bytes → Advances (file material kind) (outlined material kind (take to new) o) begun ended bytes → content ≡ new →
-    IsOutlined material kind content (map part_of o.parts.bytes.items) (map (option_map map_of) o.maps.items)
-outlined_by material kind o begun ended from to old new bytes content place fill first came h same =
+    x ≡ outline_index material kind o → IsIndexIn x content
+outlined_by material kind o begun ended from to old new bytes content x place fill first came h same is =
     let moved : take to new ≡ bytes = forward_moved from to old new bytes first came in
     let table : Contents = outlined material kind (take to new) o in
     let w = whole_file material kind table begun ended bytes place fill h in
     let whole = subst (λ (z : List ℕ). verdict (file material kind) 0 z ≡ good table ended.fill.items []) (sym moved) w.whole in
     let e : content ≡ take to new ++ drop to new = same ∙ sym (take-append-drop to new) in
-    record {
+    let one : IsIndexIn (outline_index material kind o) content = record {
       table = table;
       there = ap (λ (z : List ℕ). table_in material kind z) e ∙ ap table_of (good-more (file material kind) 0 (take to new) (drop to new) table ended.fill.items [] whole);
       stands = record { filled = ended.fill.items; accepted = w.accepted; material_is = refl; kind_is = refl };
-      parts_are = refl;
-      maps_are = refl;
-    }
+      index_is = ap (λ (flags : List ℕ). index_with material kind table.parts flags table.maps) (sym (flags_whole (take to new) o.subs.items));
+    } in
+    subst (λ (y : Index). IsIndexIn y content) (sym is) one

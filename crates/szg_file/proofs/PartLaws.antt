@@ -8,7 +8,7 @@ use Rattle.std.proofs.lemmas.List.FromFn.{length-map-range_with_len, map-range_w
 use Rattle.std.specs.Prelude.{Bool, true, false}
 use Rattle.szg_values.specs.Material.{Sides}
 use Rattle.szg_count.specs.Groups.{Nibbles, counted, size_of, ways_of, group_ways, groups_of, product}
-use Rattle.szg_count.specs.Seen.{group_at, groups_told}
+use Rattle.szg_count.specs.Views.{group_at, groups_in_slot_order}
 use Rattle.szg_file.specs.Parts.{slots_with}
 use Rattle.szg_file.specs.Contents.{Part, Slot, part_slots, slots_from}
 
@@ -30,8 +30,8 @@ ways_told ways told list [] h = refl
 ways_told ways told list (i ∷ indexes) h =
     ap (λ (n : ℕ). n ∷ map ways (map told indexes)) (h i) ∙ ap (λ (z : List ℕ). slice_index list i ∷ z) (ways_told ways told list indexes h)
 
-pub size_told : (sides : Sides) (part : ℕ) (n : Nibbles) → product (map (λ group. group.ways) (groups_told (counted sides part n))) ≡ size_of sides part n
-unfolding groups_told counted size_of
+pub size_told : (sides : Sides) (part : ℕ) (n : Nibbles) → product (map (λ group. group.ways) (groups_in_slot_order (counted sides part n))) ≡ size_of sides part n
+unfolding groups_in_slot_order counted size_of
 size_told sides part n =
     let ways : List ℕ = ways_of sides part (groups_of sides n.men) in
     let count : ℕ = length (groups_of sides n.men) in

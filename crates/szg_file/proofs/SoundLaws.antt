@@ -5,7 +5,7 @@ use Rattle.std.specs.Prelude.{IsTrue}
 use Rattle.std.proofs.lemmas.List.{drop-drop}
 use Rattle.szg_code.specs.Canonical.{CanonicalCode}
 use Rattle.szg_code.specs.Acceptance as code_rules
-use Rattle.szg_code.proofs.Deciding.{code_stands, IsCode-symbols}
+use Rattle.szg_code.proofs.Deciding.{code_holds, IsCode-symbols}
 use Rattle.szg_block.specs.Layout.{Layout, SparseEntry}
 use Rattle.szg_block.specs.Block.{block_at}
 use Rattle.szg_block.specs.Sound.{IsShapedLayout, IsSoundLayout}
@@ -17,7 +17,7 @@ use Rattle.szg_file.specs.Accepted.{IsCodeSection, IsPacked, BlocksHold}
 
 pub accepted_code : (code : CanonicalCode) → IsCodeSection code → code_rules.IsCode code
 accepted_code code h =
-    IsCode-symbols code 0 (code_stands (code_with code.min_length code.max_length code.lowest 0)
+    IsCode-symbols code 0 (code_holds (code_with code.min_length code.max_length code.lowest 0)
     (record { some_bits = h.shortest; in_order = h.shortest_first; at_most = h.longest; each = let long = h.lengths in let order = h.shortest_first in omega (arith, long, order) })
     h.stands.0 h.stands.1)
 

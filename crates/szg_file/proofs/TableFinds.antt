@@ -98,15 +98,12 @@ found_there part side xs ys n x y e ex ey =
 -- ---- of a table
 
 -- as many subtables are held as slots
-pub as_many : (t : Contents) (filled : List ℕ) (placed : List Slot) (subs : List Sub) → IsAccepted t filled → placed ≡ slots t.material t.kind t.parts → map subtable_of subs ≡ t.subtables →
-    length placed ≡ length subs
-as_many t filled placed subs h e es =
-    ap (λ (z : List Slot). length z) e ∙ side_lengths IsSubtable (slots t.material t.kind t.parts) t.subtables h.subtables
-    ∙ ap (λ (z : List Subtable). length z) (sym es) ∙ length-map subs subtable_of
+pub as_many : (t : Contents) (filled : List ℕ) (subs : List Sub) → IsAccepted t filled → map subtable_of subs ≡ t.subtables → length (slots t.material t.kind t.parts) ≡ length subs
+as_many t filled subs h es =
+    side_lengths IsSubtable (slots t.material t.kind t.parts) t.subtables h.subtables ∙ ap (λ (z : List Subtable). length z) (sym es) ∙ length-map subs subtable_of
 
-pub absent : (t : Contents) (placed : List Slot) (part side : ℕ) → placed ≡ slots t.material t.kind t.parts → position (is_at part side) placed ≡ None → subtable_at t part side ≡ None
-absent t placed part side e none =
-    not_found part side (slots t.material t.kind t.parts) t.subtables (ap (λ (z : List Slot). position (is_at part side) z) (sym e) ∙ none)
+pub absent : (t : Contents) (part side : ℕ) → position (is_at part side) (slots t.material t.kind t.parts) ≡ None → subtable_at t part side ≡ None
+absent t part side none = not_found part side (slots t.material t.kind t.parts) t.subtables none
 
 held_at : (subs : List Sub) (n : ℕ) (sub : Sub) → n < length subs → sub ≡ get_or subs n sub → slice_get (map subtable_of subs) n ≡ Some (subtable_of sub)
 held_at subs n sub lt e = slice_get-map subtable_of subs n ∙ ap (option_map subtable_of) (slice_get_read subs (length subs) n sub refl lt e)
@@ -124,15 +121,12 @@ shaped_and_sound slot (Pairs flags block_bits span_bits extra blocks code dict s
 
 -- ---- a subtable that is there
 
-pub present : (t : Contents) (filled : List ℕ) (placed : List Slot) (subs : List Sub) (part side n size : ℕ) (slot : Slot) (sub : Sub) → IsAccepted t filled →
-    placed ≡ slots t.material t.kind t.parts → map subtable_of subs ≡ t.subtables → position (is_at part side) placed ≡ Some n →
-    n < length placed → slot ≡ get_or placed n slot → sub ≡ get_or subs n sub → size ≡ slot.size →
+pub present : (t : Contents) (filled : List ℕ) (subs : List Sub) (part side n size : ℕ) (slot : Slot) (sub : Sub) → IsAccepted t filled → map subtable_of subs ≡ t.subtables →
+    position (is_at part side) (slots t.material t.kind t.parts) ≡ Some n → slice_get (slots t.material t.kind t.parts) n ≡ Some slot → n < length subs → sub ≡ get_or subs n sub → size ≡ slot.size →
     IsFound (subtable_at t part side) size (subtable_of sub) × (IsShaped sub size × IsSoundOver sub (packed_of sub) size)
-present t filled placed subs part side n size slot sub h e es there lt eslot esub esize =
-    let many = as_many t filled placed subs h e es in
-    let here = subst (λ (z : List Slot). slice_get z n ≡ Some slot) e (slice_get_read placed (length placed) n slot refl lt eslot) in
-    let held = subst (λ (z : List Subtable). slice_get z n ≡ Some (subtable_of sub)) es (held_at subs n sub (omega (arith, many)) esub) in
-    let at : subtable_at t part side ≡ Some (slot, subtable_of sub) = found_there part side (slots t.material t.kind t.parts) t.subtables n slot (subtable_of sub) (ap (λ (z : List Slot). position (is_at part side) z) (sym e) ∙ there) here held in
+present t filled subs part side n size slot sub h es there here lt esub esize =
+    let held = subst (λ (z : List Subtable). slice_get z n ≡ Some (subtable_of sub)) es (held_at subs n sub lt esub) in
+    let at : subtable_at t part side ≡ Some (slot, subtable_of sub) = found_there part side (slots t.material t.kind t.parts) t.subtables n slot (subtable_of sub) there here held in
     let stands = side_at IsSubtable (slots t.material t.kind t.parts) t.subtables h.subtables n slot (subtable_of sub) here held in (
       subst (λ (o : Option (Slot × Subtable)). IsFound o size (subtable_of sub)) (sym at) (sym esize, refl),
       subst (λ (k : ℕ). IsShaped sub k × IsSoundOver sub (packed_of sub) k) (sym esize) (shaped_and_sound slot sub stands),
@@ -166,11 +160,11 @@ values_at (Some pair) kind sub size values h e =
 
 -- ---- parts of a DTZ table
 
-slot_count : (material : Sides) (number : ℕ) (parts : List Part) → length (slots_from material (0 ∷ []) number parts) ≡ length parts
+pub slot_count : (material : Sides) (number : ℕ) (parts : List Part) → length (slots_from material (0 ∷ []) number parts) ≡ length parts
 slot_count material number [] = refl
 slot_count material number (part ∷ parts) = ap suc (slot_count material (number + 1) parts)
 
-part_below : (material : Sides) (number : ℕ) (parts : List Part) (ys : List Subtable) (part : ℕ) → IsSome (found part 0 (slotted (slots_from material (0 ∷ []) number parts) ys)) →
+pub part_below : (material : Sides) (number : ℕ) (parts : List Part) (ys : List Subtable) (part : ℕ) → IsSome (found part 0 (slotted (slots_from material (0 ∷ []) number parts) ys)) →
     part < number + length parts
 part_below material number [] ys part h = absurd (cc h)
 part_below material number (p ∷ parts) [] part h = absurd (cc h)
@@ -183,15 +177,19 @@ part_below material number (p ∷ parts) (y ∷ ys) part h =
     refl h
 
 -- each part has an item among the maps
-pub mapped_part : (t : Contents) (filled : List ℕ) (part : ℕ) → IsAccepted t filled → t.kind ≡ Dtz → IsSome (subtable_at t part 0) → part < length t.maps
-mapped_part t filled part h dtz there =
-    let maps : SideBySide IsMapOf t.subtables t.maps = subst (λ (kind : Kind). AreMaps kind t.subtables t.maps) dtz h.maps in
-    let subtables : SideBySide IsSubtable (slots t.material Dtz t.parts) t.subtables = subst (λ (kind : Kind). SideBySide IsSubtable (slots t.material kind t.parts) t.subtables) dtz h.subtables in
+pub mapped_side : (P : Slot → Subtable → Type 0) (t : Contents) (part : ℕ) → SideBySide P (slots t.material t.kind t.parts) t.subtables → AreMaps t.kind t.subtables t.maps → t.kind ≡ Dtz →
+    IsSome (subtable_at t part 0) → part < length t.maps
+mapped_side P t part beside mapped dtz there =
+    let maps : SideBySide IsMapOf t.subtables t.maps = subst (λ (kind : Kind). AreMaps kind t.subtables t.maps) dtz mapped in
+    let subtables : SideBySide P (slots t.material Dtz t.parts) t.subtables = subst (λ (kind : Kind). SideBySide P (slots t.material kind t.parts) t.subtables) dtz beside in
     let below = part_below t.material 0 t.parts t.subtables part (subst (λ (kind : Kind). IsSome (found part 0 (slotted (slots t.material kind t.parts) t.subtables))) dtz there) in
     let as_many_slots = slot_count t.material 0 t.parts in
-    let as_many_subtables = side_lengths IsSubtable (slots t.material Dtz t.parts) t.subtables subtables in
+    let as_many_subtables = side_lengths P (slots t.material Dtz t.parts) t.subtables subtables in
     let as_many_maps = side_lengths IsMapOf t.subtables t.maps maps in
     omega (arith, below, as_many_slots, as_many_subtables, as_many_maps)
+
+pub mapped_part : (t : Contents) (filled : List ℕ) (part : ℕ) → IsAccepted t filled → t.kind ≡ Dtz → IsSome (subtable_at t part 0) → part < length t.maps
+mapped_part t filled part h dtz there = mapped_side IsSubtable t part h.subtables h.maps dtz there
 
 -- ---- distances
 

@@ -290,7 +290,7 @@ pub record OneChain (slot : Slot) (h i m s : Subtable) : Type 0 where
 filled_slot : (slot other : Slot) (m m' s : Subtable) → other ≡ slot → m ≡ m' → IsFilled other m s → IsFilled slot m' s
 filled_slot slot other m m' s e f h = subst (λ (x : Slot). IsFilled x m' s) e (subst (λ (x : Subtable). IsFilled other x s) f h)
 
-measured_slot : (slot other : Slot) (i i' : Subtable) (m : Begun) → other ≡ slot → i ≡ i' → IsMeasured other i m → IsMeasured slot i' m
+pub measured_slot : (slot other : Slot) (i i' : Subtable) (m : Begun) → other ≡ slot → i ≡ i' → IsMeasured other i m → IsMeasured slot i' m
 measured_slot slot other i i' m e f h = subst (λ (x : Slot). IsMeasured x i' m) e (subst (λ (x : Subtable). IsMeasured other x m) f h)
 
 one_chain : (slot : Slot) (h : Subtable) (i m : Begun) (s : Subtable) → IsBegun h → IsIndexed slot h i → IsMeasured i.slot i.subtable m → IsFilled m.slot m.subtable s → OneChain slot h i.subtable m.subtable s
@@ -326,7 +326,7 @@ one_chain slot (pairs head sparse lengths packed) i m s p q r t =
       flags = ap flags_of (sym t'.1);
     }
 
-map_moves : (h s : Subtable) (o : Option Map) → flags_of h ≡ flags_of s → IsMapOf h o → IsMapOf s o
+pub map_moves : (h s : Subtable) (o : Option Map) → flags_of h ≡ flags_of s → IsMapOf h o → IsMapOf s o
 map_moves h s None e p = subst (λ (f : ℕ). has_bit 1 f ≡ false) e p
 map_moves h s (Some (narrow lists)) e p = (subst (λ (f : ℕ). has_bit 1 f ≡ true) e p.0, subst (λ (f : ℕ). has_bit 4 f ≡ false) e p.1, p.2)
 map_moves h s (Some (wide lists)) e p = (subst (λ (f : ℕ). has_bit 1 f ≡ true) e p.0, subst (λ (f : ℕ). has_bit 4 f ≡ true) e p.1, p.2)

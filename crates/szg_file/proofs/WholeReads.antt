@@ -6,9 +6,10 @@ use Rattle.szg_file.specs.declared.front.Front.{Front}
 use Rattle.szg_file.specs.declared.fault.ReadFault.{ReadFault}
 use Rattle.szg_file.specs.Format.{Format, means, field, ◌>>=◌}
 use Rattle.szg_file.specs.Contents.{Part, Subtable, Map, Contents, slots, part_numbers}
-use Rattle.szg_file.specs.File.{begun, each, magic_field, byte4_field, part_field, filled_to, head_field, maps_field, sparse_field, lengths_field, blocks_field, file}
+use Rattle.szg_file.specs.File.{Begun, begun, each, magic_field, byte4_field, part_field, filled_to, head_field, maps_field, sparse_field, lengths_field, blocks_field, file}
 use Rattle.szg_file.specs.Reading.{Reading}
 use Rattle.szg_file.specs.FilePieces.{Opened, opening_field, packed_field, ending_field}
+use Rattle.szg_file.specs.Unread.{file_by}
 use Rattle.szg_file.proofs.EachLaws.{then-then, then-means}
 use Rattle.szg_io.specs.declared.device.Input.{Ghosts}
 use Rattle.szg_file.proofs.ReadingLaws.{reads_then, reads_stopped, reads_nothing}
@@ -113,20 +114,30 @@ module _ {I L S E C : Type 0} (indexes : Format I) (lengths : I → Format L) (b
 abbrev table_of : Sides → Kind → ℕ → List Part → List (Option Map) → List Subtable → List ℕ → Contents
 table_of material kind byte parts found subtables last = record { material = material; kind = kind; byte4 = byte; parts = parts; subtables = subtables; maps = found; last = last }
 
-abbrev behind_maps : Sides → Kind → ℕ → List Part → List Subtable → List (Option Map) → Format Contents
-behind_maps material kind byte parts heads found =
+abbrev behind_maps : (Begun → Format Subtable) → Sides → Kind → ℕ → List Part → List Subtable → List (Option Map) → Format Contents
+behind_maps blocks material kind byte parts heads found =
     each sparse_field (begun (slots material kind parts) heads) >>= λ indexed.
     each lengths_field indexed >>= λ measured.
-    each blocks_field measured >>= λ subtables.
+    each blocks measured >>= λ subtables.
     filled_to 64 >>= λ _.
     field 16 means >>= λ last.
     means (table_of material kind byte parts found subtables last)
 
-pub pieces_are_file : (material : Sides) (kind : Kind) → opening_field material kind >>= behind_opening material kind ≡ file material kind
-pieces_are_file material kind =
+-- the sparse indexes, the lengths, and the blocks by any format of a subtable's blocks
+abbrev pub packed_by : (Begun → Format Subtable) → List Begun → Format (List Subtable)
+packed_by blocks list = each sparse_field list >>= λ indexed. each lengths_field indexed >>= each blocks
+
+abbrev pub behind_opening_by : (Begun → Format Subtable) → Sides → Kind → Opened → Format Contents
+behind_opening_by blocks material kind o = packed_by blocks (begun (slots material kind o.parts) o.heads) >>= behind_packed material kind o
+
+pub pieces_are_file_by : (blocks : Begun → Format Subtable) (material : Sides) (kind : Kind) → opening_field material kind >>= behind_opening_by blocks material kind ≡ file_by blocks material kind
+pieces_are_file_by blocks material kind =
     front_joined (magic_field kind) (byte4_field material kind) (each (λ _. part_field material kind) (part_numbers material)) (filled_to 2)
     (λ parts. each head_field (slots material kind parts)) (maps_field kind)
     (λ byte parts heads found. record { byte4 = byte; parts = parts; heads = heads; maps = found })
-    (behind_opening material kind) (behind_maps material kind)
-    (λ byte parts heads found. back_joined (each sparse_field (begun (slots material kind parts) heads)) (each lengths_field) (each blocks_field) (filled_to 64) (field 16 means)
+    (behind_opening_by blocks material kind) (behind_maps blocks material kind)
+    (λ byte parts heads found. back_joined (each sparse_field (begun (slots material kind parts) heads)) (each lengths_field) (each blocks) (filled_to 64) (field 16 means)
     (table_of material kind byte parts found))
+
+pub pieces_are_file : (material : Sides) (kind : Kind) → opening_field material kind >>= behind_opening material kind ≡ file material kind
+pieces_are_file material kind = pieces_are_file_by blocks_field material kind

@@ -6,7 +6,7 @@ pub record Forward : Type 0 where
   pub content : List ℕ
   pub place : ℕ
   pub failed : ℕ
-  pub asked : ℕ
+  pub requested : ℕ
   pub calls : ℕ
 
 -- the bytes from its place on that it has read stand in its piece, from one index up to another

@@ -3,17 +3,23 @@ use Rattle.std.specs.Prelude.{ℕ, ◌≡◌, ◌<◌, ◌^◌, ◌&&◌, nat_eq
 use Rattle.szg_values.specs.declared.Kind.{Kind}
 use Rattle.szg_values.specs.Material.{Sides}
 use Rattle.szg_file.specs.Contents.{Slot, Subtable}
+use Rattle.szg_file.specs.Index.{Index, slots_in}
 use Rattle.szg_file.specs.Opened.{table_in, IsOpened}
 use Rattle.szg_file.specs.Values.{subtable_at}
 use Rattle.szg_file.specs.declared.dropping.PlacedSub.{PlacedSub}
 
--- its name and kind, the length of the source, and its subtables without their blocks, each with its slot
+-- its name and kind, the length of the source, its subtables without their blocks, each with its slot, and its index
 pub record Kept : Type 0 where
   pub material : Sides
   pub kind : Kind
   pub length : ℕ
   pub placed : List Slot
   pub subs : List PlacedSub
+  pub index : Index
+
+-- what is kept beside an index
+abbrev pub kept_with : Index → ℕ → List PlacedSub → Kept
+kept_with x length subs = record { material = x.material; kind = x.kind; length = length; placed = slots_in x; subs = subs; index = x }
 
 -- they are of the table with whose file these bytes begin
 pub record IsKeptOf (kept : Kept) (content : List ℕ) : Type 0 where

@@ -25,4 +25,10 @@ pub mod Placed
 pub mod Outline
 pub mod Opened
 pub mod Wanted
+pub mod Unread
+pub mod FrontRead
+pub mod FrontTable
+pub mod Fetching
 pub mod Heads
+pub mod Index
+pub mod Checked

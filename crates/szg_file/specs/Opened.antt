@@ -3,11 +3,12 @@ use Rattle.std.specs.Prelude.{ℕ, ◌≡◌, ◌^◌, List, length, map, Option
 use Rattle.std.specs.List.{AllByRecursion}
 use Rattle.szg_values.specs.Material.{Sides}
 use Rattle.szg_values.specs.declared.Kind.{Kind}
-use Rattle.szg_block.specs.Lending.{raised}
+use Rattle.szg_block.specs.BlocksTrait.{raised}
 use Rattle.szg_file.specs.Accepted.{IsAccepted}
-use Rattle.szg_file.specs.Contents.{Contents, Part, Map, Slot, slots, Subtable, constant, pairs}
+use Rattle.szg_file.specs.Contents.{Contents, Slot, slots, Subtable, constant, pairs}
 use Rattle.szg_file.specs.File.{file}
 use Rattle.szg_file.specs.Format.{Verdict, good, refused, truncated, verdict}
+use Rattle.szg_file.specs.Index.{Index, index_of}
 use Rattle.szg_file.specs.Placed.{whole_sub, Fits}
 use Rattle.szg_file.specs.Values.{subtable_at}
 use Rattle.szg_file.specs.declared.fault.Reason.TheVariants.{Truncated}
@@ -23,7 +24,7 @@ pub record Opened : Type 0 where
   pub kind : Kind
   pub content : List ℕ
   pub failed : ℕ
-  pub asked : ℕ
+  pub requested : ℕ
 
 -- the table of a verdict
 abbrev pub table_of : Verdict Contents → Option Contents
@@ -45,8 +46,8 @@ opened_at o part side = option_and_then (λ t. subtable_at t part side) (table_i
 
 -- how many bytes were asked for once a value was: one block's more, none more in a constant subtable
 abbrev pub asked_after : Subtable → ℕ → ℕ
-asked_after (constant flags byte) asked = asked
-asked_after (pairs head sparse lengths packed) asked = raised asked (2 ^ head.block_bits)
+asked_after (constant flags byte) requested = requested
+asked_after (pairs head sparse lengths packed) requested = raised requested (2 ^ head.block_bits)
 
 -- a fault of reading, as one of opening
 abbrev pub opened_fault : ReadFault → OpenFault
@@ -79,10 +80,9 @@ pub record IsTableOf (material : Sides) (kind : Kind) (table : Contents) : Type 
   pub material_is : table.material ≡ material
   pub kind_is : table.kind ≡ kind
 
--- the parts and the maps that it keeps are that table's
-pub record IsOutlined (material : Sides) (kind : Kind) (content : List ℕ) (parts : List Part) (maps : List (Option Map)) : Type 0 where
+-- the index is that table's
+pub record IsIndexIn (x : Index) (content : List ℕ) : Type 0 where
   pub table : Contents
-  pub there : table_in material kind content ≡ Some table
-  pub stands : IsTableOf material kind table
-  pub parts_are : parts ≡ table.parts
-  pub maps_are : maps ≡ table.maps
+  pub there : table_in x.material x.kind content ≡ Some table
+  pub stands : IsTableOf x.material x.kind table
+  pub index_is : x ≡ index_of table

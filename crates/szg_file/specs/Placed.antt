@@ -1,6 +1,6 @@
 -- Subtables whose blocks stand elsewhere.
 use Rattle.std.specs.Prelude.{ℕ, ◌≡◌, ◌&&◌, nat_eq, position, slice_get, Some, ◌+◌, ◌*◌, ◌^◌, ◌≤◌, List, length, drop, IfSome}
-use Rattle.szg_block.specs.Lending.{bytes_at}
+use Rattle.szg_block.specs.BlocksTrait.{bytes_at}
 use Rattle.szg_block.specs.Subtable.{layout_of}
 use Rattle.szg_block.specs.declared.Sub.{Sub}
 use Rattle.szg_block.specs.declared.Sub.TheVariants.{Constant, Pairs}

@@ -1,14 +1,14 @@
 -- The bytes that a value of a subtable wants.
 use Rattle.std.specs.Prelude.{ℕ, ◌≡◌, ◌^◌, List, Option, Some, None, length, slice_get}
 use Rattle.szg_block.specs.Block.{block_at, block_values}
-use Rattle.szg_block.specs.Steps.{block_place}
+use Rattle.szg_block.specs.Steps.{block_location}
 use Rattle.szg_file.specs.Contents.{Subtable, constant, pairs, layout_of}
 
 -- the block that holds value i; a constant subtable has no blocks
 abbrev pub wanted_block : Subtable → ℕ → Option (List ℕ)
 wanted_block (constant flags byte) i = None
 wanted_block (pairs head sparse lengths packed) i =
-    Some (block_at head.block_bits packed (block_place (layout_of head sparse lengths) i).list)
+    Some (block_at head.block_bits packed (block_location (layout_of head sparse lengths) i).list)
 
 -- What bytes that are brought for value i tell, be they that block or not: the value that their words spell at its place,
 -- and nothing where they spell fewer or aren't as many as a block has. Of a constant subtable they tell nothing.
@@ -16,5 +16,5 @@ abbrev pub IsSpelledBy : List ℕ → Subtable → ℕ → Option ℕ → Type 0
 IsSpelledBy piece (constant flags byte) i told = Unit {0}
 IsSpelledBy piece (pairs head sparse lengths packed) i told =
     let layout = layout_of head sparse lengths in
-    (length piece ≡ 2 ^ head.block_bits → told ≡ slice_get (block_values layout piece) (block_place layout i).item)
+    (length piece ≡ 2 ^ head.block_bits → told ≡ slice_get (block_values layout piece) (block_location layout i).item)
     × (¬ (length piece ≡ 2 ^ head.block_bits) → told ≡ None)

@@ -10,10 +10,11 @@ ghost use Rattle.szg_file.specs.Parts.{part_with, slots_with};
 ghost use Rattle.szg_count.specs.Groups as count;
 
 use crate::begun::Slot;
-use crate::parts::{SideSizes, man_count, order_count, part_count, part_sizes, push_slots};
+use crate::parts::{Parts, SideSizes, man_count, order_count, part_count, part_sizes, push_slots};
 use crate::passing::{bytes_fit, end_bytes, maps_stand, subs_stand};
 use crate::start::{pawns_as, splits_as};
 use crate::table::{Map, PartBytes, Table};
+use crate::table_index::index_of_subs;
 use crate::tally::{
     Tally, count_blocks, count_heads, count_indexes, count_lengths, count_maps, count_parts,
 };
@@ -173,14 +174,15 @@ impl Table {
             fill,
             last,
         } = fields;
+        let parts = Parts {
+            bytes: parts,
+            slots: placed,
+        };
+        let index = index_of_subs(material, kind, parts, &subs, maps);
         Table {
-            material,
-            kind,
+            index,
             byte4,
-            parts,
-            placed,
             subs,
-            maps,
             filled: fill,
             last,
         }

@@ -1,12 +1,12 @@
 //! A reader over a source, from its first byte on.
 
 ghost use Rattle.std.specs.Prelude.{◌≡◌, ◌+◌, ◌<◌, ◌≤◌, length, min, take, drop, IfOk, OnErr};
-ghost use Rattle.szg_block.specs.Lending.{failed_after};
+ghost use Rattle.szg_block.specs.BlocksTrait.{failed_after};
 ghost use Rattle.szg_file.specs.Forward.{IsForward};
 
 use std::marker::Model;
 use szg_block::{Source, SourceFault};
-use szg_io::{Input, IoFault};
+use szg_io::{Bytes, Input, IoFault, Std};
 
 /// A reader that may be told how much will be asked of it.
 pub trait Ahead {
@@ -43,7 +43,7 @@ impl<S: Source + Drop> Model for Forward<S> {
       content = S.content f.source;
       place = f.place;
       failed = S.failed f.source;
-      asked = S.asked f.source;
+      requested = S.requested f.source;
       calls = f.calls;
     } };
 
@@ -183,4 +183,13 @@ impl<S: Source + Drop> Ahead for Forward<S> {
     fn expect(&mut self, bytes: u64) {
         self.ahead = self.place.saturating_add(bytes);
     }
+}
+
+/// What std reads is read as it is asked for.
+impl<T> Ahead for Std<T> {
+    fn expect(&mut self, _bytes: u64) {}
+}
+
+impl Ahead for Bytes<'_> {
+    fn expect(&mut self, _bytes: u64) {}
 }

@@ -1,6 +1,6 @@
 //! Finding a subtable among a table's.
 ghost use Rattle.std.specs.Prelude.{ℕ, List, ◌≡◌, ◌+◌, ◌^◌, ◌<◌, ◌≤◌, ◌&&◌, nat_eq, position, slice_get, length, MatchOption, IfSome, IsSomeAnd, Some, None};
-ghost use Rattle.szg_block.specs.Lending.{bytes_at};
+ghost use Rattle.szg_block.specs.BlocksTrait.{bytes_at};
 ghost use Rattle.szg_file.specs.Values.{constant_value as constant_of};
 ghost use Rattle.szg_file.specs.Held.{subtable_of};
 ghost use Rattle.szg_file.specs.Lookup.{byte_of};

@@ -1,11 +1,10 @@
 //! Tables by place: their heads and lengths in memory, their blocks in a source.
 ghost use Rattle.std.specs.Prelude.{◌≡◌, IsSome, IfOk, IfErr};
-ghost use Rattle.szg_block.specs.Lending.{Rose};
+ghost use Rattle.szg_block.specs.BlocksTrait.{Rose};
 ghost use Rattle.szg_file.specs.File.{file};
 ghost use Rattle.szg_file.specs.Format.{verdict};
 ghost use Rattle.szg_file.specs.Opened.{table_in, opened_fault, IsOpenRefusal};
 
-use crate::begun::Slot;
 use crate::blocks::{block_bytes, block_count};
 use crate::dropping::PlacedSub;
 use crate::fault::{ReadFault, Reason};
@@ -13,8 +12,7 @@ use crate::forward::Forward;
 use crate::front::Front;
 use crate::lookup::{Slotted, constant_value, slotted_at};
 use crate::outline::{Outline, read_outline};
-use crate::table::{Map, PartBytes};
-use arrayvec::ArrayVec;
+use crate::table_index::{TableIndex, index_of_placed};
 use std::alloc::Global;
 use std::marker::Model;
 use szg_block::{Paged, Source, SourceFault, look_up};
@@ -34,39 +32,33 @@ pub enum OpenFault {
 /// A table that every check of the format accepts, whose blocks are read from a source when they are asked for.
 #[derive(Drop)]
 pub struct Opened<S: Source + Drop> {
-    pub(crate) material: Material,
-    pub(crate) kind: Kind,
-    pub(crate) parts: Vec<PartBytes>,
-    // the subtables' slots, in file order
-    pub(crate) placed: ArrayVec<Slot, 8>,
+    pub(crate) index: TableIndex,
     pub(crate) subs: Vec<PlacedSub>,
-    pub(crate) maps: Vec<Option<Map>>,
     pub(crate) blocks: Paged<S>,
 }
 
 impl<S: Source + Drop> Model for Opened<S> {
-    ghost use Rattle.std.specs.Prelude.{map, option_map};
-    ghost use Rattle.szg_block.specs.Paging.{source_of, room_of};
-    ghost use Rattle.szg_file.specs.Held.{part_of, map_of};
-    ghost use Rattle.szg_file.specs.Opened.{Opened, IsOpened, IsOutlined};
+    ghost use Rattle.szg_block.specs.Paging.{source_of, buffer_len_of};
+    ghost use Rattle.szg_file.specs.Index.{slots_in};
+    ghost use Rattle.szg_file.specs.Opened.{Opened, IsOpened, IsIndexIn};
 
     ghost Value = { Opened };
 
     ghost view = { λ o. record {
-      material = o.material;
-      kind = o.kind;
+      material = o.index.material;
+      kind = o.index.kind;
       content = S.content (source_of o.blocks);
       failed = S.failed (source_of o.blocks);
-      asked = S.asked (source_of o.blocks);
+      requested = S.requested (source_of o.blocks);
     } };
 
-    ghost invariant = { λ o. IsOpened o.material o.kind (S.content (source_of o.blocks)) (room_of o.blocks) o.placed.items o.subs.items
-        × IsOutlined o.material o.kind (S.content (source_of o.blocks)) (map part_of o.parts.items) (map (option_map map_of) o.maps.items) };
+    ghost invariant = { λ o. IsOpened o.index.material o.index.kind (S.content (source_of o.blocks)) (buffer_len_of o.blocks) (slots_in o.index) o.subs.items
+        × IsIndexIn o.index (S.content (source_of o.blocks)) };
 }
 
 impl<S: Source + Drop> Opened<S> {
     ghost use Rattle.std.specs.Prelude.{◌≡◌, ◌<◌, IsSome, IfOk, IsOk, IfSome, Some, None, option_map};
-    ghost use Rattle.szg_block.specs.Lending.{failed_after};
+    ghost use Rattle.szg_block.specs.BlocksTrait.{failed_after};
     ghost use Rattle.szg_file.specs.Opened.{opened_at, asked_after};
     ghost use Rattle.szg_file.specs.Values.{values_of, item};
     ghost use Rattle.szg_file.specs.Wanted.{wanted_block};
@@ -75,18 +67,14 @@ impl<S: Source + Drop> Opened<S> {
     pub fn size(&self, part: u8, side: u8) -> Option<u64>
         ensures { result ≡ option_map (λ found. found.0.size) (opened_at self.now part side) }
     {
-        let Some(found) = slotted_at(self.placed.as_slice(), &self.subs, part, side) else {
-            return None;
-        };
-        let slot = found.slot;
-        Some(slot.size)
+        self.index.size(part, side)
     }
 
     /// The source.
     pub fn source(&self) -> &S
         ensures content { S.content result.now ≡ self.now.content }
         ensures failed { S.failed result.now ≡ self.now.failed }
-        ensures asked { S.asked result.now ≡ self.now.asked }
+        ensures requested { S.requested result.now ≡ self.now.requested }
     {
         self.blocks.source()
     }
@@ -100,18 +88,18 @@ impl<S: Source + Drop> Opened<S> {
         requires below { IfSome (opened_at self.old part side) (λ found. i < found.0.size) }
         ensures value { IfOk result (λ value. IfSome (opened_at self.old part side) (λ found. item (values_of self.old.kind found) i ≡ Some value)) }
         ensures constant { IfSome (opened_at self.old part side) (λ found. wanted_block found.1 i ≡ None → IsOk result) }
-        ensures asked { IfSome (opened_at self.old part side) (λ found. self.new.asked ≡ asked_after found.1 self.old.asked) }
+        ensures requested { IfSome (opened_at self.old part side) (λ found. self.new.requested ≡ asked_after found.1 self.old.requested) }
         ensures failed { self.new.failed ≡ failed_after result self.old.failed }
         ensures material { self.new.material ≡ self.old.material }
         ensures kind { self.new.kind ≡ self.old.kind }
         ensures content { self.new.content ≡ self.old.content }
     {
-        let Some(found) = slotted_at(self.placed.as_slice(), &self.subs, part, side) else {
+        let Some(found) = slotted_at(self.index.slots(), &self.subs, part, side) else {
             unreachable!()
         };
         let Slotted { slot, placed: held } = found;
-        let constant = constant_value(self.kind, &held.sub);
-        self.blocks.turn_to(
+        let constant = constant_value(self.index.kind(), &held.sub);
+        self.blocks.select_blocks(
             held.first,
             block_count(&held.sub),
             block_bytes(&held.sub) as usize,
@@ -163,21 +151,20 @@ pub fn open<S: Source + Drop>(
                 maps,
                 last: _,
             },
-        ) => Ok(Opened {
-            material,
-            kind,
-            parts: parts.bytes,
-            placed: parts.slots,
-            subs,
-            maps,
-            blocks: Paged::new(input.into_source(), buffer, 0, 0),
-        }),
+        ) => {
+            let index = index_of_placed(material, kind, parts, &subs, maps);
+            Ok(Opened {
+                index,
+                subs,
+                blocks: Paged::new(input.into_source(), buffer, 0, 0),
+            })
+        }
         Err(fault) => Err((open_fault(fault), input.into_source())),
     }
 }
 
 /// What a fault of reading is where a source is opened.
-fn open_fault(fault: ReadFault) -> OpenFault
+pub fn open_fault(fault: ReadFault) -> OpenFault
     ensures { result ≡ opened_fault fault }
 {
     match fault {

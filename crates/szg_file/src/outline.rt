@@ -1,5 +1,5 @@
 //! A whole file that is checked, with no block kept.
-ghost use Rattle.std.specs.Prelude.{◌≡◌, ◌+◌, ◌*◌, ◌^◌, ◌≤◌, ◌<◌, [], length, map, IfOk, OnOk};
+ghost use Rattle.std.specs.Prelude.{◌≡◌, ◌+◌, ◌*◌, ◌^◌, ◌≤◌, ◌<◌, [], length, map, IfOk, OnOk, IsErrOf};
 ghost use Rattle.std.specs.List.{AllByRecursion};
 ghost use Rattle.szg_file.specs.Contents.{slots};
 ghost use Rattle.szg_file.specs.File.{file};
@@ -7,7 +7,7 @@ ghost use Rattle.szg_file.specs.FilePieces.{packed_field};
 ghost use Rattle.szg_file.specs.Held.{part_of};
 ghost use Rattle.szg_file.specs.Outline.{outlined};
 ghost use Rattle.szg_file.specs.Placed.{whole_sub, Fits};
-ghost use Rattle.szg_file.specs.Reading.{Reading};
+ghost use Rattle.szg_file.specs.Reading.{Reading, Lacking};
 
 use crate::begun::Begun;
 use crate::dropping::{PlacedSub, pass_subs};
@@ -67,6 +67,8 @@ pub fn read_outline<R: Input + Ahead>(
     requires growth { front.old.growth ≡ 0 }
     requires first { R.moved input.old ≡ [] }
     ensures outline { Reading (file material.now kind) (outlined material.now kind (R.moved input.new)) front.old front.new R.Input input.old input.new result }
+    ensures place { OnOk result (front.new.place < 2 ^ 57) }
+    ensures memory { IsErrOf result ReadFault.Memory → Lacking (file material.now kind) front.old R.Input input.old input.new }
     ensures slots { IfOk result (λ o. o.parts.slots.items ≡ slots material.now kind (map part_of o.parts.bytes.items)) }
     ensures fits { IfOk result (λ o. AllByRecursion (Fits (length (R.moved input.new)) (length buffer.new.items)) o.subs.items) }
 {

@@ -1,17 +1,12 @@
 //! What tables tell without their blocks: the flags of subtables, and of a table by place its name, its parts and its numbers.
 ghost use Rattle.std.specs.Prelude.{◌≡◌, ◌≤◌, length, map};
-ghost use Rattle.szg_file.specs.File.{flags_of as flags_byte};
-ghost use Rattle.szg_file.specs.Held.{subtable_of};
 
-use crate::distances::{list_number, number_at};
-use crate::dropping::PlacedSub;
 use crate::fault::MapFault;
-use crate::flags::flags_of;
-use crate::lookup::slotted_at;
 use crate::opened::Opened;
 use crate::table::{PartBytes, Table};
+use crate::table_index::TableIndex;
 use arrayvec::ArrayVec;
-use szg_block::{Source, Sub};
+use szg_block::Source;
 use szg_values::{Kind, Material};
 
 impl Table {
@@ -22,55 +17,50 @@ impl Table {
     pub fn flags(&self) -> ArrayVec<u8, 8>
         ensures { result.items ≡ map flags_byte self.now.contents.subtables }
     {
-        // There are as many slots, at most eight.
-        let _placed = self.placed.as_slice();
-        flags_of_all(&self.subs)
+        copied(self.index.flags())
     }
 }
 
-// The flags bytes of subtables.
-fn flags_of_all(subs: &[Sub]) -> ArrayVec<u8, 8>
-    requires { length subs.now ≤ 8 }
-    ensures { result.items ≡ map (λ sub. flags_byte (subtable_of sub)) subs.now }
+// Returns a list of its own of these flags.
+fn copied(flags: &[u8]) -> ArrayVec<u8, 8>
+    requires { length flags.now ≤ 8 }
+    ensures { result.items ≡ flags.now }
 {
-    let mut flags = ArrayVec::new();
-    for sub in subs {
-        flags.push(flags_of(sub));
+    let mut list = ArrayVec::new();
+    for byte in flags {
+        list.push(*byte);
     }
-    flags
-}
-
-// The flags bytes of subtables whose blocks stand elsewhere.
-fn flags_of_placed(subs: &[PlacedSub]) -> ArrayVec<u8, 8>
-    requires { length subs.now ≤ 8 }
-    ensures { result.items ≡ map (λ placed. flags_byte (subtable_of placed.sub)) subs.now }
-{
-    let mut flags = ArrayVec::new();
-    for placed in subs {
-        flags.push(flags_of(&placed.sub));
-    }
-    flags
+    list
 }
 
 impl<S: Source + Drop> Opened<S> {
     ghost use Rattle.std.specs.Prelude.{◌≡◌, ◌≢◌, ◌↔◌, ◌≤ℤ◌, pos, neg_ℤ, map, IsSome, IfSome, IsSomeAnd, MatchOption, Ok, Err};
     ghost use Rattle.szg_file.specs.File.{flags_of as flags_byte};
     ghost use Rattle.szg_file.specs.Held.{part_of};
+    ghost use Rattle.szg_file.specs.Index.{index_of};
     ghost use Rattle.szg_file.specs.Opened.{opened_table, opened_at, IsTableOf};
     ghost use Rattle.szg_file.specs.Values.{number_of_value};
+
+    /// Returns its index: all but the blocks, and where they are.
+    pub fn index(&self) -> &TableIndex
+        ensures index { IsSomeAnd (opened_table self.now) (λ t. result.now ≡ index_of t) }
+        ensures table { IsSomeAnd (opened_table self.now) (IsTableOf self.now.material self.now.kind) }
+    {
+        &self.index
+    }
 
     /// The material of the name that it was opened by.
     pub fn material(&self) -> &Material
         ensures { result.now ≡ self.now.material }
     {
-        &self.material
+        self.index.material()
     }
 
     /// What it tells: outcomes or distances.
     pub fn kind(&self) -> Kind
         ensures { result ≡ self.now.kind }
     {
-        self.kind
+        self.index.kind()
     }
 
     /// The parts' bytes: four parts with pawns, else one.
@@ -78,16 +68,14 @@ impl<S: Source + Drop> Opened<S> {
         ensures bytes { IsSomeAnd (opened_table self.now) (λ t. map part_of result.now ≡ t.parts) }
         ensures table { IsSomeAnd (opened_table self.now) (IsTableOf self.now.material self.now.kind) }
     {
-        &self.parts
+        self.index.parts()
     }
 
     /// The flags bytes of the subtables, in file order.
     pub fn flags(&self) -> ArrayVec<u8, 8>
         ensures { IsSomeAnd (opened_table self.now) (λ t. result.items ≡ map flags_byte t.subtables) }
     {
-        // There are as many slots, at most eight.
-        let _placed = self.placed.as_slice();
-        flags_of_placed(&self.subs)
+        copied(self.index.flags())
     }
 
     /// The number of a DTZ value in a class (2 win, 1 cursed win, -1 blessed loss, -2 loss). It asks the source for nothing.
@@ -101,14 +89,6 @@ impl<S: Source + Drop> Opened<S> {
         ensures draw { (result ≡ Err MapFault.Draw) ↔ (class ≡ pos 0) }
         ensures number { IfSome (opened_table self.now) (λ t. MatchOption (number_of_value t part class v) (class ≢ pos 0 → result ≡ Err MapFault.OutsideMap) (λ n. result ≡ Ok n)) }
     {
-        let Some(list) = list_number(class) else {
-            return Err(MapFault::Draw);
-        };
-        let Some(found) = slotted_at(self.placed.as_slice(), &self.subs, part, 0) else {
-            unreachable!()
-        };
-        let flags = flags_of(&found.placed.sub);
-        let number = number_at(flags, &self.maps[part as usize], list, v);
-        number.ok_or(MapFault::OutsideMap)
+        self.index.map_value(part, class, v)
     }
 }

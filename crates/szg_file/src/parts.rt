@@ -2,7 +2,7 @@ ghost use Rattle.std.specs.Prelude.{ℕ, ◌≡◌, ◌+◌, ◌*◌, ◌≤◌,
 ghost use Rattle.std.specs.List.{range_with_len};
 ghost use Rattle.szg_values.specs.Material.{man_codes};
 ghost use Rattle.szg_count.specs.Groups.{IsPart, nibble, nibbles_of, order_fault, size_of};
-ghost use Rattle.szg_count.specs.Seen.{nibbles_in};
+ghost use Rattle.szg_count.specs.Views.{nibbles_in};
 ghost use Rattle.szg_file.specs.Contents.{slots, part_slots, part_numbers, side_numbers, order_bytes};
 ghost use Rattle.szg_file.specs.File.{each, part_field, part_checks, order_check, part_of_bytes};
 ghost use Rattle.szg_file.specs.Format.{means, refuses};

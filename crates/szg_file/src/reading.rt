@@ -21,6 +21,7 @@ use crate::maps::read_maps;
 use crate::parts::{Parts, read_parts};
 use crate::start::read_start;
 use crate::table::{Map, Table};
+use crate::table_index::index_of_subs;
 use crate::taking::{take_field, take_fill};
 use std::alloc::Global;
 use szg_block::Sub;
@@ -106,6 +107,7 @@ pub fn read_ending<R: Input>(
     requires place { front.old.place < 2 ^ 56 }
     requires paid { front.old.growth ≤ 2 * front.old.place + 44 }
     ensures ending { Reading ending_field (λ last. last) front.old front.new R.Input input.old input.new result }
+    ensures place { OnOk result (front.new.place < front.old.place + 80) }
     ensures grown { OnOk result (HasCounted front.old front.new 0 0) }
     ensures memory { IsErrOf result ReadFault.Memory → Lacking ending_field front.old R.Input input.old input.new }
 {
@@ -181,14 +183,11 @@ pub fn read<R: Input>(
         maps,
         last,
     } = read_pieces(alloc, &material, kind, input, &mut front)?;
+    let index = index_of_subs(material, kind, parts, &subs, maps);
     Ok(Table {
-        material,
-        kind,
+        index,
         byte4,
-        parts: parts.bytes,
-        placed: parts.slots,
         subs,
-        maps,
         filled: front.fill,
         last,
     })

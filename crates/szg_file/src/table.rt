@@ -1,11 +1,8 @@
 ghost use Rattle.std.specs.Prelude.{◌≡◌};
 
-use crate::begun::Slot;
-use crate::distances::{list_number, number_at};
 use crate::fault::MapFault;
-use crate::flags::flags_of;
-use crate::lookup::{Found, constant_value, slot_number};
-use arrayvec::ArrayVec;
+use crate::lookup::{Found, constant_value};
+use crate::table_index::{Numbered, TableIndex};
 use std::alloc::{AllocError, Global};
 use std::marker::Model;
 use szg_block::{Sound, Steps, Sub};
@@ -32,50 +29,25 @@ pub enum Map {
 /// A table that every check of the format accepts.
 #[derive(Drop)]
 pub struct Table {
-    pub(crate) material: Material,
-    pub(crate) kind: Kind,
+    pub(crate) index: TableIndex,
     pub(crate) byte4: u8,
-    pub(crate) parts: Vec<PartBytes>,
-    // the subtables' slots, in file order
-    pub(crate) placed: ArrayVec<Slot, 8>,
     pub(crate) subs: Vec<Sub>,
-    pub(crate) maps: Vec<Option<Map>>,
     pub(crate) filled: Vec<u8>,
     pub(crate) last: [u8; 16],
 }
 
 impl Model for Table {
-    ghost use Rattle.std.specs.Prelude.{◌≡◌, map, option_map};
-    ghost use Rattle.szg_file.specs.Contents.{slots};
+    ghost use Rattle.std.specs.Prelude.{◌≡◌, map};
     ghost use Rattle.szg_file.specs.Accepted.{IsAccepted};
-    ghost use Rattle.szg_file.specs.Held.{Shown, part_of, subtable_of, map_of};
+    ghost use Rattle.szg_file.specs.Held.{Shown, subtable_of};
+    ghost use Rattle.szg_file.specs.Index.{contents_with, index_of};
 
     ghost Value = { Shown };
 
-    ghost view = { λ t. record {
-      contents = record {
-        material = t.material;
-        kind = t.kind;
-        byte4 = t.byte4;
-        parts = map part_of t.parts.items;
-        subtables = map subtable_of t.subs.items;
-        maps = map (option_map map_of) t.maps.items;
-        last = t.last;
-      };
-      filled = t.filled.items;
-    } };
+    ghost view = { λ t. record { contents = contents_with t.index t.byte4 (map subtable_of t.subs.items) t.last; filled = t.filled.items } };
 
-    ghost invariant = { λ t.
-        IsAccepted (record {
-          material = t.material;
-          kind = t.kind;
-          byte4 = t.byte4;
-          parts = map part_of t.parts.items;
-          subtables = map subtable_of t.subs.items;
-          maps = map (option_map map_of) t.maps.items;
-          last = t.last;
-        }) t.filled.items
-        × (t.placed.items ≡ slots t.material t.kind (map part_of t.parts.items)) };
+    ghost invariant = { λ t. IsAccepted (contents_with t.index t.byte4 (map subtable_of t.subs.items) t.last) t.filled.items
+        × (t.index ≡ index_of (contents_with t.index t.byte4 (map subtable_of t.subs.items) t.last)) };
 }
 
 impl Table {
@@ -83,22 +55,31 @@ impl Table {
     ghost use Rattle.szg_file.specs.Accepted.{IsAccepted};
     ghost use Rattle.szg_file.specs.Held.{part_of, subtable_of, map_of};
     ghost use Rattle.szg_block.specs.Subtable.{packed_of, IsShaped, IsSoundOver};
+    ghost use Rattle.szg_file.specs.Index.{index_of};
     ghost use Rattle.szg_file.specs.Lookup.{IsFound};
     ghost use Rattle.szg_file.specs.Steps.{steps_of};
     ghost use Rattle.szg_file.specs.Values.{subtable_at, values_of, item, number_of_value};
+
+    /// Returns its index: all but the blocks.
+    pub fn index(&self) -> &TableIndex
+        ensures index { result.now ≡ index_of self.now.contents }
+        ensures accepted { IsAccepted self.now.contents self.now.filled }
+    {
+        &self.index
+    }
 
     /// The material of the name that it was read by.
     pub fn material(&self) -> &Material
         ensures { result.now ≡ self.now.contents.material }
     {
-        &self.material
+        self.index.material()
     }
 
     /// What it tells: outcomes or distances.
     pub fn kind(&self) -> Kind
         ensures { result ≡ self.now.contents.kind }
     {
-        self.kind
+        self.index.kind()
     }
 
     /// The byte behind the magic: bit 0 split, bit 1 pawns, all others carried.
@@ -112,14 +93,14 @@ impl Table {
     pub fn parts(&self) -> &[PartBytes]
         ensures { map part_of result.now ≡ self.now.contents.parts }
     {
-        &self.parts
+        self.index.parts()
     }
 
     /// The maps of a DTZ table, an item a part; none of a WDL table.
     pub fn maps(&self) -> &[Option<Map>]
         ensures { map (option_map map_of) result.now ≡ self.now.contents.maps }
     {
-        &self.maps
+        self.index.maps()
     }
 
     /// The fill bytes, in file order.
@@ -142,12 +123,10 @@ impl Table {
         ensures found { MatchOption result (subtable_at self.now.contents part side ≡ None) (λ found. IsFound (subtable_at self.now.contents part side) found.size (subtable_of found.sub.now)) }
         ensures accepted { IfSome result (λ found. IsShaped found.sub.now found.size × IsSoundOver found.sub.now (packed_of found.sub.now) found.size) }
     {
-        let placed = self.placed.as_slice();
-        let n = slot_number(placed, part, side)?;
-        let slot = placed[n];
+        let Numbered { number, slot } = self.index.find(part, side)?;
         Some(Found {
             size: slot.size,
-            sub: &self.subs[n],
+            sub: &self.subs[number],
         })
     }
 
@@ -155,7 +134,7 @@ impl Table {
     pub fn size(&self, part: u8, side: u8) -> Option<u64>
         ensures { result ≡ option_map (λ found. found.0.size) (subtable_at self.now.contents part side) }
     {
-        self.find(part, side).map(|found| found.size)
+        self.index.size(part, side)
     }
 
     /// A part's side, where there is one.
@@ -174,7 +153,7 @@ impl Table {
         let Some(found) = self.find(part, side) else {
             unreachable!()
         };
-        let constant = constant_value(self.kind, found.sub);
+        let constant = constant_value(self.kind(), found.sub);
         Sound::of(found.sub, found.size, constant).get(i)
     }
 
@@ -188,7 +167,7 @@ impl Table {
         let Some(found) = self.find(part, side) else {
             unreachable!()
         };
-        let constant = constant_value(self.kind, found.sub);
+        let constant = constant_value(self.kind(), found.sub);
         let mut sound = Sound::of(found.sub, found.size, constant);
         match sound.get_counted(i) {
             Ok(counted) => counted,
@@ -204,7 +183,7 @@ impl Table {
         let Some(found) = self.find(part, side) else {
             unreachable!()
         };
-        let constant = constant_value(self.kind, found.sub);
+        let constant = constant_value(self.kind(), found.sub);
         Sound::of(found.sub, found.size, constant).values(alloc)
     }
 
@@ -219,13 +198,6 @@ impl Table {
         ensures draw { (result ≡ Err MapFault.Draw) ↔ (class ≡ pos 0) }
         ensures number { MatchOption (number_of_value self.now.contents part class v) (class ≢ pos 0 → result ≡ Err MapFault.OutsideMap) (λ n. result ≡ Ok n) }
     {
-        let Some(list) = list_number(class) else {
-            return Err(MapFault::Draw);
-        };
-        let Some(found) = self.find(part, 0) else {
-            unreachable!()
-        };
-        let number = number_at(flags_of(found.sub), &self.maps[part as usize], list, v);
-        number.ok_or(MapFault::OutsideMap)
+        self.index.map_value(part, class, v)
     }
 }

@@ -15,7 +15,7 @@ pub struct Wanted {
 
 impl<S: Source + Drop> Opened<S> {
     ghost use Rattle.std.specs.Prelude.{◌≡◌, ◌+◌, ◌≤◌, ◌<◌, IsSome, IfSome, IsSomeAnd, MatchOption, Some, None, length};
-    ghost use Rattle.szg_block.specs.Lending.{bytes_at};
+    ghost use Rattle.szg_block.specs.BlocksTrait.{bytes_at};
     ghost use Rattle.szg_file.specs.Opened.{opened_at};
     ghost use Rattle.szg_file.specs.Values.{values_of, item};
     ghost use Rattle.szg_file.specs.Wanted.{wanted_block, IsSpelledBy};
@@ -28,7 +28,7 @@ impl<S: Source + Drop> Opened<S> {
         ensures wanted { IfSome (opened_at self.now part side) (λ found. MatchOption result (wanted_block found.1 i ≡ None) (λ wanted. wanted_block found.1 i ≡ Some (bytes_at self.now.content wanted.place wanted.count))) }
         ensures inside { IfSome result (λ wanted. wanted.place + wanted.count ≤ length self.now.content) }
     {
-        let Some(found) = slotted_at(self.placed.as_slice(), &self.subs, part, side) else {
+        let Some(found) = slotted_at(self.index.slots(), &self.subs, part, side) else {
             unreachable!()
         };
         // no place is past the source's end
@@ -47,9 +47,9 @@ impl<S: Source + Drop> Opened<S> {
         ensures value { IfSome (opened_at self.now part side) (λ found. IfSome (wanted_block found.1 i) (λ block. block ≡ piece.now) → IsSomeAnd result (λ value. item (values_of self.now.kind found) i ≡ Some value)) }
         ensures spelled { IfSome (opened_at self.now part side) (λ found. IsSpelledBy piece.now found.1 i result) }
     {
-        let Some(found) = slotted_at(self.placed.as_slice(), &self.subs, part, side) else {
+        let Some(found) = slotted_at(self.index.slots(), &self.subs, part, side) else {
             unreachable!()
         };
-        value_of(self.kind, &found, i, piece)
+        value_of(self.index.kind(), &found, i, piece)
     }
 }

@@ -50,9 +50,10 @@ fn write_table<W: Output>(
 ) -> Result<(), WriteFault>
     ensures { Writing (sections table.now.contents) outgoing.old outgoing.new W.Output output.old output.new result }
 {
-    write_start_and_parts(table.kind, table.byte4, &table.parts, output, outgoing)?;
+    let (kind, parts, maps) = (table.index.kind(), table.index.parts(), table.index.maps());
+    write_start_and_parts(kind, table.byte4, parts, output, outgoing)?;
     write_heads(&table.subs, output, outgoing)?;
-    write_maps(table.kind, &table.maps, output, outgoing)?;
+    write_maps(kind, maps, output, outgoing)?;
     write_indexes(&table.subs, output, outgoing)?;
     write_lengths(&table.subs, output, outgoing)?;
     write_blocks(&table.subs, output, outgoing)?;
@@ -64,7 +65,8 @@ pub fn file_len(table: &Table) -> u64
     ensures { result ≡ length (file_bytes table.now) }
 {
     bounded(table);
-    let fields = parts_len(&table.parts) + subs_len(&table.subs) + maps_len(&table.maps);
+    let (parts, maps) = (table.index.parts(), table.index.maps());
+    let fields = parts_len(parts) + subs_len(&table.subs) + maps_len(maps);
     21 + fields + table.filled.len() as u64
 }
 
@@ -72,5 +74,5 @@ pub fn file_len(table: &Table) -> u64
 fn bounded(table: &Table)
     ensures { FileLength table.now.contents table.now.filled }
 {
-    let _men = table.material.men();
+    let _men = table.index.material().men();
 }

@@ -1,72 +1,72 @@
-//! A device for tests, that cuts pieces short, interrupts and fails.
+//! A device for tests that cuts chunks short, interrupts and fails.
 ghost use Rattle.std.specs.Prelude.{◌≡◌, ◌+◌, ◌≤◌, ◌<◌, ◌||◌, max, nat_lt, length, [], Some, None, Err, IfOk, OnErr, IsSome, IsTrue};
 ghost use Rattle.std.specs.Io.KnownBytes.{ReadConsumes, WriteAppends};
-ghost use Rattle.szg_io.specs.Device.{raised, row_after, moved_after, take_failures_after, give_failures_after};
-ghost use Rattle.szg_io.specs.Counts.{cut_device_of, cut_counts_of, cut_settings_of, cut_came_of, IsToFail, IsToInterrupt, IsToPass};
+ghost use Rattle.szg_io.specs.Device.{raised, interrupted_after, moved_after, take_failures_after, give_failures_after};
+ghost use Rattle.szg_io.specs.Counts.{cut_device_of, cut_counts_of, cut_settings_of, cut_interrupted_since_of, IsToFail, IsToInterrupt, IsToPass};
 
 use crate::counters::Counters;
 use crate::device::{Input, IoFault, Output};
 
-/// A device over another, for tests. Its counts begin at 0, and it tells its bytes where that one does. Where it
-/// never interrupts and is never set to fail, it may fail only where that one may.
+/// A device for tests that wraps another one. Its counts begin at 0, and its bytes are known if those of the
+/// wrapped device are. If it is set to no interruption and no failure, it fails only if the wrapped device may.
 #[derive(Drop)]
 pub struct Cut<T> {
     device: T,
-    most: usize,
-    before: u64,
+    max_len: usize,
+    interrupts: u64,
     fails_at: u64,
-    /// How many `Interrupted` came since the last piece.
-    came: u64,
+    /// The number of `Interrupted` since the last chunk.
+    interrupted_since: u64,
     counts: Counters,
 }
 
 impl<T> Cut<T> {
-    /// Wraps a device. Its calls are numbered from 1. Call `fails_at` answers `Failed` (0: none does). Of the others
-    /// each piece is preceded by `before` calls that answer `Interrupted`; neither asks the device. A piece moves at
-    /// most `most` bytes: over an `Input` 0 is taken as 1, and an `Output` with 0 takes none, which is a failure
-    /// where the piece isn't empty.
-    pub fn new(device: T, most: usize, before: u64, fails_at: u64) -> Self
+    /// Wraps a device. Calls are numbered from 1. Call `fails_at` returns `Failed`; 0 means that no call does.
+    /// Before each chunk, `interrupts` of the other calls return `Interrupted`. None of these calls reaches the
+    /// wrapped device. A chunk has at most `max_len` bytes. Over an `Input` a `max_len` of 0 is taken as 1; an
+    /// `Output` with `max_len` 0 accepts no byte, which is a failure if the chunk is not empty.
+    pub fn new(device: T, max_len: usize, interrupts: u64, fails_at: u64) -> Self
         ensures device { cut_device_of result ≡ device }
-        ensures counts { cut_counts_of result ≡ record { calls = 0; moved = []; failures = 0; row = 0 } }
-        ensures settings { cut_settings_of result ≡ record { most = most; before = before; fails_at = fails_at } }
+        ensures counts { cut_counts_of result ≡ record { calls = 0; moved = []; failures = 0; interrupted = 0 } }
+        ensures settings { cut_settings_of result ≡ record { max_len = max_len; interrupts = interrupts; fails_at = fails_at } }
     {
         Cut {
             device,
-            most,
-            before,
+            max_len,
+            interrupts,
             fails_at,
-            came: 0,
+            interrupted_since: 0,
             counts: Counters::new(),
         }
     }
 
-    /// What it wraps.
+    /// Returns the wrapped device.
     pub fn inner(&self) -> &T
         ensures device { result.now ≡ cut_device_of self.now }
     {
         &self.device
     }
 
-    /// The fault that is due at this call, if any.
+    /// Returns the fault that this call is set to return. None if it is set to none.
     fn fault_due(&mut self) -> Option<IoFault>
         ensures device { self.new.device ≡ self.old.device }
         ensures counts { self.new.counts ≡ self.old.counts }
         ensures settings { cut_settings_of self.new ≡ cut_settings_of self.old }
         ensures failed { raised self.old.counts.calls ≡ self.old.fails_at → result ≡ Some IoFault.Failed }
-        ensures interrupted { ¬ raised self.old.counts.calls ≡ self.old.fails_at → self.old.came < self.old.before →
-            (result ≡ Some IoFault.Interrupted) × (self.new.came ≡ self.old.came + 1) }
-        ensures none { ¬ raised self.old.counts.calls ≡ self.old.fails_at → self.old.before ≤ self.old.came →
-            (result ≡ None) × (self.new.came ≡ 0) }
-        ensures set { IsSome result → IsTrue (nat_lt 0 self.old.before || nat_lt 0 self.old.fails_at) }
+        ensures interrupted { ¬ raised self.old.counts.calls ≡ self.old.fails_at → self.old.interrupted_since < self.old.interrupts →
+            (result ≡ Some IoFault.Interrupted) × (self.new.interrupted_since ≡ self.old.interrupted_since + 1) }
+        ensures none { ¬ raised self.old.counts.calls ≡ self.old.fails_at → self.old.interrupts ≤ self.old.interrupted_since →
+            (result ≡ None) × (self.new.interrupted_since ≡ 0) }
+        ensures set { IsSome result → IsTrue (nat_lt 0 self.old.interrupts || nat_lt 0 self.old.fails_at) }
     {
         if self.counts.calls.saturating_add(1) == self.fails_at {
             return Some(IoFault::Failed);
         }
-        if self.came < self.before {
-            self.came += 1;
+        if self.interrupted_since < self.interrupts {
+            self.interrupted_since += 1;
             return Some(IoFault::Interrupted);
         }
-        self.came = 0;
+        self.interrupted_since = 0;
         None
     }
 }
@@ -82,35 +82,35 @@ impl<T: Input> Input for Cut<T> {
 
     ghost interrupted = { λ s. s.counts.interrupted };
 
-    ghost may_fail = { λ s. (nat_lt 0 s.before || nat_lt 0 s.fails_at) || T.may_fail s.device };
+    ghost may_fail = { λ s. (nat_lt 0 s.interrupts || nat_lt 0 s.fails_at) || T.may_fail s.device };
 
-    fn take(&mut self, piece: &mut [u8]) -> Result<usize, IoFault>
-        ensures within { IfOk result (λ n. n ≤ length piece.new) }
-        ensures bytes { ReadConsumes (T.coming (cut_device_of self.old)) (T.coming (cut_device_of self.new)) result piece.new }
+    fn take(&mut self, chunk: &mut [u8]) -> Result<usize, IoFault>
+        ensures within { IfOk result (λ n. n ≤ length chunk.new) }
+        ensures bytes { ReadConsumes (T.coming (cut_device_of self.old)) (T.coming (cut_device_of self.new)) result chunk.new }
         ensures calls { (cut_counts_of self.new).calls ≡ raised (cut_counts_of self.old).calls }
-        ensures moved { (cut_counts_of self.new).moved ≡ moved_after result piece.new (cut_counts_of self.old).moved }
+        ensures moved { (cut_counts_of self.new).moved ≡ moved_after result chunk.new (cut_counts_of self.old).moved }
         ensures failures { (cut_counts_of self.new).failures ≡ take_failures_after result (cut_counts_of self.old).failures }
-        ensures interrupted { (cut_counts_of self.new).row ≡ row_after result (cut_counts_of self.old).row }
-        ensures fault { OnErr result (IsTrue ((nat_lt 0 (cut_settings_of self.old).before || nat_lt 0 (cut_settings_of self.old).fails_at) || T.may_fail (cut_device_of self.old))) }
+        ensures interrupted { (cut_counts_of self.new).interrupted ≡ interrupted_after result (cut_counts_of self.old).interrupted }
+        ensures fault { OnErr result (IsTrue ((nat_lt 0 (cut_settings_of self.old).interrupts || nat_lt 0 (cut_settings_of self.old).fails_at) || T.may_fail (cut_device_of self.old))) }
         ensures stays { T.may_fail (cut_device_of self.new) ≡ T.may_fail (cut_device_of self.old) }
         ensures settings { cut_settings_of self.new ≡ cut_settings_of self.old }
-        // a fault that is due is answered, and the device isn't asked
+        // a fault that is set is returned, and the wrapped device is not called
         ensures fails { IsToFail self.old → (result ≡ Err IoFault.Failed) × (cut_device_of self.new ≡ cut_device_of self.old) }
-        ensures interrupts { IsToInterrupt self.old → (result ≡ Err IoFault.Interrupted) × (cut_device_of self.new ≡ cut_device_of self.old) × (cut_came_of self.new ≡ cut_came_of self.old + 1) }
-        // else the device is, once, for a short piece
+        ensures interrupts { IsToInterrupt self.old → (result ≡ Err IoFault.Interrupted) × (cut_device_of self.new ≡ cut_device_of self.old) × (cut_interrupted_since_of self.new ≡ cut_interrupted_since_of self.old + 1) }
+        // otherwise the wrapped device is called once, for a short chunk
         ensures passes { IsToPass self.old → (T.calls (cut_device_of self.new) ≡ raised (T.calls (cut_device_of self.old)))
             × (T.failures (cut_device_of self.new) ≡ take_failures_after result (T.failures (cut_device_of self.old)))
-            × (T.interrupted (cut_device_of self.new) ≡ row_after result (T.interrupted (cut_device_of self.old))) × (cut_came_of self.new ≡ 0) }
-        ensures short { IfOk result (λ n. n ≤ max 1 (cut_settings_of self.old).most) }
+            × (T.interrupted (cut_device_of self.new) ≡ interrupted_after result (T.interrupted (cut_device_of self.old))) × (cut_interrupted_since_of self.new ≡ 0) }
+        ensures short { IfOk result (λ n. n ≤ max 1 (cut_settings_of self.old).max_len) }
     {
         let answer = match self.fault_due() {
             Some(fault) => Err(fault),
             None => {
-                let size = piece.len().min(self.most.max(1));
-                self.device.take(&mut piece[..size])
+                let size = chunk.len().min(self.max_len.max(1));
+                self.device.take(&mut chunk[..size])
             }
         };
-        self.counts.taken(answer, piece);
+        self.counts.count_take(answer, chunk);
         answer
     }
 }
@@ -126,30 +126,30 @@ impl<T: Output> Output for Cut<T> {
 
     ghost interrupted = { λ s. s.counts.interrupted };
 
-    fn give(&mut self, piece: &[u8]) -> Result<usize, IoFault>
-        ensures within { IfOk result (λ n. n ≤ length piece.now) }
-        ensures bytes { WriteAppends (T.written (cut_device_of self.old)) (T.written (cut_device_of self.new)) result piece.now }
+    fn give(&mut self, chunk: &[u8]) -> Result<usize, IoFault>
+        ensures within { IfOk result (λ n. n ≤ length chunk.now) }
+        ensures bytes { WriteAppends (T.written (cut_device_of self.old)) (T.written (cut_device_of self.new)) result chunk.now }
         ensures calls { (cut_counts_of self.new).calls ≡ raised (cut_counts_of self.old).calls }
-        ensures moved { (cut_counts_of self.new).moved ≡ moved_after result piece.now (cut_counts_of self.old).moved }
-        ensures failures { (cut_counts_of self.new).failures ≡ give_failures_after result piece.now (cut_counts_of self.old).failures }
-        ensures interrupted { (cut_counts_of self.new).row ≡ row_after result (cut_counts_of self.old).row }
+        ensures moved { (cut_counts_of self.new).moved ≡ moved_after result chunk.now (cut_counts_of self.old).moved }
+        ensures failures { (cut_counts_of self.new).failures ≡ give_failures_after result chunk.now (cut_counts_of self.old).failures }
+        ensures interrupted { (cut_counts_of self.new).interrupted ≡ interrupted_after result (cut_counts_of self.old).interrupted }
         ensures settings { cut_settings_of self.new ≡ cut_settings_of self.old }
-        // a fault that is due is answered, and the device isn't asked
+        // a fault that is set is returned, and the wrapped device is not called
         ensures fails { IsToFail self.old → (result ≡ Err IoFault.Failed) × (cut_device_of self.new ≡ cut_device_of self.old) }
-        ensures interrupts { IsToInterrupt self.old → (result ≡ Err IoFault.Interrupted) × (cut_device_of self.new ≡ cut_device_of self.old) × (cut_came_of self.new ≡ cut_came_of self.old + 1) }
-        // else the device is, once, for a short piece
+        ensures interrupts { IsToInterrupt self.old → (result ≡ Err IoFault.Interrupted) × (cut_device_of self.new ≡ cut_device_of self.old) × (cut_interrupted_since_of self.new ≡ cut_interrupted_since_of self.old + 1) }
+        // otherwise the wrapped device is called once, for a short chunk
         ensures passes { IsToPass self.old → (T.calls (cut_device_of self.new) ≡ raised (T.calls (cut_device_of self.old)))
-            × (T.interrupted (cut_device_of self.new) ≡ row_after result (T.interrupted (cut_device_of self.old))) × (cut_came_of self.new ≡ 0) }
-        ensures short { IfOk result (λ n. n ≤ (cut_settings_of self.old).most) }
+            × (T.interrupted (cut_device_of self.new) ≡ interrupted_after result (T.interrupted (cut_device_of self.old))) × (cut_interrupted_since_of self.new ≡ 0) }
+        ensures short { IfOk result (λ n. n ≤ (cut_settings_of self.old).max_len) }
     {
         let answer = match self.fault_due() {
             Some(fault) => Err(fault),
             None => {
-                let size = piece.len().min(self.most);
-                self.device.give(&piece[..size])
+                let size = chunk.len().min(self.max_len);
+                self.device.give(&chunk[..size])
             }
         };
-        self.counts.given(answer, piece);
+        self.counts.count_give(answer, chunk);
         answer
     }
 }

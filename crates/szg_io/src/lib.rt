@@ -1,9 +1,9 @@
-//! Devices that give or take bytes in pieces, with what a proof needs to know of them.
+//! Devices that read or write bytes in chunks, with the facts about them that proofs need.
 //!
-//! [`Input`] and [`Output`] are the traits. [`take_whole`] and [`give_whole`] move whole pieces over any device,
-//! [`take_once`] what one answer gives.
-//! [`Std`] makes a device of a reader or a writer of std, [`Bytes`] one of bytes in memory, which never fails, and
-//! [`Cut`] is a device for tests. [`Counters`], with [`Past`], is what a device of your own keeps.
+//! [`Input`] and [`Output`] are the traits. [`take_whole`] and [`give_whole`] move whole chunks over any device;
+//! [`take_once`] returns what one successful call reads. [`Std`] turns a reader or a writer of std into a device,
+//! [`Bytes`] reads bytes in memory and never fails, and [`Cut`] is a device for tests. [`Counters`], with [`Past`],
+//! keeps the counts for a device of your own.
 #![tactic(auto)]
 
 mod counters;

@@ -1,4 +1,4 @@
--- The functions that find a dictionary's first fault, and the rules of accepted dictionaries.
+-- The functions that find a dictionary's first fault, related to the rules of accepted dictionaries.
 use Rattle.std.proofs.Common.{ℕ, zero, suc, Bool, true, false, ◌≡◌, ◌+◌, ◌<◌, ◌≤◌, ◌⊎◌, inl, inr, List, [], ◌∷◌, ◌++◌, Option, Some, None, length, map, refl, ap, sym, ◌∙◌, arith, length-append, nat_lt}
 use Rattle.std.specs.Prelude.{IsTrue, IfSome, not, option_map}
 use Rattle.std.specs.List.{slice_get}
@@ -53,7 +53,7 @@ sum_known (Some i) (Some j) n e = (i, j, refl, refl, cc)
 sum_known (Some i) None n e = absurd cc
 sum_known None b n e = absurd cc
 
--- what is known of the symbols of a list made from entries
+-- what is known of the symbols of a list that is mapped from entries
 known_map : (entries : List (List ℕ)) (f : List ℕ → Option ℕ) (s : ℕ) → known_of (map f entries) s ≡ option_map_or (λ n. n) (option_map f (slice_get entries s)) None
 known_map entries f s = ap (λ (o : Option (Option ℕ)). option_map_or (λ (n : Option ℕ). n) o None) (slice_get-map f entries s)
 
@@ -87,9 +87,9 @@ are_right entries zero s n e = none_known entries s n (slice_get entries s) (sym
 are_right entries (suc rounds) s n e =
     right_entry entries (lengths_within entries rounds) (are_right entries rounds) s n (slice_get entries s) refl (sym (known_map entries (length_of_entry (lengths_within entries rounds)) s) ∙ e)
 
--- ---- all that has a length is known in the end
+-- ---- every length is known in the end
 
--- what was known stays
+-- known lengths stay known
 abbrev Stays : Option ℕ → Option ℕ → Type 0
 Stays None o = Unit {0}
 Stays (Some n) o = o ≡ Some n
@@ -149,7 +149,7 @@ count_stays (x ∷ xs) [] h = absurd h
 count_stays (None ∷ xs) (y ∷ ys) h = let k = count_stays xs ys h.1 in omega (arith, k)
 count_stays (Some n ∷ xs) (y ∷ ys) h = let k = count_stays xs ys h.1 in let e : one_known y ≡ 1 = ap one_known h.0 in omega (arith, k, e)
 
--- where all stay, nothing is new or more is known
+-- if no length changes, either nothing is new or more lengths are known
 stay_or_more : (xs ys : List (Option ℕ)) → AllStay xs ys → (ys ≡ xs) ⊎ (count_known xs + 1 ≤ count_known ys)
 stay_or_more [] [] h = inl refl
 stay_or_more [] (y ∷ ys) h = absurd h
@@ -206,7 +206,7 @@ known_next : (entries : List (List ℕ)) (rounds s : ℕ) → known_of (lengths_
 unfolding lengths_within
 known_next entries rounds s = known_map entries (length_of_entry (lengths_within entries rounds)) s
 
--- what is known in the end is known from the lengths of the entry's own symbols
+-- a length that is known in the end is known from the lengths of the entry's own symbols
 known_end : (entries : List (List ℕ)) (s : ℕ) (entry : List ℕ) → slice_get entries s ≡ Some entry →
     known_of (lengths_within entries (length entries)) s ≡ length_of_kind (is_leaf entry) entry (lengths_within entries (length entries))
 known_end entries s entry there =
@@ -214,7 +214,7 @@ known_end entries s entry there =
     ∙ known_next entries (length entries) s
     ∙ ap (λ (o : Option (List ℕ)). option_map_or (λ (n : Option ℕ). n) (option_map (length_of_entry (lengths_within entries (length entries))) o) None) there
 
--- what expands has its length
+-- a symbol that expands has the length of its expansion
 pub length-known : (entries : List (List ℕ)) {s : ℕ} {xs : List ℕ} → Expands entries s xs → known_of (lengths_within entries (length entries)) s ≡ Some (length xs)
 length-known entries (leaf {s = s} {entry = entry} there e) =
     known_end entries s entry there ∙ ap (λ (b : Bool). length_of_kind b entry (lengths_within entries (length entries))) e

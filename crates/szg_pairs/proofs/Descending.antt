@@ -6,22 +6,22 @@ use Rattle.std.proofs.lemmas.List.{get_or_append_left, get_or-append_right, get_
 use Rattle.szg_pairs.specs.Entry.{left_of, right_of, is_leaf}
 use Rattle.szg_pairs.specs.Expansion.{Expands, leaf, pair, expansion_of, depths_within, depths_of}
 use Rattle.szg_pairs.specs.Dictionary.{IsDictionary}
-use Rattle.szg_pairs.specs.Kept.{IsKept, IsDescent, spelled, steps_left}
+use Rattle.szg_pairs.specs.State.{IsDictState, IsDescent, stack_values, steps_left}
 use Rattle.szg_pairs.proofs.Expanding.{length-depths_of, depths_of-below, Expands-length, Expands-expansion_of, AllBelow, AllBelow-push, AllBelow-pop}
 use Rattle.szg_pairs.proofs.Accepting.{symbol_of_dictionary, Expands-there}
 
--- what is read of the lengths
-pub kept_read : (entries value : List (List ℕ)) (lengths : List ℕ) (s n : ℕ) → IsKept entries lengths → entries ≡ value → s < length value → n ≡ get_or lengths s n →
+-- the lengths as `Dict` reads them
+pub length_read_back : (entries value : List (List ℕ)) (lengths : List ℕ) (s n : ℕ) → IsDictState entries lengths → entries ≡ value → s < length value → n ≡ get_or lengths s n →
     (n ≡ length (expansion_of value s)) × (1 ≤ n) × (n ≤ 256)
-kept_read entries value lengths s n kept same there read =
+length_read_back entries value lengths s n state same there read =
     let there_too : s < length entries = subst (λ (v : List (List ℕ)). s < length v) (sym same) there in
-    let many = kept.as_many in
+    let many = state.same_length in
     let at : get_or lengths s 0 ≡ n = sym (get_or_read lengths s n (omega (arith, there_too, many)) read 0) in
-    let short = symbol_of_dictionary entries kept.dictionary s there_too in
-    let is : n ≡ length (expansion_of entries s) = sym at ∙ kept.each s there_too in
+    let short = symbol_of_dictionary entries state.dictionary s there_too in
+    let is : n ≡ length (expansion_of entries s) = sym at ∙ state.each s there_too in
     (subst (λ (v : List (List ℕ)). n ≡ length (expansion_of v s)) same is, omega (arith, is, short.some), omega (arith, is, short.few))
 
--- a look-up's conditions, said of the entries that are kept
+-- the conditions of a look-up, stated for the entries of `Dict`
 pub opened : (entries value : List (List ℕ)) (s i : ℕ) → entries ≡ value → s < length value → i < length (expansion_of value s) → (s < length entries) × (i < length (expansion_of entries s))
 opened entries value s i same there within = rw same (there, within)
 
@@ -40,7 +40,7 @@ module _ (entries : List (List ℕ)) where
       let same : e ≡ entry = cc in
       (x, y, subst (λ (v : List ℕ). Expands entries (left_of v) x) same l, subst (λ (v : List ℕ). Expands entries (right_of v) y) same r, refl)
 
-  -- what a pair of an accepted dictionary stands for
+  -- what a pair of an accepted dictionary expands to
   pub record IsPairAt (s : ℕ) (entry : List ℕ) : Type 0 where
     pub left_there : left_of entry < length entries
     pub right_there : right_of entry < length entries
@@ -68,7 +68,7 @@ module _ (entries : List (List ℕ)) where
   pub leaf_at : IsDictionary entries → (s : ℕ) (entry : List ℕ) → s < length entries → slice_get entries s ≡ Some entry → is_leaf entry ≡ true → expansion_of entries s ≡ left_of entry ∷ []
   leaf_at accepted s entry there at single = leaf_values (symbol_of_dictionary entries accepted s there).expands entry at single
 
-  -- the item of a pair is one of its left symbol's, or of its right symbol's
+  -- the item of a pair is an item of its left symbol or of its right symbol
   pub go_left : (s i : ℕ) (entry : List ℕ) → IsPairAt s entry → i < length (expansion_of entries (left_of entry)) →
       slice_get (expansion_of entries (left_of entry)) i ≡ slice_get (expansion_of entries s) i
   go_left s i entry p h =
@@ -89,9 +89,9 @@ module _ (entries : List (List ℕ)) where
 
   -- ---- a stack of symbols, the topmost last
 
-  pub spelled-push : (stack : List ℕ) (s : ℕ) → spelled entries (stack ++ s ∷ []) ≡ expansion_of entries s ++ spelled entries stack
-  spelled-push [] s = sym (append-nil (expansion_of entries s))
-  spelled-push (t ∷ stack) s = ap (λ (v : List ℕ). v ++ expansion_of entries t) (spelled-push stack s) ∙ append_assoc (expansion_of entries s) (spelled entries stack) (expansion_of entries t)
+  pub stack_values-push : (stack : List ℕ) (s : ℕ) → stack_values entries (stack ++ s ∷ []) ≡ expansion_of entries s ++ stack_values entries stack
+  stack_values-push [] s = sym (append-nil (expansion_of entries s))
+  stack_values-push (t ∷ stack) s = ap (λ (v : List ℕ). v ++ expansion_of entries t) (stack_values-push stack s) ∙ append_assoc (expansion_of entries s) (stack_values entries stack) (expansion_of entries t)
 
   pub steps_left-push : (stack : List ℕ) (s : ℕ) → steps_left entries (stack ++ s ∷ []) ≡ steps_left entries stack + (2 * length (expansion_of entries s) - 1)
   steps_left-push [] s = omega arith
@@ -115,7 +115,7 @@ module _ (entries : List (List ℕ)) where
       let j = depths_within-enough r m n (omega (arith, long, lx)) (omega (arith, long, lx)) in
       rw (a, p, i, j) refl
 
-  -- a leaf's one value has none above it
+  -- the one value of a leaf has no pair above it
   pub leaf_depths : (s : ℕ) (entry : List ℕ) → slice_get entries s ≡ Some entry → is_leaf entry ≡ true → depths_of entries s ≡ 0 ∷ []
   unfolding depths_of depths_within
   leaf_depths s entry at single = rw (at, single) refl
@@ -170,7 +170,7 @@ module _ (entries : List (List ℕ)) where
       ∙ get_or-map_suc (l ++ r) i (omega (arith, n, same, same_r, whole, lt))
       ∙ ap suc (get_or-append_right l r (length (expansion_of entries (left_of entry))) i 0 same h)
 
-  -- the depths that a descent may still reach
+  -- the depths that a descent can still reach
   pub few_pairs : IsDictionary entries → (s i : ℕ) → s < length entries → i < length (expansion_of entries s) → get_or (depths_of entries s) i 0 ≤ 255
   few_pairs accepted s i there within =
       let short = symbol_of_dictionary entries accepted s there in
@@ -182,8 +182,8 @@ module _ (entries : List (List ℕ)) where
   pub entry_read : (s : ℕ) (entry : List ℕ) → s < length entries → entry ≡ get_or entries s entry → slice_get entries s ≡ Some entry
   entry_read s entry there read = slice_get_read entries (length entries) s entry refl there read
 
-  pub length_read : (lengths : List ℕ) (s n : ℕ) → IsKept entries lengths → s < length entries → n ≡ get_or lengths s n → n ≡ length (expansion_of entries s)
-  length_read lengths s n kept there read = (kept_read entries entries lengths s n kept refl there read).0
+  pub length_read : (lengths : List ℕ) (s n : ℕ) → IsDictState entries lengths → s < length entries → n ≡ get_or lengths s n → n ≡ length (expansion_of entries s)
+  length_read lengths s n state there read = (length_read_back entries entries lengths s n state refl there read).0
 
   pub value_found : IsDictionary entries → (s i t k pairs : ℕ) (entry : List ℕ) → IsDescent entries s i t k pairs → slice_get entries t ≡ Some entry → is_leaf entry ≡ true →
       slice_get (expansion_of entries s) i ≡ Some (left_of entry)
@@ -222,22 +222,22 @@ module _ (entries : List (List ℕ)) where
   -- ---- the steps of an expansion
 
   abbrev Goes : List ℕ → List ℕ → List ℕ → List ℕ → Type 0
-  Goes whole values before after = (values ++ spelled entries after ≡ whole) × AllBelow (length entries) after × (steps_left entries after < steps_left entries before)
+  Goes whole values before after = (values ++ stack_values entries after ≡ whole) × AllBelow (length entries) after × (steps_left entries after < steps_left entries before)
 
-  pub expand_leaf : IsDictionary entries → (whole values values' stack rest : List ℕ) (x v : ℕ) (entry : List ℕ) → values ++ spelled entries stack ≡ whole → AllBelow (length entries) stack → stack ≡ rest ++ x ∷ [] →
+  pub expand_leaf : IsDictionary entries → (whole values values' stack rest : List ℕ) (x v : ℕ) (entry : List ℕ) → values ++ stack_values entries stack ≡ whole → AllBelow (length entries) stack → stack ≡ rest ++ x ∷ [] →
       slice_get entries x ≡ Some entry → is_leaf entry ≡ true → v ≡ left_of entry → values' ≡ values ++ v ∷ [] → Goes whole values' stack rest
   expand_leaf accepted whole values values' stack rest x v entry so_far below popped at single is_left pushed =
       let b = AllBelow-pop (length entries) rest x (rw popped at below) in
       let one = leaf_at accepted x entry b.1 at single in
       let steps = ap (steps_left entries) popped ∙ steps_left-push rest x in
       let many = ap length one in
-      let top : spelled entries stack ≡ (v ∷ []) ++ spelled entries rest = ap (spelled entries) popped ∙ spelled-push rest x ∙ ap (λ (u : List ℕ). u ++ spelled entries rest) (one ∙ ap (λ (k : ℕ). k ∷ []) (sym is_left)) in (
-        ap (λ (u : List ℕ). u ++ spelled entries rest) pushed ∙ append_assoc values (v ∷ []) (spelled entries rest) ∙ ap (λ (u : List ℕ). values ++ u) (sym top) ∙ so_far,
+      let top : stack_values entries stack ≡ (v ∷ []) ++ stack_values entries rest = ap (stack_values entries) popped ∙ stack_values-push rest x ∙ ap (λ (u : List ℕ). u ++ stack_values entries rest) (one ∙ ap (λ (k : ℕ). k ∷ []) (sym is_left)) in (
+        ap (λ (u : List ℕ). u ++ stack_values entries rest) pushed ∙ append_assoc values (v ∷ []) (stack_values entries rest) ∙ ap (λ (u : List ℕ). values ++ u) (sym top) ∙ so_far,
         b.0,
         omega (arith, steps, many),
       )
 
-  pub expand_pair : IsDictionary entries → (whole values stack rest rest_right after : List ℕ) (x l r : ℕ) (entry : List ℕ) → values ++ spelled entries stack ≡ whole → AllBelow (length entries) stack → stack ≡ rest ++ x ∷ [] →
+  pub expand_pair : IsDictionary entries → (whole values stack rest rest_right after : List ℕ) (x l r : ℕ) (entry : List ℕ) → values ++ stack_values entries stack ≡ whole → AllBelow (length entries) stack → stack ≡ rest ++ x ∷ [] →
       slice_get entries x ≡ Some entry → is_leaf entry ≡ false → l ≡ left_of entry → r ≡ right_of entry → rest_right ≡ rest ++ r ∷ [] → after ≡ rest_right ++ l ∷ [] → Goes whole values stack after
   expand_pair accepted whole values stack rest rest_right after x l r entry so_far below popped at paired is_left is_right pushed_right pushed_left =
       let b = AllBelow-pop (length entries) rest x (rw popped at below) in
@@ -251,11 +251,11 @@ module _ (entries : List (List ℕ)) where
       let steps_r = ap (steps_left entries) pushed_right ∙ steps_left-push rest r in
       let steps_l = ap (steps_left entries) pushed_left ∙ steps_left-push rest_right l in
       let many = ap length joined ∙ length-append (expansion_of entries l) (expansion_of entries r) in
-      let top : spelled entries stack ≡ (expansion_of entries l ++ expansion_of entries r) ++ spelled entries rest =
-      ap (spelled entries) popped ∙ spelled-push rest x ∙ ap (λ (u : List ℕ). u ++ spelled entries rest) joined in
-      let now : spelled entries after ≡ expansion_of entries l ++ (expansion_of entries r ++ spelled entries rest) =
-      ap (spelled entries) pushed_left ∙ spelled-push rest_right l ∙ ap (λ (u : List ℕ). expansion_of entries l ++ u) (ap (spelled entries) pushed_right ∙ spelled-push rest r) in (
-        ap (λ (u : List ℕ). values ++ u) (now ∙ sym (append_assoc (expansion_of entries l) (expansion_of entries r) (spelled entries rest)) ∙ sym top) ∙ so_far,
+      let top : stack_values entries stack ≡ (expansion_of entries l ++ expansion_of entries r) ++ stack_values entries rest =
+      ap (stack_values entries) popped ∙ stack_values-push rest x ∙ ap (λ (u : List ℕ). u ++ stack_values entries rest) joined in
+      let now : stack_values entries after ≡ expansion_of entries l ++ (expansion_of entries r ++ stack_values entries rest) =
+      ap (stack_values entries) pushed_left ∙ stack_values-push rest_right l ∙ ap (λ (u : List ℕ). expansion_of entries l ++ u) (ap (stack_values entries) pushed_right ∙ stack_values-push rest r) in (
+        ap (λ (u : List ℕ). values ++ u) (now ∙ sym (append_assoc (expansion_of entries l) (expansion_of entries r) (stack_values entries rest)) ∙ sym top) ∙ so_far,
         rw pushed_left (AllBelow-push (length entries) rest_right l (rw pushed_right (AllBelow-push (length entries) rest r b.0 r_there)) l_there),
         omega (arith, steps, steps_r, steps_l, many, some_l, some_r),
       )

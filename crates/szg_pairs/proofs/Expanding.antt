@@ -1,4 +1,4 @@
--- Laws of expansions: a symbol has one at most, it isn't empty, and the functions give it.
+-- Laws of expansions: a symbol has at most one, it is not empty, and the functions return it.
 use Rattle.std.proofs.Common.{ℕ, zero, suc, Bool, true, false, ◌≡◌, ◌+◌, ◌<◌, ◌≤◌, List, [], ◌∷◌, ◌++◌, Option, Some, None, length, map, refl, sym, subst, arith, length-append, get_or}
 use Rattle.std.specs.List.{slice_get}
 use Rattle.std.proofs.lemmas.List.{length-map}
@@ -9,7 +9,7 @@ module _ (entries : List (List ℕ)) where
   same_entry : (s : ℕ) {e f : List ℕ} → slice_get entries s ≡ Some e → slice_get entries s ≡ Some f → e ≡ f
   same_entry s a b = cc
 
-  -- one list at most
+  -- at most one list
   pub Expands-unique : {s : ℕ} {xs ys : List ℕ} → Expands entries s xs → Expands entries s ys → xs ≡ ys
   Expands-unique (leaf a p) (leaf b q) = cc
   Expands-unique (leaf {entry = e} a p) (pair {entry = f} b q l r) = let h : e ≡ f = same_entry _ a b in cc
@@ -25,7 +25,7 @@ module _ (entries : List (List ℕ)) where
   Expands-length (leaf a p) = omega arith
   Expands-length (pair {left = x} {right = y} a p l r) = omega (arith, length-append x y, Expands-length l)
 
-  -- a list of at most so many values nests in fewer levels, so the function gives it
+  -- a list of at most `levels` values nests in fewer levels, so the function returns it
   pub values_within-Expands : {s : ℕ} {xs : List ℕ} → Expands entries s xs → (levels : ℕ) → length xs ≤ levels → values_within entries levels s ≡ xs
   unfolding values_within
   values_within-Expands (leaf a p) zero h = absurd (omega arith)
@@ -37,7 +37,7 @@ module _ (entries : List (List ℕ)) where
       let j : length y ≤ levels = omega (arith, length-append x y, Expands-length l) in
       rw (a, p, values_within-Expands l levels i, values_within-Expands r levels j)
 
-  -- what is accepted of a symbol: its expansion is a list of Expands, of 1 to 256 values
+  -- what acceptance says about a symbol: its expansion is a list of Expands, of 1 to 256 values
   pub record IsShortSymbol (s : ℕ) : Type 0 where
     pub expands : Expands entries s (expansion_of entries s)
     pub some : 0 < length (expansion_of entries s)
@@ -56,7 +56,7 @@ module _ (entries : List (List ℕ)) where
         few = subst (λ v. length v ≤ 256) (sym eq) h;
       }
 
-  -- the depths are as many as the values
+  -- there is one depth for each value
   length-depths_of_kind : (leaf : Bool) (entry : List ℕ) (f g : ℕ → List ℕ) → ((s : ℕ) → length (f s) ≡ length (g s)) → length (depths_of_kind leaf entry f) ≡ length (values_of_kind leaf entry g)
   length-depths_of_kind true entry f g h = refl
   length-depths_of_kind false entry f g h = simp (length-map, length-append, h)
@@ -111,7 +111,7 @@ AllBelow-pop n [] x a = (tt, a.0)
 AllBelow-pop n (y ∷ ys) x a = let r = AllBelow-pop n ys x a.1 in ((a.0, r.0), r.1)
 
 module _ (entries : List (List ℕ)) where
-  -- over each value stand fewer pairs than the symbol has values
+  -- fewer pairs are above each value than the symbol has values
   pub depths_within-below : {s : ℕ} {xs : List ℕ} → Expands entries s xs → (levels : ℕ) → length xs ≤ levels → AllBelow (length xs) (depths_within entries levels s)
   unfolding depths_within AllBelow
   depths_within-below (leaf a p) zero h = absurd (omega arith)
@@ -126,7 +126,7 @@ module _ (entries : List (List ℕ)) where
       let j : AllBelow (length y) (depths_within entries levels (right_of e)) = depths_within-below r levels (omega arith) in
       rw (a, p) (AllBelow-map_suc_append (length x) (length y) (length (x ++ y)) (depths_within entries levels (left_of e)) (depths_within entries levels (right_of e)) (omega arith) (omega arith) i j)
 
-  -- so at most 255 stand over a value of a symbol of at most 256
+  -- so at most 255 pairs are above a value of a symbol of at most 256 values
   pub depths_of-below : (s : ℕ) (xs : List ℕ) → Expands entries s xs → length xs ≤ 256 → (i : ℕ) → i < length (depths_of entries s) → get_or (depths_of entries s) i 0 ≤ 255
   unfolding depths_of
   depths_of-below s xs e h i g =

@@ -1,4 +1,4 @@
--- The functions that find a dictionary's first fault, and its rules and faults, both ways.
+-- The functions that find a dictionary's first fault, and its rules and faults, in both directions.
 use Rattle.std.proofs.Common.{ℕ, ◌≡◌, ◌↔◌, List, Option, Some, None, refl, ap}
 use Rattle.szg_pairs.specs.Entry.{NamesSymbols}
 use Rattle.szg_pairs.specs.Dictionary.{FailsFirst, HasExpansion, HasShortExpansion, IsDictionary, IsDictionaryFault}
@@ -16,7 +16,7 @@ some_of : (P : ℕ → Type 0) (found : Option ℕ) → (found ≡ None → (n :
 some_of P None all fails n first = absurd (first.here (all refl n))
 some_of P (Some m) all fails n first = ap (λ (k : ℕ). Some k) (FailsFirst-unique P m n (fails m refl) first)
 
--- the first number at which P fails is determined
+-- the first number for which P fails is unique
 pub finds_first : (P : ℕ → Type 0) (found : Option ℕ) → (found ≡ None → (n : ℕ) → P n) → ((n : ℕ) → found ≡ Some n → FailsFirst P n) → FindsFirst P found
 finds_first P found all fails = ((all, none_of P found fails), λ n. (fails n, some_of P found all fails n))
 
@@ -29,7 +29,7 @@ first_cycle_finds entries = finds_first (HasExpansion entries) (first_cycle entr
 pub first_long_finds : FirstLongFinds
 first_long_finds entries ends = finds_first (HasShortExpansion entries) (first_long entries) (first_long-None entries ends) (λ s. first_long-Some entries s ends)
 
--- all symbols expand: the first two find nothing
+-- all symbols expand: the first two functions find nothing
 ends_of : (entries : List (List ℕ)) → ((s : ℕ) → HasExpansion entries s) → (first_child entries ≡ None) × (first_cycle entries ≡ None)
 ends_of entries all = ((first_child_finds entries).0.1 (named entries all), (first_cycle_finds entries).0.1 all)
 

@@ -12,12 +12,12 @@ none_at p a n rest false e h k le lt =
       | inr more ↦ let same : k ≡ a = omega arith in ap p same ∙ e
     ]
 
--- nothing is found: no number passes
+-- nothing is found: no number passes the test
 pub find_none : (p : ℕ → Bool) (a n : ℕ) → find p (range_with_len a n) ≡ None → (k : ℕ) → a ≤ k → k < a + n → p k ≡ false
 find_none p a zero e = λ k le lt. absurd (omega arith)
 find_none p a (suc n) e = none_at p a n (find_none p (a + 1) n) (p a) refl e
 
--- what a search over n numbers from a on finds: the first that passes
+-- a search over n numbers from a on finds the first that passes the test
 pub record IsFirst (p : ℕ → Bool) (a n j : ℕ) : Type 0 where
   pub from : a ≤ j
   pub below : j < a + n

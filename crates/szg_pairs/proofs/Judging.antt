@@ -4,7 +4,7 @@ use Rattle.std.proofs.lemmas.Bool.{cases_lt}
 use Rattle.szg_pairs.specs.Expansion.{Expands}
 use Rattle.szg_pairs.specs.Dictionary.{FailsFirst, HasExpansion, HasShortExpansion}
 use Rattle.szg_pairs.specs.Walk.{AreLengths}
-use Rattle.szg_pairs.specs.Kept.{IsKept, IsFirstIndex}
+use Rattle.szg_pairs.specs.State.{IsDictState, IsFirstIndex}
 use Rattle.szg_pairs.proofs.Expanding.{Expands-unique, Expands-expansion_of}
 
 module _ (entries : List (List ℕ)) (lengths : List ℕ) (found : AreLengths entries lengths) where
@@ -13,7 +13,7 @@ module _ (entries : List (List ℕ)) (lengths : List ℕ) (found : AreLengths en
 
   pub first_endless : (s : ℕ) → IsFirstIndex (λ n. n ≡ 0) lengths s → FailsFirst (HasExpansion entries) s
   first_endless s first =
-      let many : length lengths ≡ length entries = found.as_many in
+      let many : length lengths ≡ length entries = found.same_length in
       let there : s < length entries = omega (arith, first.there, many) in
       record {
         before = λ k lt k_there. elim (cases_lt 0 (get_or lengths k 0)) [
@@ -27,17 +27,17 @@ module _ (entries : List (List ℕ)) (lengths : List ℕ) (found : AreLengths en
   AllKnown = (s : ℕ) → s < length lengths → 0 < get_or lengths s 0
 
   pub all_expand : AllKnown → (s : ℕ) → HasExpansion entries s
-  all_expand known s there = let many : length lengths ≡ length entries = found.as_many in expands_at s there (known s (omega (arith, there, many)))
+  all_expand known s there = let many : length lengths ≡ length entries = found.same_length in expands_at s there (known s (omega (arith, there, many)))
 
   short_at : AllKnown → (s : ℕ) → s < length entries → get_or lengths s 0 ≤ 256 → (values : List ℕ) × Expands entries s values × (length values ≤ 256) × (get_or lengths s 0 ≡ length values)
   short_at known s there few =
-      let many : length lengths ≡ length entries = found.as_many in
+      let many : length lengths ≡ length entries = found.same_length in
       let x = (found.each s there).known (known s (omega (arith, there, many))) in
       (x.0, x.1, omega (arith, x.2, few), omega (arith, x.2, few))
 
   pub first_too_long : AllKnown → (s : ℕ) → IsFirstIndex (λ n. 256 < n) lengths s → FailsFirst (HasShortExpansion entries) s
   first_too_long known s first =
-      let many : length lengths ≡ length entries = found.as_many in
+      let many : length lengths ≡ length entries = found.same_length in
       let there : s < length entries = omega (arith, first.there, many) in
       record {
         before = λ k lt k_there. elim (cases_lt 256 (get_or lengths k 0)) [
@@ -54,13 +54,13 @@ module _ (entries : List (List ℕ)) (lengths : List ℕ) (found : AreLengths en
   abbrev AllShort : Type 0
   AllShort = (s : ℕ) → s < length lengths → get_or lengths s 0 ≤ 256
 
-  pub all_kept : AllKnown → AllShort → length entries ≤ 65535 → IsKept entries lengths
-  all_kept known short few =
-      let many : length lengths ≡ length entries = found.as_many in
+  pub dict_state : AllKnown → AllShort → length entries ≤ 65535 → IsDictState entries lengths
+  dict_state known short few =
+      let many : length lengths ≡ length entries = found.same_length in
       record {
         dictionary = λ s there. let x = short_at known s there (short s (omega (arith, there, many))) in (x.0, x.1, x.2);
         few = few;
-        as_many = many;
+        same_length = many;
         each = λ s there.
             let x = short_at known s there (short s (omega (arith, there, many))) in
             x.3 ∙ ap length (sym (Expands-expansion_of entries s x.0 x.1 x.2));

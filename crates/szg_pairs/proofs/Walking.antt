@@ -12,9 +12,9 @@ use Rattle.szg_pairs.specs.Entry.{left_of, right_of, is_leaf, NamesSymbols, name
 use Rattle.szg_pairs.specs.Expansion.{Expands, leaf, pair}
 use Rattle.szg_pairs.specs.Walk.{IsLength, AreLengths, HasPart, LengthOfKind, IsMissing, IsSeen, StaysSeen, IsOpen, IsOnPath, IsWalk}
 
--- ---- the end: what is open has no expansion
+-- ---- the end: an open symbol has no expansion
 
--- each symbol that waits waits for another that does
+-- each symbol that waits is waiting for another that waits
 abbrev Waits : List (List ℕ) → List ℕ → Type 0
 Waits entries lengths = (s : ℕ) → s < length entries → get_or lengths s 0 ≡ 0 → (c : ℕ) × HasPart entries s c × (c < length entries) × (get_or lengths c 0 ≡ 0)
 
@@ -35,7 +35,7 @@ module _ (entries : List (List ℕ)) (lengths : List ℕ) (waits : Waits entries
         | inr h ↦ let at : right_of e ≡ w.0 = cc in no_expansion r (ap (λ (k : ℕ). get_or lengths k 0) at ∙ unknown)
       ]
 
--- a pair that names symbols below n has both below n
+-- the two symbols of a pair that names symbols below n are below n
 pub parts_below : (n : ℕ) (entry : List ℕ) → names_symbols_below n entry ≡ true → is_leaf entry ≡ false → (left_of entry < n) × (right_of entry < n)
 unfolding names_symbols_below
 parts_below n entry h paired =
@@ -43,11 +43,11 @@ parts_below n entry h paired =
     let each = and_parts (ltb (left_of entry) n) (ltb (right_of entry) n) both in
     (ltb-true (left_of entry) n each.0, ltb-true (right_of entry) n each.1)
 
--- an entry that is there names what is there
+-- an existing entry names existing symbols
 pub entry_names : (entries : List (List ℕ)) (s : ℕ) (entry : List ℕ) → NamesSymbols entries s → slice_get entries s ≡ Some entry → names_symbols_below (length entries) entry ≡ true
 entry_names entries s entry names a = rw a at names
 
--- a part that is named is there
+-- a child exists
 pub part_there : (entries : List (List ℕ)) (s c : ℕ) → NamesSymbols entries s → HasPart entries s c → c < length entries
 part_there entries s c names h =
     let below = parts_below (length entries) h.0 (entry_names entries s h.0 names h.1) h.2.is_pair in
@@ -64,7 +64,7 @@ lengths_at_end entries lengths seen names walk all =
       | inr stuck ↦ (stuck.0, stuck.1, part_there entries s stuck.0 (names s) stuck.1, stuck.2.unknown)
     ] in
     record {
-      as_many = walk.lengths_as_many;
+      same_length = walk.lengths_count;
       each = λ s there. record {
         known = walk.known s;
         unknown = λ z xs e. no_expansion entries lengths waits e z;
@@ -74,8 +74,8 @@ lengths_at_end entries lengths seen names walk all =
 -- ---- one step
 
 -- the path's last symbol and those before it
-path_place : (path : List ℕ) (x i : ℕ) → i < length (path ++ x ∷ []) → ((i < length path) × (get_or (path ++ x ∷ []) i 0 ≡ get_or path i 0)) ⊎ ((i ≡ length path) × (get_or (path ++ x ∷ []) i 0 ≡ x))
-path_place path x i h =
+path_index : (path : List ℕ) (x i : ℕ) → i < length (path ++ x ∷ []) → ((i < length path) × (get_or (path ++ x ∷ []) i 0 ≡ get_or path i 0)) ⊎ ((i ≡ length path) × (get_or (path ++ x ∷ []) i 0 ≡ x))
+path_index path x i h =
     elim (cases_lt i (length path)) [
       | inl less ↦ inl (less, get_or-append path (x ∷ []) 0 i less)
       | inr more ↦ let same : i ≡ length path = omega (arith, length-append path (x ∷ [])) in
@@ -83,11 +83,11 @@ path_place path x i h =
     ]
 
 module _ (entries : List (List ℕ)) (lengths : List ℕ) (seen : List Bool) (path : List ℕ) where
-  -- a symbol that wasn't seen is entered, below the one that waits for it
+  -- a symbol that was not seen is entered, as a child of the last symbol
   pub walk_enters : (c : ℕ) → IsWalk entries lengths seen path → c < length entries → get_or seen c false ≡ false → ((i : ℕ) → i + 1 ≡ length path → HasPart entries (get_or path i 0) c) →
       IsWalk entries lengths (set seen c true) (path ++ c ∷ [])
   walk_enters c w there unseen waits =
-      let size : length seen ≡ length entries = w.seen_as_many in
+      let size : length seen ≡ length entries = w.seen_count in
       let unknown : get_or lengths c 0 ≡ 0 =
       elim (cases_lt 0 (get_or lengths c 0)) [
         | inl more ↦ let s : get_or seen c false ≡ true = w.known_seen c more in absurd cc
@@ -101,21 +101,21 @@ module _ (entries : List (List ℕ)) (lengths : List ℕ) (seen : List Bool) (pa
       let inside : (i : ℕ) → i < length path → get_or (path ++ c ∷ []) i 0 ≡ get_or path i 0 = λ i h. get_or-append path (c ∷ []) 0 i h in
       let last : get_or (path ++ c ∷ []) (length path) 0 ≡ c = get_or-append_seam path c [] 0 in
       record {
-        lengths_as_many = w.lengths_as_many;
-        seen_as_many = length-set seen c true ∙ size;
+        lengths_count = w.lengths_count;
+        seen_count = length-set seen c true ∙ size;
         known = w.known;
         known_seen = λ s h. more s (w.known_seen s h);
-        path_there = λ i h. elim (path_place path c i h) [
+        path_there = λ i h. elim (path_index path c i h) [
           | inl p ↦ subst (λ (k : ℕ). k < length entries) (sym p.1) (w.path_there i p.0)
           | inr p ↦ subst (λ (k : ℕ). k < length entries) (sym p.1) there
         ];
-        path_open = λ i h. elim (path_place path c i h) [
+        path_open = λ i h. elim (path_index path c i h) [
           | inl p ↦ let o = w.path_open i p.0 in
               subst (λ (k : ℕ). IsOpen lengths (set seen c true) k) (sym p.1) (record { seen_once = more (get_or path i 0) o.seen_once; unknown = o.unknown })
           | inr p ↦ subst (λ (k : ℕ). IsOpen lengths (set seen c true) k) (sym p.1)
               (record { seen_once = get_or-set_same seen c true false (omega (arith, size, there)); unknown = unknown })
         ];
-        path_apart = λ i j lt h e. elim (path_place path c j h) [
+        path_apart = λ i j lt h e. elim (path_index path c j h) [
           | inl p ↦ w.path_apart i j lt p.0 (sym (inside i (omega (arith, lt, p.0))) ∙ e ∙ p.1)
           | inr p ↦
               let il : i < length path = omega (arith, lt, p.0) in
@@ -124,7 +124,7 @@ module _ (entries : List (List ℕ)) (lengths : List ℕ) (seen : List Bool) (pa
               let yes : get_or seen c false ≡ true = subst (λ (k : ℕ). IsSeen seen k) same o.seen_once in
               absurd cc
         ];
-        path_waits = λ i h. elim (path_place path c (i + 1) h) [
+        path_waits = λ i h. elim (path_index path c (i + 1) h) [
           | inl p ↦ rw (p.1, inside i (omega (arith, p.0))) (w.path_waits i p.0)
           | inr p ↦ rw (p.1, inside i (omega (arith, p.0))) (waits i p.0)
         ];
@@ -139,7 +139,7 @@ module _ (entries : List (List ℕ)) (lengths : List ℕ) (seen : List Bool) (pa
                   stuck.1,
                   record { seen_once = more stuck.0 stuck.2.seen_once; unknown = stuck.2.unknown },
                   λ on.
-                      elim (path_place path c on.0 on.1) [
+                      elim (path_index path c on.0 on.1) [
                         | inl p ↦ stuck.3 (on.0, p.0, sym p.1 ∙ on.2)
                         | inr p ↦
                             let same : stuck.0 ≡ c = sym on.2 ∙ p.1 in
@@ -151,10 +151,10 @@ module _ (entries : List (List ℕ)) (lengths : List ℕ) (seen : List Bool) (pa
         ];
       }
 
-  -- the last symbol's length is found, and the path is left by it
+  -- the last symbol's length is computed, and the symbol leaves the path
   pub walk_leaves : (x n : ℕ) → IsWalk entries lengths seen (path ++ x ∷ []) → IsLength entries x n → 0 < n → IsWalk entries (set lengths x n) seen path
   walk_leaves x n w found some =
-      let size : length lengths ≡ length entries = w.lengths_as_many in
+      let size : length lengths ≡ length entries = w.lengths_count in
       let inside : (i : ℕ) → i < length path → get_or (path ++ x ∷ []) i 0 ≡ get_or path i 0 = λ i h. get_or-append path (x ∷ []) 0 i h in
       let last : get_or (path ++ x ∷ []) (length path) 0 ≡ x = get_or-append_seam path x [] 0 in
       let longer : length (path ++ x ∷ []) ≡ length path + 1 = length-append path (x ∷ []) in
@@ -165,8 +165,8 @@ module _ (entries : List (List ℕ)) (lengths : List ℕ) (seen : List Bool) (pa
       let other : (s : ℕ) → (s ≡ x → ⊥) → get_or (set lengths x n) s 0 ≡ get_or lengths s 0 = λ s ne. get_or-set_other lengths x s n 0 ne in
       let apart : (i : ℕ) → i < length path → get_or path i 0 ≡ x → ⊥ = λ i h e. w.path_apart i (length path) h at_end (inside i h ∙ e ∙ sym last) in
       record {
-        lengths_as_many = length-set lengths x n ∙ size;
-        seen_as_many = w.seen_as_many;
+        lengths_count = length-set lengths x n ∙ size;
+        seen_count = w.seen_count;
         known = λ s h. elim (cases_eq s x) [
           | inl e ↦ rw (e, same) found
           | inr ne ↦ let o = other s ne in rw o (w.known s (subst (λ (k : ℕ). 0 < k) o h))
@@ -186,7 +186,7 @@ module _ (entries : List (List ℕ)) (lengths : List ℕ) (seen : List Bool) (pa
           | inr ne ↦
               let was : IsOpen lengths seen s = record { seen_once = o.seen_once; unknown = sym (other s ne) ∙ o.unknown } in
               elim (w.others_stuck s was) [
-                | inl on ↦ elim (path_place path x on.0 on.1) [
+                | inl on ↦ elim (path_index path x on.0 on.1) [
                   | inl p ↦ inl (on.0, p.0, sym p.1 ∙ on.2)
                   | inr p ↦ absurd (ne (sym on.2 ∙ p.1))
                 ]
@@ -209,8 +209,8 @@ module _ (entries : List (List ℕ)) (lengths : List ℕ) (seen : List Bool) (pa
       let longer : length (path ++ x ∷ []) ≡ length path + 1 = length-append path (x ∷ []) in
       let off : (k : ℕ) → IsOnPath [] k → ⊥ = λ k on. absurd (omega (arith, on.1)) in
       record {
-        lengths_as_many = w.lengths_as_many;
-        seen_as_many = w.seen_as_many;
+        lengths_count = w.lengths_count;
+        seen_count = w.seen_count;
         known = w.known;
         known_seen = w.known_seen;
         path_there = λ i h. absurd (omega (arith, h));
@@ -218,7 +218,7 @@ module _ (entries : List (List ℕ)) (lengths : List ℕ) (seen : List Bool) (pa
         path_apart = λ i j lt h. absurd (omega (arith, h));
         path_waits = λ i h. absurd (omega (arith, h));
         others_stuck = λ s o. elim (w.others_stuck s o) [
-          | inl on ↦ elim (path_place path x on.0 on.1) [
+          | inl on ↦ elim (path_index path x on.0 on.1) [
             | inl p ↦
                 let next : on.0 + 1 < length (path ++ x ∷ []) = omega (arith, p.0, longer) in
                 inr (get_or (path ++ x ∷ []) (on.0 + 1) 0, subst (λ (k : ℕ). HasPart entries k (get_or (path ++ x ∷ []) (on.0 + 1) 0)) on.2 (w.path_waits on.0 next), w.path_open (on.0 + 1) next, off (get_or (path ++ x ∷ []) (on.0 + 1) 0))
@@ -230,7 +230,7 @@ module _ (entries : List (List ℕ)) (lengths : List ℕ) (seen : List Bool) (pa
 
 -- ---- the work that is left
 
--- each symbol that is entered takes one from those that weren't seen
+-- each symbol that is entered reduces the number of symbols that were not seen by one
 pub unseen-set : (seen : List Bool) (c : ℕ) → c < length seen → get_or seen c false ≡ false → count_by not (set seen c true) + 1 ≡ count_by not seen
 unseen-set seen c there unseen =
     let f : Bool → ℕ = λ b. cond (not b) 1 0 in
@@ -240,7 +240,7 @@ unseen-set seen c there unseen =
 
 -- ---- the length of one symbol
 
--- a leaf has one value, and a pair as many as its two symbols
+-- a leaf has one value, and a pair the sum of its two symbols' numbers
 pub length_of_symbol : (entries : List (List ℕ)) (lengths : List ℕ) (s n : ℕ) (entry : List ℕ) → ((k : ℕ) → 0 < get_or lengths k 0 → IsLength entries k (get_or lengths k 0)) → slice_get entries s ≡ Some entry →
     (b : Bool) → is_leaf entry ≡ b → LengthOfKind b entry lengths n → IsLength entries s n × (0 < n)
 length_of_symbol entries lengths s n entry known a true p h = ((left_of entry ∷ [], leaf a p, h), omega (arith, h))
@@ -296,7 +296,7 @@ module _ (entries : List (List ℕ)) (lengths : List ℕ) (seen : List Bool) (pa
       walk_enters entries lengths seen path c walk (part_there entries x c names (part_of_last c missing)) unseen
       (λ i h. let e : i ≡ length path - 1 = omega (arith, h) in rw (e, last_at) (part_of_last c missing))
 
--- ---- the walk's beginning, at a symbol that wasn't seen
+-- ---- the beginning of the walk, at a symbol that was not seen
 
 pub stays_seen : (seen : List Bool) (c : ℕ) → c < length seen → StaysSeen seen (set seen c true)
 stays_seen seen c there s h =

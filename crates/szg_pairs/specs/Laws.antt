@@ -7,7 +7,7 @@ use Rattle.szg_pairs.specs.FirstFault.{first_child, first_cycle, first_long}
 use Rattle.szg_pairs.specs.declared.DictFault.{DictFault}
 use Rattle.szg_pairs.specs.declared.DictFault.TheVariants.{Child, Cycle, LongSymbol, Memory}
 
--- a symbol expands to one list at most
+-- a symbol expands to at most one list
 abbrev pub OneExpansion : Type 0
 OneExpansion = (entries : List (List ℕ)) (s : ℕ) (xs ys : List ℕ) → Expands entries s xs → Expands entries s ys → xs ≡ ys
 
@@ -15,23 +15,23 @@ OneExpansion = (entries : List (List ℕ)) (s : ℕ) (xs ys : List ℕ) → Expa
 abbrev pub NoneEmpty : Type 0
 NoneEmpty = (entries : List (List ℕ)) (s : ℕ) (xs : List ℕ) → Expands entries s xs → 0 < length xs
 
--- an expansion of at most 256 values is the one that the function gives
+-- an expansion of at most 256 values is the one that expansion_of returns
 abbrev pub ExpansionIsOf : Type 0
 ExpansionIsOf = (entries : List (List ℕ)) (s : ℕ) (xs : List ℕ) → Expands entries s xs → length xs ≤ 256 → expansion_of entries s ≡ xs
 
--- an accepted dictionary has no fault: only memory may be refused
+-- an accepted dictionary has no fault; only memory may be refused
 abbrev pub AcceptedHasNoFault : Type 0
 AcceptedHasNoFault = (entries : List (List ℕ)) → IsDictionary entries → (fault : DictFault) → IsDictionaryFault entries fault → fault ≡ Memory
 
--- any other has one fault at most, beside refused memory
+-- any other dictionary has at most one fault, apart from refused memory
 abbrev pub OneFault : Type 0
 OneFault = (entries : List (List ℕ)) (f g : DictFault) → IsDictionaryFault entries f → IsDictionaryFault entries g → (f ≡ Memory) ⊎ ((g ≡ Memory) ⊎ (f ≡ g))
 
--- what is found is nothing where P holds of all numbers, and else the least of which it does not hold
+-- `found` is None if P holds for all numbers, else the least number for which it does not hold
 abbrev pub FindsFirst : (ℕ → Type 0) → Option ℕ → Type 0
 FindsFirst P found = ((found ≡ None) ↔ ((n : ℕ) → P n)) × ((n : ℕ) → (found ≡ Some n) ↔ FailsFirst P n)
 
--- first_child finds the least symbol whose pair names a symbol that isn't there
+-- first_child finds the least symbol whose pair has a child that does not exist
 abbrev pub FirstChildFinds : Type 0
 FirstChildFinds = (entries : List (List ℕ)) → FindsFirst (NamesSymbols entries) (first_child entries)
 
@@ -39,11 +39,12 @@ FirstChildFinds = (entries : List (List ℕ)) → FindsFirst (NamesSymbols entri
 abbrev pub FirstCycleFinds : Type 0
 FirstCycleFinds = (entries : List (List ℕ)) → FindsFirst (HasExpansion entries) (first_cycle entries)
 
--- where all symbols have one, first_long finds the least symbol of more than 256 values
+-- if all symbols have one, first_long finds the least symbol of more than 256 values
 abbrev pub FirstLongFinds : Type 0
 FirstLongFinds = (entries : List (List ℕ)) → first_cycle entries ≡ None → FindsFirst (HasShortExpansion entries) (first_long entries)
 
--- a dictionary is accepted exactly where none of the three finds a symbol; else the first that does tells the fault
+-- a dictionary is accepted exactly if none of the three finds a symbol; else the first that finds one determines
+-- the fault
 abbrev pub FoundIsFault : Type 0
 FoundIsFault = (entries : List (List ℕ)) →
     (IsDictionary entries ↔ ((first_child entries ≡ None) × (first_cycle entries ≡ None) × (first_long entries ≡ None)))

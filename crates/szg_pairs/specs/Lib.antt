@@ -4,4 +4,4 @@ pub mod Dictionary
 pub mod Laws
 pub mod FirstFault
 pub mod Walk
-pub mod Kept
+pub mod State

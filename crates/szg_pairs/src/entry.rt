@@ -1,13 +1,14 @@
-//! An entry of a dictionary, three bytes of the file: the symbol's left and right numbers, of 12 bits each.
+//! An entry of a dictionary: three bytes of the file, which hold the symbol's left and right numbers of 12 bits
+//! each.
 ghost use Rattle.std.specs.Prelude.{◌≡◌};
 ghost use Rattle.szg_pairs.specs.Entry.{left_of, right_of, is_leaf, names_symbols_below};
 
 use byteorder::{ByteOrder, LittleEndian};
 
-/// The right number of a leaf, which is no symbol.
+/// The right number of a leaf. It is not a symbol.
 const LEAF: u16 = 0xfff;
 
-/// The left number of an entry, 0 to 4095: a leaf's value, or the first symbol of a pair. These are the low
+/// Returns the left number of an entry, 0 to 4095: a leaf's value, or the first symbol of a pair. These are the low
 /// 12 of the 24 bits, as the probing code reads them (`lr[0] | (lr[1] & 0xf) << 8`).
 pub fn left(entry: [u8; 3]) -> u16
     ensures { result ≡ left_of entry }
@@ -15,22 +16,22 @@ pub fn left(entry: [u8; 3]) -> u16
     LittleEndian::read_u16(&[entry[0], entry[1] % 0x10])
 }
 
-/// The right number of an entry, 0 to 4095: 4095 for a leaf, or the second symbol of a pair. These are the
-/// high 12 of the 24 bits, as the probing code reads them (`lr[2] << 4 | lr[1] >> 4`).
+/// Returns the right number of an entry, 0 to 4095: 4095 for a leaf, else the second symbol of a pair. These are
+/// the high 12 of the 24 bits, as the probing code reads them (`lr[2] << 4 | lr[1] >> 4`).
 pub fn right(entry: [u8; 3]) -> u16
     ensures { result ≡ right_of entry }
 {
     LittleEndian::read_u16(&entry[1..]) / 0x10
 }
 
-/// Whether the entry is a leaf, which stands for one value, and not a pair of symbols.
+/// Returns whether the entry is a leaf, which has one value, and not a pair of symbols.
 pub fn is_leaf(entry: [u8; 3]) -> bool
     ensures { result ≡ is_leaf entry }
 {
     right(entry) == LEAF
 }
 
-/// Whether the entry is a leaf, or a pair of two of the first so many symbols.
+/// Returns whether the entry is a leaf, or a pair of symbols that are both below `symbols`.
 pub(crate) fn names_symbols_below(symbols: u16, entry: [u8; 3]) -> bool
     ensures { result ≡ names_symbols_below symbols entry }
 {

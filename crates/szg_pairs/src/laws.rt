@@ -1,17 +1,17 @@
-//! Laws over the definitions: the contract of each function is a law, and its body is empty.
+//! Laws over the definitions. The contract of each function is a law, and its body is empty.
 ghost use Rattle.szg_pairs.specs.Laws.{AcceptedHasNoFault, ExpansionIsOf, FirstChildFinds, FirstCycleFinds, FirstLongFinds, FoundIsFault, NoneEmpty, OneExpansion, OneFault};
 
-/// A symbol expands to one list of values at most.
+/// A symbol expands to at most one list of values.
 pub fn one_expansion()
     ensures { OneExpansion }
 {}
 
-/// No symbol expands to no values.
+/// No expansion is empty.
 pub fn none_empty()
     ensures { NoneEmpty }
 {}
 
-/// The expansion as a function is the one of the rules.
+/// The function `expansion_of` returns the expansion that the rules define.
 pub fn expansion_is_of()
     ensures { ExpansionIsOf }
 {}
@@ -21,12 +21,12 @@ pub fn accepted_has_no_fault()
     ensures { AcceptedHasNoFault }
 {}
 
-/// A dictionary has one fault at most, beside refused memory.
+/// A dictionary has at most one fault, apart from refused memory.
 pub fn one_fault()
     ensures { OneFault }
 {}
 
-/// The function `first_child` finds the least symbol whose pair names a symbol that isn't there.
+/// The function `first_child` finds the least symbol whose pair has a child that does not exist.
 pub fn first_child_finds()
     ensures { FirstChildFinds }
 {}
@@ -36,13 +36,13 @@ pub fn first_cycle_finds()
     ensures { FirstCycleFinds }
 {}
 
-/// Where `first_cycle` finds nothing, the function `first_long` finds the least symbol of more than 256 values.
+/// If `first_cycle` finds nothing, the function `first_long` finds the least symbol of more than 256 values.
 pub fn first_long_finds()
     ensures { FirstLongFinds }
 {}
 
-/// A dictionary is accepted exactly where the three functions find nothing, and else the first that finds a symbol
-/// tells the fault that `Dict::new` tells.
+/// A dictionary is accepted exactly if the three functions find nothing. Otherwise the first of them that finds a
+/// symbol determines the fault that `Dict::new` returns.
 pub fn found_is_fault()
     ensures { FoundIsFault }
 {}

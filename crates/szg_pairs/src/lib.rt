@@ -1,4 +1,4 @@
-//! Pair dictionaries of Syzygy tables: symbols, each of them a value or a pair of symbols.
+//! Pair dictionaries of Syzygy tables: each symbol is a single value or a pair of symbols.
 #![tactic(auto)]
 
 ghost use Rattle.std.specs.Prelude.{◌≡◌, ◌<◌, ◌≤◌, length, slice_get, ℕ, Some, IfOk, IfErr, IsErrOf, OnOk};
@@ -17,16 +17,16 @@ mod faults;
 pub mod laws;
 mod walk;
 
-/// Why a dictionary is refused, with the least symbol at fault.
+/// Why a dictionary is refused, with the least faulty symbol.
 #[derive(Debug, PartialEq, Eq, Drop)]
 pub enum DictFault {
-    /// The symbol is a pair that names a symbol which isn't there.
+    /// The symbol is a pair with a child that does not exist.
     Child(u16),
     /// The symbol has no finite expansion.
     Cycle(u16),
     /// The symbol expands to more than 256 values.
     LongSymbol(u16),
-    /// Memory was refused. No clause says that it comes only there.
+    /// Memory was refused. No clause says that this is the only cause.
     Memory,
 }
 
@@ -41,20 +41,20 @@ impl From<AllocError> for DictFault {
     }
 }
 
-/// The end of a descent through a symbol's pairs.
+/// The leaf that a descent through a symbol's pairs ends at.
 #[derive(Debug, Clone, Copy, PartialEq, Eq)]
 pub struct Descent {
     /// The value of the leaf.
     pub value: u16,
-    /// The number of pairs passed, 0 to 255.
+    /// The number of pairs that the descent went through, 0 to 255.
     pub pairs: u16,
 }
 
-/// A dictionary in which each symbol expands to 1 to 256 values.
+/// A dictionary in which every symbol expands to 1 to 256 values.
 ///
-/// Symbols are numbered from 0. An entry, three bytes of the file, says what its symbol stands for: one value,
-/// or the values of one symbol followed by those of another. This is the pairing of de Man's format, where
-/// the probing code calls the symbols' entries `symPat` and their lengths, less one, `symLen`.
+/// Symbols are numbered from 0. The entry of a symbol, three bytes of the file, is a leaf with one value or a pair:
+/// the values of one symbol followed by those of another. This is the pairing of de Man's format. The probing code
+/// calls the entries `symPat` and the lengths, less one, `symLen`.
 #[derive(Drop)]
 pub struct Dict {
     entries: Vec<[u8; 3]>,
@@ -63,24 +63,24 @@ pub struct Dict {
 
 impl Model for Dict {
     ghost use Rattle.std.specs.Prelude.{ℕ, List};
-    ghost use Rattle.szg_pairs.specs.Kept.{IsKept};
+    ghost use Rattle.szg_pairs.specs.State.{IsDictState};
 
     ghost Value = { List (List ℕ) };
 
     ghost view = { λ dict. dict.entries.items };
 
-    ghost invariant = { λ dict. IsKept dict.entries.items dict.lengths.items };
+    ghost invariant = { λ dict. IsDictState dict.entries.items dict.lengths.items };
 }
 
 impl Dict {
-    /// The dictionary of these entries, of which entry `s` is that of symbol `s`, at most 65,535.
+    /// Creates the dictionary of at most 65,535 entries; entry `s` belongs to symbol `s`.
     ///
-    /// Refused with `Child` where an entry names a symbol that isn't there; else with `Cycle` where a symbol
-    /// has no finite expansion; else with `LongSymbol` where a symbol has more than 256 values; each carries
-    /// the least such symbol. `Memory` comes where a list of the look for the others could not grow, so never
-    /// where there is a `Child`; that it comes for no other reason is seen by reading, and by tests, since no
-    /// clause can say what an allocator gives. The work is linear in the number of entries, and no call nests by
-    /// the depth of the pairs.
+    /// Errors: `Child` if an entry has a child that does not exist; else `Cycle` if a symbol has no finite
+    /// expansion; else `LongSymbol` if a symbol has more than 256 values. Each carries the least such symbol.
+    /// `Memory` if a list of the search for the last two could not grow, so never if there is a `Child`. That
+    /// `Memory` has no other cause is seen by reading and by tests, since no clause can say what an allocator
+    /// returns. The running time is linear in the number of entries, and the call depth does not grow with the
+    /// depth of the pairs.
     pub fn new(alloc: Global, entries: Vec<[u8; 3]>) -> Result<Dict, DictFault>
         requires { length entries.items ≤ 65535 }
         ensures accepted { IfOk result (λ dict. (dict ≡ entries.items) × IsDictionary entries.items) }
@@ -100,7 +100,7 @@ impl Dict {
         Ok(Dict { entries, lengths })
     }
 
-    /// The number of symbols, 0 to 65,535.
+    /// Returns the number of symbols, 0 to 65,535.
     pub fn symbols(&self) -> u16
         ensures number { result ≡ length self.now }
         ensures dictionary { IsDictionary self.now }
@@ -108,7 +108,7 @@ impl Dict {
         self.entries.len() as u16
     }
 
-    /// The entry of symbol `s`, as it was handed in.
+    /// Returns the entry of symbol `s`, unchanged.
     pub fn entry(&self, s: u16) -> [u8; 3]
         requires { s < length self.now }
         ensures { slice_get self.now s ≡ Some result }
@@ -116,7 +116,7 @@ impl Dict {
         self.entries[s as usize]
     }
 
-    /// The number of values of symbol `s`, 1 to 256.
+    /// Returns the number of values of symbol `s`, 1 to 256.
     pub fn len(&self, s: u16) -> u16
         requires { s < length self.now }
         ensures number { result ≡ length (expansion_of self.now s) }
@@ -126,7 +126,7 @@ impl Dict {
         self.lengths[s as usize]
     }
 
-    /// Value `i` of symbol `s`, 0 to 4,095, found by a descent.
+    /// Returns value `i` of symbol `s`, 0 to 4,095, by a descent.
     pub fn value_at(&self, s: u16, i: u16) -> u16
         requires there { s < length self.now }
         requires within { i < length (expansion_of self.now s) }
@@ -135,8 +135,8 @@ impl Dict {
         self.descend(s, i).value
     }
 
-    /// Value `i` of symbol `s`, and the number of pairs above it, at most 255. As in the probing code, the
-    /// descent goes down the pairs by the lengths of their left symbols.
+    /// Returns value `i` of symbol `s` and the number of pairs above it, at most 255. As in the probing code, the
+    /// descent compares `i` with the length of each left symbol.
     pub fn descend(&self, s: u16, i: u16) -> Descent
         requires there { s < length self.now }
         requires within { i < length (expansion_of self.now s) }
@@ -167,8 +167,8 @@ impl Dict {
         }
     }
 
-    /// The values of symbol `s`, 1 to 256, in their order. Refused where memory was; that it is refused for no
-    /// other reason is seen by reading, and by tests.
+    /// Returns the values of symbol `s`, 1 to 256, in their order. Errors: refused memory. That it has no other
+    /// cause is seen by reading and by tests.
     pub fn expand(&self, alloc: Global, s: u16) -> Result<Vec<u16>, AllocError>
         requires { s < length self.now }
         ensures { IfOk result (λ values. values.items ≡ expansion_of self.now s) }

@@ -1,5 +1,5 @@
-//! How many values each symbol has, found by a walk down the pairs: each symbol is entered once, and no call
-//! goes deeper than the last.
+//! Computes the number of values of each symbol by a walk down the pairs. Each symbol is entered once, and the path
+//! is a list, so the call depth does not grow with the depth of the pairs.
 ghost use Rattle.std.specs.Prelude.{ℕ, true, ◌≡◌, ◌-◌, ◌<◌, ◌≤◌, [], ◌∷◌, ◌++◌, length, slice_get, slice_set, slice_index, Some, IsTrue, IfOk, IfErr, IfSome, OnOk};
 ghost use Rattle.szg_pairs.specs.Entry.{is_leaf, names_symbols_below, NamesSymbols};
 ghost use Rattle.szg_pairs.specs.Walk.{AreLengths, LengthOfKind, IsMissing, IsWalk, IsSeen, StaysSeen, work_left};
@@ -7,22 +7,22 @@ ghost use Rattle.szg_pairs.specs.Walk.{AreLengths, LengthOfKind, IsMissing, IsWa
 use crate::entry::{is_leaf, left, right};
 use std::alloc::{AllocError, Global};
 
-/// Stands for each length of more than 256 values.
+/// Represents every length of more than 256 values.
 const LONG: u16 = 257;
 
 /// A walk down the pairs.
 #[derive(Drop)]
 struct Walk {
-    /// The length of each symbol, or 0 where it isn't known yet.
+    /// The length of each symbol, or 0 while it is unknown.
     lengths: Vec<u16>,
-    /// Which symbols were ever entered.
+    /// Which symbols have been entered.
     seen: Vec<bool>,
-    /// The symbols from the first one down to the one that the walk has come to, each a part of the one before.
+    /// The symbols from the start of the walk down to the current one; each is a child of the one before.
     path: Vec<u16>,
 }
 
-/// The number of values of each symbol, 257 where they are more than 256, and 0 where it has no finite
-/// expansion. Each symbol is entered once and left once.
+/// Returns the number of values of each symbol: 257 if it has more than 256, and 0 if it has no finite expansion.
+/// Each symbol is entered once and left once.
 pub(crate) fn find_lengths(alloc: Global, entries: &[[u8; 3]]) -> Result<Vec<u16>, AllocError>
     requires few { length entries.now ≤ 65535 }
     requires named { (s : ℕ) → NamesSymbols entries.now s }
@@ -39,7 +39,7 @@ pub(crate) fn find_lengths(alloc: Global, entries: &[[u8; 3]]) -> Result<Vec<u16
     Ok(walk.lengths)
 }
 
-/// The length of a known symbol, else the symbol.
+/// Returns the length of a symbol. Errors: the symbol, if its length is unknown.
 fn known(lengths: &[u16], symbol: u16) -> Result<u16, u16>
     requires { symbol < length lengths.now }
     ensures ok { IfOk result (λ n. (n ≡ slice_index lengths.now symbol) × (0 < n)) }
@@ -51,7 +51,7 @@ fn known(lengths: &[u16], symbol: u16) -> Result<u16, u16>
     }
 }
 
-/// The length of an entry's symbol, else the first symbol that has to be known before.
+/// Returns the length of an entry's symbol. Errors: the first of its children whose length is unknown.
 fn length_of(entry: [u8; 3], lengths: &[u16]) -> Result<u16, u16>
     requires { IsTrue (names_symbols_below (length lengths.now) entry) }
     ensures ok { IfOk result (λ n. LengthOfKind (is_leaf entry) entry lengths.now n) }
@@ -66,14 +66,15 @@ fn length_of(entry: [u8; 3], lengths: &[u16]) -> Result<u16, u16>
 }
 
 impl Walk {
-    /// Enters a symbol, and goes on until each symbol below it is known or stuck in a cycle.
+    /// Enters a symbol that has not been seen, and continues until the length of each symbol below it is known, or
+    /// a cycle ends the walk.
     fn visit(&mut self, entries: &[[u8; 3]], symbol: u16) -> Result<(), AllocError>
         requires there { symbol < length entries.now }
         requires named { (s : ℕ) → NamesSymbols entries.now s }
         requires walk { IsWalk entries.now self.old.lengths.items self.old.seen.items [] }
-        requires at_rest { self.old.path.items ≡ [] }
+        requires path_empty { self.old.path.items ≡ [] }
         ensures walk { OnOk result (IsWalk entries.now self.new.lengths.items self.new.seen.items []) }
-        ensures at_rest { OnOk result (self.new.path.items ≡ []) }
+        ensures path_empty { OnOk result (self.new.path.items ≡ []) }
         ensures entered { OnOk result (IsSeen self.new.seen.items symbol) }
         ensures stays { OnOk result (StaysSeen self.old.seen.items self.new.seen.items) }
     {
@@ -87,7 +88,7 @@ impl Walk {
         Ok(())
     }
 
-    /// Marks a symbol as seen, and puts it at the path's end.
+    /// Marks a symbol as seen, and appends it to the path.
     fn enter(&mut self, symbol: u16) -> Result<(), AllocError>
         requires { symbol < length self.old.seen.items }
         ensures lengths { self.new.lengths.items ≡ self.old.lengths.items }
@@ -99,15 +100,16 @@ impl Walk {
         Ok(())
     }
 
-    /// Goes on from the path's last symbol: up where its length is known by now, else down to a symbol that
-    /// it waits for. Where that one was seen before, no symbol on the path has a finite expansion.
+    /// Takes one step from the last symbol of the path: up if its length can be computed, else down to a child
+    /// whose length is unknown. If that child was seen before, no symbol on the path has a finite expansion, and
+    /// the path is cleared.
     fn step(&mut self, entries: &[[u8; 3]], last: u16) -> Result<(), AllocError>
         requires named { (s : ℕ) → NamesSymbols entries.now s }
         requires walk { IsWalk entries.now self.old.lengths.items self.old.seen.items self.old.path.items }
         requires is_last { slice_get self.old.path.items (length self.old.path.items - 1) ≡ Some last }
         ensures walk { OnOk result (IsWalk entries.now self.new.lengths.items self.new.seen.items self.new.path.items) }
         ensures stays { OnOk result (StaysSeen self.old.seen.items self.new.seen.items) }
-        ensures nearer { OnOk result (work_left self.new.seen.items self.new.path.items < work_left self.old.seen.items self.old.path.items) }
+        ensures decreases { OnOk result (work_left self.new.seen.items self.new.path.items < work_left self.old.seen.items self.old.path.items) }
     {
         match length_of(entries[last as usize], &self.lengths) {
             Ok(length) => {

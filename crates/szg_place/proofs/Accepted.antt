@@ -8,8 +8,9 @@ use Rattle.szg_values.specs.Material.{Sides, IsMaterial, has_pawns, is_symmetric
 use Rattle.szg_count.specs.Groups.{nibbles_of, order_fault}
 use Rattle.szg_file.specs.Contents.{Part, Contents, part_numbers, side_numbers, order_of}
 use Rattle.szg_file.specs.Accepted.{SideBySide, IsPart, IsAccepted}
+use Rattle.szg_file.specs.Index.{Index, index_of}
 use Rattle.szg_place.specs.Layout.{IsLayout, nibbles_at, is_dtz}
-use Rattle.szg_place.specs.Tables.{numbering_of}
+use Rattle.szg_place.specs.Tables.{numbering_of, numbering_in}
 
 -- the item beside one
 pub side_get : {A B : Type 0} (Q : B → Type 0) (xs : List A) (ys : List B) (i : ℕ) → SideBySide (λ _. Q) xs ys → i < length xs → (y : B) × (slice_get ys i ≡ Some y) × Q y
@@ -45,16 +46,19 @@ none_holds : {A : Type 0} (o : Option A) → o ≡ None → IsNone o
 none_holds None e = refl
 none_holds (Some x) e = cc
 
--- an accepted table's parts order their groups without a fault
-pub accepted_numbering : (t : Contents) (fill : List ℕ) → IsMaterial t.material → IsAccepted t fill → IsLayout (numbering_of t)
-accepted_numbering t fill m a = record {
+-- parts that pass their checks order their groups without a fault
+pub parts_numbering : (x : Index) → IsMaterial x.material → SideBySide (λ _. IsPart x.material x.kind) (part_numbers x.material) x.parts → IsLayout (numbering_in x)
+parts_numbering x m stand = record {
   material = m;
-  parts = side_length (λ _. IsPart t.material t.kind) (part_numbers t.material) t.parts a.parts ∙ parts_many t.material;
+  parts = side_length (λ _. IsPart x.material x.kind) (part_numbers x.material) x.parts stand ∙ parts_many x.material;
   ordered = λ part side p s.
-      let many = parts_many t.material in
-      let r = side_get (IsPart t.material t.kind) (part_numbers t.material) t.parts part a.parts (omega (arith, many, p)) in
-      let ok : order_fault t.material (order_of side r.0) ≡ None = each_side (λ side. order_fault t.material (order_of side r.0) ≡ None) t.material t.kind side r.2.sides s in
-      let same : nibbles_at (numbering_of t) part side ≡ order_of side r.0 =
+      let many = parts_many x.material in
+      let r = side_get (IsPart x.material x.kind) (part_numbers x.material) x.parts part stand (omega (arith, many, p)) in
+      let ok : order_fault x.material (order_of side r.0) ≡ None = each_side (λ side. order_fault x.material (order_of side r.0) ≡ None) x.material x.kind side r.2.sides s in
+      let same : nibbles_at (numbering_in x) part side ≡ order_of side r.0 =
       ap (λ (o : Option Part). let q = unwrap_or o (let none : Part = record { order = []; men = [] } in none) in nibbles_of side q.order q.men) r.1 in
-      none_holds (order_fault t.material (nibbles_at (numbering_of t) part side)) (ap (order_fault t.material) same ∙ ok);
+      none_holds (order_fault x.material (nibbles_at (numbering_in x) part side)) (ap (order_fault x.material) same ∙ ok);
 }
+
+pub accepted_numbering : (t : Contents) (fill : List ℕ) → IsMaterial t.material → IsAccepted t fill → IsLayout (numbering_of t)
+accepted_numbering t fill m a = parts_numbering (index_of t) m a.parts

@@ -1,18 +1,21 @@
--- Which subtables an accepted table has, and of what size.
-use Rattle.std.proofs.Common.{◌≡◌, ℕ, zero, suc, ◌+◌, ◌<◌, inl, inr, List, [], ◌∷◌, length, sym, ap, ◌∙◌, Bool, true, false, cond, arith}
-use Rattle.std.specs.Prelude.{slice_get, unwrap_or, None, IsSome, IsSomeAnd, nat_eq, ◌&&◌}
+-- Which slots an index has, and of what size.
+use Rattle.std.proofs.Common.{◌≡◌, ℕ, zero, suc, ◌+◌, ◌<◌, inl, inr, List, [], ◌∷◌, length, map, refl, subst, Some, Option, option_map, sym, ap, ◌∙◌, Bool, true, false, cond, arith}
+use Rattle.std.specs.Prelude.{slice_get, unwrap_or, None, IsSome, IsSomeAnd, IfSome, nat_eq, ◌&&◌}
+use Rattle.std.proofs.lemmas.List.{length-map}
 use Rattle.std.proofs.lemmas.Bool.{cases_Bool, eqb-true, eq-eqb, ne_eqb, and_parts}
 use Rattle.szg_values.specs.declared.Kind.{Kind}
 use Rattle.szg_values.specs.declared.Kind.TheVariants.{Wdl, Dtz}
 use Rattle.szg_values.specs.Material.{Sides, is_symmetric}
 use Rattle.szg_count.specs.Groups.{size_of}
-use Rattle.szg_file.specs.Contents.{Part, Subtable, Contents, Slot, slots_from, slots, order_of, side_numbers, part_numbers}
-use Rattle.szg_file.specs.Accepted.{IsAccepted, IsSubtable, IsPart}
+use Rattle.szg_file.specs.Contents.{Part, Subtable, constant, Contents, Slot, slots_from, slots, order_of, side_numbers, part_numbers}
+use Rattle.szg_file.specs.Accepted.{SideBySide, IsPart}
 use Rattle.szg_file.specs.Values.{slotted, found, subtable_at}
+use Rattle.szg_file.specs.Index.{Index, IsIndex, contents_with, slots_in, slot_in}
+use Rattle.szg_file.proofs.IndexLaws.{slot_told}
 use Rattle.szg_file.proofs.TableFinds.{side_lengths}
 use Rattle.szg_place.specs.Layout.{part_count, side_count, is_dtz}
 use Rattle.szg_place.specs.Spots.{size_at}
-use Rattle.szg_place.specs.Tables.{numbering_of}
+use Rattle.szg_place.specs.Tables.{numbering_of, numbering_in}
 use Rattle.szg_place.proofs.Accepted.{parts_many}
 
 abbrev part_at : List Part → ℕ → Part
@@ -52,16 +55,21 @@ two_sides m number (q ∷ parts) (y ∷ z ∷ ys) (suc i) part side e h p s =
     let f : nat_eq number part ≡ false = ne_eqb number part (λ k. omega (arith, k, p)) in
     rw f (two_sides m (number + 1) parts ys i part side (let k : suc (suc (length ys)) ≡ suc (suc (length (slots_from m (0 ∷ 1 ∷ []) (number + 1) parts))) = e in omega (arith, k)) (omega arith) (omega arith) s)
 
-pub parts_there : (t : Contents) (fill : List ℕ) → IsAccepted t fill → length t.parts ≡ part_count (numbering_of t)
-parts_there t fill a = sym (side_lengths (λ _. IsPart t.material t.kind) (part_numbers t.material) t.parts a.parts) ∙ parts_many t.material
+-- what of a table tells how its slots stand: parts that pass their checks, and as many subtables as slots
+pub record HasSlots (t : Contents) : Type 0 where
+  pub parts : SideBySide (λ _. IsPart t.material t.kind) (part_numbers t.material) t.parts
+  pub many : length t.subtables ≡ length (slots t.material t.kind t.parts)
+
+parts_there : (t : Contents) → HasSlots t → length t.parts ≡ part_count (numbering_of t)
+parts_there t a = sym (side_lengths (λ _. IsPart t.material t.kind) (part_numbers t.material) t.parts a.parts) ∙ parts_many t.material
 
 -- each part and side of an accepted table has a subtable, of the size of its groups
-pub size_there : (t : Contents) (fill : List ℕ) (part side : ℕ) → IsAccepted t fill → part < part_count (numbering_of t) → side < side_count (numbering_of t) →
+size_there : (t : Contents) (part side : ℕ) → HasSlots t → part < part_count (numbering_of t) → side < side_count (numbering_of t) →
     IsSomeAnd (subtable_at t part side) (λ found. found.0.size ≡ size_at (numbering_of t) part side)
 unfolding HasSize size_of
-size_there t fill part side a p s =
-    let many = parts_there t fill a in
-    by_kind t.kind (sym (side_lengths IsSubtable (slots t.material t.kind t.parts) t.subtables a.subtables)) s (omega (arith, many, p))
+size_there t part side a p s =
+    let many = parts_there t a in
+    by_kind t.kind a.many s (omega (arith, many, p))
   where
     by_kind : (kind : Kind) → length t.subtables ≡ length (slots t.material kind t.parts) → side < cond (is_dtz kind) 1 (cond (is_symmetric t.material) 1 2) → part < length t.parts →
         HasSize t.material (side_numbers t.material kind) 0 t.parts t.subtables part part side
@@ -113,10 +121,10 @@ in_two m number (q ∷ parts) (y ∷ z ∷ ys) part side e = elim (cases_Bool (n
   ]
 ]
 
-pub there_below : (t : Contents) (fill : List ℕ) (part side : ℕ) → IsAccepted t fill → IsSome (subtable_at t part side) → (part < part_count (numbering_of t)) × (side < side_count (numbering_of t))
+there_below : (t : Contents) (part side : ℕ) → HasSlots t → IsSome (subtable_at t part side) → (part < part_count (numbering_of t)) × (side < side_count (numbering_of t))
 unfolding IsBelow
-there_below t fill part side a e =
-    let many = parts_there t fill a in
+there_below t part side a e =
+    let many = parts_there t a in
     let r = by_kind t.kind e in
     (omega (arith, r, many), r.1)
   where
@@ -126,3 +134,45 @@ there_below t fill part side a e =
       either : (b : Bool) → IsSome (found part side (slotted (slots_from t.material (cond b (0 ∷ []) (0 ∷ 1 ∷ [])) 0 t.parts) t.subtables)) → IsBelow part side (0 + length t.parts) (cond false 1 (cond b 1 2))
       either true e = in_one t.material 0 t.parts t.subtables part side e
       either false e = in_two t.material 0 t.parts t.subtables part side e
+
+-- ---- the same of an index
+
+-- an index has as many subtables as slots
+fake : Index → Contents
+fake x = contents_with x 0 (map (λ _. constant 0 0) (slots_in x)) []
+
+abbrev pub first_of : Option (Slot × Subtable) → Option Slot
+first_of o = option_map (λ found. found.0) o
+
+first_some : (P : Slot → Type 0) (o : Option (Slot × Subtable)) → IsSomeAnd o (λ found. P found.0) → IsSomeAnd (first_of o) P
+first_some P None h = absurd h
+first_some P (Some x) h = h
+
+pub if_first : (P : Slot → Type 0) (o : Option (Slot × Subtable)) → IfSome o (λ found. P found.0) → IfSome (first_of o) P
+if_first P None h = tt
+if_first P (Some x) h = h
+
+pub some_first : (P : Slot → Type 0) (o : Option (Slot × Subtable)) → IsSomeAnd (first_of o) P → IsSomeAnd o (λ found. P found.0)
+some_first P None h = absurd h
+some_first P (Some x) h = h
+
+is_first : (o : Option (Slot × Subtable)) → IsSome (first_of o) → IsSome o
+is_first None h = absurd (cc h)
+is_first (Some x) h = refl
+
+-- each part and side of an index has a slot, of the size of its groups
+pub slot_size : (x : Index) (part side : ℕ) → IsIndex x → part < part_count (numbering_in x) → side < side_count (numbering_in x) →
+    IsSomeAnd (slot_in x part side) (λ slot. slot.size ≡ size_at (numbering_in x) part side)
+unfolding fake
+slot_size x part side h p s =
+    let many : length (fake x).subtables ≡ length (slots_in x) = length-map (slots_in x) (λ _. constant 0 0) in
+    let there = size_there (fake x) part side (record { parts = h.parts_stand; many = many }) p s in
+    subst (λ (o : Option Slot). IsSomeAnd o (λ slot. slot.size ≡ size_at (numbering_in x) part side)) (slot_told part side (slots_in x) (fake x).subtables (sym many))
+    (first_some (λ slot. slot.size ≡ size_at (numbering_in x) part side) (subtable_at (fake x) part side) there)
+
+pub slot_below : (x : Index) (part side : ℕ) → IsIndex x → IsSome (slot_in x part side) → (part < part_count (numbering_in x)) × (side < side_count (numbering_in x))
+unfolding fake
+slot_below x part side h some =
+    let many : length (fake x).subtables ≡ length (slots_in x) = length-map (slots_in x) (λ _. constant 0 0) in
+    there_below (fake x) part side (record { parts = h.parts_stand; many = many })
+    (is_first (subtable_at (fake x) part side) (subst (λ (o : Option Slot). IsSome o) (sym (slot_told part side (slots_in x) (fake x).subtables (sym many))) some))

@@ -7,7 +7,7 @@ use Rattle.std.proofs.lemmas.Option.{unwrap_or-slice_get}
 use Rattle.szg_values.specs.Material.{Sides, IsMaterial, has_pawns, count_of}
 use Rattle.szg_count.specs.Leads.{squares_down}
 use Rattle.szg_count.specs.Groups.{Nibbles, counted, groups_of, order_fault, lead_length}
-use Rattle.szg_count.specs.Seen.{groups_told}
+use Rattle.szg_count.specs.Views.{groups_in_slot_order}
 use Rattle.szg_count.specs.declared.Group.{Group}
 use Rattle.szg_count.specs.Laws.{IsIn}
 use Rattle.szg_place.specs.Normal.{Piece, squares_with, lead_squares, squares_by_group}
@@ -26,7 +26,7 @@ pub record IsCut (men : List ℕ) (sets : List (List ℕ)) (i : ℕ) (group : Gr
   pub here : take group.length (drop group.first men) ≡ get_or sets i []
   pub room : group.first + group.length ≤ length men
 
-pub cut_of : (sides : Sides) (part : ℕ) (n : Nibbles) (i : ℕ) (group : Group) (groups : List Group) → groups ≡ groups_told (counted sides part n) → i < length groups →
+pub cut_of : (sides : Sides) (part : ℕ) (n : Nibbles) (i : ℕ) (group : Group) (groups : List Group) → groups ≡ groups_in_slot_order (counted sides part n) → i < length groups →
     slice_get groups i ≡ Some group → IsCut n.men (groups_of sides n.men) i group
 cut_of sides part n i group groups e h g =
     let c = counted sides part n in let sets = groups_of sides n.men in
@@ -46,7 +46,7 @@ cut_of sides part n i group groups e h g =
       room = omega (arith, room, long, first, size);
     }
 
-pub told_long : (sides : Sides) (part : ℕ) (n : Nibbles) (groups : List Group) → groups ≡ groups_told (counted sides part n) → length groups ≡ length (groups_of sides n.men)
+pub told_long : (sides : Sides) (part : ℕ) (n : Nibbles) (groups : List Group) → groups ≡ groups_in_slot_order (counted sides part n) → length groups ≡ length (groups_of sides n.men)
 told_long sides part n groups e = ap length e ∙ groups_many (counted sides part n) ∙ ap length (groups_are sides part n)
 
 -- there is a lead group
@@ -145,13 +145,13 @@ later_set sides (lead ∷ groups) pieces (suc i) p h = mapped groups i (omega (a
   mapped (group ∷ groups) zero h = refl
   mapped (group ∷ groups) (suc i) h = mapped groups i (omega (arith, h))
 
-later_run : (sides : Sides) (n : Nibbles) (i : ℕ) → IsMaterial sides → order_fault sides n ≡ None → 0 < i → i < length (groups_of sides n.men) → IsRun (get_or (groups_of sides n.men) i [])
+pub later_run : (sides : Sides) (n : Nibbles) (i : ℕ) → IsMaterial sides → order_fault sides n ≡ None → 0 < i → i < length (groups_of sides n.men) → IsRun (get_or (groups_of sides n.men) i [])
 unfolding groups_of
 later_run sides n zero m o p h = absurd (omega (arith, p))
 later_run sides n (suc i) m o p h = let k = ordered sides n o in
     later_runs sides n.men m k.pieces k.pawns (get_or (later_groups sides n.men) i []) (in_tail (later_groups sides n.men) i (omega (arith, h)))
 
-some_in : (xs : List ℕ) (x : ℕ) → IsIn x xs → 0 < length xs
+pub some_in : (xs : List ℕ) (x : ℕ) → IsIn x xs → 0 < length xs
 some_in [] x h = absurd h
 some_in (y ∷ ys) x h = omega arith
 

@@ -7,7 +7,7 @@ use Rattle.std.proofs.Math.Bool.{not, ◌&&◌}
 use Rattle.std.proofs.lemmas.Bool.{eq-eqb, and_from}
 use Rattle.szg_values.specs.Men.{is_color}
 use Rattle.szg_values.specs.Material.{Sides, IsMaterial, is_symmetric, has_pawns, man_codes, count_of}
-use Rattle.szg_values.specs.Placement.{Standing, Board, AreOnBoard, placement_fault}
+use Rattle.szg_values.specs.Placement.{PlacedMan, Board, AreOnBoard, placement_fault}
 use Rattle.szg_values.specs.declared.Color.{Color}
 use Rattle.szg_values.specs.declared.Color.TheVariants.{White}
 use Rattle.szg_count.specs.Leads.{is_touching}
@@ -16,10 +16,11 @@ use Rattle.szg_count.specs.Laws.{IsIn}
 use Rattle.szg_count.specs.Radix.{index_with}
 use Rattle.szg_count.proofs.Pawns.{peopled, lead_length-fits}
 use Rattle.szg_values.specs.declared.Kind.{Kind}
-use Rattle.szg_file.specs.Contents.{Contents, Part, Slot, Subtable}
-use Rattle.szg_file.specs.File.{flags_of}
+use Rattle.szg_file.specs.Contents.{Contents, Part, Slot}
 use Rattle.szg_file.specs.Accepted.{IsAccepted}
+use Rattle.szg_file.specs.Index.{Index, IsIndex, index_of, slot_in}
 use Rattle.szg_file.specs.Values.{subtable_at}
+use Rattle.szg_file.proofs.IndexLaws.{slot_of_table}
 use Rattle.szg_place.specs.Layout.{Layout, IsLayout, layout_in, is_dtz, nibbles_at, part_count, side_count}
 use Rattle.szg_place.specs.Normal.{Piece, pieces_of, part_of, subtable_side, asked_side, is_exchanged, exchanged_color, chosen_groups, normal_of, normal_pieces, lead_squares, squares_by_group}
 use Rattle.szg_place.specs.Slots.{AreReady}
@@ -27,7 +28,7 @@ use Rattle.szg_place.specs.Spots.{place_fault, is_of_material, is_regular, is_ki
 use Rattle.szg_place.specs.Ranks.{EachInList}
 use Rattle.szg_place.specs.Laws.{IsOnBoard, IsAnswered}
 use Rattle.szg_place.specs.Known.{IsKnown, IsAsked, IsFound, IsLocated, IsLocatedIn}
-use Rattle.szg_place.specs.Tables.{numbering_of}
+use Rattle.szg_place.specs.Tables.{numbering_in}
 use Rattle.szg_place.specs.declared.Spot.{Spot}
 use Rattle.szg_place.specs.declared.PlaceFault.{PlaceFault}
 use Rattle.szg_place.specs.declared.PlaceFault.TheVariants as fault
@@ -38,8 +39,8 @@ use Rattle.szg_place.proofs.Standing.{pieces_stood}
 use Rattle.szg_place.proofs.Normals.{fit, lead_only, in_lists, below_size}
 use Rattle.szg_place.proofs.Indexing.{sets_long, sets_many}
 use Rattle.szg_place.proofs.Grouped.{takes_all, some_group}
-use Rattle.szg_place.proofs.Found.{size_there, there_below}
-use Rattle.szg_place.proofs.Accepted.{accepted_numbering}
+use Rattle.szg_place.proofs.Found.{slot_size, slot_below, some_first}
+use Rattle.szg_place.proofs.Accepted.{parts_numbering}
 
 -- ---- the men
 
@@ -195,32 +196,32 @@ spot_is l board part side index e f g =
     ∙ ap (λ (p : ℕ). make p side (index_with (places_in_lists l.material p [] squares) (counted l.material p (nibbles_at l p side)).factors)) e
     ∙ ap (λ (s : ℕ). let p = part_of l.material (pieces_of l.material board) in make p s (index_with (places_in_lists l.material p [] squares) (counted l.material p (nibbles_at l p s)).factors)) f
 
--- so the table has a value there
-pub spot_below : (t : Contents) (fill : List ℕ) (board : Board) → IsLayout (numbering_of t) → IsAccepted t fill → IsAnswered (numbering_of t) board →
-    (spot : Spot) → spot ≡ spot_of (numbering_of t) board → IsSomeAnd (subtable_at t spot.part spot.side) (λ found. spot.index < found.0.size)
+-- so the index has a slot there
+pub spot_below : (x : Index) (board : Board) → IsLayout (numbering_in x) → IsIndex x → IsAnswered (numbering_in x) board →
+    (spot : Spot) → spot ≡ spot_of (numbering_in x) board → IsSomeAnd (slot_in x spot.part spot.side) (λ slot. spot.index < slot.size)
 unfolding spot_of normal_of
-spot_below t fill board h a answered spot e =
-    let l = numbering_of t in
-    let there = size_there t fill (spot_of l board).part (spot_of l board).side a (part_below l.material (pieces_of l.material board)) (side_below l board) in
+spot_below x board h a answered spot e =
+    let l = numbering_in x in
+    let there = slot_size x (spot_of l board).part (spot_of l board).side a (part_below l.material (pieces_of l.material board)) (side_below l board) in
     let below = below_size l board h answered in
-    subst (λ (s : Spot). IsSomeAnd (subtable_at t s.part s.side) (λ found. s.index < found.0.size)) (sym e)
-    (with_size (subtable_at t (spot_of l board).part (spot_of l board).side) (spot_of l board).index (size_at l (spot_of l board).part (spot_of l board).side) there below)
+    subst (λ (s : Spot). IsSomeAnd (slot_in x s.part s.side) (λ slot. s.index < slot.size)) (sym e)
+    (with_size (slot_in x (spot_of l board).part (spot_of l board).side) (spot_of l board).index (size_at l (spot_of l board).part (spot_of l board).side) there below)
   where
-    with_size : (o : Option (Slot × Subtable)) (i n : ℕ) → IsSomeAnd o (λ found. found.0.size ≡ n) → i < n → IsSomeAnd o (λ found. i < found.0.size)
+    with_size : (o : Option Slot) (i n : ℕ) → IsSomeAnd o (λ slot. slot.size ≡ n) → i < n → IsSomeAnd o (λ slot. i < slot.size)
     with_size None i n e h = absurd e
     with_size (Some x) i n e h = omega (arith, e, h)
 
 -- ---- what the code has found
 
-pub layout_same : (t : Contents) (kind : Kind) (m : Sides) (parts : List Part) (flags : List ℕ) → kind ≡ t.kind → m ≡ t.material → parts ≡ t.parts → flags ≡ map flags_of t.subtables →
-    numbering_of t ≡ layout_in kind m parts flags
-layout_same t kind m parts flags a b c d =
-    ap (λ (k : Kind). layout_in k t.material t.parts (map flags_of t.subtables)) (sym a)
-    ∙ ap (λ (s : Sides). layout_in kind s t.parts (map flags_of t.subtables)) (sym b)
-    ∙ ap (λ (p : List Part). layout_in kind m p (map flags_of t.subtables)) (sym c) ∙ ap (layout_in kind m parts) (sym d)
+pub layout_same : (x : Index) (kind : Kind) (m : Sides) (parts : List Part) (flags : List ℕ) → kind ≡ x.kind → m ≡ x.material → parts ≡ x.parts → flags ≡ x.flags →
+    numbering_in x ≡ layout_in kind m parts flags
+layout_same x kind m parts flags a b c d =
+    ap (λ (k : Kind). layout_in k x.material x.parts x.flags) (sym a)
+    ∙ ap (λ (s : Sides). layout_in kind s x.parts x.flags) (sym b)
+    ∙ ap (λ (p : List Part). layout_in kind m p x.flags) (sym c) ∙ ap (layout_in kind m parts) (sym d)
 
-pub located_in : {t : Contents} {fill : List ℕ} {board : Board} {result : Result Spot PlaceFault} → IsLayout (numbering_of t) → IsAccepted t fill → IsLocated (numbering_of t) board result → IsLocatedIn t board result
-located_in {t} {fill} {board} {result} h a told = record {
+pub located_in : {x : Index} {board : Board} {result : Result Spot PlaceFault} → IsLayout (numbering_in x) → IsIndex x → IsLocated (numbering_in x) board result → IsLocatedIn x board result
+located_in {x} {board} {result} h a told = record {
   refused = told.refused;
   spot = told.spot;
   below = below result told.spot told.answered;
@@ -228,34 +229,44 @@ located_in {t} {fill} {board} {result} h a told = record {
   where
     none_holds : (o : Option PlaceFault) → o ≡ None → IsNone o
     none_holds None e = refl
-    none_holds (Some x) e = cc
+    none_holds (Some y) e = cc
 
-    below : (r : Result Spot PlaceFault) → (IsNone (place_fault (numbering_of t) board) → r ≡ Ok (spot_of (numbering_of t) board)) → IfOk r (λ _. IsAnswered (numbering_of t) board) →
-        IfOk r (λ spot. IsSomeAnd (subtable_at t spot.part spot.side) (λ found. spot.index < found.0.size))
+    below : (r : Result Spot PlaceFault) → (IsNone (place_fault (numbering_in x) board) → r ≡ Ok (spot_of (numbering_in x) board)) → IfOk r (λ _. IsAnswered (numbering_in x) board) →
+        IfOk r (λ spot. IsSomeAnd (slot_in x spot.part spot.side) (λ slot. spot.index < slot.size))
     below (Err fault) told answered = tt
     below (Ok spot) told answered =
-        let k : ◌≡◌ {A = Result Spot PlaceFault} (Ok spot) (Ok (spot_of (numbering_of t) board)) = told (none_holds (place_fault (numbering_of t) board) answered.place) in
-        spot_below t fill board h a answered spot (cc k)
+        let k : ◌≡◌ {A = Result Spot PlaceFault} (Ok spot) (Ok (spot_of (numbering_in x) board)) = told (none_holds (place_fault (numbering_in x) board) answered.place) in
+        spot_below x board h a answered spot (cc k)
 
-pub located_by : {t : Contents} {fill : List ℕ} {kind : Kind} {m : Sides} {parts : List Part} {flags : List ℕ} {board : Board} {result : Result Spot PlaceFault} → IsAccepted t fill → kind ≡ t.kind → m ≡ t.material →
-    IsMaterial m → parts ≡ t.parts → flags ≡ map flags_of t.subtables → IsLocated (layout_in kind m parts flags) board result → IsLocatedIn t board result
-located_by {t} {fill} {kind} {m} {parts} {flags} {board} {result} a k e h p f told =
-    located_in (accepted_numbering t fill (subst (λ (x : Sides). IsMaterial x) e h) a) a
-    (subst (λ (l : Layout). IsLocated l board result) (sym (layout_same t kind m parts flags k e p f)) told)
+pub located_by : {x : Index} {kind : Kind} {m : Sides} {parts : List Part} {flags : List ℕ} {board : Board} {result : Result Spot PlaceFault} → IsIndex x → kind ≡ x.kind → m ≡ x.material →
+    IsMaterial m → parts ≡ x.parts → flags ≡ x.flags → IsLocated (layout_in kind m parts flags) board result → IsLocatedIn x board result
+located_by {x} {kind} {m} {parts} {flags} {board} {result} a k e h p f told =
+    located_in (parts_numbering x (subst (λ (y : Sides). IsMaterial y) e h) a.parts_stand) a
+    (subst (λ (l : Layout). IsLocated l board result) (sym (layout_same x kind m parts flags k e p f)) told)
 
-all_in : (xs : List Standing) → All (λ (s : Standing). s.2 < 64) xs → (s : Standing) → IsIn s xs → s.2 < 64
+-- where an index has a slot, a table that has this index has a subtable
+pub below_table : (t : Contents) (fill : List ℕ) (x : Index) (result : Result Spot PlaceFault) → IsAccepted t fill → x ≡ index_of t →
+    IfOk result (λ spot. IsSomeAnd (slot_in x spot.part spot.side) (λ slot. spot.index < slot.size)) →
+    IfOk result (λ spot. IsSomeAnd (subtable_at t spot.part spot.side) (λ found. spot.index < found.0.size))
+below_table t fill x (Err fault) a e h = tt
+below_table t fill x (Ok spot) a e h =
+    let at = subst (λ (y : Index). IsSomeAnd (slot_in y spot.part spot.side) (λ slot. spot.index < slot.size)) e h in
+    some_first (λ slot. spot.index < slot.size) (subtable_at t spot.part spot.side)
+    (subst (λ (o : Option Slot). IsSomeAnd o (λ slot. spot.index < slot.size)) (sym (slot_of_table t fill spot.part spot.side a)) at)
+
+all_in : (xs : List PlacedMan) → All (λ (s : PlacedMan). s.2 < 64) xs → (s : PlacedMan) → IsIn s xs → s.2 < 64
 all_in [] h s i = absurd i
-all_in (x ∷ xs) h s (inl e) = subst (λ (y : Standing). y.2 < 64) (sym e) (All-head (λ (y : Standing). y.2 < 64) x xs h)
-all_in (x ∷ xs) h s (inr i) = all_in xs (All-tail (λ (y : Standing). y.2 < 64) x xs h) s i
+all_in (x ∷ xs) h s (inl e) = subst (λ (y : PlacedMan). y.2 < 64) (sym e) (All-head (λ (y : PlacedMan). y.2 < 64) x xs h)
+all_in (x ∷ xs) h s (inr i) = all_in xs (All-tail (λ (y : PlacedMan). y.2 < 64) x xs h) s i
 
-board_inside : (list : List Standing) (board : Board) → list ≡ board.standing → AreOnBoard list → IsOnBoard board
-board_inside list board e h = all_in board.standing (subst (λ (l : List Standing). AreOnBoard l) e h)
+board_inside : (list : List PlacedMan) (board : Board) → list ≡ board.placed_men → AreOnBoard list → IsOnBoard board
+board_inside list board e h = all_in board.placed_men (subst (λ (l : List PlacedMan). AreOnBoard l) e h)
 
-pub known_by : {m : Sides} {board : Board} {list : List Standing} → IsMaterial m → list ≡ board.standing → AreOnBoard list → IsNone (placement_fault list) → is_of_material m board ≡ true → IsKnown m board
+pub known_by : {m : Sides} {board : Board} {list : List PlacedMan} → IsMaterial m → list ≡ board.placed_men → AreOnBoard list → IsNone (placement_fault list) → is_of_material m board ≡ true → IsKnown m board
 known_by {m} {board} {list} mat e inside h found = record {
   material = mat;
   inside = board_inside list board e inside;
-  placement = none_is (placement_fault board.standing) (subst (λ (s : List Standing). IsNone (placement_fault s)) e h);
+  placement = none_is (placement_fault board.placed_men) (subst (λ (s : List PlacedMan). IsNone (placement_fault s)) e h);
   men = found;
 }
 
@@ -325,10 +336,10 @@ there_asked {l} {board} {pieces} {part} {side} h a =
     there_of l part side h (subst (λ (p : ℕ). p < part_count l) (sym a.part_is) (part_below l.material (pieces_of l.material board)))
     (subst (λ (k : ℕ). k < side_count l) (sym f.side_is) (side_below l board))
 
-pub there_in : {t : Contents} {fill : List ℕ} {m : Sides} (part side : ℕ) → IsAccepted t fill → m ≡ t.material → IsMaterial m → IsSome (subtable_at t part side) → IsThere (numbering_of t) part side
-there_in {t} {fill} part side a e h some =
-    let r = there_below t fill part side a some in
-    there_of (numbering_of t) part side (accepted_numbering t fill (subst (λ (m : Sides). IsMaterial m) e h) a) r.0 r.1
+pub there_in : {x : Index} {m : Sides} (part side : ℕ) → IsIndex x → m ≡ x.material → IsMaterial m → IsSome (slot_in x part side) → IsThere (numbering_in x) part side
+there_in {x} part side a e h some =
+    let r = slot_below x part side a some in
+    there_of (numbering_in x) part side (parts_numbering x (subst (λ (m : Sides). IsMaterial m) e h) a.parts_stand) r.0 r.1
 
 pub ordered_found : {l : Layout} {board : Board} {part side asked : ℕ} {n : Nibbles} → IsFound l board part side asked n → order_fault l.material n ≡ None
 ordered_found {l} {board} f =
@@ -341,7 +352,7 @@ groups_found {l} {board} f = ap (λ (x : Nibbles). groups_of l.material x.men) f
 lead_found : {l : Layout} {board : Board} {part side asked : ℕ} {n : Nibbles} → IsFound l board part side asked n → take (lead_length l.material) n.men ≡ unwrap_or (slice_get (chosen_groups l board) 0) []
 lead_found {l} {board} f = ap (λ (x : Nibbles). take (lead_length l.material) x.men) f.nibbles ∙ sym (lead_chosen l board)
 
-regular_found : {l : Layout} {board : Board} {part side asked : ℕ} {n : Nibbles} {regular b : Bool} → IsFound l board part side asked n → regular ≡ is_regular l.material (groups_of l.material n.men) → regular ≡ b →
+pub regular_found : {l : Layout} {board : Board} {part side asked : ℕ} {n : Nibbles} {regular b : Bool} → IsFound l board part side asked n → regular ≡ is_regular l.material (groups_of l.material n.men) → regular ≡ b →
     is_regular l.material (chosen_groups l board) ≡ b
 regular_found {l} f r e = ap (is_regular l.material) (sym (groups_found f)) ∙ sym r ∙ e
 

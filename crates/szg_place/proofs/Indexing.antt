@@ -9,13 +9,13 @@ use Rattle.std.proofs.lemmas.Option.{slice_get-get_or, unwrap_or-slice_get}
 use Rattle.std.proofs.lemmas.List.{take_more, take_at, drop_at}
 use Rattle.std.proofs.lemmas.List.Sums.{sum_by-cons}
 use Rattle.szg_values.specs.Material.{Sides, IsMaterial, has_pawns}
-use Rattle.szg_count.specs.Leads.{place_in}
+use Rattle.szg_count.specs.Leads.{rank_in}
 use Rattle.szg_count.specs.Groups.{IsPart, Nibbles, Counted, order_fault, groups_of, counted, factors_of, has_other_pawns}
-use Rattle.szg_count.specs.Seen.{group_at, groups_told}
+use Rattle.szg_count.specs.Views.{group_at, groups_in_slot_order}
 use Rattle.szg_count.specs.declared.Group.{Group}
-use Rattle.szg_count.proofs.Free.{places_order}
+use Rattle.szg_count.proofs.Free.{positions_order_groups}
 use Rattle.szg_count.proofs.Sizes.{size_below}
-use Rattle.szg_count.proofs.Places.{place_in-slice_get}
+use Rattle.szg_count.proofs.RanksInLists.{rank_in-slice_get}
 use Rattle.szg_count.specs.Laws.{IsIn, AllDiffer}
 use Rattle.szg_count.specs.Radix.{index_with}
 use Rattle.szg_place.specs.Spots.{ordered_sets, places_in_lists}
@@ -30,7 +30,7 @@ index_more : (d f : ℕ) (ds fs : List ℕ) → index_with (d ∷ ds) (f ∷ fs)
 index_more d f ds fs = sum_by-cons (λ (n : ℕ). n) (d * f) (map (λ x. x.0 * x.1) (zip ds fs))
 
 places_more : (sides : Sides) (part : ℕ) (before : List (List ℕ)) (set : List ℕ) (sets : List (List ℕ)) →
-    places_in_lists sides part before (set ∷ sets) ≡ place_in (ordered_sets sides part before (length set)) set ∷ places_in_lists sides part (before ++ set ∷ []) sets
+    places_in_lists sides part before (set ∷ sets) ≡ rank_in (ordered_sets sides part before (length set)) set ∷ places_in_lists sides part (before ++ set ∷ []) sets
 unfolding places_in_lists
 places_more sides part before set sets = refl
 
@@ -43,7 +43,7 @@ abbrev pub index_behind : Sides → ℕ → List (List ℕ) → List ℕ → ℕ
 index_behind sides part sets factors i = index_with (places_in_lists sides part (take i sets) (drop i sets)) (drop i factors)
 
 abbrev pub place_at : Sides → ℕ → List (List ℕ) → ℕ → ℕ
-place_at sides part sets i = place_in (ordered_sets sides part (take i sets) (length (get_or sets i []))) (get_or sets i [])
+place_at sides part sets i = rank_in (ordered_sets sides part (take i sets) (length (get_or sets i []))) (get_or sets i [])
 
 pub index_step : (sides : Sides) (part : ℕ) (sets : List (List ℕ)) (factors : List ℕ) (i : ℕ) → i < length sets → length factors ≡ length sets →
     index_behind sides part sets factors i ≡ place_at sides part sets i * get_or factors i 0 + index_behind sides part sets factors (i + 1)
@@ -126,8 +126,8 @@ sets_long sides part before (group ∷ groups) (set ∷ sets) (suc i) h =
 
 -- ---- the groups that are told
 
-pub group_is : (c : Counted) (i : ℕ) (group : Group) → i < length c.groups → slice_get (groups_told c) i ≡ Some group → group ≡ group_at c i
-unfolding groups_told
+pub group_is : (c : Counted) (i : ℕ) (group : Group) → i < length c.groups → slice_get (groups_in_slot_order c) i ≡ Some group → group ≡ group_at c i
+unfolding groups_in_slot_order
 group_is c i group h e =
     let all = map (group_at c) (range_with_len 0 (length c.groups)) in
     let n : length all ≡ length c.groups = length-map-range_with_len (group_at c) 0 (length c.groups) in
@@ -136,8 +136,8 @@ group_is c i group h e =
     let y : get_or all i (group_at c 0) ≡ group_at c i = get_or-map-range_with_len (group_at c) 0 (length c.groups) i i (group_at c 0) h z in
     let s : Some group ≡ Some (group_at c i) = sym e ∙ x ∙ ap Some y in cc
 
-pub groups_many : (c : Counted) → length (groups_told c) ≡ length c.groups
-unfolding groups_told
+pub groups_many : (c : Counted) → length (groups_in_slot_order c) ≡ length c.groups
+unfolding groups_in_slot_order
 groups_many c = length-map-range_with_len (group_at c) 0 (length c.groups)
 
 pub groups_are : (sides : Sides) (part : ℕ) (n : Nibbles) → (counted sides part n).groups ≡ groups_of sides n.men
@@ -146,7 +146,7 @@ groups_are sides part n = refl
 
 factors_many : (sides : Sides) (part : ℕ) (n : Nibbles) → order_fault sides n ≡ None → length (counted sides part n).factors ≡ length (groups_of sides n.men)
 unfolding counted factors_of
-factors_many sides part n o = simp length-map (places_order sides n (ordered sides n o).places).1
+factors_many sides part n o = simp length-map (positions_order_groups sides n (ordered sides n o).places).1
 
 -- what is known at a step
 pub record IsStep (sides : Sides) (part : ℕ) (n : Nibbles) (sets : List (List ℕ)) (i : ℕ) (group : Group) : Type 0 where
@@ -159,7 +159,7 @@ pub record IsStep (sides : Sides) (part : ℕ) (n : Nibbles) (sets : List (List 
   pub turn : IsTurn sides part [] (groups_of sides n.men) sets i
 
 pub step_of : (sides : Sides) (part : ℕ) (n : Nibbles) (sets : List (List ℕ)) (i : ℕ) (group : Group) → IsMaterial sides → IsPart sides part → order_fault sides n ≡ None →
-    EachInList sides part [] (groups_of sides n.men) sets → i < length (groups_told (counted sides part n)) → slice_get (groups_told (counted sides part n)) i ≡ Some group →
+    EachInList sides part [] (groups_of sides n.men) sets → i < length (groups_in_slot_order (counted sides part n)) → slice_get (groups_in_slot_order (counted sides part n)) i ≡ Some group →
     IsStep sides part n sets i group
 step_of sides part n sets i group m p o h k e =
     let c = counted sides part n in
@@ -223,11 +223,11 @@ pub place_is : (sides : Sides) (part : ℕ) (sets : List (List ℕ)) (i place : 
     slice_get (ordered_sets sides part (take i sets) (length set)) place ≡ Some set → place_at sides part sets i ≡ place
 place_is sides part sets i place set p e h =
     let k = subst (λ (s : List ℕ). slice_get (ordered_sets sides part (take i sets) (length s)) place ≡ Some s) e h in
-    place_in-slice_get (ordered_sets sides part (take i sets) (length (get_or sets i []))) place (get_or sets i [])
+    rank_in-slice_get (ordered_sets sides part (take i sets) (length (get_or sets i []))) place (get_or sets i [])
     (AllDiffer-ordered_sets sides part (take i sets) (length (get_or sets i [])) p) k
 
 pub told_many : (sides : Sides) (part : ℕ) (n : Nibbles) (sets : List (List ℕ)) → EachInList sides part [] (groups_of sides n.men) sets →
-    length (groups_told (counted sides part n)) ≡ length sets
+    length (groups_in_slot_order (counted sides part n)) ≡ length sets
 told_many sides part n sets h =
     let a = groups_many (counted sides part n) in let b = ap length (groups_are sides part n) in
     let d = sets_many sides part [] (groups_of sides n.men) sets h in omega (arith, a, b, d)

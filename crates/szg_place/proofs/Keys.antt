@@ -1,5 +1,5 @@
 -- Keys tell how many men of each kind and colour there are, and so whether men are a material's.
-use Rattle.std.proofs.Common.{◌≡◌, ℕ, zero, suc, ◌+◌, ◌*◌, ◌^◌, ◌<◌, ◌≤◌, inl, inr, List, [], ◌∷◌, length, map, refl, sym, ap, ◌∙◌, subst, Bool, true, false, cond, pow-suc, arith}
+use Rattle.std.proofs.Common.{◌≡◌, ℕ, zero, suc, ◌+◌, ◌*◌, ◌/◌, ◌%◌, ◌^◌, ◌<◌, ◌≤◌, inl, inr, List, [], ◌∷◌, length, map, refl, sym, ap, ◌∙◌, subst, Bool, true, false, cond, pow-suc, arith}
 use Rattle.std.specs.Prelude.{◌==◌, nat_lt, count_by, None, IsNone, slice_index}
 use Rattle.std.specs.List.{list_all, sum_by, range_with_len}
 use Rattle.std.proofs.Math.Bool.{not, ◌&&◌, ◌||◌}
@@ -8,8 +8,9 @@ use Rattle.std.proofs.lemmas.Bool.Decides.{nat_tests}
 use Rattle.std.proofs.lemmas.List.Sums.{sum_by-cons, count_by-le-length}
 use Rattle.szg_values.specs.Men.{code_of, is_man, is_color, name_order}
 use Rattle.szg_values.specs.Material.{Sides, IsMaterial, is_in_order, may_be_first, is_not_later, is_symmetric, man_codes, is_same_men}
-use Rattle.szg_values.specs.Placement.{Standing, Board, placement_fault, side_of, material_of}
+use Rattle.szg_values.specs.Placement.{PlacedMan, Board, placement_fault, side_of, material_of}
 use Rattle.szg_values.specs.declared.Man.{Man}
+use Rattle.szg_values.specs.declared.Man.TheVariants.{Pawn, Knight, Bishop, Rook, Queen, King}
 use Rattle.szg_values.specs.declared.Color.{Color}
 use Rattle.szg_values.specs.declared.Color.TheVariants.{White, Black}
 use Rattle.szg_values.proofs.SameMen.{same_men, same_men-refl, same_sides-Decides}
@@ -20,7 +21,7 @@ use Rattle.szg_count.proofs.Differ.{IsIn-append}
 use Rattle.szg_count.proofs.Pawns.{peopled}
 use Rattle.szg_place.specs.Normal.{colored_code, exchanged_color, is_exchanged}
 use Rattle.szg_place.specs.Spots.{is_of_material, man_at}
-use Rattle.szg_place.specs.Traits.{key_of, men_key}
+use Rattle.szg_place.specs.Traits.{key_of, men_key, with_exchanged_halves}
 use Rattle.szg_place.specs.declared.traits.TheConstants.{KEYS}
 use Rattle.szg_place.proofs.Lists.{tested, IsIn-map}
 use Rattle.szg_place.proofs.Slotted.{few_men}
@@ -130,6 +131,15 @@ second_small men c i = let r = IsIn-map (λ man. 8 + code_of man) men c i in let
 pub codes_small : (sides : Sides) (c : ℕ) → IsIn c (man_codes sides) → c < 16
 codes_small sides c i = elim (IsIn-append c (map code_of sides.first) (map (λ man. 8 + code_of man) sides.second) i) [ inl a ↦ first_small sides.first c a | inr b ↦ second_small sides.second c b ]
 
+first_some : (men : List Man) (c : ℕ) → IsIn c (map code_of men) → 0 < c
+first_some men c i = let r = IsIn-map code_of men c i in let k = code_small r.0 in let e = r.2 in omega (arith, k, e)
+
+pub codes_some : (sides : Sides) (c : ℕ) → IsIn c (man_codes sides) → 0 < c
+codes_some sides c i = elim (IsIn-append c (map code_of sides.first) (map (λ man. 8 + code_of man) sides.second) i) [
+  | inl a ↦ first_some sides.first c a
+  | inr b ↦ let r = IsIn-map (λ man. 8 + code_of man) sides.second c b in let e = r.2 in omega (arith, e)
+]
+
 -- ---- what a man adds to a key
 
 keys_test : list_all (λ c. slice_index KEYS c == 8 ^ c) (range_with_len 0 16) ≡ true
@@ -138,62 +148,108 @@ keys_test = refl
 pub key_told : (c : ℕ) → c < 16 → slice_index KEYS c ≡ 8 ^ c
 key_told c h = eqb-true (slice_index KEYS c) (8 ^ c) (tested (λ c. slice_index KEYS c == 8 ^ c) 16 c keys_test h)
 
+-- ---- colours exchanged
+
+-- what a man adds, by his colour
+record IsManKey (man : Man) (color : Color) (white black : ℕ) : Type 0 where
+  plain : 8 ^ colored_code man (exchanged_color false color) ≡ white + 16777216 * black
+  turned : 8 ^ colored_code man (exchanged_color true color) ≡ black + 16777216 * white
+  small : white ≤ 262144
+
+man_key : (man : Man) (color : Color) → (white : ℕ) × ((black : ℕ) × IsManKey man color white black)
+man_key Pawn White = (8, (0, record { plain = refl; turned = refl; small = omega arith }))
+man_key Knight White = (64, (0, record { plain = refl; turned = refl; small = omega arith }))
+man_key Bishop White = (512, (0, record { plain = refl; turned = refl; small = omega arith }))
+man_key Rook White = (4096, (0, record { plain = refl; turned = refl; small = omega arith }))
+man_key Queen White = (32768, (0, record { plain = refl; turned = refl; small = omega arith }))
+man_key King White = (262144, (0, record { plain = refl; turned = refl; small = omega arith }))
+man_key Pawn Black = (0, (8, record { plain = refl; turned = refl; small = omega arith }))
+man_key Knight Black = (0, (64, record { plain = refl; turned = refl; small = omega arith }))
+man_key Bishop Black = (0, (512, record { plain = refl; turned = refl; small = omega arith }))
+man_key Rook Black = (0, (4096, record { plain = refl; turned = refl; small = omega arith }))
+man_key Queen Black = (0, (32768, record { plain = refl; turned = refl; small = omega arith }))
+man_key King Black = (0, (262144, record { plain = refl; turned = refl; small = omega arith }))
+
+record AreKeys (men : List PlacedMan) (white black : ℕ) : Type 0 where
+  plain : men_key false men ≡ white + 16777216 * black
+  turned : men_key true men ≡ black + 16777216 * white
+  small : white ≤ 262144 * length men
+
+are_keys : (men : List PlacedMan) → (white : ℕ) × ((black : ℕ) × AreKeys men white black)
+are_keys [] = (0, (0, record { plain = refl; turned = refl; small = omega arith }))
+are_keys (s ∷ men) =
+    let h = man_key s.0 s.1 in let r = are_keys men in
+    let a = h.1.1.plain in let b = r.1.1.plain in let p = sum_by-cons (λ (x : PlacedMan). 8 ^ colored_code x.0 (exchanged_color false x.1)) s men in
+    let c = h.1.1.turned in let d = r.1.1.turned in let q = sum_by-cons (λ (x : PlacedMan). 8 ^ colored_code x.0 (exchanged_color true x.1)) s men in
+    let e = h.1.1.small in let f = r.1.1.small in
+    (h.0 + r.0, (h.1.0 + r.1.0, record { plain = omega (arith, a, b, p); turned = omega (arith, c, d, q); small = omega (arith, e, f) }))
+
+halves : (key other white black : ℕ) → key ≡ white + 16777216 * black → other ≡ black + 16777216 * white → white < 16777216 → other ≡ with_exchanged_halves key
+halves key other white black e f h =
+    let low : key % 16777216 ≡ white = omega arith in let high : key / 16777216 ≡ black = omega arith in omega (arith, low, high, f)
+
+-- the key of men with colours exchanged
+pub exchanged_key : (men : List PlacedMan) → length men ≤ 6 → men_key true men ≡ with_exchanged_halves (men_key false men)
+exchanged_key men few =
+    let r = are_keys men in let h = r.1.1 in let s = h.small in
+    halves (men_key false men) (men_key true men) r.0 r.1.0 h.plain h.turned (omega (arith, s, few))
+
 -- ---- the sides
 
 all_men : (test : Man → Bool) (men : List Man) → ((man : Man) → test man ≡ true) → list_all test men ≡ true
 all_men test [] h = refl
 all_men test (man ∷ men) h = and_from (test man) (list_all test men) (h man) (all_men test men h)
 
-side_order : (standing : List Standing) → placement_fault standing ≡ None → (is_in_order (side_of White standing) ≡ true) × (is_in_order (side_of Black standing) ≡ true)
-side_order standing fine =
-    let white = side_of White standing in let black = side_of Black standing in
-    let o = sorted (material_of standing) (material_of_placement standing fine) in
+side_order : (placed_men : List PlacedMan) → placement_fault placed_men ≡ None → (is_in_order (side_of White placed_men) ≡ true) × (is_in_order (side_of Black placed_men) ≡ true)
+side_order placed_men fine =
+    let white = side_of White placed_men in let black = side_of Black placed_men in
+    let o = sorted (material_of placed_men) (material_of_placement placed_men fine) in
     elim (cases_Bool (may_be_first white black)) [
-      | inl t ↦ let e = white_first standing t in (sym (ap (λ (s : Sides). is_in_order s.first) e) ∙ o.first, sym (ap (λ (s : Sides). is_in_order s.second) e) ∙ o.second)
-      | inr f ↦ let e = black_first standing f in (sym (ap (λ (s : Sides). is_in_order s.second) e) ∙ o.second, sym (ap (λ (s : Sides). is_in_order s.first) e) ∙ o.first)
+      | inl t ↦ let e = white_first placed_men t in (sym (ap (λ (s : Sides). is_in_order s.first) e) ∙ o.first, sym (ap (λ (s : Sides). is_in_order s.second) e) ∙ o.second)
+      | inr f ↦ let e = black_first placed_men f in (sym (ap (λ (s : Sides). is_in_order s.second) e) ∙ o.second, sym (ap (λ (s : Sides). is_in_order s.first) e) ∙ o.first)
     ]
 
-either_order : (standing : List Standing) (color : Color) → placement_fault standing ≡ None → is_in_order (side_of color standing) ≡ true
-either_order standing White fine = (side_order standing fine).0
-either_order standing Black fine = (side_order standing fine).1
+either_order : (placed_men : List PlacedMan) (color : Color) → placement_fault placed_men ≡ None → is_in_order (side_of color placed_men) ≡ true
+either_order placed_men White fine = (side_order placed_men fine).0
+either_order placed_men Black fine = (side_order placed_men fine).1
 
-abbrev coded : Bool → Standing → ℕ
+abbrev coded : Bool → PlacedMan → ℕ
 coded ex s = colored_code s.0 (exchanged_color ex s.1)
 
-kind_first : (ex : Bool) (standing : List Standing) (kind : Man) → count_by (λ s. coded ex s == code_of kind) standing ≡ count_by (is_man kind) (side_of (exchanged_color ex White) standing)
-kind_first ex standing kind =
-    count-same (λ s. coded ex s == code_of kind) (λ s. is_man kind s.0 && is_color (exchanged_color ex White) s.1) standing
+kind_first : (ex : Bool) (placed_men : List PlacedMan) (kind : Man) → count_by (λ s. coded ex s == code_of kind) placed_men ≡ count_by (is_man kind) (side_of (exchanged_color ex White) placed_men)
+kind_first ex placed_men kind =
+    count-same (λ s. coded ex s == code_of kind) (λ s. is_man kind s.0 && is_color (exchanged_color ex White) s.1) placed_men
     (λ s i. white_code kind s.0 (exchanged_color ex s.1) ∙ ap (λ b. is_man kind s.0 && b) (white_exchanged ex s.1))
-    ∙ sym (kind_count kind (exchanged_color ex White) standing)
+    ∙ sym (kind_count kind (exchanged_color ex White) placed_men)
 
-kind_second : (ex : Bool) (standing : List Standing) (kind : Man) → count_by (λ s. coded ex s == (8 + code_of kind)) standing ≡ count_by (is_man kind) (side_of (exchanged_color ex Black) standing)
-kind_second ex standing kind =
-    count-same (λ s. coded ex s == (8 + code_of kind)) (λ s. is_man kind s.0 && is_color (exchanged_color ex Black) s.1) standing
+kind_second : (ex : Bool) (placed_men : List PlacedMan) (kind : Man) → count_by (λ s. coded ex s == (8 + code_of kind)) placed_men ≡ count_by (is_man kind) (side_of (exchanged_color ex Black) placed_men)
+kind_second ex placed_men kind =
+    count-same (λ s. coded ex s == (8 + code_of kind)) (λ s. is_man kind s.0 && is_color (exchanged_color ex Black) s.1) placed_men
     (λ s i. black_code kind s.0 (exchanged_color ex s.1) ∙ ap (λ b. is_man kind s.0 && b) (black_exchanged ex s.1))
-    ∙ sym (kind_count kind (exchanged_color ex Black) standing)
+    ∙ sym (kind_count kind (exchanged_color ex Black) placed_men)
 
 -- the key of a material's men tells the sides
-pub named_by_key : (sides : Sides) (ex : Bool) (standing : List Standing) → IsMaterial sides → placement_fault standing ≡ None → length standing ≤ 6 →
-    men_key ex standing ≡ key_of (man_codes sides) → IsNamed sides ex standing
-named_by_key sides ex standing h fine few e =
+pub named_by_key : (sides : Sides) (ex : Bool) (placed_men : List PlacedMan) → IsMaterial sides → placement_fault placed_men ≡ None → length placed_men ≤ 6 →
+    men_key ex placed_men ≡ key_of (man_codes sides) → IsNamed sides ex placed_men
+named_by_key sides ex placed_men h fine few e =
     let o = sorted sides h in let p = (peopled sides h).few in
-    let counts = same_counts (coded ex) (λ (c : ℕ). c) standing (man_codes sides) (λ s i. coded_small s.0 (exchanged_color ex s.1)) (codes_small sides) few p e in
-    let white = side_of (exchanged_color ex White) standing in let black = side_of (exchanged_color ex Black) standing in
+    let counts = same_counts (coded ex) (λ (c : ℕ). c) placed_men (man_codes sides) (λ s i. coded_small s.0 (exchanged_color ex s.1)) (codes_small sides) few p e in
+    let white = side_of (exchanged_color ex White) placed_men in let black = side_of (exchanged_color ex Black) placed_men in
     let first : (kind : Man) → count_by (is_man kind) white ≡ count_by (is_man kind) sides.first = λ kind.
-    sym (kind_first ex standing kind) ∙ counts (code_of kind) (let k = code_small kind in omega (arith, k)) ∙ codes_first sides kind in
+    sym (kind_first ex placed_men kind) ∙ counts (code_of kind) (let k = code_small kind in omega (arith, k)) ∙ codes_first sides kind in
     let second : (kind : Man) → count_by (is_man kind) black ≡ count_by (is_man kind) sides.second = λ kind.
-    sym (kind_second ex standing kind) ∙ counts (8 + code_of kind) (let k = code_small kind in omega (arith, k)) ∙ codes_second sides kind in
+    sym (kind_second ex placed_men kind) ∙ counts (8 + code_of kind) (let k = code_small kind in omega (arith, k)) ∙ codes_second sides kind in
     record {
-      first = same_men white sides.first (either_order standing (exchanged_color ex White) fine) o.first
+      first = same_men white sides.first (either_order placed_men (exchanged_color ex White) fine) o.first
           (all_men (λ kind. count_by (is_man kind) white == count_by (is_man kind) sides.first) name_order (λ kind. eq-eqb (count_by (is_man kind) white) (count_by (is_man kind) sides.first) (first kind)));
-      second = same_men black sides.second (either_order standing (exchanged_color ex Black) fine) o.second
+      second = same_men black sides.second (either_order placed_men (exchanged_color ex Black) fine) o.second
           (all_men (λ kind. count_by (is_man kind) black == count_by (is_man kind) sides.second) name_order (λ kind. eq-eqb (count_by (is_man kind) black) (count_by (is_man kind) sides.second) (second kind)));
     }
 
-pub key_of_named : (sides : Sides) (ex : Bool) (standing : List Standing) → IsNamed sides ex standing → men_key ex standing ≡ key_of (man_codes sides)
-key_of_named sides ex standing n =
-    same_keys (coded ex) (λ (c : ℕ). c) standing (man_codes sides) (λ s i. coded_small s.0 (exchanged_color ex s.1)) (codes_small sides)
-    (λ c. sym (count_raw ex c standing) ∙ raw_counts sides ex standing n c)
+pub key_of_named : (sides : Sides) (ex : Bool) (placed_men : List PlacedMan) → IsNamed sides ex placed_men → men_key ex placed_men ≡ key_of (man_codes sides)
+key_of_named sides ex placed_men n =
+    same_keys (coded ex) (λ (c : ℕ). c) placed_men (man_codes sides) (λ s i. coded_small s.0 (exchanged_color ex s.1)) (codes_small sides)
+    (λ c. sym (count_raw ex c placed_men) ∙ raw_counts sides ex placed_men n c)
 
 -- ---- which side is first
 
@@ -266,88 +322,88 @@ sides_from a b = record { first = a; second = b }
 same_sides : (a b : List Man) (sides : Sides) → a ≡ sides.first → b ≡ sides.second → sides_from a b ≡ sides
 same_sides a b sides e f = ap (λ (x : List Man). sides_from x b) e ∙ ap (λ (x : List Man). sides_from sides.first x) f
 
-material_named : (sides : Sides) (ex : Bool) (standing : List Standing) → IsMaterial sides → IsNamed sides ex standing → material_of standing ≡ sides
-material_named sides false standing h n =
+material_named : (sides : Sides) (ex : Bool) (placed_men : List PlacedMan) → IsMaterial sides → IsNamed sides ex placed_men → material_of placed_men ≡ sides
+material_named sides false placed_men h n =
     let o = sorted sides h in
-    let t = ap (λ (a : List Man). may_be_first a (side_of Black standing)) n.first ∙ ap (λ (b : List Man). may_be_first sides.first b) n.second ∙ o.named in
-    white_first standing t ∙ same_sides (side_of White standing) (side_of Black standing) sides n.first n.second
-material_named sides true standing h n =
+    let t = ap (λ (a : List Man). may_be_first a (side_of Black placed_men)) n.first ∙ ap (λ (b : List Man). may_be_first sides.first b) n.second ∙ o.named in
+    white_first placed_men t ∙ same_sides (side_of White placed_men) (side_of Black placed_men) sides n.first n.second
+material_named sides true placed_men h n =
     let o = sorted sides h in
-    let white = side_of White standing in let black = side_of Black standing in
+    let white = side_of White placed_men in let black = side_of Black placed_men in
     elim (cases_Bool (may_be_first white black)) [
       | inl t ↦
           let other : may_be_first sides.second sides.first ≡ true = sym (ap (λ (a : List Man). may_be_first a sides.first) n.second) ∙ sym (ap (λ (b : List Man). may_be_first white b) n.first) ∙ t in
           let e = both_first sides.second sides.first other o.named in
-          white_first standing t ∙ same_sides white black sides (n.second ∙ e) (n.first ∙ sym e)
-      | inr f ↦ black_first standing f ∙ same_sides black white sides n.first n.second
+          white_first placed_men t ∙ same_sides white black sides (n.second ∙ e) (n.first ∙ sym e)
+      | inr f ↦ black_first placed_men f ∙ same_sides black white sides n.first n.second
     ]
 
-pub of_named : (sides : Sides) (ex : Bool) (board : Board) → IsMaterial sides → IsNamed sides ex board.standing → is_of_material sides board ≡ true
+pub of_named : (sides : Sides) (ex : Bool) (board : Board) → IsMaterial sides → IsNamed sides ex board.placed_men → is_of_material sides board ≡ true
 of_named sides ex board h n =
-    ap (λ (o : Sides). is_same_men o.first sides.first && is_same_men o.second sides.second) (material_named sides ex board.standing h n)
+    ap (λ (o : Sides). is_same_men o.first sides.first && is_same_men o.second sides.second) (material_named sides ex board.placed_men h n)
     ∙ and_from (is_same_men sides.first sides.first) (is_same_men sides.second sides.second) (same_men-refl sides.first) (same_men-refl sides.second)
 
 -- ---- whether colours are exchanged
 
-pub named_plain : (sides : Sides) (board : Board) → IsNamed sides false board.standing → is_exchanged sides board ≡ (is_symmetric sides && is_color Black board.mover)
+pub named_plain : (sides : Sides) (board : Board) → IsNamed sides false board.placed_men → is_exchanged sides board ≡ (is_symmetric sides && is_color Black board.mover)
 named_plain sides board n = elim (cases_Bool (is_symmetric sides)) [
   | inl t ↦ rw t refl
   | inr f ↦
-      let same : is_same_men (side_of White board.standing) sides.first ≡ true = subst (λ (l : List Man). is_same_men l sides.first ≡ true) (sym n.first) (same_men-refl sides.first) in
+      let same : is_same_men (side_of White board.placed_men) sides.first ≡ true = subst (λ (l : List Man). is_same_men l sides.first ≡ true) (sym n.first) (same_men-refl sides.first) in
       exchanged_when sides board f ∙ ap not same ∙ sym (ap (λ b. b && is_color Black board.mover) f)
 ]
 
-pub named_turned : (sides : Sides) (board : Board) → IsMaterial sides → IsNamed sides true board.standing → (IsNamed sides false board.standing → ⊥) → is_exchanged sides board ≡ true
+pub named_turned : (sides : Sides) (board : Board) → IsMaterial sides → IsNamed sides true board.placed_men → (IsNamed sides false board.placed_men → ⊥) → is_exchanged sides board ≡ true
 named_turned sides board h n out =
     let o = sorted sides h in
     elim (cases_Bool (is_symmetric sides)) [
       | inl t ↦ let e = same_men sides.first sides.second o.first o.second t in absurd (out (record { first = n.second ∙ sym e; second = n.first ∙ e }))
       | inr f ↦
-          let other : is_same_men (side_of White board.standing) sides.first ≡ false = false_from_ne_true (is_same_men (side_of White board.standing) sides.first)
+          let other : is_same_men (side_of White board.placed_men) sides.first ≡ false = false_from_ne_true (is_same_men (side_of White board.placed_men) sides.first)
           (λ q. let e = same_men sides.second sides.first o.second o.first (subst (λ (l : List Man). is_same_men l sides.first ≡ true) n.second q) in
           out (record { first = n.second ∙ e; second = n.first ∙ sym e })) in
           exchanged_when sides board f ∙ ap not other
     ]
 
 -- with neither key the men are another material's
-pub other_keys : (sides : Sides) (board : Board) → IsMaterial sides → placement_fault board.standing ≡ None →
-    (men_key false board.standing ≡ key_of (man_codes sides) → ⊥) → (men_key true board.standing ≡ key_of (man_codes sides) → ⊥) → is_of_material sides board ≡ false
+pub other_keys : (sides : Sides) (board : Board) → IsMaterial sides → placement_fault board.placed_men ≡ None →
+    (men_key false board.placed_men ≡ key_of (man_codes sides) → ⊥) → (men_key true board.placed_men ≡ key_of (man_codes sides) → ⊥) → is_of_material sides board ≡ false
 other_keys sides board h fine p q = false_from_ne_true (is_of_material sides board) (λ t.
-    let same = (same_sides-Decides (material_of board.standing) sides (material_of_placement board.standing fine) h).0 t in
+    let same = (same_sides-Decides (material_of board.placed_men) sides (material_of_placement board.placed_men fine) h).0 t in
     by_case (is_exchanged sides board) (named_sides sides board h same))
   where
-    by_case : (ex : Bool) → IsNamed sides ex board.standing → ⊥
-    by_case true n = q (key_of_named sides true board.standing n)
-    by_case false n = p (key_of_named sides false board.standing n)
+    by_case : (ex : Bool) → IsNamed sides ex board.placed_men → ⊥
+    by_case true n = q (key_of_named sides true board.placed_men n)
+    by_case false n = p (key_of_named sides false board.placed_men n)
 
 -- ---- what the code finds
 
-pub named_if : (sides : Sides) (ex : Bool) (board : Board) (list : List Standing) (key own : ℕ) → IsMaterial sides → list ≡ board.standing → IsNone (placement_fault list) →
-    key ≡ men_key ex list → own ≡ key_of (man_codes sides) → key ≡ own → IsNamed sides ex board.standing
+pub named_if : (sides : Sides) (ex : Bool) (board : Board) (list : List PlacedMan) (key own : ℕ) → IsMaterial sides → list ≡ board.placed_men → IsNone (placement_fault list) →
+    key ≡ men_key ex list → own ≡ key_of (man_codes sides) → key ≡ own → IsNamed sides ex board.placed_men
 named_if sides ex board list key own h e sound k o same =
     let fine = none_is (placement_fault list) sound in
-    subst (λ (l : List Standing). IsNamed sides ex l) e (named_by_key sides ex list h fine (few_men list sound) (sym k ∙ same ∙ o))
+    subst (λ (l : List PlacedMan). IsNamed sides ex l) e (named_by_key sides ex list h fine (few_men list sound) (sym k ∙ same ∙ o))
 
-pub not_if : (sides : Sides) (ex : Bool) (board : Board) (list : List Standing) (key own : ℕ) → list ≡ board.standing →
-    key ≡ men_key ex list → own ≡ key_of (man_codes sides) → (key ≡ own → ⊥) → men_key ex board.standing ≡ key_of (man_codes sides) → ⊥
+pub not_if : (sides : Sides) (ex : Bool) (board : Board) (list : List PlacedMan) (key own : ℕ) → list ≡ board.placed_men →
+    key ≡ men_key ex list → own ≡ key_of (man_codes sides) → (key ≡ own → ⊥) → men_key ex board.placed_men ≡ key_of (man_codes sides) → ⊥
 not_if sides ex board list key own e k o out f = out (k ∙ ap (men_key ex) e ∙ f ∙ sym o)
 
 -- the three ends of the test
-pub plain_if : (sides : Sides) (board : Board) (list : List Standing) (key own : ℕ) → IsMaterial sides → list ≡ board.standing → IsNone (placement_fault list) →
+pub plain_if : (sides : Sides) (board : Board) (list : List PlacedMan) (key own : ℕ) → IsMaterial sides → list ≡ board.placed_men → IsNone (placement_fault list) →
     key ≡ men_key false list → own ≡ key_of (man_codes sides) → key ≡ own →
     (is_of_material sides board ≡ true) × (is_exchanged sides board ≡ (is_symmetric sides && is_color Black board.mover))
 plain_if sides board list key own h e sound k o same =
     let n = named_if sides false board list key own h e sound k o same in (of_named sides false board h n, named_plain sides board n)
 
-pub turned_if : (sides : Sides) (board : Board) (list : List Standing) (key turned own : ℕ) → IsMaterial sides → list ≡ board.standing → IsNone (placement_fault list) →
+pub turned_if : (sides : Sides) (board : Board) (list : List PlacedMan) (key turned own : ℕ) → IsMaterial sides → list ≡ board.placed_men → IsNone (placement_fault list) →
     key ≡ men_key false list → turned ≡ men_key true list → own ≡ key_of (man_codes sides) → (key ≡ own → ⊥) → turned ≡ own →
     (is_of_material sides board ≡ true) × (is_exchanged sides board ≡ true)
 turned_if sides board list key turned own h e sound k l o out same =
     let n = named_if sides true board list turned own h e sound l o same in
-    (of_named sides true board h n, named_turned sides board h n (λ p. not_if sides false board list key own e k o out (key_of_named sides false board.standing p)))
+    (of_named sides true board h n, named_turned sides board h n (λ p. not_if sides false board list key own e k o out (key_of_named sides false board.placed_men p)))
 
-pub other_if : (sides : Sides) (board : Board) (list : List Standing) (key turned own : ℕ) → IsMaterial sides → list ≡ board.standing → IsNone (placement_fault list) →
+pub other_if : (sides : Sides) (board : Board) (list : List PlacedMan) (key turned own : ℕ) → IsMaterial sides → list ≡ board.placed_men → IsNone (placement_fault list) →
     key ≡ men_key false list → turned ≡ men_key true list → own ≡ key_of (man_codes sides) → (key ≡ own → ⊥) → (turned ≡ own → ⊥) → is_of_material sides board ≡ false
 other_if sides board list key turned own h e sound k l o p q =
-    other_keys sides board h (none_is (placement_fault board.standing) (subst (λ (s : List Standing). IsNone (placement_fault s)) e sound))
+    other_keys sides board h (none_is (placement_fault board.placed_men) (subst (λ (s : List PlacedMan). IsNone (placement_fault s)) e sound))
     (not_if sides false board list key own e k o p) (not_if sides true board list turned own e l o q)

@@ -28,6 +28,7 @@ pub mod Accepted
 pub mod Found
 pub mod Slotted
 pub mod Ready
+pub mod SeatedMen
 pub mod Grouped
 pub mod Indexed
 pub mod Probed
@@ -36,3 +37,7 @@ pub mod Placed
 pub mod Keys
 pub mod Binomials
 pub mod Turns
+pub mod SortedSeats
+pub mod SlotCodes
+pub mod SeatGroups
+pub mod SeatedIndex

@@ -1,58 +1,35 @@
 -- What is known of a table by place where a placement is looked up in it.
-use Rattle.std.proofs.Common.{◌≡◌, ℕ, ◌<◌, List, map, sym, ap, ◌∙◌, subst}
+use Rattle.std.proofs.Common.{◌≡◌, ℕ, ◌<◌, sym, ap, ◌∙◌, subst}
 use Rattle.std.specs.Prelude.{Option, Some, None, IfOk, IsSomeAnd, Result, Ok, Err, option_and_then}
 use Rattle.szg_values.specs.declared.Kind.{Kind}
 use Rattle.szg_values.specs.declared.Kind.TheVariants.{Dtz}
-use Rattle.szg_values.specs.Material.{Sides, IsMaterial}
+use Rattle.szg_values.specs.Material.{Sides}
 use Rattle.szg_values.specs.Placement.{Board}
-use Rattle.szg_file.specs.Contents.{Contents, Part}
-use Rattle.szg_file.specs.Accepted.{IsAccepted}
-use Rattle.szg_file.specs.File.{flags_of}
+use Rattle.szg_file.specs.Contents.{Contents}
+use Rattle.szg_file.specs.Index.{Index, index_of, slot_in}
 use Rattle.szg_file.specs.Opened.{Opened, opened_table, table_in, IsTableOf}
 use Rattle.szg_file.specs.Values.{subtable_at}
-use Rattle.szg_place.specs.Layout.{Layout, IsLayout, layout_in}
-use Rattle.szg_place.specs.Known.{IsLocated}
+use Rattle.szg_place.specs.Layout.{Layout}
 use Rattle.szg_place.specs.Opened.{IsProbed, IsValueIn, spot_in}
 use Rattle.szg_place.specs.Spots.{place_fault}
-use Rattle.szg_place.specs.Tables.{numbering_of, value_at}
+use Rattle.szg_place.specs.Tables.{numbering_of, numbering_in, value_at}
 use Rattle.szg_place.specs.declared.Spot.{Spot}
 use Rattle.szg_place.specs.declared.PlaceFault.{PlaceFault}
 use Rattle.szg_place.specs.declared.ProbeFault.TheVariants.{Place}
 use Rattle.szg_place.specs.declared.OpenedProbeFault.{OpenedProbeFault}
 use Rattle.szg_place.specs.declared.OpenedProbeFault.TheVariants.{Probe, Source}
-use Rattle.szg_place.proofs.Accepted.{accepted_numbering}
-use Rattle.szg_place.proofs.Indexed.{layout_same, located_in}
+use Rattle.szg_place.proofs.Indexed.{below_table}
 use Rattle.szg_place.proofs.Probed.{side_zero}
 
--- a table's numbering as the code has it
-pub record IsNumbered (t : Contents) (l : Layout) : Type 0 where
-  pub filled : List ℕ
-  pub accepted : IsAccepted t filled
-  pub same : numbering_of t ≡ l
-  pub layout : IsLayout (numbering_of t)
+pub told_opened : (P : Layout → Type 0) (o : Option Contents) (x : Index) → IsSomeAnd o (λ t. x ≡ index_of t) → P (numbering_in x) → IsSomeAnd o (λ t. P (numbering_of t))
+told_opened P None x h p = absurd h
+told_opened P (Some t) x h p = subst (λ (y : Index). P (numbering_in y)) h p
 
-pub numbered_by : (o : Option Contents) (parts : List Part) {m m' : Sides} {kind kind' : Kind} {flags slice : List ℕ} → m' ≡ m → kind' ≡ kind → slice ≡ flags → IsMaterial m' →
-    IsSomeAnd o (λ t. parts ≡ t.parts) → IsSomeAnd o (IsTableOf m kind) → IsSomeAnd o (λ t. flags ≡ map flags_of t.subtables) → IsSomeAnd o (λ t. IsNumbered t (layout_in kind' m' parts slice))
-numbered_by None parts em ek es mat a b c = absurd a
-numbered_by (Some t) parts {m} {m'} {kind} {kind'} {flags} {slice} em ek es mat a b c = record {
-  filled = b.filled;
-  accepted = b.accepted;
-  same = layout_same t kind' m' parts slice (ek ∙ sym b.kind_is) (em ∙ sym b.material_is) a (es ∙ c);
-  layout = accepted_numbering t b.filled (subst (λ (s : Sides). IsMaterial s) (em ∙ sym b.material_is) mat) b.accepted;
-}
-
-pub layout_of_opened : (o : Option Contents) (l : Layout) → IsSomeAnd o (λ t. IsNumbered t l) → IsLayout l
-layout_of_opened None l h = absurd h
-layout_of_opened (Some t) l h = subst (λ (x : Layout). IsLayout x) h.same h.layout
-
-pub told_opened : (P : Layout → Type 0) (o : Option Contents) (l : Layout) → IsSomeAnd o (λ t. IsNumbered t l) → P l → IsSomeAnd o (λ t. P (numbering_of t))
-told_opened P None l h p = absurd h
-told_opened P (Some t) l h p = subst P (sym h.same) p
-
-pub below_opened : (o : Option Contents) (l : Layout) (board : Board) (result : Result Spot PlaceFault) → IsSomeAnd o (λ t. IsNumbered t l) → IsLocated l board result →
+pub below_opened : (o : Option Contents) (x : Index) (result : Result Spot PlaceFault) (m : Sides) (kind : Kind) → IsSomeAnd o (λ t. x ≡ index_of t) → IsSomeAnd o (IsTableOf m kind) →
+    IfOk result (λ spot. IsSomeAnd (slot_in x spot.part spot.side) (λ slot. spot.index < slot.size)) →
     IfOk result (λ spot. IsSomeAnd (option_and_then (λ t. subtable_at t spot.part spot.side) o) (λ found. spot.index < found.0.size))
-below_opened None l board result h told = absurd h
-below_opened (Some t) l board result h told = (located_in h.layout h.accepted (subst (λ (x : Layout). IsLocated x board result) (sym h.same) told)).below
+below_opened None x result m kind h is told = absurd h
+below_opened (Some t) x result m kind h is told = below_table t is.filled x result is.accepted h told
 
 -- a DTZ table has one side
 side_of : (f : Option PlaceFault) (t : Contents) (s spot : Spot) (v : ℕ) → IsProbed {A = Spot × ℕ} f (λ found. (found.0 ≡ s) × (value_at t found.0 ≡ Some found.1)) (λ fault. fault ≡ Source) (Ok (spot, v)) → spot ≡ s

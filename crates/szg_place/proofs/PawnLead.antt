@@ -9,7 +9,7 @@ use Rattle.szg_values.specs.Material.{Sides, has_pawns, count_of, lead_pawns, le
 use Rattle.szg_count.specs.Sets.{sets_of}
 use Rattle.szg_count.specs.Leads.{contains, pawn_order, after, lead_pawn_sets, pawn_squares}
 use Rattle.szg_count.specs.Laws.{IsIn}
-use Rattle.szg_count.proofs.Differ.{contains_it, sets_hold, AllDiffer-pawn_order}
+use Rattle.szg_count.proofs.Differ.{contains_it, sets_contain_filtered, AllDiffer-pawn_order}
 use Rattle.szg_count.proofs.Free.{contains-IsIn}
 use Rattle.szg_place.specs.Normal.{Piece, flip_file, flip_rank, reflect, squares_with, lead_squares, moved, is_first_above, with_file, with_rank, with_reflection, normal_pieces, part_of}
 use Rattle.szg_place.proofs.Lists.{tested, all-IsIn, same_tests, filter-same, filter-after, IsIn-lists_by_back, IsIn-map_back, IsIn-map}
@@ -83,7 +83,7 @@ in_pawn_sets : (f : ℕ → Bool) (k part q : ℕ) (rest : List ℕ) → filter 
 unfolding lead_pawn_sets
 in_pawn_sets f k part q rest e p l =
     let a = filter-after f pawn_order q rest e in
-    let held : IsIn rest (sets_of (length rest) (after q pawn_order)) = subst (λ (x : List ℕ). IsIn x (sets_of (length x) (after q pawn_order))) (sym a.0) (sets_hold f (after q pawn_order)) in
+    let held : IsIn rest (sets_of (length rest) (after q pawn_order)) = subst (λ (x : List ℕ). IsIn x (sets_of (length x) (after q pawn_order))) (sym a.0) (sets_contain_filtered f (after q pawn_order)) in
     let n : length rest ≡ k - 1 = omega arith in
     IsIn-lists_by_back (map (square_at part) (range_with_len 1 6)) (λ q. sets_of (k - 1) (after q pawn_order)) q rest
     (subst (λ (x : ℕ). IsIn q (map (square_at x) (range_with_len 1 6))) p (in_file q a.1))

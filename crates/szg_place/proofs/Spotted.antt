@@ -11,10 +11,10 @@ use Rattle.szg_values.specs.Placement.{Board, side_of}
 use Rattle.szg_values.specs.declared.Color.{Color}
 use Rattle.szg_values.specs.declared.Color.TheVariants.{White, Black}
 use Rattle.szg_count.specs.Leads.{pawn_order}
-use Rattle.szg_count.specs.Groups.{Nibbles, IsPart, counted, groups_of, group_ways, ways_of, places_of, product, order_fault, has_places, has_pawns_first, is_rearrangement}
+use Rattle.szg_count.specs.Groups.{Nibbles, IsPart, counted, groups_of, group_ways, ways_of, positions_of, product, order_fault, has_valid_positions, has_pawns_first, is_rearrangement}
 use Rattle.szg_count.specs.Radix.{EachBelow, index_with}
 use Rattle.szg_count.proofs.Radix.{index_below, digits_again}
-use Rattle.szg_count.proofs.Free.{places_order}
+use Rattle.szg_count.proofs.Free.{positions_order_groups}
 use Rattle.szg_place.specs.Layout.{Layout, IsLayout, nibbles_at, part_count, side_count, is_dtz, stored_side}
 use Rattle.szg_place.specs.Normal.{Normal, Piece, normal_of, chosen_groups, pieces_of, part_of, subtable_side, asked_side, exchanged_color, squares_with}
 use Rattle.szg_place.specs.Spots.{spot_of, index_from, counted_at, places_in_lists, squares_told, places_told, board_at, normal_board, place_fault, placement_refusal, is_regular, is_wrong_side, is_of_material, is_kings_touching, mover_at, standing_by_group}
@@ -30,7 +30,7 @@ use Rattle.szg_place.proofs.Ways.{each_below, laid_none}
 pub record IsOrdered (sides : Sides) (n : Nibbles) : Type 0 where
   pub pieces : is_rearrangement n.men (man_codes sides) ≡ true
   pub pawns : has_pawns_first sides n.men ≡ true
-  pub places : has_places sides n ≡ true
+  pub places : has_valid_positions sides n ≡ true
 
 passed : {A : Type 0} (b : Bool) (f : A) (rest : Option A) → cond (not b) (Some f) rest ≡ None → (b ≡ true) × (rest ≡ None)
 passed true f rest e = (refl, e)
@@ -41,7 +41,7 @@ unfolding order_fault
 ordered sides n e =
     let a = passed (is_rearrangement n.men (man_codes sides)) _ _ e in
     let b = passed (has_pawns_first sides n.men) _ _ a.1 in
-    let c = passed (has_places sides n) _ _ b.1 in
+    let c = passed (has_valid_positions sides n) _ _ b.1 in
     record { pieces = a.0; pawns = b.0; places = c.0 }
 
 pub none_is : {X : Type 0} (o : Option X) → IsNone o → o ≡ None
@@ -74,7 +74,7 @@ allowed l board e =
 
 pub asked_symmetric : (sides : Sides) (board : Board) → is_symmetric sides ≡ true → asked_side sides board ≡ 0
 asked_symmetric sides board e =
-    ap (λ b. number (is_color White (exchanged_color (cond b (is_color Black board.mover) (not (is_same_men (side_of White board.standing) sides.first))) board.mover))) e
+    ap (λ b. number (is_color White (exchanged_color (cond b (is_color Black board.mover) (not (is_same_men (side_of White board.placed_men) sides.first))) board.mover))) e
     ∙ both board.mover
   where
     number : Bool → ℕ
@@ -110,31 +110,31 @@ length-range : (a n : ℕ) → length (range_with_len a n) ≡ n
 length-range a zero = refl
 length-range a (suc n) = ap suc (length-range (a + 1) n)
 
-pub ways_many : (sides : Sides) (part : ℕ) (n : Nibbles) → has_places sides n ≡ true →
-    length (ways_of sides part (groups_of sides n.men)) ≡ length (places_of n (length (groups_of sides n.men)))
+pub ways_many : (sides : Sides) (part : ℕ) (n : Nibbles) → has_valid_positions sides n ≡ true →
+    length (ways_of sides part (groups_of sides n.men)) ≡ length (positions_of n (length (groups_of sides n.men)))
 ways_many sides part n e = let groups = groups_of sides n.men in
-    length-map (range_with_len 0 (length groups)) (group_ways sides part groups) ∙ length-range 0 (length groups) ∙ sym (places_order sides n e).1
+    length-map (range_with_len 0 (length groups)) (group_ways sides part groups) ∙ length-range 0 (length groups) ∙ sym (positions_order_groups sides n e).1
 
 pub places_below : (sides : Sides) (part : ℕ) (n : Nibbles) (squares : List (List ℕ)) → IsMaterial sides → IsPart sides part →
     EachInList sides part [] (groups_of sides n.men) squares → EachBelow (places_in_lists sides part [] squares) (ways_of sides part (groups_of sides n.men))
 places_below sides part n squares m p h = each_below sides part [] [] (groups_of sides n.men) squares m p refl refl (laid_none sides) h
 
-pub index_inside : (sides : Sides) (part : ℕ) (n : Nibbles) (squares : List (List ℕ)) → IsMaterial sides → IsPart sides part → has_places sides n ≡ true →
+pub index_inside : (sides : Sides) (part : ℕ) (n : Nibbles) (squares : List (List ℕ)) → IsMaterial sides → IsPart sides part → has_valid_positions sides n ≡ true →
     EachInList sides part [] (groups_of sides n.men) squares →
     index_with (places_in_lists sides part [] squares) (counted sides part n).factors < product (counted sides part n).ways
 unfolding counted
 index_inside sides part n squares m p e h = let groups = groups_of sides n.men in
-    index_below (places_of n (length groups)) (ways_of sides part groups) (places_in_lists sides part [] squares)
-    (places_order sides n e).0 (ways_many sides part n e) (places_below sides part n squares m p h)
+    index_below (positions_of n (length groups)) (ways_of sides part groups) (places_in_lists sides part [] squares)
+    (positions_order_groups sides n e).0 (ways_many sides part n e) (places_below sides part n squares m p h)
 
-pub squares_back : (sides : Sides) (part : ℕ) (n : Nibbles) (squares : List (List ℕ)) → IsMaterial sides → IsPart sides part → has_places sides n ≡ true →
+pub squares_back : (sides : Sides) (part : ℕ) (n : Nibbles) (squares : List (List ℕ)) → IsMaterial sides → IsPart sides part → has_valid_positions sides n ≡ true →
     EachInList sides part [] (groups_of sides n.men) squares →
     squares_told sides part [] (zip (counted sides part n).groups (places_told (counted sides part n) (index_with (places_in_lists sides part [] squares) (counted sides part n).factors))) ≡ squares
 unfolding counted
 squares_back sides part n squares m p e h = let groups = groups_of sides n.men in
     ap (λ places. squares_told sides part [] (zip groups places))
-    (digits_again (places_of n (length groups)) (ways_of sides part groups) (places_in_lists sides part [] squares)
-    (places_order sides n e).0 (ways_many sides part n e) (places_below sides part n squares m p h))
+    (digits_again (positions_of n (length groups)) (ways_of sides part groups) (places_in_lists sides part [] squares)
+    (positions_order_groups sides n e).0 (ways_many sides part n e) (places_below sides part n squares m p h))
     ∙ squares_again sides part groups squares h
 
 -- ---- the laws, from the squares' places in their lists
@@ -204,6 +204,6 @@ placement_of_spot_from lists l board h a =
     let ok = allowed l board a.place in (
       refusal_none (is_regular l.material (chosen_groups l board)) (is_dtz l.kind && is_symmetric l.material && has_pawns l.material && stored_side l normal.part == 1)
           ok.regular (allowed_side (is_dtz l.kind) (is_symmetric l.material) (has_pawns l.material) (asked_side l.material board) (stored_side l normal.part) (asked_symmetric l.material board) ok.sided),
-      ap (λ (squares : List (List ℕ)). let b : Board = record { standing = standing_by_group (chosen_groups l board) squares; mover = mover_at l normal.part normal.side } in b)
+      ap (λ (squares : List (List ℕ)). let b : Board = record { placed_men = standing_by_group (chosen_groups l board) squares; mover = mover_at l normal.part normal.side } in b)
           (squares_told_again lists l board h a),
     )

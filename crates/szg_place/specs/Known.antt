@@ -1,29 +1,29 @@
 -- What is known of a placement on the way to its index.
 use Rattle.std.specs.List.{concat}
-use Rattle.std.specs.Prelude.{◌≡◌, ℕ, ◌<◌, ◌≤◌, ◌==◌, ◌&&◌, true, List, length, None, IsNone, IfSome, IsSomeAnd, Result, Ok, Err, IfOk, if◌then◌else◌}
+use Rattle.std.specs.Prelude.{◌≡◌, ℕ, ◌<◌, ◌≤◌, ◌==◌, ◌&&◌, true, List, [], ◌∷◌, slice_index, length, None, IsNone, IfSome, IsSomeAnd, Result, Ok, Err, IfOk, if◌then◌else◌}
 use Rattle.szg_values.specs.declared.Kind.{Kind}
-use Rattle.szg_values.specs.Material.{Sides, IsMaterial}
+use Rattle.szg_values.specs.Material.{Sides, IsMaterial, has_pawns, lead_pawn_code}
 use Rattle.szg_values.specs.Placement.{Board, placement_fault}
 use Rattle.szg_count.specs.Groups.{IsPart, Nibbles, order_fault, counted, has_other_pawns}
-use Rattle.szg_count.specs.Leads.{pawn_squares, squares_down}
+use Rattle.szg_count.specs.Leads.{pawn_squares, pawn_order, squares_down}
 use Rattle.szg_count.specs.Laws.{IsIn, AllDiffer}
-use Rattle.szg_count.specs.Seen.{groups_told}
+use Rattle.szg_count.specs.Views.{groups_in_slot_order}
 use Rattle.szg_count.specs.declared.Group.{Group}
-use Rattle.szg_file.specs.Contents.{Contents}
-use Rattle.szg_file.specs.Values.{subtable_at}
+use Rattle.szg_file.specs.Index.{Index, slot_in}
 use Rattle.szg_place.specs.Layout.{Layout, IsLayout, is_dtz, nibbles_at}
-use Rattle.szg_place.specs.Normal.{Piece, pieces_of, part_of, asked_side, subtable_side}
+use Rattle.szg_place.specs.Normal.{Piece, pieces_of, part_of, asked_side, subtable_side, is_exchanged, squares_with}
 use Rattle.szg_place.specs.Spots.{is_of_material, place_fault, spot_of}
 use Rattle.szg_place.specs.Laws.{IsOnBoard, IsAnswered}
-use Rattle.szg_place.specs.Tables.{numbering_of}
+use Rattle.szg_place.specs.Tables.{numbering_in}
 use Rattle.szg_place.specs.declared.Spot.{Spot}
+use Rattle.szg_place.specs.declared.spots.Asked.{Asked}
 use Rattle.szg_place.specs.declared.PlaceFault.{PlaceFault}
 
 -- a placement of a table's men
 pub record IsKnown (sides : Sides) (board : Board) : Type 0 where
   pub material : IsMaterial sides
   pub inside : IsOnBoard board
-  pub placement : placement_fault board.standing ≡ None
+  pub placement : placement_fault board.placed_men ≡ None
   pub men : is_of_material sides board ≡ true
 
 -- its men as the file codes them, its part, its subtable's side and the asked side
@@ -34,6 +34,12 @@ pub record IsAsked (sides : Sides) (kind : Kind) (board : Board) (pieces : List 
   pub part_is : part ≡ part_of sides (pieces_of sides board)
   pub side_is : side ≡ (if is_dtz kind then 0 else asked)
   pub asked_is : asked ≡ asked_side sides board
+
+-- what the code keeps of it
+pub record IsAskedOf (sides : Sides) (kind : Kind) (board : Board) (a : Asked) : Type 0 where
+  pub asked : IsAsked sides kind board (pieces_of sides board) a.part a.side a.mover
+  pub exchanged : a.exchanged ≡ is_exchanged sides board
+  pub first : has_pawns sides ≡ true → a.first ≡ slice_index (squares_with (lead_pawn_code sides ∷ []) (pieces_of sides board) pawn_order) 0
 
 -- its subtable, and the nibbles of that part's side
 pub record IsFound (l : Layout) (board : Board) (part side asked : ℕ) (n : Nibbles) : Type 0 where
@@ -51,17 +57,17 @@ pub record IsLocated (l : Layout) (board : Board) (result : Result Spot PlaceFau
   pub spot : IsNone (place_fault l board) → result ≡ Ok (spot_of l board)
   pub answered : IfOk result (λ _. IsAnswered l board)
 
--- and a table has a value there
-pub record IsLocatedIn (t : Contents) (board : Board) (result : Result Spot PlaceFault) : Type 0 where
-  pub refused : IfSome (place_fault (numbering_of t) board) (λ fault. result ≡ Err fault)
-  pub spot : IsNone (place_fault (numbering_of t) board) → result ≡ Ok (spot_of (numbering_of t) board)
-  pub below : IfOk result (λ spot. IsSomeAnd (subtable_at t spot.part spot.side) (λ found. spot.index < found.0.size))
+-- and the index has a slot there
+pub record IsLocatedIn (x : Index) (board : Board) (result : Result Spot PlaceFault) : Type 0 where
+  pub refused : IfSome (place_fault (numbering_in x) board) (λ fault. result ≡ Err fault)
+  pub spot : IsNone (place_fault (numbering_in x) board) → result ≡ Ok (spot_of (numbering_in x) board)
+  pub below : IfOk result (λ spot. IsSomeAnd (slot_in x spot.part spot.side) (λ slot. spot.index < slot.size))
 
 -- the groups of an order without a fault, in a part of the material
 pub record AreGrouped (sides : Sides) (part : ℕ) (n : Nibbles) (groups : List Group) : Type 0 where
   pub has_part : IsPart sides part
   pub ordered : order_fault sides n ≡ None
-  pub groups_are : groups ≡ groups_told (counted sides part n)
+  pub groups_are : groups ≡ groups_in_slot_order (counted sides part n)
 
 -- a group comes behind others, so many, that stand on the squares taken
 pub record IsBehind (sides : Sides) (part number : ℕ) (taken : List ℕ) (before : List (List ℕ)) : Type 0 where

@@ -10,3 +10,4 @@ pub mod Known
 pub mod Opened
 pub mod Prepared
 pub mod Traits
+pub mod Seats

@@ -1,15 +1,16 @@
 -- The normal form of a placement: the subtable that counts it, and the squares of each group.
-use Rattle.std.specs.Prelude.{ℕ, ◌+◌, ◌-◌, Bool, false, not, ◌&&◌, ◌==◌, nat_lt, min, List, [], ◌∷◌, map, filter, flat_map, slice_get, slice_index, unwrap_or, if◌then◌else◌}
+use Rattle.std.specs.Prelude.{ℕ, ◌-◌, Bool, false, not, ◌&&◌, ◌==◌, nat_lt, min, List, [], ◌∷◌, map, filter, flat_map, slice_get, slice_index, unwrap_or, if◌then◌else◌}
 use Rattle.std.specs.List.{list_any}
-use Rattle.szg_values.specs.Men.{code_of, file_of, rank_of, square_at, is_color, other_color}
+use Rattle.szg_values.specs.Men.{file_of, rank_of, square_at, is_color, other_color}
 use Rattle.szg_values.specs.Material.{Sides, is_same_men, is_symmetric, has_pawns, lead_pawn_code}
 use Rattle.szg_values.specs.Placement.{Board, side_of}
-use Rattle.szg_values.specs.declared.Man.{Man}
 use Rattle.szg_values.specs.declared.Color.{Color}
 use Rattle.szg_values.specs.declared.Color.TheVariants.{White, Black}
 use Rattle.szg_count.specs.Leads.{contains, pawn_order, squares_down, is_on_diagonal}
 use Rattle.szg_count.specs.Groups.{groups_of}
 use Rattle.szg_place.specs.Layout.{Layout, is_dtz, nibbles_at}
+-- a man's code; the men of the name's second side, which are now Black's, add 8
+pub use Rattle.szg_values.specs.Placement.{colored_code}
 -- a man code and its square
 pub use Rattle.szg_place.specs.declared.men.Piece.{Piece}
 
@@ -17,7 +18,7 @@ pub use Rattle.szg_place.specs.declared.men.Piece.{Piece}
 
 -- whether colours are exchanged: with the same men on both sides when Black moves, else where White isn't the name's first side
 abbrev pub is_exchanged : Sides → Board → Bool
-is_exchanged sides board = if is_symmetric sides then is_color Black board.mover else not (is_same_men (side_of White board.standing) sides.first)
+is_exchanged sides board = if is_symmetric sides then is_color Black board.mover else not (is_same_men (side_of White board.placed_men) sides.first)
 
 abbrev pub exchanged_color : Bool → Color → Color
 exchanged_color exchanged color = if exchanged then other_color color else color
@@ -38,17 +39,12 @@ flip_rank square = square_at (file_of square) (7 - rank_of square)
 abbrev pub reflect : ℕ → ℕ
 reflect square = square_at (rank_of square) (file_of square)
 
--- the men of the name's second side, which are now Black's, add 8
-abbrev pub colored_code : Man → Color → ℕ
-colored_code man White = code_of man
-colored_code man Black = 8 + code_of man
-
 -- the men once colours are exchanged where they have to be; with pawns that flips the ranks
 unfoldable pub pieces_of : Sides → Board → List Piece
 pieces_of sides board = let exchanged = is_exchanged sides board in map (λ s. record {
   code = colored_code s.0 (exchanged_color exchanged s.1);
   square = if exchanged && has_pawns sides then flip_rank s.2 else s.2;
-}) board.standing
+}) board.placed_men
 
 -- the squares of a list on which men of these codes stand
 abbrev pub squares_with : List ℕ → List Piece → List ℕ → List ℕ

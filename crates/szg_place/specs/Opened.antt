@@ -1,7 +1,7 @@
 -- What a probe of a table by place answers.
 use Rattle.std.specs.Prelude.{◌≡◌, ℕ, ℤ, Option, Some, None, Result, Ok, Err, IsSomeAnd}
 use Rattle.szg_values.specs.Placement.{Board}
-use Rattle.szg_block.specs.Lending.{raised}
+use Rattle.szg_block.specs.BlocksTrait.{raised}
 use Rattle.szg_file.specs.Contents.{Contents, Slot, Subtable}
 use Rattle.szg_file.specs.Opened.{Opened, asked_after}
 use Rattle.szg_file.specs.Values.{subtable_at}
@@ -56,9 +56,9 @@ failed_by (Err (Probe fault)) failed = failed
 
 -- a refused placement asks the source for nothing, any other one for one block of its subtable
 abbrev pub asked_by : Option PlaceFault → Option (Slot × Subtable) → ℕ → ℕ
-asked_by (Some fault) there asked = asked
-asked_by None None asked = asked
-asked_by None (Some found) asked = asked_after found.1 asked
+asked_by (Some fault) there requested = requested
+asked_by None None requested = requested
+asked_by None (Some found) requested = asked_after found.1 requested
 
 abbrev pub asked_in : Contents → Board → ℕ → ℕ
 asked_in t board = asked_by (place_fault (numbering_of t) board) (subtable_at t (spot_in t board).part (spot_in t board).side)

@@ -1,12 +1,12 @@
 -- What a numbering that was made before is of a table.
-use Rattle.std.specs.Prelude.{◌≡◌, ℕ, List, map, Option, Some}
+use Rattle.std.specs.Prelude.{◌≡◌, ℕ, List, Option, Some}
 use Rattle.szg_values.specs.Material.{Sides}
 use Rattle.szg_count.specs.Laws.{IsIn}
 use Rattle.szg_count.specs.Groups.{counted, groups_of}
-use Rattle.szg_count.specs.Seen.{nibbles_in, groups_told}
+use Rattle.szg_count.specs.Views.{nibbles_in, groups_in_slot_order}
 use Rattle.szg_file.specs.Contents.{Contents}
-use Rattle.szg_file.specs.File.{flags_of}
 use Rattle.szg_place.specs.Layout.{Layout, nibbles_at}
+use Rattle.szg_place.specs.Seats.{AreFirst}
 use Rattle.szg_place.specs.Spots.{is_regular}
 use Rattle.szg_place.specs.Tables.{numbering_of}
 use Rattle.szg_place.specs.declared.spots.Prepared.{Prepared}
@@ -14,8 +14,9 @@ use Rattle.szg_place.specs.declared.spots.Prepared.{Prepared}
 -- its nibbles are the part's side's, and its groups theirs
 pub record IsPrepared (l : Layout) (p : Prepared) : Type 0 where
   pub nibbles : nibbles_in p.grouped.order ≡ nibbles_at l p.part p.side
-  pub groups : p.grouped.groups ≡ groups_told (counted l.material p.part (nibbles_in p.grouped.order))
+  pub groups : p.grouped.groups ≡ groups_in_slot_order (counted l.material p.part (nibbles_in p.grouped.order))
   pub regular : p.grouped.regular ≡ is_regular l.material (groups_of l.material p.grouped.order.men.items)
+  pub slots : AreFirst p.grouped.order.men.items p.grouped.slots
 
 -- and it is that of this part's side
 pub record IsPreparedFor (l : Layout) (p : Prepared) (part side : ℕ) : Type 0 where
@@ -23,8 +24,7 @@ pub record IsPreparedFor (l : Layout) (p : Prepared) (part side : ℕ) : Type 0 
   pub part_is : p.part ≡ part
   pub side_is : p.side ≡ side
 
--- what is kept of a table: what its material tells, the flags of its subtables, and numberings of its parts' sides
-pub record ArePrepared (t : Contents) (material : Sides) (flags : List ℕ) (sides : List (Option Prepared)) : Type 0 where
+-- what is kept of a table: what its material tells, and numberings of its parts' sides
+pub record ArePrepared (t : Contents) (material : Sides) (sides : List (Option Prepared)) : Type 0 where
   pub material_is : material ≡ t.material
-  pub flags_are : flags ≡ map flags_of t.subtables
   pub sides_are : (p : Prepared) → IsIn (Some p) sides → IsPrepared (numbering_of t) p

@@ -1,8 +1,8 @@
 -- What a material tells, kept for many placements.
-use Rattle.std.specs.Prelude.{◌≡◌, ℕ, ◌^◌, Bool, List}
+use Rattle.std.specs.Prelude.{◌≡◌, ℕ, ◌+◌, ◌*◌, ◌/◌, ◌%◌, ◌^◌, Bool, List}
 use Rattle.std.specs.List.{sum_by}
 use Rattle.szg_values.specs.Material.{Sides, IsMaterial, is_symmetric, has_pawns, lead_pawns, other_pawns, lead_pawn_code, has_single_lead, man_codes}
-use Rattle.szg_values.specs.Placement.{Standing}
+use Rattle.szg_values.specs.Placement.{PlacedMan}
 use Rattle.szg_place.specs.Normal.{colored_code, exchanged_color}
 
 -- A key tells how many men of each code there are: each code has a digit of base 8, since there are at most six men.
@@ -10,8 +10,12 @@ abbrev pub key_of : List ℕ → ℕ
 key_of codes = sum_by (λ code. 8 ^ code) codes
 
 -- the key of men on squares, colours exchanged or not
-abbrev pub men_key : Bool → List Standing → ℕ
-men_key exchanged standing = sum_by (λ s. 8 ^ colored_code s.0 (exchanged_color exchanged s.1)) standing
+abbrev pub men_key : Bool → List PlacedMan → ℕ
+men_key exchanged placed_men = sum_by (λ s. 8 ^ colored_code s.0 (exchanged_color exchanged s.1)) placed_men
+
+-- a key whose eight lower digits and eight upper digits change places: that of the same men, colours exchanged
+abbrev pub with_exchanged_halves : ℕ → ℕ
+with_exchanged_halves key = key / 16777216 + key % 16777216 * 16777216
 
 -- what is kept of a material
 pub record AreTraits (sides : Sides) (symmetric pawns single : Bool) (lead other code key : ℕ) : Type 0 where

@@ -5,7 +5,7 @@ ghost use Rattle.std.specs.List.{concat, zip};
 ghost use Rattle.arrayvec.specs.ArrayVec.{array_vec_len};
 ghost use Rattle.szg_values.specs.Material.{IsMaterial};
 ghost use Rattle.szg_count.specs.Groups.{IsPart, Nibbles, order_fault, groups_of, counted, product};
-ghost use Rattle.szg_count.specs.Seen.{groups_told};
+ghost use Rattle.szg_count.specs.Views.{groups_in_slot_order};
 ghost use Rattle.szg_count.specs.Radix.{index_with};
 ghost use Rattle.szg_place.specs.Known.{AreGrouped};
 ghost use Rattle.szg_place.specs.Spots.{places_in_lists, squares_told, places_told};
@@ -17,23 +17,8 @@ use arrayvec::ArrayVec;
 use szg_count::Groups;
 use szg_values::{MAX_MEN, Material};
 
-/// The index of squares that stand group after group, each group's in its ordered list: the sum of
-/// place times factor.
-pub fn index_with(material: &Material, part: u8, groups: &Groups, squares: &[u8]) -> u64
-    ghost given: { Nibbles × List (List ℕ) }
-    requires part { IsPart material.now part }
-    requires ordered { order_fault material.now given.0 ≡ None }
-    requires groups { groups.now ≡ groups_told (counted material.now part given.0) }
-    requires squares { squares.now ≡ concat given.1 }
-    requires few { length squares.now ≤ 6 }
-    requires listed { EachInList material.now part [] (groups_of material.now given.0.men) given.1 }
-    ensures index { result ≡ index_with (places_in_lists material.now part [] given.1) (counted material.now part given.0).factors }
-    ensures fits { result < 2 ^ 33 }
-{
-    index_by(&Traits::of(material), part, groups, squares)
-}
-
 /// The same for a caller that knows what the material tells.
+#[inline(always)]
 pub(crate) fn index_by(material: &Traits, part: u8, groups: &Groups, squares: &[u8]) -> u64
     ghost given: { Nibbles × List (List ℕ) }
     requires grouped { AreGrouped material.now part given.0 groups.now }
@@ -64,7 +49,7 @@ pub fn squares_at(
     ghost given: { Nibbles × List (List ℕ) }
     requires part { IsPart material.now part }
     requires ordered { order_fault material.now given.0 ≡ None }
-    requires groups { groups.now ≡ groups_told (counted material.now part given.0) }
+    requires groups { groups.now ≡ groups_in_slot_order (counted material.now part given.0) }
     requires below { index < product (counted material.now part given.0).ways }
     requires told { given.1 ≡ squares_told material.now part [] (zip (counted material.now part given.0).groups (places_told (counted material.now part given.0) index)) }
     requires few { length (concat given.1) ≤ 6 }

@@ -8,7 +8,7 @@ ghost use Rattle.szg_count.specs.Laws.{IsIn};
 
 use crate::choices::place_of_set;
 use arrayvec::ArrayVec;
-use szg_count::subset_at;
+use szg_count::unrank_subset;
 use szg_values::MAX_MEN;
 
 /// The value P of a square: how many squares come after it in the order of pawn squares.
@@ -85,7 +85,7 @@ pub fn lead_pawns_at(pawns: u8, file: u8, place: u64) -> ArrayVec<u8, MAX_MEN>
     let rank = first_rank(pawns, file, place);
     let first = 8 * rank + file;
     let rest = place - ways_before(usize::from(pawns), file, rank);
-    let numbers = subset_at(PAWN_NUMBERS[usize::from(first)], pawns - 1, rest);
+    let numbers = unrank_subset(PAWN_NUMBERS[usize::from(first)], pawns - 1, rest);
     squares_from(first, numbers.as_slice())
 }
 

@@ -16,9 +16,10 @@ mod normal;
 mod numbering;
 mod opened;
 mod placement;
-pub mod places;
+mod places;
 mod prepared;
 mod probes;
+mod seats;
 mod slots;
 mod spots;
 mod traits;
@@ -26,10 +27,10 @@ pub mod triples;
 
 pub use numbering::SideGroups;
 pub use opened::{index_of_opened, probe_dtz_opened, probe_wdl_opened};
-pub use placement::placement_of;
+pub use placement::{placement_in, placement_of};
 pub use prepared::PreparedTable;
 pub use probes::{probe_dtz, probe_wdl};
-pub use spots::{Prepared, index_of};
+pub use spots::{index_in, index_of};
 
 /// Why a table has no index for a placement. The first check that refuses is told, in this order.
 #[derive(Clone, Copy, Debug, PartialEq, Eq, Error)]

@@ -6,8 +6,9 @@ ghost use Rattle.szg_values.specs.Material.{has_pawns, is_symmetric, count_of};
 ghost use Rattle.szg_place.specs.Normal.{is_exchanged, exchanged_color, colored_code, flip_rank, pieces_of};
 ghost use Rattle.szg_place.specs.Slots.{piece_from};
 ghost use Rattle.szg_place.specs.Spots.{is_of_material};
+ghost use Rattle.szg_place.specs.Traits.{with_exchanged_halves};
 
-use crate::traits::{Traits, men_keys};
+use crate::traits::Traits;
 use arrayvec::ArrayVec;
 use szg_values::{Color, MAX_MEN, Man, Placement, Square};
 
@@ -30,17 +31,26 @@ pub fn exchange_of(material: &Traits, placement: &Placement) -> Option<bool>
     ensures men { IfSome result (λ exchanged. is_of_material material.now placement.now ≡ true) }
     ensures exchanged { IfSome result (λ exchanged. exchanged ≡ is_exchanged material.now placement.now) }
 {
-    // It tells that it is a name's.
+    // The men tell that they are a placement's, and the material that it is a name's.
+    let _placed_men = placement.men();
     let _material = material.material();
-    let (key, exchanged_key) = men_keys(placement.men());
+    let key = placement.key();
     let own = material.key();
     if key == own {
         return Some(is_twin(material, placement));
     }
+    let exchanged_key = with_exchanged_halves(key);
     if exchanged_key == own {
         return Some(true);
     }
     None
+}
+
+// The key of the same men with colours exchanged: the eight digits of White's men and those of Black's change places.
+fn with_exchanged_halves(key: u64) -> u64
+    ensures { result ≡ with_exchanged_halves key }
+{
+    key / 16777216 + key % 16777216 * 16777216
 }
 
 // Whether both sides have the same men and Black moves.
@@ -80,45 +90,14 @@ pub fn exchanged_color(exchanged: bool, color: Color) -> Color
     }
 }
 
-/// Lists the men of a placement, colours exchanged or not; with pawns the exchange flips the ranks.
-#[inline(always)]
-pub fn pieces_of(
-    material: &Traits,
-    placement: &Placement,
-    exchanged: bool,
-    pieces: &mut ArrayVec<Piece, MAX_MEN>,
-)
-    requires exchanged { exchanged ≡ is_exchanged material.now placement.now }
-    requires empty { pieces.old.items ≡ [] }
-    ensures pieces { pieces.new.items ≡ pieces_of material.now placement.now }
-    ensures few { length pieces.new.items ≤ 6 }
-{
-    let flips = flips_ranks(material, exchanged);
-    coded(placement.men(), exchanged, flips, pieces);
-}
-
-fn flips_ranks(material: &Traits, exchanged: bool) -> bool
+/// Whether an exchange of colours flips the ranks: with pawns.
+pub(crate) fn flips_ranks(material: &Traits, exchanged: bool) -> bool
     ensures { result ≡ (exchanged && has_pawns material.now) }
 {
     exchanged && material.has_pawns()
 }
 
-fn coded(
-    men: &[(Man, Color, Square)],
-    exchanged: bool,
-    flips: bool,
-    pieces: &mut ArrayVec<Piece, MAX_MEN>,
-)
-    requires few { length men.now ≤ 6 }
-    requires empty { pieces.old.items ≡ [] }
-    ensures { pieces.new.items ≡ map (piece_from exchanged flips) men.now }
-{
-    for man in men {
-        pieces.push(piece_of(man, exchanged, flips));
-    }
-}
-
-fn piece_of(man: &(Man, Color, Square), exchanged: bool, flips: bool) -> Piece
+pub(crate) fn piece_of(man: &(Man, Color, Square), exchanged: bool, flips: bool) -> Piece
     ensures { result ≡ piece_from exchanged flips man.now }
 {
     let square = man.2.number();

@@ -4,18 +4,20 @@ ghost use Rattle.std.specs.Prelude.{◌≡◌, ◌≤◌, ◌<◌, ◌%◌, ◌=
 ghost use Rattle.std.specs.List.{list_all};
 ghost use Rattle.szg_values.specs.Material.{count_of, has_pawns, is_symmetric};
 ghost use Rattle.szg_count.specs.Groups.{IsPart, nibble, nibbles_of, order_fault, counted, groups_of};
-ghost use Rattle.szg_count.specs.Seen.{nibbles_in, groups_told};
+ghost use Rattle.szg_count.specs.Views.{nibbles_in, groups_in_slot_order};
 ghost use Rattle.szg_file.specs.Held.{part_of};
-ghost use Rattle.szg_file.specs.Values.{subtable_at};
+ghost use Rattle.szg_file.specs.Index.{slot_in};
 ghost use Rattle.szg_place.specs.Layout.{is_dtz, layout_in, nibbles_at, nibbles_in_part};
+ghost use Rattle.szg_place.specs.Seats.{AreFirst};
 ghost use Rattle.szg_place.specs.Spots.{is_regular, is_wrong_side};
-ghost use Rattle.szg_place.specs.Tables.{numbering_of};
+ghost use Rattle.szg_place.specs.Tables.{numbering_in};
 
 use crate::men::code_count;
+use crate::seats::first_slots;
 use crate::traits::Traits;
 use arrayvec::ArrayVec;
 use szg_count::{Groups, Order};
-use szg_file::{PartBytes, Table};
+use szg_file::{PartBytes, TableIndex};
 use szg_values::{Kind, Material};
 
 /// The subtable's side where this side is asked: a DTZ table has one for both.
@@ -39,17 +41,16 @@ pub fn order_in(parts: &[PartBytes], part: u8, side: u8) -> Order
     order_of(side, &bytes.order, &bytes.men)
 }
 
-/// The nibbles of a part's side that the table has.
-pub fn order_at(table: &Table, part: u8, side: u8) -> Order
-    requires { IsSome (subtable_at table.now.contents part side) }
-    ensures nibbles { nibbles_in result ≡ nibbles_at (numbering_of table.now.contents) part side }
-    ensures part { IsPart table.now.contents.material part }
-    ensures ordered { order_fault table.now.contents.material (nibbles_in result) ≡ None }
+/// Returns the nibbles of a part and side that the index has.
+pub fn order_at(index: &TableIndex, part: u8, side: u8) -> Order
+    requires { IsSome (slot_in index.now part side) }
+    ensures nibbles { nibbles_in result ≡ nibbles_at (numbering_in index.now) part side }
+    ensures part { IsPart index.now.material part }
+    ensures ordered { order_fault index.now.material (nibbles_in result) ≡ None }
 {
-    // The fill tells that this is a table, and the men that they are a material's.
-    let _fill = table.fill();
-    let _men = table.material().men();
-    order_in(table.parts(), part, side)
+    // the men tell that they are a material's
+    let _men = index.material().men();
+    order_in(index.parts(), part, side)
 }
 
 fn order_of(side: u8, order: &[u8], men: &[u8]) -> Order
@@ -92,7 +93,7 @@ fn nibble_of(side: u8, byte: u8) -> u8
 pub fn groups_of(material: &Material, part: u8, order: &Order) -> Groups
     requires part { IsPart material.now part }
     requires ordered { order_fault material.now (nibbles_in order.now) ≡ None }
-    ensures { result ≡ groups_told (counted material.now part (nibbles_in order.now)) }
+    ensures { result ≡ groups_in_slot_order (counted material.now part (nibbles_in order.now)) }
 {
     let Ok(groups) = Groups::of(material, part, order) else {
         unreachable!()
@@ -109,6 +110,8 @@ pub struct SideGroups {
     pub groups: Groups,
     /// Whether its groups number placements.
     pub regular: bool,
+    /// The first slot of each man's code.
+    pub slots: [u8; 16],
 }
 
 /// The groups of an order without a fault, and whether they number placements.
@@ -116,15 +119,18 @@ pub fn grouped_by(material: &Material, part: u8, order: Order) -> SideGroups
     requires part { IsPart material.now part }
     requires ordered { order_fault material.now (nibbles_in order) ≡ None }
     ensures order { nibbles_in result.order ≡ nibbles_in order }
-    ensures groups { result.groups ≡ groups_told (counted material.now part (nibbles_in order)) }
+    ensures groups { result.groups ≡ groups_in_slot_order (counted material.now part (nibbles_in order)) }
     ensures regular { result.regular ≡ is_regular material.now (groups_of material.now order.men.items) }
+    ensures slots { AreFirst result.order.men.items result.slots }
 {
     let groups = groups_of(material, part, &order);
     let regular = is_regular(material, part, &order, &groups);
+    let slots = first_slots(order.men.as_slice());
     SideGroups {
         order,
         groups,
         regular,
+        slots,
     }
 }
 
@@ -133,8 +139,9 @@ pub fn grouped_of(material: &Traits, part: u8, order: Order) -> SideGroups
     requires part { IsPart material.now part }
     requires ordered { order_fault material.now (nibbles_in order) ≡ None }
     ensures order { nibbles_in result.order ≡ nibbles_in order }
-    ensures groups { result.groups ≡ groups_told (counted material.now part (nibbles_in order)) }
+    ensures groups { result.groups ≡ groups_in_slot_order (counted material.now part (nibbles_in order)) }
     ensures regular { result.regular ≡ is_regular material.now (groups_of material.now order.men.items) }
+    ensures slots { AreFirst result.order.men.items result.slots }
 {
     grouped_by(material.material(), part, order)
 }
@@ -142,21 +149,21 @@ pub fn grouped_of(material: &Traits, part: u8, order: Order) -> SideGroups
 /// Whether without pawns each man of the lead group is the only one of its kind and colour, and each
 /// later group has all men of its kind and colour.
 pub fn is_regular(material: &Material, part: u8, order: &Order, groups: &Groups) -> bool
-    requires { groups.now ≡ groups_told (counted material.now part (nibbles_in order.now)) }
+    requires { groups.now ≡ groups_in_slot_order (counted material.now part (nibbles_in order.now)) }
     ensures { result ≡ is_regular material.now (groups_of material.now order.now.men.items) }
 {
     is_lead_single(material, part, order, groups) && are_later_whole(material, part, order, groups)
 }
 
 fn is_lead_single(material: &Material, part: u8, order: &Order, groups: &Groups) -> bool
-    requires { groups.now ≡ groups_told (counted material.now part (nibbles_in order.now)) }
+    requires { groups.now ≡ groups_in_slot_order (counted material.now part (nibbles_in order.now)) }
     ensures { result ≡ (has_pawns material.now || list_all (λ code. count_of code order.now.men.items == 1) (slice_index_or (groups_of material.now order.now.men.items) 0 [])) }
 {
     material.has_pawns() || is_group_counted(material, part, order, groups, 0, 1)
 }
 
 fn are_later_whole(material: &Material, part: u8, order: &Order, groups: &Groups) -> bool
-    requires { groups.now ≡ groups_told (counted material.now part (nibbles_in order.now)) }
+    requires { groups.now ≡ groups_in_slot_order (counted material.now part (nibbles_in order.now)) }
     ensures { result ≡ list_all (λ group. list_all (λ code. count_of code order.now.men.items == length group) group) (drop 1 (groups_of material.now order.now.men.items)) }
 {
     for i in 1..groups.count() {
@@ -177,7 +184,7 @@ fn is_group_counted(
     i: usize,
     number: usize,
 ) -> bool
-    requires told { groups.now ≡ groups_told (counted material.now part (nibbles_in order.now)) }
+    requires told { groups.now ≡ groups_in_slot_order (counted material.now part (nibbles_in order.now)) }
     requires there { i < length groups.now }
     ensures { result ≡ list_all (λ code. count_of code order.now.men.items == number) (slice_index_or (groups_of material.now order.now.men.items) i []) }
 {

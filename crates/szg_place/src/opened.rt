@@ -8,7 +8,6 @@ ghost use Rattle.szg_place.specs.Tables.{mapped_number, numbering_of};
 
 use crate::probes::class_of;
 use crate::spots::index_in;
-use crate::traits::Traits;
 use crate::{OpenedProbeFault, PlaceFault, ProbeFault, Spot};
 use szg_block::Source;
 use szg_file::{MapFault, Opened};
@@ -26,10 +25,7 @@ pub fn index_of_opened<S: Source + Drop>(
     // So the table has a value there.
     ensures below { IfOk result (λ spot. IsSomeAnd (opened_at opened.now spot.part spot.side) (λ found. spot.index < found.0.size)) }
 {
-    let material = Traits::of(opened.material());
-    let flags = opened.flags();
-    let (kind, parts) = (opened.kind(), opened.parts());
-    index_in(&material, kind, parts, flags.as_slice(), placement, None)
+    index_in(opened.index(), placement)
 }
 
 // A placement's spot, and its value.
@@ -39,7 +35,7 @@ fn value_of<S: Source + Drop>(
 ) -> Result<(Spot, u16), OpenedProbeFault>
     ensures value { IsSomeAnd (opened_table opened.old) (λ t. IsValueIn t placement.now result) }
     ensures there { IfOk result (λ found. IsSome (opened_at opened.old found.0.part found.0.side)) }
-    ensures asked { IsSomeAnd (opened_table opened.old) (λ t. opened.new.asked ≡ asked_in t placement.now opened.old.asked) }
+    ensures requested { IsSomeAnd (opened_table opened.old) (λ t. opened.new.requested ≡ asked_in t placement.now opened.old.requested) }
     ensures failed { opened.new.failed ≡ failed_by result opened.old.failed }
     ensures same { IsSameTable opened.old opened.new }
 {
@@ -66,7 +62,7 @@ pub fn probe_wdl_opened<S: Source + Drop>(
 ) -> Result<Option<i8>, OpenedProbeFault>
     requires { opened.old.kind ≡ Kind.Wdl }
     ensures class { IsSomeAnd (opened_table opened.old) (λ t. IsClassIn t placement.now result) }
-    ensures asked { IsSomeAnd (opened_table opened.old) (λ t. opened.new.asked ≡ asked_in t placement.now opened.old.asked) }
+    ensures requested { IsSomeAnd (opened_table opened.old) (λ t. opened.new.requested ≡ asked_in t placement.now opened.old.requested) }
     ensures failed { opened.new.failed ≡ failed_by result opened.old.failed }
     ensures material { opened.new.material ≡ opened.old.material }
     ensures kind { opened.new.kind ≡ opened.old.kind }
@@ -92,7 +88,7 @@ pub fn probe_dtz_opened<S: Source + Drop>(
     requires lowest { neg_ℤ (pos 2) ≤ℤ class }
     requires highest { class ≤ℤ pos 2 }
     ensures number { IsSomeAnd (opened_table opened.old) (λ t. IsNumberIn t placement.now class result) }
-    ensures asked { IsSomeAnd (opened_table opened.old) (λ t. opened.new.asked ≡ asked_in t placement.now opened.old.asked) }
+    ensures requested { IsSomeAnd (opened_table opened.old) (λ t. opened.new.requested ≡ asked_in t placement.now opened.old.requested) }
     ensures failed { opened.new.failed ≡ failed_by result opened.old.failed }
     ensures material { opened.new.material ≡ opened.old.material }
     ensures kind { opened.new.kind ≡ opened.old.kind }

@@ -3,21 +3,22 @@
 ghost use Rattle.std.specs.Prelude.{◌≡◌, ◌<◌, ◌≤◌, ◌==◌, ◌&&◌, [], length, None, IsNone, IsSome, IfSome, Ok, Err, if◌then◌else◌};
 ghost use Rattle.std.specs.List.{zip};
 ghost use Rattle.szg_count.specs.Groups.{Nibbles, IsPart, order_fault, counted, product};
-ghost use Rattle.szg_count.specs.Seen.{nibbles_in, groups_told};
+ghost use Rattle.szg_count.specs.Views.{nibbles_in, groups_in_slot_order};
 ghost use Rattle.szg_count.specs.Laws.{IsIn};
+ghost use Rattle.szg_file.specs.Index.{slot_in};
 ghost use Rattle.szg_file.specs.Values.{subtable_at};
 ghost use Rattle.szg_values.specs.Material.{has_pawns, is_symmetric};
-ghost use Rattle.szg_values.specs.Placement.{Standing};
-ghost use Rattle.szg_place.specs.Layout.{is_dtz, stored_side};
+ghost use Rattle.szg_values.specs.Placement.{PlacedMan};
+ghost use Rattle.szg_place.specs.Layout.{is_dtz};
 ghost use Rattle.szg_place.specs.Spots.{placement_refusal, board_at, places_told, squares_told, standing_by_group, standing_on, man_at, color_at};
-ghost use Rattle.szg_place.specs.Tables.{numbering_of};
+ghost use Rattle.szg_place.specs.Tables.{numbering_of, numbering_in};
 
 use crate::PlaceFault;
 use crate::index::squares_at;
 use crate::numbering::{groups_of, is_regular, order_at, stored_side};
 use arrayvec::ArrayVec;
 use szg_count::{Groups, Order};
-use szg_file::Table;
+use szg_file::{Table, TableIndex};
 use szg_values::{Color, Kind, MAX_MEN, Man, Material, Placement, Square};
 
 /// The placement that an index of a part's side tells of: what `index_of` answers there, taken back.
@@ -34,21 +35,38 @@ pub fn placement_of(table: &Table, part: u8, side: u8, index: u64) -> Result<Pla
     ensures refused { IfSome (placement_refusal (numbering_of table.now.contents) part side) (λ fault. result ≡ Err fault) }
     ensures placed { IsNone (placement_refusal (numbering_of table.now.contents) part side) → result ≡ Ok (board_at (numbering_of table.now.contents) part side index) }
 {
-    // The fill tells that this is a table, and the men that they are a material's.
-    let _fill = table.fill();
-    let material = table.material();
+    placement_in(table.index(), part, side, index)
+}
+
+/// Returns what `placement_of` returns for a table with this index: the same for each kind of table.
+///
+/// Errors: as `placement_of`.
+pub fn placement_in(
+    table: &TableIndex,
+    part: u8,
+    side: u8,
+    index: u64,
+) -> Result<Placement, PlaceFault>
+    requires there { IsSome (slot_in table.now part side) }
+    requires below { IfSome (slot_in table.now part side) (λ slot. index < slot.size) }
+    // The first reason that stands is answered.
+    ensures refused { IfSome (placement_refusal (numbering_in table.now) part side) (λ fault. result ≡ Err fault) }
+    ensures placed { IsNone (placement_refusal (numbering_in table.now) part side) → result ≡ Ok (board_at (numbering_in table.now) part side index) }
+{
+    let (material, kind, flags) = (table.material(), table.kind(), table.flags());
+    // the men tell that they are a material's
     let _men = material.men();
     let order = order_at(table, part, side);
     let groups = groups_of(material, part, &order);
     if !is_regular(material, part, &order, &groups) {
         return Err(PlaceFault::Irregular);
     }
-    let stored = stored_at(table, part);
-    if is_untold(material, table.kind(), stored) {
+    let stored = stored_side(flags, part);
+    if is_untold(material, kind, stored) {
         return Err(PlaceFault::WrongSide);
     }
     let men = men_at(material, part, &order, &groups, index);
-    let mover = mover_at(material, table.kind(), stored, side);
+    let mover = mover_at(material, kind, stored, side);
     let Ok(placement) = Placement::new(men.as_slice(), mover) else {
         unreachable!()
     };
@@ -67,9 +85,9 @@ fn men_at(
     requires part { IsPart material.now part }
     requires nibbles { nibbles_in order.now ≡ given }
     requires ordered { order_fault material.now given ≡ None }
-    requires groups { groups.now ≡ groups_told (counted material.now part given) }
+    requires groups { groups.now ≡ groups_in_slot_order (counted material.now part given) }
     requires below { index < product (counted material.now part given).ways }
-    requires inside { (standing : Standing) → IsIn standing (standing_by_group (counted material.now part given).groups (squares_told material.now part [] (zip (counted material.now part given).groups (places_told (counted material.now part given) index)))) → standing.2 < 64 }
+    requires inside { (placed_men : PlacedMan) → IsIn placed_men (standing_by_group (counted material.now part given).groups (squares_told material.now part [] (zip (counted material.now part given).groups (places_told (counted material.now part given) index)))) → placed_men.2 < 64 }
     ensures { result.items ≡ standing_by_group (counted material.now part given).groups (squares_told material.now part [] (zip (counted material.now part given).groups (places_told (counted material.now part given) index))) }
 {
     // Its men tell that this is a material.
@@ -82,7 +100,7 @@ fn men_at(
 fn standing_on(codes: &[u8], squares: &[u8]) -> ArrayVec<(Man, Color, Square), MAX_MEN>
     requires few { length codes.now ≤ 6 }
     requires same { length squares.now ≡ length codes.now }
-    requires inside { (standing : Standing) → IsIn standing (standing_on codes.now squares.now) → standing.2 < 64 }
+    requires inside { (placed_men : PlacedMan) → IsIn placed_men (standing_on codes.now squares.now) → placed_men.2 < 64 }
     ensures { result.items ≡ standing_on codes.now squares.now }
 {
     let mut men = ArrayVec::new();
@@ -119,14 +137,6 @@ fn color_at(code: u8) -> Color
     ensures { result ≡ color_at code }
 {
     if code < 8 { Color::White } else { Color::Black }
-}
-
-// The side that a DTZ table stores of a part.
-fn stored_at(table: &Table, part: u8) -> u8
-    ensures { result ≡ stored_side (numbering_of table.now.contents) part }
-{
-    let flags = table.flags();
-    stored_side(flags.as_slice(), part)
 }
 
 // Whether a DTZ subtable with pawns stores Black where both sides have the same men: with colours

@@ -21,7 +21,6 @@ use szg_values::{Kind, Placement};
 pub struct PreparedTable {
     table: Table,
     material: Traits,
-    flags: ArrayVec<u8, 8>,
     sides: ArrayVec<Option<Prepared>, 8>,
 }
 
@@ -33,7 +32,7 @@ impl Model for PreparedTable {
 
     ghost view = { λ p. p.table };
 
-    ghost invariant = { λ p. ArePrepared p.table.contents p.material p.flags.items p.sides.items };
+    ghost invariant = { λ p. ArePrepared p.table.contents p.material p.sides.items };
 }
 
 impl PreparedTable {
@@ -47,12 +46,10 @@ impl PreparedTable {
         ensures { result ≡ table }
     {
         let material = Traits::of(table.material());
-        let flags = table.flags();
         let sides = sides_of(&table);
         PreparedTable {
             table,
             material,
-            flags,
             sides,
         }
     }
@@ -71,15 +68,15 @@ impl PreparedTable {
         // So the table has a value there.
         ensures below { IfOk result (λ spot. IsSomeAnd (subtable_at self.now.contents spot.part spot.side) (λ found. spot.index < found.0.size)) }
     {
-        // The fill tells that this is a table, and the material that it is a name's.
-        let _fill = self.table.fill();
+        // the material tells that it is a name's
         let _material = self.material.material();
-        let (kind, parts) = (self.table.kind(), self.table.parts());
+        let index = self.table.index();
+        let (kind, parts, flags) = (index.kind(), index.parts(), index.flags());
         index_among(
             &self.material,
             kind,
             parts,
-            self.flags.as_slice(),
+            flags,
             placement,
             self.sides.as_slice(),
         )

@@ -3,12 +3,11 @@
 ghost use Rattle.std.specs.Prelude.{◌≡◌, ◌<◌, ◌≤◌, ◌^◌, ◌==◌, ◌&&◌, ◌||◌, ℕ, true, false, nat_lt, nat_le, length, if◌then◌else◌};
 ghost use Rattle.szg_count.specs.Laws.{IsIn};
 ghost use Rattle.szg_values.specs.Material.{count_of};
-ghost use Rattle.szg_place.specs.Normal.{colored_code};
-ghost use Rattle.szg_place.specs.Traits.{key_of, men_key};
+ghost use Rattle.szg_place.specs.Traits.{key_of};
 
-use crate::men::{code_count, colored_code, exchanged_color};
+use crate::men::code_count;
 use std::marker::Model;
-use szg_values::{Color, Man, Material, Square};
+use szg_values::Material;
 
 /// What a man adds to a key, by his code.
 const KEYS: [u64; 16] = [
@@ -175,27 +174,4 @@ fn code_key(code: u8) -> u64
     ensures small { result < 2 ^ 60 }
 {
     KEYS[usize::from(code)]
-}
-
-/// The key of men on squares, and the one with colours exchanged.
-pub fn men_keys(men: &[(Man, Color, Square)]) -> (u64, u64)
-    requires { length men.now ≤ 6 }
-    ensures same { result.0 ≡ men_key false men.now }
-    ensures exchanged { result.1 ≡ men_key true men.now }
-{
-    let mut key = 0;
-    let mut exchanged = 0;
-    for man in men {
-        key += man_key(man.0, man.1);
-        exchanged += man_key(man.0, exchanged_color(true, man.1));
-    }
-    (key, exchanged)
-}
-
-// What a man adds to a key.
-fn man_key(man: Man, color: Color) -> u64
-    ensures key { result ≡ 8 ^ colored_code man color }
-    ensures small { result < 2 ^ 60 }
-{
-    code_key(colored_code(man, color))
 }

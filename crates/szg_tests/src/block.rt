@@ -2,7 +2,7 @@
 
 ghost use Rattle.std.specs.Prelude.{◌≡◌, IsSomeAnd, length};
 ghost use Rattle.szg_block.specs.Subtable.{layout_of, packed_of, IsShaped, IsSoundOver};
-ghost use Rattle.szg_block.specs.Lending.{bytes_at};
+ghost use Rattle.szg_block.specs.BlocksTrait.{bytes_at};
 
 use crate::files::made;
 use std::alloc::{AllocError, Global};

@@ -3,7 +3,7 @@
 use crate::files::made;
 use arrayvec::ArrayVec;
 use std::process::Abort;
-use szg_count::{Groups, Order, OrderFault, choose, lead_ways, subset_at, subset_place};
+use szg_count::{Groups, Order, OrderFault, choose, lead_ways, rank_subset, unrank_subset};
 use szg_values::Material;
 
 fn material(rt: &impl Abort, name: &str) -> Material {
@@ -36,11 +36,11 @@ fn binomials(rt: HostRuntime) {
 /// last two of 62.
 #[test]
 fn places_of_sets(rt: HostRuntime) {
-    assert!(rt; subset_place(&[]) == 0 && subset_place(&[2, 1]) == 2);
-    assert!(rt; subset_place(&[61, 60]) == 1890);
-    assert!(rt; subset_place(&[63, 62, 61, 60, 59, 58]) == 74974367);
+    assert!(rt; rank_subset(&[]) == 0 && rank_subset(&[2, 1]) == 2);
+    assert!(rt; rank_subset(&[61, 60]) == 1890);
+    assert!(rt; rank_subset(&[63, 62, 61, 60, 59, 58]) == 74974367);
     assert!(rt; 1890 < choose(62, 2));
-    assert!(rt; subset_at(62, 2, 1890).as_slice() == [61, 60].as_slice());
+    assert!(rt; unrank_subset(62, 2, 1890).as_slice() == [61, 60].as_slice());
 }
 
 /// The members of a set as bits.
@@ -60,9 +60,9 @@ fn sets_in_the_order_of_masks(rt: HostRuntime) {
         for mask in 0..1024u32 {
             if mask.count_ones() == u32::from(size) {
                 assert!(rt; place < choose(64, u64::from(size)));
-                let set = subset_at(64, size, place);
+                let set = unrank_subset(64, size, place);
                 assert!(rt; mask_of(set.as_slice()) == mask, "{mask}");
-                assert!(rt; subset_place(set.as_slice()) == place, "{mask}");
+                assert!(rt; rank_subset(set.as_slice()) == place, "{mask}");
                 place = place.wrapping_add(1);
             }
         }

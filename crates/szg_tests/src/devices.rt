@@ -179,7 +179,7 @@ impl Input for Same {
 
     fn take(&mut self, piece: &mut [u8]) -> Result<usize, IoFault> {
         piece.fill(self.byte);
-        self.counts.taken(Ok(piece.len()), piece);
+        self.counts.count_take(Ok(piece.len()), piece);
         Ok(piece.len())
     }
 }
@@ -196,7 +196,7 @@ impl Output for Same {
     ghost interrupted = { λ s. s.counts.interrupted };
 
     fn give(&mut self, piece: &[u8]) -> Result<usize, IoFault> {
-        self.counts.given(Ok(piece.len()), piece);
+        self.counts.count_give(Ok(piece.len()), piece);
         Ok(piece.len())
     }
 }

@@ -184,7 +184,7 @@ impl<'a> Source for Beginning<'a> {
 
     ghost failed = { λ beginning. beginning.failed };
 
-    ghost asked = { λ beginning. beginning.image.asked };
+    ghost requested = { λ beginning. beginning.image.requested };
 
     fn len(&self) -> u64 {
         self.image.len()

@@ -9,7 +9,7 @@ use std::process::Abort;
 use szg_block::{Image, Source};
 use szg_file::{Opened, Table, open};
 use szg_place::{
-    OpenedProbeFault, PlaceFault, Prepared, PreparedTable, ProbeFault, index_of, index_of_opened,
+    OpenedProbeFault, PlaceFault, PreparedTable, ProbeFault, index_of, index_of_opened,
     placement_of, probe_dtz, probe_dtz_opened, probe_wdl, probe_wdl_opened,
 };
 use szg_values::Color::{Black, White};
@@ -176,25 +176,6 @@ fn a_source_that_fails_once_under_a_placement(rt: HostRuntime) {
     assert!(rt; opened.kind() == Kind::Wdl);
     assert!(rt; probe_wdl_opened(&mut opened, &placement) == Ok(Some(2)));
     assert!(rt; opened.source().calls() == calls + 2);
-}
-
-/// A part's side that was prepared tells its own placements and those of the other sides of the table.
-fn check_prepared(rt: &impl Abort, table: &Table, part: u8, side: u8, placement: &Placement) {
-    assert!(rt; table.size(part, side).is_some());
-    let prepared = Prepared::of(table, part, side);
-    assert!(rt; prepared.index_of(table, placement) == index_of(table, placement));
-}
-
-#[test]
-fn placements_by_a_prepared_side(rt: HostRuntime) {
-    let table = table_of(&rt, fixtures::kqvk_wdl_unpaired(rt.alloc()));
-    for (mover, men) in [
-        (White, "Ke8 Qa1 kh1"),
-        (Black, "Ke8 Qa1 kh1"),
-        (White, "Ke8 Na1 kh1"),
-    ] {
-        check_prepared(&rt, &table, 0, 0, &placement(&rt, mover, men));
-    }
 }
 
 /// A table that was prepared once tells these men's spot, as it does without.

@@ -3,3 +3,4 @@ mod Outcomes
 mod Builds
 mod Digits
 mod MenWords
+pub mod Endings

@@ -102,7 +102,7 @@ mover_word Black = codes "b"
 
 -- a placement: who moves, and the men
 abbrev pub placement_line : Board → List ℕ
-placement_line board = mover_word board.mover ++ (men_words board.standing ++ 10 ∷ [])
+placement_line board = mover_word board.mover ++ (men_words board.placed_men ++ 10 ∷ [])
 
 -- ---- all actions
 

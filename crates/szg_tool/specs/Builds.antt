@@ -4,8 +4,9 @@ use Rattle.szg_io.specs.Moved.{Takes, Gives}
 use Rattle.szg_io.specs.declared.device.Input as input
 use Rattle.szg_io.specs.declared.device.Output as output
 use Rattle.szg_file.specs.Accepted.{IsAccepted}
+use Rattle.szg_file.specs.Contents.{Contents}
 use Rattle.szg_file.specs.Held.{Shown, file_bytes}
-use Rattle.szg_build.specs.Built.{IsBuilt, dump_plan}
+use Rattle.szg_build.specs.Built.{IsBuilt, IsBuiltSmall, dump_plan}
 use Rattle.szg_build.specs.Dump.{Dump}
 use Rattle.szg_build.specs.Grammar.{dump_format}
 use Rattle.szg_build.specs.Lines.{Verdict, good, verdict}
@@ -14,11 +15,18 @@ use Rattle.szg_build.specs.Reading.{IsLineFault, IsPlanFault, EndsWith}
 use Rattle.szg_build.specs.declared.BuildFault.{BuildFault}
 use Rattle.szg_tool.specs.declared.refusal.Refusal.{Refusal}
 use Rattle.szg_tool.specs.declared.refusal.Refusal.TheVariants as why
-use Rattle.szg_tool.specs.declared.request.Sizes.{Sizes}
+use Rattle.szg_tool.specs.declared.request.Packing.{Packing}
+use Rattle.szg_tool.specs.declared.request.Packing.TheVariants.{Fixed, Small}
 
--- the plan of a dump's table in these sizes
-abbrev pub plan_in : Sizes → Dump → Plan
-plan_in sizes dump = dump_plan dump sizes.block_bits sizes.span_bits sizes.rounds
+-- the plan of a dump's table; the numbers of a small plan bind nothing
+abbrev pub plan_in : Packing → Dump → Plan
+plan_in (Fixed sizes) dump = dump_plan dump sizes.block_bits sizes.span_bits sizes.rounds
+plan_in Small dump = dump_plan dump 5 1 0
+
+-- the table that is built of a dump
+abbrev pub IsBuiltIn : Packing → Dump → Contents → Type 0
+IsBuiltIn (Fixed sizes) dump t = IsBuilt (plan_in (Fixed sizes) dump) dump.lists t
+IsBuiltIn Small dump t = IsBuiltSmall (plan_in Small dump) dump.lists t
 
 -- Just a text that tells this dump was taken from the reader.
 pub record IsTextOf {R : Type 0} (reading : input.Ghosts R) (reader reader' : R) (dump : Dump) : Type 0 where
@@ -27,14 +35,14 @@ pub record IsTextOf {R : Type 0} (reading : input.Ghosts R) (reader reader' : R)
   pub lines : ℕ
   pub tells : verdict dump_format 0 bytes ≡ good dump lines []
 
--- Just the text of a dump was taken from the reader, and just the file of an accepted table that is built of it in these
--- sizes was given to the writer.
-pub record IsMade {R W : Type 0} (reading : input.Ghosts R) (writing : output.Ghosts W) (sizes : Sizes)
+-- Just the text of a dump was taken from the reader, and just the file of an accepted table that is built of it in this
+-- packing was given to the writer.
+pub record IsMade {R W : Type 0} (reading : input.Ghosts R) (writing : output.Ghosts W) (packing : Packing)
     (reader reader' : R) (writer writer' : W) : Type 0 where
   pub dump : Dump
   pub text : IsTextOf reading reader reader' dump
   pub table : Shown
-  pub built : IsBuilt (plan_in sizes dump) dump.lists table.contents
+  pub built : IsBuiltIn packing dump table.contents
   pub accepted : IsAccepted table.contents table.filled
   pub given : Gives writing writer writer' (file_bytes table) 0
 
@@ -55,11 +63,11 @@ abbrev pub IsRefusedPlan : Plan → List (List ℕ) → Refusal → Type 0
 IsRefusedPlan plan lists refusal = (fault : BuildFault) × (refusal ≡ why.Build fault) × (build_fault plan lists ≡ Some fault)
 
 -- A dump was read, and no table can be built of it.
-pub record IsRefusedDump {R : Type 0} (reading : input.Ghosts R) (sizes : Sizes) (reader reader' : R) (refusal : Refusal) : Type 0 where
+pub record IsRefusedDump {R : Type 0} (reading : input.Ghosts R) (packing : Packing) (reader reader' : R) (refusal : Refusal) : Type 0 where
   pub dump : Dump
   pub text : IsTextOf reading reader reader' dump
-  pub refused : IsRefusedPlan (plan_in sizes dump) dump.lists refusal
+  pub refused : IsRefusedPlan (plan_in packing dump) dump.lists refusal
 
 -- No table was built: the text is refused, or what it tells.
-abbrev pub IsUnmade : {R : Type 0} → input.Ghosts R → Sizes → R → R → Refusal → Type 0
-IsUnmade reading sizes reader reader' refusal = IsRefusedText reading reader reader' refusal ⊎ IsRefusedDump reading sizes reader reader' refusal
+abbrev pub IsUnmade : {R : Type 0} → input.Ghosts R → Packing → R → R → Refusal → Type 0
+IsUnmade reading packing reader reader' refusal = IsRefusedText reading reader reader' refusal ⊎ IsRefusedDump reading packing reader reader' refusal

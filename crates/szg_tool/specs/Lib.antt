@@ -6,3 +6,4 @@ pub mod Builds
 pub mod RefusalLines
 pub mod Requests
 pub mod Refusals
+pub mod OnFiles

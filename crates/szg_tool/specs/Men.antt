@@ -4,7 +4,7 @@ use Rattle.std.specs.Borrow.{Bor}
 use Rattle.std.specs.List.{list_all, list_any, range_with_len}
 use Rattle.std.specs.Char.{to_ascii_uppercase, to_ascii_lowercase}
 use Rattle.szg_values.specs.Men.{man_of, letter_of, is_man, is_color, name_order}
-use Rattle.szg_values.specs.Placement.{Standing, Board, placement_fault}
+use Rattle.szg_values.specs.Placement.{PlacedMan, Board, placement_fault}
 use Rattle.szg_values.specs.declared.Man.{Man}
 use Rattle.szg_values.specs.declared.Man.TheVariants.{King}
 use Rattle.szg_values.specs.declared.PlacementFault.{PlacementFault}
@@ -22,7 +22,7 @@ abbrev pub square_told : ℕ → ℕ → Option ℕ
 square_told file rank = if nat_le 97 file && nat_le file 104 && nat_le 49 rank && nat_le rank 56 then Some ((rank - 49) * 8 + (file - 97)) else None
 
 -- a man's letter, upper case for White and lower case for Black, his file and his rank
-abbrev pub man_told : List ℕ → Option Standing
+abbrev pub man_told : List ℕ → Option PlacedMan
 man_told (letter ∷ file ∷ rank ∷ []) = option_and_then (λ square. option_map (λ man. (man, color_told letter, square)) (man_of (to_ascii_uppercase letter))) (square_told file rank)
 man_told word = None
 
@@ -32,7 +32,7 @@ abbrev pub is_told : List ℕ → Bool
 is_told word = is_some (man_told word)
 
 -- the man of a word that tells one
-abbrev pub standing_of : List ℕ → Standing
+abbrev pub standing_of : List ℕ → PlacedMan
 standing_of word = unwrap_or (man_told word) (King, White, 0)
 
 -- a board, unless its men have a fault
@@ -41,14 +41,14 @@ board_unless None board = Ok board
 board_unless (Some fault) board = Err (why.Placement fault)
 
 -- all men that words tell
-abbrev pub standing_in : List (Bor (List ℕ)) → List Standing
+abbrev pub standing_in : List (Bor (List ℕ)) → List PlacedMan
 standing_in words = map (λ word. standing_of word.now) words
 
 -- the placement of these men, or why there is none
 unfoldable pub placement_told : List (Bor (List ℕ)) → Color → Result Board Refusal
 placement_told words mover =
     if not (list_all (λ word. is_told word.now) words) then Err why.Man else
-    board_unless (placement_fault (standing_in words)) (record { standing = standing_in words; mover = mover })
+    board_unless (placement_fault (standing_in words)) (record { placed_men = standing_in words; mover = mover })
 
 -- ---- writing
 
@@ -58,7 +58,7 @@ letter_shown man White = letter_of man
 letter_shown man Black = to_ascii_lowercase (letter_of man)
 
 -- whether this man stands on this square
-abbrev pub is_standing : Man → Color → ℕ → Standing → Bool
+abbrev pub is_standing : Man → Color → ℕ → PlacedMan → Bool
 is_standing kind color square man = is_man man.0 kind && (is_color man.1 color && man.2 == square)
 
 -- a man's word, behind a space: his letter, the letter of the file and the number of the rank
@@ -66,21 +66,21 @@ abbrev pub man_word : Man → Color → ℕ → List ℕ
 man_word kind color square = codes " " ++ (encode_utf8 (letter_shown kind color) ++ (encode_utf8 (97 + square % 8) ++ decimal (1 + square / 8)))
 
 -- the word of this man on a square, where he stands there
-abbrev pub square_word : List Standing → Man → Color → ℕ → List ℕ
-square_word standing kind color square = if list_any (is_standing kind color square) standing then man_word kind color square else []
+abbrev pub square_word : List PlacedMan → Man → Color → ℕ → List ℕ
+square_word placed_men kind color square = if list_any (is_standing kind color square) placed_men then man_word kind color square else []
 
 -- the squares of the board
 unfoldable pub squares : List ℕ
 squares = range_with_len 0 64
 
 -- the words of all men of a kind and a colour, by square
-abbrev pub kind_words : List Standing → Color → Man → List ℕ
-kind_words standing color kind = flat_map (square_word standing kind color) squares
+abbrev pub kind_words : List PlacedMan → Color → Man → List ℕ
+kind_words placed_men color kind = flat_map (square_word placed_men kind color) squares
 
 -- the words of a colour's men, in the order of a name
-abbrev pub side_words : List Standing → Color → List ℕ
-side_words standing color = flat_map (kind_words standing color) name_order
+abbrev pub side_words : List PlacedMan → Color → List ℕ
+side_words placed_men color = flat_map (kind_words placed_men color) name_order
 
 -- the words of all men, White's before Black's
-abbrev pub men_words : List Standing → List ℕ
-men_words standing = flat_map (side_words standing) (White ∷ Black ∷ [])
+abbrev pub men_words : List PlacedMan → List ℕ
+men_words placed_men = flat_map (side_words placed_men) (White ∷ Black ∷ [])

@@ -78,12 +78,12 @@ pub record IsRefusedOf {R : Type 0} (reading : input.Ghosts R) (request : Reques
 -- The task was carried out.
 abbrev pub IsCarriedOut : {R W : Type 0} → input.Ghosts R → output.Ghosts W → Task → R → R → W → W → Type 0
 IsCarriedOut reading writing (OnTable request) reader reader' writer writer' = IsAnswered reading writing request reader reader' writer writer'
-IsCarriedOut reading writing (Build sizes) reader reader' writer writer' = IsMade reading writing sizes reader reader' writer writer'
+IsCarriedOut reading writing (Build packing) reader reader' writer writer' = IsMade reading writing packing reader reader' writer writer'
 
 -- The task meets this refusal.
 abbrev pub Meets : {R : Type 0} → input.Ghosts R → Task → R → R → Refusal → Type 0
 Meets reading (OnTable request) reader reader' refusal = IsUnread reading request reader reader' refusal ⊎ IsRefusedOf reading request reader reader' refusal
-Meets reading (Build sizes) reader reader' refusal = IsUnmade reading sizes reader reader' refusal
+Meets reading (Build packing) reader reader' refusal = IsUnmade reading packing reader reader' refusal
 
 -- The task meets a refusal, and just its line was given to the writer.
 pub record IsRefusedWith {R W : Type 0} (reading : input.Ghosts R) (writing : output.Ghosts W) (task : Task)

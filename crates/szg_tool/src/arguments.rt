@@ -16,6 +16,13 @@ enum Form {
         value: &'static str,
         default: &'static str,
     },
+    /// A word that may be left out.
+    OptionalWord,
+    /// An option with a value, which has a name and no default.
+    OptionalOption {
+        value: &'static str,
+        short: Option<char>,
+    },
     /// An option without a value.
     Flag,
 }
@@ -38,6 +45,78 @@ pub const NAME: Argument = Argument {
     values: ValueParser::String,
     is_number: false,
     help: "The table's material, as KQvKR: three to six men, the side with more men first",
+};
+
+/// A table's file.
+pub const FILE: Argument = Argument {
+    id: "FILE",
+    form: Form::Word,
+    values: ValueParser::String,
+    is_number: false,
+    help: "The table's file: KQvKR.rtbw is the WDL table of KQvKR, KQvKR.rtbz its DTZ table",
+};
+
+/// Tables' files.
+pub const FILES: Argument = Argument {
+    id: "FILE",
+    form: Form::Words,
+    values: ValueParser::String,
+    is_number: false,
+    help: "Tables' files: KQvKR.rtbw is the WDL table of KQvKR, KQvKR.rtbz its DTZ table",
+};
+
+/// A dump's file.
+pub const DUMP: Argument = Argument {
+    id: "DUMP",
+    form: Form::OptionalWord,
+    values: ValueParser::String,
+    is_number: false,
+    help: "The dump's file; standard input if there is none",
+};
+
+/// The table's name, in place of the file name's.
+pub const NAME_GIVEN: Argument = Argument {
+    id: "name",
+    form: Form::OptionalOption {
+        value: "NAME",
+        short: None,
+    },
+    values: ValueParser::String,
+    is_number: false,
+    help: "The table's material, in place of the one that the file's name says",
+};
+
+/// The table's kind, in place of the file name's.
+pub const KIND_GIVEN: Argument = Argument {
+    id: "kind",
+    form: Form::OptionalOption {
+        value: "KIND",
+        short: None,
+    },
+    values: ValueParser::Names(&["wdl", "dtz"]),
+    is_number: false,
+    help: "The table's kind, in place of the one that the file's ending says",
+};
+
+/// The file to be written.
+pub const OUTPUT: Argument = Argument {
+    id: "output",
+    form: Form::OptionalOption {
+        value: "FILE",
+        short: Some('o'),
+    },
+    values: ValueParser::NonEmptyString,
+    is_number: false,
+    help: "Writes to this file, whole or not at all, in place of standard output",
+};
+
+/// Whether bytes may follow a table.
+pub const ALLOW_TRAILING: Argument = Argument {
+    id: "allow-trailing",
+    form: Form::Flag,
+    values: ValueParser::Bool,
+    is_number: false,
+    help: "Accepts files in which more bytes follow the table",
 };
 
 /// The table's kind.
@@ -124,6 +203,18 @@ pub const FORM: Argument = Argument {
     help: "1: a line for each value; 2: a line for each run of equal values",
 };
 
+/// The plan of a table.
+pub const PLAN: Argument = Argument {
+    id: "plan",
+    form: Form::Option {
+        value: "PLAN",
+        default: "fixed",
+    },
+    values: ValueParser::Names(&["fixed", "small"]),
+    is_number: false,
+    help: "fixed: by --block, --span and --rounds; small: as small as it can, without these",
+};
+
 /// The bits of a block.
 pub const BLOCK: Argument = Argument {
     id: "block",
@@ -185,6 +276,8 @@ fn formed<'a>(alloc: Global, id: &'a str, form: Form) -> Arg<'a> {
         Form::Word => word(alloc, id),
         Form::Words => words(alloc, id),
         Form::Option { value, default } => option(alloc, id, value, default),
+        Form::OptionalWord => Arg::new(alloc, id).action(ArgAction::Set),
+        Form::OptionalOption { value, short } => optional(alloc, id, value, short),
         Form::Flag => flag(alloc, id),
     }
 }
@@ -209,6 +302,18 @@ fn option<'a>(alloc: Global, id: &'a str, value: &'a str, default: &'a str) -> A
         .value_name(value)
         .action(ArgAction::Set)
         .default_value(default)
+}
+
+/// An option with a value, which has a name and no default.
+fn optional<'a>(alloc: Global, id: &'a str, value: &'a str, short: Option<char>) -> Arg<'a> {
+    let option = Arg::new(alloc, id)
+        .long(id)
+        .value_name(value)
+        .action(ArgAction::Set);
+    match short {
+        Some(letter) => option.short(letter),
+        None => option,
+    }
 }
 
 /// An option without a value.

@@ -3,15 +3,14 @@ ghost use Rattle.std.specs.Prelude.{◌≡◌, ◌⊎◌, ℕ, List, map, IfOk, 
 ghost use Rattle.szg_io.specs.Device.{HasFailed};
 ghost use Rattle.szg_io.specs.Moved.{Takes};
 ghost use Rattle.szg_file.specs.Accepted.{IsAccepted};
-ghost use Rattle.szg_build.specs.Built.{IsBuilt};
 ghost use Rattle.szg_build.specs.Shown.{dump_seen};
-ghost use Rattle.szg_tool.specs.Builds.{IsMade, IsRefusedPlan, IsRefusedText, IsTextOf, IsUnmade, plan_in};
+ghost use Rattle.szg_tool.specs.Builds.{IsBuiltIn, IsMade, IsRefusedPlan, IsRefusedText, IsTextOf, IsUnmade, plan_in};
 ghost use Rattle.szg_tool.specs.declared.refusal.Refusal.{Refusal};
 
 use crate::refusal::{Refusal, Stop};
-use crate::request::Sizes;
+use crate::request::{Packing, Sizes};
 use std::alloc::{AllocError, Global};
-use szg_build::{BuildFault, Dump, DumpReadFault, Plan, build, read_dump};
+use szg_build::{BuildFault, Dump, DumpReadFault, Plan, SmallPlan, build, build_small, read_dump};
 use szg_file::{Table, write};
 use szg_io::{Input, Output};
 
@@ -19,18 +18,18 @@ use szg_io::{Input, Output};
 /// written.
 pub fn build_told<R: Input, W: Output>(
     alloc: Global,
-    sizes: Sizes,
+    packing: Packing,
     reader: &mut R,
     writer: &mut W,
 ) -> Result<(), Stop>
     // Just the text of a dump was read, and just the file of a table that is built of it was written.
-    ensures told { OnOk result (IsMade R.Input W.Output sizes reader.old reader.new writer.old writer.new) }
+    ensures told { OnOk result (IsMade R.Input W.Output packing reader.old reader.new writer.old writer.new) }
     ensures calls { (bytes : List ℕ) × Takes R.Input reader.old reader.new bytes 1 }
     ensures device { IsErrOf result Stop.Device → HasFailed (R.failures reader.old) (R.failures reader.new) (R.interrupted reader.new) ⊎ HasFailed (W.failures writer.old) (W.failures writer.new) (W.interrupted writer.new) }
-    ensures refused { (refusal : Refusal) → IsErrOf result (Stop.Refused refusal) → (writer.new ≡ writer.old) × IsUnmade R.Input sizes reader.old reader.new refusal }
+    ensures refused { (refusal : Refusal) → IsErrOf result (Stop.Refused refusal) → (writer.new ≡ writer.old) × IsUnmade R.Input packing reader.old reader.new refusal }
 {
     let dump = read_told(alloc, reader)?;
-    let table = table_of(alloc, dump, sizes)?;
+    let table = table_of(alloc, dump, packing)?;
     match write(&table, writer) {
         Ok(()) => Ok(()),
         Err(_) => Err(Stop::Device),
@@ -56,10 +55,23 @@ fn read_told<R: Input>(alloc: Global, reader: &mut R) -> Result<Dump, Stop>
 }
 
 /// Builds the table of a dump.
-fn table_of(alloc: Global, dump: Dump, sizes: Sizes) -> Result<Table, Stop>
-    ensures built { IfOk result (λ t. IsBuilt (plan_in sizes (dump_seen dump)) (dump_seen dump).lists t.contents) }
+fn table_of(alloc: Global, dump: Dump, packing: Packing) -> Result<Table, Stop>
+    ensures built { IfOk result (λ t. IsBuiltIn packing (dump_seen dump) t.contents) }
     ensures accepted { IfOk result (λ t. IsAccepted t.contents t.filled) }
-    ensures refused { (refusal : Refusal) → IsErrOf result (Stop.Refused refusal) → IsRefusedPlan (plan_in sizes (dump_seen dump)) (dump_seen dump).lists refusal }
+    ensures refused { (refusal : Refusal) → IsErrOf result (Stop.Refused refusal) → IsRefusedPlan (plan_in packing (dump_seen dump)) (dump_seen dump).lists refusal }
+    ensures only { IsErrOf result Stop.Device → ⊥ }
+{
+    match packing {
+        Packing::Fixed(sizes) => fixed_table_of(alloc, dump, sizes),
+        Packing::Small => small_table_of(alloc, dump),
+    }
+}
+
+/// Builds the table of a dump by numbers.
+fn fixed_table_of(alloc: Global, dump: Dump, sizes: Sizes) -> Result<Table, Stop>
+    ensures built { IfOk result (λ t. IsBuiltIn (Packing.Fixed sizes) (dump_seen dump) t.contents) }
+    ensures accepted { IfOk result (λ t. IsAccepted t.contents t.filled) }
+    ensures refused { (refusal : Refusal) → IsErrOf result (Stop.Refused refusal) → IsRefusedPlan (plan_in (Packing.Fixed sizes) (dump_seen dump)) (dump_seen dump).lists refusal }
     ensures only { IsErrOf result Stop.Device → ⊥ }
 {
     let plan = Plan {
@@ -75,6 +87,28 @@ fn table_of(alloc: Global, dump: Dump, sizes: Sizes) -> Result<Table, Stop>
     };
     let lists = lent(alloc, &dump.lists)?;
     match build(alloc, &plan, &lists) {
+        Ok(table) => Ok(table),
+        Err(fault) => Err(stop_of(fault)),
+    }
+}
+
+/// Builds the table of a dump as small as it can.
+fn small_table_of(alloc: Global, dump: Dump) -> Result<Table, Stop>
+    ensures built { IfOk result (λ t. IsBuiltIn Packing.Small (dump_seen dump) t.contents) }
+    ensures accepted { IfOk result (λ t. IsAccepted t.contents t.filled) }
+    ensures refused { (refusal : Refusal) → IsErrOf result (Stop.Refused refusal) → IsRefusedPlan (plan_in Packing.Small (dump_seen dump)) (dump_seen dump).lists refusal }
+    ensures only { IsErrOf result Stop.Device → ⊥ }
+{
+    let plan = SmallPlan {
+        material: dump.material,
+        kind: dump.kind,
+        parts: dump.parts,
+        flags: dump.flags,
+        maps: dump.maps,
+        last: dump.last,
+    };
+    let lists = lent(alloc, &dump.lists)?;
+    match build_small(alloc, plan, &lists) {
         Ok(table) => Ok(table),
         Err(fault) => Err(stop_of(fault)),
     }

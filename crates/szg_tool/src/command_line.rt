@@ -1,7 +1,8 @@
 //! The command line: the program's commands with their texts of help.
 
 use crate::arguments::{
-    Argument, BLOCK, CLASS, FORM, INDEX, KIND, MEN, MOVER, NAME, PART, ROUNDS, SIDE, SPAN, STEPS,
+    ALLOW_TRAILING, Argument, BLOCK, CLASS, DUMP, FILE, FILES, FORM, INDEX, KIND, KIND_GIVEN, MEN,
+    MOVER, NAME, NAME_GIVEN, OUTPUT, PART, PLAN, ROUNDS, SIDE, SPAN, STEPS,
 };
 use clap::Command;
 use std::alloc::{AllocError, Global};
@@ -42,17 +43,54 @@ static OF_PLACEMENT: [Argument; 4] = [NAME, KIND, MOVER, MEN];
 static OF_OUTCOME: [Argument; 5] = [NAME, KIND, MOVER, MEN, CLASS];
 
 /// Those of the command that builds.
-static OF_BUILD: [Argument; 3] = [BLOCK, SPAN, ROUNDS];
+static OF_BUILD: [Argument; 4] = [PLAN, BLOCK, SPAN, ROUNDS];
+
+/// Those of the check of files.
+static OF_FILES: [Argument; 4] = [FILES, ALLOW_TRAILING, NAME_GIVEN, KIND_GIVEN];
+
+/// Those of the description of a file.
+static OF_FILE: [Argument; 3] = [FILE, NAME_GIVEN, KIND_GIVEN];
+
+/// Those of the copy of a file.
+static OF_FILE_COPY: [Argument; 4] = [FILE, OUTPUT, NAME_GIVEN, KIND_GIVEN];
+
+/// Those of a file's dump.
+static OF_FILE_DUMP: [Argument; 5] = [FILE, FORM, OUTPUT, NAME_GIVEN, KIND_GIVEN];
+
+/// Those of the values of a file's part and side.
+static OF_FILE_SUBTABLE: [Argument; 5] = [FILE, PART, SIDE, NAME_GIVEN, KIND_GIVEN];
+
+/// Those of an index of a file.
+static OF_FILE_INDEX: [Argument; 6] = [FILE, PART, SIDE, INDEX, NAME_GIVEN, KIND_GIVEN];
+
+/// Those of an index's value in a file.
+static OF_FILE_VALUE: [Argument; 7] = [FILE, PART, SIDE, INDEX, STEPS, NAME_GIVEN, KIND_GIVEN];
+
+/// Those of a placement in a file.
+static OF_FILE_PLACEMENT: [Argument; 5] = [FILE, MOVER, MEN, NAME_GIVEN, KIND_GIVEN];
+
+/// Those of a placement's outcome in a file.
+static OF_FILE_OUTCOME: [Argument; 6] = [FILE, MOVER, MEN, CLASS, NAME_GIVEN, KIND_GIVEN];
+
+/// Those of a build from or to a file.
+static OF_FILE_BUILD: [Argument; 6] = [DUMP, PLAN, BLOCK, SPAN, ROUNDS, OUTPUT];
+
+/// Whether a command line names files, or works on the standard streams alone.
+#[derive(Clone, Copy)]
+pub enum CommandForm {
+    Streams,
+    Files,
+}
 
 /// What stands below the program's help.
 const AFTER_HELP: &str =
-    "Example: szg get KQvK wdl 31331 --side 1 < KQvK.rtbw{n}{n}The status is 0 when done; 1 when refused, and a line on standard output says why; 2 for{n}wrong words and for help; 3 when standard input or output failed; 4 when out of memory.";
+    "Example: szg get KQvK wdl 31331 --side 1 < KQvK.rtbw{n}{n}A FILE that ends in .rtbw or .rtbz takes the place of NAME and KIND, as in szg get KQvK.rtbw 31331{n}and szg check *.rtbw; its options are in szg get KQvK.rtbw --help. szg build takes a dump's file.{n}{n}The status is 0 when done; 1 when refused, and a line on standard output says why; 2 for{n}wrong words and for help; 3 when standard input or output failed; 4 when out of memory.";
 
 /// The program with all its commands.
-pub fn program<'a>(alloc: Global) -> Result<Command<'a>, AllocError> {
+pub fn program<'a>(alloc: Global, form: CommandForm) -> Result<Command<'a>, AllocError> {
     let mut commands = Vec::new(alloc);
     'commands: for name in &COMMANDS {
-        commands.push(command_of(alloc, name)?)?;
+        commands.push(command_of(alloc, name, form)?)?;
     }
     described(alloc)?.subcommands(commands)
 }
@@ -62,7 +100,7 @@ fn described<'a>(alloc: Global) -> Result<Command<'a>, AllocError> {
     Command::new(alloc, "szg")
         .version("0.1.0")
         .about(
-            "Checks, shows, copies, dumps and builds Syzygy table files, and looks values and placements up in{n}them. Reads the file, for build the dump, from standard input.",
+            "Checks, shows, copies, dumps and builds Syzygy table files, and looks values and placements up in{n}them. Reads the file, for build the dump, from standard input or by its path.",
         )
         .after_help(AFTER_HELP)
         .subcommand_required(true)
@@ -71,9 +109,17 @@ fn described<'a>(alloc: Global) -> Result<Command<'a>, AllocError> {
 }
 
 /// A command with its words.
-pub fn command_of<'a>(alloc: Global, name: &'a str) -> Result<Command<'a>, AllocError> {
+pub fn command_of<'a>(
+    alloc: Global,
+    name: &'a str,
+    form: CommandForm,
+) -> Result<Command<'a>, AllocError> {
     let mut arguments = Vec::new(alloc);
-    'arguments: for argument in arguments_of(name) {
+    let chosen = match form {
+        CommandForm::Streams => arguments_of(name),
+        CommandForm::Files => file_arguments_of(name),
+    };
+    'arguments: for argument in chosen {
         arguments.push(argument.to_clap(alloc))?;
     }
     Command::new(alloc, name).about(about(name)).args(arguments)
@@ -90,6 +136,22 @@ fn arguments_of(name: &str) -> &'static [Argument] {
         "index" => &OF_PLACEMENT,
         "probe" => &OF_OUTCOME,
         _ => &OF_TABLE,
+    }
+}
+
+/// The arguments of a command that names files.
+fn file_arguments_of(name: &str) -> &'static [Argument] {
+    match name {
+        "check" => &OF_FILES,
+        "get" => &OF_FILE_VALUE,
+        "values" => &OF_FILE_SUBTABLE,
+        "placement" => &OF_FILE_INDEX,
+        "dump" => &OF_FILE_DUMP,
+        "copy" => &OF_FILE_COPY,
+        "build" => &OF_FILE_BUILD,
+        "index" => &OF_FILE_PLACEMENT,
+        "probe" => &OF_FILE_OUTCOME,
+        _ => &OF_FILE,
     }
 }
 

@@ -62,7 +62,7 @@ pub fn run<R: Input, W: Output>(
 }
 
 /// How a run ends whose words make no command.
-fn words_outcome(error: Error) -> Outcome
+pub fn words_outcome(error: Error) -> Outcome
     ensures done { OnDone result ⊥ }
     ensures refused { OnRefused result ⊥ }
     ensures device { (result ≡ Outcome.Device) → ⊥ }
@@ -75,7 +75,7 @@ fn words_outcome(error: Error) -> Outcome
 }
 
 /// Writes why a command is refused.
-fn refuse<W: Output>(alloc: Global, refusal: Refusal, writer: &mut W) -> Outcome
+pub fn refuse<W: Output>(alloc: Global, refusal: Refusal, writer: &mut W) -> Outcome
     ensures done { OnDone result ⊥ }
     ensures refused { OnRefused result (Gives W.Output writer.old writer.new (refusal_line refusal) 0) }
     ensures words { OnWords result ⊥ }
@@ -91,7 +91,7 @@ fn refuse<W: Output>(alloc: Global, refusal: Refusal, writer: &mut W) -> Outcome
 }
 
 /// Does what is asked for, or tells why not; where it is refused nothing was written.
-fn carry_out<R: Input, W: Output>(
+pub fn carry_out<R: Input, W: Output>(
     alloc: Global,
     task: &Task,
     reader: &mut R,
@@ -104,7 +104,7 @@ fn carry_out<R: Input, W: Output>(
 {
     match task {
         Task::OnTable(request) => answer(alloc, request, reader, writer),
-        Task::Build(sizes) => build_told(alloc, *sizes, reader, writer),
+        Task::Build(packing) => build_told(alloc, *packing, reader, writer),
     }
 }
 

@@ -10,9 +10,12 @@ mod building;
 mod command_line;
 mod commands;
 mod description;
+mod file_words;
 mod lookups;
+mod meant;
 mod men;
 mod numbers;
+mod on_files;
 mod outcome;
 mod placements;
 mod refusal;
@@ -22,12 +25,15 @@ mod saying;
 #[cfg(test)]
 mod tests;
 
-use commands::run;
+use meant::meant_name;
+use on_files::{Ending, FileFailure, run_words};
 use outcome::Outcome;
 use std::alloc::{AllocError, Global};
 use std::io::{self, BufWriter, Write};
 use std::process::ExitCode;
+use szg_files::{Disk, Monitored};
 use szg_io::Std;
+use szg_named::{Stop, Tally, fault_text};
 
 /// Runs the words of the command line on the standard streams.
 ///
@@ -35,7 +41,7 @@ use szg_io::Std;
 /// of words and for help (both are told on standard error), 3 where a stream failed, and 4 for want of memory.
 fn main(rt: HostRuntime) -> ExitCode {
     match words_given(&rt) {
-        Ok(words) => status_of(&rt, &run_on_streams(&rt, &words)),
+        Ok(words) => run_given(&rt, &words),
         Err(error) if error.kind() == io::ErrorKind::OutOfMemory => {
             status_of(&rt, &Outcome::Memory)
         }
@@ -81,21 +87,91 @@ fn texts_of<'a>(alloc: Global, words: &'a [String]) -> Result<Vec<&'a str>, Allo
     Ok(texts)
 }
 
-/// Runs the words on the standard streams. Nothing behind a table or a dump is taken from standard input, so it isn't
-/// read ahead.
-fn run_on_streams(rt: &HostRuntime, words: &[String]) -> Outcome {
+/// The status of a check of files: 1 where one is refused, else 3 where one can't be read.
+fn files_status(rt: &HostRuntime, told: Result<Tally, Stop>) -> ExitCode {
+    match told {
+        Ok(tally) if tally.refused > 0 => ExitCode::from(1),
+        Ok(tally) if tally.unread > 0 => ExitCode::from(3),
+        Ok(_) => ExitCode::from(0),
+        Err(Stop::Device) => status_of(rt, &Outcome::Device),
+        Err(Stop::Memory) => status_of(rt, &Outcome::Memory),
+    }
+}
+
+/// The status where a file failed: the file and the reason are printed on standard error.
+fn failure_status(rt: &HostRuntime, failure: FileFailure<'_>) -> ExitCode {
+    let FileFailure { path, fault } = failure;
+    let Ok(reason) = fault_text(rt.alloc(), &fault) else {
+        return status_of(rt, &Outcome::Memory);
+    };
+    let _ = eprintln!(rt; "{path}: {reason}");
+    ExitCode::from(Outcome::Device.status())
+}
+
+/// The status of a run. Nothing is printed if the reader of the output closed it.
+fn ending_status(rt: &HostRuntime, ending: Ending<'_>, is_closed: bool) -> ExitCode {
+    if is_closed {
+        return ExitCode::from(Outcome::Device.status());
+    }
+    match ending {
+        Ending::Words(outcome) => status_of(rt, &outcome),
+        Ending::Checked(told) => files_status(rt, told),
+        Ending::Done(_) => status_of(rt, &Outcome::Done),
+        Ending::Refused => status_of(rt, &Outcome::Refused),
+        Ending::Failed(failure) => failure_status(rt, failure),
+        Ending::Device => status_of(rt, &Outcome::Device),
+        Ending::Memory => status_of(rt, &Outcome::Memory),
+    }
+}
+
+/// Whether something was refused.
+fn is_refused(ending: &Ending<'_>) -> bool {
+    match ending {
+        Ending::Words(Outcome::Refused) | Ending::Refused => true,
+        Ending::Checked(Ok(tally)) => tally.refused > 0,
+        _ => false,
+    }
+}
+
+/// Prints on standard error, for each word with the sides exchanged, the name that is meant.
+fn print_meant(rt: &HostRuntime, texts: &[&str]) {
+    'texts: for text in texts {
+        if let Ok(Some(meant)) = meant_name(rt.alloc(), text) {
+            let _ = eprintln!(rt; "{text}: the side with more men comes first: {meant}");
+        }
+    }
+}
+
+/// Runs the words of a command line.
+fn run_given(rt: &HostRuntime, words: &[String]) -> ExitCode {
+    let Ok(texts) = texts_of(rt.alloc(), words) else {
+        return status_of(rt, &Outcome::Memory);
+    };
+    let (ending, is_closed) = run_on_streams(rt, texts.as_slice());
+    if is_refused(&ending) && !is_closed {
+        print_meant(rt, texts.as_slice());
+    }
+    ending_status(rt, ending, is_closed)
+}
+
+/// Runs the words on the system's files and the standard streams; also whether the reader of the output closed it.
+/// Nothing that follows a table or a dump is taken from standard input, so it isn't read ahead.
+fn run_on_streams<'a>(rt: &'a HostRuntime, texts: &'a [&'a str]) -> (Ending<'a>, bool) {
     let alloc = rt.alloc();
-    let Ok(texts) = texts_of(alloc, words) else {
-        return Outcome::Memory;
+    let Ok(mut writer) = BufWriter::new(alloc, Monitored::new(io::writer(rt))) else {
+        return (Ending::Memory, false);
     };
-    let Ok(mut writer) = BufWriter::new(alloc, io::writer(rt)) else {
-        return Outcome::Memory;
-    };
+    let mut disk = Disk::new(alloc, rt);
     let mut reader = Std::new(rt.reader());
     let mut output = Std::new(&mut writer);
-    let outcome = run(alloc, texts.as_slice(), &mut reader, &mut output);
-    match writer.flush() {
-        Ok(()) => outcome,
-        Err(_) => Outcome::Device,
+    let ending = run_words(alloc, texts, &mut disk, rt, &mut reader, &mut output);
+    let flushed = writer.flush();
+    let is_closed = match writer.get_ref().error() {
+        Some(error) => error.kind() == io::ErrorKind::BrokenPipe,
+        None => false,
+    };
+    match flushed {
+        Ok(()) => (ending, is_closed),
+        Err(_) => (Ending::Device, is_closed),
     }
 }

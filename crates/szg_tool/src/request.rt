@@ -3,13 +3,14 @@ ghost use Rattle.clap.specs.Matches.{first_value, found_of};
 ghost use Rattle.szg_tool.specs.Answers.{number_of_class, number_of_form};
 ghost use Rattle.szg_tool.specs.Words.{class_told, form_told, kind_told, mover_told, number_from, part_told, side_told, word_of};
 
-use crate::command_line::{command_of, program};
+use crate::command_line::{CommandForm, command_of, program};
 use crate::men::placement_in;
 use crate::numbers::{
     BLOCK, FORM, INDEX, NumberArgument, NumberFault, ROUNDS, SIDE, SPAN, number_of,
 };
 use crate::refusal::Refusal;
 use clap::error::ErrorKind;
+use clap::parser::ValueSource;
 use clap::{ArgMatches, Error};
 use std::alloc::{AllocError, Global};
 use szg_values::{Color, Kind, Placement};
@@ -83,7 +84,7 @@ pub enum Action {
     Unplaced(Refusal),
 }
 
-/// How a table is to be packed.
+/// The numbers of a fixed plan.
 #[derive(Clone, Copy)]
 pub struct Sizes {
     /// 5 to 10.
@@ -94,13 +95,22 @@ pub struct Sizes {
     pub rounds: u32,
 }
 
+/// How a table is to be packed.
+#[derive(Clone, Copy)]
+pub enum Packing {
+    /// By these numbers.
+    Fixed(Sizes),
+    /// As small as the builder can make it.
+    Small,
+}
+
 /// What a command line asks for.
 #[derive(Drop)]
 pub enum Task<'a> {
     /// Something of a table.
     OnTable(Request<'a>),
     /// A table's file, built of a dump.
-    Build(Sizes),
+    Build(Packing),
 }
 
 /// A command with its words: the table's name and kind, and a part and side where one is asked for.
@@ -122,25 +132,48 @@ const HINT: &str = "\n\nFor more information, try '--help'.\n";
 /// The letters of the parts.
 pub static PARTS: [&str; 4] = ["a", "b", "c", "d"];
 
-/// The words of a command.
+/// What a command line on the standard streams asks for.
 pub fn parse<'a>(alloc: Global, words: &'a [&'a str]) -> Result<Task<'a>, Error> {
     let words = if words.is_empty() { &ALONE[..] } else { words };
-    let matches = match program(alloc)?.try_get_matches_from(words) {
-        Ok(matches) => matches,
-        Err(error) => return Err(with_usage(alloc, words, error)?),
-    };
+    let form = CommandForm::Streams;
+    let matches = matches_of(alloc, words, form)?;
     let Some((command, chosen)) = matches.subcommand() else {
-        return Err(program(alloc)?.error(ErrorKind::MissingSubcommand, "a command is missing")?);
+        return Err(missing_command(alloc, form)?);
     };
+    if let Some(argument) = unused_by_plan(chosen) {
+        return Err(conflict_error(alloc, command, form, argument)?);
+    }
     match task_in(command, chosen) {
         Ok(task) => Ok(task),
-        Err(fault) => Err(number_error(alloc, command, fault)?),
+        Err(fault) => Err(number_error(alloc, command, form, fault)?),
     }
+}
+
+/// The words by the commands of a form.
+pub fn matches_of<'a>(
+    alloc: Global,
+    words: &'a [&'a str],
+    form: CommandForm,
+) -> Result<ArgMatches<'a>, Error> {
+    match program(alloc, form)?.try_get_matches_from(words) {
+        Ok(matches) => Ok(matches),
+        Err(error) => Err(with_usage(alloc, words, form, error)?),
+    }
+}
+
+/// The error of words that have no command.
+pub fn missing_command(alloc: Global, form: CommandForm) -> Result<Error, AllocError> {
+    program(alloc, form)?.error(ErrorKind::MissingSubcommand, "a command is missing")
 }
 
 /// An error of a word that is none of its argument's values, with its command's usage, which `clap` leaves out; any
 /// other error as it is.
-fn with_usage(alloc: Global, words: &[&str], error: Error) -> Result<Error, AllocError> {
+fn with_usage(
+    alloc: Global,
+    words: &[&str],
+    form: CommandForm,
+    error: Error,
+) -> Result<Error, AllocError> {
     if !matches!(error.kind(), ErrorKind::InvalidValue) {
         return Ok(error);
     }
@@ -149,7 +182,7 @@ fn with_usage(alloc: Global, words: &[&str], error: Error) -> Result<Error, Allo
         return Ok(error);
     };
     match words.get(1) {
-        Some(command) => usage_error(alloc, command, ErrorKind::InvalidValue, message),
+        Some(command) => usage_error(alloc, command, form, ErrorKind::InvalidValue, message),
         None => Ok(error),
     }
 }
@@ -160,7 +193,12 @@ fn message_in(text: &str) -> Option<&str> {
 }
 
 /// What is told of a word that is none of its argument's numbers.
-fn number_error(alloc: Global, command: &str, fault: NumberFault<'_>) -> Result<Error, AllocError> {
+pub fn number_error(
+    alloc: Global,
+    command: &str,
+    form: CommandForm,
+    fault: NumberFault<'_>,
+) -> Result<Error, AllocError> {
     let NumberArgument {
         shown,
         least,
@@ -171,31 +209,85 @@ fn number_error(alloc: Global, command: &str, fault: NumberFault<'_>) -> Result<
     let message = format!(in alloc;
         "invalid value '{word}' for '{shown}': not a number from {least} to {greatest}"
     )?;
-    usage_error(alloc, command, ErrorKind::ValueValidation, message.as_str())
+    usage_error(
+        alloc,
+        command,
+        form,
+        ErrorKind::ValueValidation,
+        message.as_str(),
+    )
+}
+
+/// Whether the words ask for a small plan.
+fn is_small(chosen: &ArgMatches<'_>) -> bool {
+    matches!(chosen.get_str("plan"), Some("small"))
+}
+
+/// Returns the first number of a fixed plan that is given with a small plan.
+pub fn unused_by_plan(chosen: &ArgMatches<'_>) -> Option<NumberArgument> {
+    if !is_small(chosen) {
+        return None;
+    }
+    for argument in [BLOCK, SPAN, ROUNDS] {
+        if matches!(
+            chosen.value_source(argument.id),
+            Some(ValueSource::CommandLine)
+        ) {
+            return Some(argument);
+        }
+    }
+    None
+}
+
+/// Creates the error of a number that a small plan does not take.
+pub fn conflict_error(
+    alloc: Global,
+    command: &str,
+    form: CommandForm,
+    argument: NumberArgument,
+) -> Result<Error, AllocError> {
+    let shown = argument.shown;
+    let message = format!(in alloc; "the argument '--plan small' cannot be used with '{shown}'")?;
+    usage_error(
+        alloc,
+        command,
+        form,
+        ErrorKind::ArgumentConflict,
+        message.as_str(),
+    )
 }
 
 /// An error with the usage of a command.
-fn usage_error(
+pub fn usage_error(
     alloc: Global,
     command: &str,
+    form: CommandForm,
     kind: ErrorKind,
     message: &str,
 ) -> Result<Error, AllocError> {
     let name = format!(in alloc; "szg {command}")?;
-    let mut command = command_of(alloc, command)?.bin_name(name.as_str())?;
+    let mut command = command_of(alloc, command, form)?.bin_name(name.as_str())?;
     command.error(kind, message)
 }
 
 /// The task that a command and its words make.
 fn task_in<'a>(command: &str, chosen: &ArgMatches<'a>) -> Result<Task<'a>, NumberFault<'a>> {
     if command == "build" {
-        return Ok(Task::Build(sizes_in(chosen)?));
+        return Ok(Task::Build(packing_in(chosen)?));
     }
     Ok(Task::OnTable(request_in(command, chosen)?))
 }
 
+/// Returns the packing that the words ask for.
+pub fn packing_in<'a>(chosen: &ArgMatches<'a>) -> Result<Packing, NumberFault<'a>> {
+    if is_small(chosen) {
+        return Ok(Packing::Small);
+    }
+    Ok(Packing::Fixed(sizes_in(chosen)?))
+}
+
 /// The sizes that the words tell.
-fn sizes_in<'a>(chosen: &ArgMatches<'a>) -> Result<Sizes, NumberFault<'a>>
+pub fn sizes_in<'a>(chosen: &ArgMatches<'a>) -> Result<Sizes, NumberFault<'a>>
     ensures block { IfOk result (λ sizes. number_from 5 10 (word_of (found_of chosen.now) (codes "block")) ≡ Some sizes.block_bits) }
     ensures span { IfOk result (λ sizes. number_from 1 16 (word_of (found_of chosen.now) (codes "span")) ≡ Some sizes.span_bits) }
     ensures rounds { IfOk result (λ sizes. number_from 0 4000 (word_of (found_of chosen.now) (codes "rounds")) ≡ Some sizes.rounds) }
@@ -214,11 +306,27 @@ fn request_in<'a>(command: &str, chosen: &ArgMatches<'a>) -> Result<Request<'a>,
     ensures part { IfOk result (λ request. request.part ≡ part_told (first_value (found_of chosen.now) (codes "part"))) }
     ensures side { IfOk result (λ request. side_told command.now (found_of chosen.now) ≡ Some request.side) }
 {
+    let name = chosen.get_str("NAME").unwrap_or("");
+    request_on(command, chosen, name, kind_of(chosen.get_str("KIND")))
+}
+
+/// What is asked of a table of this name and kind.
+pub fn request_on<'a>(
+    command: &str,
+    chosen: &ArgMatches<'a>,
+    name: &'a str,
+    kind: Kind,
+) -> Result<Request<'a>, NumberFault<'a>>
+    ensures name { IfOk result (λ request. request.name.now ≡ name.now) }
+    ensures kind { IfOk result (λ request. request.kind ≡ kind) }
+    ensures part { IfOk result (λ request. request.part ≡ part_told (first_value (found_of chosen.now) (codes "part"))) }
+    ensures side { IfOk result (λ request. side_told command.now (found_of chosen.now) ≡ Some request.side) }
+{
     let action = action_in(command, chosen)?;
     let side = side_in(command, chosen)?;
     Ok(Request {
-        name: chosen.get_str("NAME").unwrap_or(""),
-        kind: kind_of(chosen.get_str("KIND")),
+        name,
+        kind,
         part: part_of(chosen.get_str("part")),
         side,
         action,
@@ -270,7 +378,7 @@ fn action_on_men(command: &str, chosen: &ArgMatches<'_>) -> Action {
 }
 
 /// The kind of a word.
-fn kind_of(word: Option<&str>) -> Kind
+pub fn kind_of(word: Option<&str>) -> Kind
     ensures { result ≡ kind_told (option_map (λ text. text.now) word.entry) }
 {
     match word {

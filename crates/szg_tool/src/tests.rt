@@ -1,5 +1,6 @@
 //! Runs of the program over bytes in memory.
 mod dumps;
+mod files;
 mod fixtures;
 mod placements;
 mod shapes;

@@ -1,4 +1,4 @@
--- All materials are listed, each once.
+-- The list contains all materials, each once.
 use Rattle.std.proofs.Common.{◌≡◌, ℕ, zero, suc, ◌+◌, ◌*◌, ◌-◌, ◌<◌, ◌≤◌, inl, inr, ◌⊎◌, List, [], ◌∷◌, ◌++◌, length, refl, sym, ap, ◌∙◌, subst, Bool, true, false, not, ◌&&◌, arith, get_or}
 use Rattle.std.specs.Prelude.{nat_lt, nat_le, map, flat_map, filter}
 use Rattle.std.specs.List.{list_any, Contains}
@@ -149,7 +149,7 @@ only_materials : (sides : Sides) → Contains materials sides → IsMaterial sid
 unfolding materials
 only_materials sides c = filter_in is_material sides (flat_map pairs numbers) (within sides materials c)
 
--- ---- each once: the materials stand by a number that rises
+-- ---- each once: the materials are listed by an increasing number
 
 key : Sides → ℕ
 key sides = digits (digits ((length sides.first + length sides.second) * 8 + length sides.first) sides.first) sides.second where

@@ -1,4 +1,4 @@
--- What tests of a side's letters say of its men.
+-- What tests on a side's letters say about its men.
 use Rattle.std.proofs.Common.{◌≡◌, ◌≢◌, ℕ, ◌+◌, ◌<◌, ◌≤◌, inl, inr, List, [], ◌∷◌, length, get_or, drop, take, ◌-◌, refl, sym, ap, ◌∙◌, Bool, true, false, not, ◌&&◌, ◌||◌, arith, add-one, drop-cons}
 use Rattle.szg_values.specs.declared.NameFault.TheVariants as fault
 use Rattle.std.specs.Prelude.{Ok, Err, map, count_by, ◌==◌, nat_lt, nat_le}
@@ -31,7 +31,7 @@ named_sides : (text : List ℕ) → is_spelled text ≡ true → name_of (sides_
 named_sides text h = spelled_name text (and_parts (list_all is_name_letter text) (count_by is_v text == 1) h).0
     (eqb-true (count_by is_v text) 1 (and_parts (list_all is_name_letter text) (count_by is_v text == 1) h).1)
 
--- the letters before the v are those of the first side's men, those after it those of the second's
+-- the letters before the v are those of the first side's men, and those after it are those of the second side's
 pub letters_before : (text : List ℕ) → is_spelled text ≡ true → before_first is_v text ≡ map letter_of (sides_of text).first
 letters_before text h = ap (before_first is_v) (sym (named_sides text h)) ∙ before-name (sides_of text).first (map letter_of (sides_of text).second)
 
@@ -52,7 +52,7 @@ king_letters (Rook ∷ men) = king_letters men
 king_letters (Queen ∷ men) = king_letters men
 king_letters (King ∷ men) = refl
 
--- a king's letter first, and no second one
+-- a king's letter comes first, and there is no second one
 abbrev pub king_letter_first : List ℕ → Bool
 king_letter_first [] = false
 king_letter_first (c ∷ cs) = c == 75 && not (list_any (λ d. d == 75) cs)
@@ -66,7 +66,7 @@ king_first (Rook ∷ men) = refl
 king_first (Queen ∷ men) = refl
 king_first (King ∷ men) = ap not (king_letters men)
 
--- the same of letters that begin with the king's, where the others are a part of the text
+-- the same for letters that begin with the king's, if the others are a part of the text
 pub king_letter_at : (cs : List ℕ) (found : Bool) → 1 ≤ length cs → get_or cs 0 0 ≡ 75 → found ≡ list_any (λ d. d == 75) (take (length cs - 1) (drop 1 cs)) → not found ≡ king_letter_first cs
 king_letter_at [] found l h e = absurd (omega arith)
 king_letter_at (c ∷ cs) found l h e =
@@ -82,7 +82,7 @@ code_at c = option_map_or code_of (man_of c) 0
 code_at-letter_of : (man : Man) → code_at (letter_of man) ≡ code_of man
 code_at-letter_of man = rw (man_of-letter_of man) refl
 
--- the codes of the letters never rise, and the first is at most this
+-- the codes of the letters never increase, and the first is at most this
 abbrev pub letters_fall : ℕ → List ℕ → Bool
 letters_fall last [] = true
 letters_fall last (c ∷ cs) = nat_le (code_at c) last && letters_fall (code_at c) cs

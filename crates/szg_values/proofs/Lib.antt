@@ -8,3 +8,4 @@ pub mod SideCounts
 pub mod AllNames
 pub mod Sound
 pub mod TooMany
+pub mod MenKeys

@@ -8,7 +8,7 @@ use Rattle.std.proofs.lemmas.Bool.{cases_order, eqb-true, eq-eqb, lt-ltb, le-ltb
 use Rattle.std.proofs.Math.Bool.{or-true}
 use Rattle.szg_values.specs.Men.{code_of, is_man, is_color}
 use Rattle.szg_values.specs.Material.{has_king_first, is_in_order, is_not_later, may_be_first, is_count, is_material, IsMaterial}
-use Rattle.szg_values.specs.Placement.{Standing, number_of, has_men, placement_fault, side_of}
+use Rattle.szg_values.specs.Placement.{PlacedMan, number_of, has_men, placement_fault, side_of}
 use Rattle.szg_values.specs.declared.Man.{Man}
 use Rattle.szg_values.specs.declared.Man.TheVariants.{Pawn, Knight, Bishop, Rook, Queen, King}
 use Rattle.szg_values.specs.declared.Color.{Color}
@@ -16,8 +16,8 @@ use Rattle.szg_values.specs.declared.Color.TheVariants.{White, Black}
 use Rattle.szg_values.specs.declared.PlacementFault.{PlacementFault}
 use Rattle.szg_values.specs.Laws.{LawMaterialOf}
 
--- men in name order, none of a code above c
-pub record IsArmy (c : ℕ) (men : List Man) : Type 0 where
+-- men in name order, with no code above c
+pub record IsOrderedBelow (c : ℕ) (men : List Man) : Type 0 where
   pub ordered : is_in_order men ≡ true
   pub capped : list_all (λ b. nat_le (code_of b) c) men ≡ true
 
@@ -28,8 +28,8 @@ capped_more (man ∷ men) c d h e =
     and_from (nat_le (code_of man) d) (list_all (λ b. nat_le (code_of b) d) men) (le-leb (code_of man) d (omega arith))
     (capped_more men c d h (and_parts (nat_le (code_of man) c) (list_all (λ b. nat_le (code_of b) c) men) e).1)
 
--- n equal men in front of men of no higher code
-front : (man : Man) (n c : ℕ) (men : List Man) → IsArmy (code_of man) men → code_of man ≤ c → IsArmy c (replicate n man ++ men)
+-- n equal men before men of no higher code
+front : (man : Man) (n c : ℕ) (men : List Man) → IsOrderedBelow (code_of man) men → code_of man ≤ c → IsOrderedBelow c (replicate n man ++ men)
 front man zero c men a h = record { ordered = a.ordered; capped = capped_more men (code_of man) c h a.capped }
 front man (suc n) c men a h =
     let same = front man n (code_of man) men a (omega arith) in
@@ -43,20 +43,20 @@ kingless : (man : Man) (n : ℕ) (men : List Man) → is_man King man ≡ false 
 kingless man zero men a b = b
 kingless man (suc n) men a b = rw a (kingless man n men a b)
 
-abbrev officers : ℕ → ℕ → ℕ → ℕ → ℕ → List Man
-officers q r b n p = replicate q Queen ++ (replicate r Rook ++ (replicate b Bishop ++ (replicate n Knight ++ (replicate p Pawn ++ []))))
+abbrev men_of_counts : ℕ → ℕ → ℕ → ℕ → ℕ → List Man
+men_of_counts q r b n p = replicate q Queen ++ (replicate r Rook ++ (replicate b Bishop ++ (replicate n Knight ++ (replicate p Pawn ++ []))))
 
-officers_army : (q r b n p : ℕ) → IsArmy 6 (officers q r b n p)
-officers_army q r b n p =
+men_of_counts_ordered : (q r b n p : ℕ) → IsOrderedBelow 6 (men_of_counts q r b n p)
+men_of_counts_ordered q r b n p =
     front Queen q 6 _ (front Rook r 5 _ (front Bishop b 4 _ (front Knight n 3 _ (front Pawn p 2 []
     (record { ordered = refl; capped = refl }) (omega arith)) (omega arith)) (omega arith)) (omega arith)) (omega arith)
 
-officers_kingless : (q r b n p : ℕ) → list_any (is_man King) (officers q r b n p) ≡ false
-officers_kingless q r b n p =
+men_of_counts_kingless : (q r b n p : ℕ) → list_any (is_man King) (men_of_counts q r b n p) ≡ false
+men_of_counts_kingless q r b n p =
     kingless Queen q _ refl (kingless Rook r _ refl (kingless Bishop b _ refl (kingless Knight n _ refl (kingless Pawn p [] refl refl))))
 
-length-officers : (q r b n p : ℕ) → length (officers q r b n p) ≡ q + (r + (b + (n + p)))
-length-officers q r b n p = simp (length-append, length-replicate) (omega arith)
+length-men_of_counts : (q r b n p : ℕ) → length (men_of_counts q r b n p) ≡ q + (r + (b + (n + p)))
+length-men_of_counts q r b n p = simp (length-append, length-replicate) (omega arith)
 
 -- a side with one king
 pub record IsSide (men : List Man) (count : ℕ) : Type 0 where
@@ -64,14 +64,14 @@ pub record IsSide (men : List Man) (count : ℕ) : Type 0 where
   pub ordered : is_in_order men ≡ true
   pub number : length men ≡ count
 
-abbrev army : ℕ → ℕ → ℕ → ℕ → ℕ → ℕ → List Man
-army k q r b n p = replicate k King ++ officers q r b n p
+abbrev side_of_counts : ℕ → ℕ → ℕ → ℕ → ℕ → ℕ → List Man
+side_of_counts k q r b n p = replicate k King ++ men_of_counts q r b n p
 
-army_side : (k q r b n p : ℕ) → k ≡ 1 → IsSide (army k q r b n p) (k + (q + (r + (b + (n + p)))))
-army_side k q r b n p e = subst (λ (x : ℕ). IsSide (army x q r b n p) (x + (q + (r + (b + (n + p)))))) (sym e) (record {
-  king = rw (officers_kingless q r b n p) refl;
-  ordered = and_from (list_all (λ x. nat_le (code_of x) 6) (officers q r b n p)) (is_in_order (officers q r b n p)) (officers_army q r b n p).capped (officers_army q r b n p).ordered;
-  number = let h = length-officers q r b n p in omega (arith, h);
+side_of_counts-is : (k q r b n p : ℕ) → k ≡ 1 → IsSide (side_of_counts k q r b n p) (k + (q + (r + (b + (n + p)))))
+side_of_counts-is k q r b n p e = subst (λ (x : ℕ). IsSide (side_of_counts x q r b n p) (x + (q + (r + (b + (n + p)))))) (sym e) (record {
+  king = rw (men_of_counts_kingless q r b n p) refl;
+  ordered = and_from (list_all (λ x. nat_le (code_of x) 6) (men_of_counts q r b n p)) (is_in_order (men_of_counts q r b n p)) (men_of_counts_ordered q r b n p).capped (men_of_counts_ordered q r b n p).ordered;
+  number = let h = length-men_of_counts q r b n p in omega (arith, h);
 })
 
 -- ---- each man counts once
@@ -96,10 +96,10 @@ once Queen Black = refl
 once King White = refl
 once King Black = refl
 
-number-cons : (kind : Man) (color : Color) (s : Standing) (more : List Standing) → number_of kind color (s ∷ more) ≡ here kind color s.0 s.1 + number_of kind color more
+number-cons : (kind : Man) (color : Color) (s : PlacedMan) (more : List PlacedMan) → number_of kind color (s ∷ more) ≡ here kind color s.0 s.1 + number_of kind color more
 number-cons kind color s more = sum_by-cons (λ x. cond (is_man kind x.0 && is_color color x.1) 1 0) s more
 
-kinds-cons : (color : Color) (s : Standing) (more : List Standing) →
+kinds-cons : (color : Color) (s : PlacedMan) (more : List PlacedMan) →
     all_kinds (λ kind. number_of kind color (s ∷ more)) ≡ all_kinds (λ kind. here kind color s.0 s.1) + all_kinds (λ kind. number_of kind color more)
 kinds-cons color s more =
     let a = number-cons King color s more in let b = number-cons Queen color s more in let c = number-cons Rook color s more in
@@ -109,7 +109,7 @@ kinds-cons color s more =
 joined : (x y u v w z n : ℕ) → x ≡ u + v → y ≡ w + z → u + w ≡ 1 → v + z ≡ n → x + y ≡ suc n
 joined x y u v w z n a b c d = omega arith
 
-pub all_counted : (standing : List Standing) → all_kinds (λ kind. number_of kind White standing) + all_kinds (λ kind. number_of kind Black standing) ≡ length standing
+pub all_counted : (placed_men : List PlacedMan) → all_kinds (λ kind. number_of kind White placed_men) + all_kinds (λ kind. number_of kind Black placed_men) ≡ length placed_men
 all_counted [] = refl
 all_counted (s ∷ more) =
     joined (all_kinds (λ kind. number_of kind White (s ∷ more))) (all_kinds (λ kind. number_of kind Black (s ∷ more)))
@@ -154,10 +154,10 @@ pub pass : (b : Bool) (fault : PlacementFault) (rest : Option PlacementFault) �
 pass true fault rest e = refl
 pass false fault rest e = cc
 
-color_side : (color : Color) (standing : List Standing) → (number_of King color standing == 1) ≡ true →
-    IsSide (side_of color standing) (all_kinds (λ kind. number_of kind color standing))
-color_side color standing e = army_side (number_of King color standing) (number_of Queen color standing) (number_of Rook color standing)
-    (number_of Bishop color standing) (number_of Knight color standing) (number_of Pawn color standing) (eqb-true (number_of King color standing) 1 e)
+color_side : (color : Color) (placed_men : List PlacedMan) → (number_of King color placed_men == 1) ≡ true →
+    IsSide (side_of color placed_men) (all_kinds (λ kind. number_of kind color placed_men))
+color_side color placed_men e = side_of_counts-is (number_of King color placed_men) (number_of Queen color placed_men) (number_of Rook color placed_men)
+    (number_of Bishop color placed_men) (number_of Knight color placed_men) (number_of Pawn color placed_men) (eqb-true (number_of King color placed_men) 1 e)
 
 two_sides : (a b : List Man) (m n count : ℕ) → IsSide a m → IsSide b n → m + n ≡ count → is_count count ≡ true → may_be_first a b ≡ true → is_material (record { first = a; second = b }) ≡ true
 two_sides a b m n count x y e c f =
@@ -171,16 +171,16 @@ picked false a b p q = q refl
 
 pub material_of_placement : LawMaterialOf
 unfolding placement_fault
-material_of_placement standing h =
-    let men = pass (has_men standing) _ _ h in
-    let x = (and_parts (is_count (length standing) && number_of King White standing == 1) (number_of King Black standing == 1) men).0 in
-    let c = (and_parts (is_count (length standing)) (number_of King White standing == 1) x).0 in
-    let w = color_side White standing (and_parts (is_count (length standing)) (number_of King White standing == 1) x).1 in
-    let b = color_side Black standing (and_parts (is_count (length standing) && number_of King White standing == 1) (number_of King Black standing == 1) men).1 in
-    let white = side_of White standing in let black = side_of Black standing in
-    let m = all_kinds (λ kind. number_of kind White standing) in let n = all_kinds (λ kind. number_of kind Black standing) in
-    let total = all_counted standing in
-    let swapped : n + m ≡ length standing = omega (arith, total) in
+material_of_placement placed_men h =
+    let men = pass (has_men placed_men) _ _ h in
+    let x = (and_parts (is_count (length placed_men) && number_of King White placed_men == 1) (number_of King Black placed_men == 1) men).0 in
+    let c = (and_parts (is_count (length placed_men)) (number_of King White placed_men == 1) x).0 in
+    let w = color_side White placed_men (and_parts (is_count (length placed_men)) (number_of King White placed_men == 1) x).1 in
+    let b = color_side Black placed_men (and_parts (is_count (length placed_men) && number_of King White placed_men == 1) (number_of King Black placed_men == 1) men).1 in
+    let white = side_of White placed_men in let black = side_of Black placed_men in
+    let m = all_kinds (λ kind. number_of kind White placed_men) in let n = all_kinds (λ kind. number_of kind Black placed_men) in
+    let total = all_counted placed_men in
+    let swapped : n + m ≡ length placed_men = omega (arith, total) in
     picked (may_be_first white black) white black
-    (λ t. two_sides white black m n (length standing) w b total c t)
-    (λ t. two_sides black white n m (length standing) b w swapped c (first_total white black t))
+    (λ t. two_sides white black m n (length placed_men) w b total c t)
+    (λ t. two_sides black white n m (length placed_men) b w swapped c (first_total white black t))

@@ -1,4 +1,4 @@
--- A text is accepted exactly where it is the name of a material, and that material is answered.
+-- A text is accepted exactly if it is the name of a material, and the result is that material.
 use Rattle.std.proofs.Common.{◌≡◌, ℕ, ◌+◌, List, [], ◌∷◌, ◌++◌, length, refl, sym, ap, ◌∙◌, subst, Bool, true, false, not, ◌&&◌, ◌||◌, cond, arith, add-one, one-add}
 use Rattle.std.specs.Prelude.{Result, Ok, Err, Some, map, filter_map, count_by, ◌==◌}
 use Rattle.std.specs.List.{list_all, before_first, after_first}
@@ -52,7 +52,7 @@ after_first-here c cs e = rw e refl
 after_first-later : (c : ℕ) (cs : List ℕ) → is_v c ≡ false → after_first is_v (c ∷ cs) ≡ after_first is_v cs
 after_first-later c cs e = simp (e, one-add, add-one)
 
--- a letter of a name that is not v stands for a man
+-- a letter of a name other than v is the letter of a man
 pub record IsLetter (c : ℕ) : Type 0 where
   pub man : Man
   pub stands : man_of c ≡ Some man
@@ -86,7 +86,7 @@ letter_cases c h v = elim (eqb_tells c 75) [
 pub count-cons : (c : ℕ) (cs : List ℕ) → count_by is_v (c ∷ cs) ≡ cond (is_v c) 1 0 + count_by is_v cs
 count-cons c cs = sum_by-cons (λ x. cond (is_v x) 1 0) c cs
 
--- letters with no v among them are those of their men
+-- letters without a v are those of their men
 spelled_men : (cs : List ℕ) → list_all is_name_letter cs ≡ true → count_by is_v cs ≡ 0 → map letter_of (filter_map man_of cs) ≡ cs
 spelled_men [] h n = refl
 spelled_men (c ∷ cs) h n = elim (cases_Bool (is_v c)) [
@@ -96,7 +96,7 @@ spelled_men (c ∷ cs) h n = elim (cases_Bool (is_v c)) [
       rw (l.stands, l.is, spelled_men cs (and_parts (is_name_letter c) (list_all is_name_letter cs) h).1 m) refl
 ]
 
--- letters with one v are the name of their sides
+-- letters with exactly one v are the name of their sides
 pub spelled_name : (cs : List ℕ) → list_all is_name_letter cs ≡ true → count_by is_v cs ≡ 1 → name_of (sides_of cs) ≡ cs
 spelled_name [] h n = cc
 spelled_name (c ∷ cs) h n = elim (cases_Bool (is_v c)) [

@@ -1,4 +1,4 @@
--- Two sides in name order have as many men of each kind exactly where they are the same list.
+-- Two sides in name order have the same number of men of each kind exactly if they are the same list.
 use Rattle.std.proofs.Common.{◌≡◌, ℕ, ◌+◌, ◌<◌, inl, inr, List, [], ◌∷◌, refl, sym, ap, ◌∙◌, subst, Bool, true, false, cond, if◌then◌else◌, arith, zero, suc, length, get_or, lit<, Decides}
 use Rattle.std.specs.Prelude.{◌&&◌, count_by, ◌==◌, nat_le}
 use Rattle.std.specs.List.{list_all}
@@ -35,7 +35,7 @@ count_kind-cons kind x men = sum_by-cons (λ y. cond (is_man kind y) 1 0) x men
 count_kind-here : (x : Man) (men : List Man) → count_by (is_man x) (x ∷ men) ≡ 1 + count_by (is_man x) men
 count_kind-here x men = count_kind-cons x x men ∙ rw (is_man-same x) refl
 
--- a kind of a higher code than all men is not among them
+-- a kind with a higher code than all men does not occur among them
 none_above : (y : Man) (c : ℕ) (men : List Man) → list_all (λ b. nat_le (code_of b) c) men ≡ true → c < code_of y → count_by (is_man y) men ≡ 0
 none_above y c [] h l = refl
 none_above y c (x ∷ men) h l =

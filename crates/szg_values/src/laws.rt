@@ -1,8 +1,8 @@
-//! Laws over the definitions: each function's contract is a law, and its body is empty.
+//! Laws over the definitions. The contract of each function is a law, and its body is empty.
 
 ghost use Rattle.szg_values.specs.Laws.{LawNames, LawMaterialOf, LawNameLetters, LawMenOfPlacement, LawNameCount};
 
-/// A text is accepted exactly where it is the name of a material, and that material is answered.
+/// A text is accepted exactly if it is the name of a material, and the result is that material.
 pub fn accepted_exactly_names()
     ensures { LawNames }
 {}
@@ -12,17 +12,17 @@ pub fn placement_has_material()
     ensures { LawMaterialOf }
 {}
 
-/// A side of a material has as many men of each kind as its part of the name has letters.
+/// A side of a material has as many men of each kind as its part of the name has letters of that kind.
 pub fn name_letters()
     ensures { LawNameLetters }
 {}
 
-/// One side of a placement's material has White's men, as many of each kind, and the other Black's.
+/// One side of a placement's material has White's number of men of each kind, and the other has Black's.
 pub fn men_of_placement()
     ensures { LawMenOfPlacement }
 {}
 
-/// There are 510 materials of three to six men, and so 510 names.
+/// There are 510 materials of three to six men, and therefore 510 names.
 pub fn name_count()
     ensures { LawNameCount }
 {}

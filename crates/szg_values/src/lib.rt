@@ -1,9 +1,9 @@
 //! Squares, men, materials and placements of Syzygy tables.
 //!
-//! A table is named by its material, as `KQvKR`: a side, the letter `v`, a side.
-//! All that the format says of a material (its men, whether it is symmetric, its lead pawns)
-//! is a function of that name, and stands here. Names, man codes and the lead colour are those of
-//! de Man's format; squares are numbered as in python-chess.
+//! A table is named by its material, as `KQvKR`: a side, the letter `v`, a side. Everything that the format says
+//! about a material (its men, whether it is symmetric, its lead pawns) is a function of that name and is defined
+//! here. Names, man codes and the lead colour are those of de Man's format; squares are numbered as in
+//! python-chess.
 #![tactic(auto)]
 
 use arrayvec::ArrayVec;
@@ -17,10 +17,10 @@ mod parsing;
 mod placements;
 mod squares;
 
-/// The most men of a material.
+/// The greatest number of men of a material.
 pub const MAX_MEN: usize = 6;
 
-/// What a table holds: the outcome of each placement, or a distance.
+/// What a table stores: the outcome of each placement, or a distance.
 #[derive(Clone, Copy, Debug, PartialEq, Eq)]
 pub enum Kind {
     /// Win, draw or loss.
@@ -32,7 +32,7 @@ pub enum Kind {
 /// A colour of the board.
 #[derive(Clone, Copy, Debug, Default, PartialEq, Eq)]
 pub enum Color {
-    /// White, who moves first in a game.
+    /// White, which moves first in a game.
     #[default]
     White,
     /// Black.
@@ -75,37 +75,37 @@ impl Model for Square {
     ghost inverse = { λ n. record { number = n } };
 }
 
-/// Why a text is no name of a material. Of several faults the first in this order is told.
+/// Why a text is not the name of a material: the first fault in this order.
 #[derive(Clone, Copy, Debug, PartialEq, Eq, Error)]
 pub enum NameFault {
     /// A character other than K Q R B N P v, or not exactly one v.
     #[error("Letter")]
     Letter,
-    /// A side doesn't begin with K, or has a second K.
+    /// A side does not begin with K, or has a second K.
     #[error("King")]
     King,
-    /// A side's letters aren't in the order K Q R B N P.
+    /// A side's letters are not in the order K Q R B N P.
     #[error("Order")]
     Order,
-    /// The sides are in the wrong order: the second has more men, or as many and letters that come
+    /// The sides are in the wrong order: the second has more men, or it has the same number and its letters come
     /// earlier in the order K Q R B N P.
     #[error("Sides")]
     Sides,
-    /// Not three to [`MAX_MEN`] men.
+    /// The number of men is not three to [`MAX_MEN`].
     #[error("Men")]
     Men,
 }
 
-/// Why men are no placement. Of several faults the first in this order is told.
+/// Why men are not a placement: the first fault in this order.
 #[derive(Clone, Copy, Debug, PartialEq, Eq, Error)]
 pub enum PlacementFault {
-    /// Not three to [`MAX_MEN`] men, or a colour hasn't exactly one king.
+    /// The number of men is not three to [`MAX_MEN`], or a colour does not have exactly one king.
     #[error("Men")]
     Men,
-    /// Two men stand on one square.
+    /// Two men are on one square.
     #[error("SameSquare")]
     SameSquare,
-    /// A pawn stands on rank 1 or 8.
+    /// A pawn is on rank 1 or 8.
     #[error("PawnRank")]
     PawnRank,
 }
@@ -130,21 +130,22 @@ impl Model for Material {
     ghost inverse = { λ sides. record { first = record { items = sides.first }; second = record { items = sides.second } } };
 }
 
-/// Men on squares, and who moves.
+/// Men on squares, and the side to move.
 #[derive(Debug, Drop, PartialEq, Eq)]
 pub struct Placement {
     men: ArrayVec<(Man, Color, Square), 6>,
     mover: Color,
+    key: u64,
 }
 
 impl Model for Placement {
-    ghost use Rattle.szg_values.specs.Placement.{Board, ArePlaced};
+    ghost use Rattle.szg_values.specs.Placement.{Board, AreKept, men_key};
 
     ghost Value = { Board };
 
-    ghost view = { λ p. record { standing = p.men.items; mover = p.mover } };
+    ghost view = { λ p. record { placed_men = p.men.items; mover = p.mover } };
 
-    ghost invariant = { λ p. ArePlaced p.men.items };
+    ghost invariant = { λ p. AreKept p.men.items p.key };
 
-    ghost inverse = { λ board. record { men = record { items = board.standing }; mover = board.mover } };
+    ghost inverse = { λ board. record { men = record { items = board.placed_men }; mover = board.mover; key = men_key board.placed_men } };
 }

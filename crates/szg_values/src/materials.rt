@@ -1,4 +1,4 @@
-//! What a material tells.
+//! The calls of a material.
 
 ghost use Rattle.std.specs.Prelude.{◌≡◌, ◌↔◌, ◌≤◌, ◌+◌, ◌==◌, ◌&&◌, not, ◌++◌, IsTrue, length, map};
 ghost use Rattle.szg_values.specs.Men.{code_of, letter_of};
@@ -10,10 +10,10 @@ use crate::men::count_kind;
 use crate::{Man, Material};
 use arrayvec::{ArrayString, ArrayVec};
 
-/// The men codes of the name's second side are those of the first side and this.
+/// The number that is added to the man codes of the name's second side.
 const SECOND_SIDE: u8 = 8;
 
-/// The kinds in the order in which a name has them.
+/// The kinds in the order of a name.
 pub(crate) const NAME_ORDER: [Man; 6] = [
     Man::King,
     Man::Queen,
@@ -24,10 +24,10 @@ pub(crate) const NAME_ORDER: [Man; 6] = [
 ];
 
 impl Material {
-    /// The man codes in name order: those of the first side, then those of the second, which add 8.
+    /// Returns the man codes in name order: those of the first side, then those of the second, which have 8 added.
     pub fn men(&self) -> ArrayVec<u8, 6>
         ensures codes { result.items ≡ man_codes self.now }
-        // What a caller may rest on: a material is the men of a name.
+        // A fact that callers may use: a material is the men of a name.
         ensures material { IsMaterial self.now }
     {
         let mut codes = ArrayVec::new();
@@ -36,7 +36,7 @@ impl Material {
         codes
     }
 
-    /// The name, as `KQvKR`.
+    /// Returns the name, as `KQvKR`.
     pub fn name(&self) -> ArrayString<8>
         ensures { result.bytes ≡ name_of self.now }
     {
@@ -47,8 +47,8 @@ impl Material {
         name
     }
 
-    /// The same material once more. Men stand in the value itself, so there is no memory to take: no
-    /// call of this crate is handed an allocator.
+    /// Returns a copy. The men are stored in the value itself, so no memory is needed: no call of this crate takes
+    /// an allocator.
     pub fn copy(&self) -> Material
         ensures { result ≡ self.now }
     {
@@ -58,8 +58,8 @@ impl Material {
         }
     }
 
-    /// Whether this is the same material as another: as many men of each kind on the first sides,
-    /// and on the second ones. It is what `==` answers, with a contract that says so.
+    /// Returns whether two materials are equal: the first sides have the same number of men of each kind, and so do
+    /// the second sides. This is the result of `==`, with a contract that says so.
     pub fn is_same(&self, other: &Material) -> bool
         ensures counts { result ≡ (is_same_men self.now.first other.now.first && is_same_men self.now.second other.now.second) }
         ensures equal { IsTrue result ↔ (self.now ≡ other.now) }
@@ -68,36 +68,36 @@ impl Material {
             && has_same_men(self.second.as_slice(), other.second.as_slice())
     }
 
-    /// Whether both sides have the same men.
+    /// Returns whether both sides have the same men.
     pub fn symmetric(&self) -> bool
         ensures { result ≡ is_symmetric self.now }
     {
         has_same_men(self.first.as_slice(), self.second.as_slice())
     }
 
-    /// Whether some man is a pawn.
+    /// Returns whether some man is a pawn.
     pub fn has_pawns(&self) -> bool
         ensures { result ≡ has_pawns self.now }
     {
         0 < self.first_pawns() + self.second_pawns()
     }
 
-    /// The number of pawns of the lead colour: the side with fewer pawns but not none, on a tie
-    /// the first side; 0 without pawns.
+    /// Returns the number of pawns of the lead colour: the side with fewer pawns but not none, or the first side on
+    /// a tie. 0 without pawns.
     pub fn lead_pawns(&self) -> u8
         ensures { result ≡ lead_pawns self.now }
     {
         self.pawns().0
     }
 
-    /// The number of pawns of the other colour than the lead colour; 0 without pawns.
+    /// Returns the number of pawns of the colour that does not lead. 0 without pawns.
     pub fn other_pawns(&self) -> u8
         ensures { result ≡ other_pawns self.now }
     {
         self.pawns().1
     }
 
-    /// Whether some man other than a king is the only one of its kind and colour.
+    /// Returns whether some man other than a king is the only one of its kind and colour.
     pub fn single_lead(&self) -> bool
         ensures { result ≡ has_single_lead self.now }
     {
@@ -119,7 +119,7 @@ impl Material {
         count_kind(Man::Pawn, self.second.as_slice())
     }
 
-    /// The numbers of pawns of the lead colour and of the other.
+    /// Returns the numbers of pawns of the lead colour and of the other.
     fn pawns(&self) -> (u8, u8)
         ensures lead { result.0 ≡ lead_pawns self.now }
         ensures other { result.1 ≡ other_pawns self.now }
@@ -134,9 +134,9 @@ impl Material {
     }
 }
 
-/// Appends the codes of one side's men, each raised by the side's number.
+/// Appends the codes of one side's men, with `side` added to each.
 fn push_codes(codes: &mut ArrayVec<u8, 6>, men: &[Man], side: u8)
-    requires room { array_vec_len codes.old + length men.now ≤ 6 }
+    requires capacity { array_vec_len codes.old + length men.now ≤ 6 }
     requires side { side ≤ 8 }
     ensures { codes.new.items ≡ codes.old.items ++ map (λ man. side + code_of man) men.now }
 {
@@ -163,7 +163,7 @@ fn copy_men(men: &ArrayVec<Man, 6>) -> ArrayVec<Man, 6>
     copy
 }
 
-/// Whether two sides have as many men of each kind; in name order they are then the same.
+/// Returns whether two sides have the same number of men of each kind. In name order they are then equal.
 fn has_same_men(first: &[Man], second: &[Man]) -> bool
     requires first { IsTrue (is_in_order first.now) }
     requires second { IsTrue (is_in_order second.now) }
@@ -172,23 +172,23 @@ fn has_same_men(first: &[Man], second: &[Man]) -> bool
     first == second
 }
 
-/// Whether a man of this code is no king and the only one of the code.
+/// Returns whether a man of this code is not a king and the only one of the code.
 fn is_single(code: u8, codes: &[u8]) -> bool
     ensures { result ≡ (not (is_king_code code) && count_of code codes.now == 1) }
 {
     code != 6 && code != 14 && codes.iter().filter(|other| **other == code).count() == 1
 }
 
-/// Whether a name may have these sides in this order: the first has more men, or as many and its
-/// letters come earlier, in the order K Q R B N P, or are the same.
+/// Returns whether a name may have these sides in this order: the first has more men; or it has the same number,
+/// and its letters come earlier in the order K Q R B N P or are equal.
 pub(crate) fn may_be_first(first: &[Man], second: &[Man]) -> bool
     ensures { result ≡ may_be_first first.now second.now }
 {
     first.len() > second.len() || first.len() == second.len() && is_not_later(first, second)
 }
 
-/// Of two sides with as many men: whether the first's letters come earlier or are the same,
-/// compared letter by letter in the order K Q R B N P.
+/// Compares two sides with the same number of men letter by letter, in the order K Q R B N P. Returns whether the
+/// first side's letters come earlier or are equal.
 fn is_not_later(first: &[Man], second: &[Man]) -> bool
     requires { length first.now ≡ length second.now }
     ensures { result ≡ is_not_later first.now second.now }

@@ -7,8 +7,8 @@ ghost use Rattle.szg_values.specs.Material.{is_count};
 use crate::{MAX_MEN, Man};
 
 impl Man {
-    /// The man's code in a file of de Man's format: pawn 1, knight 2, bishop 3, rook 4, queen 5,
-    /// king 6. The men of the name's second side add 8 to it.
+    /// Returns the man's code in a file of de Man's format: pawn 1, knight 2, bishop 3, rook 4, queen 5, king 6.
+    /// For a man of the name's second side a file has this code plus 8.
     pub fn code(self) -> u8
         ensures { result ≡ code_of self }
     {
@@ -22,7 +22,7 @@ impl Man {
         }
     }
 
-    /// The man's letter in a name, an ASCII code: P N B R Q K.
+    /// Returns the man's letter in a name as an ASCII code: P N B R Q K.
     pub fn letter(self) -> u8
         ensures { result ≡ letter_of self }
     {
@@ -36,7 +36,7 @@ impl Man {
         }
     }
 
-    /// The man that a letter stands for; none for any other byte than P N B R Q K.
+    /// Returns the man of a letter. None for any byte other than P N B R Q K.
     pub fn of_letter(letter: u8) -> Option<Man>
         ensures { result ≡ man_of letter }
     {
@@ -52,7 +52,7 @@ impl Man {
     }
 }
 
-/// How many of these men are of a kind.
+/// Counts the men of a kind.
 pub(crate) fn count_kind(kind: Man, men: &[Man]) -> u8
     requires { length men.now ≤ 6 }
     ensures { result ≡ count_by (is_man kind) men.now }
@@ -60,7 +60,7 @@ pub(crate) fn count_kind(kind: Man, men: &[Man]) -> u8
     men.iter().filter(|man| **man == kind).count() as u8
 }
 
-/// Whether a material may have this many men.
+/// Returns whether a material may have this number of men.
 pub(crate) fn is_count(count: usize) -> bool
     ensures { result ≡ is_count count }
 {

@@ -1,4 +1,4 @@
-//! Reading a name.
+//! Parsing a name.
 
 ghost use Rattle.std.specs.Prelude.{◌≡◌, ◌≤◌, ◌<◌, ◌+◌, ◌&&◌, List, length, map, filter_map, count_by, is_some, IfSome, IfOk};
 ghost use Rattle.std.specs.List.{before_first, after_first, list_all};
@@ -12,14 +12,14 @@ use crate::{Man, Material, NameFault};
 use arrayvec::ArrayVec;
 
 impl Material {
-    /// The material of a name; else the first of the five faults that the text has.
+    /// Parses the name of a material. Errors: the first of the five faults of the text.
     ///
-    /// A name is a side, `v`, a side; a side is `K` and men in the order Q R B N P. The side with
-    /// more men is first. Of two sides with as many, the first letters in which they differ decide:
-    /// first is the side whose letter comes earlier in K Q R B N P, as Q in `KQvKR`; two equal sides
-    /// may stand. Each fault is one of the whole text, however long it is.
+    /// A name is a side, `v`, a side; a side is `K` and men in the order Q R B N P. The side with more men is
+    /// first. If both have the same number, the first letters in which they differ decide: the side whose letter
+    /// comes earlier in K Q R B N P is first, as Q in `KQvKR`. Two equal sides are accepted. Each fault is checked
+    /// over the whole text, however long it is.
     pub fn parse(text: &str) -> Result<Material, NameFault>
-        ensures answer { result ≡ parsed text.now }
+        ensures parsed { result ≡ parsed text.now }
         ensures named { IfOk result (λ material. IsMaterial material × (name_of material ≡ text.now)) }
     {
         let Some((first, second)) = split_name(text) else {
@@ -44,7 +44,7 @@ impl Material {
     }
 }
 
-/// The letters before the one v and those after it; none where the text is not spelled as a name is.
+/// Splits a text at its only v. None if the text has a letter that no name has, or not exactly one v.
 fn split_name(text: &str) -> Option<(&[u8], &[u8])>
     ensures spelled { is_some result ≡ is_spelled text.now }
     ensures first { IfSome result (λ sides. sides.0.now ≡ before_first is_v text.now) }
@@ -58,42 +58,42 @@ fn split_name(text: &str) -> Option<(&[u8], &[u8])>
     Some((first.as_bytes(), second.as_bytes()))
 }
 
-/// Whether a text has only letters of names, and exactly one v.
+/// Returns whether a text has only letters of names, and exactly one v.
 fn is_spelled(text: &[u8]) -> bool
     ensures { result ≡ is_spelled text.now }
 {
     has_name_letters(text) && count_v(text) == 1
 }
 
-/// Whether a text has no other bytes than K Q R B N P v.
+/// Returns whether every byte of a text is one of K Q R B N P v.
 fn has_name_letters(text: &[u8]) -> bool
     ensures { result ≡ list_all is_name_letter text.now }
 {
     text.iter().all(|letter| is_name_letter(*letter))
 }
 
-/// How many letters v a text has.
+/// Counts the letters v of a text.
 fn count_v(text: &[u8]) -> usize
     ensures { result ≡ count_by is_v text.now }
 {
     text.iter().filter(|letter| **letter == b'v').count()
 }
 
-/// Whether a byte is one of K Q R B N P v.
+/// Returns whether a byte is one of K Q R B N P v.
 fn is_name_letter(letter: u8) -> bool
     ensures { result ≡ is_name_letter letter }
 {
     matches!(letter, b'K' | b'Q' | b'R' | b'B' | b'N' | b'P' | b'v')
 }
 
-/// Whether both sides' letters begin with the king's and have no second one.
+/// Returns whether the letters of each side begin with a K and have no second one.
 fn have_kings_first(first: &[u8], second: &[u8]) -> bool
     ensures { (a b : List Man) → first.now ≡ map letter_of a → second.now ≡ map letter_of b → result ≡ (has_king_first a && has_king_first b) }
 {
     has_king_first(first) && has_king_first(second)
 }
 
-/// Whether a side's letters begin with the king's and have no second one.
+/// Returns whether a side's letters begin with a K and have no second one.
 fn has_king_first(side: &[u8]) -> bool
     ensures { (men : List Man) → side.now ≡ map letter_of men → result ≡ has_king_first men }
 {
@@ -103,14 +103,14 @@ fn has_king_first(side: &[u8]) -> bool
     }
 }
 
-/// Whether both sides' letters are in the order K Q R B N P.
+/// Returns whether the letters of each side are in the order K Q R B N P.
 fn are_in_order(first: &[u8], second: &[u8]) -> bool
     ensures { (a b : List Man) → first.now ≡ map letter_of a → second.now ≡ map letter_of b → result ≡ (is_in_order a && is_in_order b) }
 {
     is_in_order(first) && is_in_order(second)
 }
 
-/// Whether a side's letters are in the order K Q R B N P.
+/// Returns whether a side's letters are in the order K Q R B N P.
 fn is_in_order(side: &[u8]) -> bool
     ensures { (men : List Man) → side.now ≡ map letter_of men → result ≡ is_in_order men }
 {
@@ -125,16 +125,16 @@ fn is_in_order(side: &[u8]) -> bool
     true
 }
 
-/// Whether a name may have these sides in this order: the first has more men, or as many and its
-/// letters come earlier, in the order K Q R B N P, or are the same.
+/// Returns whether a name may have these sides in this order: the first has more men; or it has the same number,
+/// and its letters come earlier in the order K Q R B N P or are equal.
 fn may_be_first(first: &[u8], second: &[u8]) -> bool
     ensures { (a b : List Man) → first.now ≡ map letter_of a → second.now ≡ map letter_of b → result ≡ may_be_first a b }
 {
     first.len() > second.len() || first.len() == second.len() && is_not_later(first, second)
 }
 
-/// Of two sides with as many men: whether the first's letters come earlier or are the same,
-/// compared letter by letter in the order K Q R B N P.
+/// Compares two sides with the same number of men letter by letter, in the order K Q R B N P. Returns whether the
+/// first side's letters come earlier or are equal.
 fn is_not_later(first: &[u8], second: &[u8]) -> bool
     requires { length first.now ≡ length second.now }
     ensures { (a b : List Man) → first.now ≡ map letter_of a → second.now ≡ map letter_of b → result ≡ is_not_later a b }
@@ -149,7 +149,7 @@ fn is_not_later(first: &[u8], second: &[u8]) -> bool
     true
 }
 
-/// The code of the man that a letter stands for, 0 where it stands for none.
+/// Returns the code of the man of a letter, or 0 if the letter has none.
 fn code_of_letter(letter: u8) -> u8
     ensures { result ≡ option_map_or code_of (man_of letter) 0 }
 {
@@ -159,7 +159,7 @@ fn code_of_letter(letter: u8) -> u8
     }
 }
 
-/// The men of a side's letters.
+/// Returns the men of a side's letters.
 fn men_of(side: &[u8]) -> ArrayVec<Man, 6>
     requires { length side.now ≤ 6 }
     ensures { result.items ≡ filter_map man_of side.now }

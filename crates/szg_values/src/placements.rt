@@ -1,10 +1,10 @@
-//! Placements: men on squares, and who moves.
+//! Placements: men on squares, and the side to move.
 
-ghost use Rattle.std.specs.Prelude.{◌≡◌, ◌≢◌, ℕ, IsTrue, ◌<◌, ◌≤◌, ◌+◌, ◌&&◌, ◌||◌, ◌++◌, ◌==◌, length, replicate, None, IsNone, IfSome, Ok, Err};
+ghost use Rattle.std.specs.Prelude.{◌≡◌, ◌≢◌, ℕ, IsTrue, ◌<◌, ◌≤◌, ◌+◌, ◌&&◌, ◌||◌, ◌++◌, ◌==◌, ◌/◌, ◌%◌, ◌^◌, length, replicate, None, IsNone, IfSome, IfOk, Ok, Err};
 ghost use Rattle.std.specs.List.{list_any};
 ghost use Rattle.arrayvec.specs.ArrayVec.{array_vec_len};
 ghost use Rattle.szg_values.specs.Men.{is_man, is_color, rank_of};
-ghost use Rattle.szg_values.specs.Placement.{AreOnBoard, placement_fault, material_of, number_of, has_men, is_apart, has_pawns_inside, is_taken, side_of};
+ghost use Rattle.szg_values.specs.Placement.{AreOnBoard, colored_code, men_key, placement_fault, material_of, number_of, has_men, has_distinct_squares, has_pawns_on_inner_ranks, is_taken, side_of};
 
 use crate::materials::{NAME_ORDER, may_be_first};
 use crate::men::is_count;
@@ -12,48 +12,49 @@ use crate::{Color, Man, Material, Placement, PlacementFault, Square};
 use arrayvec::ArrayVec;
 
 impl Placement {
-    /// Men on squares and who moves; else the first of the three faults that the men have.
+    /// Creates a placement. Errors: the first of the three faults of the men.
     #[tactic(auto, unfolding(crate::specs::Placement::placement_fault))]
     pub fn new(men: &[(Man, Color, Square)], mover: Color) -> Result<Placement, PlacementFault>
-        ensures placed { IsNone (placement_fault men.now) → result ≡ Ok (record { standing = men.now; mover = mover }) }
+        ensures accepted { IsNone (placement_fault men.now) → result ≡ Ok (record { placed_men = men.now; mover = mover }) }
         ensures refused { IfSome (placement_fault men.now) (λ fault. result ≡ Err fault) }
     {
-        if let Some(fault) = fault_of(men) {
-            return Err(fault);
+        match checked_key(men) {
+            Ok(key) => Ok(Placement {
+                men: copy_placed_men(men),
+                mover,
+                key,
+            }),
+            Err(fault) => Err(fault),
         }
-        Ok(Placement {
-            men: copy_standing(men),
-            mover,
-        })
     }
 
-    /// The same of a list of men that is handed over: it isn't copied.
+    /// Creates a placement from a list that is moved, not copied. Errors: the first of the three faults of the men.
     #[tactic(auto, unfolding(crate::specs::Placement::placement_fault))]
     pub fn of(
         men: ArrayVec<(Man, Color, Square), 6>,
         mover: Color,
     ) -> Result<Placement, PlacementFault>
-        ensures placed { IsNone (placement_fault men.items) → result ≡ Ok (record { standing = men.items; mover = mover }) }
+        ensures accepted { IsNone (placement_fault men.items) → result ≡ Ok (record { placed_men = men.items; mover = mover }) }
         ensures refused { IfSome (placement_fault men.items) (λ fault. result ≡ Err fault) }
     {
-        match fault_of(men.as_slice()) {
-            Some(fault) => Err(fault),
-            None => Ok(Placement { men, mover }),
+        match checked_key(men.as_slice()) {
+            Ok(key) => Ok(Placement { men, mover, key }),
+            Err(fault) => Err(fault),
         }
     }
 
-    /// The men in the order given. They are a placement's, and stand on squares of the board.
+    /// Returns the men in the order given. They have no fault, and are on squares of the board.
     pub fn men(&self) -> &[(Man, Color, Square)]
-        ensures men { result.now ≡ self.now.standing }
-        ensures sound { IsNone (placement_fault result.now) }
+        ensures men { result.now ≡ self.now.placed_men }
+        ensures no_fault { IsNone (placement_fault result.now) }
         ensures on_board { AreOnBoard result.now }
     {
         self.men.as_slice()
     }
 
-    /// The material of the men: White's and Black's, the side that a name has first before the other.
+    /// Returns the material of the men: White's men and Black's, in the order of a name.
     pub fn material(&self) -> Material
-        ensures { result ≡ material_of self.now.standing }
+        ensures { result ≡ material_of self.now.placed_men }
     {
         let men = self.men();
         let white = side_of(Color::White, men);
@@ -66,59 +67,126 @@ impl Placement {
         Material { first, second }
     }
 
-    /// Who moves.
+    /// Returns the side to move.
     pub fn mover(&self) -> Color
         ensures { result ≡ self.now.mover }
     {
         self.mover
     }
+
+    /// How many men of each kind and colour stand, as one number: each code has a digit of base 8.
+    pub fn key(&self) -> u64
+        ensures { result ≡ men_key self.now.placed_men }
+    {
+        self.key
+    }
 }
 
-/// The first fault of men, if any. Men without one are found so by one walk.
+/// Returns the key of men that have no fault, by a single pass. Errors: the first fault of the men.
 #[tactic(auto, unfolding(crate::specs::Placement::placement_fault))]
-fn fault_of(men: &[(Man, Color, Square)]) -> Option<PlacementFault>
-    ensures fault { result ≡ placement_fault men.now }
-    ensures on_board { IsNone result → AreOnBoard men.now }
+fn checked_key(men: &[(Man, Color, Square)]) -> Result<u64, PlacementFault>
+    ensures accepted { IsNone (placement_fault men.now) → result ≡ Ok (men_key men.now) }
+    ensures refused { IfSome (placement_fault men.now) (λ fault. result ≡ Err fault) }
+    ensures on_board { IfOk result (λ key. AreOnBoard men.now) }
 {
-    if are_sound(men) {
-        return None;
+    if let Some(key) = sound_key(men) {
+        return Ok(key);
     }
     if !has_men(men) {
-        return Some(PlacementFault::Men);
+        return Err(PlacementFault::Men);
     }
-    if !is_apart(men) {
-        return Some(PlacementFault::SameSquare);
+    if !has_distinct_squares(men) {
+        return Err(PlacementFault::SameSquare);
     }
-    if !has_pawns_inside(men) {
-        return Some(PlacementFault::PawnRank);
+    if !has_pawns_on_inner_ranks(men) {
+        return Err(PlacementFault::PawnRank);
     }
-    None
+    Ok(key_of(men))
 }
 
-/// Whether one walk over men finds that they are a placement's.
-fn are_sound(men: &[(Man, Color, Square)]) -> bool
-    ensures sound { IsTrue result → placement_fault men.now ≡ None }
-    ensures on_board { IsTrue result → AreOnBoard men.now }
+/// Returns the key of men that have no fault. None if they have one. A call of its own, so that the list is filled in
+/// memory.
+#[inline(never)]
+fn sound_key(men: &[(Man, Color, Square)]) -> Option<u64>
+    ensures no_fault { IfSome result (λ key. placement_fault men.now ≡ None) }
+    ensures on_board { IfSome result (λ key. AreOnBoard men.now) }
+    ensures key { IfSome result (λ key. key ≡ men_key men.now) }
 {
     if !is_count(men.len()) {
-        return false;
+        return None;
     }
     let mut taken = 0;
-    let mut white = 0;
-    let mut black = 0;
+    let mut key = 0;
     for man in men {
         let square = man.2.number();
-        if is_taken(taken, square) || is_pawn_outside(man.0, man.2) {
-            return false;
+        if is_taken(taken, square) || is_pawn_on_outer_rank(man.0, man.2) {
+            return None;
         }
         taken = with_square(taken, square);
-        white += usize::from(is_of(Man::King, Color::White, man));
-        black += usize::from(is_of(Man::King, Color::Black, man));
+        key += man_key(man.0, man.1);
     }
-    white == 1 && black == 1
+    if has_kings(key) { Some(key) } else { None }
 }
 
-/// Whether a square is one of those taken, of which each has a bit.
+/// Whether a key tells of one king of each colour.
+fn has_kings(key: u64) -> bool
+    ensures { result ≡ (key / 262144 % 8 == 1 && key / 4398046511104 == 1) }
+{
+    key / 262144 % 8 == 1 && key / 4398046511104 == 1
+}
+
+/// The key of men.
+fn key_of(men: &[(Man, Color, Square)]) -> u64
+    requires { length men.now ≤ 6 }
+    ensures { result ≡ men_key men.now }
+{
+    let mut key = 0;
+    for man in men {
+        key += man_key(man.0, man.1);
+    }
+    key
+}
+
+/// What a man adds to a key, by his code.
+const KEYS: [u64; 16] = [
+    1,
+    8,
+    64,
+    512,
+    4096,
+    32768,
+    262144,
+    2097152,
+    16777216,
+    134217728,
+    1073741824,
+    8589934592,
+    68719476736,
+    549755813888,
+    4398046511104,
+    35184372088832,
+];
+
+/// What a man adds to a key.
+fn man_key(man: Man, color: Color) -> u64
+    ensures key { result ≡ 8 ^ colored_code man color }
+    ensures small { result < 2 ^ 60 }
+{
+    KEYS[usize::from(colored_code(man, color))]
+}
+
+/// A man's code: Black's men add 8.
+fn colored_code(man: Man, color: Color) -> u8
+    ensures same { result ≡ colored_code man color }
+    ensures below { result < 16 }
+{
+    match color {
+        Color::White => man.code(),
+        Color::Black => 8 + man.code(),
+    }
+}
+
+/// Returns whether the bit of a square is set in `taken`.
 fn is_taken(taken: u64, square: u8) -> bool
     requires { square < 64 }
     ensures { result ≡ is_taken taken square }
@@ -126,7 +194,7 @@ fn is_taken(taken: u64, square: u8) -> bool
     taken >> square & 1 == 1
 }
 
-/// The squares taken, and this one.
+/// Sets the bit of a square in `taken`.
 fn with_square(taken: u64, square: u8) -> u64
     requires { square < 64 }
     ensures same { IsTrue (is_taken result square) }
@@ -135,7 +203,7 @@ fn with_square(taken: u64, square: u8) -> u64
     taken | 1 << square
 }
 
-/// Whether there are three to six men, and of each colour exactly one king.
+/// Returns whether there are three to six men, with exactly one king of each colour.
 fn has_men(men: &[(Man, Color, Square)]) -> bool
     ensures { result ≡ has_men men.now }
 {
@@ -144,7 +212,7 @@ fn has_men(men: &[(Man, Color, Square)]) -> bool
         && number_of(Man::King, Color::Black, men) == 1
 }
 
-/// How many men of this kind and colour stand.
+/// Counts the men of a kind and colour.
 fn number_of(kind: Man, color: Color, men: &[(Man, Color, Square)]) -> usize
     ensures { result ≡ number_of kind color men.now }
 {
@@ -157,42 +225,42 @@ fn is_of(kind: Man, color: Color, man: &(Man, Color, Square)) -> bool
     man.0 == kind && man.1 == color
 }
 
-/// Whether no two men stand on one square.
-fn is_apart(men: &[(Man, Color, Square)]) -> bool
+/// Returns whether no two men are on one square.
+fn has_distinct_squares(men: &[(Man, Color, Square)]) -> bool
     requires { length men.now ≤ 6 }
-    ensures test { result ≡ is_apart men.now }
+    ensures test { result ≡ has_distinct_squares men.now }
     ensures on_board { IsTrue result → AreOnBoard men.now }
 {
     for (place, man) in men.iter().enumerate() {
-        if stands_on(man.2.number(), &men[place + 1..]) {
+        if is_on_square(man.2.number(), &men[place + 1..]) {
             return false;
         }
     }
     true
 }
 
-/// Whether some man stands on the square of a number.
-fn stands_on(number: u8, men: &[(Man, Color, Square)]) -> bool
+/// Returns whether some man is on the square with this number.
+fn is_on_square(number: u8, men: &[(Man, Color, Square)]) -> bool
     ensures { result ≡ list_any (λ other. number == other.2) men.now }
 {
     men.iter().any(|other| other.2.number() == number)
 }
 
-/// Whether no pawn stands on rank 1 or 8.
-fn has_pawns_inside(men: &[(Man, Color, Square)]) -> bool
-    ensures { result ≡ has_pawns_inside men.now }
+/// Returns whether no pawn is on rank 1 or 8.
+fn has_pawns_on_inner_ranks(men: &[(Man, Color, Square)]) -> bool
+    ensures { result ≡ has_pawns_on_inner_ranks men.now }
 {
-    men.iter().all(|man| !is_pawn_outside(man.0, man.2))
+    men.iter().all(|man| !is_pawn_on_outer_rank(man.0, man.2))
 }
 
-fn is_pawn_outside(man: Man, square: Square) -> bool
+fn is_pawn_on_outer_rank(man: Man, square: Square) -> bool
     ensures { result ≡ (is_man Man.Pawn man && (rank_of square == 0 || rank_of square == 7)) }
 {
     let rank = square.number() / 8;
     man == Man::Pawn && (rank == 0 || rank == 7)
 }
 
-fn copy_standing(men: &[(Man, Color, Square)]) -> ArrayVec<(Man, Color, Square), 6>
+fn copy_placed_men(men: &[(Man, Color, Square)]) -> ArrayVec<(Man, Color, Square), 6>
     requires { length men.now ≤ 6 }
     ensures { result.items ≡ men.now }
 {
@@ -201,7 +269,7 @@ fn copy_standing(men: &[(Man, Color, Square)]) -> ArrayVec<(Man, Color, Square),
     copy
 }
 
-/// A colour's men in name order.
+/// Returns a colour's men in name order.
 fn side_of(color: Color, men: &[(Man, Color, Square)]) -> ArrayVec<Man, 6>
     requires { length men.now ≤ 6 }
     ensures { result.items ≡ side_of color men.now }
@@ -213,7 +281,7 @@ fn side_of(color: Color, men: &[(Man, Color, Square)]) -> ArrayVec<Man, 6>
     side
 }
 
-/// Appends as many men of a kind.
+/// Appends `number` men of a kind.
 fn push_men(side: &mut ArrayVec<Man, 6>, kind: Man, number: usize)
     requires { array_vec_len side.old + number ≤ 6 }
     ensures { side.new.items ≡ side.old.items ++ replicate number kind }

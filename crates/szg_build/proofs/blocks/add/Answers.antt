@@ -14,7 +14,7 @@ is_full-requires-clause-short c =
 pub close-requires-clause-some : goal.close-requires-clause-some
 close-requires-clause-some c =
     let w = c.requires.chosen.words c.args.symbol c.requires.there in
-    let short : c.word_length-bits.result ≤ 12 = omega (arith, c.word_length-bits.ensures w.0 w.1, w.1.short_enough, c.requires.chosen.longest) in
+    let short : c.word_length-bits.result ≤ 32 = omega (arith, c.word_length-bits.ensures w.0 w.1, w.1.short_enough, c.requires.chosen.longest) in
     let f = c.args.filling.now in
     full_some c.args.code.now c.args.dict.now c.args.block_bits c.requires.filling.0 f.lengths.items f.packed.items f.buffer.written f.values c.word_length-bits.result c.len-values.result
     c.requires.filling.1 (block_large c.args.block_bits c.requires.least_bits) short c.len-values.ensures.at_most (holds c.is_full.result c.is_full.ensures c.if-is_full.true)
@@ -30,7 +30,7 @@ returns-clause-more c = λ symbols h.
     let n : ℕ = c.len-values.result in
     let word = c.in_ok-append.ensures in
     let bits_are : length word.0 ≡ c.word_length-bits.result = c.word_length-bits.ensures word.0 word.1 in
-    let short : length word.0 ≤ 12 = omega (arith, word.1.short_enough, c.requires.chosen.longest) in
+    let short : length word.0 ≤ 32 = omega (arith, word.1.short_enough, c.requires.chosen.longest) in
     let large : 32 ≤ 2 ^ b = block_large b c.requires.least_bits in
     let same : f.values + c.from.result ≡ f.values + n = ap (λ (k : ℕ). f.values + k) c.from.ensures in
     let done = λ (now : IsFilling code dict b symbols f.lengths.items f.packed.items f.buffer.written f.values) (fits : length f.buffer.written + length word.0 ≤ 8 * 2 ^ b) (most : f.values + n ≤ 65536).
@@ -41,7 +41,7 @@ returns-clause-more c = λ symbols h.
       | then-is_full+in_ok-close w ↦
           let full = holds c.is_full.result c.is_full.ensures w.if-is_full.true in
           let block = w.in_ok-close.ensures.block in
-          let again : (8 * 2 ^ b < length old.buffer.written + 12) ⊎ (65536 < old.values + 256) = elim full [
+          let again : (8 * 2 ^ b < length old.buffer.written + 32) ⊎ (65536 < old.values + 256) = elim full [
             | inl bits_full ↦ inl (omega (arith, bits_full, bits_are, short))
             | inr values_full ↦ inr (omega (arith, values_full, c.len-values.ensures.at_most))
           ] in

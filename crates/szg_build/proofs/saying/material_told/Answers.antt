@@ -14,9 +14,9 @@ returns-in_default-from_utf8 c =
 pub returns-in-Ok-parse : goal.returns-in-Ok-parse
 returns-in-Ok-parse c =
     name_said c.args.text.now c.in-Some.word.now (Some c.in-Ok-parse.material) c.in-Some.ensures.0 c.in-Some.ensures.1
-    (ap (λ z. material_in (parsed z)) (sym c.in-Ok.ensures.cases.0) ∙ ap material_in (sym c.parse.ensures.answer ∙ c.in-Ok-parse.is))
+    (ap (λ z. material_in (parsed z)) (sym c.in-Ok.ensures.cases.0) ∙ ap material_in (sym c.parse.ensures.parsed ∙ c.in-Ok-parse.is))
 
 pub returns-in-Err : goal.returns-in-Err
 returns-in-Err c =
     name_said c.args.text.now c.in-Some.word.now None c.in-Some.ensures.0 c.in-Some.ensures.1
-    (ap (λ z. material_in (parsed z)) (sym c.in-Ok.ensures.cases.0) ∙ ap material_in (sym c.parse.ensures.answer ∙ c.in-Err.is))
+    (ap (λ z. material_in (parsed z)) (sym c.in-Ok.ensures.cases.0) ∙ ap material_in (sym c.parse.ensures.parsed ∙ c.in-Err.is))

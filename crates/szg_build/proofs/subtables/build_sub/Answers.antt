@@ -1,12 +1,35 @@
 use Rattle.std.proofs.Common.{arith}
 use Rattle.szg_file.specs.Held.{subtable_of}
-use Rattle.szg_build.proofs.SubLaws.{made_is_built, if_ok}
+use Rattle.szg_build.specs.declared.building.Choice.TheVariants.{Fixed, Small}
+use Rattle.szg_build.proofs.SubLaws.{made_is_built, small_is_built, bounds_as, built_as, if_ok}
 use Rattle.szg_build.proofs.subtables.build_sub.Goals as goal
 
-pub returns : goal.returns
-returns c =
-    let p = c.args.packing in
+pub build_pairs-requires-clause-least_block : goal.build_pairs-requires-clause-least_block
+build_pairs-requires-clause-least_block c = (bounds_as c.args.choice (Fixed c.in-Fixed.packing) c.in-Fixed.is c.requires.choice).0
+
+pub build_pairs-requires-clause-most_block : goal.build_pairs-requires-clause-most_block
+build_pairs-requires-clause-most_block c = (bounds_as c.args.choice (Fixed c.in-Fixed.packing) c.in-Fixed.is c.requires.choice).1
+
+pub build_pairs-requires-clause-least_span : goal.build_pairs-requires-clause-least_span
+build_pairs-requires-clause-least_span c = (bounds_as c.args.choice (Fixed c.in-Fixed.packing) c.in-Fixed.is c.requires.choice).2
+
+pub build_pairs-requires-clause-most_span : goal.build_pairs-requires-clause-most_span
+build_pairs-requires-clause-most_span c = (bounds_as c.args.choice (Fixed c.in-Fixed.packing) c.in-Fixed.is c.requires.choice).3
+
+pub build_pairs-requires-clause-rounds : goal.build_pairs-requires-clause-rounds
+build_pairs-requires-clause-rounds c = (bounds_as c.args.choice (Fixed c.in-Fixed.packing) c.in-Fixed.is c.requires.choice).4
+
+pub returns-in-Fixed : goal.returns-in-Fixed
+returns-in-Fixed c =
     if_ok c.build_pairs.result
-    (λ sub h. made_is_built c.args.kind c.args.flags c.args.values.now p.block_bits p.span_bits p.rounds (subtable_of sub) h
-    (omega (arith, c.requires.flags)) c.requires.least_block c.requires.most_block c.requires.least_span c.requires.most_span)
+    (λ sub h. built_as c.args.kind c.args.flags c.args.values.now c.args.choice (Fixed c.in-Fixed.packing) (subtable_of sub) c.in-Fixed.is
+    (made_is_built c.args.kind c.args.flags c.args.values.now c.in-Fixed.packing (subtable_of sub) h
+    (omega (arith, c.requires.flags)) (bounds_as c.args.choice (Fixed c.in-Fixed.packing) c.in-Fixed.is c.requires.choice)))
     c.build_pairs.ensures
+
+pub returns-in-Small : goal.returns-in-Small
+returns-in-Small c =
+    if_ok c.build_short_pairs.result
+    (λ sub h. built_as c.args.kind c.args.flags c.args.values.now c.args.choice Small (subtable_of sub) c.in-Small.is
+    (small_is_built c.args.kind c.args.flags c.args.values.now (subtable_of sub) h (omega (arith, c.requires.flags))))
+    c.build_short_pairs.ensures

@@ -5,6 +5,7 @@ use Rattle.szg_file.specs.Contents.{Subtable}
 use Rattle.szg_file.specs.Held.{subtable_of}
 use Rattle.szg_build.specs.Shown.{plan_seen}
 use Rattle.szg_build.specs.Tabling.{AreBuilt, IsBuildable}
+use Rattle.szg_build.proofs.SubLaws.{choice_in_bounds}
 use Rattle.szg_build.proofs.TableLaws.{built_next, lent_at}
 use Rattle.szg_build.proofs.table.build_subs.Goals as goal
 
@@ -23,16 +24,19 @@ pub build_sub-requires-clause-different : goal.build_sub-requires-clause-differe
 build_sub-requires-clause-different c =
     (lent_at (IsBuildable c.args.plan.now.kind) (λ list. list.now) c.args.lists.now c.lists.n _ c.lists-test.true c.requires.lists).different
 
+pub build_sub-requires-clause-choice : goal.build_sub-requires-clause-choice
+build_sub-requires-clause-choice c = choice_in_bounds (plan_seen c.args.plan.now) c.args.choice c.requires.range c.requires.choice
+
 pub lists-preserved : goal.lists-preserved
 lists-preserved c =
     let plan = plan_seen c.args.plan.now in
     let flags : c.flags_at-flags.result ≡ get_or c.args.plan.now.flags.items c.lists.n 0 = c.flags_at-flags.ensures.flags ∙ ap (λ (z : List ℕ). get_or z c.lists.n 0) c.deref.ensures.value in
-    subst (λ (z : List Subtable). AreBuilt plan c.args.plan.now.flags.items (map (λ list. list.now) (take (c.lists.n + 1) c.args.lists.now)) z)
+    subst (λ (z : List Subtable). AreBuilt c.args.choice plan c.args.plan.now.flags.items (map (λ list. list.now) (take (c.lists.n + 1) c.args.lists.now)) z)
     (sym (ap (map subtable_of) c.in_ok-push.ensures.items ∙ map-append subtable_of c.lists.subs.items (c.in_ok-sub.sub ∷ [])))
-    (built_next (λ list. list.now) plan c.args.plan.now.flags.items c.args.lists.now c.lists.n _ (map subtable_of c.lists.subs.items) (subtable_of c.in_ok-sub.sub) c.flags_at-flags.result
+    (built_next (λ list. list.now) c.args.choice plan c.args.plan.now.flags.items c.args.lists.now c.lists.n _ (map subtable_of c.lists.subs.items) (subtable_of c.in_ok-sub.sub) c.flags_at-flags.result
     c.lists-test.true c.lists.invariant flags c.in_ok-sub.ensures)
 
 pub returns : goal.returns
 returns c =
-    subst (λ z. AreBuilt (plan_seen c.args.plan.now) c.args.plan.now.flags.items (map (λ list. list.now) z) (map subtable_of c.lists.subs.items))
+    subst (λ z. AreBuilt c.args.choice (plan_seen c.args.plan.now) c.args.plan.now.flags.items (map (λ list. list.now) z) (map subtable_of c.lists.subs.items))
     (take_all c.lists.n c.args.lists.now (omega arith)) c.lists.invariant

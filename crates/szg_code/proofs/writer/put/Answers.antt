@@ -7,5 +7,5 @@ pub returns-in-Err-clause-full : goal.returns-in-Err-clause-full
 returns-in-Err-clause-full c =
     let word = c.in-Some.word in
     let n : length (bits_of_number word.length word.number) ≡ word.length = length-bits_of_number word.length word.number in
-    let full : c.args.buffer.now.room < (length c.args.buffer.now.written + word.length + 7) / 8 = c.in-Err.ensures.full in
+    let full : c.args.buffer.now.capacity < (length c.args.buffer.now.written + word.length + 7) / 8 = c.in-Err.ensures.full in
     λ _. (bits_of_number word.length word.number, c.in-Some.ensures.found.1, rw n full)

@@ -6,6 +6,6 @@ use Rattle.szg_count.proofs.Groups.assembled.Given as goal
 
 abbrev pub invariant-loop-i : goal.invariant-loop-i
 invariant-loop-i l = record {
-  groups : l.groups.items ≡ map (group_from l.lengths l.ways l.places) (range_with_len 0 l.i);
+  groups : l.groups.items ≡ map (group_from l.lengths l.ways l.positions) (range_with_len 0 l.i);
   first : l.first ≡ sum (take l.i l.lengths);
 }

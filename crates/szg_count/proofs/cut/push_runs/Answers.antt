@@ -2,7 +2,7 @@ use Rattle.std.proofs.Common.{◌≡◌, ◌++◌, length, drop, sym, ap, ◌∙
 use Rattle.std.specs.Prelude.{slice_get, Some, None}
 use Rattle.std.specs.Option.{option_copied}
 use Rattle.szg_count.specs.Steps.{leading, run_lengths}
-use Rattle.szg_count.proofs.Cutting.{runs_turn, runs_none, leading-first}
+use Rattle.szg_count.proofs.Cutting.{runs_step, runs_none, leading-first}
 use Rattle.szg_count.proofs.cut.push_runs.Goals as goal
 
 pub loop-man-preserved : goal.loop-man-preserved
@@ -13,7 +13,7 @@ loop-man-preserved c =
     let some = leading-first c.in-Some.man.now c.loop-man.rest.now now in
     record {
       all = ap (λ l. l ++ run_lengths c.split_at.result.1.now) c.push.ensures.items
-          ∙ runs_turn c.in-Some.man.now (length c.split_at.result.0.now) c.loop-man.lengths.items c.loop-man.rest.now c.split_at.result.1.now _ now run behind c.loop-man.invariant.all;
+          ∙ runs_step c.in-Some.man.now (length c.split_at.result.0.now) c.loop-man.lengths.items c.loop-man.rest.now c.split_at.result.1.now _ now run behind c.loop-man.invariant.all;
       room = omega arith;
     }
 

@@ -1,4 +1,4 @@
-use Rattle.szg_count.proofs.LeadSets.{lead_sets_hold as law}
+use Rattle.szg_count.proofs.LeadSets.{lead_sets_contain_filtered as law}
 use Rattle.szg_count.proofs.laws.lead_sets.Goals as goal
 
 pub returns : goal.returns

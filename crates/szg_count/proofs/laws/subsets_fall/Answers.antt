@@ -1,4 +1,4 @@
-use Rattle.szg_count.proofs.SubsetPlaces.{subsets_fall as law}
+use Rattle.szg_count.proofs.SubsetRanks.{subsets_fall as law}
 use Rattle.szg_count.proofs.laws.subsets_fall.Goals as goal
 
 pub returns : goal.returns

@@ -18,11 +18,11 @@ push-requires c =
 pub loop-i-preserved : goal.loop-i-preserved
 loop-i-preserved c =
     let counts = ways_by c.ways_of_lead-lead.result (nat_lt 0 c.other_pawns-has_other.result) c.args.lengths.now in
-    let turn : c.ways_in_turn.result ≡ counts c.loop-i.i = cc in
+    let turn : c.ways_of_next.result ≡ counts c.loop-i.i = cc in
     let more = sum_by_more (λ (n : ℕ). n) c.args.lengths.now c.loop-i.i 0 (omega arith) in
     let before = c.loop-i.invariant.before in let length = c.from-length.ensures in
     record {
-      ways = c.push.ensures.items ∙ ap (λ l. l ++ c.ways_in_turn.result ∷ []) c.loop-i.invariant.ways
+      ways = c.push.ensures.items ∙ ap (λ l. l ++ c.ways_of_next.result ∷ []) c.loop-i.invariant.ways
           ∙ ap (λ n. map counts (range_with_len 0 c.loop-i.i) ++ n ∷ []) turn
           ∙ sym (map-range_with_len_more counts 0 c.loop-i.i c.loop-i.i (omega arith));
       before = omega (arith, more, before, length);

@@ -1,5 +1,5 @@
 use Rattle.std.proofs.Common.{◌≡◌, ℕ, ap, sym, subst, true, false}
-use Rattle.szg_block.specs.Shown.{IsSound}
+use Rattle.szg_block.specs.Views.{IsSound}
 use Rattle.szg_file.specs.Contents.{Slot}
 use Rattle.szg_file.proofs.WantedLaws.{kept_sound, value_told}
 use Rattle.szg_file.proofs.lookup.value_of.Goals as goal

@@ -1,5 +1,5 @@
 use Rattle.std.proofs.Common.{◌≡◌, ◌+◌, ◌*◌, ℕ, ap, sym, subst, refl, Some}
-use Rattle.szg_block.specs.Shown.{IsSound}
+use Rattle.szg_block.specs.Views.{IsSound}
 use Rattle.szg_file.specs.Contents.{Slot}
 use Rattle.szg_file.specs.Placed.{whole_sub}
 use Rattle.szg_file.specs.declared.dropping.PlacedSub.{PlacedSub}

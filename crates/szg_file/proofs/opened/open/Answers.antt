@@ -1,29 +1,50 @@
-use Rattle.std.proofs.Common.{◌≡◌, ℕ, List, refl, sym, ap, subst, ◌∙◌, drop, Some, Option, IsSome}
+use Rattle.std.proofs.Common.{◌≡◌, ℕ, List, map, option_map, refl, sym, ap, subst, ◌∙◌, drop, Some, Option, IsSome}
 use Rattle.szg_values.specs.declared.Kind.{Kind}
 use Rattle.szg_values.specs.Material.{Sides}
-use Rattle.szg_block.specs.Paging.{room_of, source_of}
-use Rattle.szg_file.specs.Contents.{Contents}
-use Rattle.szg_file.specs.File.{file}
+use Rattle.szg_block.specs.Paging.{buffer_len_of, source_of}
+use Rattle.szg_file.specs.Contents.{Contents, Slot}
+use Rattle.szg_file.specs.File.{file, flags_of}
 use Rattle.szg_file.specs.Format.{verdict}
 use Rattle.szg_file.specs.Forward.{Forward}
-use Rattle.szg_file.specs.Opened.{IsOpenRefusal}
+use Rattle.szg_file.specs.Held.{part_of, subtable_of, map_of}
+use Rattle.szg_file.specs.Index.{Index, IsIndex, index_with, slots_in}
+use Rattle.szg_file.specs.Opened.{IsOpenRefusal, IsOpened}
+use Rattle.szg_file.specs.declared.dropping.PlacedSub.{PlacedSub}
+use Rattle.szg_file.specs.declared.outline.Outline.{Outline}
 use Rattle.szg_file.specs.declared.opened.OpenFault.{OpenFault}
 use Rattle.szg_file.proofs.OpenedLaws.{forward_kept, opened_by, refusal_follows}
-use Rattle.szg_file.proofs.OutlinedLaws.{outlined_by}
+use Rattle.szg_file.proofs.OutlinedLaws.{outline_index, outlined_index, outlined_by}
 use Rattle.szg_file.proofs.opened.open.Goals as goal
 
-pub invariant_of-result : goal.invariant_of-result
-invariant_of-result g c =
+pub index_of_placed-index-requires-clause-stands : goal.index_of_placed-index-requires-clause-stands
+index_of_placed-index-requires-clause-stands g c =
+    let m : Sides = c.args.material in
+    let k : Kind = c.args.kind in
+    let o : Outline = c.in-Ok.field-0 in
     let old : Forward = c.new-input.result in
     let new : Forward = c.read_outline.new.input in
     let h = c.in-Ok.ensures.outline in
-    let same = ap (g.S.Source.content) c.new.ensures.source ∙ c.into_source.ensures.content in (
-      opened_by c.args.material c.args.kind c.in-Ok.field-0 c.new-front.result c.read_outline.new.front old.place new.place old.content new.content h.bytes
-          (g.S.Source.content (source_of c.new.result)) _ (room_of c.new.result)
-          c.new-front.ensures.place c.new-front.ensures.fill c.new-input.ensures.place h.taken.bytes_moved h.answer.0 c.in-Ok.ensures.slots c.in-Ok.ensures.fits same c.new.ensures.room,
-      outlined_by c.args.material c.args.kind c.in-Ok.field-0 c.new-front.result c.read_outline.new.front old.place new.place old.content new.content h.bytes
-          (g.S.Source.content (source_of c.new.result))
-          c.new-front.ensures.place c.new-front.ensures.fill c.new-input.ensures.place h.taken.bytes_moved h.answer.0 same,
+    let stands = outlined_index m k o c.new-front.result c.read_outline.new.front old.place new.place old.content new.content h.bytes c.new-front.ensures.place c.new-front.ensures.fill h.answer.0 in
+    subst (λ (l : List PlacedSub). IsIndex (index_with m k (map part_of o.parts.bytes.items) (map (λ held. flags_of (subtable_of held.sub)) l) (map (option_map map_of) o.maps.items))) (sym c.deref.ensures.value) stands
+
+pub invariant_of-result : goal.invariant_of-result
+invariant_of-result g c =
+    let m : Sides = c.args.material in
+    let k : Kind = c.args.kind in
+    let o : Outline = c.in-Ok.field-0 in
+    let old : Forward = c.new-input.result in
+    let new : Forward = c.read_outline.new.input in
+    let h = c.in-Ok.ensures.outline in
+    let content = g.S.Source.content (source_of c.new.result) in
+    let same = ap (g.S.Source.content) c.new.ensures.source ∙ c.into_source.ensures.content in
+    let is : c.index_of_placed-index.result ≡ outline_index m k o =
+    c.index_of_placed-index.ensures ∙ ap (λ (l : List PlacedSub). index_with m k (map part_of o.parts.bytes.items) (map (λ held. flags_of (subtable_of held.sub)) l) (map (option_map map_of) o.maps.items)) c.deref.ensures.value in
+    let opened = opened_by m k o c.new-front.result c.read_outline.new.front old.place new.place old.content new.content h.bytes content _ (buffer_len_of c.new.result)
+    c.new-front.ensures.place c.new-front.ensures.fill c.new-input.ensures.place h.taken.bytes_moved h.answer.0 c.in-Ok.ensures.slots c.in-Ok.ensures.fits same c.new.ensures.buffer_len in (
+      subst (λ (x : Index). IsOpened x.material x.kind content (buffer_len_of c.new.result) (slots_in x) o.subs.items) (sym is)
+          (subst (λ (l : List Slot). IsOpened m k content (buffer_len_of c.new.result) l o.subs.items) c.in-Ok.ensures.slots opened),
+      outlined_by m k o c.new-front.result c.read_outline.new.front old.place new.place old.content new.content h.bytes content c.index_of_placed-index.result
+          c.new-front.ensures.place c.new-front.ensures.fill c.new-input.ensures.place h.taken.bytes_moved h.answer.0 same is,
     )
 
 pub returns-in-Ok-clause-table : goal.returns-in-Ok-clause-table

@@ -10,6 +10,7 @@ use Rattle.szg_file.specs.Format.{means, ◌>>=◌}
 use Rattle.szg_file.specs.FilePieces.{Opened, opened, opening_field, packed_field, ending_field}
 use Rattle.szg_file.specs.Outline.{outlined}
 use Rattle.szg_file.specs.Placed.{whole_sub}
+use Rattle.szg_file.proofs.LackingReads.{opening_lacks, behind_lacks, packed_lacks, ending_lacks, memory_told, memory_tells}
 use Rattle.szg_file.proofs.PassedBlocks.{stands_at}
 use Rattle.szg_file.proofs.PlacedSubs.{kept_whole, still_fit}
 use Rattle.szg_file.proofs.ReadingLaws.{reads_then, reads_stopped}
@@ -91,3 +92,33 @@ returns-clause-fits g c =
     let gone : behind ≡ before ++ bytes = c.in_ok-last.ensures.ending.taken.bytes_moved in
     let more : length behind ≡ length before + length bytes = ap (λ (z : List ℕ). length z) gone ∙ length-append before bytes in
     still_fit (length before) (length behind) _ _ c.in_ok-subs.subs.items (omega (arith, more)) (omega arith) c.in_ok-subs.ensures.fits
+
+-- ---- where memory runs out, the file is not whole
+
+pub returns-in_err-byte4-clause-memory : goal.returns-in_err-byte4-clause-memory
+returns-in_err-byte4-clause-memory g c =
+    let m : Sides = c.args.material.now in
+    let k : Kind = c.args.kind in
+    let p = err_from_is_err_and c.from_residual.result c.from_residual.ensures.1 in
+    rw (p.1, p.2) (λ e. opening_lacks m k opened c.in_err-byte4.field-0.0 c.in_err-byte4.ensures.opening (memory_told c.in_err-byte4.field-0.0 e))
+
+pub returns-in_err-subs-clause-memory : goal.returns-in_err-subs-clause-memory
+returns-in_err-subs-clause-memory g c =
+    let m : Sides = c.args.material.now in
+    let k : Kind = c.args.kind in
+    let o : Opened = opened c.in_ok-byte4.field-0 in
+    let p = err_from_is_err_and c.from_residual-in_err-subs.result c.from_residual-in_err-subs.ensures.1 in
+    rw (p.1, p.2)
+    (λ e. behind_lacks m k opened c.in_ok-byte4.field-0 c.in_ok-byte4.ensures.opening
+    (packed_lacks m k o _ c.in_ok-byte4.field-0.heads.items c.in_err-subs.field-0.0 c.in_ok-byte4.ensures.begun c.in_err-subs.ensures.packed (memory_told c.in_err-subs.field-0.0 e)))
+
+pub returns-in_err-last-clause-memory : goal.returns-in_err-last-clause-memory
+returns-in_err-last-clause-memory g c =
+    let m : Sides = c.args.material.now in
+    let k : Kind = c.args.kind in
+    let o : Opened = opened c.in_ok-byte4.field-0 in
+    let p = err_from_is_err_and c.from_residual-in_err-last.result c.from_residual-in_err-last.ensures.1 in
+    rw (p.1, p.2)
+    (λ e. behind_lacks m k opened c.in_ok-byte4.field-0 c.in_ok-byte4.ensures.opening
+    (ending_lacks m k o _ c.in_ok-byte4.field-0.heads.items c.in_ok-subs.subs c.in_ok-byte4.ensures.begun c.in_ok-subs.ensures.packed
+    (c.in_err-last.ensures.memory (memory_tells c.in_err-last.field-0.0 (memory_told c.in_err-last.field-0.0 e)))))

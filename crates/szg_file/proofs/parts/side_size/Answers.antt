@@ -1,6 +1,6 @@
 use Rattle.std.proofs.Common.{ap, ◌∙◌, map}
 use Rattle.szg_count.specs.Groups.{product, size_of, order_fault}
-use Rattle.szg_count.specs.Seen.{nibbles_in}
+use Rattle.szg_count.specs.Views.{nibbles_in}
 use Rattle.szg_file.proofs.PartLaws.{size_told, told_groups}
 use Rattle.szg_file.proofs.parts.side_size.Goals as goal
 

@@ -26,6 +26,7 @@ returns-in_err-take_field g c =
       ending = reads_then (filled_to 64) (λ _. of_size 16) (λ _. tt) (λ last. last) c.in_ok-take_fill.field-0 c.in_ok-take_fill.ensures.fill
           (reads_stopped_as (of_size (length c.take_field.new.piece)) (of_size 16) (λ _. c.take_field.new.piece) (λ last. last) c.in_err-take_field.field-0.0 (ap of_size sized)
           c.in_err-take_field.ensures.field);
+      place = tt;
       grown = tt;
       memory = λ e. absurd (c.in_err-take_field.ensures.memory (memory_tells c.in_err-take_field.field-0.0 (memory_told c.in_err-take_field.field-0.0 e)));
     })
@@ -37,6 +38,7 @@ returns g c =
       ending = reads_then (filled_to 64) (λ _. of_size 16) (λ _. tt) (λ last. last) c.in_ok-take_fill.field-0 c.in_ok-take_fill.ensures.fill
           (reads_as (of_size (length c.take_field.new.piece)) (of_size 16) (λ _. c.take_field.new.piece) (λ last. last) c.in_ok-take_field.field-0 c.take_field.new.piece
           (ap of_size sized) refl refl refl c.in_ok-take_field.ensures.field);
+      place = omega (arith, sized, c.in_ok-take_fill.ensures.place, c.in_ok-take_field.ensures.place);
       grown = omega (arith, c.in_ok-take_fill.ensures.grown, c.in_ok-take_field.ensures.grown);
       memory = λ e. cc;
     }

@@ -32,7 +32,7 @@ pub index-length-requires : goal.index-length-requires
 index-length-requires c =
     let at = entry_read _ _ _ c.loop-self.invariant.there c.index-entry.ensures in
     let p = pair_at _ c.self.invariant.dictionary _ _ c.loop-self.invariant.there at (sym c.is_leaf.ensures ∙ c.if-is_leaf.false) in
-    omega (arith, p.left_there, c.left-first.ensures, c.self.invariant.as_many)
+    omega (arith, p.left_there, c.left-first.ensures, c.self.invariant.same_length)
 
 pub loop-self-smaller-then-rest-length : goal.loop-self-smaller-then-rest-length
 loop-self-smaller-then-rest-length c =

@@ -1,6 +1,6 @@
 use Rattle.std.proofs.Common.{length}
 use Rattle.szg_pairs.specs.Expansion.{expansion_of}
-use Rattle.szg_pairs.specs.Kept.{IsDescent}
+use Rattle.szg_pairs.specs.State.{IsDescent}
 use Rattle.szg_pairs.proofs.Dict.descend.Given as goal
 
 abbrev pub invariant-loop-self : goal.invariant-loop-self

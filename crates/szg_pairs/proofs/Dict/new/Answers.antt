@@ -1,5 +1,5 @@
 use Rattle.std.proofs.Common.{refl}
-use Rattle.szg_pairs.proofs.Judging.{first_endless, all_expand, first_too_long, all_kept}
+use Rattle.szg_pairs.proofs.Judging.{first_endless, all_expand, first_too_long, dict_state}
 use Rattle.szg_pairs.proofs.Dict.new.Goals as goal
 
 pub returns-in-Some-first_cycle-clause-refused : goal.returns-in-Some-first_cycle-clause-refused
@@ -20,10 +20,10 @@ returns-in-Some-first_long-clause-refused c =
 pub invariant_of-result : goal.invariant_of-result
 invariant_of-result c =
     let found = rw c.deref-2.ensures.value at c.in_ok-lengths.ensures in
-    all_kept _ _ found (rw c.deref-3.ensures.value at c.in_default-first_cycle.ensures) (rw c.deref-4.ensures.value at c.in_default-first_long.ensures) c.requires
+    dict_state _ _ found (rw c.deref-3.ensures.value at c.in_default-first_cycle.ensures) (rw c.deref-4.ensures.value at c.in_default-first_long.ensures) c.requires
 
 pub returns-clause-accepted : goal.returns-clause-accepted
 returns-clause-accepted c =
     let found = rw c.deref-2.ensures.value at c.in_ok-lengths.ensures in
-    let kept = all_kept _ _ found (rw c.deref-3.ensures.value at c.in_default-first_cycle.ensures) (rw c.deref-4.ensures.value at c.in_default-first_long.ensures) c.requires in
-    (refl, kept.dictionary)
+    let state = dict_state _ _ found (rw c.deref-3.ensures.value at c.in_default-first_cycle.ensures) (rw c.deref-4.ensures.value at c.in_default-first_long.ensures) c.requires in
+    (refl, state.dictionary)

@@ -2,7 +2,7 @@ use Rattle.std.proofs.Common.{◌≡◌, ◌-◌, ◌*◌, ◌≤◌, ℕ, lengt
 use Rattle.std.specs.Prelude.{Some, slice_get}
 use Rattle.szg_count.specs.Sets.{subsets, choose, binomial_sum}
 use Rattle.szg_count.proofs.Sizes.{power}
-use Rattle.szg_count.proofs.SubsetPlaces.{binomial_sum-bound, binomial_sum-drop, binomial_sum-done, placed}
+use Rattle.szg_count.proofs.SubsetRanks.{binomial_sum-bound, binomial_sum-drop, binomial_sum-done, ranked}
 use Rattle.szg_place.proofs.choices.place_of_set.Goals as goal
 
 pub overflow_add-place : goal.overflow_add-place
@@ -23,4 +23,4 @@ returns c n f =
     let done = binomial_sum-done c.loop-number.number-index set (omega arith) in
     let now = c.loop-number.invariant.place in
     let all : binomial_sum set ≡ c.loop-number.place = omega (arith, done, now) in
-    subst (λ (k : ℕ). slice_get (subsets n (length set)) k ≡ Some set) all (placed n set f)
+    subst (λ (k : ℕ). slice_get (subsets n (length set)) k ≡ Some set) all (ranked n set f)

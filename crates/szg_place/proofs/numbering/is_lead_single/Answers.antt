@@ -1,5 +1,5 @@
 use Rattle.std.proofs.Common.{arith}
-use Rattle.szg_count.specs.Seen.{nibbles_in}
+use Rattle.szg_count.specs.Views.{nibbles_in}
 use Rattle.szg_place.proofs.Grouped.{told_long, some_group}
 use Rattle.szg_place.proofs.numbering.is_lead_single.Goals as goal
 

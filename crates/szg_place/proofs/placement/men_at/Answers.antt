@@ -1,6 +1,6 @@
 use Rattle.std.proofs.Common.{◌≡◌, ◌∙◌, ℕ, List, length, refl, sym, ap, subst}
 use Rattle.std.specs.List.{concat}
-use Rattle.szg_values.specs.Placement.{Standing}
+use Rattle.szg_values.specs.Placement.{PlacedMan}
 use Rattle.szg_count.specs.Groups.{Nibbles}
 use Rattle.szg_count.specs.Laws.{IsIn}
 use Rattle.szg_place.specs.Spots.{standing_on}
@@ -27,7 +27,7 @@ standing_on-requires-clause-inside g c =
     let squares : c.as_slice-2.result.now ≡ concat (sets_told c.args.material.now c.args.part g.given c.args.index) = c.as_slice-2.ensures.value ∙ c.squares_at-squares.ensures in
     let men : standing_on c.as_slice.result.now c.as_slice-2.result.now ≡ men_told c.args.material.now c.args.part g.given c.args.index =
     ap (λ (l : List ℕ). standing_on l c.as_slice-2.result.now) codes ∙ ap (λ (l : List ℕ). standing_on g.given.men l) squares ∙ k.men in
-    λ s i. c.requires.1.1.1.1.1 s (subst (λ (l : List Standing). IsIn s l) men i)
+    λ s i. c.requires.1.1.1.1.1 s (subst (λ (l : List PlacedMan). IsIn s l) men i)
 
 pub returns : goal.returns
 returns g c =

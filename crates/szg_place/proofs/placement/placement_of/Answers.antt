@@ -1,61 +1,30 @@
-use Rattle.std.proofs.Common.{◌∙◌, refl, ap}
-use Rattle.std.specs.Prelude.{Ok}
-use Rattle.szg_values.specs.Placement.{Board, placement_fault}
-use Rattle.szg_place.proofs.Indexed.{refused_is, refused_not, answered_is}
-use Rattle.szg_place.proofs.Placed.{mover_is, at_of, part_at, ordered_at, below_at, inside_at, placed_at, board_same, refused_irregular, refused_untold, refused_none, none_holds, told_same}
+use Rattle.std.proofs.Common.{◌≡◌, ◌<◌, sym, subst, Option}
+use Rattle.std.specs.Prelude.{IsSome, IfSome, IsNone, Ok, Err}
+use Rattle.szg_file.specs.Contents.{Slot}
+use Rattle.szg_file.specs.Index.{Index, slot_in}
+use Rattle.szg_file.specs.Values.{subtable_at}
+use Rattle.szg_file.proofs.IndexLaws.{slot_there, slot_of_table}
+use Rattle.szg_place.specs.Spots.{placement_refusal, board_at}
+use Rattle.szg_place.specs.Tables.{numbering_in}
+use Rattle.szg_place.proofs.Found.{if_first}
 use Rattle.szg_place.proofs.placement.placement_of.Goals as goal
 
-pub groups_of-groups-requires-clause-part : goal.groups_of-groups-requires-clause-part
-groups_of-groups-requires-clause-part c =
-    let a = at_of c.args.part c.args.side c.args.index c.fill-fill.ensures.accepted c.material-material.ensures c.men-men.ensures.material c.requires.there c.requires.below c.order_at-order.ensures.nibbles in
-    part_at a
+pub placement_in-requires-clause-there : goal.placement_in-requires-clause-there
+placement_in-requires-clause-there c =
+    subst (λ (x : Index). IsSome (slot_in x c.args.part c.args.side)) (sym c.index.ensures.index)
+    (slot_there c.args.table.now.contents c.args.table.now.filled c.args.part c.args.side c.index.ensures.accepted c.requires.there)
 
-pub groups_of-groups-requires-clause-ordered : goal.groups_of-groups-requires-clause-ordered
-groups_of-groups-requires-clause-ordered c =
-    let a = at_of c.args.part c.args.side c.args.index c.fill-fill.ensures.accepted c.material-material.ensures c.men-men.ensures.material c.requires.there c.requires.below c.order_at-order.ensures.nibbles in
-    ordered_at a
-
-pub returns-then-not-is_regular-clause-refused : goal.returns-then-not-is_regular-clause-refused
-returns-then-not-is_regular-clause-refused c =
-    let a = at_of c.args.part c.args.side c.args.index c.fill-fill.ensures.accepted c.material-material.ensures c.men-men.ensures.material c.requires.there c.requires.below c.order_at-order.ensures.nibbles in
-    refused_is _ _ _ (refused_irregular a c.is_regular.ensures c.if-not-is_regular.true)
-
-pub returns-then-not-is_regular-clause-placed : goal.returns-then-not-is_regular-clause-placed
-returns-then-not-is_regular-clause-placed c =
-    let a = at_of c.args.part c.args.side c.args.index c.fill-fill.ensures.accepted c.material-material.ensures c.men-men.ensures.material c.requires.there c.requires.below c.order_at-order.ensures.nibbles in
-    refused_not _ _ (refused_irregular a c.is_regular.ensures c.if-not-is_regular.true)
-
-pub returns-then-is_untold-clause-refused : goal.returns-then-is_untold-clause-refused
-returns-then-is_untold-clause-refused c =
-    let a = at_of c.args.part c.args.side c.args.index c.fill-fill.ensures.accepted c.material-material.ensures c.men-men.ensures.material c.requires.there c.requires.below c.order_at-order.ensures.nibbles in
-    refused_is _ _ _ (refused_untold a c.is_regular.ensures c.if-not-is_regular.false c.is_untold.ensures c.kind.ensures c.stored_at-stored.ensures c.if-is_untold.true)
-
-pub returns-then-is_untold-clause-placed : goal.returns-then-is_untold-clause-placed
-returns-then-is_untold-clause-placed c =
-    let a = at_of c.args.part c.args.side c.args.index c.fill-fill.ensures.accepted c.material-material.ensures c.men-men.ensures.material c.requires.there c.requires.below c.order_at-order.ensures.nibbles in
-    refused_not _ _ (refused_untold a c.is_regular.ensures c.if-not-is_regular.false c.is_untold.ensures c.kind.ensures c.stored_at-stored.ensures c.if-is_untold.true)
-
-pub men_at-men-requires : goal.men_at-men-requires
-men_at-men-requires c =
-    let a = at_of c.args.part c.args.side c.args.index c.fill-fill.ensures.accepted c.material-material.ensures c.men-men.ensures.material c.requires.there c.requires.below c.order_at-order.ensures.nibbles in
-    let none = refused_none a c.is_regular.ensures c.if-not-is_regular.false c.is_untold.ensures c.kind.ensures c.stored_at-stored.ensures c.if-is_untold.false in
-    (part_at a, (refl, (ordered_at a, (c.groups_of-groups.ensures, (below_at a, inside_at a none)))))
-
-pub unreachable-requires : goal.unreachable-requires
-unreachable-requires c =
-    let a = at_of c.args.part c.args.side c.args.index c.fill-fill.ensures.accepted c.material-material.ensures c.men-men.ensures.material c.requires.there c.requires.below c.order_at-order.ensures.nibbles in
-    let none = refused_none a c.is_regular.ensures c.if-not-is_regular.false c.is_untold.ensures c.kind.ensures c.stored_at-stored.ensures c.if-is_untold.false in
-    c.in_default.not-Ok _ (c.new.ensures.placed (none_holds (placement_fault c.as_slice.result.now) (placed_at a none c.as_slice.ensures.value c.men_at-men.ensures)))
+pub placement_in-requires-clause-below : goal.placement_in-requires-clause-below
+placement_in-requires-clause-below c =
+    let t = c.args.table.now.contents in
+    subst (λ (x : Index). IfSome (slot_in x c.args.part c.args.side) (λ slot. c.args.index < slot.size)) (sym c.index.ensures.index)
+    (subst (λ (o : Option Slot). IfSome o (λ slot. c.args.index < slot.size)) (slot_of_table t c.args.table.now.filled c.args.part c.args.side c.index.ensures.accepted)
+    (if_first (λ slot. c.args.index < slot.size) (subtable_at t c.args.part c.args.side) c.requires.below))
 
 pub returns-clause-refused : goal.returns-clause-refused
 returns-clause-refused c =
-    let a = at_of c.args.part c.args.side c.args.index c.fill-fill.ensures.accepted c.material-material.ensures c.men-men.ensures.material c.requires.there c.requires.below c.order_at-order.ensures.nibbles in
-    answered_is _ _ (refused_none a c.is_regular.ensures c.if-not-is_regular.false c.is_untold.ensures c.kind.ensures c.stored_at-stored.ensures c.if-is_untold.false)
+    subst (λ (x : Index). IfSome (placement_refusal (numbering_in x) c.args.part c.args.side) (λ fault. c.placement_in.result ≡ Err fault)) c.index.ensures.index c.placement_in.ensures.refused
 
 pub returns-clause-placed : goal.returns-clause-placed
 returns-clause-placed c =
-    let a = at_of c.args.part c.args.side c.args.index c.fill-fill.ensures.accepted c.material-material.ensures c.men-men.ensures.material c.requires.there c.requires.below c.order_at-order.ensures.nibbles in
-    let none = refused_none a c.is_regular.ensures c.if-not-is_regular.false c.is_untold.ensures c.kind.ensures c.stored_at-stored.ensures c.if-is_untold.false in
-    let made = c.new.ensures.placed (none_holds (placement_fault c.as_slice.result.now) (placed_at a none c.as_slice.ensures.value c.men_at-men.ensures)) in
-    let mover = mover_is c.args.table.now.contents c.material-material.result.now c.args.part c.args.side c.kind-2.result c.stored_at-stored.result c.mover_at-mover.result c.mover_at-mover.ensures c.kind-2.ensures c.material-material.ensures c.stored_at-stored.ensures in
-    λ _. ap (λ (b : Board). Ok b) (told_same c.new.result c.in-Ok.placement _ c.in-Ok.is made ∙ board_same a c.as_slice.ensures.value c.men_at-men.ensures mover)
+    subst (λ (x : Index). IsNone (placement_refusal (numbering_in x) c.args.part c.args.side) → c.placement_in.result ≡ Ok (board_at (numbering_in x) c.args.part c.args.side c.args.index)) c.index.ensures.index c.placement_in.ensures.placed

@@ -1,9 +1,23 @@
-use Rattle.std.proofs.Common.{rules}
-use Rattle.szg_tool.proofs.Builds.{told_by}
+use Rattle.std.proofs.Common.{◌≡◌, sym, subst}
+use Rattle.std.specs.Prelude.{IfOk, IsErrOf}
+use Rattle.szg_build.specs.Shown.{dump_seen}
+use Rattle.szg_tool.specs.declared.refusal.Stop.TheVariants.{Refused}
+use Rattle.szg_tool.specs.declared.request.Packing.{Packing}
+use Rattle.szg_tool.specs.Builds.{IsBuiltIn, IsRefusedPlan, plan_in}
 use Rattle.szg_tool.proofs.building.table_of.Goals as goal
 
-pub returns-clause-refused : goal.returns-clause-refused
-returns-clause-refused c = λ refusal is.
-    let told = c.stop_of.ensures.refused refusal (cc) in
-    let met = told_by _ c.in-Err.fault _ c.in-Err.is told.1 c.build.ensures.refused in
-    (c.in-Err.fault, told.0, search rules)
+pub returns-in-Fixed-clause-built : goal.returns-in-Fixed-clause-built
+returns-in-Fixed-clause-built c =
+    subst (λ (p : Packing). IfOk c.fixed_table_of.result (λ t. IsBuiltIn p (dump_seen c.args.dump) t.contents)) (sym c.in-Fixed.is) c.fixed_table_of.ensures.built
+
+pub returns-in-Fixed-clause-refused : goal.returns-in-Fixed-clause-refused
+returns-in-Fixed-clause-refused c = λ refusal is.
+    subst (λ (p : Packing). IsRefusedPlan (plan_in p (dump_seen c.args.dump)) (dump_seen c.args.dump).lists refusal) (sym c.in-Fixed.is) (c.fixed_table_of.ensures.refused refusal is)
+
+pub returns-in-Small-clause-built : goal.returns-in-Small-clause-built
+returns-in-Small-clause-built c =
+    subst (λ (p : Packing). IfOk c.small_table_of.result (λ t. IsBuiltIn p (dump_seen c.args.dump) t.contents)) (sym c.in-Small.is) c.small_table_of.ensures.built
+
+pub returns-in-Small-clause-refused : goal.returns-in-Small-clause-refused
+returns-in-Small-clause-refused c = λ refusal is.
+    subst (λ (p : Packing). IsRefusedPlan (plan_in p (dump_seen c.args.dump)) (dump_seen c.args.dump).lists refusal) (sym c.in-Small.is) (c.small_table_of.ensures.refused refusal is)

@@ -6,11 +6,11 @@ use Rattle.szg_values.proofs.Names.{named}
 use Rattle.szg_values.proofs.Letters.{letters_before, letters_after, count_letters, parsed_letter, parsed_king, parsed_order, parsed_sides, parsed_men, parsed_ok}
 use Rattle.szg_values.proofs.Material.parse.Goals as goal
 
-pub returns-in_default-clause-answer : goal.returns-in_default-clause-answer
-returns-in_default-clause-answer c = sym (parsed_letter c.args.text.now (sym c.in_default.ensures.spelled))
+pub returns-in_default-clause-parsed : goal.returns-in_default-clause-parsed
+returns-in_default-clause-parsed c = sym (parsed_letter c.args.text.now (sym c.in_default.ensures.spelled))
 
-pub returns-then-not-have_kings_first-clause-answer : goal.returns-then-not-have_kings_first-clause-answer
-returns-then-not-have_kings_first-clause-answer c =
+pub returns-then-not-have_kings_first-clause-parsed : goal.returns-then-not-have_kings_first-clause-parsed
+returns-then-not-have_kings_first-clause-parsed c =
     let text = c.args.text.now in
     let s = sides_of text in
     let a = sym c.in-Some.ensures.spelled in
@@ -18,8 +18,8 @@ returns-then-not-have_kings_first-clause-answer c =
     let g = c.in-Some.ensures.second ∙ letters_after text a in
     sym (parsed_king text a (sym (c.have_kings_first.ensures s.first s.second f g) ∙ c.if-not-have_kings_first.true))
 
-pub returns-then-not-are_in_order-clause-answer : goal.returns-then-not-are_in_order-clause-answer
-returns-then-not-are_in_order-clause-answer c =
+pub returns-then-not-are_in_order-clause-parsed : goal.returns-then-not-are_in_order-clause-parsed
+returns-then-not-are_in_order-clause-parsed c =
     let text = c.args.text.now in
     let s = sides_of text in
     let a = sym c.in-Some.ensures.spelled in
@@ -29,8 +29,8 @@ returns-then-not-are_in_order-clause-answer c =
     (sym (c.have_kings_first.ensures s.first s.second f g) ∙ c.if-not-have_kings_first.false)
     (sym (c.are_in_order.ensures s.first s.second f g) ∙ c.if-not-are_in_order.true))
 
-pub returns-then-not-may_be_first-clause-answer : goal.returns-then-not-may_be_first-clause-answer
-returns-then-not-may_be_first-clause-answer c =
+pub returns-then-not-may_be_first-clause-parsed : goal.returns-then-not-may_be_first-clause-parsed
+returns-then-not-may_be_first-clause-parsed c =
     let text = c.args.text.now in
     let s = sides_of text in
     let a = sym c.in-Some.ensures.spelled in
@@ -41,8 +41,8 @@ returns-then-not-may_be_first-clause-answer c =
     (sym (c.are_in_order.ensures s.first s.second f g) ∙ c.if-not-are_in_order.false)
     (sym (c.may_be_first.ensures s.first s.second f g) ∙ c.if-not-may_be_first.true))
 
-pub returns-then-not-is_count-clause-answer : goal.returns-then-not-is_count-clause-answer
-returns-then-not-is_count-clause-answer c =
+pub returns-then-not-is_count-clause-parsed : goal.returns-then-not-is_count-clause-parsed
+returns-then-not-is_count-clause-parsed c =
     let text = c.args.text.now in
     let s = sides_of text in
     let a = sym c.in-Some.ensures.spelled in
@@ -73,8 +73,8 @@ read c =
 pub invariant_of-result : goal.invariant_of-result
 invariant_of-result c = (named c.args.text.now (record { first = c.men_of.result.items; second = c.men_of-2.result.items }) (read c)).1
 
-pub returns-clause-answer : goal.returns-clause-answer
-returns-clause-answer c = sym (read c)
+pub returns-clause-parsed : goal.returns-clause-parsed
+returns-clause-parsed c = sym (read c)
 
 pub returns-clause-named : goal.returns-clause-named
 returns-clause-named c =

@@ -1,12 +1,12 @@
 use Rattle.szg_block.specs.Paging.{size_of}
-use Rattle.szg_block.proofs.Pieces.{packed_blocks-pieces}
-use Rattle.szg_block.proofs.Ready.{ready_paged}
+use Rattle.szg_block.proofs.Chunks.{packed_blocks-chunks}
+use Rattle.szg_block.proofs.SoundSources.{ready_paged}
 use Rattle.szg_block.proofs.expanding.Sound+Paged+S.paged.Goals as goal
 
 pub invariant_of-result : goal.invariant_of-result
 invariant_of-result g c =
     ready_paged (g.S.Source.content c.args.blocks.source) c.args.blocks.at c.args.size c.args.blocks.blocks (size_of c.args.blocks) c.args.sub.now
-    c.requires.head c.blocks_in-held.ensures.accepted c.requires.count c.requires.bytes c.requires.there c.requires.sound
+    c.requires.head c.blocks_in-accepted.ensures.accepted c.requires.count c.requires.bytes c.requires.there c.requires.sound
 
 pub returns-clause-packed : goal.returns-clause-packed
-returns-clause-packed g c = packed_blocks-pieces (g.S.Source.content c.args.blocks.source) (size_of c.args.blocks) c.args.blocks.at c.args.blocks.blocks
+returns-clause-packed g c = packed_blocks-chunks (g.S.Source.content c.args.blocks.source) (size_of c.args.blocks) c.args.blocks.at c.args.blocks.blocks

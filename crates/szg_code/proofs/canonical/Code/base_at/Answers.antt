@@ -1,13 +1,13 @@
 use Rattle.std.proofs.Common.{◌≡◌, ◌+◌, ◌-◌, ◌/◌, ◌^◌, ◌<◌, length, get_or, sym, subst}
 use Rattle.szg_code.specs.Canonical.{CanonicalCode, base}
-use Rattle.szg_code.specs.CodeHead.{code_of}
+use Rattle.szg_code.specs.CodeHeader.{code_of}
 use Rattle.szg_code.proofs.BaseSteps.{base_fits}
-use Rattle.szg_code.proofs.Fronts.{shifted_back}
+use Rattle.szg_code.proofs.Prefixes.{shifted_back}
 use Rattle.szg_code.proofs.canonical.Code.base_at.Goals as goal
 
 pub returns-clause-base : goal.returns-clause-base
 returns-clause-base c =
-    let code : CanonicalCode = code_of c.self.inside.head in
+    let code : CanonicalCode = code_of c.self.inside.header in
     let is : code ≡ c.args.self.now = c.self.view_is in
     let inside : c.args.j < length code.lowest = subst (λ (k : CanonicalCode). c.args.j < length k.lowest) (sym is) c.requires in
     let e = c.self.invariant.1 c.args.j inside in
@@ -16,7 +16,7 @@ returns-clause-base c =
 
 pub returns-clause-fits : goal.returns-clause-fits
 returns-clause-fits c =
-    let code : CanonicalCode = code_of c.self.inside.head in
+    let code : CanonicalCode = code_of c.self.inside.header in
     let is : code ≡ c.args.self.now = c.self.view_is in
     let inside : c.args.j < length code.lowest = subst (λ (k : CanonicalCode). c.args.j < length k.lowest) (sym is) c.requires in
     let e = c.self.invariant.1 c.args.j inside in

@@ -1,13 +1,13 @@
 use Rattle.std.proofs.Common.{ℕ, ◌≡◌, ◌+◌, ◌-◌, ◌*◌, ◌%◌, ◌^◌, ◌≤◌, sym, ap, ◌∙◌, subst, arith}
 use Rattle.std.proofs.lemmas.Nat.{one_shl}
 use Rattle.szg_code.specs.Canonical.{CanonicalCode, base, top}
-use Rattle.szg_code.specs.CodeHead.{code_of}
+use Rattle.szg_code.specs.CodeHeader.{code_of}
 use Rattle.szg_code.proofs.Words.{top-least, top-step}
 use Rattle.szg_code.proofs.canonical.Code.top_at.Goals as goal
 
 pub returns-then-j-eq0 : goal.returns-then-j-eq0
 returns-then-j-eq0 c =
-    let code : CanonicalCode = code_of c.self.inside.head in
+    let code : CanonicalCode = code_of c.self.inside.header in
     let is : code ≡ c.args.self.now = c.self.view_is in
     let first : code.min_length + c.args.j ≡ code.min_length = omega arith in
     let t = top-least code (code.min_length + c.args.j) first in

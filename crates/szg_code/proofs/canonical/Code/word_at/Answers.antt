@@ -1,6 +1,6 @@
 use Rattle.std.proofs.Common.{ℕ, ◌≡◌, ◌+◌, ◌≤◌, List, length, get_or, ap, arith}
 use Rattle.szg_code.specs.Canonical.{CanonicalCode, base}
-use Rattle.szg_code.proofs.Fronts.{IsWord-of_number, number-of_IsWord, number_fits}
+use Rattle.szg_code.proofs.Prefixes.{IsWord-of_number, number-of_IsWord, number_fits}
 use Rattle.szg_code.proofs.canonical.Code.word_at.Goals as goal
 
 pub returns-then-s-lowest-clause-none : goal.returns-then-s-lowest-clause-none

@@ -12,7 +12,7 @@ overflow_add-self c =
     let bytes : List ℕ = c.self.inside.bytes.items in
     let whole : length bytes ≡ (c.self.inside.count + 7) / 8 = c.self.invariant.whole in
     let n : length (take c.self.inside.count (bits bytes)) ≡ c.self.inside.count = length-taken c.self.inside.count bytes (omega arith) in
-    let room : length (take c.self.inside.count (bits bytes)) < 2 ^ 62 = subst (λ (u : List Bool). length u < 2 ^ 62) (sym (ap (λ (b : Buffer). b.written) c.self.view_is)) c.requires.few in
+    let capacity : length (take c.self.inside.count (bits bytes)) < 2 ^ 62 = subst (λ (u : List Bool). length u < 2 ^ 62) (sym (ap (λ (b : Buffer). b.written) c.self.view_is)) c.requires.few in
     omega arith
 
 on_err_all : {T E P : Type 0} (r : Result T E) → P → OnErr r P
@@ -30,12 +30,12 @@ after c =
     let count : ℕ = c.self.inside.count in
     let v : ℕ = c.from.result in
     let l : ℕ = c.from-length.result in
-    let b : ℕ = c.from-begun.result in
+    let b : ℕ = c.from-partial.result in
     let joined : ℕ = bit_or (b * 72057594037927936 % 18446744073709551616) (v * 2 ^ (64 - count % 8 - l) % 18446744073709551616) in
-    let at : b ≡ get_or bytes (count / 8) 0 = c.from-begun.ensures ∙ c.byte_or_zero.ensures ∙ ap (λ (xs : List ℕ). get_or xs (count / 8) 0) c.deref.ensures.value in
+    let at : b ≡ get_or bytes (count / 8) 0 = c.from-partial.ensures ∙ c.byte_or_zero.ensures ∙ ap (λ (xs : List ℕ). get_or xs (count / 8) 0) c.deref.ensures.value in
     let short : l ≤ 32 = omega (arith, c.from-length.ensures, c.requires.short) in
     let small : v < 2 ^ l = rw (c.from.ensures, c.from-length.ensures) c.requires.spelled in
-    let byte : b < 256 = omega (arith, c.from-begun.ensures, c.byte_or_zero.type_inv) in
+    let byte : b < 256 = omega (arith, c.from-partial.ensures, c.byte_or_zero.type_inv) in
     let is = joined-or bytes count l v b c.self.invariant at byte short small in
     let made = c.in_ok-put_bytes.ensures.ok ∙ ap (λ (xs : List ℕ). take (count / 8) bytes ++ take ((count % 8 + l + 7) / 8) xs) c.to_be_bytes.ensures in
     HoldsBits-word bytes c.put_bytes.new.bytes.items count l v b joined c.self.invariant at short small is made
@@ -56,7 +56,7 @@ returns-in_err-put_bytes-clause-full c =
     let n : length (take count (bits bytes)) ≡ count = length-taken count bytes (omega arith) in
     let view : length c.args.self.now.written ≡ count = ap (λ (b : Buffer). length b.written) (sym c.self.view_is) ∙ n in
     let l : c.from-length.result ≡ c.args.word.length = c.from-length.ensures in
-    let room : c.args.self.now.room ≡ vec_capacity c.self.inside.bytes = ap (λ (b : Buffer). b.room) (sym c.self.view_is) in
+    let capacity : c.args.self.now.capacity ≡ vec_capacity c.self.inside.bytes = ap (λ (b : Buffer). b.capacity) (sym c.self.view_is) in
     let full : vec_capacity c.self.inside.bytes < count / 8 + length (take ((count % 8 + c.from-length.result + 7) / 8) c.to_be_bytes.result) = c.in_err-put_bytes.ensures.full in
     let bound = length-take ((count % 8 + c.from-length.result + 7) / 8) c.to_be_bytes.result in
     on_err_all c.from_residual.result (omega arith)

@@ -11,11 +11,11 @@ returns-clause-whole c =
     let n : length (take count (bits bytes)) ≡ count = length-taken count bytes (omega arith) in
     rw (← c.self.view_is, c.deref.ensures.value) (omega arith)
 
-pub returns-clause-filled : goal.returns-clause-filled
-returns-clause-filled c =
+pub returns-clause-zero_padded : goal.returns-clause-zero_padded
+returns-clause-zero_padded c =
     let bytes : List ℕ = c.self.inside.bytes.items in
     let count : ℕ = c.self.inside.count in
     let whole : length bytes ≡ (count + 7) / 8 = c.self.invariant.whole in
     let n : length (take count (bits bytes)) ≡ count = length-taken count bytes (omega arith) in
-    let filled : bits bytes ≡ take count (bits bytes) ++ replicate (8 * length bytes - count) false = c.self.invariant.filled in
-    rw (← c.self.view_is, c.deref.ensures.value, n) filled
+    let zero_padded : bits bytes ≡ take count (bits bytes) ++ replicate (8 * length bytes - count) false = c.self.invariant.zero_padded in
+    rw (← c.self.view_is, c.deref.ensures.value, n) zero_padded

@@ -1,12 +1,13 @@
 use Rattle.std.proofs.Common.{◌≡◌, ◌<◌, ◌+◌, ◌*◌, ℕ, ap, ◌∙◌, sym, subst, None, Some, List, Option, IsSome}
 use Rattle.std.specs.Prelude.{slice_get, IfSome, false, true}
 use Rattle.szg_values.specs.declared.Kind.{Kind}
-use Rattle.szg_block.specs.Lending.{bytes_at, packed_blocks}
-use Rattle.szg_block.specs.Paging.{room_of, size_of, count_of}
-use Rattle.szg_block.specs.Shown.{IsReady}
+use Rattle.szg_block.specs.BlocksTrait.{bytes_at, packed_blocks}
+use Rattle.szg_block.specs.Paging.{buffer_len_of, size_of, count_of}
+use Rattle.szg_block.specs.Views.{IsReady}
 use Rattle.szg_block.specs.Subtable.{values_over}
 use Rattle.szg_file.specs.Contents.{Slot, Subtable}
 use Rattle.szg_file.specs.Lookup.{byte_of}
+use Rattle.szg_file.specs.Index.{slots_in}
 use Rattle.szg_file.specs.Opened.{Opened, asked_after}
 use Rattle.szg_file.specs.Placed.{whole_sub}
 use Rattle.szg_file.specs.Values.{item, values_of, constant_value}
@@ -17,11 +18,11 @@ use Rattle.szg_file.proofs.opened.Opened.get.Goals as goal
 
 pub slotted_at-requires : goal.slotted_at-requires
 slotted_at-requires g c =
-    as_many_opened _ c.args.self.now (room_of c.self.inside.blocks) c.self.inside.placed.items c.as_slice.result.now c.self.inside.subs.items c.deref.result.now c.args.part c.args.side c.self.invariant.0 c.self.view_is c.as_slice.ensures.value c.deref.ensures.value
+    as_many_opened _ c.args.self.now (buffer_len_of c.self.inside.blocks) (slots_in c.self.inside.index) c.slots.result.now c.self.inside.subs.items c.deref.result.now c.args.part c.args.side c.self.invariant.0 c.self.view_is c.slots.ensures.slots c.deref.ensures.value
 
 pub unreachable-requires : goal.unreachable-requires
 unreachable-requires g c =
-    let absent = none_opened _ c.args.self.now (room_of c.self.inside.blocks) c.self.inside.placed.items c.as_slice.result.now c.self.inside.subs.items c.deref.result.now c.args.part c.args.side c.self.invariant.0 c.self.view_is c.as_slice.ensures.value c.deref.ensures.value c.in_default.ensures in
+    let absent = none_opened _ c.args.self.now (buffer_len_of c.self.inside.blocks) (slots_in c.self.inside.index) c.slots.result.now c.self.inside.subs.items c.deref.result.now c.args.part c.args.side c.self.invariant.0 c.self.view_is c.slots.ensures.slots c.deref.ensures.value c.in_default.ensures in
     let no : IsSome {T = Slot × Subtable} None = subst (λ (o : Option (Slot × Subtable)). IsSome o) absent c.requires.there in
     cc
 
@@ -29,27 +30,27 @@ pub block_bytes-requires : goal.block_bytes-requires
 block_bytes-requires g c =
     let held : PlacedSub = c.in-Some.found.placed.now in
     let content : List ℕ = g.S.Source.content c.self.inside.blocks.source in
-    let kept = one_opened _ c.args.self.now (room_of c.self.inside.blocks) c.self.inside.placed.items c.as_slice.result.now c.self.inside.subs.items c.deref.result.now c.args.part c.args.side c.self.invariant.0 c.self.view_is c.as_slice.ensures.value c.deref.ensures.value c.in-Some.found.slot c.in-Some.found.placed.now c.in-Some.ensures in
+    let kept = one_opened _ c.args.self.now (buffer_len_of c.self.inside.blocks) (slots_in c.self.inside.index) c.slots.result.now c.self.inside.subs.items c.deref.result.now c.args.part c.args.side c.self.invariant.0 c.self.view_is c.slots.ensures.slots c.deref.ensures.value c.in-Some.found.slot c.in-Some.found.placed.now c.in-Some.ensures in
     few_bits c.in-Some.found.slot content held.sub held.first kept.stands
 
-pub turn_to-requires : goal.turn_to-requires
-turn_to-requires g c =
+pub select_blocks-requires : goal.select_blocks-requires
+select_blocks-requires g c =
     let held : PlacedSub = c.in-Some.found.placed.now in
     let content : List ℕ = g.S.Source.content c.self.inside.blocks.source in
-    let kept = one_opened _ c.args.self.now (room_of c.self.inside.blocks) c.self.inside.placed.items c.as_slice.result.now c.self.inside.subs.items c.deref.result.now c.args.part c.args.side c.self.invariant.0 c.self.view_is c.as_slice.ensures.value c.deref.ensures.value c.in-Some.found.slot c.in-Some.found.placed.now c.in-Some.ensures in
-    room_enough held.sub c.block_bytes.result (room_of c.self.inside.blocks) c.block_bytes.ensures.bytes c.block_bytes.ensures.none kept.fits.roomy
+    let kept = one_opened _ c.args.self.now (buffer_len_of c.self.inside.blocks) (slots_in c.self.inside.index) c.slots.result.now c.self.inside.subs.items c.deref.result.now c.args.part c.args.side c.self.invariant.0 c.self.view_is c.slots.ensures.slots c.deref.ensures.value c.in-Some.found.slot c.in-Some.found.placed.now c.in-Some.ensures in
+    room_enough held.sub c.block_bytes.result (buffer_len_of c.self.inside.blocks) c.block_bytes.ensures.bytes c.block_bytes.ensures.none kept.fits.roomy
 
 pub look_up-requires : goal.look_up-requires
 look_up-requires g c =
     let held : PlacedSub = c.in-Some.found.placed.now in
     let content : List ℕ = g.S.Source.content c.self.inside.blocks.source in
-    let kept = one_opened _ c.args.self.now (room_of c.self.inside.blocks) c.self.inside.placed.items c.as_slice.result.now c.self.inside.subs.items c.deref.result.now c.args.part c.args.side c.self.invariant.0 c.self.view_is c.as_slice.ensures.value c.deref.ensures.value c.in-Some.found.slot c.in-Some.found.placed.now c.in-Some.ensures in
+    let kept = one_opened _ c.args.self.now (buffer_len_of c.self.inside.blocks) (slots_in c.self.inside.index) c.slots.result.now c.self.inside.subs.items c.deref.result.now c.args.part c.args.side c.self.invariant.0 c.self.view_is c.slots.ensures.slots c.deref.ensures.value c.in-Some.found.slot c.in-Some.found.placed.now c.in-Some.ensures in
     let sized : c.slot.inside.size ≡ c.in-Some.found.slot.size = ap (λ (s : Slot). s.size) c.slot.view_is in
-    let turned : IsReady held.sub c.in-Some.found.slot.size (count_of c.turn_to.new.self) (λ n. bytes_at (g.S.Source.content c.turn_to.new.self.source) (c.turn_to.new.self.at + n * size_of c.turn_to.new.self) (size_of c.turn_to.new.self)) =
-    turned_ready c.in-Some.found.slot content _ held.sub held.first c.turn_to.new.self.at c.block_count.result (count_of c.turn_to.new.self) c.block_bytes.result (size_of c.turn_to.new.self)
-    kept.stands kept.fits.inside c.block_count.ensures c.block_bytes.ensures.bytes (ap (g.S.Source.content) c.turn_to.ensures.source) c.turn_to.ensures.first c.turn_to.ensures.count c.turn_to.ensures.size in
-    let ready : IsReady held.sub c.slot.inside.size (count_of c.turn_to.new.self) (λ n. bytes_at (g.S.Source.content c.turn_to.new.self.source) (c.turn_to.new.self.at + n * size_of c.turn_to.new.self) (size_of c.turn_to.new.self)) =
-    subst (λ (k : ℕ). IsReady held.sub k (count_of c.turn_to.new.self) (λ n. bytes_at (g.S.Source.content c.turn_to.new.self.source) (c.turn_to.new.self.at + n * size_of c.turn_to.new.self) (size_of c.turn_to.new.self))) (sym sized) turned in
+    let turned : IsReady held.sub c.in-Some.found.slot.size (count_of c.select_blocks.new.self) (λ n. bytes_at (g.S.Source.content c.select_blocks.new.self.source) (c.select_blocks.new.self.at + n * size_of c.select_blocks.new.self) (size_of c.select_blocks.new.self)) =
+    turned_ready c.in-Some.found.slot content _ held.sub held.first c.select_blocks.new.self.at c.block_count.result (count_of c.select_blocks.new.self) c.block_bytes.result (size_of c.select_blocks.new.self)
+    kept.stands kept.fits.inside c.block_count.ensures c.block_bytes.ensures.bytes (ap (g.S.Source.content) c.select_blocks.ensures.source) c.select_blocks.ensures.first c.select_blocks.ensures.count c.select_blocks.ensures.size in
+    let ready : IsReady held.sub c.slot.inside.size (count_of c.select_blocks.new.self) (λ n. bytes_at (g.S.Source.content c.select_blocks.new.self.source) (c.select_blocks.new.self.at + n * size_of c.select_blocks.new.self) (size_of c.select_blocks.new.self)) =
+    subst (λ (k : ℕ). IsReady held.sub k (count_of c.select_blocks.new.self) (λ n. bytes_at (g.S.Source.content c.select_blocks.new.self.source) (c.select_blocks.new.self.at + n * size_of c.select_blocks.new.self) (size_of c.select_blocks.new.self))) (sym sized) turned in
     let below : c.args.i < c.in-Some.found.slot.size = subst (λ (o : Option (Slot × Subtable)). IfSome o (λ found. c.args.i < found.0.size)) kept.is c.requires.below in
     record {
       head = ready.head;
@@ -59,41 +60,41 @@ look_up-requires g c =
       below = subst (λ (k : ℕ). c.args.i < k) (sym sized) below;
     }
 
-pub returns-in_err-value-clause-asked : goal.returns-in_err-value-clause-asked
-returns-in_err-value-clause-asked g c =
+pub returns-in_err-value-clause-requested : goal.returns-in_err-value-clause-requested
+returns-in_err-value-clause-requested g c =
     let held : PlacedSub = c.in-Some.found.placed.now in
     let content : List ℕ = g.S.Source.content c.self.inside.blocks.source in
-    let kept = one_opened _ c.args.self.now (room_of c.self.inside.blocks) c.self.inside.placed.items c.as_slice.result.now c.self.inside.subs.items c.deref.result.now c.args.part c.args.side c.self.invariant.0 c.self.view_is c.as_slice.ensures.value c.deref.ensures.value c.in-Some.found.slot c.in-Some.found.placed.now c.in-Some.ensures in
-    let before = ap (g.S.Source.asked) c.turn_to.ensures.source ∙ ap (λ (o : Opened). o.asked) c.self.view_is in
-    rw kept.is (asked_placed content held.sub held.first _ _ (size_of c.turn_to.new.self) c.block_bytes.result c.block_bytes.ensures.bytes c.look_up.ensures.asked_none c.look_up.ensures.asked_one c.turn_to.ensures.size
+    let kept = one_opened _ c.args.self.now (buffer_len_of c.self.inside.blocks) (slots_in c.self.inside.index) c.slots.result.now c.self.inside.subs.items c.deref.result.now c.args.part c.args.side c.self.invariant.0 c.self.view_is c.slots.ensures.slots c.deref.ensures.value c.in-Some.found.slot c.in-Some.found.placed.now c.in-Some.ensures in
+    let before = ap (g.S.Source.requested) c.select_blocks.ensures.source ∙ ap (λ (o : Opened). o.requested) c.self.view_is in
+    rw kept.is (asked_placed content held.sub held.first _ _ (size_of c.select_blocks.new.self) c.block_bytes.result c.block_bytes.ensures.bytes c.look_up.ensures.requested_none c.look_up.ensures.requested_one c.select_blocks.ensures.size
     ∙ ap (λ (k : ℕ). asked_after (whole_sub content held) k) before)
 
 pub returns-in_err-value-clause-constant : goal.returns-in_err-value-clause-constant
 returns-in_err-value-clause-constant g c =
     let held : PlacedSub = c.in-Some.found.placed.now in
     let content : List ℕ = g.S.Source.content c.self.inside.blocks.source in
-    let kept = one_opened _ c.args.self.now (room_of c.self.inside.blocks) c.self.inside.placed.items c.as_slice.result.now c.self.inside.subs.items c.deref.result.now c.args.part c.args.side c.self.invariant.0 c.self.view_is c.as_slice.ensures.value c.deref.ensures.value c.in-Some.found.slot c.in-Some.found.placed.now c.in-Some.ensures in
+    let kept = one_opened _ c.args.self.now (buffer_len_of c.self.inside.blocks) (slots_in c.self.inside.index) c.slots.result.now c.self.inside.subs.items c.deref.result.now c.args.part c.args.side c.self.invariant.0 c.self.view_is c.slots.ensures.slots c.deref.ensures.value c.in-Some.found.slot c.in-Some.found.placed.now c.in-Some.ensures in
     rw kept.is (λ none. let no : false ≡ true = constant_holds (false ≡ true) content held.sub held.first c.args.i c.in_err-value.ensures.constant none in absurd (cc no))
 
 pub returns-clause-value : goal.returns-clause-value
 returns-clause-value g c =
     let held : PlacedSub = c.in-Some.found.placed.now in
     let content : List ℕ = g.S.Source.content c.self.inside.blocks.source in
-    let kept = one_opened _ c.args.self.now (room_of c.self.inside.blocks) c.self.inside.placed.items c.as_slice.result.now c.self.inside.subs.items c.deref.result.now c.args.part c.args.side c.self.invariant.0 c.self.view_is c.as_slice.ensures.value c.deref.ensures.value c.in-Some.found.slot c.in-Some.found.placed.now c.in-Some.ensures in
+    let kept = one_opened _ c.args.self.now (buffer_len_of c.self.inside.blocks) (slots_in c.self.inside.index) c.slots.result.now c.self.inside.subs.items c.deref.result.now c.args.part c.args.side c.self.invariant.0 c.self.view_is c.slots.ensures.slots c.deref.ensures.value c.in-Some.found.slot c.in-Some.found.placed.now c.in-Some.ensures in
     let kind : Kind = c.args.self.now.kind in
-    let kind_is : c.self.inside.kind ≡ kind = ap (λ (o : Opened). o.kind) c.self.view_is in
+    let kind_is : c.kind.result ≡ kind = c.kind.ensures ∙ ap (λ (o : Opened). o.kind) c.self.view_is in
     let sized : c.slot.inside.size ≡ c.in-Some.found.slot.size = ap (λ (s : Slot). s.size) c.slot.view_is in
     let constant_is : c.constant_value-constant.result ≡ constant_value kind (byte_of held.sub) = c.constant_value-constant.ensures ∙ ap (λ (k : Kind). constant_value k (byte_of held.sub)) kind_is in
-    let got = subst (λ (k : ℕ). slice_get (values_over held.sub (packed_blocks (λ n. bytes_at (g.S.Source.content c.turn_to.new.self.source) (c.turn_to.new.self.at + n * size_of c.turn_to.new.self) (size_of c.turn_to.new.self)) (count_of c.turn_to.new.self)) k c.constant_value-constant.result) c.args.i ≡ Some c.in_ok-value.value) sized c.in_ok-value.ensures.value in
+    let got = subst (λ (k : ℕ). slice_get (values_over held.sub (packed_blocks (λ n. bytes_at (g.S.Source.content c.select_blocks.new.self.source) (c.select_blocks.new.self.at + n * size_of c.select_blocks.new.self) (size_of c.select_blocks.new.self)) (count_of c.select_blocks.new.self)) k c.constant_value-constant.result) c.args.i ≡ Some c.in_ok-value.value) sized c.in_ok-value.ensures.value in
     subst (λ (o : Option (Slot × Subtable)). IfSome o (λ found. item (values_of kind found) c.args.i ≡ Some c.in_ok-value.value)) (sym kept.is)
-    (turned_value kind c.in-Some.found.slot content _ held.sub held.first c.turn_to.new.self.at c.block_count.result (count_of c.turn_to.new.self) c.block_bytes.result (size_of c.turn_to.new.self)
-    c.constant_value-constant.result c.args.i c.in_ok-value.value c.block_count.ensures c.block_bytes.ensures.bytes (ap (g.S.Source.content) c.turn_to.ensures.source) c.turn_to.ensures.first c.turn_to.ensures.count c.turn_to.ensures.size constant_is got)
+    (turned_value kind c.in-Some.found.slot content _ held.sub held.first c.select_blocks.new.self.at c.block_count.result (count_of c.select_blocks.new.self) c.block_bytes.result (size_of c.select_blocks.new.self)
+    c.constant_value-constant.result c.args.i c.in_ok-value.value c.block_count.ensures c.block_bytes.ensures.bytes (ap (g.S.Source.content) c.select_blocks.ensures.source) c.select_blocks.ensures.first c.select_blocks.ensures.count c.select_blocks.ensures.size constant_is got)
 
-pub returns-clause-asked : goal.returns-clause-asked
-returns-clause-asked g c =
+pub returns-clause-requested : goal.returns-clause-requested
+returns-clause-requested g c =
     let held : PlacedSub = c.in-Some.found.placed.now in
     let content : List ℕ = g.S.Source.content c.self.inside.blocks.source in
-    let kept = one_opened _ c.args.self.now (room_of c.self.inside.blocks) c.self.inside.placed.items c.as_slice.result.now c.self.inside.subs.items c.deref.result.now c.args.part c.args.side c.self.invariant.0 c.self.view_is c.as_slice.ensures.value c.deref.ensures.value c.in-Some.found.slot c.in-Some.found.placed.now c.in-Some.ensures in
-    let before = ap (g.S.Source.asked) c.turn_to.ensures.source ∙ ap (λ (o : Opened). o.asked) c.self.view_is in
-    rw kept.is (asked_placed content held.sub held.first _ _ (size_of c.turn_to.new.self) c.block_bytes.result c.block_bytes.ensures.bytes c.look_up.ensures.asked_none c.look_up.ensures.asked_one c.turn_to.ensures.size
+    let kept = one_opened _ c.args.self.now (buffer_len_of c.self.inside.blocks) (slots_in c.self.inside.index) c.slots.result.now c.self.inside.subs.items c.deref.result.now c.args.part c.args.side c.self.invariant.0 c.self.view_is c.slots.ensures.slots c.deref.ensures.value c.in-Some.found.slot c.in-Some.found.placed.now c.in-Some.ensures in
+    let before = ap (g.S.Source.requested) c.select_blocks.ensures.source ∙ ap (λ (o : Opened). o.requested) c.self.view_is in
+    rw kept.is (asked_placed content held.sub held.first _ _ (size_of c.select_blocks.new.self) c.block_bytes.result c.block_bytes.ensures.bytes c.look_up.ensures.requested_none c.look_up.ensures.requested_one c.select_blocks.ensures.size
     ∙ ap (λ (k : ℕ). asked_after (whole_sub content held) k) before)

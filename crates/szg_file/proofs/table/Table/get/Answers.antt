@@ -1,9 +1,8 @@
 use Rattle.std.proofs.Common.{◌≡◌, ℕ, ap, ◌∙◌, subst, Some}
 use Rattle.std.specs.Prelude.{slice_get}
 use Rattle.szg_values.specs.declared.Kind.{Kind}
-use Rattle.szg_block.specs.Shown as block
+use Rattle.szg_block.specs.Views as block
 use Rattle.szg_block.specs.Subtable.{packed_of, values_over}
-use Rattle.szg_file.specs.Held.{Shown}
 use Rattle.szg_file.specs.Lookup.{byte_of}
 use Rattle.szg_file.specs.Values.{subtable_at, constant_value}
 use Rattle.szg_file.proofs.TableFinds.{value_at}
@@ -12,7 +11,7 @@ use Rattle.szg_file.proofs.table.Table.get.Goals as goal
 pub returns : goal.returns
 returns c =
     let kind : Kind = c.args.self.now.contents.kind in
-    let kind_is : c.self.inside.kind ≡ kind = ap (λ (t : Shown). t.contents.kind) c.self.view_is in
+    let kind_is : c.kind.result ≡ kind = c.kind.ensures in
     let sub = c.in-Some.found.sub.now in
     let size : ℕ = c.in-Some.found.size in
     let constant_is : c.constant_value-constant.result ≡ constant_value kind (byte_of sub) = c.constant_value-constant.ensures ∙ ap (λ (k : Kind). constant_value k (byte_of sub)) kind_is in

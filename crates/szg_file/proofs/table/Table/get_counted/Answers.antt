@@ -1,9 +1,8 @@
 use Rattle.std.proofs.Common.{◌≡◌, ℕ, ap, ◌∙◌, subst, Some}
 use Rattle.std.specs.Prelude.{slice_get}
 use Rattle.szg_values.specs.declared.Kind.{Kind}
-use Rattle.szg_block.specs.Shown as block
+use Rattle.szg_block.specs.Views as block
 use Rattle.szg_block.specs.Subtable.{packed_of, values_over}
-use Rattle.szg_file.specs.Held.{Shown}
 use Rattle.szg_file.specs.Lookup.{byte_of}
 use Rattle.szg_file.specs.Values.{subtable_at, constant_value}
 use Rattle.szg_file.proofs.TableFinds.{value_at}
@@ -13,7 +12,7 @@ use Rattle.szg_file.proofs.table.Table.get_counted.Goals as goal
 pub returns-clause-value : goal.returns-clause-value
 returns-clause-value c =
     let kind : Kind = c.args.self.now.contents.kind in
-    let kind_is : c.self.inside.kind ≡ kind = ap (λ (t : Shown). t.contents.kind) c.self.view_is in
+    let kind_is : c.kind.result ≡ kind = c.kind.ensures in
     let sub = c.in-Some.found.sub.now in
     let size : ℕ = c.in-Some.found.size in
     let value : ℕ = c.in-Ok.counted.0 in

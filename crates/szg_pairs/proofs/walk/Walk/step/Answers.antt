@@ -7,13 +7,13 @@ pub index-requires : goal.index-requires
 index-requires c =
     let w = c.requires.walk in
     let part = part_of_last _ _ _ _ _ w c.requires.is_last c.in-Err.part (rw c.deref.ensures.value at c.in-Err.ensures.err) in
-    omega (arith, part_there c.args.entries.now c.args.last c.in-Err.part (c.requires.named c.args.last) part, w.seen_as_many)
+    omega (arith, part_there c.args.entries.now c.args.last c.in-Err.part (c.requires.named c.args.last) part, w.seen_count)
 
 pub enter-requires : goal.enter-requires
 enter-requires c =
     let w = c.requires.walk in
     let part = part_of_last _ _ _ _ _ w c.requires.is_last c.in-Err.part (rw c.deref.ensures.value at c.in-Err.ensures.err) in
-    omega (arith, part_there c.args.entries.now c.args.last c.in-Err.part (c.requires.named c.args.last) part, w.seen_as_many)
+    omega (arith, part_there c.args.entries.now c.args.last c.in-Err.part (c.requires.named c.args.last) part, w.seen_count)
 
 pub returns-in-Ok-clause-walk : goal.returns-in-Ok-clause-walk
 returns-in-Ok-clause-walk c = step_leaves _ _ _ _ _ c.requires.walk c.requires.is_last c.in-Ok.length c.pop.new.self.items (rw c.deref.ensures.value at c.in-Ok.ensures.ok)
@@ -24,7 +24,7 @@ pub returns-then-index-clause-walk : goal.returns-then-index-clause-walk
 returns-then-index-clause-walk c =
     let w = c.requires.walk in
     let part = part_of_last _ _ _ _ _ w c.requires.is_last c.in-Err.part (rw c.deref.ensures.value at c.in-Err.ensures.err) in
-    let there : c.in-Err.part < length c.args.self.now.seen.items = omega (arith, part_there c.args.entries.now c.args.last c.in-Err.part (c.requires.named c.args.last) part, w.seen_as_many) in
+    let there : c.in-Err.part < length c.args.self.now.seen.items = omega (arith, part_there c.args.entries.now c.args.last c.in-Err.part (c.requires.named c.args.last) part, w.seen_count) in
     let once : get_or c.args.self.now.seen.items c.in-Err.part false ≡ true = sym (get_or_read c.args.self.now.seen.items _ _ there c.index.ensures false) ∙ c.if-index.true in
     rw c.clear.ensures.items (step_gives_up _ _ _ _ _ w c.requires.is_last c.in-Err.part (rw c.deref.ensures.value at c.in-Err.ensures.err) once)
 
@@ -32,16 +32,16 @@ pub returns-in_ok-enter-in-Err-clause-walk : goal.returns-in_ok-enter-in-Err-cla
 returns-in_ok-enter-in-Err-clause-walk c =
     let w = c.requires.walk in
     let part = part_of_last _ _ _ _ _ w c.requires.is_last c.in-Err.part (rw c.deref.ensures.value at c.in-Err.ensures.err) in
-    let there : c.in-Err.part < length c.args.self.now.seen.items = omega (arith, part_there c.args.entries.now c.args.last c.in-Err.part (c.requires.named c.args.last) part, w.seen_as_many) in
+    let there : c.in-Err.part < length c.args.self.now.seen.items = omega (arith, part_there c.args.entries.now c.args.last c.in-Err.part (c.requires.named c.args.last) part, w.seen_count) in
     let unseen : get_or c.args.self.now.seen.items c.in-Err.part false ≡ false = sym (get_or_read c.args.self.now.seen.items _ _ there c.index.ensures false) ∙ c.if-index.false in
     rw (c.in_ok-enter-in-Err.ensures.lengths, c.in_ok-enter-in-Err.ensures.seen, c.in_ok-enter-in-Err.ensures.path)
     (step_enters _ _ _ _ _ w c.requires.is_last c.in-Err.part (c.requires.named c.args.last) (rw c.deref.ensures.value at c.in-Err.ensures.err) unseen)
 
-pub returns-in_ok-enter-in-Err-clause-nearer : goal.returns-in_ok-enter-in-Err-clause-nearer
-returns-in_ok-enter-in-Err-clause-nearer c =
+pub returns-in_ok-enter-in-Err-clause-decreases : goal.returns-in_ok-enter-in-Err-clause-decreases
+returns-in_ok-enter-in-Err-clause-decreases c =
     let w = c.requires.walk in
     let part = part_of_last _ _ _ _ _ w c.requires.is_last c.in-Err.part (rw c.deref.ensures.value at c.in-Err.ensures.err) in
-    let there : c.in-Err.part < length c.args.self.now.seen.items = omega (arith, part_there c.args.entries.now c.args.last c.in-Err.part (c.requires.named c.args.last) part, w.seen_as_many) in
+    let there : c.in-Err.part < length c.args.self.now.seen.items = omega (arith, part_there c.args.entries.now c.args.last c.in-Err.part (c.requires.named c.args.last) part, w.seen_count) in
     let unseen : get_or c.args.self.now.seen.items c.in-Err.part false ≡ false = sym (get_or_read c.args.self.now.seen.items _ _ there c.index.ensures false) ∙ c.if-index.false in
     rw (c.in_ok-enter-in-Err.ensures.seen, c.in_ok-enter-in-Err.ensures.path)
     (omega (arith, unseen-set c.args.self.now.seen.items c.in-Err.part there unseen, length-append c.args.self.now.path.items (c.in-Err.part ∷ [])))

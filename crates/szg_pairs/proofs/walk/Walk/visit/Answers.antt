@@ -6,9 +6,9 @@ use Rattle.szg_pairs.proofs.walk.Walk.visit.Goals as goal
 pub loop-last-init : goal.loop-last-init
 loop-last-init c =
     let w = c.requires.walk in
-    let there : c.args.symbol < length c.args.self.now.seen.items = omega (arith, c.requires.there, w.seen_as_many) in
+    let there : c.args.symbol < length c.args.self.now.seen.items = omega (arith, c.requires.there, w.seen_count) in
     let unseen : get_or c.args.self.now.seen.items c.args.symbol false ≡ false = sym (get_or_read c.args.self.now.seen.items _ _ there c.index.ensures false) ∙ c.if-index.false in
-    rw (c.in_ok-enter.ensures.lengths, c.in_ok-enter.ensures.seen, c.in_ok-enter.ensures.path, c.requires.at_rest)
+    rw (c.in_ok-enter.ensures.lengths, c.in_ok-enter.ensures.seen, c.in_ok-enter.ensures.path, c.requires.path_empty)
     (record {
       walk = walk_begins _ _ _ c.args.symbol w c.requires.there unseen;
       entered = get_or-set_same c.args.self.now.seen.items c.args.symbol true false there;

@@ -1,0 +1,104 @@
+//! Access to the blocks of a subtable, one at a time.
+
+ghost use Rattle.std.specs.Prelude.{◌≡◌, ◌<◌, ℕ, List, IfOk, IfSome, length};
+ghost use Rattle.std.specs.Io.BufRead.{Rests};
+ghost use Rattle.std.specs.Borrow.{sem};
+ghost use Rattle.szg_code.specs.Acceptance.{IsCode};
+ghost use Rattle.szg_block.specs.Subtable.{layout_of, packed_of};
+ghost use Rattle.szg_block.specs.BlocksTrait.{raised, failed_after};
+
+use crate::Sub;
+use crate::packed::block_of;
+
+/// A source of blocks failed.
+#[derive(Debug, Clone, Copy, PartialEq, Eq)]
+pub struct SourceFault;
+
+/// Access to the blocks of a subtable.
+pub trait Blocks {
+    // the number of blocks, and the bytes of each
+    ghost count: { Self → ℕ };
+
+    ghost bytes: { Self → ℕ → List ℕ };
+    // all bytes of their source, and the length of the buffer for a block
+    ghost content: { Self → List ℕ };
+
+    ghost buffer_len: { Self → ℕ };
+    // the failures of the source, the bytes requested of it, and the bytes that one block requests
+    ghost failures: { Self → ℕ };
+
+    ghost requested: { Self → ℕ };
+
+    ghost cost: { Self → ℕ };
+
+    /// Returns block `n`, which exists. The failure count increases by one exactly at a fault. The blocks stay
+    /// unchanged.
+    fn block(&mut self, n: u32) -> Result<&[u8], SourceFault>
+        requires { n < count self.old }
+        ensures block { IfOk result (λ block. block.now ≡ bytes self.old n) }
+        ensures* after { sem 𝓛 (Rests Self.row self.entry (λ new.
+            (count new ≡ count self.old) × ((k : ℕ) → bytes new k ≡ bytes self.old k)
+            × (content new ≡ content self.old) × (buffer_len new ≡ buffer_len self.old)
+            × (failures new ≡ failed_after result (failures self.old))
+            × (cost new ≡ cost self.old) × (requested new ≡ raised (requested self.old) (cost self.old)))) };
+}
+
+/// The blocks of a subtable in memory.
+#[derive(Clone, Copy)]
+pub struct Whole<'a> {
+    /// The blocks, one after another.
+    pub packed: &'a [u8],
+    /// A block has 2^block_bits bytes.
+    pub block_bits: u8,
+}
+
+impl<'a> Blocks for Whole<'a> {
+    ghost use Rattle.std.specs.Prelude.{◌/◌, ◌^◌};
+    ghost use Rattle.szg_block.specs.Block.{block_at};
+
+    ghost count = { λ whole. length whole.packed.now / 2 ^ whole.block_bits };
+
+    ghost bytes = { λ whole n. block_at whole.block_bits whole.packed.now n };
+
+    ghost content = { λ whole. whole.packed.now };
+
+    ghost buffer_len = { λ whole. 0 };
+
+    ghost failures = { λ whole. 0 };
+
+    ghost requested = { λ whole. 0 };
+
+    ghost cost = { λ whole. 0 };
+
+    fn block(&mut self, n: u32) -> Result<&[u8], SourceFault> {
+        Ok(block_of(self.packed, self.block_bits, n as usize))
+    }
+}
+
+/// Returns the blocks that a subtable contains itself; none if it is constant.
+pub fn blocks_in(sub: &Sub) -> Whole<'_>
+    requires { IfSome (layout_of sub.now) (λ layout. layout.code.symbols ≡ length layout.entries) }
+    ensures packed { result.packed.now ≡ packed_of sub.now }
+    ensures bits { IfSome (layout_of sub.now) (λ layout. result.block_bits ≡ layout.block_bits) }
+    ensures accepted { IfSome (layout_of sub.now) (λ layout. IsCode layout.code) }
+{
+    match sub {
+        Sub::Constant { .. } => Whole {
+            packed: &[],
+            block_bits: 0,
+        },
+        Sub::Pairs {
+            block_bits,
+            code,
+            dict,
+            packed,
+            ..
+        } => {
+            prove_eq!(code.symbols(), dict.symbols());
+            Whole {
+                packed,
+                block_bits: *block_bits,
+            }
+        }
+    }
+}

@@ -1,0 +1,8 @@
+use Rattle.std.proofs.Common.{take}
+use Rattle.std.specs.List.{AllByRecursion}
+use Rattle.szg_file.specs.Accepted.{AreBytes}
+use Rattle.szg_build.proofs.accepting.fit_three_bytes.Given as goal
+
+-- those so far have
+abbrev pub invariant-loop-entry : goal.invariant-loop-entry
+invariant-loop-entry l = AllByRecursion (AreBytes 3) (take l.entry-index l.entries)

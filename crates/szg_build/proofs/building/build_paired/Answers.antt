@@ -1,0 +1,43 @@
+use Rattle.std.proofs.Common.{ℕ, List, ◌≡◌, ◌<◌, length, ap, sym, subst, ◌∙◌, arith, rules}
+use Rattle.szg_block.specs.Block.{start}
+use Rattle.szg_build.specs.Pairing.{values_of}
+use Rattle.szg_build.proofs.MadeLaws.{below_as, symbols_few, symbols_some, entries_some, cut_total, cut_some}
+use Rattle.szg_build.proofs.building.build_paired.Goals as goal
+
+pub code_for-requires-clause-some : goal.code_for-requires-clause-some
+code_for-requires-clause-some c =
+    let round = c.requires.pairing.round in
+    let es : List (List ℕ) = c.args.paired.entries.items in
+    let ss : List ℕ = c.args.paired.symbols.items in
+    let some : 0 < length es = entries_some es ss round.below (symbols_some es c.args.values.now ss round.same c.requires.some) in
+    omega (arith, some, ap length c.in_ok-dict.ensures)
+
+pub fill_blocks-requires-clause-below : goal.fill_blocks-requires-clause-below
+fill_blocks-requires-clause-below c =
+    below_as c.args.paired.entries.items c.in_ok-dict.dict c.args.paired.symbols.items c.deref-2.result.now
+    c.in_ok-dict.ensures c.deref-2.ensures.value
+    c.requires.pairing.round.below
+
+pub fill_blocks-requires-clause-few : goal.fill_blocks-requires-clause-few
+fill_blocks-requires-clause-few c =
+    let round = c.requires.pairing.round in
+    let es : List (List ℕ) = c.args.paired.entries.items in
+    let ss : List ℕ = c.args.paired.symbols.items in
+    let same : c.deref-2.result.now ≡ ss = c.deref-2.ensures.value in
+    omega (arith, ap length same, symbols_few es round.dictionary ss round.below, ap length round.same, c.requires.few)
+
+pub sparse_index-requires-clause-total : goal.sparse_index-requires-clause-total
+sparse_index-requires-clause-total c =
+    let round = c.requires.pairing.round in
+    let ss : List ℕ = c.deref-2.result.now in
+    let own : c.in_ok-lengths.lengths.items ≡ c.in_ok-lengths.field-0.lengths.items = first_of (rw c.in_ok-lengths.lengths-is, cc, search rules) in
+    let e1 : c.in_ok-dict.dict ≡ c.args.paired.entries.items = c.in_ok-dict.ensures in
+    let e2 : ss ≡ c.args.paired.symbols.items = c.deref-2.ensures.value in
+    let same : values_of c.in_ok-dict.dict ss ≡ c.args.values.now = ap (λ (z : List (List ℕ)). values_of z ss) e1 ∙ ap (values_of c.args.paired.entries.items) e2 ∙ round.same in
+    let lengths : c.deref-3.result.now ≡ c.in_ok-lengths.field-0.lengths.items = first_of (cc (c.deref-3.ensures.value), cc (c.deref-3.ensures.value, own)) in
+    subst (λ (z : List ℕ). start z (length z) ≡ length c.args.values.now) (sym lengths)
+    (cut_total c.in_ok-code.code c.in_ok-dict.dict c.args.packing.block_bits c.args.values.now ss (length c.in_ok-lengths.field-0.lengths.items)
+    c.in_ok-lengths.field-0.lengths.items c.in_ok-lengths.field-0.packed.items c.in_ok-lengths.ensures same)
+
+pub sparse_index-requires-clause-some : goal.sparse_index-requires-clause-some
+sparse_index-requires-clause-some c = cut_some c.deref-3.result.now (length c.args.values.now) (sparse_index-requires-clause-total c) c.requires.some

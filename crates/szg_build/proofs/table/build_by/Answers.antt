@@ -1,0 +1,50 @@
+use Rattle.std.proofs.Common.{◌<◌, ◌^◌, List, ℕ, map, refl, sym, subst, ◌∙◌, Ok, Err}
+use Rattle.std.specs.List.{AllByRecursion}
+use Rattle.szg_build.specs.declared.BuildFault.TheVariants as fault
+use Rattle.szg_build.specs.Plan.{build_fault}
+use Rattle.szg_build.specs.Shown.{plan_seen}
+use Rattle.szg_build.proofs.TableLaws.{order_told, all_stand, refused_as, passed_as, no_fault, no_parts, stands_as, bytes_as, parts_as, sizes_as}
+use Rattle.szg_build.proofs.table.build_by.Goals as goal
+
+pub returns-in_default-clause-refused : goal.returns-in_default-clause-refused
+returns-in_default-clause-refused c =
+    let plan = plan_seen c.args.plan.now in
+    let lists = map (λ list. list.now) c.args.lists.now in
+    refused_as (Err fault.Order) (build_fault plan lists) fault.Order
+    (order_told plan lists (bytes_as c.deref.result.now c.args.plan.now.parts.items c.deref.ensures.value c.parts_fit.ensures)
+    (no_parts c.args.plan.now.material c.args.plan.now.kind c.deref-2.result.now c.args.plan.now.parts.items c.deref-2.ensures.value c.subtable_sizes.result c.in_default.not-Some c.subtable_sizes.ensures.none)) refl
+
+pub returns-in-Some-first_fault-clause-refused : goal.returns-in-Some-first_fault-clause-refused
+returns-in-Some-first_fault-clause-refused c =
+    let plan = plan_seen c.args.plan.now in
+    let lists = map (λ list. list.now) c.args.lists.now in
+    let same = c.as_slice.ensures.value ∙ c.in-Some.ensures.sizes in
+    refused_as (Err c.in-Some-first_fault.fault) (build_fault plan lists) c.in-Some-first_fault.fault
+    (stands_as plan lists c.as_slice.result.now c.deref-2.result.now c.args.plan.now.parts.items c.deref-2.ensures.value refl c.in-Some.ensures.parts same ∙ sym c.in-Some-first_fault.ensures) refl
+
+pub build_table-requires-clause-stands : goal.build_table-requires-clause-stands
+build_table-requires-clause-stands c =
+    let plan = plan_seen c.args.plan.now in
+    let lists = map (λ list. list.now) c.args.lists.now in
+    let parts = parts_as c.args.plan.now.material c.args.plan.now.kind c.deref-2.result.now c.args.plan.now.parts.items c.deref-2.ensures.value c.in-Some.ensures.parts in
+    let same = c.as_slice.ensures.value ∙ c.in-Some.ensures.sizes ∙ sizes_as c.args.plan.now.material c.args.plan.now.kind c.deref-2.result.now c.args.plan.now.parts.items c.deref-2.ensures.value in
+    all_stand plan lists c.as_slice.result.now parts same (subst (λ (z : List ℕ). AllByRecursion (λ size. size < 2 ^ 33) z) (sym c.as_slice.ensures.value) c.in-Some.ensures.fits)
+    (sym c.first_fault.ensures ∙ no_fault c.first_fault.result c.in_default-first_fault.not-Some)
+
+pub returns-in-Ok-clause-refused : goal.returns-in-Ok-clause-refused
+returns-in-Ok-clause-refused c =
+    let plan = plan_seen c.args.plan.now in
+    let lists = map (λ list. list.now) c.args.lists.now in
+    let same = c.as_slice.ensures.value ∙ c.in-Some.ensures.sizes in
+    passed_as (Ok c.in-Ok.table) (build_fault plan lists)
+    (stands_as plan lists c.as_slice.result.now c.deref-2.result.now c.args.plan.now.parts.items c.deref-2.ensures.value refl c.in-Some.ensures.parts same
+    ∙ sym c.first_fault.ensures ∙ no_fault c.first_fault.result c.in_default-first_fault.not-Some) tt
+
+pub returns-in-Err-clause-refused : goal.returns-in-Err-clause-refused
+returns-in-Err-clause-refused c =
+    let plan = plan_seen c.args.plan.now in
+    let lists = map (λ list. list.now) c.args.lists.now in
+    let same = c.as_slice.ensures.value ∙ c.in-Some.ensures.sizes in
+    passed_as (Err fault.Memory) (build_fault plan lists)
+    (stands_as plan lists c.as_slice.result.now c.deref-2.result.now c.args.plan.now.parts.items c.deref-2.ensures.value refl c.in-Some.ensures.parts same
+    ∙ sym c.first_fault.ensures ∙ no_fault c.first_fault.result c.in_default-first_fault.not-Some) refl

@@ -1,0 +1,231 @@
+//! Tests of a proposed dictionary and text, behind which nothing has to be known of how they were made.
+ghost use Rattle.std.specs.Prelude.{ℕ, ◌≡◌, ◌<◌, ◌≤◌, ◌⊎◌, true, false, List, length, slice_get, slice_index_or, Some, IfOk, IfSome};
+ghost use Rattle.std.specs.List.{AllByRecursion};
+ghost use Rattle.szg_code.specs.Canonical.{IsIn};
+ghost use Rattle.szg_pairs.specs.Dictionary.{IsDictionary};
+ghost use Rattle.szg_pairs.specs.Entry.{is_leaf};
+ghost use Rattle.szg_pairs.specs.Expansion.{expansion_of};
+ghost use Rattle.szg_file.specs.Accepted.{AreBytes};
+ghost use Rattle.szg_build.specs.Building.{AreLens, IsRound};
+ghost use Rattle.szg_build.specs.Pairing.{IsInPair, IsUsed, pairs_in, values_of};
+
+use crate::blocks::fit_one_byte;
+use crate::leaves::{MAX_SYMBOLS, Paired, count_different};
+use crate::proposing::Proposal;
+use std::alloc::{AllocError, Global};
+use szg_pairs::entry::{is_leaf, left, right};
+use szg_pairs::{Dict, DictFault};
+
+/// Whether all symbols are below a number.
+fn are_below(symbols: &[u16], count: usize) -> bool
+    ensures { result ≡ true → AllByRecursion (λ s. s < count) symbols.now }
+{
+    for symbol in symbols {
+        if usize::from(*symbol) >= count {
+            return false;
+        }
+    }
+    true
+}
+
+/// Whether these are the values of a symbol.
+fn is_expansion(dict: &Dict, symbol: u16, values: &[u16]) -> bool
+    requires there { symbol < length dict.now }
+    requires many { length values.now ≡ length (expansion_of dict.now symbol) }
+    ensures { result ≡ true → values.now ≡ expansion_of dict.now symbol }
+{
+    for place in 0..dict.len(symbol) {
+        if dict.value_at(symbol, place) != values[usize::from(place)] {
+            return false;
+        }
+    }
+    true
+}
+
+/// Whether the values of symbols, joined, are these.
+fn expands_to(dict: &Dict, symbols: &[u16], values: &[u16]) -> bool
+    requires below { AllByRecursion (λ s. s < length dict.now) symbols.now }
+    ensures { result ≡ true → values_of dict.now symbols.now ≡ values.now }
+{
+    let mut start = 0;
+    for symbol in symbols {
+        let length = usize::from(dict.len(*symbol));
+        if values.len() - start < length {
+            return false;
+        }
+        if !is_expansion(dict, *symbol, &values[start..start + length]) {
+            return false;
+        }
+        start += length;
+    }
+    start == values.len()
+}
+
+/// Marks the symbols that are in a text.
+fn mark_symbols(symbols: &[u16], marks: &mut [bool])
+    requires { AllByRecursion (λ s. s < length marks.old) symbols.now }
+    ensures count { length marks.new ≡ length marks.old }
+    ensures marked { (s : ℕ) → slice_index_or marks.new s false ≡ true → (slice_index_or marks.old s false ≡ true) ⊎ IsIn symbols.now s }
+{
+    for symbol in symbols {
+        marks[usize::from(*symbol)] = true;
+    }
+}
+
+/// Marks a symbol that is in another's pair.
+fn mark_half(marks: &mut [bool], half: u16, pair: usize)
+    ensures count { length marks.new ≡ length marks.old }
+    ensures marked { (s : ℕ) → slice_index_or marks.new s false ≡ true → (slice_index_or marks.old s false ≡ true) ⊎ ((s ≡ half) × ¬ (pair ≡ s)) }
+{
+    let half = usize::from(half);
+    if half < marks.len() && half != pair {
+        marks[half] = true;
+    }
+}
+
+/// Marks the symbols that are in another's pair.
+fn mark_halves(entries: &[[u8; 3]], marks: &mut [bool])
+    ensures count { length marks.new ≡ length marks.old }
+    ensures marked { (s : ℕ) → slice_index_or marks.new s false ≡ true → (slice_index_or marks.old s false ≡ true) ⊎ IsInPair entries.now s }
+{
+    for (pair, entry) in entries.iter().enumerate() {
+        if !is_leaf(*entry) {
+            mark_half(marks, left(*entry), pair);
+            mark_half(marks, right(*entry), pair);
+        }
+    }
+}
+
+/// Whether each pair is marked.
+fn are_marked(entries: &[[u8; 3]], marks: &[bool]) -> bool
+    requires { length marks.now ≡ length entries.now }
+    ensures { result ≡ true → (s : ℕ) (entry : List ℕ) → slice_get entries.now s ≡ Some entry → is_leaf entry ≡ false → slice_index_or marks.now s false ≡ true }
+{
+    for (symbol, entry) in entries.iter().enumerate() {
+        if !is_leaf(*entry) && !marks[symbol] {
+            return false;
+        }
+    }
+    true
+}
+
+/// Whether each pair is in the text or in another's pair, by marks of which none is set yet.
+fn are_used_by(entries: &[[u8; 3]], symbols: &[u16], marks: &mut [bool]) -> bool
+    requires below { AllByRecursion (λ s. s < length entries.now) symbols.now }
+    requires count { length marks.old ≡ length entries.now }
+    requires none { (s : ℕ) → slice_index_or marks.old s false ≡ false }
+    ensures { result ≡ true → IsUsed entries.now symbols.now }
+{
+    mark_symbols(symbols, marks);
+    mark_halves(entries, marks);
+    are_marked(entries, marks)
+}
+
+/// Whether each pair is in the text or in another's pair.
+fn are_used(alloc: Global, entries: &[[u8; 3]], symbols: &[u16]) -> Result<bool, AllocError>
+    requires { AllByRecursion (λ s. s < length entries.now) symbols.now }
+    ensures { IfOk result (λ used. used ≡ true → IsUsed entries.now symbols.now) }
+{
+    let mut marks = vec![in alloc; false; entries.len()]?;
+    Ok(are_used_by(entries, symbols, &mut marks))
+}
+
+/// The number of pairs in a dictionary.
+pub(crate) fn count_pairs_in(entries: &[[u8; 3]]) -> usize
+    ensures pairs { result ≡ length (pairs_in entries.now) }
+    ensures few { result ≤ length entries.now }
+{
+    let mut count = 0;
+    for entry in entries {
+        if !is_leaf(*entry) {
+            count += 1;
+        }
+    }
+    count
+}
+
+/// The entries have three bytes each.
+fn fit_three_bytes(entries: &[[u8; 3]])
+    ensures { AllByRecursion (AreBytes 3) entries.now }
+{
+    for entry in entries {
+        fit_one_byte(entry);
+    }
+}
+
+/// The dictionary of entries, if they are one.
+fn dictionary_of(alloc: Global, entries: &[[u8; 3]]) -> Result<Option<Dict>, AllocError>
+    requires { length entries.now ≤ 65535 }
+    ensures { IfOk result (λ found. IfSome found (λ dict. dict ≡ entries.now)) }
+{
+    match Dict::new(alloc, entries.to_vec(alloc)?) {
+        Ok(dict) => Ok(Some(dict)),
+        Err(DictFault::Memory) => Err(AllocError),
+        Err(_) => Ok(None),
+    }
+}
+
+/// How many values each symbol of a dictionary stands for.
+fn lengths_of(alloc: Global, dict: &Dict) -> Result<Vec<u16>, AllocError>
+    ensures lens { IfOk result (λ lens. AreLens dict.now lens.items) }
+    ensures dictionary { IfOk result (λ lens. IsDictionary dict.now) }
+{
+    let mut lens = Vec::new(alloc);
+    for symbol in 0..dict.symbols() {
+        lens.push(dict.len(symbol))?;
+    }
+    Ok(lens)
+}
+
+/// Tests entries and a text of them, and returns how many values each symbol stands for. None where the text doesn't stand
+/// for the values, or where there is a leaf or a pair that they don't need.
+fn tested(
+    alloc: Global,
+    values: &[u16],
+    entries: &[[u8; 3]],
+    symbols: &[u16],
+) -> Result<Option<Vec<u16>>, AllocError>
+    requires { AllByRecursion (λ v. v ≤ 4095) values.now }
+    ensures round { IfOk result (λ found. IfSome found (λ lens. IsRound values.now (length (pairs_in entries.now)) entries.now symbols.now)) }
+    ensures lens { IfOk result (λ found. IfSome found (λ lens. AreLens entries.now lens.items)) }
+{
+    let pairs = count_pairs_in(entries);
+    if entries.len() > MAX_SYMBOLS || entries.len() - pairs != count_different(values) {
+        return Ok(None);
+    }
+    if !are_below(symbols, entries.len()) {
+        return Ok(None);
+    }
+    if !are_used(alloc, entries, symbols)? {
+        return Ok(None);
+    }
+    let Some(dict) = dictionary_of(alloc, entries)? else {
+        return Ok(None);
+    };
+    if !expands_to(&dict, symbols, values) {
+        return Ok(None);
+    }
+    fit_three_bytes(entries);
+    Ok(Some(lengths_of(alloc, &dict)?))
+}
+
+/// A proposal that passes the tests.
+pub(crate) fn accept(
+    alloc: Global,
+    values: &[u16],
+    proposal: Proposal,
+) -> Result<Option<Paired>, AllocError>
+    requires { AllByRecursion (λ v. v ≤ 4095) values.now }
+    ensures round { IfOk result (λ found. IfSome found (λ p. IsRound values.now (length (pairs_in p.entries.items)) p.entries.items p.symbols.items)) }
+    ensures lens { IfOk result (λ found. IfSome found (λ p. AreLens p.entries.items p.lens.items)) }
+{
+    let Proposal { entries, symbols } = proposal;
+    let Some(lens) = tested(alloc, values, &entries, &symbols)? else {
+        return Ok(None);
+    };
+    Ok(Some(Paired {
+        entries,
+        lens,
+        symbols,
+    }))
+}

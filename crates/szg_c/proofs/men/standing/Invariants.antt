@@ -1,8 +1,0 @@
-use Rattle.std.proofs.Common.{◌≡◌, map, take}
-use Rattle.std.specs.Prelude.{IsTrue}
-use Rattle.std.specs.List.{list_all}
-use Rattle.szg_c.specs.Men.{is_told, standing_of}
-use Rattle.szg_c.proofs.men.standing.Given as goal
-
-abbrev pub invariant-loop-man : goal.invariant-loop-man
-invariant-loop-man l = IsTrue (list_all is_told (take l.man-index l.men)) × (l.standing.items ≡ map standing_of (take l.man-index l.men))

@@ -1,0 +1,33 @@
+use Rattle.std.proofs.Common.{◌≡◌, ◌≢◌, ◌∙◌, ℕ, List, Bool, true, false, length, refl, sym, subst, inl, inr, Some, None, Option}
+use Rattle.std.specs.Prelude.{◌==◌, ◌⊎◌, IfSome, IsNone}
+use Rattle.std.proofs.lemmas.Bool.{cases_Bool, eqb-true, eq-eqb}
+use Rattle.szg_file.specs.Contents.{Slot, Subtable}
+use Rattle.szg_file.specs.Held.{Shown}
+use Rattle.szg_file.specs.Values.{subtable_at}
+use Rattle.szg_c.specs.Told.{IsTable, Says}
+use Rattle.szg_c.proofs.whole.szg_values.Goals as goal
+
+-- a list of the right length is filled or finds no memory; another one is refused, as one of no subtable
+outcomes : (o : Option (Slot × Subtable)) (count result : ℕ) → IfSome o (λ found. count ≡ found.0.size → (result ≡ 0) ⊎ (result ≡ 3)) → (IsNone o → result ≡ 4) →
+    IfSome o (λ found. count ≢ found.0.size → result ≡ 4) → (result ≡ 0) ⊎ ((result ≡ 3) ⊎ (result ≡ 4))
+outcomes None count result there missing other = inr (inr (missing refl))
+outcomes (Some found) count result there missing other = elim (cases_Bool (count == found.0.size)) [
+  | inl t ↦ elim (there (eqb-true count found.0.size t)) [ inl e ↦ inl e | inr e ↦ inr (inl e) ]
+  | inr f ↦ inr (inr (other (λ e. let t = eq-eqb count found.0.size e in let no : true ≡ false = sym t ∙ f in cc)))
+]
+
+-- a list that is refused has another length
+outside : (o : Option (Slot × Subtable)) (count result : ℕ) → IfSome o (λ found. count ≡ found.0.size → (result ≡ 0) ⊎ (result ≡ 3)) → result ≡ 4 → IfSome o (λ found. count ≢ found.0.size)
+outside None count result there e = tt
+outside (Some found) count result there e = λ same. elim (there same) [ inl a ↦ let no : 0 ≡ 4 = sym a ∙ e in cc | inr a ↦ let no : 3 ≡ 4 = sym a ∙ e in cc ]
+
+says : (name : List ℕ) (dtz : Bool) (bytes : List ℕ) (done out : Shown → Type 0) (t : Shown) (result place reason : ℕ) → IsTable name dtz bytes t → (result ≡ 0 → done t) → (result ≡ 4 → out t) →
+    (result ≡ 0) ⊎ ((result ≡ 3) ⊎ (result ≡ 4)) → Says name dtz bytes done out result place reason
+says name dtz bytes done out t result place reason is a b (inl e) = subst (λ (k : ℕ). Says name dtz bytes done out k place reason) (sym e) (t, is, a e)
+says name dtz bytes done out t result place reason is a b (inr (inl e)) = subst (λ (k : ℕ). Says name dtz bytes done out k place reason) (sym e) (is.0, is.1)
+says name dtz bytes done out t result place reason is a b (inr (inr e)) = subst (λ (k : ℕ). Says name dtz bytes done out k place reason) (sym e) (t, is, b e)
+
+pub returns-in-Ok-clause-says : goal.returns-in-Ok-clause-says
+returns-in-Ok-clause-says c =
+    let o = subtable_at c.in-Ok.table.contents c.args.part c.args.side in let old = length c.args.values.now in let told = c.values_in.ensures in
+    says c.args.name.now c.args.dtz c.args.bytes.now _ _ c.in-Ok.table c.values_in.result _ _ c.in-Ok.ensures.table told.done (outside o old c.values_in.result told.there) (outcomes o old c.values_in.result told.there told.missing told.other_length)

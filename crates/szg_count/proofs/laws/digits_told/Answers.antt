@@ -1,5 +1,0 @@
-use Rattle.szg_count.proofs.Radix.{digits_again as law}
-use Rattle.szg_count.proofs.laws.digits_told.Goals as goal
-
-pub returns : goal.returns
-returns c = law

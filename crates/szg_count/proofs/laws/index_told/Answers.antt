@@ -1,5 +1,0 @@
-use Rattle.szg_count.proofs.Radix.{index_again as law}
-use Rattle.szg_count.proofs.laws.index_told.Goals as goal
-
-pub returns : goal.returns
-returns c = law

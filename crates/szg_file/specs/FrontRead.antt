@@ -1,0 +1,13 @@
+-- What a front that was read stands for.
+use Rattle.std.specs.Prelude.{map, option_map}
+use Rattle.szg_file.specs.Held.{part_of, map_of}
+use Rattle.szg_file.specs.Unread as told
+use Rattle.szg_file.specs.declared.read_front.FrontRead.{FrontRead}
+
+abbrev pub front_read : FrontRead → told.FrontRead
+front_read f = record {
+  byte4 = f.byte4;
+  parts = map part_of f.parts.bytes.items;
+  maps = map (option_map map_of) f.maps.items;
+  measured = f.measured.items;
+}

@@ -1,0 +1,34 @@
+//! A file that is checked, and of which nothing is kept but its length.
+ghost use Rattle.std.specs.Prelude.{◌≡◌, [], IsErrOf, IsTrue};
+ghost use Rattle.szg_io.specs.Device.{HasFailed};
+ghost use Rattle.szg_file.specs.Checked.{IsChecked};
+
+use crate::fault::ReadFault;
+use crate::forward::Ahead;
+use crate::front::Front;
+use crate::outline::read_outline;
+use std::alloc::Global;
+use szg_io::Input;
+use szg_values::{Kind, Material};
+
+/// Checks the file of a table of this material and kind, from the reader's first byte on; returns the file's length in
+/// bytes.
+///
+/// It takes the bytes that `read` takes, and refuses what `read` refuses, but holds one block at a time. Errors: as `read`.
+pub fn check<R: Input + Ahead>(
+    alloc: Global,
+    material: &Material,
+    kind: Kind,
+    input: &mut R,
+) -> Result<u64, ReadFault>
+    requires first { R.moved input.old ≡ [] }
+    ensures checked { IsChecked R.Input material.now kind input.old input.new result }
+    ensures device { IsErrOf result ReadFault.Device → HasFailed (R.failures input.old) (R.failures input.new) (R.interrupted input.new) }
+    ensures may_fail { IsErrOf result ReadFault.Device → IsTrue (R.may_fail input.old) }
+    ensures quiet { (IsErrOf result ReadFault.Device → ⊥) → R.failures input.new ≡ R.failures input.old }
+{
+    let mut front = Front::new(alloc);
+    let mut block = Vec::new(alloc);
+    let _outline = read_outline(alloc, material, kind, &mut block, input, &mut front)?;
+    Ok(front.place)
+}

@@ -1,0 +1,222 @@
+//! The index of a table: what a lookup needs beside the blocks.
+ghost use Rattle.std.specs.Prelude.{◌≡◌, ◌≢◌, ◌<◌, ◌≤◌, ◌↔◌, ◌≤ℤ◌, ℤ, pos, neg_ℤ, length, map, option_map, IsSome, MatchOption, Ok, Err, Some, None};
+ghost use Rattle.szg_file.specs.Contents.{slots as slots_of};
+ghost use Rattle.szg_file.specs.Held.{part_of, map_of, subtable_of};
+ghost use Rattle.szg_file.specs.File.{flags_of as flags_byte};
+ghost use Rattle.szg_file.specs.Index.{Index, IsIndex, IsNumbered, index_with, number_in, slot_in, slot_number as number_of, slots_in};
+
+use crate::begun::Slot;
+use crate::distances::{list_number, number_at};
+use crate::dropping::PlacedSub;
+use crate::fault::MapFault;
+use crate::flags::flags_of;
+use crate::lookup::slot_number;
+use crate::parts::Parts;
+use crate::table::{Map, PartBytes};
+use arrayvec::ArrayVec;
+use std::marker::Model;
+use szg_block::Sub;
+use szg_values::{Kind, Material};
+
+/// The index of a table: its material and kind, its parts, the slots and flags of its subtables, and its maps. Each kind of
+/// table owns one, and adds only where its blocks come from.
+#[derive(Drop)]
+pub struct TableIndex {
+    material: Material,
+    kind: Kind,
+    parts: Parts,
+    // the subtables' flags, in file order
+    flags: ArrayVec<u8, 8>,
+    maps: Vec<Option<Map>>,
+}
+
+impl Model for TableIndex {
+    ghost use Rattle.std.specs.Prelude.{◌≡◌, map, option_map};
+    ghost use Rattle.szg_file.specs.Contents.{slots};
+    ghost use Rattle.szg_file.specs.Held.{part_of, map_of};
+    ghost use Rattle.szg_file.specs.Index.{Index, IsIndex, index_with};
+
+    ghost Value = { Index };
+
+    ghost view = { λ x. index_with x.material x.kind (map part_of x.parts.bytes.items) x.flags.items (map (option_map map_of) x.maps.items) };
+
+    ghost invariant = { λ x. IsIndex (index_with x.material x.kind (map part_of x.parts.bytes.items) x.flags.items (map (option_map map_of) x.maps.items))
+        × (x.parts.slots.items ≡ slots x.material x.kind (map part_of x.parts.bytes.items)) };
+}
+
+/// Creates the index of a table whose subtables are in memory.
+pub fn index_of_subs(
+    material: Material,
+    kind: Kind,
+    parts: Parts,
+    subs: &[Sub],
+    maps: Vec<Option<Map>>,
+) -> TableIndex
+    requires stands { IsIndex (index_with material kind (map part_of parts.bytes.items) (map flags_byte (map subtable_of subs.now)) (map (option_map map_of) maps.items)) }
+    requires slots { parts.slots.items ≡ slots_of material kind (map part_of parts.bytes.items) }
+    ensures { result ≡ index_with material kind (map part_of parts.bytes.items) (map flags_byte (map subtable_of subs.now)) (map (option_map map_of) maps.items) }
+{
+    // there are as many slots, at most eight
+    let _slots = parts.slots.as_slice();
+    let flags = flags_of_all(subs);
+    TableIndex::new(material, kind, parts, flags, maps)
+}
+
+/// Creates the index of a table whose blocks are elsewhere.
+pub fn index_of_placed(
+    material: Material,
+    kind: Kind,
+    parts: Parts,
+    subs: &[PlacedSub],
+    maps: Vec<Option<Map>>,
+) -> TableIndex
+    requires stands { IsIndex (index_with material kind (map part_of parts.bytes.items) (map (λ placed. flags_byte (subtable_of placed.sub)) subs.now) (map (option_map map_of) maps.items)) }
+    requires slots { parts.slots.items ≡ slots_of material kind (map part_of parts.bytes.items) }
+    ensures { result ≡ index_with material kind (map part_of parts.bytes.items) (map (λ placed. flags_byte (subtable_of placed.sub)) subs.now) (map (option_map map_of) maps.items) }
+{
+    // there are as many slots, at most eight
+    let _slots = parts.slots.as_slice();
+    let flags = flags_of_placed(subs);
+    TableIndex::new(material, kind, parts, flags, maps)
+}
+
+// The flags bytes of subtables.
+fn flags_of_all(subs: &[Sub]) -> ArrayVec<u8, 8>
+    requires { length subs.now ≤ 8 }
+    ensures { result.items ≡ map (λ sub. flags_byte (subtable_of sub)) subs.now }
+{
+    let mut flags = ArrayVec::new();
+    for sub in subs {
+        flags.push(flags_of(sub));
+    }
+    flags
+}
+
+/// Returns the flags bytes of subtables whose blocks are elsewhere.
+pub fn flags_of_placed(subs: &[PlacedSub]) -> ArrayVec<u8, 8>
+    requires { length subs.now ≤ 8 }
+    ensures { result.items ≡ map (λ placed. flags_byte (subtable_of placed.sub)) subs.now }
+{
+    let mut flags = ArrayVec::new();
+    for placed in subs {
+        flags.push(flags_of(&placed.sub));
+    }
+    flags
+}
+
+/// The number of a subtable in file order, counted from 0, and its slot.
+#[derive(Clone, Copy)]
+pub struct Numbered {
+    pub number: usize,
+    pub slot: Slot,
+}
+
+impl TableIndex {
+    /// Creates the index of parts, flags and maps that pass every check of the format.
+    pub(crate) fn new(
+        material: Material,
+        kind: Kind,
+        parts: Parts,
+        flags: ArrayVec<u8, 8>,
+        maps: Vec<Option<Map>>,
+    ) -> TableIndex
+        requires stands { IsIndex (index_with material kind (map part_of parts.bytes.items) flags.items (map (option_map map_of) maps.items)) }
+        requires slots { parts.slots.items ≡ slots_of material kind (map part_of parts.bytes.items) }
+        ensures { result ≡ index_with material kind (map part_of parts.bytes.items) flags.items (map (option_map map_of) maps.items) }
+    {
+        TableIndex {
+            material,
+            kind,
+            parts,
+            flags,
+            maps,
+        }
+    }
+
+    /// Returns the material of the name that the table was read by.
+    pub fn material(&self) -> &Material
+        ensures { result.now ≡ self.now.material }
+    {
+        &self.material
+    }
+
+    /// Returns what the table's values are: outcomes or distances.
+    pub fn kind(&self) -> Kind
+        ensures { result ≡ self.now.kind }
+    {
+        self.kind
+    }
+
+    /// Returns the bytes of the parts: four parts with pawns, else one.
+    pub fn parts(&self) -> &[PartBytes]
+        ensures bytes { map part_of result.now ≡ self.now.parts }
+        ensures stands { IsIndex self.now }
+    {
+        &self.parts.bytes
+    }
+
+    /// Returns the flags bytes of the subtables, in file order.
+    pub fn flags(&self) -> &[u8]
+        ensures flags { result.now ≡ self.now.flags }
+        ensures many { length result.now ≡ length (slots_in self.now) }
+        ensures few { length result.now ≤ 8 }
+        ensures stands { IsIndex self.now }
+    {
+        self.flags.as_slice()
+    }
+
+    /// Returns the maps of a DTZ table, one item a part; none of a WDL table.
+    pub fn maps(&self) -> &[Option<Map>]
+        ensures { map (option_map map_of) result.now ≡ self.now.maps }
+    {
+        &self.maps
+    }
+
+    /// Returns the slots of the subtables, in file order.
+    pub(crate) fn slots(&self) -> &[Slot]
+        ensures slots { result.now ≡ slots_in self.now }
+        ensures few { length result.now ≤ 8 }
+    {
+        self.parts.slots.as_slice()
+    }
+
+    /// Finds the subtable of a part and side. None if the table has no such part or side.
+    pub(crate) fn find(&self, part: u8, side: u8) -> Option<Numbered>
+        ensures { MatchOption result (number_of self.now part side ≡ None) (λ found. IsNumbered self.now part side found.number found.slot) }
+    {
+        let slots = self.slots();
+        let number = slot_number(slots, part, side)?;
+        let slot = slots[number];
+        Some(Numbered { number, slot })
+    }
+
+    /// Returns the number of positions of a part and side. None if the table has no such part or side.
+    pub fn size(&self, part: u8, side: u8) -> Option<u64>
+        ensures { result ≡ option_map (λ slot. slot.size) (slot_in self.now part side) }
+    {
+        let Numbered { slot, .. } = self.find(part, side)?;
+        Some(slot.size)
+    }
+
+    /// Returns the number of a DTZ value in a class (2 win, 1 cursed win, -1 blessed loss, -2 loss).
+    ///
+    /// Errors: `Draw` exactly for class 0; else `OutsideMap` exactly where the part has a map without such an item.
+    pub fn map_value(&self, part: u8, class: i8, v: u16) -> Result<u32, MapFault>
+        requires dtz { self.now.kind ≡ Kind.Dtz }
+        requires part { IsSome (slot_in self.now part 0) }
+        requires above { neg_ℤ (pos 2) ≤ℤ class }
+        requires below { class ≤ℤ pos 2 }
+        ensures draw { (result ≡ Err MapFault.Draw) ↔ (class ≡ pos 0) }
+        ensures number { MatchOption (number_in self.now part class v) (class ≢ pos 0 → result ≡ Err MapFault.OutsideMap) (λ n. result ≡ Ok n) }
+    {
+        let Some(list) = list_number(class) else {
+            return Err(MapFault::Draw);
+        };
+        let Some(found) = self.find(part, 0) else {
+            unreachable!()
+        };
+        let flags = self.flags()[found.number];
+        let number = number_at(flags, &self.maps[part as usize], list, v);
+        number.ok_or(MapFault::OutsideMap)
+    }
+}

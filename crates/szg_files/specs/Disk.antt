@@ -1,0 +1,6 @@
+-- How many paths of a disk couldn't be opened.
+use Rattle.std.specs.Prelude.{ℕ}
+use Rattle.szg_files.specs.declared.disk.Disk.{Disk}
+
+abbrev pub failures_of : {R F D : Type 0} → Disk R F D → ℕ
+failures_of disk = disk.failures

@@ -1,0 +1,5 @@
+pub mod Monitored
+pub mod FileSystem
+pub mod Disk
+pub mod Draft
+pub mod Memory

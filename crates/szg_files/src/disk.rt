@@ -1,0 +1,84 @@
+//! The files of the system.
+ghost use Rattle.std.specs.Prelude.{◌≡◌, ◌+◌, ◌^◌, ◌-◌, min, None, [], IfOk};
+ghost use Rattle.szg_io.specs.Counts.{counts_of};
+ghost use Rattle.szg_files.specs.Disk.{failures_of};
+
+use crate::file_system::{FileFault, FileSystem, Reasons};
+use crate::monitored::Monitored;
+use std::alloc::Global;
+use std::fs::{self, OpenFile};
+use std::io::{BufReader, Error, Read};
+use std::rt::Files;
+use szg_io::Std;
+
+/// How many bytes are read at once.
+const BUFFER: usize = 1 << 17;
+
+/// A file of the system, read through a buffer.
+pub type DiskFile<F> = Std<BufReader<Monitored<F>>>;
+
+/// The files of a system.
+#[derive(Drop)]
+pub struct Disk<'a, R: Files> {
+    files: &'a R,
+    alloc: Global,
+    failures: u64,
+}
+
+impl<'a, R: Files> Disk<'a, R> {
+    /// The files that a runtime reaches; none was opened.
+    pub fn new(alloc: Global, files: &'a R) -> Disk<'a, R>
+        ensures { failures_of result ≡ 0 }
+    {
+        Disk {
+            files,
+            alloc,
+            failures: 0,
+        }
+    }
+
+    /// Opens a regular file. The path is looked at first, since to open a pipe waits for its writer.
+    fn open_regular(&self, path: &str) -> Result<DiskFile<R::File>, FileFault>
+        ensures { IfOk result (λ file. (counts_of file).moved ≡ []) }
+    {
+        if !self.files.metadata(path)?.is_file() {
+            return Err(FileFault::NotRegular);
+        }
+        let file = fs::open(self.files, path)?;
+        if !file.metadata()?.is_file() {
+            return Err(FileFault::NotRegular);
+        }
+        match BufReader::with_capacity(self.alloc, BUFFER, Monitored::new(file)) {
+            Ok(reader) => Ok(Std::new(reader)),
+            Err(_) => Err(FileFault::Memory),
+        }
+    }
+}
+
+impl From<Error> for FileFault {
+    fn from(error: Error) -> FileFault {
+        FileFault::System(error)
+    }
+}
+
+impl<T: Read> Reasons for Std<BufReader<Monitored<T>>> {
+    fn reason(&self) -> Option<Error> {
+        self.inner().get_ref().error()
+    }
+}
+
+impl<R: Files> FileSystem for Disk<'_, R> {
+    type File = DiskFile<R::File>;
+
+    ghost content = { λ _ _. None };
+
+    ghost failures = { λ disk. disk.failures };
+
+    fn open(&mut self, path: &str) -> Result<DiskFile<R::File>, FileFault> {
+        let opened = self.open_regular(path);
+        if opened.is_err() {
+            self.failures = self.failures.saturating_add(1);
+        }
+        opened
+    }
+}

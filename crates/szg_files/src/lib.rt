@@ -1,0 +1,14 @@
+//! Files by path: opened to be read through a buffer, and written whole or not at all.
+#![tactic(auto)]
+
+mod disk;
+mod draft;
+mod file_system;
+mod memory;
+mod monitored;
+
+pub use disk::{Disk, DiskFile};
+pub use draft::{Draft, DraftFile, Published, Sealed};
+pub use file_system::{FileFault, FileSystem, Reasons};
+pub use memory::{MemoryFile, MemoryFiles};
+pub use monitored::Monitored;

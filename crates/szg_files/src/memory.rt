@@ -1,0 +1,57 @@
+//! Files in memory.
+ghost use Rattle.std.specs.Prelude.{◌≡◌, option_map};
+ghost use Rattle.szg_files.specs.Memory.{found};
+
+use crate::file_system::{FileFault, FileSystem, Reasons};
+use std::io::{Error, ErrorKind};
+use szg_io::Bytes;
+
+/// A path, and the bytes of its file.
+#[derive(Clone, Copy)]
+pub struct MemoryFile<'a> {
+    pub path: &'a str,
+    pub bytes: &'a [u8],
+}
+
+/// Files in memory, each by its path. Of two with one path the first is found.
+#[derive(Drop)]
+pub struct MemoryFiles<'a> {
+    pub files: &'a [MemoryFile<'a>],
+    pub failures: u64,
+}
+
+impl Reasons for Bytes<'_> {
+    fn reason(&self) -> Option<Error> {
+        None
+    }
+}
+
+/// The first file with a path.
+fn first_of<'a>(files: &[MemoryFile<'a>], path: &str) -> Option<&'a [u8]>
+    ensures { option_map (λ bytes. bytes.now) result ≡ found files.now path.now }
+{
+    'files: for file in files {
+        if file.path == path {
+            return Some(file.bytes);
+        }
+    }
+    None
+}
+
+impl<'a> FileSystem for MemoryFiles<'a> {
+    type File = Bytes<'a>;
+
+    ghost content = { λ system. found system.files.now };
+
+    ghost failures = { λ system. system.failures };
+
+    fn open(&mut self, path: &str) -> Result<Bytes<'a>, FileFault> {
+        match first_of(self.files, path) {
+            Some(bytes) => Ok(Bytes::new(bytes)),
+            None => {
+                self.failures = self.failures.saturating_add(1);
+                Err(FileFault::System(Error::from(ErrorKind::NotFound)))
+            }
+        }
+    }
+}

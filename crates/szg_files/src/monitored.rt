@@ -1,0 +1,88 @@
+//! A reader or writer of std that remembers why it failed last, and which bytes were written through it.
+ghost use Rattle.std.specs.Prelude.{◌≡◌, [], None, Some};
+ghost use Rattle.szg_files.specs.Monitored.{inner_of, written_of};
+
+use std::io::{self, Error, Read, Write};
+use szg_io::Past;
+
+/// A reader or a writer of std, its last error, and, for proofs alone, the bytes that it took.
+#[derive(Drop)]
+pub struct Monitored<T> {
+    inner: T,
+    written: Past,
+    error: Option<Error>,
+}
+
+impl<T> Monitored<T> {
+    /// Wraps a reader or a writer before its first call.
+    pub fn new(inner: T) -> Monitored<T>
+        ensures inner { inner_of result ≡ inner }
+        ensures written { written_of result ≡ [] }
+    {
+        Monitored {
+            inner,
+            written: Past::new(),
+            error: None,
+        }
+    }
+
+    /// The error of the last call that failed, if any did.
+    pub fn error(&self) -> Option<Error> {
+        self.error
+    }
+
+    /// What it wraps.
+    pub fn inner(&self) -> &T
+        ensures { result.now ≡ inner_of self.now }
+    {
+        &self.inner
+    }
+
+    /// The bytes that it took, for proofs alone.
+    pub fn into_written(self) -> Past
+    where
+        T: Drop,
+        ensures { result.bytes ≡ written_of self }
+    {
+        self.written
+    }
+}
+
+impl<T: Read> Read for Monitored<T> {
+    ghost remaining = { λ s. T.remaining s.inner };
+
+    fn read(&mut self, buf: &mut [u8]) -> io::Result<usize> {
+        let answer = self.inner.read(buf);
+        if let Err(error) = answer {
+            self.error = Some(error);
+        }
+        answer
+    }
+}
+
+impl<T: Write> Write for Monitored<T> {
+    ghost contents = { λ s. Some s.written.bytes };
+
+    fn write(&mut self, buf: &[u8]) -> io::Result<usize> {
+        match self.inner.write(buf) {
+            Ok(count) => {
+                self.written = self.written.append(&buf, &count);
+                Ok(count)
+            }
+            Err(error) => {
+                self.error = Some(error);
+                Err(error)
+            }
+        }
+    }
+
+    fn flush(&mut self) -> io::Result<()> {
+        match self.inner.flush() {
+            Ok(()) => Ok(()),
+            Err(error) => {
+                self.error = Some(error);
+                Err(error)
+            }
+        }
+    }
+}

@@ -1,0 +1,2 @@
+mod Reporting
+pub mod Asking

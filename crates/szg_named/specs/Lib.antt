@@ -1,0 +1,4 @@
+pub mod Named
+pub mod Verdicts
+pub mod Lines
+pub mod Asked

@@ -1,0 +1,87 @@
+-- The lines of a report.
+use Rattle.std.specs.Prelude.{◌≡◌, ℕ, ◌+◌, ◌/◌, ◌%◌, ◌==◌, ◌||◌, nat_lt, Bool, true, false, if◌then◌else◌, List, [], ◌∷◌, ◌++◌, flat_map, codes, decimal}
+use Rattle.szg_values.specs.declared.NameFault.{NameFault}
+use Rattle.szg_values.specs.declared.NameFault.TheVariants as names
+use Rattle.szg_file.specs.declared.fault.Reason.{Reason}
+use Rattle.szg_file.specs.declared.fault.Reason.TheVariants as reasons
+use Rattle.szg_named.specs.declared.file_verdict.FileVerdict.{FileVerdict}
+use Rattle.szg_named.specs.declared.file_verdict.FileVerdict.TheVariants.{Whole, Ending, Name, At, Trailing, Unopened, Unread}
+use Rattle.szg_named.specs.declared.stop.Tally.{Tally}
+
+abbrev pub name_word : NameFault → List ℕ
+name_word names.Letter = codes "Letter"
+name_word names.King = codes "King"
+name_word names.Order = codes "Order"
+name_word names.Sides = codes "Sides"
+name_word names.Men = codes "Men"
+
+abbrev pub reason_word : Reason → List ℕ
+reason_word reasons.Truncated = codes "Truncated"
+reason_word reasons.Magic = codes "Magic"
+reason_word reasons.SplitBit = codes "SplitBit"
+reason_word reasons.PawnBit = codes "PawnBit"
+reason_word reasons.Pieces = codes "Pieces"
+reason_word reasons.PawnsFirst = codes "PawnsFirst"
+reason_word reasons.OrderPlace = codes "OrderPlace"
+reason_word reasons.BlockBits = codes "BlockBits"
+reason_word reasons.SpanBits = codes "SpanBits"
+reason_word reasons.CodeLengths = codes "CodeLengths"
+reason_word reasons.LowestOrder = codes "LowestOrder"
+reason_word reasons.TooFull = codes "TooFull"
+reason_word reasons.Child = codes "Child"
+reason_word reasons.Cycle = codes "Cycle"
+reason_word reasons.LongSymbol = codes "LongSymbol"
+reason_word reasons.ShortTotal = codes "ShortTotal"
+reason_word reasons.SparseEntry = codes "SparseEntry"
+reason_word reasons.Word = codes "Word"
+
+-- ---- paths
+
+abbrev pub hex_digit : ℕ → ℕ
+hex_digit n = if nat_lt n 10 then n + 48 else n + 87
+
+-- control characters and the backslash
+abbrev pub is_escaped : ℕ → Bool
+is_escaped byte = nat_lt byte 32 || (byte == 127 || byte == 92)
+
+-- a byte of a path, as `\x` and two digits if it is escaped
+abbrev pub escaped_byte : ℕ → List ℕ
+escaped_byte byte =
+    if is_escaped byte then 92 ∷ 120 ∷ hex_digit (byte / 16) ∷ hex_digit (byte % 16) ∷ [] else byte ∷ []
+
+abbrev pub escaped : List ℕ → List ℕ
+escaped path = flat_map escaped_byte path
+
+-- ---- lines
+
+-- a refusal of a name
+abbrev pub name_text : List ℕ → List ℕ
+name_text word = codes ": refused name: " ++ (word ++ 10 ∷ [])
+
+-- a refusal at an offset
+abbrev pub refused_text : ℕ → List ℕ → List ℕ
+refused_text offset word = codes ": refused at " ++ (decimal offset ++ (codes ": " ++ (word ++ 10 ∷ [])))
+
+-- a reason of the system
+abbrev pub IsReasonText : List ℕ → Type 0
+IsReasonText text = (reason : List ℕ) × (text ≡ codes ": " ++ (reason ++ 10 ∷ []))
+
+-- What the check of a file says, up to the end of its line.
+abbrev pub IsVerdictText : Bool → FileVerdict → List ℕ → Type 0
+IsVerdictText allow_trailing (Whole size) text = text ≡ codes ": ok " ++ (decimal size ++ 10 ∷ [])
+IsVerdictText allow_trailing Ending text = text ≡ name_text (codes "Ending")
+IsVerdictText allow_trailing (Name fault) text = text ≡ name_text (name_word fault)
+IsVerdictText allow_trailing (At offset reason) text = text ≡ refused_text offset (reason_word reason)
+IsVerdictText true (Trailing size) text = text ≡ codes ": ok " ++ (decimal size ++ codes ", more bytes follow\n")
+IsVerdictText false (Trailing size) text = text ≡ refused_text size (codes "Trailing")
+IsVerdictText allow_trailing (Unopened fault) text = IsReasonText text
+IsVerdictText allow_trailing (Unread error) text = IsReasonText text
+
+-- The line of a path and what its check says.
+abbrev pub IsLine : Bool → List ℕ → FileVerdict → List ℕ → Type 0
+IsLine allow_trailing path verdict line = (text : List ℕ) × IsVerdictText allow_trailing verdict text × (line ≡ escaped path ++ text)
+
+-- the last line: how many files there are, and how many of these are good, refused and unread
+abbrev pub summary_text : ℕ → Tally → List ℕ
+summary_text count tally = codes "files " ++ (decimal count ++ (codes ": ok " ++ (decimal tally.good ++ (codes ", refused "
+    ++ (decimal tally.refused ++ (codes ", unread " ++ (decimal tally.unread ++ 10 ∷ [])))))))

@@ -1,0 +1,18 @@
+//! Table files by path: the name and kind that a path says, and the check of one or many files.
+#![tactic(auto)]
+
+mod asked;
+mod file_verdict;
+mod lines;
+mod many;
+mod named;
+mod one;
+mod stop;
+
+pub use asked::files_asked;
+pub use file_verdict::FileVerdict;
+pub use lines::{error_text, fault_text, summary_line, verdict_line};
+pub use many::{CheckOptions, check_files};
+pub use named::{Naming, named_as, named_by};
+pub use one::check_path;
+pub use stop::{Stop, Tally};

@@ -1,0 +1,180 @@
+//! The lines of a report.
+ghost use Rattle.std.specs.Prelude.{◌≡◌, ◌++◌, ◌<◌, IfOk, OnOk, string_bytes};
+ghost use Rattle.szg_named.specs.Lines.{IsLine, IsVerdictText, escaped, escaped_byte, hex_digit, is_escaped, name_text, name_word, reason_word, refused_text, summary_text};
+
+use crate::file_verdict::FileVerdict;
+use crate::stop::Tally;
+use std::alloc::{AllocError, Global};
+use std::io::Error;
+use szg_file::Reason;
+use szg_files::FileFault;
+use szg_values::NameFault;
+
+/// Whether a byte of a path is escaped: control characters and the backslash are.
+fn is_escaped(byte: u8) -> bool
+    ensures { result ≡ is_escaped byte }
+{
+    byte < 32 || byte == 127 || byte == b'\\'
+}
+
+/// The hexadecimal digit of a number below 16.
+fn hex_digit(value: u8) -> u8
+    requires { value < 16 }
+    ensures { result ≡ hex_digit value }
+{
+    if value < 10 { value + 48 } else { value + 87 }
+}
+
+/// Appends a byte of a path, as `\x` and two digits if it is escaped.
+fn push_escaped(text: &mut Vec<u8>, byte: u8) -> Result<(), AllocError>
+    ensures { OnOk result (text.new.items ≡ text.old.items ++ escaped_byte byte) }
+{
+    if is_escaped(byte) {
+        text.push(b'\\')?;
+        text.push(b'x')?;
+        text.push(hex_digit(byte / 16))?;
+        Ok(text.push(hex_digit(byte % 16))?)
+    } else {
+        Ok(text.push(byte)?)
+    }
+}
+
+/// A path with its control characters and backslashes escaped, so that it stays within one line.
+fn escaped(alloc: Global, path: &str) -> Result<Vec<u8>, AllocError>
+    ensures { IfOk result (λ text. text.items ≡ escaped path.now) }
+{
+    let mut text = Vec::new(alloc);
+    'bytes: for byte in path.as_bytes() {
+        push_escaped(&mut text, *byte)?;
+    }
+    Ok(text)
+}
+
+/// The line of a file: its path, and what its check says.
+pub fn verdict_line(
+    alloc: Global,
+    path: &str,
+    verdict: &FileVerdict,
+    allow_trailing: bool,
+) -> Result<Vec<u8>, AllocError>
+    ensures { IfOk result (λ line. IsLine allow_trailing path.now verdict.now line.items) }
+{
+    let mut line = escaped(alloc, path)?;
+    let rest = verdict_text(alloc, verdict, allow_trailing)?;
+    line.extend_from_slice(rest.as_bytes())?;
+    Ok(line)
+}
+
+/// What a file's check says, up to the end of its line.
+fn verdict_text(
+    alloc: Global,
+    verdict: &FileVerdict,
+    allow_trailing: bool,
+) -> Result<String, AllocError>
+    ensures { IfOk result (λ text. IsVerdictText allow_trailing verdict.now (string_bytes text)) }
+{
+    match verdict {
+        FileVerdict::Whole(size) => format!(in alloc; ": ok {size}\n"),
+        FileVerdict::Trailing(size) if allow_trailing => {
+            format!(in alloc; ": ok {size}, more bytes follow\n")
+        }
+        FileVerdict::Ending => name_text(alloc, "Ending"),
+        FileVerdict::Name(fault) => name_text(alloc, name_word(*fault)),
+        FileVerdict::At(offset, reason) => refused_text(alloc, *offset, reason_word(*reason)),
+        FileVerdict::Trailing(size) => refused_text(alloc, *size, "Trailing"),
+        FileVerdict::Unopened(fault) => {
+            let reason = fault_text(alloc, fault)?;
+            format!(in alloc; ": {reason}\n")
+        }
+        FileVerdict::Unread(error) => {
+            let reason = error_text(alloc, error)?;
+            format!(in alloc; ": {reason}\n")
+        }
+    }
+}
+
+/// A refusal of a name.
+fn name_text(alloc: Global, word: &str) -> Result<String, AllocError>
+    ensures { IfOk result (λ text. string_bytes text ≡ name_text word.now) }
+{
+    format!(in alloc; ": refused name: {word}\n")
+}
+
+/// A refusal at an offset.
+fn refused_text(alloc: Global, offset: u64, word: &str) -> Result<String, AllocError>
+    ensures { IfOk result (λ text. string_bytes text ≡ refused_text offset word.now) }
+{
+    format!(in alloc; ": refused at {offset}: {word}\n")
+}
+
+/// The summary of `count` files.
+pub fn summary_line(alloc: Global, count: usize, tally: &Tally) -> Result<String, AllocError>
+    ensures { IfOk result (λ line. string_bytes line ≡ summary_text count tally.now) }
+{
+    let Tally {
+        good,
+        refused,
+        unread,
+    } = *tally;
+    format!(in alloc; "files {count}: ok {good}, refused {refused}, unread {unread}\n")
+}
+
+/// Why a file isn't opened.
+pub fn fault_text(alloc: Global, fault: &FileFault) -> Result<String, AllocError> {
+    match fault {
+        FileFault::NotRegular => String::from_str(alloc, "not a regular file"),
+        FileFault::System(error) => error_text(alloc, &Some(*error)),
+        FileFault::Memory => String::from_str(alloc, "out of memory"),
+    }
+}
+
+/// The system's reason, without its number.
+pub fn error_text(alloc: Global, error: &Option<Error>) -> Result<String, AllocError> {
+    let Some(error) = error else {
+        return String::from_str(alloc, "device fault");
+    };
+    let text = format!(in alloc; "{error}")?;
+    match text.rsplit_once(" (os error ") {
+        Some((reason, _)) => String::from_str(alloc, reason),
+        None => Ok(text),
+    }
+}
+
+/// Why a name is none.
+fn name_word(fault: NameFault) -> &'static str
+    ensures { result.now ≡ name_word fault }
+{
+    match fault {
+        NameFault::Letter => "Letter",
+        NameFault::King => "King",
+        NameFault::Order => "Order",
+        NameFault::Sides => "Sides",
+        NameFault::Men => "Men",
+    }
+}
+
+/// The check of a file that fails.
+fn reason_word(reason: Reason) -> &'static str
+    ensures { result.now ≡ reason_word reason }
+{
+    match reason {
+        Reason::Truncated => "Truncated",
+        Reason::Magic => "Magic",
+        Reason::SplitBit => "SplitBit",
+        Reason::PawnBit => "PawnBit",
+        Reason::Pieces => "Pieces",
+        Reason::PawnsFirst => "PawnsFirst",
+        Reason::OrderPlace => "OrderPlace",
+        Reason::BlockBits => "BlockBits",
+        Reason::SpanBits => "SpanBits",
+        Reason::CodeLengths => "CodeLengths",
+        Reason::LowestOrder => "LowestOrder",
+        Reason::TooFull => "TooFull",
+        Reason::Child => "Child",
+        Reason::Cycle => "Cycle",
+        Reason::LongSymbol => "LongSymbol",
+        Reason::ShortTotal => "ShortTotal",
+        Reason::SparseEntry => "SparseEntry",
+        Reason::Word => "Word",
+    }
+}

@@ -1,0 +1,67 @@
+//! The table's name and kind that a path says.
+ghost use Rattle.std.specs.Prelude.{◌≡◌, option_map};
+ghost use Rattle.szg_named.specs.Named.{kind_by, kind_of_ending, name_given, named_as, named_by};
+
+use std::path::Path;
+use szg_values::Kind;
+
+/// A name and a kind that are given beside a path: each takes the place of what the path says.
+#[derive(Clone, Copy)]
+pub struct Naming<'a> {
+    pub name: Option<&'a str>,
+    pub kind: Option<Kind>,
+}
+
+/// The kind of table that a file's ending names.
+fn kind_of(ending: &str) -> Option<Kind>
+    ensures { result ≡ kind_of_ending ending.now }
+{
+    match ending {
+        "rtbw" => Some(Kind::Wdl),
+        "rtbz" => Some(Kind::Dtz),
+        _ => None,
+    }
+}
+
+/// The table's name and kind that a path's file name says: `KQvK.rtbw` is the WDL table of `KQvK`. None if the ending
+/// is neither `rtbw` nor `rtbz`.
+pub fn named_by(path: &str) -> Option<(&str, Kind)>
+    ensures { option_map (λ named. (named.0.now, named.1)) result ≡ named_by path.now }
+{
+    let path = Path::new(path);
+    match (path.file_stem(), path.extension()) {
+        (Some(name), Some(ending)) => match kind_of(ending) {
+            Some(kind) => Some((name, kind)),
+            None => None,
+        },
+        _ => None,
+    }
+}
+
+/// The kind that a path's ending names.
+fn kind_by(path: &str) -> Option<Kind>
+    ensures { result ≡ kind_by path.now }
+{
+    match Path::new(path).extension() {
+        Some(ending) => kind_of(ending),
+        None => None,
+    }
+}
+
+/// The table's name and kind: those that are given, else those that the path says. None if one is missing.
+pub fn named_as<'a>(naming: Naming<'a>, path: &'a str) -> Option<(&'a str, Kind)>
+    ensures { option_map (λ named. (named.0.now, named.1)) result ≡ named_as (name_given naming.entry) naming.entry.kind path.now }
+{
+    let name = match naming.name {
+        Some(name) => Some(name),
+        None => Path::new(path).file_stem(),
+    };
+    let kind = match naming.kind {
+        Some(kind) => Some(kind),
+        None => kind_by(path),
+    };
+    match (name, kind) {
+        (Some(name), Some(kind)) => Some((name, kind)),
+        _ => None,
+    }
+}

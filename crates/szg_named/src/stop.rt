@@ -1,0 +1,69 @@
+//! How a command on files ends.
+use crate::file_verdict::FileVerdict;
+use std::alloc::{AllocError, AllocFailed};
+
+/// Why a command ends before its last file.
+#[derive(Clone, Copy)]
+pub enum Stop {
+    /// The output failed.
+    Device,
+    /// A growth was refused.
+    Memory,
+}
+
+/// How many files were good, refused, or not read.
+#[derive(Clone, Copy)]
+pub struct Tally {
+    pub good: u64,
+    pub refused: u64,
+    pub unread: u64,
+}
+
+impl Tally {
+    ghost use Rattle.std.specs.Prelude.{◌≡◌, ◌+◌, ◌^◌, ◌<◌};
+    ghost use Rattle.szg_named.specs.Verdicts.{good_of, refused_of, unread_of};
+
+    /// The tally with one file more.
+    pub fn with(self, verdict: &FileVerdict, allow_trailing: bool) -> Tally
+        requires good { self.good < 2 ^ 63 }
+        requires refused { self.refused < 2 ^ 63 }
+        requires unread { self.unread < 2 ^ 63 }
+        ensures good { result.good ≡ self.good + good_of allow_trailing verdict.now }
+        ensures refused { result.refused ≡ self.refused + refused_of allow_trailing verdict.now }
+        ensures unread { result.unread ≡ self.unread + unread_of verdict.now }
+    {
+        let mut tally = self;
+        match verdict {
+            FileVerdict::Whole(_) => tally.good += 1,
+            FileVerdict::Trailing(_) if allow_trailing => tally.good += 1,
+            FileVerdict::Unopened(_) | FileVerdict::Unread(_) => tally.unread += 1,
+            FileVerdict::Ending
+            | FileVerdict::Name(_)
+            | FileVerdict::At(..)
+            | FileVerdict::Trailing(_) => tally.refused += 1,
+        }
+        tally
+    }
+}
+
+impl From<AllocError> for Stop {
+    ghost use Rattle.std.specs.Prelude.{◌≡◌};
+    ghost use Rattle.szg_named.specs.declared.stop.Stop.TheVariants.{Memory};
+
+    ghost from_gives = { λ _ stop. stop ≡ Memory };
+
+    fn from(_failed: AllocError) -> Stop {
+        Stop::Memory
+    }
+}
+
+impl<T: Drop> From<AllocFailed<T>> for Stop {
+    ghost use Rattle.std.specs.Prelude.{◌≡◌};
+    ghost use Rattle.szg_named.specs.declared.stop.Stop.TheVariants.{Memory};
+
+    ghost from_gives = { λ _ stop. stop ≡ Memory };
+
+    fn from(_failed: AllocFailed<T>) -> Stop {
+        Stop::Memory
+    }
+}

@@ -1,0 +1,178 @@
+//! Command lines that name files.
+
+use crate::command_line::CommandForm;
+use crate::numbers::NumberFault;
+use crate::request::{
+    Task, conflict_error, kind_of, matches_of, missing_command, number_error, packing_in,
+    request_on, unused_by_plan, usage_error,
+};
+use clap::error::ErrorKind;
+use clap::{ArgMatches, Error};
+use std::alloc::{AllocError, Global};
+use szg_named::{CheckOptions, Naming, named_as, named_by};
+
+/// What a command line that names files asks for.
+#[derive(Drop)]
+pub enum FileJob<'a> {
+    /// The check of files.
+    Check {
+        options: CheckOptions<'a>,
+        paths: Vec<&'a str>,
+    },
+    /// A task on the file at `source`, else on standard input; its answer goes to the file at `target`, else to standard
+    /// output.
+    Run {
+        task: Task<'a>,
+        source: Option<&'a str>,
+        target: Option<&'a str>,
+    },
+}
+
+/// Why the words of a command that names files make no job.
+#[derive(Clone, Copy)]
+enum WordsFault<'a> {
+    /// A word is none of its argument's numbers.
+    Number(NumberFault<'a>),
+    /// The file's ending names no kind, and none is given.
+    Kind,
+    /// A growth was refused.
+    Memory,
+}
+
+impl<'a> From<NumberFault<'a>> for WordsFault<'a> {
+    fn from(fault: NumberFault<'a>) -> WordsFault<'a> {
+        WordsFault::Number(fault)
+    }
+}
+
+/// What is printed if no kind is known.
+const KIND_MISSING: &str =
+    "the file's ending is neither .rtbw nor .rtbz: give its kind by '--kind <KIND>'";
+
+/// Whether a word is an option that only commands on files have.
+fn is_file_option(word: &str) -> bool {
+    word.starts_with("-o")
+        || word.starts_with("--output")
+        || word.starts_with("--name")
+        || word.starts_with("--kind")
+        || word.starts_with("--allow-trailing")
+}
+
+/// Whether the option takes the next word as its value, in each form of `build`.
+fn takes_value(word: &str) -> bool {
+    matches!(word, "--plan" | "--block" | "--span" | "--rounds")
+}
+
+/// Whether the words of `build` name a file: an option of files, or a word that is neither an option nor its value.
+fn build_names_files(words: &[&str]) -> bool {
+    let mut is_value = false;
+    'words: for word in words {
+        if is_file_option(word) {
+            return true;
+        }
+        if !is_value && !word.starts_with('-') {
+            return true;
+        }
+        is_value = takes_value(word);
+    }
+    false
+}
+
+/// Whether a command line names files: a word that ends as a table's file does, an option that only files have, or a
+/// dump's file.
+pub fn names_files(words: &[&str]) -> bool {
+    if words.len() < 3 {
+        return false;
+    }
+    let rest = &words[2..];
+    if words[1] == "build" {
+        return build_names_files(rest);
+    }
+    'rest: for word in rest {
+        if named_by(word).is_some() || is_file_option(word) {
+            return true;
+        }
+    }
+    false
+}
+
+/// What the words of a command that names files ask for.
+pub fn parse_files<'a>(alloc: Global, words: &'a [&'a str]) -> Result<FileJob<'a>, Error> {
+    let form = CommandForm::Files;
+    let matches = matches_of(alloc, words, form)?;
+    let Some((command, chosen)) = matches.subcommand() else {
+        return Err(missing_command(alloc, form)?);
+    };
+    if let Some(argument) = unused_by_plan(chosen) {
+        return Err(conflict_error(alloc, command, form, argument)?);
+    }
+    match job_in(alloc, command, chosen) {
+        Ok(job) => Ok(job),
+        Err(WordsFault::Number(fault)) => Err(number_error(alloc, command, form, fault)?),
+        Err(WordsFault::Kind) => Err(usage_error(
+            alloc,
+            command,
+            form,
+            ErrorKind::MissingRequiredArgument,
+            KIND_MISSING,
+        )?),
+        Err(WordsFault::Memory) => Err(Error::from(AllocError)),
+    }
+}
+
+/// The name and the kind that are given.
+fn naming_in<'a>(chosen: &ArgMatches<'a>) -> Naming<'a> {
+    let kind = match chosen.get_str("kind") {
+        Some(word) => Some(kind_of(Some(word))),
+        None => None,
+    };
+    Naming {
+        name: chosen.get_str("name"),
+        kind,
+    }
+}
+
+/// The job that a command and its words make.
+fn job_in<'a>(
+    alloc: Global,
+    command: &str,
+    chosen: &ArgMatches<'a>,
+) -> Result<FileJob<'a>, WordsFault<'a>> {
+    match command {
+        "check" => check_in(alloc, chosen),
+        "build" => Ok(FileJob::Run {
+            task: Task::Build(packing_in(chosen)?),
+            source: chosen.get_str("DUMP"),
+            target: chosen.get_str("output"),
+        }),
+        _ => table_job_in(command, chosen),
+    }
+}
+
+/// The files that are to be checked.
+fn check_in<'a>(alloc: Global, chosen: &ArgMatches<'a>) -> Result<FileJob<'a>, WordsFault<'a>> {
+    let options = CheckOptions {
+        naming: naming_in(chosen),
+        allow_trailing: chosen.get_flag("allow-trailing"),
+    };
+    let mut paths = Vec::new(alloc);
+    'paths: for path in chosen.get_strs("FILE").unwrap_or(&[]) {
+        if paths.push(*path).is_err() {
+            return Err(WordsFault::Memory);
+        }
+    }
+    Ok(FileJob::Check { options, paths })
+}
+
+/// The request on the table at a path.
+fn table_job_in<'a>(command: &str, chosen: &ArgMatches<'a>) -> Result<FileJob<'a>, WordsFault<'a>> {
+    let path = chosen.get_str("FILE").unwrap_or("");
+    let Some((name, kind)) = named_as(naming_in(chosen), path) else {
+        return Err(WordsFault::Kind);
+    };
+    Ok(FileJob::Run {
+        task: Task::OnTable(request_on(command, chosen, name, kind)?),
+        source: Some(path),
+        target: chosen.get_str("output"),
+    })
+}

@@ -1,0 +1,302 @@
+//! Commands on files by their paths.
+ghost use Rattle.std.specs.Prelude.{◌≡◌, IfOk, IsErrOf, IfSome, map, option_map};
+ghost use Rattle.szg_files.specs.Draft.{draft_target, published_target, published_text, text_of};
+ghost use Rattle.szg_io.specs.Device.{HasFailed};
+ghost use Rattle.szg_io.specs.Moved.{Gives};
+ghost use Rattle.szg_named.specs.Asked.{files_asked};
+ghost use Rattle.szg_named.specs.Verdicts.{IsReport, plain_options};
+ghost use Rattle.szg_tool.specs.OnFiles.{AreChecked, EndsTask, EndsWell, HasDone, HasRefused, IsCarriedFrom, IsCarriedTo, IsPublishedBy, MeetsFrom};
+ghost use Rattle.szg_tool.specs.RefusalLines.{refusal_line};
+ghost use Rattle.szg_tool.specs.Requests.{Meets};
+ghost use Rattle.szg_tool.specs.declared.refusal.Refusal.{Refusal};
+
+use crate::commands::{carry_out, refuse, run, words_outcome};
+use crate::file_words::{FileJob, names_files, parse_files};
+use crate::outcome::Outcome;
+use crate::refusal::{Refusal, Stop};
+use crate::request::Task;
+use std::alloc::Global;
+use std::rt::Files;
+use szg_file::Ahead;
+use szg_files::{Draft, FileFault, FileSystem, Published, Reasons};
+use szg_io::{Input, Output};
+use szg_named::{CheckOptions, Tally, check_files, files_asked};
+
+/// A file that can't be opened, read or written, and why.
+#[derive(Clone, Copy)]
+pub struct FileFailure<'a> {
+    pub path: &'a str,
+    pub fault: FileFault,
+}
+
+/// Why a task that names files wasn't carried out.
+#[derive(Clone, Copy)]
+pub enum FileStop<'a> {
+    /// It is refused.
+    Refused(Refusal),
+    /// A file failed.
+    Failed(FileFailure<'a>),
+    /// Standard input or output failed.
+    Device,
+    /// A growth was refused.
+    Memory,
+}
+
+/// Carries a task out on `input`, and writes its answer to the file at `target`: whole, or not at all.
+fn carry_out_into<'a, I: Input, R: Files>(
+    alloc: Global,
+    task: &Task,
+    input: &mut I,
+    files: &'a R,
+    target: &'a str,
+) -> Result<Published<'a>, FileStop<'a>>
+    ensures told { IfOk result (λ published. IsPublishedBy I.Input task.now target.now input.old input.new published) }
+    ensures refused { (refusal : Refusal) → IsErrOf result (FileStop.Refused refusal) → Meets I.Input task.now input.old input.new refusal }
+{
+    let mut draft = match Draft::create(alloc, files, target) {
+        Ok(draft) => draft,
+        Err(fault) => return Err(failed(target, fault)),
+    };
+    match carry_out(alloc, task, input, &mut draft.file) {
+        Ok(()) => published(draft, target),
+        Err(Stop::Refused(refusal)) => {
+            draft.discard();
+            Err(FileStop::Refused(refusal))
+        }
+        Err(Stop::Memory) => {
+            draft.discard();
+            Err(FileStop::Memory)
+        }
+        Err(Stop::Device) => match draft.abandon() {
+            Some(fault) => Err(failed(target, fault)),
+            None => Err(FileStop::Device),
+        },
+    }
+}
+
+/// Why a file stops a task.
+fn failed(path: &str, fault: FileFault) -> FileStop<'_>
+    ensures { (refusal : Refusal) → (result ≡ FileStop.Refused refusal) → ⊥ }
+{
+    match fault {
+        FileFault::Memory => FileStop::Memory,
+        FileFault::NotRegular => FileStop::Failed(FileFailure {
+            path,
+            fault: FileFault::NotRegular,
+        }),
+        FileFault::System(error) => FileStop::Failed(FileFailure {
+            path,
+            fault: FileFault::System(error),
+        }),
+    }
+}
+
+/// Flushes a draft to the disk, and renames it over its target.
+fn published<'a, R: Files>(
+    draft: Draft<'a, R>,
+    target: &'a str,
+) -> Result<Published<'a>, FileStop<'a>>
+    ensures text { IfOk result (λ published. published_text published ≡ text_of draft.entry.file) }
+    ensures target { IfOk result (λ published. published_target published ≡ draft_target draft.entry) }
+    ensures refused { (refusal : Refusal) → IsErrOf result (FileStop.Refused refusal) → ⊥ }
+{
+    let sealed = match draft.seal() {
+        Ok(sealed) => sealed,
+        Err(fault) => return Err(failed(target, fault)),
+    };
+    match sealed.publish() {
+        Ok(published) => Ok(published),
+        Err(fault) => Err(failed(target, fault)),
+    }
+}
+
+/// Carries a task out on `input`; its answer goes to the file at `target`, else to `writer`. Where it is refused nothing
+/// was written.
+fn carry_out_to<'a, I: Input, R: Files, W: Output>(
+    alloc: Global,
+    task: &Task,
+    input: &mut I,
+    files: &'a R,
+    target: Option<&'a str>,
+    writer: &mut W,
+) -> Result<Option<Published<'a>>, FileStop<'a>>
+    ensures told { IfOk result (λ published. IsCarriedTo I.Input W.Output task.now (option_map (λ path. path.now) target.entry) input.old input.new writer.old writer.new published) }
+    ensures refused { (refusal : Refusal) → IsErrOf result (FileStop.Refused refusal) → (writer.new ≡ writer.old) × Meets I.Input task.now input.old input.new refusal }
+{
+    match target {
+        Some(target) => match carry_out_into(alloc, task, input, files, target) {
+            Ok(published) => Ok(Some(published)),
+            Err(stop) => Err(stop),
+        },
+        None => match carry_out(alloc, task, input, writer) {
+            Ok(()) => Ok(None),
+            Err(Stop::Refused(refusal)) => Err(FileStop::Refused(refusal)),
+            Err(Stop::Device) => Err(FileStop::Device),
+            Err(Stop::Memory) => Err(FileStop::Memory),
+        },
+    }
+}
+
+/// Carries a task out on the file at `source`; its answer goes to the file at `target`, else to `writer`. Where it is
+/// refused nothing was written.
+fn carry_out_from<'a, S: FileSystem, R: Files, W: Output>(
+    alloc: Global,
+    task: &Task,
+    source: &'a str,
+    target: Option<&'a str>,
+    system: &mut S,
+    files: &'a R,
+    writer: &mut W,
+) -> Result<Option<Published<'a>>, FileStop<'a>>
+    ensures told { IfOk result (λ published. IsCarriedFrom S.content S.failures S.File.Input W.Output task.now source.now (option_map (λ path. path.now) target.entry) system.old system.new writer.old writer.new published) }
+    ensures refused { (refusal : Refusal) → IsErrOf result (FileStop.Refused refusal) → (writer.new ≡ writer.old)
+        × MeetsFrom S.content S.failures S.File.Input task.now source.now system.old system.new refusal }
+{
+    let mut file = match system.open(source) {
+        Ok(file) => file,
+        Err(fault) => return Err(failed(source, fault)),
+    };
+    match carry_out_to(alloc, task, &mut file, files, target, writer) {
+        Ok(published) => Ok(published),
+        Err(FileStop::Device) => match file.reason() {
+            Some(error) => Err(failed(source, FileFault::System(error))),
+            None => Err(FileStop::Device),
+        },
+        Err(FileStop::Refused(refusal)) => Err(FileStop::Refused(refusal)),
+        Err(FileStop::Failed(failure)) => Err(FileStop::Failed(failure)),
+        Err(FileStop::Memory) => Err(FileStop::Memory),
+    }
+}
+
+/// How a command line ended.
+#[derive(Drop)]
+pub enum Ending<'a> {
+    /// Files were checked, up to a fault of the output or of memory.
+    Checked(Result<Tally, szg_named::Stop>),
+    /// A task was carried out that names files: the file that was written, if one was asked for.
+    Done(Option<Published<'a>>),
+    /// It was refused: the refusal's line was written.
+    Refused,
+    /// A file failed.
+    Failed(FileFailure<'a>),
+    /// Standard input or output failed.
+    Device,
+    /// A growth was refused.
+    Memory,
+    /// The command line is one on the standard streams, or its words make no command.
+    Words(Outcome),
+}
+
+/// Writes why a task that names files is refused.
+fn refused<'a, W: Output>(alloc: Global, refusal: Refusal, writer: &mut W) -> Ending<'a>
+    ensures { EndsTask result (λ published. ⊥) (Gives W.Output writer.old writer.new (refusal_line refusal) 0) }
+{
+    match refuse(alloc, refusal, writer) {
+        Outcome::Refused => Ending::Refused,
+        Outcome::Memory => Ending::Memory,
+        _ => Ending::Device,
+    }
+}
+
+/// Runs a task on the file at `source`.
+fn run_from<'a, S: FileSystem, D: Files, W: Output>(
+    alloc: Global,
+    task: &Task,
+    source: &'a str,
+    target: Option<&'a str>,
+    system: &mut S,
+    files: &'a D,
+    writer: &mut W,
+) -> Ending<'a>
+    ensures { EndsTask result (λ published. IsCarriedFrom S.content S.failures S.File.Input W.Output task.now source.now (option_map (λ path. path.now) target.entry) system.old system.new writer.old writer.new published)
+        ((refusal : Refusal) × MeetsFrom S.content S.failures S.File.Input task.now source.now system.old system.new refusal × Gives W.Output writer.old writer.new (refusal_line refusal) 0) }
+{
+    match carry_out_from(alloc, task, source, target, system, files, writer) {
+        Ok(published) => Ending::Done(published),
+        Err(FileStop::Refused(refusal)) => refused(alloc, refusal, writer),
+        Err(FileStop::Failed(failure)) => Ending::Failed(failure),
+        Err(FileStop::Device) => Ending::Device,
+        Err(FileStop::Memory) => Ending::Memory,
+    }
+}
+
+/// Runs a task on the reader.
+fn run_to<'a, R: Input, D: Files, W: Output>(
+    alloc: Global,
+    task: &Task,
+    target: Option<&'a str>,
+    files: &'a D,
+    reader: &mut R,
+    writer: &mut W,
+) -> Ending<'a>
+    ensures { EndsTask result (λ published. IsCarriedTo R.Input W.Output task.now (option_map (λ path. path.now) target.entry) reader.old reader.new writer.old writer.new published)
+        ((refusal : Refusal) × Meets R.Input task.now reader.old reader.new refusal × Gives W.Output writer.old writer.new (refusal_line refusal) 0) }
+{
+    match carry_out_to(alloc, task, reader, files, target, writer) {
+        Ok(published) => Ending::Done(published),
+        Err(FileStop::Refused(refusal)) => refused(alloc, refusal, writer),
+        Err(FileStop::Failed(failure)) => Ending::Failed(failure),
+        Err(FileStop::Device) => Ending::Device,
+        Err(FileStop::Memory) => Ending::Memory,
+    }
+}
+
+/// Runs a task on the file at `source`, else on the reader.
+fn run_task<'a, R: Input, W: Output, S: FileSystem, D: Files>(
+    alloc: Global,
+    task: &Task,
+    source: Option<&'a str>,
+    target: Option<&'a str>,
+    system: &mut S,
+    files: &'a D,
+    reader: &mut R,
+    writer: &mut W,
+) -> Ending<'a>
+    ensures { EndsTask result (HasDone S.content S.failures S.File.Input R.Input W.Output system.old system.new reader.old reader.new writer.old writer.new)
+        (HasRefused S.content S.failures S.File.Input R.Input W.Output system.old system.new reader.old reader.new writer.old writer.new) }
+{
+    match source {
+        Some(source) => run_from(alloc, task, source, target, system, files, writer),
+        None => run_to(alloc, task, target, files, reader, writer),
+    }
+}
+
+/// Runs a command line: on the files of a system where it names these, else on the reader.
+#[tactic(auto, using(crate::proofs::Endings::ends_well))]
+pub fn run_words<'a, R: Input, W: Output, S: FileSystem, D: Files>(
+    alloc: Global,
+    words: &'a [&'a str],
+    system: &mut S,
+    files: &'a D,
+    reader: &mut R,
+    writer: &mut W,
+) -> Ending<'a>
+where
+    S::File: Ahead,
+    // It asks to check files and gives no options: they were checked in their order, just their lines and the summary
+    // were written, and the reader stays.
+    ensures files { IfSome (files_asked (map (λ word. word.now) words.now)) (λ paths. (reader.new ≡ reader.old)
+        × AreChecked result (IsReport S.content S.failures S.File.Input W.Output plain_options paths system.old system.new writer.old writer.new) (HasFailed (W.failures writer.old) (W.failures writer.new) (W.interrupted writer.new))) }
+    // Whatever the words: what was done is what the ending says.
+    ensures ending { EndsWell S.content S.failures S.File.Input R.Input W.Output result system.old system.new reader.old reader.new writer.old writer.new }
+{
+    if let Some(paths) = files_asked(words) {
+        return Ending::Checked(check_files(alloc, system, CheckOptions::plain(), paths, writer));
+    }
+    if !names_files(words) {
+        return Ending::Words(run(alloc, words, reader, writer));
+    }
+    match parse_files(alloc, words) {
+        Ok(FileJob::Check { options, paths }) => {
+            Ending::Checked(check_files(alloc, system, options, &paths, writer))
+        }
+        Ok(
+            FileJob::Run {
+                task,
+                source,
+                target,
+            },
+        ) => run_task(alloc, &task, source, target, system, files, reader, writer),
+        Err(error) => Ending::Words(words_outcome(error)),
+    }
+}
