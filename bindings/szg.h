@@ -24,8 +24,14 @@
 extern "C" {
 #endif
 
+/* The version of this header. A library with the same major number serves a program compiled with it. */
+#define SZG_VERSION_MAJOR 0
+#define SZG_VERSION_MINOR 1
+#define SZG_VERSION_PATCH 0
+#define SZG_VERSION "0.1.0"
+
 enum szg_status {
-    SZG_DONE = 0,
+    SZG_DONE = 0,    /* the call was carried out */
     SZG_NAME = 1,    /* the name is no material's */
     SZG_REFUSED = 2, /* the bytes are no table's: answer->place and answer->reason tell the first check that fails */
     SZG_MEMORY = 3,  /* a growth was refused */

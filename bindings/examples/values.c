@@ -1,14 +1,14 @@
-/* Prints what a table tells of a placement: values FILE NAME wdl|dtz w|b MAN..,
+/* Prints what a table stores for a placement: values FILE NAME wdl|dtz w|b MAN..,
  * as values KQvK.rtbw KQvK wdl w Ke8 Qa1 kh1
- * A WDL table tells the class (2, 1, 0, -1, -2), a DTZ table the number of a win. The status is that of the call that
- * refuses, 64 for a fault of words, 66 where the file can't be read. */
+ * For a WDL table it is the class (2, 1, 0, -1, -2), for a DTZ table the number of a win. The status is that of the call that
+ * refuses, 64 for a fault of words, 66 where the file cannot be read. */
 #include "szg.h"
 #include <ctype.h>
 #include <stdio.h>
 #include <stdlib.h>
 #include <string.h>
 
-/* A file's bytes; NULL where it can't be read. */
+/* A file's bytes; NULL where it cannot be read. */
 static uint8_t *read_file(const char *path, size_t *length) {
     FILE *file = fopen(path, "rb");
     if (!file) return NULL;

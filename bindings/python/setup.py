@@ -1,0 +1,55 @@
+"""Puts the shared library into the wheel, beside the modules.
+
+The library is that of SZG_LIBRARY, a path, where it is set; else the one that tools/link_library of this repository
+links. Nothing is downloaded.
+"""
+import os
+import shutil
+import subprocess
+import tempfile
+from pathlib import Path
+from typing import Tuple
+
+from setuptools import Distribution, setup
+from setuptools.command.build_py import build_py
+from wheel.bdist_wheel import bdist_wheel
+
+LINK = Path(__file__).resolve().parents[2] / "tools/link_library"
+
+
+class BuildWithLibrary(build_py):
+    """Builds the modules and adds the library."""
+
+    def run(self) -> None:
+        super().run()
+        if self.editable_mode:
+            return
+        target = Path(self.build_lib) / "szg/libszg.so"
+        given = os.environ.get("SZG_LIBRARY")
+        if given:
+            shutil.copyfile(given, target)
+            return
+        if not LINK.exists():
+            raise SystemExit("szg: set SZG_LIBRARY to the path of libszg.so, or build in a clone of the repository")
+        with tempfile.TemporaryDirectory() as folder:
+            subprocess.run([str(LINK), folder], check=True)
+            shutil.copyfile(Path(folder) / "libszg.so", target)
+
+
+class WheelOfPlatform(bdist_wheel):
+    """A wheel for any Python 3 on this platform: ctypes loads the library."""
+
+    def finalize_options(self) -> None:
+        super().finalize_options()
+        self.root_is_pure = False
+
+    def get_tag(self) -> Tuple[str, str, str]:
+        return "py3", "none", super().get_tag()[2]
+
+
+class WithLibrary(Distribution):
+    def has_ext_modules(self) -> bool:
+        return True
+
+
+setup(cmdclass={"build_py": BuildWithLibrary, "bdist_wheel": WheelOfPlatform}, distclass=WithLibrary)

@@ -1,0 +1,25 @@
+"""Syzygy tables, read with proof: a folder of tables in python-chess's words, and single tables.
+
+    import szg
+    with szg.open_tablebase("tables") as tables:
+        tables.probe_wdl_table(board)                      # a board of python-chess
+        tables.probe_wdl_table("4k3/8/8/8/8/8/8/Q3K3 w")   # or a FEN
+
+    with szg.Table.open("tables/KQvK.rtbw") as table:
+        table.probe_wdl([(szg.KING, szg.WHITE, 60), (szg.QUEEN, szg.WHITE, 0), (szg.KING, szg.BLACK, 7)], szg.WHITE)
+        table.values()                                     # all values, as numpy.asarray takes them
+
+From any bytes you get either the table that they begin with, or Refused with the first check that fails and its byte.
+The checks are not made here: the C library makes them. It is that of SZG_LIBRARY, a path, where it is set, else the one
+in this package, else the system's.
+"""
+from ._errors import Changed, MissingTableError, Refused, Untold
+from ._placement import BISHOP, BLACK, KING, KNIGHT, PAWN, QUEEN, ROOK, WHITE, Board, Placement
+from ._table import Spot, Table
+from ._tablebase import Tablebase, open_tablebase
+from ._version import __version__
+
+__all__ = [
+    "BISHOP", "BLACK", "Board", "Changed", "KING", "KNIGHT", "MissingTableError", "PAWN", "Placement", "QUEEN", "ROOK",
+    "Refused", "Spot", "Table", "Tablebase", "Untold", "WHITE", "__version__", "open_tablebase",
+]

@@ -1,0 +1,204 @@
+"""The C library: its calls, its statuses and what lends it memory. szg.h documents each call."""
+import ctypes
+import os
+import threading
+from ctypes import POINTER, byref, c_bool, c_char_p, c_int8, c_int64, c_size_t, c_uint8, c_uint16, c_uint32, c_uint64, c_void_p
+from pathlib import Path
+from typing import Any, Callable, List, NoReturn, Optional
+
+from ._errors import Changed, Refused, Untold
+
+REASONS = (
+    "Truncated", "Magic", "SplitBit", "PawnBit", "Pieces", "PawnsFirst", "OrderPlace", "BlockBits", "SpanBits",
+    "CodeLengths", "LowestOrder", "TooFull", "Child", "Cycle", "LongSymbol", "ShortTotal", "SparseEntry", "Word",
+)
+DONE, NAME, REFUSED, MEMORY, RANGE, CLOSED = range(6)
+UNTOLD = dict(enumerate((
+    "Man", "Men", "SameSquare", "PawnRank", "OtherMaterial", "Irregular", "KingsTouch", "WrongSide", "NoClass", "Draw",
+    "OutsideMap",
+), 6))
+CHANGED = 17
+
+
+class Answer(ctypes.Structure):
+    _fields_ = [("place", c_uint64), ("reason", c_uint32)]
+
+
+class Handle(ctypes.Structure):
+    _fields_ = [("held", c_void_p)]
+
+
+class Wanted(ctypes.Structure):
+    _fields_ = [("place", c_uint64), ("count", c_uint64)]
+
+
+class CodedMan(ctypes.Structure):
+    _fields_ = [("kind", c_uint8), ("color", c_uint8), ("square", c_uint8)]
+
+
+class FoundSpot(ctypes.Structure):
+    _fields_ = [("part", c_uint8), ("side", c_uint8), ("index", c_uint64)]
+
+
+def _signatures() -> "dict[str, list[Any]]":
+    handle, subtable = POINTER(Handle), [c_uint8, c_uint8]
+    file = [c_char_p, c_size_t, c_bool, c_void_p, c_size_t]
+    return {
+        "szg_check": [*file, POINTER(Answer)],
+        "szg_open": [*file, handle, POINTER(Answer)],
+        "szg_share": [handle, handle],
+        "szg_positions": [handle, *subtable, POINTER(c_uint64)],
+        "szg_get": [handle, *subtable, c_uint64, POINTER(c_uint16)],
+        "szg_all": [handle, *subtable, POINTER(c_uint16), c_size_t],
+        "szg_number": [handle, c_uint8, c_int8, c_uint16, POINTER(c_uint32)],
+        "szg_index": [handle, POINTER(CodedMan), c_size_t, c_uint8, POINTER(FoundSpot)],
+        "szg_probe": [handle, POINTER(CodedMan), c_size_t, c_uint8, c_int8, POINTER(c_int64)],
+        "szg_close": [handle],
+        "szg_open_heads": [*file, handle, POINTER(Answer)],
+        "szg_share_heads": [handle, handle],
+        "szg_find": [handle, *subtable, c_uint64, POINTER(Wanted)],
+        "szg_value": [handle, *subtable, c_uint64, c_void_p, c_size_t, POINTER(c_uint16)],
+        "szg_close_heads": [handle],
+    }
+
+
+def _load() -> ctypes.CDLL:
+    """The library of SZG_LIBRARY where it is set, else the one beside this file, else the system's."""
+    beside = Path(__file__).resolve().parent / "libszg.so"
+    library = ctypes.CDLL(os.environ.get("SZG_LIBRARY") or (str(beside) if beside.exists() else "libszg.so.0"))
+    for name, arguments in _signatures().items():
+        call = getattr(library, name)
+        call.argtypes, call.restype = arguments, None if name.startswith("szg_close") else c_uint32
+    return library
+
+
+library = _load()
+
+
+class _PyBuffer(ctypes.Structure):
+    """Python's Py_buffer."""
+
+    _fields_ = [
+        ("buf", c_void_p), ("obj", ctypes.py_object), ("len", ctypes.c_ssize_t), ("itemsize", ctypes.c_ssize_t),
+        ("readonly", ctypes.c_int), ("ndim", ctypes.c_int), ("format", c_char_p), ("shape", c_void_p),
+        ("strides", c_void_p), ("suboffsets", c_void_p), ("internal", c_void_p),
+    ]
+
+
+class Lent:
+    """The memory of a bytes-like object, lent to the library without a copy until this object goes.
+
+    Errors: TypeError if it is not bytes-like or not contiguous."""
+
+    address: int
+    length: int
+
+    def __init__(self, data: Any) -> None:
+        self._view = _PyBuffer()
+        self._is_held = False
+        try:
+            ctypes.pythonapi.PyObject_GetBuffer(ctypes.py_object(data), byref(self._view), 0)
+        except (TypeError, BufferError):
+            raise TypeError(f"data must be a contiguous bytes-like object, not {type(data).__name__}") from None
+        self._is_held = True
+        # a pointer to no bytes is still one
+        self._none = ctypes.create_string_buffer(1)
+        self.length = int(self._view.len)
+        self.address = int(self._view.buf or ctypes.addressof(self._none))
+
+    def __del__(self) -> None:
+        if self._is_held:
+            self._is_held = False
+            ctypes.pythonapi.PyBuffer_Release(byref(self._view))
+
+
+def judge(status: int) -> None:
+    """Raises what a status means; nothing for DONE."""
+    if status != DONE:
+        _raise(status)
+
+
+def _raise(status: int) -> NoReturn:
+    if status in UNTOLD:
+        raise Untold(UNTOLD[status])
+    if status == RANGE:
+        raise IndexError("the table has no such part, side or index")
+    if status == CLOSED:
+        raise ValueError("the table is closed")
+    if status == CHANGED:
+        raise Changed("the table's file was changed")
+    if status == MEMORY:
+        raise MemoryError("no memory for the table")
+    raise RuntimeError(f"the library returned the status {status}")
+
+
+def _judge_file(status: int, name: str, answer: Answer) -> None:
+    if status == REFUSED:
+        raise Refused(answer.place, REASONS[answer.reason - 1])
+    if status == NAME:
+        raise ValueError(f"{name!r} is no material's name")
+    judge(status)
+
+
+def check(name: str, kind: str, lent: Lent) -> int:
+    """The number of bytes of the table that the bytes begin with. Errors: Refused, ValueError, MemoryError."""
+    text, answer = name.encode(errors="replace"), Answer()
+    status = library.szg_check(text, len(text), kind == "dtz", lent.address, lent.length, byref(answer))
+    _judge_file(status, name, answer)
+    return int(answer.place)
+
+
+class Handles:
+    """Handles on one opened table. A handle serves one call at a time, so each call takes one that is idle.
+
+    Any number of threads call; there are as many handles as calls at once. The first handle is shared only."""
+
+    def __init__(self, suffix: str, name: str, kind: str, lent: Lent) -> None:
+        self._share: Callable[..., int] = getattr(library, "szg_share" + suffix)
+        self._close: Callable[..., None] = getattr(library, "szg_close" + suffix)
+        self._lock = threading.Lock()
+        self._idle: List[Handle] = []
+        self._first: Optional[Handle] = None
+        opened, answer, text = Handle(), Answer(), name.encode(errors="replace")
+        open_table = getattr(library, "szg_open" + suffix)
+        _judge_file(
+            open_table(text, len(text), kind == "dtz", lent.address, lent.length, byref(opened), byref(answer)), name, answer)
+        self._first = opened
+
+    def __call__(self, call: Callable[..., int], *words: Any) -> None:
+        """Calls the library with an idle handle and these arguments. Errors: those of the status."""
+        handle = self._take()
+        try:
+            status = call(byref(handle), *words)
+        finally:
+            self._put(handle)
+        judge(status)
+
+    def _take(self) -> Handle:
+        with self._lock:
+            if self._first is None:
+                raise ValueError("the table is closed")
+            if self._idle:
+                return self._idle.pop()
+            made = Handle()
+            judge(self._share(byref(self._first), byref(made)))
+            return made
+
+    def _put(self, handle: Handle) -> None:
+        with self._lock:
+            if self._first is not None:
+                self._idle.append(handle)
+                return
+        self._close(byref(handle))
+
+    def close(self) -> None:
+        """Closes all handles; one that serves a call is closed after it."""
+        with self._lock:
+            first, self._first = self._first, None
+            idle, self._idle = self._idle, []
+        for handle in idle + ([first] if first is not None else []):
+            self._close(byref(handle))
+
+    def __del__(self) -> None:
+        if getattr(self, "_first", None) is not None:
+            self.close()

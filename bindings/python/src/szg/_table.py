@@ -1,0 +1,203 @@
+"""One table."""
+import mmap
+import os
+from pathlib import Path
+from types import TracebackType
+from typing import Any, NamedTuple, Optional, Type, Union
+
+from ._library import Lent
+from ._opened import Opened
+from ._placement import Men, Placement, integer, men_of
+
+KINDS = {".rtbw": "wdl", ".rtbz": "dtz"}
+
+
+class Spot(NamedTuple):
+    """Where a table stores a placement: `Table.get(spot.index, spot.part, spot.side)` is its value."""
+
+    part: int
+    side: int
+    index: int  # type: ignore[assignment]  # a tuple's own `index` is not needed
+
+
+class Table:
+    """One Syzygy table: WDL (`.rtbw`) or DTZ (`.rtbz`), for one material of three to six men.
+
+    Any number of threads use one Table at once. After `close`, or the end of a `with` block, each call raises ValueError.
+
+    A table has parts and sides. With pawns the parts 0 to 3 are for the files a to d of the leading pawn; without pawns
+    there is part 0. In a WDL table side 0 is where the first side of the name moves, side 1 where the second does;
+    symmetric and DTZ tables have side 0 alone.
+
+    Where a call takes a placement, it is one of: a board of python-chess, or anything with its `piece_map()` and `turn`;
+    a FEN, whole or its piece placement alone; men as tuples (kind, colour, square), numbered as in python-chess. `turn`
+    (True if White moves) must be given where the placement does not say who moves, and comes first where it does.
+    Castling, en passant, captures and checks are not looked at.
+    """
+
+    name: str
+    """The material, as KQvKR."""
+    kind: str
+    """`wdl` or `dtz`."""
+
+    def __init__(self, name: str, kind: str, data: Any) -> None:
+        """Opens the table that bytes begin with, and checks all of it.
+
+        `data` is bytes-like and contiguous. The Table refers to it until it is closed; it must not change meanwhile.
+
+        Errors: Refused if the bytes are not a table of this name and kind; ValueError for another name or kind; TypeError;
+        MemoryError."""
+        self._open(name, kind, Lent(data), is_mapped=False)
+
+    @classmethod
+    def open(cls, path: Union[str, "os.PathLike[str]"]) -> "Table":
+        """Opens the table of a file and checks all of it. The file's name has its material and kind, as KQvKR.rtbw.
+
+        The file is mapped and must stay as it is while the Table is open. If it is changed, a value may be another one or
+        raise Changed; if it is truncated, the system may end the program. `get` reads the mapped file; the first call of
+        another kind brings the table into memory.
+
+        Errors: Refused if the file is not such a table, an empty one too; ValueError for another file name; OSError;
+        MemoryError."""
+        name, kind = named(path)
+        table = cls.__new__(cls)
+        table._open(name, kind, mapped(path), is_mapped=True)
+        return table
+
+    @classmethod
+    def _in_memory(cls, name: str, kind: str, lent: Lent) -> "Table":
+        """A table that is to be probed: it is brought into memory, and checked, once."""
+        table = cls.__new__(cls)
+        table._open(name, kind, lent, is_mapped=False)
+        return table
+
+    def _open(self, name: str, kind: str, lent: Lent, is_mapped: bool) -> None:
+        if not isinstance(name, str):
+            raise TypeError(f"name must be a str, not {type(name).__name__}")
+        if kind not in KINDS.values():
+            raise ValueError(f"kind must be 'wdl' or 'dtz', not {kind!r}")
+        self.name, self.kind = name, kind
+        self._opened = Opened(name, kind, lent, is_mapped)
+
+    def size(self, part: int = 0, side: int = 0) -> int:
+        """The number of positions of a part's side. Errors: IndexError if the table has no such part or side."""
+        return self._opened.size(_byte(part, "part"), _byte(side, "side"))
+
+    def get(self, index: int, part: int = 0, side: int = 0) -> int:
+        """The stored value at an index: in WDL the class plus 2; in DTZ a value that `number` decodes.
+
+        Errors: IndexError if the table has no such part, side or index; Changed."""
+        index = integer(index, "index")
+        if not 0 <= index < 1 << 64:
+            raise IndexError(f"the table has no index {index}")
+        return self._opened.get(_byte(part, "part"), _byte(side, "side"), index)
+
+    def values(self, part: int = 0, side: int = 0) -> memoryview:
+        """All stored values of a part's side, in the order of their indexes.
+
+        The memoryview has one dimension, `size(part, side)` items and the format H (16 bits, unsigned);
+        `numpy.asarray` takes it without a copy. It stays valid after `close`.
+
+        Errors: IndexError if the table has no such part or side; MemoryError."""
+        return self._opened.values(_byte(part, "part"), _byte(side, "side"))
+
+    def number(self, value: int, *, wdl: int, part: int = 0) -> int:
+        """The DTZ in plies, without sign, of a stored value of a DTZ table in a class.
+
+        `wdl` is the class of the side to move: 2 win, 1 cursed win, -1 blessed loss, -2 loss.
+
+        Errors: Untold `Draw` for the class 0, `OutsideMap` if the table's map has no such value; IndexError if there is
+        no such part or value; ValueError for a WDL table or another class."""
+        value = integer(value, "value")
+        if not 0 <= value < 1 << 16:
+            raise IndexError(f"the table has no value {value}")
+        self._require("dtz")
+        return self._opened.number(_byte(part, "part"), _class(wdl), value)
+
+    def index(self, board: Placement, turn: Optional[bool] = None) -> Spot:
+        """Where the table stores a placement. Errors: Untold if it has no index; TypeError; ValueError for a bad FEN."""
+        return Spot(*self._opened.index(men_of(board, turn)))
+
+    def probe_wdl(self, board: Placement, turn: Optional[bool] = None) -> int:
+        """The class of a placement for the side to move: 2 win, 1 cursed win, 0 draw, -1 blessed loss, -2 loss.
+
+        It is what python-chess's `probe_wdl_table` returns, not `probe_wdl`: where the best move is a capture, the stored
+        class may be lower than the position's.
+
+        Errors: Untold if the table has no class for it; ValueError for a DTZ table or a bad FEN; TypeError."""
+        self._require("wdl")
+        return self._probe(men_of(board, turn), 0)
+
+    def probe_dtz(self, board: Placement, turn: Optional[bool] = None, *, wdl: int) -> int:
+        """The distance to zeroing of a placement, in plies and without sign.
+
+        `wdl` is the class of the side to move, as a WDL table has it: 2 win, 1 cursed win, -1 blessed loss, -2 loss. The
+        number is the first one of python-chess's `probe_dtz_table`. python-chess's `probe_dtz` is another number: where no
+        capture, pawn move or en passant decides, it is n + 1 for a win, n + 101 for a cursed win, -(n + 101) for a blessed
+        loss and -(n + 1) for a loss.
+
+        Errors: Untold `WrongSide` if the table stores the other side to move only, `Draw` for the class 0, or another
+        reason; ValueError for a WDL table, another class or a bad FEN; TypeError."""
+        self._require("dtz")
+        return self._probe(men_of(board, turn), _class(wdl))
+
+    def _probe(self, men: Men, wdl: int) -> int:
+        return self._opened.probe(men, wdl)
+
+    def verify(self) -> int:
+        """Checks all bytes of the table again, as they are now; returns its number of bytes.
+
+        No check of the format finds a changed bit that still decodes: keep sums of the files.
+
+        Errors: Refused with the first check that fails; MemoryError."""
+        return self._opened.check()
+
+    def _require(self, kind: str) -> None:
+        if self.kind != kind:
+            raise ValueError(f"{self.name} is a {self.kind.upper()} table, and this call needs a {kind.upper()} table")
+
+    def close(self) -> None:
+        """Closes the table. A second call does nothing."""
+        self._opened.close()
+
+    def __enter__(self) -> "Table":
+        return self
+
+    def __exit__(
+        self, kind: Optional[Type[BaseException]], error: Optional[BaseException], trace: Optional[TracebackType],
+    ) -> None:
+        self.close()
+
+    def __repr__(self) -> str:
+        return f"<szg.Table {self.name} {self.kind}>"
+
+
+def named(path: Union[str, "os.PathLike[str]"]) -> "tuple[str, str]":
+    """The material and the kind in a file's name. Errors: ValueError if it ends with neither .rtbw nor .rtbz."""
+    file = Path(path)
+    if file.suffix not in KINDS:
+        raise ValueError(f"{file.name!r} must end with .rtbw or .rtbz")
+    return file.stem, KINDS[file.suffix]
+
+
+def mapped(path: Union[str, "os.PathLike[str]"]) -> Lent:
+    """A file's bytes, mapped. Errors: OSError."""
+    with open(path, "rb") as file:
+        if os.fstat(file.fileno()).st_size == 0:
+            return Lent(b"")
+        return Lent(mmap.mmap(file.fileno(), 0, access=mmap.ACCESS_READ))
+
+
+def _byte(number: int, what: str) -> int:
+    """A part or side that the library can be asked for: a number that is no byte would be cut to one."""
+    number = integer(number, what)
+    if not 0 <= number < 256:
+        raise IndexError(f"the table has no {what} {number}")
+    return number
+
+
+def _class(wdl: int) -> int:
+    wdl = integer(wdl, "wdl")
+    if not -2 <= wdl <= 2:
+        raise ValueError(f"wdl must be from -2 to 2, not {wdl}")
+    return wdl

@@ -1,0 +1,82 @@
+"""What the tests share: the sample tables, the second reader, files that are refused."""
+import shutil
+import sys
+from pathlib import Path
+from typing import Iterator, NamedTuple
+
+import pytest
+
+ROOT = Path(__file__).resolve().parents[3]
+sys.path.insert(0, str(ROOT / "checks"))
+from damaged_files import Damaged, damaged  # noqa: E402
+from table_reader import Reader  # noqa: E402
+
+
+class Sample(NamedTuple):
+    """A sample table: its bytes, and the second reader's reading of them."""
+
+    name: str
+    kind: str
+    data: bytes
+    read: Reader
+
+    @property
+    def file_name(self) -> str:
+        return f"{self.name}.{'rtbw' if self.kind == 'wdl' else 'rtbz'}"
+
+
+def sample(file: str, name: str, kind: str) -> Sample:
+    data = (ROOT / "data" / file).read_bytes()
+    return Sample(name, kind, data, Reader(name, kind, data).read())
+
+
+SAMPLES = [
+    sample("knvk_wdl_constant.rtbw", "KNvK", "wdl"),
+    sample("kqvk_wdl_unpaired.rtbw", "KQvK", "wdl"),
+    sample("kqvk_wdl_paired.rtbw", "KQvK", "wdl"),
+    sample("kpvk_dtz_mapped.rtbz", "KPvK", "dtz"),
+]
+KNIGHT, UNPAIRED, PAIRED, PAWN = SAMPLES
+DAMAGED = list(damaged())
+
+
+@pytest.fixture(params=SAMPLES, ids=["constant", "unpaired", "paired", "mapped"])
+def each_sample(request: pytest.FixtureRequest) -> Sample:
+    return request.param
+
+
+@pytest.fixture(params=DAMAGED, ids=[case.reason for case in DAMAGED])
+def each_damaged(request: pytest.FixtureRequest) -> Damaged:
+    return request.param
+
+
+@pytest.fixture
+def folder(tmp_path: Path) -> Iterator[Path]:
+    """A folder with the constant, the unpaired and the mapped sample, and files that are no tables."""
+    tables = tmp_path / "tables"
+    tables.mkdir()
+    for one in (KNIGHT, UNPAIRED, PAWN):
+        (tables / one.file_name).write_bytes(one.data)
+    (tables / "notes.txt").write_text("no table")
+    (tables / "KvKQ.rtbw").write_bytes(UNPAIRED.data)
+    (tables / "KQvKX.rtbw").write_bytes(UNPAIRED.data)
+    (tables / "KRvK.rtbw").mkdir()
+    yield tables
+    shutil.rmtree(tables, ignore_errors=True)
+
+
+class Piece:
+    """python-chess's words for a man."""
+
+    def __init__(self, piece_type: int, color: bool) -> None:
+        self.piece_type, self.color = piece_type, color
+
+
+class Board:
+    """What the package asks of a board, in python-chess's words."""
+
+    def __init__(self, men: list, turn: bool) -> None:
+        self.men, self.turn = men, turn
+
+    def piece_map(self) -> dict:
+        return {square: Piece(kind, color) for kind, color, square in self.men}

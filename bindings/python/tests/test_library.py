@@ -1,0 +1,156 @@
+"""The package's face, and what becomes of each status of the library."""
+import inspect
+import os
+import pickle
+import re
+import subprocess
+import sys
+from pathlib import Path
+
+import pytest
+import szg
+from conftest import ROOT, UNPAIRED
+from szg import _library, _version
+
+HEADER = (ROOT / "bindings/szg.h").read_text(encoding="utf-8")
+
+
+def test_the_package_says_what_it_has() -> None:
+    assert szg.__version__ == _version.__version__ == re.search(r'#define SZG_VERSION "([^"]*)"', HEADER)[1]
+    numbers = [re.search(rf"#define SZG_VERSION_{part} (\d+)", HEADER)[1] for part in ("MAJOR", "MINOR", "PATCH")]
+    assert ".".join(numbers) == szg.__version__
+    assert sorted(szg.__all__) == szg.__all__
+    assert (Path(szg.__file__).parent / "py.typed").exists()
+    for name in szg.__all__:
+        one = getattr(szg, name)
+        if inspect.isfunction(one):
+            assert one.__doc__
+        if inspect.isclass(one) and one.__module__.startswith("szg"):
+            assert one.__doc__
+            for member, function in list(vars(one).items()):
+                if inspect.isfunction(function) and not member.startswith("_"):
+                    assert function.__doc__, f"{name}.{member}"
+    assert (szg.PAWN, szg.KNIGHT, szg.BISHOP, szg.ROOK, szg.QUEEN, szg.KING, szg.WHITE, szg.BLACK) == (1, 2, 3, 4, 5, 6, True, False)
+
+
+def test_the_examples_of_the_readme_run(folder: Path, monkeypatch: pytest.MonkeyPatch) -> None:
+    monkeypatch.chdir(folder.parent)
+    # a DTZ table of KQvK with one value, 0, for White to move
+    (folder / "KQvK.rtbz").write_bytes(bytes.fromhex("d7660ca501006655ee008000").ljust(80, b"\0"))
+    text = (ROOT / "bindings/python/README.md").read_text(encoding="utf-8")
+    examples = re.findall(r"```python\n(.*?)```", text, re.S)
+    assert len(examples) == 2
+    found = {"szg": szg, "data": UNPAIRED.data}
+    for example in examples:
+        exec(example, found)
+    assert found["tables"].__class__ is szg.Tablebase and found["spot"].index < 31332
+
+
+def test_errors_are_pickled() -> None:
+    for error in (szg.Refused(7, "Word"), szg.Untold("Man"), szg.Changed("it"), szg.MissingTableError("none")):
+        again = pickle.loads(pickle.dumps(error))
+        assert type(again) is type(error) and str(again) == str(error) and vars(again) == vars(error)
+
+
+def enumerators(name: str) -> dict:
+    body = re.sub(r"/\*.*?\*/", "", re.search(rf"enum {name} \{{(.*?)\}};", HEADER, re.S)[1], flags=re.S)
+    found, value = {}, -1
+    for item in body.split(","):
+        if not item.strip():
+            continue
+        word, _, number = (part.strip() for part in item.partition("="))
+        value = int(number) if number else value + 1
+        found[word] = value
+    return found
+
+
+def spelled(name: str) -> str:
+    """SPLIT_BIT as SplitBit."""
+    return "".join(part.capitalize() for part in name.split("_"))
+
+
+def test_statuses_and_reasons_are_the_headers() -> None:
+    reasons = {spelled(name[4:]): number for name, number in enumerators("szg_reason").items()}
+    assert reasons == {name: number for number, name in enumerate(_library.REASONS, 1)}
+    statuses = {name[4:]: number for name, number in enumerators("szg_status").items()}
+    numbered = {name: getattr(_library, name) for name in ("DONE", "NAME", "REFUSED", "MEMORY", "RANGE", "CLOSED", "CHANGED")}
+    numbered.update({name: number for name in statuses for number, spelt in _library.UNTOLD.items() if spelled(name) == spelt})
+    assert numbered == statuses
+
+
+@pytest.mark.parametrize("status, fault, said", [
+    (1, RuntimeError, "the library returned the status 1"), (2, RuntimeError, "the library returned the status 2"),
+    (3, MemoryError, "no memory for the table"), (4, IndexError, "the table has no such part, side or index"),
+    (5, ValueError, "the table is closed"), (6, szg.Untold, "the table has no entry: Man"),
+    (7, szg.Untold, "the table has no entry: Men"), (8, szg.Untold, "the table has no entry: SameSquare"),
+    (9, szg.Untold, "the table has no entry: PawnRank"), (10, szg.Untold, "the table has no entry: OtherMaterial"),
+    (11, szg.Untold, "the table has no entry: Irregular"), (12, szg.Untold, "the table has no entry: KingsTouch"),
+    (13, szg.Untold, "the table has no entry: WrongSide"), (14, szg.Untold, "the table has no entry: NoClass"),
+    (15, szg.Untold, "the table has no entry: Draw"), (16, szg.Untold, "the table has no entry: OutsideMap"),
+    (17, szg.Changed, "the table's file was changed"), (18, RuntimeError, "the library returned the status 18"),
+])
+def test_each_status_of_a_call_is_an_exception(status: int, fault: type, said: str) -> None:
+    with szg.Table("KQvK", "wdl", UNPAIRED.data) as table:
+        handles = table._opened._whole
+        with pytest.raises(fault) as caught:
+            handles(lambda *_: status)
+        assert type(caught.value) is fault and str(caught.value) == said
+        handles(lambda *_: 0)
+        assert table.get(11711) == 4
+
+
+@pytest.mark.parametrize("call", ["szg_open", "szg_open_heads", "szg_share", "szg_share_heads", "szg_check", "szg_all",
+                                  "szg_positions", "szg_get", "szg_value", "szg_find", "szg_probe", "szg_index"])
+def test_no_call_loses_want_of_memory(call: str, tmp_path: Path, monkeypatch: pytest.MonkeyPatch) -> None:
+    path = tmp_path / "KQvK.rtbw"
+    path.write_bytes(UNPAIRED.data)
+
+    def use() -> None:
+        with szg.Table.open(path) as mapped, szg.Table("KQvK", "wdl", UNPAIRED.data) as table:
+            for one in (mapped, table):
+                one.get(0), one.size(), one.values(), one.verify()
+                one.index("4K3/8/8/8/8/8/8/Q6k w"), one.probe_wdl("4K3/8/8/8/8/8/8/Q6k w")
+
+    use()
+    monkeypatch.setattr(_library.library, call, lambda *_: 3)
+    with pytest.raises(MemoryError):
+        use()
+
+
+def test_closing_lets_the_librarys_handles_go(tmp_path: Path, monkeypatch: pytest.MonkeyPatch) -> None:
+    """Each handle that is made is closed once, however the table goes."""
+    path = tmp_path / "KQvK.rtbw"
+    path.write_bytes(UNPAIRED.data)
+    made, closed = [], []
+    for name in ("szg_open", "szg_open_heads", "szg_share", "szg_share_heads"):
+        def make(*words, call=getattr(_library.library, name), at=-2 if "open" in name else -1):
+            made.append(words[at]._obj)
+            return call(*words)
+        monkeypatch.setattr(_library.library, name, make)
+    for name in ("szg_close", "szg_close_heads"):
+        def close(word, call=getattr(_library.library, name)):
+            closed.append(word._obj)
+            call(word)
+        monkeypatch.setattr(_library.library, name, close)
+    for way in ("closed", "dropped", "closed while it serves"):
+        table = szg.Table.open(path)
+        table.get(0), table.size()
+        if way == "closed":
+            table.close()
+        if way == "closed while it serves":
+            table._opened._whole(lambda *_: table.close() or 0)
+        del table
+        assert len(made) >= 4 and {id(one) for one in made} == {id(one) for one in closed}
+        assert all(not one.held for one in made)
+
+
+def test_the_library_is_found(tmp_path: Path) -> None:
+    """SZG_LIBRARY comes first; what is no library is an OSError."""
+    code = "import szg; print(szg._library.library._name)"
+    env = {**os.environ, "PYTHONPATH": str(Path(szg.__file__).parents[1])}
+    copy = tmp_path / "a library.so"
+    copy.write_bytes(Path(_library.library._name).read_bytes())
+    found = subprocess.run([sys.executable, "-c", code], env={**env, "SZG_LIBRARY": str(copy)}, capture_output=True, text=True)
+    assert found.stdout.strip() == str(copy)
+    missing = subprocess.run([sys.executable, "-c", code], env={**env, "SZG_LIBRARY": str(tmp_path / "none")}, capture_output=True, text=True)
+    assert missing.returncode != 0 and "OSError" in missing.stderr

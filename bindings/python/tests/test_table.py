@@ -1,0 +1,312 @@
+"""Single tables, held against the second reader."""
+import array
+import gc
+import mmap
+import struct
+
+import pytest
+import szg
+from conftest import DAMAGED, KNIGHT, PAIRED, PAWN, UNPAIRED, Board, Sample
+from damaged_files import Damaged
+from szg import BISHOP, BLACK, KING, QUEEN, ROOK, WHITE
+
+QUEEN_MEN = [(KING, WHITE, 60), (QUEEN, WHITE, 0), (KING, BLACK, 7)]
+PAWN_MEN = [(KING, WHITE, 4), (szg.PAWN, WHITE, 12), (KING, BLACK, 60)]
+SPOT_VALUES = 101
+
+
+def pawn_on(square: int) -> list:
+    return [(KING, WHITE, 4), (szg.PAWN, WHITE, square), (KING, BLACK, 60)]
+
+
+def opened(sample: Sample, tmp_path, way: str) -> szg.Table:
+    if way == "bytes":
+        return szg.Table(sample.name, sample.kind, sample.data)
+    path = tmp_path / sample.file_name
+    path.write_bytes(sample.data)
+    return szg.Table.open(path if way == "path" else str(path))
+
+
+@pytest.mark.parametrize("way", ["bytes", "path", "text of a path"])
+def test_values_are_the_second_readers(each_sample: Sample, tmp_path, way: str) -> None:
+    with opened(each_sample, tmp_path, way) as table:
+        assert (table.name, table.kind) == (each_sample.name, each_sample.kind)
+        assert repr(table) == f"<szg.Table {each_sample.name} {each_sample.kind}>"
+        for sub in each_sample.read.subs:
+            assert table.size(sub.part, sub.side) == sub.size
+            assert table.values(sub.part, sub.side).tolist() == sub.all_values()
+            for index in [*range(0, sub.size, SPOT_VALUES), sub.size - 1]:
+                assert table.get(index, sub.part, sub.side) == sub.value(index)
+            for index in (sub.size, -1, 1 << 64, 1 << 70):
+                with pytest.raises(IndexError):
+                    table.get(index, sub.part, sub.side)
+        for part, side in ((4, 0), (0, 2), (256, 0), (0, 256), (-1, 0), (0, -1)):
+            for call in (table.size, table.values, lambda part, side: table.get(0, part, side)):
+                with pytest.raises(IndexError):
+                    call(part, side)
+        assert table.verify() == len(each_sample.data)
+
+
+def test_what_follows_the_table_is_not_looked_at(each_sample: Sample, tmp_path) -> None:
+    path = tmp_path / each_sample.file_name
+    path.write_bytes(each_sample.data + b"more")
+    with szg.Table.open(path) as mapped, szg.Table(each_sample.name, each_sample.kind, path.read_bytes()) as table:
+        assert mapped.verify() == table.verify() == len(each_sample.data)
+
+
+def test_values_are_a_buffer_of_their_own() -> None:
+    with szg.Table("KQvK", "wdl", UNPAIRED.data) as table:
+        values = table.values()
+    assert (values.format, values.itemsize, values.ndim, values.shape) == ("H", 2, 1, (31332,))
+    assert values.tolist() == UNPAIRED.read.subs[0].all_values()
+    numpy = pytest.importorskip("numpy")
+    listed = numpy.asarray(values)
+    assert listed.dtype == numpy.uint16 and numpy.shares_memory(listed, numpy.frombuffer(values, numpy.uint16))
+    assert listed.tolist() == values.tolist()
+
+
+def test_any_bytes_like_object_is_taken(tmp_path) -> None:
+    path = tmp_path / "file"
+    path.write_bytes(PAIRED.data)
+    with path.open("rb") as file:
+        read_only = mmap.mmap(file.fileno(), 0, access=mmap.ACCESS_READ)
+    words = memoryview(array.array("I", struct.unpack(f"={len(PAIRED.data) // 4}I", PAIRED.data)))
+    assert words.format == "I"
+    for data in (PAIRED.data, bytearray(PAIRED.data), memoryview(PAIRED.data), memoryview(bytearray(PAIRED.data)), read_only, words):
+        with szg.Table("KQvK", "wdl", data) as table:
+            assert table.values().tolist() == PAIRED.read.subs[0].all_values()
+            assert table.verify() == len(PAIRED.data)
+
+
+def test_lent_memory_is_given_back() -> None:
+    data = bytearray(PAIRED.data)
+    table = szg.Table("KQvK", "wdl", data)
+    with pytest.raises(BufferError):
+        data.append(0)
+    table.close()
+    gc.collect()
+    data.append(0)
+    with pytest.raises(szg.Refused):
+        szg.Table("KQvK", "dtz", data)
+    gc.collect()
+    data.append(0)
+
+
+@pytest.mark.parametrize("data", ["text", 7, None, [1, 2], memoryview(PAIRED.data)[::2]])
+def test_what_is_not_bytes_is_a_type_error(data: object) -> None:
+    with pytest.raises(TypeError, match="^data must be a contiguous bytes-like object, not "):
+        szg.Table("KQvK", "wdl", data)
+
+
+def test_each_reason_with_its_byte(each_damaged: Damaged, tmp_path) -> None:
+    path = tmp_path / f"{each_damaged.name}.{'rtbw' if each_damaged.kind == 'wdl' else 'rtbz'}"
+    path.write_bytes(each_damaged.data)
+    for call in (lambda: szg.Table(each_damaged.name, each_damaged.kind, each_damaged.data), lambda: szg.Table.open(path)):
+        with pytest.raises(szg.Refused) as caught:
+            call()
+        assert (caught.value.place, caught.value.reason) == (each_damaged.place, each_damaged.reason)
+        assert str(caught.value) == f"refused at {each_damaged.place}: {each_damaged.reason}"
+        assert isinstance(caught.value, ValueError)
+
+
+def test_all_reasons_are_tried() -> None:
+    assert len({case.reason for case in DAMAGED}) == 18
+
+
+def test_verify_sees_the_bytes_as_they_are(tmp_path) -> None:
+    data = bytearray(PAIRED.data)
+    with szg.Table("KQvK", "wdl", data) as table:
+        data[0] = 0
+        with pytest.raises(szg.Refused) as caught:
+            table.verify()
+        assert (caught.value.place, caught.value.reason) == (0, "Magic")
+    path = tmp_path / "KQvK.rtbw"
+    path.write_bytes(PAIRED.data)
+    with szg.Table.open(path) as table:
+        with path.open("r+b") as file:
+            file.seek(256)
+            file.write(bytes(32))
+        with pytest.raises(szg.Refused) as caught:
+            table.verify()
+        assert (caught.value.place, caught.value.reason) == (256, "Word")
+        with pytest.raises(szg.Changed):
+            table.get(15000)
+        assert isinstance(szg.Changed(), ValueError)
+        # the other block is as it was
+        assert table.get(31331) == PAIRED.read.subs[0].value(31331)
+
+
+def test_an_empty_file_is_refused(tmp_path) -> None:
+    path = tmp_path / "KQvK.rtbw"
+    path.write_bytes(b"")
+    for call in (lambda: szg.Table.open(path), lambda: szg.Table("KQvK", "wdl", b""), lambda: szg.Table("KQvK", "wdl", bytearray())):
+        with pytest.raises(szg.Refused) as caught:
+            call()
+        assert (caught.value.place, caught.value.reason) == (0, "Truncated")
+
+
+def test_names_and_kinds(tmp_path) -> None:
+    for name in ("KvKQ", "", "KQvK\0", "KQvK ", "K\udcffvK", "QvK"):
+        with pytest.raises(ValueError, match="is no material's name$"):
+            szg.Table(name, "wdl", UNPAIRED.data)
+    with pytest.raises(ValueError, match="^kind must be 'wdl' or 'dtz', not 'WDL'$"):
+        szg.Table("KQvK", "WDL", UNPAIRED.data)
+    with pytest.raises(TypeError, match="^name must be a str, not bytes$"):
+        szg.Table(b"KQvK", "wdl", UNPAIRED.data)
+    with pytest.raises(ValueError, match="must end with .rtbw or .rtbz$"):
+        szg.Table.open(tmp_path / "KQvK.bin")
+    with pytest.raises(FileNotFoundError):
+        szg.Table.open(tmp_path / "KQvK.rtbw")
+    for wrong in (7, None, [tmp_path]):
+        with pytest.raises(TypeError):
+            szg.Table.open(wrong)
+    with pytest.raises(IsADirectoryError):
+        (tmp_path / "KRvK.rtbw").mkdir()
+        szg.Table.open(tmp_path / "KRvK.rtbw")
+
+
+def test_a_closed_table(each_sample: Sample, tmp_path) -> None:
+    for way in ("bytes", "path"):
+        table = opened(each_sample, tmp_path, way)
+        table.close()
+        table.close()
+        calls = [lambda: table.get(0), table.size, table.values, table.verify, lambda: table.index(QUEEN_MEN, WHITE)]
+        if each_sample.kind == "wdl":
+            calls.append(lambda: table.probe_wdl(QUEEN_MEN, WHITE))
+        else:
+            calls += [lambda: table.probe_dtz(PAWN_MEN, WHITE, wdl=2), lambda: table.number(0, wdl=2)]
+        for call in calls:
+            with pytest.raises(ValueError, match="^the table is closed$"):
+                call()
+
+
+def test_a_with_block_lets_exceptions_through() -> None:
+    with pytest.raises(ZeroDivisionError):
+        with szg.Table("KQvK", "wdl", UNPAIRED.data) as table:
+            raise ZeroDivisionError
+    with pytest.raises(ValueError, match="^the table is closed$"):
+        table.get(0)
+
+
+@pytest.mark.parametrize("way", ["bytes", "path"])
+def test_probe_wdl(tmp_path, way: str) -> None:
+    with opened(UNPAIRED, tmp_path, way) as table:
+        # e8 a1 h1 is flipped to d1 h8 a8, which is 11711 by the numbering of the format
+        assert table.index(Board(QUEEN_MEN, WHITE)) == szg.Spot(0, 0, 11711)
+        assert table.index(iter(QUEEN_MEN), BLACK) == szg.Spot(0, 1, 11711)
+        assert [table.probe_wdl(Board(QUEEN_MEN, turn)) for turn in (WHITE, BLACK)] == [2, 0]
+        assert table.probe_wdl(QUEEN_MEN, WHITE) == table.get(11711) - 2
+        # the colours exchanged: the side of the name's first side is Black's
+        exchanged = [(kind, not color, square) for kind, color, square in QUEEN_MEN]
+        assert [table.index(exchanged, turn).side for turn in (WHITE, BLACK)] == [1, 0]
+        assert [table.probe_wdl(exchanged, turn) for turn in (WHITE, BLACK)] == [0, 2]
+        with pytest.raises(ValueError, match="^KQvK is a WDL table, and this call needs a DTZ table$"):
+            table.probe_dtz(QUEEN_MEN, WHITE, wdl=2)
+        with pytest.raises(ValueError, match="needs a DTZ table$"):
+            table.number(0, wdl=2)
+
+
+def test_all_classes() -> None:
+    for value, stored in enumerate((-2, -1, 0, 1, 2)):
+        data = KNIGHT.data[:11] + bytes([value]) + KNIGHT.data[12:]
+        with szg.Table("KNvK", "wdl", data) as table:
+            assert table.probe_wdl("4k3/8/8/8/8/8/8/N3K3 w") == stored
+    with szg.Table("KNvK", "wdl", KNIGHT.data[:11] + b"\x05" + KNIGHT.data[12:]) as table:
+        with pytest.raises(szg.Untold) as caught:
+            table.probe_wdl("4k3/8/8/8/8/8/8/N3K3 w")
+    assert caught.value.reason == "NoClass"
+
+
+@pytest.mark.parametrize("way", ["bytes", "path"])
+def test_probe_dtz(tmp_path, way: str) -> None:
+    with opened(PAWN, tmp_path, way) as table:
+        # by the maps of the sample: 7 moves in part a, 300 in part b, no map in part c
+        assert [table.number(0, wdl=2, part=part) for part in range(3)] == [14, 600, 0]
+        assert table.number(7, wdl=-1, part=3) == 14
+        for square, distance in ((10, 0), (9, 600), (8, 14)):
+            for board in (Board(pawn_on(square), WHITE), pawn_on(square)):
+                assert table.probe_dtz(board, WHITE, wdl=2) == distance
+            assert table.index(pawn_on(square), WHITE).part == square - 8
+        # White's pawn on e2, kings on e1 and e8
+        assert table.index(PAWN_MEN, WHITE) == (3, 0, 21564)
+        flipped = [(kind, not color, square ^ 56) for kind, color, square in PAWN_MEN]
+        assert table.index(flipped, BLACK) == (3, 0, 21564)
+        for wdl, turn, reason in ((-1, WHITE, "OutsideMap"), (0, WHITE, "Draw"), (2, BLACK, "WrongSide")):
+            with pytest.raises(szg.Untold) as caught:
+                table.probe_dtz(pawn_on(8), turn, wdl=wdl)
+            assert (caught.value.reason, str(caught.value)) == (reason, f"the table has no entry: {reason}")
+            assert isinstance(caught.value, LookupError)
+        for wdl in (3, -3, 2 + 256):
+            for call in (lambda: table.probe_dtz(PAWN_MEN, WHITE, wdl=wdl), lambda: table.number(0, wdl=wdl)):
+                with pytest.raises(ValueError, match="^wdl must be from -2 to 2, not "):
+                    call()
+        for value in (-1, 1 << 16):
+            with pytest.raises(IndexError):
+                table.number(value, wdl=2)
+        with pytest.raises(IndexError):
+            table.number(0, wdl=2, part=4)
+        with pytest.raises(szg.Untold) as caught:
+            table.number(1, wdl=2)
+        assert caught.value.reason == "OutsideMap"
+        with pytest.raises(ValueError, match="^KPvK is a DTZ table, and this call needs a WDL table$"):
+            table.probe_wdl(PAWN_MEN, WHITE)
+
+
+def test_the_class_of_a_dtz_probe_is_a_keyword_and_an_integer() -> None:
+    with szg.Table("KPvK", "dtz", PAWN.data) as table:
+        with pytest.raises(TypeError):
+            table.probe_dtz(PAWN_MEN, WHITE)
+        with pytest.raises(TypeError):
+            table.probe_dtz(PAWN_MEN, WHITE, 2)
+        with pytest.raises(TypeError):
+            table.number(0, 2)
+        for wdl in (True, 2.0, "2", None):
+            with pytest.raises(TypeError, match=f"^wdl must be an integer, not {type(wdl).__name__}$"):
+                table.probe_dtz(PAWN_MEN, WHITE, wdl=wdl)
+
+
+def test_wrong_types_of_numbers() -> None:
+    with szg.Table("KQvK", "wdl", UNPAIRED.data) as table:
+        for wrong in ("0", 0.0, None, True):
+            for what, call in (("index", lambda: table.get(wrong)), ("part", lambda: table.size(wrong)),
+                               ("side", lambda: table.values(0, wrong))):
+                with pytest.raises(TypeError, match=f"^{what} must be an integer, not {type(wrong).__name__}$"):
+                    call()
+        numpy = pytest.importorskip("numpy")
+        assert table.get(numpy.uint32(11711)) == 4
+
+
+def four_bishops(order: bytes) -> bytes:
+    """A table of KBBvK with one value, with these man bytes."""
+    return (bytes.fromhex("71e8235d0100") + order + b"\x80\x02\x80\x02").ljust(80, b"\0")
+
+
+@pytest.mark.parametrize("reason, men", [
+    ("Man", [(KING, WHITE, 60), (7, WHITE, 0), (KING, BLACK, 7)]),
+    ("Man", [(KING, WHITE, 60), (0, WHITE, 0), (KING, BLACK, 7)]),
+    ("Man", [(KING, WHITE, 60), (QUEEN + 256, WHITE, 0), (KING, BLACK, 7)]),
+    ("Man", [(KING, WHITE, 60), (QUEEN, WHITE, -1), (KING, BLACK, 7)]),
+    ("Man", [(KING, WHITE, 60), (QUEEN, WHITE, 64), (KING, BLACK, 7)]),
+    ("Men", []),
+    ("Men", QUEEN_MEN + [(szg.KNIGHT, BLACK, square) for square in range(20, 24)]),
+    ("Men", [(KING, WHITE, 60), (KING, WHITE, 0), (KING, BLACK, 7)]),
+    ("SameSquare", [(KING, WHITE, 60), (QUEEN, WHITE, 60), (KING, BLACK, 7)]),
+    ("PawnRank", [(KING, WHITE, 60), (szg.PAWN, WHITE, 0), (KING, BLACK, 7)]),
+    ("OtherMaterial", [(KING, WHITE, 60), (szg.KNIGHT, WHITE, 0), (KING, BLACK, 7)]),
+    ("OtherMaterial", [(KING, WHITE, 60), (ROOK, WHITE, 0), (KING, BLACK, 7)]),
+])
+def test_men_that_have_no_index(reason: str, men: list) -> None:
+    with szg.Table("KQvK", "wdl", UNPAIRED.data) as table:
+        for call in (table.probe_wdl, table.index):
+            with pytest.raises(szg.Untold) as caught:
+                call(men, WHITE)
+            assert caught.value.reason == reason
+
+
+def test_groups_that_cannot_be_numbered() -> None:
+    men = [(KING, WHITE, 0), (BISHOP, WHITE, 18), (BISHOP, WHITE, 36), (KING, BLACK, 1)]
+    for order, reason in ((b"\x33\x66\xee\x33", "Irregular"), (b"\x66\xee\x33\x33", "KingsTouch")):
+        with szg.Table("KBBvK", "wdl", four_bishops(order)) as table:
+            with pytest.raises(szg.Untold) as caught:
+                table.index(men, WHITE)
+            assert caught.value.reason == reason

@@ -1,0 +1,145 @@
+"""Folders of tables."""
+import os
+from pathlib import Path
+
+import pytest
+import szg
+from conftest import KNIGHT, PAIRED, PAWN, UNPAIRED, Board
+from szg import BLACK, KING, QUEEN, WHITE
+
+QUEEN_MEN = [(KING, WHITE, 60), (QUEEN, WHITE, 0), (KING, BLACK, 7)]
+QUEEN_FEN, ROOK_FEN = "4K3/8/8/8/8/8/8/Q6k w", "4K3/8/8/8/8/8/8/R6k w"
+PAWN_FEN = "4k3/8/8/8/8/8/1P6/4K3 w"
+
+
+def test_a_folder_of_tables(folder: Path) -> None:
+    with szg.open_tablebase(folder) as tables:
+        assert repr(tables) == "<szg.Tablebase with 3 tables>"
+        assert [tables.probe_wdl_table(Board(QUEEN_MEN, turn)) for turn in (WHITE, BLACK)] == [2, 0]
+        assert tables.probe_wdl_table(QUEEN_MEN, WHITE) == tables.probe_wdl_table(QUEEN_FEN) == 2
+        # colours exchanged, and the name with them
+        assert tables.probe_wdl_table("4k3/8/8/8/8/8/8/q6K b") == 2
+        assert tables.probe_dtz_table(PAWN_FEN, 2) == (600, 1)
+        assert tables.probe_dtz_table("4k3/1p6/8/8/8/8/8/4K3 b", 2) == (600, 1)
+        assert tables.probe_dtz_table(PAWN_FEN.replace("w", "b"), 2) == (0, -1)
+        assert tables.probe_wdl_table("4k3/8/8/8/8/8/8/4K3 w") == 0
+        assert tables.get_wdl(QUEEN_FEN) == 2 and tables.get_dtz(PAWN_FEN, 2) == 600
+
+
+def test_missing_tables(folder: Path) -> None:
+    with szg.open_tablebase(str(folder)) as tables:
+        for fen in (ROOK_FEN, "rnbqkbnr/pppppppp/8/8/8/8/PPPPPPPP/RNBQKBNR w", PAWN_FEN):
+            with pytest.raises(szg.MissingTableError) as caught:
+                tables.probe_wdl_table(fen)
+            assert isinstance(caught.value, KeyError)
+            assert tables.get_wdl(fen) is None and tables.get_wdl(fen, 7) == 7
+        assert str(pytest.raises(szg.MissingTableError, tables.probe_wdl_table, ROOK_FEN).value) == "no WDL table of KRvK was added"
+        assert str(pytest.raises(szg.MissingTableError, tables.probe_dtz_table, ROOK_FEN, 2).value) == "no DTZ table of KRvK was added"
+        for fen in (ROOK_FEN, QUEEN_FEN, "4k3/8/8/8/8/8/8/4K3 w"):
+            with pytest.raises(szg.MissingTableError):
+                tables.probe_dtz_table(fen, 2)
+            assert tables.get_dtz(fen, 2) is None and tables.get_dtz(fen, 2, "none") == "none"
+        assert tables.get_dtz(PAWN_FEN.replace("w", "b"), 2, 7) == 7
+        for fen, reason in (("8/8/8/8/8/8/8/Q6k w", "Men"), ("K7/8/8/8/8/8/8/K6k w", "Men")):
+            for call in (tables.probe_wdl_table, tables.get_wdl):
+                assert pytest.raises(szg.Untold, call, fen).value.reason == reason
+        for wdl, reason in ((0, "Draw"), (-1, "OutsideMap")):
+            for call in (tables.probe_dtz_table, tables.get_dtz):
+                assert pytest.raises(szg.Untold, call, "4k3/8/8/8/8/8/P7/4K3 w", wdl).value.reason == reason
+        for wdl in (3, -3):
+            pytest.raises(ValueError, tables.probe_dtz_table, PAWN_FEN, wdl)
+        pytest.raises(TypeError, tables.probe_dtz_table, PAWN_FEN, True)
+        pytest.raises(TypeError, tables.probe_wdl_table, 7)
+
+
+def test_what_is_loaded(folder: Path, tmp_path: Path) -> None:
+    tables = szg.Tablebase()
+    assert tables.add_directory(folder, load_dtz=False) == 2
+    pytest.raises(szg.MissingTableError, tables.probe_dtz_table, PAWN_FEN, 2)
+    assert tables.add_directory(folder, load_wdl=False) == 1
+    assert tables.probe_dtz_table(PAWN_FEN, 2) == (600, 1)
+    assert szg.open_tablebase(folder, load_wdl=False).get_wdl(QUEEN_FEN) is None
+    assert szg.open_tablebase(folder, load_dtz=False).get_dtz(PAWN_FEN, 2) is None
+    assert tables.add_directory(tmp_path) == 0
+    pytest.raises(FileNotFoundError, tables.add_directory, tmp_path / "none")
+    pytest.raises(FileNotFoundError, szg.open_tablebase, tmp_path / "none")
+    for number in (0, -1):
+        pytest.raises(ValueError, szg.Tablebase, max_tables=number)
+    for wrong in (None, 3, [folder]):
+        pytest.raises(TypeError, tables.add_directory, wrong)
+        pytest.raises(TypeError, szg.open_tablebase, wrong)
+    assert szg.Tablebase().add_directory(os.fsencode(folder)) == 3
+
+
+def test_the_folder_that_was_added_last_serves(folder: Path, tmp_path: Path) -> None:
+    other = tmp_path / "other"
+    other.mkdir()
+    (other / "KNvK.rtbw").write_bytes(KNIGHT.data[:11] + b"\x04" + KNIGHT.data[12:])
+    fen = "4k3/8/8/8/8/8/8/N3K3 w"
+    with szg.open_tablebase(folder) as tables:
+        assert tables.probe_wdl_table(fen) == 0
+        tables.add_directory(other)
+        assert tables.probe_wdl_table(fen) == 2 and tables.probe_wdl_table(QUEEN_FEN) == 2
+
+
+def test_a_file_that_is_no_table_is_refused_when_it_is_probed(folder: Path) -> None:
+    (folder / "KRvK.rtbw").rmdir()
+    for data, place in ((b"", 0), (PAIRED.data[:200], 200)):
+        (folder / "KRvK.rtbw").write_bytes(data)
+        with szg.open_tablebase(folder) as tables:
+            for call in (tables.probe_wdl_table, tables.get_wdl, tables.probe_wdl_table):
+                caught = pytest.raises(szg.Refused, call, ROOK_FEN).value
+                assert caught.reason in ("Truncated", "Pieces") and caught.place == (place if not data else 6)
+            assert tables.probe_wdl_table(QUEEN_FEN) == 2
+    (folder / "KRvK.rtbw").unlink()
+    with szg.open_tablebase(folder) as tables:
+        (folder / "KQvK.rtbw").unlink()
+        pytest.raises(FileNotFoundError, tables.get_wdl, QUEEN_FEN)
+
+
+def test_relative_folders_stay(folder: Path) -> None:
+    at = os.getcwd()
+    try:
+        os.chdir(folder.parent)
+        tables = szg.open_tablebase(folder.name)
+        os.chdir(folder)
+        assert tables.probe_wdl_table(QUEEN_FEN) == 2
+    finally:
+        os.chdir(at)
+
+
+def test_a_bound_on_open_tables(folder: Path) -> None:
+    with szg.open_tablebase(folder, max_tables=1) as tables:
+        for _ in range(3):
+            assert tables.probe_wdl_table(QUEEN_FEN) == 2
+            assert tables.probe_dtz_table(PAWN_FEN, 2) == (600, 1)
+            assert sum(entry.table is not None for entry in tables._entries.values()) == 1
+    with szg.open_tablebase(folder) as tables:
+        tables.probe_wdl_table(QUEEN_FEN), tables.probe_dtz_table(PAWN_FEN, 2)
+        assert sum(entry.table is not None for entry in tables._entries.values()) == 2
+
+
+def test_a_closed_tablebase(folder: Path) -> None:
+    with pytest.raises(ZeroDivisionError):
+        with szg.open_tablebase(folder) as tables:
+            tables.probe_wdl_table(QUEEN_FEN)
+            raise ZeroDivisionError
+    tables.close()
+    for call in (lambda: tables.probe_wdl_table(QUEEN_FEN), lambda: tables.get_wdl(QUEEN_FEN),
+                 lambda: tables.probe_dtz_table(PAWN_FEN, 2), lambda: tables.add_directory(folder)):
+        with pytest.raises(ValueError, match="^the tablebase is closed$"):
+            call()
+
+
+def test_names_of_materials(tmp_path: Path) -> None:
+    names = ["KQvKR", "KRvKQ", "KNNvKB", "KBvKNN", "KBPvKN", "KQQvKQ", "KRvKR", "KPvKP", "KvK", "KQRBNvK", "KQRBNPvK", "KNBvK",
+             "KQvKRv", "QKvK", "KQvKR.old", "kqvk"]
+    for name in names:
+        (tmp_path / f"{name}.rtbw").write_bytes(b"")
+    (tmp_path / "KQvKR.RTBW").write_bytes(b"")
+    with szg.open_tablebase(tmp_path) as tables:
+        assert sorted(name for name, _ in tables._entries) == sorted(
+            ["KQvKR", "KNNvKB", "KBPvKN", "KQQvKQ", "KRvKR", "KPvKP", "KQRBNvK"])
+        # each is asked by both colours
+        for fen in ("4k3/8/8/8/8/8/8/nn2K2B w", "4k3/8/8/8/8/8/8/NN2K2b w", "4k3/8/8/8/8/8/8/q3K2R b"):
+            pytest.raises(szg.Refused, tables.probe_wdl_table, fen)

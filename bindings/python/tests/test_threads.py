@@ -1,0 +1,146 @@
+"""Many threads use one object."""
+import sys
+import threading
+from pathlib import Path
+from typing import Callable, List
+
+import pytest
+import szg
+from conftest import UNPAIRED
+from szg import WHITE
+
+QUEEN_FEN, PAWN_FEN, KNIGHT_FEN = "4K3/8/8/8/8/8/8/Q6k w", "4k3/8/8/8/8/8/1P6/4K3 w", "4k3/8/8/8/8/8/8/N3K3 w"
+
+
+@pytest.fixture(autouse=True)
+def quick_switches():
+    interval = sys.getswitchinterval()
+    sys.setswitchinterval(1e-6)
+    yield
+    sys.setswitchinterval(interval)
+
+
+def in_threads(count: int, ask: Callable[[int], None]) -> None:
+    """Runs `ask` in threads at once; raises the first exception of any."""
+    faults: List[BaseException] = []
+    start = threading.Barrier(count)
+
+    def run(number: int) -> None:
+        try:
+            start.wait()
+            ask(number)
+        except BaseException as error:
+            faults.append(error)
+
+    threads = [threading.Thread(target=run, args=(number,)) for number in range(count)]
+    for thread in threads:
+        thread.start()
+    for thread in threads:
+        thread.join()
+    if faults:
+        raise faults[0]
+
+
+@pytest.mark.parametrize("is_mapped", [False, True])
+def test_threads_use_one_table(tmp_path: Path, is_mapped: bool) -> None:
+    path = tmp_path / "KQvK.rtbw"
+    path.write_bytes(UNPAIRED.data)
+    values = UNPAIRED.read.subs[0].all_values()
+    with szg.Table.open(path) if is_mapped else szg.Table("KQvK", "wdl", UNPAIRED.data) as table:
+        def ask(number: int) -> None:
+            for index in range(number, len(values), 31):
+                assert table.get(index) == values[index]
+                if index % 5 == 0:
+                    assert table.probe_wdl(QUEEN_FEN) == 2 and table.size() == 31332
+            assert table.values().tolist() == values and table.verify() == 4304
+
+        in_threads(8, ask)
+
+
+@pytest.mark.parametrize("is_mapped", [False, True])
+def test_a_table_is_closed_while_threads_use_it(tmp_path: Path, is_mapped: bool) -> None:
+    path = tmp_path / "KQvK.rtbw"
+    path.write_bytes(UNPAIRED.data)
+    values = UNPAIRED.read.subs[0].all_values()
+    for _ in range(30):
+        table = szg.Table.open(path) if is_mapped else szg.Table("KQvK", "wdl", bytearray(UNPAIRED.data))
+        asked, closed = [0] * 4, [0] * 4
+
+        def ask(number: int) -> None:
+            if number == 4:
+                while min(asked) < 3:
+                    pass
+                table.close()
+                return
+            index = number
+            while True:
+                try:
+                    assert table.get(index) == values[index]
+                    assert table.probe_wdl(QUEEN_FEN) == 2
+                    asked[number] += 1
+                except ValueError as error:
+                    assert str(error) == "the table is closed"
+                    closed[number] += 1
+                    return
+                index = (index + 977) % len(values)
+
+        in_threads(5, ask)
+        assert closed == [1] * 4
+
+
+def test_threads_use_one_tablebase(folder: Path) -> None:
+    for max_tables in (None, 1, 2):
+        with szg.open_tablebase(folder, max_tables=max_tables) as tables:
+            def ask(number: int) -> None:
+                for _ in range(60):
+                    assert tables.probe_wdl_table(QUEEN_FEN) == 2
+                    assert tables.probe_dtz_table(PAWN_FEN, 2) == (600, 1)
+                    assert tables.probe_wdl_table(KNIGHT_FEN) == 0
+                    if number == 0:
+                        tables.add_directory(folder)
+
+            in_threads(6, ask)
+
+
+def test_a_tablebase_is_closed_while_threads_use_it(folder: Path) -> None:
+    for _ in range(20):
+        tables, asked, closed = szg.open_tablebase(folder), [0] * 4, [0] * 4
+
+        def ask(number: int) -> None:
+            if number == 4:
+                while min(asked) < 3:
+                    pass
+                tables.close()
+                return
+            while True:
+                try:
+                    assert tables.probe_wdl_table(QUEEN_FEN) == 2
+                    asked[number] += 1
+                except ValueError as error:
+                    assert "closed" in str(error)
+                    closed[number] += 1
+                    return
+
+        in_threads(5, ask)
+        assert closed == [1] * 4
+
+
+def test_a_handle_serves_one_call_at_a_time() -> None:
+    """No two calls that run at once have one handle."""
+    with szg.Table("KQvK", "wdl", UNPAIRED.data) as table:
+        handles, lock, busy, most = table._opened._whole, threading.Lock(), set(), [0]
+
+        def slow(handle, *_) -> int:
+            address = id(handle._obj)
+            with lock:
+                assert address not in busy
+                busy.add(address)
+                most[0] = max(most[0], len(busy))
+            threading.Event().wait(0.001)
+            with lock:
+                busy.remove(address)
+            return 0
+
+        in_threads(6, lambda number: [handles(slow) for _ in range(20)] and None)
+        assert 1 < most[0] <= 6
+        assert len(handles._idle) <= 6
