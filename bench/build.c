@@ -1,14 +1,17 @@
-/* Builds tables of lists of values by szg_build, and prints the seconds that each took. The lists are of three kinds:
- * skewed with runs, as distances are; uniform; and nearly constant. Each kind is built of two lengths with 256 and 4,000
- * rounds, so that it shows how the time grows with both.
+/* Builds tables of lists of values by szg_build. The kinds of lists are skewed with runs, as distances are; uniform; and
+ * nearly constant.
  *
- * build                 all of them
- * build KIND            a small table of the kind 0, 1 or 2, for runs in which memory is refused: status 4 for want of it */
+ * build KIND                   a small table of the kind 0, 1 or 2, for runs in which memory is refused: status 4 for
+ *                              want of it
+ * build KIND SIZE              writes a list of SIZE values of the kind, each in two bytes
+ * build LIST SIZE ROUNDS       builds a table of the list of SIZE values in the file LIST; prints the seconds, the peak
+ *                              of memory in MB, and the bytes of the table's file */
 #include <inttypes.h>
 #include <stdint.h>
 #include <stdio.h>
 #include <stdlib.h>
 #include <string.h>
+#include <sys/resource.h>
 #include <time.h>
 
 enum { BUILT = 0, WANT_OF_MEMORY = 2 };
@@ -25,7 +28,7 @@ uint32_t szg_bench_build(const uint8_t *name, size_t name_len, const uint8_t *me
 /* a material with as many positions as its one list has values */
 struct form {
     const char *name;
-    uint8_t men[4];
+    uint8_t men[5];
     size_t count, size;
 };
 
@@ -33,6 +36,7 @@ static const struct form FORMS[] = {
     {"KQvK", {6, 5, 14}, 3, 31332},
     {"KBBvK", {6, 14, 3, 3}, 4, 873642},
     {"KQRvK", {6, 5, 14, 4}, 4, 1911252},
+    {"KQRBvK", {6, 5, 14, 4, 3}, 5, 114675120},
 };
 
 static uint64_t state;
@@ -107,39 +111,64 @@ static uint64_t build(const struct form *form, const uint16_t *values, uint32_t 
     return length;
 }
 
-static void time_build(const struct form *form, const struct kind *kind, const uint16_t *values, uint32_t rounds)
+/* a list of a file */
+static uint16_t *list_of(const char *name, size_t size)
 {
+    uint16_t *values = malloc(size * sizeof *values);
+    FILE *file = fopen(name, "rb");
+    if (values == NULL || file == NULL || fread(values, sizeof *values, size, file) != size) {
+        fprintf(stderr, "%s isn't a list of %zu values\n", name, size);
+        exit(1);
+    }
+    fclose(file);
+    return values;
+}
+
+static const struct form *form_of(size_t size)
+{
+    for (size_t f = 0; f < sizeof FORMS / sizeof *FORMS; f++)
+        if (FORMS[f].size == size)
+            return &FORMS[f];
+    fprintf(stderr, "no material has %zu positions\n", size);
+    exit(1);
+}
+
+static void time_build(const char *name, size_t size, uint32_t rounds)
+{
+    const struct form *form = form_of(size);
+    uint16_t *values = list_of(name, size);
     double begun = now();
     uint64_t length = build(form, values, rounds);
-    printf("%-16s %7zu values, %4" PRIu32 " rounds: %6.2f s, %8" PRIu64 " bytes\n", kind->name, form->size, rounds,
-           now() - begun, length);
-    fflush(stdout);
+    double seconds = now() - begun;
+    struct rusage usage;
+    getrusage(RUSAGE_SELF, &usage);
+    printf("%.3f %ld %" PRIu64 "\n", seconds, usage.ru_maxrss / 1024, length);
 }
 
-static void time_kind(const struct kind *kind, uint16_t *values)
+static void write_list(const struct kind *kind, size_t size)
 {
-    for (size_t f = 1; f < sizeof FORMS / sizeof *FORMS; f++) {
-        state = 1;
-        kind->fill(values, FORMS[f].size);
-        time_build(&FORMS[f], kind, values, 256);
-        time_build(&FORMS[f], kind, values, 4000);
-    }
+    uint16_t *values = malloc(size * sizeof *values);
+    if (values == NULL)
+        exit(4);
+    kind->fill(values, size);
+    fwrite(values, sizeof *values, size, stdout);
 }
 
-static void build_small(const struct kind *kind, uint16_t *values)
+static void build_small(const struct kind *kind)
 {
+    static uint16_t values[31332];
     kind->fill(values, FORMS[0].size);
     printf("%s: %" PRIu64 " bytes\n", kind->name, build(&FORMS[0], values, 16));
 }
 
 int main(int argc, char **argv)
 {
-    static uint16_t values[1911252];
-    if (argc > 1) {
-        build_small(&KINDS[(size_t)atoi(argv[1]) % 3], values);
-        return 0;
-    }
-    for (size_t k = 0; k < sizeof KINDS / sizeof *KINDS; k++)
-        time_kind(&KINDS[k], values);
+    state = 1;
+    if (argc == 2)
+        build_small(&KINDS[(size_t)atoi(argv[1]) % 3]);
+    else if (argc == 3)
+        write_list(&KINDS[(size_t)atoi(argv[1]) % 3], strtoull(argv[2], NULL, 10));
+    else if (argc == 4)
+        time_build(argv[1], strtoull(argv[2], NULL, 10), (uint32_t)strtoul(argv[3], NULL, 10));
     return 0;
 }

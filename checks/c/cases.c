@@ -1,0 +1,90 @@
+/* Compares the library with the reader of table_reader.h on made and changed tables: cases COUNT SEED FOLDER
+ * or on one file: cases --file NAME wdl|dtz FILE
+ * or writes made tables as seeds of libFuzzer (guided.c): cases --seeds COUNT SEED FOLDER
+ *
+ * Prints the counts; a file with a difference is written into FOLDER. The status is 1 if there is any. */
+#include "compare.h"
+#include "made_tables.h"
+#include <signal.h>
+#include <stdio.h>
+#include <stdlib.h>
+#include <string.h>
+#include <unistd.h>
+
+enum { CHANGED = 60, KEPT = 16, DIFFERENCES_MOST = 20 };
+
+static void stopped(int signal) {
+    static const char text[] = "the case that was compared stopped the program\n";
+    if (write(1, text, sizeof text - 1) > 0) keep_case();
+    _exit(128 + signal);
+}
+
+/* Sometimes asks for the other kind or another material than the bytes are of. */
+static void compare_made(const made_table *made, const made_table *other) {
+    const char *name = random_one_in(200) ? other->name : made->name;
+    compare(name, made->dtz != random_one_in(300), made->bytes, made->length);
+}
+
+static void run_cases(uint64_t count, uint64_t seed) {
+    made_table *kept = calloc(KEPT, sizeof *kept), *changed = malloc(sizeof *changed);
+    for (uint64_t tables = 0; compared_cases() < count && compared_differences() < DIFFERENCES_MOST; tables++) {
+        made_table *made = &kept[tables % KEPT];
+        random_seed(seed * 1000003 + tables);
+        make_table(made);
+        const made_table *other = &kept[tables < KEPT ? 0 : random_below(KEPT)];
+        compare_made(made, other);
+        for (int i = 0; i < CHANGED && compared_cases() < count; i++) {
+            *changed = *made;
+            change_table(changed, other);
+            compare_made(changed, other);
+        }
+    }
+    free(kept);
+    free(changed);
+}
+
+static int compare_file(char **words) {
+    static made_table made;
+    FILE *file = fopen(words[2], "rb");
+    if (!file) {
+        perror(words[2]);
+        return 2;
+    }
+    made.length = fread(made.bytes, 1, MADE_MOST, file);
+    fclose(file);
+    random_seed(1);
+    for (int i = 0; i < 100; i++) compare(words[0], strcmp(words[1], "dtz") == 0, made.bytes, made.length);
+    return compare_report(false);
+}
+
+static int write_seeds(char **words) {
+    static made_table made;
+    static uint8_t input[NAMED + MADE_MOST];
+    for (uint64_t i = 0; i < strtoull(words[0], NULL, 10); i++) {
+        char path[4096];
+        random_seed(strtoull(words[1], NULL, 10) * 1000003 + i);
+        make_table(&made);
+        snprintf(path, sizeof path, "%s/seed%llu", words[2], (unsigned long long)i);
+        FILE *file = fopen(path, "wb");
+        if (!file) {
+            perror(path);
+            return 2;
+        }
+        fwrite(input, 1, input_of_made(&made, input, sizeof input), file);
+        fclose(file);
+    }
+    return 0;
+}
+
+int main(int count, char **words) {
+    if (count == 5 && strcmp(words[1], "--file") == 0) return compare_file(words + 2);
+    if (count == 5 && strcmp(words[1], "--seeds") == 0) return write_seeds(words + 2);
+    if (count != 4) {
+        fprintf(stderr, "cases COUNT SEED FOLDER, or cases --file NAME wdl|dtz FILE, or cases --seeds COUNT SEED FOLDER\n");
+        return 2;
+    }
+    compare_begin(words[3], strtoull(words[2], NULL, 10));
+    for (int i = 0; i < 4; i++) signal(((const int[]){SIGSEGV, SIGBUS, SIGFPE, SIGABRT})[i], stopped);
+    run_cases(strtoull(words[1], NULL, 10), strtoull(words[2], NULL, 10));
+    return compare_report(true);
+}

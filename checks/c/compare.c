@@ -1,0 +1,323 @@
+/* Compares the library with the reader of table_reader.h, as compare.h says. */
+#include "compare.h"
+#include "made_tables.h"
+#include <stdio.h>
+#include <stdlib.h>
+#include <string.h>
+
+enum { REASONS = 19, LISTED_MOST = 300000 };
+
+static const char *const REASON_NAMES[REASONS] = {
+    "good", "Truncated", "Magic", "SplitBit", "PawnBit", "Pieces", "PawnsFirst", "OrderPlace", "BlockBits", "SpanBits",
+    "CodeLengths", "LowestOrder", "TooFull", "Child", "Cycle", "LongSymbol", "ShortTotal", "SparseEntry", "Word"};
+
+static struct {
+    uint64_t cases, ended[REASONS], differences, values, blocks, placements, indexes, numbers;
+} counts;
+
+/* The case that is compared now. */
+static struct {
+    const char *name, *folder;
+    bool dtz;
+    const uint8_t *bytes;
+    size_t length;
+    uint64_t seed, number;
+    bool differs;
+} now;
+
+void keep_case(void) {
+    char path[4096];
+    if (!now.folder) return;
+    snprintf(path, sizeof path, "%s/seed%llu_case%llu_%s.%s", now.folder, (unsigned long long)now.seed, (unsigned long long)now.number,
+             now.name, now.dtz ? "rtbz" : "rtbw");
+    FILE *file = fopen(path, "wb");
+    if (file) {
+        fwrite(now.bytes, 1, now.length, file);
+        fclose(file);
+        printf("%s\n", path);
+    } else
+        perror(path);
+    fflush(stdout);
+}
+
+static void same(const char *what, int64_t library, int64_t reader) {
+    if (library == reader) return;
+    if (!now.differs) {
+        now.differs = true;
+        counts.differences++;
+        keep_case();
+    }
+    printf("%s %s, seed %llu, case %llu: %s: the library %lld, the reader %lld\n", now.name, now.dtz ? "dtz" : "wdl",
+           (unsigned long long)now.seed, (unsigned long long)now.number, what, (long long)library, (long long)reader);
+}
+
+/* ---- Calls on bytes */
+
+static const szg_answer NO_ANSWER = {77777, 77};
+
+static void same_answer(const char *what, const reader_table *t, uint32_t status, const szg_answer *answer) {
+    same(what, status, t->reason ? SZG_REFUSED : SZG_DONE);
+    if (!t->reason) return;
+    same("offset", (int64_t)answer->place, (int64_t)t->at);
+    same("reason", answer->reason, t->reason);
+}
+
+#define TABLE_WORDS now.name, strlen(now.name), now.dtz, now.bytes, now.length
+
+static void compare_verdict(const reader_table *t) {
+    szg_answer answer = NO_ANSWER;
+    same_answer("szg_check", t, szg_check(TABLE_WORDS, &answer), &answer);
+    if (!t->reason) same("length", (int64_t)answer.place, (int64_t)t->at);
+}
+
+/* Refused bytes are refused by each call, which leaves its results as they were and its handle empty. */
+static void compare_refused(const reader_table *t) {
+    szg_answer answer = NO_ANSWER;
+    szg_table table = SZG_NO_TABLE;
+    szg_heads heads = SZG_NO_HEADS;
+    uint64_t size = 12345, index = 0;
+    uint16_t value = 4321;
+    szg_wanted wanted = {1, 2};
+    switch (random_below(4)) {
+    case 0:
+        same_answer("szg_open", t, szg_open(TABLE_WORDS, &table, &answer), &answer);
+        same("szg_get of no table", szg_get(&table, 0, 0, 0, &value), SZG_CLOSED);
+        break;
+    case 1:
+        same_answer("szg_open_heads", t, szg_open_heads(TABLE_WORDS, &heads, &answer), &answer);
+        same("szg_find of no heads", szg_find(&heads, 0, 0, 0, &wanted), SZG_CLOSED);
+        break;
+    case 2: same_answer("szg_size", t, szg_size(TABLE_WORDS, 0, 0, &size, &answer), &answer); break;
+    default: same_answer("szg_values_at", t, szg_values_at(TABLE_WORDS, 0, 0, &index, 1, &value, 1, &answer), &answer); break;
+    }
+    same("kept", size + value + wanted.place + wanted.count, 12345 + 4321 + 3);
+    szg_close(&table);
+    szg_close_heads(&heads);
+}
+
+/* ---- Calls on an accepted table */
+
+static uint64_t any_index(const reader_subtable *sub) {
+    if (!sub->constant && random_one_in(3)) { /* at a block's first value or its neighbours */
+        uint64_t index = sub->start[random_below(sub->blocks)] + random_below(3) - 1;
+        if (index < sub->size) return index;
+    }
+    return random_one_in(8) ? sub->size - 1 : random_below(sub->size);
+}
+
+static void compare_sizes(const reader_table *t, szg_table *table) {
+    for (int part = 0; part < 5; part++)
+        for (int side = 0; side < 3; side++) {
+            const reader_subtable *sub = reader_subtable_of(t, part, side);
+            uint64_t size = 7;
+            same("szg_positions", szg_positions(table, (uint8_t)part, (uint8_t)side, &size), sub ? SZG_DONE : SZG_RANGE);
+            same("positions", (int64_t)size, sub ? (int64_t)sub->size : 7);
+        }
+}
+
+static void compare_value(const reader_subtable *sub, szg_table *table, uint64_t index) {
+    uint16_t value = 4321;
+    same("szg_get", szg_get(table, (uint8_t)sub->part, (uint8_t)sub->side, index, &value), SZG_DONE);
+    same("value", value, reader_value(sub, index));
+    counts.values++;
+}
+
+static void compare_bytes_of_value(const reader_table *t, const reader_subtable *sub, szg_heads *heads, uint64_t index) {
+    szg_wanted wanted = {77, 77};
+    uint16_t value = 4321, due = sub->value;
+    uint64_t within;
+    const uint8_t *block = now.bytes;
+    uint8_t part = (uint8_t)sub->part, side = (uint8_t)sub->side;
+    same("szg_find", szg_find(heads, part, side, index, &wanted), SZG_DONE);
+    counts.blocks++;
+    if (sub->constant) {
+        same("bytes of a constant", (int64_t)wanted.count, 0);
+        same("szg_value", szg_value(heads, part, side, index, block, 0, &value), SZG_DONE);
+        same("value of no bytes", value, due);
+        return;
+    }
+    block = sub->packed + ((uint64_t)reader_block_of(sub, index, &within) << sub->block_bits);
+    same("offset of a value", (int64_t)wanted.place, block - t->bytes);
+    same("bytes of a value", (int64_t)wanted.count, (int64_t)1 << sub->block_bits);
+    same("szg_value", szg_value(heads, part, side, index, block, wanted.count, &value), SZG_DONE);
+    reader_decode(sub, block, within, &due);
+    same("value of its bytes", value, due);
+    same("szg_value of too few", szg_value(heads, part, side, index, block, wanted.count - 1, &value), SZG_CHANGED);
+    uint8_t other[1 << 12];
+    if (wanted.count > sizeof other) return;
+    memcpy(other, block, wanted.count);
+    other[random_below(wanted.count)] ^= (uint8_t)(1 << random_below(8));
+    value = due = 4321;
+    bool spelled = reader_decode(sub, other, within, &due);
+    same("szg_value of other bytes", szg_value(heads, part, side, index, other, wanted.count, &value), spelled ? SZG_DONE : SZG_CHANGED);
+    same("value of other bytes", value, due);
+}
+
+static void compare_lists(const reader_subtable *sub, szg_table *table) {
+    static uint16_t found[LISTED_MOST], due[LISTED_MOST];
+    uint8_t part = (uint8_t)sub->part, side = (uint8_t)sub->side;
+    uint64_t indexes[3];
+    uint16_t values[3] = {9, 9, 9};
+    szg_answer answer = NO_ANSWER;
+    if (random_one_in(4)) {
+        for (int i = 0; i < 3; i++) indexes[i] = any_index(sub);
+        same("szg_values_at", szg_values_at(TABLE_WORDS, part, side, indexes, 3, values, 3, &answer), SZG_DONE);
+        for (int i = 0; i < 3; i++) same("value of a list", values[i], reader_value(sub, indexes[i]));
+    }
+    if (sub->size > (sub->constant ? 40000 : LISTED_MOST) || !random_one_in(sub->constant ? 16 : 2)) return;
+    reader_values(sub, due);
+    same("szg_all", szg_all(table, part, side, found, sub->size), SZG_DONE);
+    counts.values += sub->size;
+    if (memcmp(found, due, sub->size * sizeof *due) == 0) return;
+    for (uint64_t i = 0; i < sub->size; i++)
+        if (found[i] != due[i]) {
+            printf("index %llu\n", (unsigned long long)i);
+            same("value of all", found[i], due[i]);
+            return;
+        }
+}
+
+static void compare_numbers(const reader_table *t, szg_table *table, int part, uint16_t value) {
+    for (int class_of_position = -3; class_of_position <= 3; class_of_position++) {
+        uint32_t number = 55555, due = 55555, status = SZG_RANGE;
+        if (t->dtz && part < t->part_count && -2 <= class_of_position && class_of_position <= 2)
+            status = reader_number(t, part, class_of_position, value, &due);
+        same("szg_number", szg_number(table, (uint8_t)part, (int8_t)class_of_position, value, &number), status);
+        same("number", number, due);
+        counts.numbers++;
+    }
+}
+
+/* ---- Placements */
+
+/* Men of the table's material on random squares, mostly a placement; sometimes with colours exchanged or one man changed. */
+static void any_men(const reader_material *m, szg_man *men) {
+    bool exchanged = random_one_in(3);
+    uint64_t taken = 0;
+    for (int i = 0; i < m->count; i++) {
+        bool pawn = m->codes[i] % 8 == 1;
+        int square;
+        do
+            square = pawn ? 8 + (int)random_below(48) : random_one_in(3) ? 9 * (int)random_below(8) : (int)random_below(64);
+        while (taken >> square & 1);
+        taken |= (uint64_t)1 << square;
+        men[i] = (szg_man){m->codes[i] % 8, (m->codes[i] > 8) != exchanged, (uint8_t)square};
+    }
+    for (int i = m->count - 1; i > 0; i--) {
+        uint64_t j = random_below((uint64_t)i + 1);
+        szg_man kept = men[i];
+        men[i] = men[j], men[j] = kept;
+    }
+    szg_man *man = &men[random_below((uint64_t)m->count)];
+    switch (random_below(24)) {
+    case 0: man->kind = (uint8_t)random_below(8); break;
+    case 1: man->color = (uint8_t)random_below(3); break;
+    case 2: man->square = (uint8_t)random_below(70); break;
+    default: break;
+    }
+}
+
+/* What szg_probe gives for an accepted placement. */
+static uint32_t reader_probe(const reader_table *t, const szg_spot *spot, int class_of_position, int64_t *outcome) {
+    uint16_t value = reader_value(reader_subtable_of(t, spot->part, spot->side), spot->index);
+    uint32_t number = 0;
+    if (!t->dtz) {
+        if (value > 4) return SZG_NO_CLASS;
+        *outcome = value - 2;
+        return SZG_DONE;
+    }
+    uint32_t status = reader_number(t, spot->part, class_of_position, value, &number);
+    if (status == SZG_DONE) *outcome = number;
+    return status;
+}
+
+static void compare_placement(const reader_table *t, szg_table *table) {
+    szg_man men[MEN_MOST];
+    szg_spot found = {7, 7, 7777}, due = found;
+    int64_t outcome = 33333, due_outcome = outcome;
+    any_men(&t->material, men);
+    size_t count = random_one_in(40) ? random_below(7) : (size_t)t->material.count;
+    if (count > (size_t)t->material.count) count = (size_t)t->material.count;
+    uint8_t mover = (uint8_t)random_below(random_one_in(30) ? 3 : 2);
+    int class_of_position = (int)random_below(5) - 2;
+    uint32_t status = reader_index(t, men, count, mover, &due);
+    same("szg_index", szg_index(table, men, count, mover, &found), status);
+    same("part", found.part, due.part);
+    same("side", found.side, due.side);
+    same("index", (int64_t)found.index, (int64_t)due.index);
+    counts.placements++;
+    if (status == SZG_DONE) {
+        counts.indexes++;
+        same("index below the size", due.index < reader_subtable_of(t, due.part, due.side)->size, true);
+        status = reader_probe(t, &due, class_of_position, &due_outcome);
+    }
+    same("szg_probe", szg_probe(table, men, count, mover, (int8_t)class_of_position, &outcome), status);
+    same("outcome", outcome, due_outcome);
+}
+
+static void compare_accepted(const reader_table *t) {
+    szg_table table = SZG_NO_TABLE;
+    szg_heads heads = SZG_NO_HEADS;
+    szg_answer answer = NO_ANSWER;
+    same("szg_open", szg_open(TABLE_WORDS, &table, &answer), SZG_DONE);
+    bool by_place = random_one_in(2);
+    if (by_place) same("szg_open_heads", szg_open_heads(TABLE_WORDS, &heads, &answer), SZG_DONE);
+    if (random_one_in(4)) compare_sizes(t, &table);
+    for (int i = 0; i < t->subtable_count; i++) {
+        const reader_subtable *sub = &t->subtables[i];
+        uint16_t value = 9;
+        for (int turn = 0; turn < 4; turn++) {
+            compare_value(sub, &table, any_index(sub));
+            if (by_place) compare_bytes_of_value(t, sub, &heads, any_index(sub));
+        }
+        same("szg_get past the size", szg_get(&table, (uint8_t)sub->part, (uint8_t)sub->side, sub->size, &value), SZG_RANGE);
+        compare_lists(sub, &table);
+    }
+    compare_numbers(t, &table, (int)random_below(5), (uint16_t)random_below(random_one_in(2) ? 4 : 65536));
+    for (int i = 0; i < 8; i++) compare_placement(t, &table);
+    szg_close(&table);
+    szg_close_heads(&heads);
+}
+
+/* ---- Cases */
+
+bool compare(const char *name, bool dtz, const uint8_t *bytes, size_t length) {
+    reader_material material;
+    reader_table t;
+    now.name = name, now.dtz = dtz, now.bytes = bytes, now.length = length, now.differs = false;
+    now.number = counts.cases++;
+    if (!reader_parse(name, strlen(name), &material)) {
+        fprintf(stderr, "%s is no material\n", name);
+        exit(2);
+    }
+    reader_read(&t, &material, dtz, bytes, length);
+    counts.ended[t.reason]++;
+    compare_verdict(&t);
+    if (t.reason)
+        compare_refused(&t);
+    else
+        compare_accepted(&t);
+    reader_free(&t);
+    return !now.differs;
+}
+
+void compare_begin(const char *folder, uint64_t seed) {
+    now.folder = folder;
+    now.seed = seed;
+}
+
+uint64_t compared_cases(void) { return counts.cases; }
+uint64_t compared_differences(void) { return counts.differences; }
+
+int compare_report(bool all_reasons) {
+    int missing = 0;
+    for (int reason = 0; reason < REASONS; reason++) {
+        printf("%s %llu\n", REASON_NAMES[reason], (unsigned long long)counts.ended[reason]);
+        missing += counts.ended[reason] == 0;
+    }
+    printf("values %llu\nblocks %llu\nnumbers %llu\nplacements %llu\nindexes %llu\n", (unsigned long long)counts.values,
+           (unsigned long long)counts.blocks, (unsigned long long)counts.numbers, (unsigned long long)counts.placements,
+           (unsigned long long)counts.indexes);
+    printf("cases %llu\ndifferences %llu\n", (unsigned long long)counts.cases, (unsigned long long)counts.differences);
+    return counts.differences || (all_reasons && missing);
+}

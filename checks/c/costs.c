@@ -1,0 +1,34 @@
+/* Calls the library COUNT times on an opened table, for counts of instructions: costs FOLDER CALL COUNT
+ * CALL is check, open, get (short words), get_long (long pairs), index or share. */
+#include "trying.h"
+
+static const szg_man MEN[3] = {{SZG_KING, SZG_WHITE, 60}, {SZG_QUEEN, SZG_WHITE, 0}, {SZG_KING, SZG_BLACK, 7}};
+
+int main(int count, char **words) {
+    if (count != 4) return 2;
+    const char *call = words[2];
+    uint64_t times = strtoull(words[3], NULL, 10), sum = 0;
+    bool is_long = strcmp(call, "get_long") == 0;
+    szg_answer answer;
+    szg_table table = SZG_NO_TABLE, other = SZG_NO_TABLE;
+    size_t length = load(words[1], is_long ? "kqvk_wdl_paired.rtbw" : "kqvk_wdl_unpaired.rtbw");
+    want("open", szg_open("KQvK", 4, false, bytes, length, &table, &answer), SZG_DONE);
+    for (uint64_t i = 0; i < times; i++) {
+        uint16_t value = 0;
+        szg_spot spot = {0, 0, 0};
+        if (strcmp(call, "check") == 0)
+            sum += szg_check("KQvK", 4, false, bytes, length, &answer);
+        else if (strcmp(call, "open") == 0)
+            sum += szg_open("KQvK", 4, false, bytes, length, &other, &answer);
+        else if (strcmp(call, "index") == 0)
+            sum += szg_index(&table, MEN, 3, SZG_WHITE, &spot);
+        else if (strcmp(call, "share") == 0)
+            sum += szg_share(&table, &other);
+        else
+            sum += szg_get(&table, 0, 0, i * 7919 % 31332, &value);
+    }
+    want("all done", (int64_t)sum, 0);
+    szg_close(&table);
+    szg_close(&other);
+    return failed;
+}

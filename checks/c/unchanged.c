@@ -1,0 +1,123 @@
+/* Holds that a call which refuses changes nothing of what it was lent, save what szg.h says: unchanged DATA
+ * The bytes of `answer` stay unless the status is SZG_REFUSED, or SZG_DONE of szg_check; a result stays unless the status
+ * is SZG_DONE. Linked with malloc and realloc wrapped. The status is 0 if all is as expected. */
+#include "trying.h"
+
+enum { SIZE = 31332 };
+
+void *__real_malloc(size_t size);
+void *__real_realloc(void *block, size_t size);
+
+static bool refuses;
+static uint16_t values[SIZE], before[SIZE];
+static uint8_t original[sizeof bytes];
+static szg_answer answer;
+
+void *__wrap_malloc(size_t size) { return refuses ? NULL : __real_malloc(size); }
+void *__wrap_realloc(void *block, size_t size) { return refuses ? NULL : __real_realloc(block, size); }
+
+/* Holds a status, and that answer and list are as they were filled. */
+static void stays(const char *what, uint32_t status, uint32_t wanted) {
+    szg_answer filled;
+    memset(&filled, 0x5a, sizeof filled);
+    want(what, status, wanted);
+    want(what, memcmp(&answer, &filled, sizeof filled), 0);
+    want(what, memcmp(values, before, sizeof values), 0);
+    want(what, memcmp(bytes, original, sizeof bytes), 0);
+}
+
+static void fill(void) {
+    memset(&answer, 0x5a, sizeof answer);
+    memset(values, 0x5a, sizeof values);
+    memset(before, 0x5a, sizeof before);
+}
+
+/* Each call that reads a whole file, with a name, a part or a list that it refuses, and without memory. */
+static void whole(size_t n) {
+    uint64_t size = 77, indexes[] = {0, 5, SIZE};
+    szg_table table = SZG_NO_TABLE;
+    szg_heads heads = SZG_NO_HEADS;
+    fill();
+    stays("check, name", szg_check("KvKQ", 4, false, bytes, n, &answer), SZG_NAME);
+    stays("size, name", szg_size("KvKQ", 4, false, bytes, n, 0, 0, &size, &answer), SZG_NAME);
+    stays("size, part", szg_size("KQvK", 4, false, bytes, n, 1, 0, &size, &answer), SZG_RANGE);
+    stays("values, name", szg_values("KvKQ", 4, false, bytes, n, 0, 0, values, SIZE, &answer), SZG_NAME);
+    stays("values, side", szg_values("KQvK", 4, false, bytes, n, 0, 2, values, SIZE, &answer), SZG_RANGE);
+    stays("values, short", szg_values("KQvK", 4, false, bytes, n, 0, 0, values, SIZE - 1, &answer), SZG_RANGE);
+    stays("values at, name", szg_values_at("KvKQ", 4, false, bytes, n, 0, 0, indexes, 2, values, 2, &answer), SZG_NAME);
+    stays("values at, part", szg_values_at("KQvK", 4, false, bytes, n, 1, 0, indexes, 2, values, 2, &answer), SZG_RANGE);
+    /* values before the refused index may be written */
+    want("values at, index", szg_values_at("KQvK", 4, false, bytes, n, 0, 0, indexes, 3, values, 3, &answer), SZG_RANGE);
+    want("values from the refused index on", memcmp(values + 2, before + 2, sizeof values - 4), 0);
+    memset(values, 0x5a, 4);
+    stays("open, name", szg_open("KvKQ", 4, false, bytes, n, &table, &answer), SZG_NAME);
+    stays("open heads, name", szg_open_heads("KvKQ", 4, false, bytes, n, &heads, &answer), SZG_NAME);
+    refuses = true;
+    stays("check, memory", szg_check("KQvK", 4, false, bytes, n, &answer), SZG_MEMORY);
+    stays("size, memory", szg_size("KQvK", 4, false, bytes, n, 0, 0, &size, &answer), SZG_MEMORY);
+    stays("values, memory", szg_values("KQvK", 4, false, bytes, n, 0, 0, values, SIZE, &answer), SZG_MEMORY);
+    stays("values at, memory", szg_values_at("KQvK", 4, false, bytes, n, 0, 0, indexes, 2, values, 2, &answer), SZG_MEMORY);
+    stays("open, memory", szg_open("KQvK", 4, false, bytes, n, &table, &answer), SZG_MEMORY);
+    stays("open heads, memory", szg_open_heads("KQvK", 4, false, bytes, n, &heads, &answer), SZG_MEMORY);
+    refuses = false;
+    want("size", (int64_t)size, 77);
+    stays("size, done", szg_size("KQvK", 4, false, bytes, n, 0, 0, &size, &answer), SZG_DONE);
+    stays("open, done", szg_open("KQvK", 4, false, bytes, n, &table, &answer), SZG_DONE);
+    stays("open heads, done", szg_open_heads("KQvK", 4, false, bytes, n, &heads, &answer), SZG_DONE);
+    want("values at, done", szg_values_at("KQvK", 4, false, bytes, n, 0, 0, indexes, 2, values, 2, &answer), SZG_DONE);
+    want("values after those at indexes", memcmp(values + 2, before + 2, sizeof values - 4), 0);
+    fill();
+    bytes[0] ^= 1;
+    want("values, refused", szg_values("KQvK", 4, false, bytes, n, 0, 0, values, SIZE, &answer), SZG_REFUSED);
+    want("values at, refused", szg_values_at("KQvK", 4, false, bytes, n, 0, 0, indexes, 2, values, 2, &answer), SZG_REFUSED);
+    bytes[0] ^= 1;
+    want("values of a refused table", memcmp(values, before, sizeof values), 0);
+    szg_close(&table);
+    szg_close_heads(&heads);
+}
+
+/* Each call on a handle, with what it refuses, and without a table. */
+static void held(size_t n) {
+    szg_table tables[] = {SZG_NO_TABLE, SZG_NO_TABLE};
+    szg_heads heads = SZG_NO_HEADS;
+    szg_wanted wanted = {77, 77};
+    szg_spot spot = {7, 7, 77};
+    uint64_t size = 77;
+    uint16_t value = 77;
+    uint32_t number = 77;
+    int64_t outcome = 77;
+    const szg_man men[] = {{SZG_KING, SZG_WHITE, 4}, {SZG_ROOK, SZG_WHITE, 0}, {SZG_KING, SZG_BLACK, 60}};
+    fill();
+    want("open", szg_open("KQvK", 4, false, bytes, n, &tables[0], &answer), SZG_DONE);
+    for (int open = 1; open >= 0; open--) {
+        szg_table *table = &tables[1 - open];
+        uint32_t range = open ? SZG_RANGE : SZG_CLOSED;
+        stays("get", szg_get(table, 0, 0, SIZE, &value), range);
+        stays("get, part", szg_get(table, 1, 0, 0, &value), range);
+        stays("positions", szg_positions(table, 0, 2, &size), range);
+        stays("all", szg_all(table, 0, 0, values, SIZE - 1), range);
+        stays("all, part", szg_all(table, 1, 0, values, SIZE), range);
+        stays("number", szg_number(table, 0, 2, 0, &number), range);
+        stays("index", szg_index(table, men, 3, SZG_WHITE, &spot), open ? SZG_OTHER_MATERIAL : SZG_CLOSED);
+        stays("probe", szg_probe(table, men, 3, SZG_WHITE, 0, &outcome), open ? SZG_OTHER_MATERIAL : SZG_CLOSED);
+    }
+    stays("find", szg_find(&heads, 0, 0, 0, &wanted), SZG_CLOSED);
+    stays("value", szg_value(&heads, 0, 0, 0, bytes, 1, &value), SZG_CLOSED);
+    want("open heads", szg_open_heads("KQvK", 4, false, bytes, n, &heads, &answer), SZG_DONE);
+    stays("find", szg_find(&heads, 0, 0, SIZE, &wanted), SZG_RANGE);
+    stays("value", szg_value(&heads, 0, 0, SIZE, bytes, 1, &value), SZG_RANGE);
+    stays("value", szg_value(&heads, 0, 0, 0, bytes, 1, &value), SZG_CHANGED);
+    want("results", (int64_t)(size + value + number) + outcome + (int64_t)(wanted.place + wanted.count), 6 * 77);
+    want("spot", (int64_t)(spot.part + spot.side + spot.index), 91);
+    szg_close(&tables[0]);
+    szg_close_heads(&heads);
+}
+
+int main(int count, char **words) {
+    size_t n = load(count > 1 ? words[1] : "data", "kqvk_wdl_unpaired.rtbw");
+    memcpy(original, bytes, sizeof bytes);
+    whole(n);
+    held(n);
+    if (!failed) puts("all as expected");
+    return failed;
+}

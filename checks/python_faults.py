@@ -1,0 +1,135 @@
+#!/usr/bin/env python3
+"""Plants faults in the Python package, one by one; the package's tests must fail for each: python_faults.py PACKAGE TESTS
+
+PACKAGE is the folder of the installed package, with its library; it is not changed. The status is 0 if each is caught.
+"""
+import os
+import re
+import shutil
+import subprocess
+import sys
+import tempfile
+from concurrent.futures import ThreadPoolExecutor
+from pathlib import Path
+from typing import Iterator, List, NamedTuple
+
+
+class Fault(NamedTuple):
+    what: str
+    file: str
+    old: str
+    new: str
+
+
+LIBRARY, OPENED, PLACEMENT, TABLE, BASE = "_library.py", "_opened.py", "_placement.py", "_table.py", "_tablebase.py"
+FAULTS = [
+    Fault("the status CHANGED is ignored", LIBRARY, 'raise Changed("the table\'s file was changed")', "return  # type: ignore"),
+    Fault("the status MEMORY is ignored", LIBRARY, 'raise MemoryError("no memory for the table")', "return  # type: ignore"),
+    Fault("the status RANGE is ignored", LIBRARY, 'raise IndexError("the table has no such part, side or index")', "return"),
+    Fault("an unknown status is ignored", LIBRARY, 'raise RuntimeError(f"the library returned the status {status}")', "return"),
+    Fault("no status of a call is looked at", LIBRARY, "        judge(status)\n\n    def _take", "\n    def _take"),
+    Fault("a reason is the next one", LIBRARY, "REASONS[answer.reason - 1]", "REASONS[answer.reason % 18]"),
+    Fault("the byte of a refusal is one off", LIBRARY, "raise Refused(answer.place,", "raise Refused(answer.place + 1,"),
+    Fault("the kind of a table is exchanged at opening", LIBRARY, 'len(text), kind == "dtz", lent.address, lent.length, byref(opened)',
+          'len(text), kind != "dtz", lent.address, lent.length, byref(opened)'),
+    Fault("the kind of a table is exchanged at checking", LIBRARY, 'len(text), kind == "dtz", lent.address, lent.length, byref(answer)',
+          'len(text), kind != "dtz", lent.address, lent.length, byref(answer)'),
+    Fault("all calls share one handle", LIBRARY, "            if self._idle:\n                return self._idle.pop()", "            return self._first"),
+    Fault("the status CLOSED is ignored", LIBRARY, '    if status == CLOSED:\n        raise ValueError("the table is closed")', "    if status == CLOSED:\n        return"),
+    Fault("a handle that served while the table was closed stays open", LIBRARY, "            if self._first is not None:\n                self._idle",
+          "            if True:\n                self._idle"),
+    Fault("idle handles are not closed", LIBRARY, "for handle in idle + ([first]", "for handle in ([first]"),
+    Fault("a table that is dropped is not closed", LIBRARY, '        if getattr(self, "_first", None) is not None:\n            self.close()', "        pass"),
+    Fault("lent memory is never given back", LIBRARY, "            ctypes.pythonapi.PyBuffer_Release(byref(self._view))", "            pass"),
+    Fault("a class is exchanged", OPENED, "men.mover, wdl, byref(outcome)", "men.mover, -wdl, byref(outcome)"),
+    Fault("a class is exchanged where a value is decoded", OPENED, "part, wdl, value, byref(number)", "part, -wdl, value, byref(number)"),
+    Fault("part and side are exchanged", OPENED, "return spot.part, spot.side, spot.index", "return spot.side, spot.part, spot.index"),
+    Fault("a mapped value is taken out of other bytes", OPENED, "lent.address + wanted.place", "lent.address + wanted.place + 1"),
+    Fault("the values of a side are those of side 0", OPENED, "library.szg_all, part, side,", "library.szg_all, part, 0,"),
+    Fault("no value is written into the list", OPENED, "        self._table()(library.szg_all, part, side, values, len(values))\n", ""),
+    Fault("verify looks at nothing", OPENED, "return check(self._name, self._kind, self._bytes())", "return self._bytes().length"),
+    Fault("the bytes of a closed table stay", OPENED, "            self._lent = None", "            pass"),
+    Fault("colours are exchanged", PLACEMENT, "CodedMan(kind, 0 if color else 1, square)", "CodedMan(kind, 1 if color else 0, square)"),
+    Fault("kind and square are exchanged", PLACEMENT, "CodedMan(kind, 0 if color else 1, square)", "CodedMan(square, 0 if color else 1, kind)"),
+    Fault("the mover is exchanged", PLACEMENT, "return 0 if self.turn else 1", "return 1 if self.turn else 0"),
+    Fault("a number that is no byte is cut to one", PLACEMENT, "if not (0 <= kind < 256 and 0 <= square < 256):", "if False:"),
+    Fault("colours of a FEN are exchanged", PLACEMENT, "letter.isupper()", "letter.islower()"),
+    Fault("ranks of a FEN are upside down", PLACEMENT, "zip(range(7, -1, -1), ranks)", "zip(range(8), ranks)"),
+    Fault("the mover of a FEN is exchanged", PLACEMENT, 'fields[1] == "w" if', 'fields[1] == "b" if'),
+    Fault("a rank of another length is taken", PLACEMENT, "        if file != 8:", "        if file > 8:"),
+    Fault("the board's own mover comes before turn", PLACEMENT, "moves = own if turn is None else turn", "moves = turn if own is None else own"),
+    Fault("0 is taken as a colour", PLACEMENT, "    if not isinstance(color, bool):", "    if not isinstance(color, int):"),
+    Fault("True is taken as a class", PLACEMENT, "    if isinstance(number, bool):", "    if False:"),
+    Fault("the weaker side is named first", PLACEMENT, "key=lambda side: (len(side), side), reverse=True", "key=lambda side: (len(side), side)"),
+    Fault("sides of a name are ordered by length alone", PLACEMENT, "key=lambda side: (len(side), side), reverse=True", "key=len, reverse=True"),
+    Fault("an empty file is mapped", TABLE, "        if os.fstat(file.fileno()).st_size == 0:", "        if False:"),
+    Fault("a class outside -2 to 2 is cut to a byte", TABLE, "    if not -2 <= wdl <= 2:", "    if False:"),
+    Fault("a part outside a byte is cut to one", TABLE, "    if not 0 <= number < 256:", "    if False:"),
+    Fault("a negative index is cut", TABLE, "        if not 0 <= index < 1 << 64:", "        if False:"),
+    Fault("a DTZ table is asked for a class", TABLE, '        self._require("wdl")\n', ""),
+    Fault("a WDL table is asked for a number", TABLE, '        self._require("dtz")\n        return self._probe', "        return self._probe"),
+    Fault("a with block swallows exceptions", TABLE, "        self.close()\n\n    def __repr__", "        self.close()\n        return True\n\n    def __repr__"),
+    Fault("the end of a with block closes nothing", TABLE, "        self.close()\n\n    def __repr__", "        pass\n\n    def __repr__"),
+    Fault("a with block of a tablebase swallows exceptions", BASE, "        self.close()\n\n    def __repr__", "        self.close()\n        return True\n\n    def __repr__"),
+    Fault("the other side's number is a success", BASE, "return 0, -1", "return 0, 1"),
+    Fault("every refusal of a number is the other side's", BASE, '            if error.reason != "WrongSide":\n                raise\n', ""),
+    Fault("two kings alone have no table", BASE, "        if _is_two_kings(men):\n            return 0\n", ""),
+    Fault("the default covers every missing entry", BASE, "            return self.probe_wdl_table(board, turn)\n        except MissingTableError:",
+          "            return self.probe_wdl_table(board, turn)\n        except LookupError:"),
+    Fault("the default covers refused files", BASE, "            return self.probe_wdl_table(board, turn)\n        except MissingTableError:",
+          "            return self.probe_wdl_table(board, turn)\n        except (MissingTableError, ValueError):"),
+    Fault("the other side's number is no default", BASE, "return number if success == 1 else default", "return number"),
+    Fault("the folder that was added first serves", BASE, "            self._entries.update(found)", "            self._entries.update({**found, **self._entries})"),
+    Fault("DTZ tables are loaded though they are not wanted", BASE, '("dtz", load_dtz)', '("dtz", True)'),
+    Fault("other names are added", BASE, "if kind in kinds and _is_material(name):", "if kind in kinds:"),
+    Fault("a bound on open tables is not kept", BASE, "while len(self._recent) > self._max_tables:", "while False:"),
+    Fault("relative folders move with the working folder", BASE, "Path(entry.path).resolve()", "Path(entry.path)"),
+    Fault("closing a tablebase closes no table", BASE, "            self._is_closed = True\n", ""),
+]
+
+
+def exchanged(package: Path) -> Iterator[Fault]:
+    """Each two neighbours in the list of reasons, and in that of Untold's."""
+    text = (package / LIBRARY).read_text(encoding="utf-8")
+    for what, found in (("reasons", re.search(r"REASONS = \((.*?)\n\)", text, re.S)), ("statuses", re.search(r"UNTOLD = dict\(enumerate\(\((.*?)\n\)", text, re.S))):
+        assert found
+        names: List[str] = re.findall(r'"(\w+)"', found[1])
+        for first, second in zip(names, names[1:]):
+            new = found[1].replace(f'"{first}"', '"?"').replace(f'"{second}"', f'"{first}"').replace('"?"', f'"{second}"')
+            yield Fault(f"the {what} {first} and {second} are exchanged", LIBRARY, found[1], new)
+
+
+def tests_fail(fault: Fault, package: Path, tests: Path) -> bool:
+    """Whether the tests fail with this fault."""
+    with tempfile.TemporaryDirectory() as folder:
+        copy = Path(folder) / "szg"
+        shutil.copytree(package, copy, ignore=shutil.ignore_patterns("__pycache__"))
+        text = (copy / fault.file).read_text(encoding="utf-8")
+        if text.count(fault.old) != 1:
+            sys.exit(f"{fault.what}: its text is {text.count(fault.old)} times in {fault.file}")
+        (copy / fault.file).write_text(text.replace(fault.old, fault.new), encoding="utf-8")
+        env = {**os.environ, "PYTHONPATH": folder, "PYTHONDONTWRITEBYTECODE": "1"}
+        env.pop("SZG_LIBRARY", None)
+        words = [sys.executable, "-m", "pytest", "-q", "-x", "-p", "no:cacheprovider", str(tests)]
+        try:
+            ended = subprocess.run(words, env=env, cwd=folder, stdout=subprocess.DEVNULL, stderr=subprocess.DEVNULL, timeout=120)
+        except subprocess.TimeoutExpired:
+            return True
+        return ended.returncode != 0
+
+
+def main() -> None:
+    package, tests = (Path(word).resolve() for word in sys.argv[1:])
+    faults = [*FAULTS, *exchanged(package)]
+    if tests_fail(Fault("no fault", "__init__.py", "__all__ = [", "__all__ = ["), package, tests):
+        sys.exit("the tests fail without a fault")
+    with ThreadPoolExecutor(2) as pool:
+        caught = list(pool.map(lambda fault: tests_fail(fault, package, tests), faults))
+    for fault, is_caught in zip(faults, caught):
+        if not is_caught:
+            print(f"not caught: {fault.what}")
+    print(f"{sum(caught)} of {len(faults)} planted faults of the Python package are caught")
+    sys.exit(0 if all(caught) else 1)
+
+
+main()
