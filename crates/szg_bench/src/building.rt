@@ -1,4 +1,4 @@
-//! The builder behind a C interface.
+//! The builder through a C interface.
 
 use std::alloc::{AllocError, Global};
 use szg_build::{BuildFault, Plan, build};
@@ -50,8 +50,8 @@ fn plan_of(
     })
 }
 
-/// Builds a table of distances of these values, and tells the length of its file. The name is of a material without
-/// pawns, and the men are the bytes of its part. Gives 0 where it was built, 1 where it is refused, 2 for want of memory.
+/// Builds a DTZ table of these values and returns the length of its file. The name is of a material without pawns;
+/// the men are the bytes of its part. Returns 0 if it was built, 1 if it is refused, 2 if memory was refused.
 #[unsafe(no_mangle)]
 pub extern "C" fn szg_bench_build(
     alloc: Global,

@@ -1,4 +1,4 @@
-//! The reader of words, the look-ups and the builder behind a C interface, for the benchmarks in `bench/`.
+//! The reader of words, the look-ups and the builder through a C interface, for the benchmarks in `bench/`.
 #![tactic(auto)]
 
 mod building;
@@ -113,7 +113,7 @@ fn sub_of(
     })
 }
 
-/// Whether a subtable passes its check so many times.
+/// Whether a subtable passes its check `times` times.
 fn passes(sub: &Sub, size: u64, times: u32) -> bool
     requires { IsShaped sub.now size }
 {
@@ -146,7 +146,7 @@ fn looked_up(sub: &Sub, size: u64, indexes: &[u32]) -> u64
     mix
 }
 
-/// What is done with a subtable: it is checked so many times, and its values are listed so many times, or else some are
+/// The work on a subtable: it is checked `checks` times, and its values are listed `lists` times, or else some are
 /// looked up.
 #[repr(C)]
 #[derive(Clone, Copy)]
@@ -155,8 +155,8 @@ pub struct Work {
     pub lists: u32,
 }
 
-/// Makes a subtable of what a C program hands in, and does the work. Gives the values found, mixed; 0 where the subtable
-/// isn't sound, or there is no memory.
+/// Makes a subtable of a C program's bytes and does the work. Returns a mix of the values found; 0 if the subtable
+/// is not sound or memory was refused.
 #[unsafe(no_mangle)]
 pub extern "C" fn szg_bench_subtable(
     alloc: Global,
@@ -195,7 +195,8 @@ pub extern "C" fn szg_bench_subtable(
     looked_up(&sub, size, indexes)
 }
 
-/// The first and the last of all values of a sound subtable, listed so many times; 0 without memory.
+/// Lists all values of a sound subtable `times` times; returns a mix of the first and the last one. 0 if memory was
+/// refused.
 fn listed(alloc: Global, sub: &Sub, size: u64, times: u32) -> u64
     requires shaped { IsShaped sub.now size }
     requires sound { IsSoundOver sub.now (packed_of sub.now) size }

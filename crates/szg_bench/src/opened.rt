@@ -1,4 +1,4 @@
-//! Look-ups in a table that stays in a source, behind a C interface.
+//! Look-ups in a table that stays in a source, through a C interface.
 
 use crate::mixed_with;
 use std::alloc::Global;

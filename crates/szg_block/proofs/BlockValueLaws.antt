@@ -28,7 +28,8 @@ module _ (layout : Layout) (block : List ℕ) (at : ℕ) where
       elim (cases_lt item (length (values_spelled layout.code layout.entries (bits block)))) [ inl less ↦ absurd (h (omega arith)) | inr more ↦ more ] in
       sym (ap (λ n. slice_get (block_values layout block) n) (sym e) ∙ ap (λ u. slice_get u item) (block_values-spelled layout block) ∙ slice_get_past _ item few)
 
--- where value i stands, by lengths that tell of all values: a block that is there, and a place among the values that it needs
+-- where value i is, if the lengths sum to all values: an existing block, and an index among the values that it
+-- needs
 pub record IsHeldAt (layout : Layout) (size i block item : ℕ) : Type 0 where
   pub there : block < layout.blocks
   pub within : item ≤ i

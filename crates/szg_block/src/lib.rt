@@ -8,6 +8,7 @@ ghost use Rattle.std.specs.Prelude.{◌≡◌, ◌<◌, ◌≤◌, ◌↔◌, �
 ghost use Rattle.szg_block.specs.Block.{start};
 ghost use Rattle.szg_block.specs.Sound.{SpellsNeeded, entry_count as entry_count_of};
 ghost use Rattle.szg_block.specs.Subtable.{layout_of, packed_of, IsShaped, IsShapedHead, IsSoundOver, HasSoundIndex, IsFaultOf, IsIndexFault};
+ghost use Rattle.szg_block.specs.Views.{IsSound};
 
 pub use block_value::{checked_value, find_block, value_in_block};
 pub use blocks::{Blocks, SourceFault, Whole};
@@ -258,12 +259,14 @@ pub fn check_block_from(
     }
 }
 
-/// Checks a subtable with `size` values. It accepts exactly the sound ones.
+/// Checks a subtable with `size` values. It accepts exactly the sound ones, of which `find_block` and `value_in_block`
+/// can be asked.
 ///
 /// Errors: those of `check_index`, then those of `check_block` for each block in order.
 pub fn check(sub: &Sub, size: u64) -> Result<(), SubFault>
     requires { IsShaped sub.now size }
     ensures ok { OnOk result (IsSoundOver sub.now (packed_of sub.now) size) }
+    ensures sound { OnOk result (IsSound sub.now size) }
     ensures fault { IfErr result (λ fault. IsFaultOf (layout_of sub.now) (packed_of sub.now) size fault) }
 {
     check_index(sub, size)?;

@@ -149,6 +149,7 @@ start-symbols : (code : CanonicalCode) (n first index : ℕ) → IsStart code fi
 start-symbols code n first index start = record {
   inside = start.inside;
   before = λ k earlier. subst (λ (b : ℕ). (first + 1) * 2 ^ 56 ≤ b) (sym (shifted_base-symbols code n (code.min_length + k))) (start.before k earlier);
+  reached = subst (λ (b : ℕ). b < (first + 1) * 2 ^ 56) (sym (shifted_base-symbols code n (code.min_length + index))) start.reached;
 }
 
 -- the fields of a code also fit a code with another number of symbols

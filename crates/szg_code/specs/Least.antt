@@ -32,11 +32,12 @@ HasBases code bases = (j : ℕ) → j < length code.lowest → slice_index bases
 abbrev pub HasShiftedBases : CanonicalCode → List ℕ → Type 0
 HasShiftedBases code bases = (j : ℕ) → j < length code.lowest → slice_index bases j ≡ shifted_base code 64 (code.min_length + j)
 
--- the lengths before this index have bases above all 64-bit windows with this first byte
+-- the index of the first length whose base is reached by some 64-bit window with this first byte
 pub record IsStart (code : CanonicalCode) (first index : ℕ) : Type 0 where
   pub inside : index < length code.lowest
   pub before : (k : ℕ) → k < index → (first + 1) * 2 ^ 56 ≤ shifted_base code 64 (code.min_length + k)
+  pub reached : shifted_base code 64 (code.min_length + index) < (first + 1) * 2 ^ 56
 
--- the list has such an index for each first byte
+-- the list has this index for each first byte
 abbrev pub HasStarts : CanonicalCode → List ℕ → Type 0
 HasStarts code starts = (first : ℕ) → first < 256 → IsStart code first (slice_index starts first)

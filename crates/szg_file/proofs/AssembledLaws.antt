@@ -1,4 +1,4 @@
--- What the tests of fields say: parts that pass their checks, and lists that stand side by side.
+-- Laws for the checks of assembled fields: parts that pass, and lists related item by item.
 use Rattle.std.proofs.Common.{◌≡◌, ℕ, zero, suc, add-one, ◌+◌, ◌<◌, Bool, true, false, cond, List, [], ◌∷◌, ◌++◌, length, map, take, get_or, ◌/◌, ◌%◌, refl, sym, ap, subst, ◌∙◌, arith, Option, Some, None}
 use Rattle.std.specs.Prelude.{IsTrue, slice_get}
 use Rattle.std.specs.List.{AllByRecursion}
@@ -70,7 +70,7 @@ pass_either : (b : Bool) (place orders : ℕ) (fault : ℕ → Option OrderFault
 pass_either true place orders fault h = one_passes place orders (fault 0) h.0
 pass_either false place orders fault h = two_pass place orders (fault 0) (fault 1) h.0 h.1.0
 
--- where the checks of a part pass, each side's order stands
+-- if the checks of a part pass, the order of each side has no fault
 pub orders_stand : (material : Sides) (kind : Kind) (place : ℕ) (part : Part) → part_checks material kind place part ≡ means tt →
     AllByRecursion (λ side. order_fault material (order_of side part) ≡ None) (side_numbers material kind)
 orders_stand material Wdl place part e = stand_either (is_symmetric material) place (order_bytes material) (λ side. order_fault material (order_of side part)) e
@@ -84,7 +84,7 @@ orders_pass material Dtz place part h = pass_either true place (order_bytes mate
 passes_or_refuses : (place : ℕ) (reason : Reason) → (let passes : Format (Unit {0}) = means tt in passes ≡ refuses place reason) → ⊥
 passes_or_refuses place reason e = cc e
 
--- where the checks refuse, some side's order doesn't
+-- if the checks refuse, the order of some side has a fault
 pub orders_fail : (material : Sides) (kind : Kind) (place at : ℕ) (reason : Reason) (part : Part) → part_checks material kind place part ≡ refuses at reason →
     AllByRecursion (λ side. order_fault material (order_of side part) ≡ None) (side_numbers material kind) → ⊥
 orders_fail material kind place at reason part e h = passes_or_refuses at reason (sym (orders_pass material kind place part h) ∙ e)
@@ -107,7 +107,7 @@ all-append : {A : Type 0} (P : A → Type 0) (xs ys : List A) → AllByRecursion
 all-append P [] ys h k = k
 all-append P (x ∷ xs) ys h k = (h.0, all-append P xs ys h.1 k)
 
--- the items so far, and one more
+-- the items up to an index, and one more
 map_more : {A B : Type 0} (view : A → B) (xs : List A) (at : ℕ) (d : A) → at < length xs → map view (take (at + 1) xs) ≡ map view (take at xs) ++ view (get_or xs at d) ∷ []
 map_more view xs at d lt =
     ap (λ (m : ℕ). map view (take m xs)) (add-one at) ∙ ap (map view) (take-suc xs at d lt) ∙ map-append view (take at xs) (get_or xs at d ∷ [])
@@ -126,14 +126,14 @@ pub all_next : {A B : Type 0} (P : B → Type 0) (view : A → B) (xs : List A) 
 all_next P view xs at x lt is before here =
     subst (λ z. AllByRecursion P z) (sym (map_next view xs at x lt is)) (all-append P (map view (take at xs)) (view x ∷ []) before (here, tt))
 
--- an item of a list that passes does
+-- an item of a list whose items satisfy `P` satisfies it
 pub all_at : {A B : Type 0} (P : B → Type 0) (view : A → B) (xs : List A) (at : ℕ) (x : A) → at < length xs → x ≡ get_or xs at x →
     AllByRecursion P (map view xs) → P (view x)
 all_at P view [] at x lt is h = absurd (omega (arith, lt))
 all_at P view (y ∷ ys) zero x lt is h = subst (λ z. P (view z)) (sym is) h.0
 all_at P view (y ∷ ys) (suc at) x lt is h = all_at P view ys at x (omega (arith, lt)) is h.1
 
--- ---- two lists side by side
+-- ---- two lists related item by item
 
 side-append : {A B : Type 0} (P : A → B → Type 0) (xs : List A) (ys : List B) (x : A) (y : B) → SideBySide P xs ys → P x y → SideBySide P (xs ++ x ∷ []) (ys ++ y ∷ [])
 side-append P [] [] x y h here = (here, tt)
@@ -156,7 +156,7 @@ side_here P (a ∷ xs) [] at x y lt lt' is is' h = absurd h
 side_here P (a ∷ xs) (b ∷ ys) zero x y lt lt' is is' h = subst (λ z. P z y) (sym is) (subst (λ z. P a z) (sym is') h.0)
 side_here P (a ∷ xs) (b ∷ ys) (suc at) x y lt lt' is is' h = side_here P xs ys at x y (omega (arith, lt)) (omega (arith, lt')) is is' h.1
 
--- lists, and what their items stand for
+-- likewise of the views of the items
 pub side_shown : {A B C D : Type 0} (P : C → D → Type 0) (v : A → C) (w : B → D) (xs : List A) (ys : List B) → SideBySide (λ x y. P (v x) (w y)) xs ys → SideBySide P (map v xs) (map w ys)
 side_shown P v w [] [] h = tt
 side_shown P v w [] (y ∷ ys) h = absurd h
@@ -207,14 +207,14 @@ sub_standing slot (Pairs flags block_bits span_bits extra blocks code dict spars
     })
     typed.code typed.dictionary shape.0.1 shape.1 sound
 
--- a subtable with a fault isn't sound
+-- a subtable with a fault is not sound
 pub fault_excludes : (sub : Sub) (size : ℕ) (fault : SubFault) → IsFaultOf (layout_of sub) (packed_of sub) size fault → IsSoundOver sub (packed_of sub) size → ⊥
 fault_excludes (Constant flags byte) size fault h sound = h
 fault_excludes (Pairs flags block_bits span_bits extra blocks code dict sparse lengths packed) size ShortTotal h sound = h sound.total
 fault_excludes (Pairs flags block_bits span_bits extra blocks code dict sparse lengths packed) size (BadEntry k) h sound = h.1.here (sound.entries k)
 fault_excludes (Pairs flags block_bits span_bits extra blocks code dict sparse lengths packed) size (Word n) h sound = h.2.here (sound.words n)
 
--- a list that is read by its place, and one more entry of it
+-- a list that is read by index, and one more item of it
 pub take_more_get : {A : Type 0} (xs : List A) (at : ℕ) (x : A) → slice_get xs at ≡ Some x → take (at + 1) xs ≡ take at xs ++ x ∷ []
 take_more_get xs at x there =
     ap (λ (m : ℕ). take m xs) (add-one at) ∙ take-suc xs at x (slice_get_within xs at x there)

@@ -1,4 +1,4 @@
--- Blocks that are read one after another, and the subtables that hold them.
+-- Blocks that are read in order, and the subtables that contain them.
 use Rattle.std.proofs.Common.{◌≡◌, ℕ, zero, suc, ◌+◌, ◌-◌, ◌^◌, ◌<◌, Bool, List, [], ◌++◌, refl, sym, ap, ◌∙◌, append_assoc, append-nil, arith, length, map, take, drop, Option, Some, None, Ok, Err}
 use Rattle.std.specs.Prelude.{IfSome, IsSomeAnd}
 use Rattle.std.proofs.Common.{Vec, Global}
@@ -30,11 +30,11 @@ use Rattle.szg_file.proofs.Taken.{reads_like, reads_equal}
 
 -- ---- one block
 
--- what follows a block's bytes
+-- the check that follows a block's bytes
 abbrev then_checked : Layout → ℕ → ℕ → ℕ → List ℕ → Format (List ℕ)
 then_checked layout size n place bytes = demand (spells_needed layout size n bytes) place Word >>= λ _. means bytes
 
--- a block that spells what is needed of it
+-- a block that spells the values that it needs
 pub reads_block : {R : Type 0} (o : Option Layout) (size n bytes : ℕ) (piece : List ℕ) {f m : Front}
     {dev : Ghosts R} {i k : R} →
     IfSome o (λ layout. IsCode layout.code) → IfSome o (λ layout. bytes ≡ 2 ^ layout.block_bits) → IsSomeAnd o (λ layout. SpellsNeeded layout size n piece) →
@@ -49,7 +49,7 @@ reads_block (Some layout) size n bytes piece {f = f} code long spells taken =
     (reads_equal (field bytes means) (field (2 ^ layout.block_bits) means) (λ (_ : Unit {0}). piece) (Ok tt) (ap (λ (z : ℕ). field z means) long) taken)
     (reads_nothing (next piece) (λ (_ : Unit {0}). piece) tt passes))
 
--- a block that does not is refused at its first byte
+-- any other block is refused at its first byte
 pub reads_block_refused : {R : Type 0} (o : Option Layout) (size n bytes : ℕ) (piece : List ℕ) (view : Unit {0} → List ℕ) {f m : Front}
     {dev : Ghosts R} {i k : R} →
     IfSome o (λ layout. bytes ≡ 2 ^ layout.block_bits) → IsSomeAnd o (λ layout. ¬ SpellsNeeded layout size n piece) →
@@ -67,7 +67,7 @@ reads_block_refused (Some layout) size n bytes piece view {f = f} long lacks tak
 
 -- ---- blocks
 
--- a blocks, and then b more
+-- `a` blocks followed by `b` blocks
 pub blocks-append : (layout : Layout) (size n a b : ℕ) →
     blocks_from layout size n (a + b) ≡ blocks_from layout size n a >>= (λ xs. blocks_from layout size (n + a) b >>= λ ys. means (xs ++ ys))
 blocks-append layout size n zero b =
@@ -114,7 +114,7 @@ reads_blocks_more layout size n view view' view'' v y z e first second =
     (reads_then (block_field layout size n) (λ x. means (view v ++ (x ++ []))) view' view'' y second
     (reads_nothing (means (view v ++ (view' y ++ []))) view'' z (ap means (ap (λ (l : List ℕ). view v ++ l) (append-nil (view' y)) ∙ sym e))))))
 
--- a fault within a block ends them all
+-- a fault within a block ends the reading of all blocks
 pub reads_blocks_stopped : {X Y Z R : Type 0} (layout : Layout) (size n : ℕ) (view : X → List ℕ) (view' : Y → List ℕ) (view'' : Z → List ℕ) {f m h : Front}
     {dev : Ghosts R} {i j k : R} (v : X) (fault : ReadFault) → n < layout.blocks →
     Reading (blocks_from layout size 0 n) view f m dev i j (Ok v) →
@@ -129,7 +129,7 @@ reads_blocks_stopped layout size n view view' view'' v fault there first second 
     (reads_stopped (blocks_from layout size n (suc rest)) (λ ys. means (view v ++ ys)) view'' view'' fault
     (reads_stopped (block_field layout size n) (λ x. blocks_from layout size (n + 1) rest >>= λ more. means (x ++ more)) view' view'' fault second)))
 
--- the tail of a list from a place on, as a slice reads it
+-- the tail of a list from an index on, as a slice reads it
 pub tail_of : (old new read : List ℕ) (at : ℕ) → at ≡ length old → read ≡ new → take (length read - at) (drop at read) ≡ drop (length old) new
 tail_of old new read at here same =
     let all : take (length read - at) (drop at read) ≡ drop at read =
@@ -159,7 +159,7 @@ reads_sub slot size (Pairs flags block_bits span_bits extra blocks code dict spa
     reads_then (filled_to 64) (λ _. all >>= λ p. means (found p)) (λ (_ : Unit {0}). tt) subtable_of tt filled
     (reads_then all (λ p. means (found p)) view subtable_of packed (reads_equal _ all view (Ok packed) same_size read) (reads_nothing (means (found packed.items)) subtable_of sub' (ap means (sym same))))
 
--- a fault within the fill ends a subtable's blocks
+-- a fault within the padding ends the reading of a subtable's blocks
 pub reads_fill_stopped : {R : Type 0} (slot : Slot) (sub : Sub) (fault : ReadFault) {f h : Front}
     {dev : Ghosts R} {i k : R} → (layout_of sub ≡ None → ⊥) →
     Reading (filled_to 64) (λ (_ : Unit {0}). tt) f h dev i k (Err fault) →

@@ -1,4 +1,4 @@
--- Items of pieces and lists fit their types.
+-- The items of byte slices and of lists fit their types.
 use Rattle.std.proofs.Common.{ℕ, suc, List, [], ◌∷◌, slice_index_or, Fits, w8, w16}
 use Rattle.szg_file.specs.Accepted.{AreNumbers}
 

@@ -1,4 +1,4 @@
--- The other direction: the text that a value's sections spell is good, and means that value.
+-- The converse: the format accepts the text that a value's sections spell, with that value as its meaning.
 use Rattle.std.proofs.Common.{◌≡◌, ℕ, zero, suc, ◌+◌, ◌-◌, ◌^◌, ◌/◌, ◌<◌, ◌≤◌, Bool, true, false, List, [], ◌∷◌, ◌++◌, length, take, drop, refl, sym, ap, ◌∙◌, append-nil, arith}
 use Rattle.std.specs.Prelude.{IsTrue, replicate}
 use Rattle.std.proofs.Math.Seq.{take-length, drop-length}
@@ -12,14 +12,14 @@ use Rattle.szg_file.specs.Accepted.{AreBytes, SideBySide}
 use Rattle.szg_file.proofs.FormatLaws.{verdict-then, good-more, continued, field-whole, fill-whole}
 use Rattle.szg_file.proofs.FileLaws.{Spells, Spells-none, Spells-written, Spells-fill, Any, number_of-bytes_of}
 
--- more sections ask for no less
+-- additional sections need no fewer padding bytes
 pub asked_front : (x : List ℕ) (s t : List Section) → asked x s ≤ asked x (s ++ t)
 asked_front x [] t = omega arith
 asked_front x (section ∷ s) t =
     let h = asked_front (x ++ bytes_with section (replicate (fill_of section (length x)) 0)) s t in
     omega (arith, h)
 
--- a good text of a value, with its fill taken off the front of what there is
+-- an accepted text of a value, whose padding bytes are the first of `supply`
 pub record Text {A : Type 0} (f : Format A) (s : List Section) (place : ℕ) (a : A) (supply : List ℕ) : Type 0 where
   pub bytes : List ℕ
   pub filled : List ℕ
@@ -28,7 +28,7 @@ pub record Text {A : Type 0} (f : Format A) (s : List Section) (place : ℕ) (a 
   pub spells : Spells place bytes s filled
   pub is_good : verdict f place bytes ≡ good a filled []
 
--- Each value that meets P has a good text, spelled by its sections, if there is fill enough.
+-- Each value that satisfies `P` has an accepted text, spelled by its sections, if there are enough padding bytes.
 pub record Complete {A : Type 0} (f : Format A) (s : A → List Section) (P : A → Type 0) : Type 0 where
   pub complete : (place : ℕ) (a : A) (supply text : List ℕ) → P a → length text ≡ place → asked text (s a) ≤ length supply → Text f (s a) place a supply
 
@@ -74,7 +74,7 @@ complete_field size next back P agree = record {
       };
 }
 
--- fill of a section, off the front of what there is
+-- the padding of a section, from the first padding bytes of `supply`
 filled_text : {A : Type 0} (size place : ℕ) (x : A) (supply : List ℕ) (section : Section) → fill_of section place ≡ size → ((b : List ℕ) → bytes_with section b ≡ b) → size ≤ length supply →
     Text (fill size (means x)) (section ∷ []) place x supply
 filled_text size place x supply section asks carried enough =

@@ -1,4 +1,5 @@
--- The lists of a table that was read are no longer than what was counted, and that is at most the bound of the front.
+-- The lists of a table that was read are at most as long as the growth that was counted, which is within the bound
+-- of the reader state.
 use Rattle.std.proofs.Common.{◌≡◌, ℕ, ◌+◌, ◌*◌, ◌≤◌, List, [], length, option_map, ap, arith}
 use Rattle.std.proofs.lemmas.List.{length-map}
 use Rattle.szg_values.specs.declared.Kind.{Kind}
@@ -12,7 +13,7 @@ use Rattle.szg_file.specs.Lengths.{part_length}
 use Rattle.szg_file.specs.WholeRead.{sub_lengths, map_lengths, list_lengths}
 use Rattle.szg_file.proofs.Grown.{sum_shown}
 
--- the table of these pieces and of the fill that the front has seen
+-- the table of these contents, with the padding bytes of the reader state
 abbrev pub shown_by : Sides → Kind → Pieces → Front → Shown
 shown_by m k p front = record { contents = contents_of m k p; filled = front.fill.items }
 

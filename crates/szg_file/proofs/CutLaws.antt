@@ -1,4 +1,4 @@
--- Bytes that stop somewhere within a text: nothing stands behind it, or behind the field that fails.
+-- Bytes that end within a text: none are left after it, or after the field that fails.
 use Rattle.std.proofs.Common.{◌≡◌, ℕ, ◌+◌, ◌-◌, ◌<◌, ◌≤◌, List, [], ◌∷◌, ◌++◌, length, take, drop, refl, sym, ap, subst, ◌∙◌, arith, inl, inr, append-nil, Some}
 use Rattle.std.proofs.lemmas.Bool.{cases_lt}
 use Rattle.std.proofs.lemmas.List.{drop_all, length-append}
@@ -12,7 +12,7 @@ stops-after_fill filled (good a more rest) h = h
 stops-after_fill filled (refused at why rest) h = h
 stops-after_fill filled (truncated count) h = h
 
--- no bytes stop anywhere
+-- the empty text
 pub stops-nil : {A : Type 0} (f : Format A) (place : ℕ) → StopsWithin (verdict f place [])
 stops-nil (means a) place = refl
 stops-nil (refuses at why) place = refl
@@ -36,7 +36,7 @@ stops-nil (fill size next) place =
     ]
 stops-nil (placed next) place = stops-nil (next place) place
 
--- a whole text, and nothing behind it
+-- a whole text with nothing after it
 pub stops-whole : {A : Type 0} (f : Format A) (place : ℕ) (bytes : List ℕ) (a : A) (filled : List ℕ) → verdict f place bytes ≡ good a filled [] → StopsWithin (verdict f place bytes)
 stops-whole f place bytes a filled e = subst (λ (v : Verdict _). StopsWithin v) (sym e) refl
 
@@ -47,7 +47,7 @@ stops-continued g count (good a filled rest) h =
 stops-continued g count (refused at why rest) h = h
 stops-continued g count (truncated at) h = tt
 
--- what stops within a text stops within a longer one
+-- bytes that end within a text also end within a longer one
 pub stops-then : {A B : Type 0} (f : Format A) (g : A → Format B) (place : ℕ) (bytes : List ℕ) → StopsWithin (verdict f place bytes) → StopsWithin (verdict (f >>= g) place bytes)
 stops-then f g place bytes h =
     subst (λ (v : Verdict _). StopsWithin v) (sym (verdict-then f g place bytes)) (stops-continued g (place + length bytes) (verdict f place bytes) h)
@@ -66,7 +66,7 @@ cut-continued g count (good a filled rest) needs h =
 cut-continued g count (refused at why rest) needs h = h
 cut-continued g count (truncated at) needs h = tt
 
--- where more bytes are needed behind a text, what stops within it is not whole
+-- if the second format needs bytes, bytes that end within the first text are not whole
 pub cut-then : {A B : Type 0} (f : Format A) (g : A → Format B) (place : ℕ) (bytes : List ℕ) → ((a : A) (at : ℕ) → IsCut (verdict (g a) at [])) →
     StopsWithin (verdict f place bytes) → IsCut (verdict (f >>= g) place bytes)
 cut-then f g place bytes needs h =
@@ -81,7 +81,7 @@ pub cut-first : {A B : Type 0} (f : Format A) (g : A → Format B) (place : ℕ)
 cut-first f g place bytes h =
     subst (λ (v : Verdict _). IsCut v) (sym (verdict-then f g place bytes)) (cut_first-continued g (place + length bytes) (verdict f place bytes) h)
 
--- ---- what is still to come behind bytes that are not whole
+-- ---- the bytes that remain after bytes that are not whole
 
 -- two ways to cut a list
 cut_in_two : (xs ys us vs : List ℕ) → xs ++ ys ≡ us ++ vs → length vs ≤ length ys → (more : List ℕ) × (ys ≡ more ++ vs) × (us ≡ xs ++ more)
@@ -141,6 +141,6 @@ leaves_of f place bytes rest (refused at why behind) e h =
     subst (λ (v : Verdict _). LeavesMore v (Some rest)) (sym all) ([], refl)
 leaves_of f place bytes rest (truncated count) e h = leaves_cases f place bytes rest count (verdict f place (bytes ++ rest)) e refl
 
--- Bytes that are not whole leave what the verdict on all bytes says.
+-- Bytes that are not whole leave at least what the verdict on all bytes leaves.
 pub leaves_more : {A : Type 0} (f : Format A) (place : ℕ) (bytes rest : List ℕ) → IsCut (verdict f place bytes) → LeavesMore (verdict f place (bytes ++ rest)) (Some rest)
 leaves_more f place bytes rest h = leaves_of f place bytes rest (verdict f place bytes) refl h

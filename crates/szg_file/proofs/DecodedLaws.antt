@@ -1,4 +1,4 @@
--- What decodes in an accepted table is a value of its expansion.
+-- A value that decodes in an accepted table is the value of its expansion.
 use Rattle.std.proofs.Common.{◌≡◌, ℕ, zero, suc, ◌*◌, ◌^◌, ◌<◌, Bool, true, false, List, [], ◌∷◌, length, replicate, refl, sym, ap, subst, ◌∙◌, arith, Option, Some, None}
 use Rattle.std.specs.Prelude.{option_and_then, slice_get, cond, ◌&&◌, nat_eq}
 use Rattle.szg_values.specs.declared.Kind.{Kind}
@@ -19,7 +19,7 @@ use Rattle.szg_file.proofs.TableFinds.{item-slice_get}
 use Rattle.szg_file.proofs.UnreadLaws.{front_agrees}
 use Rattle.szg_file.proofs.WholeLaws.{good_is_file}
 
--- ---- what is found
+-- ---- the subtable that is found
 
 found_if : (P : Slot → Subtable → Type 0) (b : Bool) (first : Slot × Subtable) (others : Option (Slot × Subtable)) (pair : Slot × Subtable) → P first.0 first.1 → (others ≡ Some pair → P pair.0 pair.1) →
     cond b (Some first) others ≡ Some pair → P pair.0 pair.1
@@ -64,7 +64,7 @@ accepted_decodes t fill h part side pair there i below =
     let stands : IsSubtable pair.0 pair.1 = side_found IsSubtable part side (slots t.material t.kind t.parts) t.subtables pair h.subtables there in
     (λ value is. decodes t.kind pair.0 pair.1 i value stands below is, λ n bad. never_bad pair.0 pair.1 i n stands below bad)
 
--- ---- a good file
+-- ---- a file that is accepted
 
 good_of : (v : Verdict Contents) (t : Contents) → table_of v ≡ Some t → (filled : List ℕ) × (rest : List ℕ) × (v ≡ good t filled rest)
 good_of (good u filled rest) t e = let same : u ≡ t = cc e in (filled, rest, ap (λ (x : Contents). good x filled rest) same)

@@ -1,9 +1,10 @@
--- Formats one after another, and the formats of items: what a loop over parts, subtables or blocks stands on.
+-- Sequences of formats, and the formats of the items of a list: laws for the loops over parts, subtables and
+-- blocks.
 use Rattle.std.proofs.Common.{◌≡◌, List, [], ◌∷◌, ◌++◌, refl, sym, ap, ◌∙◌}
 use Rattle.szg_file.specs.Format.{Format, means, refuses, field, fill, placed, ◌>>=◌}
 use Rattle.szg_file.specs.File.{each}
 
--- three formats one after another, however they are put together
+-- associativity: three formats in sequence
 pub then-then : {A B C : Type 0} (f : Format A) (g : A → Format B) (h : B → Format C) → (f >>= g) >>= h ≡ f >>= (λ a. g a >>= h)
 then-then (means a) g h = refl
 then-then (refuses place reason) g h = refl
@@ -11,7 +12,7 @@ then-then (field size next) g h = λ i. field size (λ bytes. then-then (next by
 then-then (fill size next) g h = ap (fill size) (then-then next g h)
 then-then (placed next) g h = λ i. placed (λ place. then-then (next place) g h i)
 
--- to give the value on is to do nothing
+-- `means` is the neutral element
 pub then-means : {A : Type 0} (f : Format A) → f >>= means ≡ f
 then-means (means a) = refl
 then-means (refuses place reason) = refl
@@ -19,7 +20,7 @@ then-means (field size next) = λ i. field size (λ bytes. then-means (next byte
 then-means (fill size next) = ap (fill size) (then-means next)
 then-means (placed next) = λ i. placed (λ place. then-means (next place) i)
 
--- the items of two lists, one list after the other
+-- the items of two lists, one after the other
 pub each-append : {A B : Type 0} (f : A → Format B) (xs ys : List A) → each f (xs ++ ys) ≡ each f xs >>= (λ us. each f ys >>= λ bs. means (us ++ bs))
 each-append f [] ys = sym (then-means (each f ys))
 each-append f (x ∷ xs) ys =

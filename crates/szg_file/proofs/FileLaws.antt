@@ -1,4 +1,4 @@
--- What is read is the file of what was read: section by section.
+-- A text that is read is the file of its meaning: section by section.
 use Rattle.std.proofs.Common.{◌≡◌, ℕ, zero, suc, ◌+◌, ◌-◌, ◌*◌, ◌^◌, ◌/◌, ◌%◌, ◌<◌, ◌≤◌, Bool, true, false, List, [], ◌∷◌, ◌++◌, length, take, drop, refl, sym, ap, subst, ◌∙◌, append_assoc, append-nil, arith, inl, inr, lit<, Option, Some, None}
 use Rattle.std.specs.Prelude.{bytes_eq, flat_map, IsTrue, replicate}
 use Rattle.std.specs.List.{AllByRecursion}
@@ -28,9 +28,9 @@ no_items (x ∷ xs) e = absurd (omega (arith, e))
 abbrev pub no_section : List Section
 no_section = []
 
--- ---- the parts of a good text
+-- ---- the parts of an accepted text
 
--- A whole text of two formats one after another is a whole text of each.
+-- A whole text of two formats in sequence consists of a whole text of each.
 pub record Parts {A B : Type 0} (f : Format A) (g : A → Format B) (place : ℕ) (bytes : List ℕ) (b : B) (filled rest : List ℕ) : Type 0 where
   pub value : A
   pub first : List ℕ
@@ -67,9 +67,9 @@ pub parts : {A B : Type 0} (f : Format A) (g : A → Format B) (place : ℕ) (by
 parts f g place bytes b filled rest e =
     parts_cases f g place bytes b filled rest (verdict f place bytes) refl (sym (verdict-then f g place bytes) ∙ e)
 
--- ---- the sections that a text is
+-- ---- the sections that spell a text
 
--- From this place on the bytes are the sections with these fill bytes, whatever comes before and behind.
+-- From offset `place` on, the bytes are the sections with these padding bytes, whatever precedes and follows them.
 pub record Spells (place : ℕ) (bytes : List ℕ) (sections : List Section) (filled : List ℕ) : Type 0 where
   pub spelled : (text : List ℕ) (more : List Section) (later : List ℕ) → length text ≡ place →
       joined text (sections ++ more) (filled ++ later) ≡ joined (text ++ bytes) more later
@@ -116,7 +116,7 @@ pub AreNumbers-join : (size : ℕ) (x y : List ℕ) → AreNumbers size x → Ar
 AreNumbers-join size [] y p q = q
 AreNumbers-join size (b ∷ x) y p q = (p.0, AreNumbers-join size x y p.1 q)
 
--- A number that was read is written back as the same bytes.
+-- Writing a number that was read returns the same bytes.
 pub bytes_of-number_of : (bytes : List ℕ) → AreNumbers 1 bytes → bytes_of (length bytes) (number_of bytes) ≡ bytes
 bytes_of-number_of [] h = refl
 bytes_of-number_of (byte ∷ bytes) h =
@@ -127,7 +127,7 @@ bytes_of-number_of (byte ∷ bytes) h =
     ∙ ap (λ (n : ℕ). byte ∷ bytes_of (length bytes) n) high
     ∙ ap (λ (z : List ℕ). byte ∷ z) (bytes_of-number_of bytes h.1)
 
--- A number that was written is read back.
+-- Reading a number that was written returns it.
 pub number_of-bytes_of : (size number : ℕ) → number < 256 ^ size → number_of (bytes_of size number) ≡ number
 number_of-bytes_of zero number h = let small : number < 1 = h in omega arith
 number_of-bytes_of (suc size) number h =
@@ -137,7 +137,7 @@ number_of-bytes_of (suc size) number h =
 
 -- ---- formats whose texts are their sections
 
--- What a format reads is spelled by the sections of its value, and meets the value's conditions.
+-- The sections of a value spell each text that means it, and the value satisfies `P`.
 pub record Sound {A : Type 0} (f : Format A) (sections : A → List Section) (P : A → Type 0) : Type 0 where
   pub sound : (place : ℕ) (bytes : List ℕ) (a : A) (filled : List ℕ) → AreNumbers 1 bytes → verdict f place bytes ≡ good a filled [] →
       Spells place bytes (sections a) filled × AreNumbers 1 filled × P a
@@ -151,7 +151,7 @@ take_all_of size xs e = subst (λ (n : ℕ). take n xs ≡ xs) e (take-length xs
 drop_all_of : (size : ℕ) (xs : List ℕ) → length (drop size xs) ≡ 0 → size ≤ length xs → length xs ≡ size
 drop_all_of size xs e le = omega (arith, length-drop size xs, e)
 
--- the good text of one field
+-- the accepted text of one field
 field_text : {A : Type 0} (size : ℕ) (next : List ℕ → A) (place : ℕ) (bytes : List ℕ) (a : A) (filled : List ℕ) →
     verdict (field size (λ b. means (next b))) place bytes ≡ good a filled [] → (length bytes ≡ size) × (next bytes ≡ a) × (filled ≡ [])
 field_text size next place bytes a filled e =
@@ -166,7 +166,7 @@ field_text size next place bytes a filled e =
           (long, ap next (sym (take_all_of size bytes long)) ∙ value, fills)
     ]
 
--- one field, and a value that gives its bytes back
+-- one field, whose bytes are restored from its value
 pub sound_field : {A : Type 0} (size : ℕ) (next : List ℕ → A) (back : A → List ℕ) (P : A → Type 0) →
     ((bytes : List ℕ) → length bytes ≡ size → AreNumbers 1 bytes → (back (next bytes) ≡ bytes) × P (next bytes)) →
     Sound (field size (λ b. means (next b))) (λ a. written (back a) ∷ []) P
@@ -182,7 +182,7 @@ sound_field size next back P agree = record {
       );
 }
 
--- one format after another, with what the first one gave
+-- a format followed by one that depends on its value
 pub sound_then : {A B : Type 0} (f : Format A) (g : A → Format B) (s : A → List Section) (t : A → B → List Section) (u : B → List Section)
     (P : A → Type 0) (Q : A → B → Type 0) (R : B → Type 0) →
     Sound f s P → ((a : A) → P a → Sound (g a) (t a) (Q a)) → ((a : A) (b : B) → P a → Q a b → (s a ++ t a b ≡ u b) × R b) → Sound (f >>= g) u R
@@ -215,7 +215,7 @@ sound_means a P h = record {
       );
 }
 
--- a check that was passed
+-- a check that passes
 pub sound_demand : (test : Bool) (at : ℕ) (reason : Reason) → Sound (demand test at reason) (λ _. []) (λ _. IsTrue test)
 sound_demand true at reason = sound_means tt (λ _. IsTrue true) refl
 sound_demand false at reason = record { sound = λ place bytes a filled small e. absurd cc }
@@ -232,7 +232,7 @@ sound_each_none format sections P = record {
       (subst (λ (z : List _). Spells place bytes (flat_map sections z) filled) same h.0, h.1, subst (λ (z : List _). SideBySide P [] z) same tt);
 }
 
--- the formats of the items, one after another
+-- the formats of the items, in order
 pub sound_each : {A B : Type 0} (format : A → Format B) (sections : B → List Section) (P : A → B → Type 0) →
     ((a : A) → Sound (format a) sections (P a)) → (xs : List A) → Sound (each format xs) (flat_map sections) (SideBySide P xs)
 sound_each format sections P one [] = sound_each_none format sections P
@@ -250,7 +250,7 @@ sound_each format sections P one (x ∷ xs) =
       subst (λ (z : List _). SideBySide P (x ∷ xs) z) (sym q.1) (py, q.2),
     ))
 
--- ---- the pieces of formats
+-- ---- parts of formats
 
 pub number_of-small : (bytes : List ℕ) → AreNumbers 1 bytes → number_of bytes < 256 ^ length bytes
 number_of-small [] h = lit< tt
@@ -291,7 +291,7 @@ sound_bytes size = sound_field size (λ bytes. bytes) (λ bytes. bytes) (AreByte
 pub sound_placed : {A : Type 0} (next : ℕ → Format A) (s : A → List Section) (P : A → Type 0) → ((place : ℕ) → Sound (next place) s P) → Sound (placed next) s P
 sound_placed next s P h = record { sound = λ place bytes a filled small e. (h place).sound place bytes a filled small e }
 
--- the same sections and conditions in other words
+-- the same format, with equal sections and weaker conditions
 pub sound_as : {A : Type 0} (f : Format A) (s t : A → List Section) (P Q : A → Type 0) → Sound f s P → ((a : A) → P a → (s a ≡ t a) × Q a) → Sound f t Q
 sound_as f s t P Q h agree = record {
   sound = λ place bytes a filled small e.
@@ -300,20 +300,20 @@ sound_as f s t P Q h agree = record {
       (subst (λ (z : List Section). Spells place bytes z filled) k.0 x.0, x.1, k.1);
 }
 
--- a check, and then a format
+-- a check followed by a format
 pub sound_after : {B : Type 0} (check : Format (Unit {0})) (g : Format B) (t : B → List Section) (P : Type 0) (Q : B → Type 0) →
     Sound check (λ _. []) (λ _. P) → Sound g t Q → Sound (check >> g) t (λ b. P × Q b)
 sound_after check g t P Q first second =
     sound_then check (λ _. g) (λ _. []) (λ _. t) t (λ _. P) (λ _. Q) (λ b. P × Q b) first (λ _ _. second) (λ _ b p q. (refl, (p, q)))
 
--- a format, and then what depends on its value alone and needs no bytes
+-- a format followed by a function of its value, which needs no bytes
 pub sound_value : {A B : Type 0} (f : Format A) (view : A → B) (s : A → List Section) (t : B → List Section) (P : A → Type 0) (Q : B → Type 0) →
     Sound f s P → ((a : A) → P a → (s a ≡ t (view a)) × Q (view a)) → Sound (f >>= λ a. means (view a)) t Q
 sound_value f view s t P Q h agree =
     sound_then f (λ a. means (view a)) s (λ _ _. []) t P (λ a b. b ≡ view a) Q h (λ a p. sound_means (view a) (λ b. b ≡ view a) refl)
     (λ a b p same. let k = agree a p in (append-nil (s a) ∙ k.0 ∙ ap t (sym same), subst Q (sym same) k.1))
 
--- ---- the front
+-- ---- magic and byte 4
 
 pub sound_magic : (kind : Kind) → Sound (magic_field kind) (λ _. written (magic_of kind) ∷ []) Any
 sound_magic kind = sound_then (field 4 means) (λ bytes. demand (bytes_eq bytes (magic_of kind)) 0 reason.Magic) (λ bytes. written bytes ∷ []) (λ _ _. []) (λ _. written (magic_of kind) ∷ [])
@@ -324,7 +324,7 @@ sound_magic kind = sound_then (field 4 means) (λ bytes. demand (bytes_eq bytes 
 pub one_byte : (byte : ℕ) → byte < 256 ^ 1 → bytes_of 1 byte ≡ byte ∷ []
 one_byte byte small = let low : byte % 256 ≡ byte = omega (arith, small) in ap (λ (n : ℕ). n ∷ []) low
 
--- what byte 4 has to be
+-- the conditions on byte 4
 pub record IsByte4 (material : Sides) (kind : Kind) (byte : ℕ) : Type 0 where
   pub small : byte < 256
   pub split : IsTrue (split_agrees material kind byte)
@@ -376,11 +376,11 @@ sound_part_checks material kind place part =
     (λ side. sound_order_check place (order_bytes material) (order_fault material (order_of side part))) (side_numbers material kind))
     (λ ys p. (no_sections ys, all_beside (λ side. order_fault material (order_of side part) ≡ None) (side_numbers material kind) ys p))
 
--- two fields' bytes as one, or apart
+-- the bytes of two fields, joined or apart
 Spells-apart : (place : ℕ) (x y : List ℕ) → Spells place (x ++ y) (written x ∷ written y ∷ []) []
 Spells-apart place x y = Spells-then place x y (written x ∷ []) (written y ∷ []) [] [] (Spells-written place x) (Spells-written (place + length x) y)
 
--- one field whose bytes are two fields of the table
+-- one field of the format that is two fields of the table
 pub sound_halves : (size cut : ℕ) → Sound (field size means) (λ bytes. written (take cut bytes) ∷ written (drop cut bytes) ∷ []) (AreBytes size)
 sound_halves size cut = record {
   sound = λ place bytes a filled small e.
@@ -431,7 +431,7 @@ sound_part material kind =
 pub sound_parts : (material : Sides) (kind : Kind) (numbers : List ℕ) → Sound (each (λ _. part_field material kind) numbers) (flat_map part_sections) (SideBySide (λ (_ : ℕ). IsPart material kind) numbers)
 sound_parts material kind numbers = sound_each (λ _. part_field material kind) part_sections (λ _. IsPart material kind) (λ _. sound_part material kind) numbers
 
--- ---- fill
+-- ---- padding
 
 fill_text : {A : Type 0} (size place : ℕ) (x a : A) (bytes filled : List ℕ) → verdict (fill size (means x)) place bytes ≡ good a filled [] →
     (length bytes ≡ size) × (x ≡ a) × (filled ≡ bytes)
@@ -447,7 +447,7 @@ fill_text size place x a bytes filled e =
           (long, value, sym fills ∙ append-nil (take size bytes) ∙ take_all_of size bytes long)
     ]
 
--- fill bytes spell a section that asks for just so many
+-- padding bytes spell a section that needs exactly that number of them
 pub Spells-fill : (place : ℕ) (bytes : List ℕ) (section : Section) → fill_of section place ≡ length bytes → ((b : List ℕ) → bytes_with section b ≡ b) → Spells place bytes (section ∷ []) bytes
 Spells-fill place bytes section size carried = record {
   spelled = λ text more later e.
@@ -486,7 +486,7 @@ sound_filled_to unit = record {
       );
 }
 
--- a text whose sections are all of a table: the bytes are its file, and it has just the fill that is asked
+-- if a text is spelled by all sections of a table, it is the table's file, and has exactly the padding bytes needed
 pub file_from_sections : (bytes filled : List ℕ) (all : List Section) → Spells 0 bytes all filled → (joined [] all filled ≡ bytes) × (asked [] all ≡ length filled)
 file_from_sections bytes filled all h =
     let none = h.counted [] [] refl in (
@@ -494,7 +494,7 @@ file_from_sections bytes filled all h =
       ap (λ (z : List Section). asked [] z) (sym (append-nil all)) ∙ omega (arith, none.2),
     )
 
--- formats of items that all have one kind of sections
+-- formats of items whose sections are all given by one function
 pub sound_each_in : {A B : Type 0} (format : A → Format B) (sections : B → List Section) (Q : A → Type 0) (P : A → B → Type 0) →
     ((a : A) → Q a → Sound (format a) sections (P a)) → (xs : List A) → AllByRecursion Q xs → Sound (each format xs) (flat_map sections) (SideBySide P xs)
 sound_each_in format sections Q P one [] all = sound_each_none format sections P

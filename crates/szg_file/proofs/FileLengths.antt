@@ -1,4 +1,4 @@
--- How long an accepted table's file is: its fields and its fill, and below 2 ^ 60 bytes.
+-- The length of an accepted table's file: the length of its fields plus its padding bytes, below 2 ^ 60.
 use Rattle.std.proofs.Common.{◌≡◌, ℕ, zero, suc, ◌+◌, ◌-◌, ◌*◌, ◌%◌, ◌^◌, ◌<◌, ◌≤◌, Bool, true, false, cond, ◌&&◌, List, [], ◌∷◌, ◌++◌, length, take, drop, map, refl, sym, ap, subst, ◌∙◌, arith, Option, Some, None}
 use Rattle.std.specs.Prelude.{flat_map, sum_by, IsTrue, replicate, nat_le}
 use Rattle.std.specs.List.{AllByRecursion}
@@ -24,14 +24,14 @@ use Rattle.szg_file.specs.Lengths.{part_length, subtable_length, map_length, Fil
 
 -- ---- sections
 
--- how many bytes sections have beside their fill
+-- the number of bytes of sections, without padding bytes
 abbrev pub written_length : List Section → ℕ
 written_length [] = 0
 written_length (written bytes ∷ s) = length bytes + written_length s
 written_length (padding unit ∷ s) = written_length s
 written_length (spare size ∷ s) = written_length s
 
--- how many fill bytes they have at most
+-- an upper bound on the number of their padding bytes
 abbrev pub most_fill : List Section → ℕ
 most_fill [] = 0
 most_fill (written bytes ∷ s) = most_fill s
@@ -58,7 +58,7 @@ asked-fill text (padding unit ∷ s) =
     omega (arith, h, mod-le (unit - length text % unit) unit)
 asked-fill text (spare size ∷ s) = let h = asked-fill (text ++ replicate size 0) s in omega (arith, h)
 
--- Where there is fill enough, the text is as long as its fields and its fill.
+-- If there are enough padding bytes, the length of the text is that of its fields plus its padding bytes.
 joined-length : (s : List Section) (text text' fill : List ℕ) → length text ≡ length text' → asked text' s ≤ length fill →
     length (joined text s fill) ≡ length text + written_length s + asked text' s
 joined-length [] text text' fill e h = omega arith
@@ -83,14 +83,14 @@ joined-length (spare size ∷ s) text text' fill e h =
 
 -- ---- lists of items
 
--- one after another, and at most so much each
+-- items in order, with a bound on the length of each
 pub record Lists {A : Type 0} (f : A → List Section) (len : A → ℕ) (most : ℕ) (fill : ℕ) (count : ℕ) (xs : List A) : Type 0 where
   pub number : length xs ≡ count
   pub written : written_length (flat_map f xs) ≡ sum_by len xs
   pub below : sum_by len xs ≤ most * count
   pub filled : most_fill (flat_map f xs) ≤ fill * count
 
--- an item
+-- one item
 pub record Item {A : Type 0} (f : A → List Section) (len : A → ℕ) (most : ℕ) (fill : ℕ) (x : A) : Type 0 where
   pub written : written_length (f x) ≡ len x
   pub below : len x ≤ most
@@ -176,7 +176,7 @@ pub sparse-length : (sparse : List SparseEntry) → length (flat_map (λ entry. 
 sparse-length [] = omega arith
 sparse-length (entry ∷ sparse) = let h = sparse-length sparse in omega (arith, h)
 
--- so many blocks tell of so many values at most
+-- `count` blocks have at most 65,536 values each
 values-below : (count : ℕ) (lengths : List ℕ) → AreNumbers 2 lengths → sum_by (λ n. n + 1) (take count lengths) ≤ 65536 * count
 values-below zero lengths h = omega arith
 values-below (suc count) [] h = omega arith
@@ -225,7 +225,7 @@ sub_item slot (pairs head sparse lengths packed) h =
       filled = omega (arith, odd);
     }
 
--- all heads, then all indexes, then all lengths, then all blocks
+-- all headers, then all sparse indexes, then all block lengths, then all blocks
 apart-length : (subs : List Subtable) → written_length (flat_map head_sections subs) + written_length (flat_map sparse_sections subs)
     + written_length (flat_map lengths_sections subs) + written_length (flat_map blocks_sections subs) ≡ written_length (flat_map sub_sections subs)
 apart-length [] = omega arith
@@ -380,7 +380,7 @@ sum_by-map f v [] = refl
 sum_by-map f v (x ∷ xs) =
     sum_by-cons f (v x) (map v xs) ∙ ap (λ (n : ℕ). f (v x) + n) (sum_by-map f v xs) ∙ sym (sum_by-cons (λ x. f (v x)) x xs)
 
--- the sum over what is held is the sum over what it stands for
+-- the sum over a list in memory is the sum over its view
 pub sum_held : {A B : Type 0} (f : B → ℕ) (view : A → B) (n : ℕ) (taken held : List A) (shown : List B) →
     n ≡ sum_by (λ x. f (view x)) taken → taken ≡ held → map view held ≡ shown → n ≡ sum_by f shown
 sum_held f view n taken held shown sum same seen =

@@ -1,4 +1,4 @@
--- Laws of formats: each is a short induction that knows no table file.
+-- Laws of formats: short inductions, none of them specific to table files.
 use Rattle.std.proofs.Common.{◌≡◌, ℕ, ◌+◌, ◌-◌, ◌<◌, ◌≤◌, List, [], ◌∷◌, ◌++◌, length, take, drop, refl, sym, ap, subst, ◌∙◌, append_assoc, arith, inl, inr}
 use Rattle.std.proofs.lemmas.Bool.{cases_lt, le-ltb, lt-ltb}
 use Rattle.std.proofs.Math.Seq.{take-append_seam, drop-append_seam}
@@ -38,9 +38,9 @@ pub fill-whole : {A : Type 0} (size : ℕ) (next : Format A) (place : ℕ) (byte
     verdict (fill size next) place bytes ≡ after_fill (take size bytes) (verdict next (place + size) (drop size bytes))
 fill-whole size next place bytes whole = rw (le-ltb (length bytes) size whole, verdict) refl
 
--- ---- one format after another
+-- ---- two formats in sequence
 
--- what the verdict goes on with behind a whole first text, where the file has so many bytes in all
+-- the verdict that continues after a whole first text, in a file of `count` bytes
 abbrev pub continued : {A B : Type 0} → (A → Format B) → ℕ → Verdict A → Verdict B
 continued g count (good a filled rest) = after_fill filled (verdict (g a) (count - length rest) rest)
 continued g count (refused at reason rest) = refused at reason rest
@@ -62,7 +62,7 @@ continued-after_fill g count x (good a filled rest) = after_fill-twice x filled 
 continued-after_fill g count x (refused at reason rest) = refl
 continued-after_fill g count x (truncated at) = refl
 
--- The verdict of two formats one after another: that of the first, and behind its text that of the second.
+-- The verdict of two formats in sequence: that of the first, and after its text that of the second.
 pub verdict-then : {A B : Type 0} (f : Format A) (g : A → Format B) (place : ℕ) (bytes : List ℕ) →
     verdict (f >>= g) place bytes ≡ continued g (place + length bytes) (verdict f place bytes)
 verdict-then (means a) g place bytes =
@@ -94,13 +94,13 @@ verdict-then (fill size next) g place bytes =
     ]
 verdict-then (placed next) g place bytes = verdict-then (next place) g place bytes
 
--- ---- what a verdict says of the bytes
+-- ---- what a verdict implies for the bytes
 
--- good fields and the whole field that fails, and nothing behind it
+-- accepted fields and the field that fails, with nothing after it
 pub record Fails {A : Type 0} (f : Format A) (place : ℕ) (bytes : List ℕ) (at : ℕ) (reason : Reason) : Type 0 where
   pub refusal : verdict f place bytes ≡ refused at reason []
 
--- what a good verdict with these first fill bytes had without them
+-- an accepting verdict without its first padding bytes
 pub after_fill-good : {A : Type 0} (skipped : List ℕ) (v : Verdict A) (a : A) (filled rest : List ℕ) → after_fill skipped v ≡ good a filled rest →
     (more : List ℕ) × (v ≡ good a more rest) × (filled ≡ skipped ++ more)
 after_fill-good skipped (good a' more rest') a filled rest e =
@@ -121,7 +121,7 @@ after_fill-truncated skipped (good a' more rest') count e = absurd cc
 after_fill-truncated skipped (refused at' reason' rest') count e = absurd cc
 after_fill-truncated skipped (truncated at') count e = e
 
--- ---- a whole field, with a text behind it or cut behind one
+-- ---- a whole field followed by a text, or by a part of one
 
 field-text : {A : Type 0} (size : ℕ) (next : List ℕ → Format A) (place : ℕ) (field_bytes text : List ℕ) → length field_bytes ≡ size →
     verdict (field size next) place (field_bytes ++ text) ≡ verdict (next field_bytes) (place + size) text
@@ -140,7 +140,7 @@ fill-text size next place fill_bytes text long =
 taken_long : (size : ℕ) (bytes : List ℕ) → size ≤ length bytes → length (take size bytes) ≡ size
 taken_long size bytes whole = omega (arith, length-take size bytes)
 
--- the first bytes, a text and what follows it
+-- the first bytes, a text, and the bytes after it
 taken_first : (size : ℕ) (bytes text rest : List ℕ) → drop size bytes ≡ text ++ rest → bytes ≡ (take size bytes ++ text) ++ rest
 taken_first size bytes text rest e =
     sym (take-append-drop size bytes) ∙ ap (λ (z : List ℕ). take size bytes ++ z) e ∙ sym (append_assoc (take size bytes) text rest)
@@ -159,7 +159,7 @@ fill-more size next place bytes more whole =
     ∙ ap (λ (z : List ℕ). after_fill z (verdict next (place + size) (drop size (bytes ++ more)))) (take-append-le size bytes more whole)
     ∙ ap (λ (z : List ℕ). after_fill (take size bytes) (verdict next (place + size) z)) (drop-append-le size bytes more whole)
 
--- a whole text was taken off the front of the bytes
+-- the bytes begin with a whole text
 pub good-split : {A : Type 0} (f : Format A) (place : ℕ) (bytes : List ℕ) (a : A) (filled rest : List ℕ) → verdict f place bytes ≡ good a filled rest →
     (text : List ℕ) × (bytes ≡ text ++ rest) × (verdict f place text ≡ good a filled [])
 good-split (means a') place bytes a filled rest e =
@@ -188,7 +188,7 @@ good-split (fill size next) place bytes a filled rest e =
     ]
 good-split (placed next) place bytes a filled rest e = good-split (next place) place bytes a filled rest e
 
--- a whole text stays one, whatever follows it
+-- a whole text remains one, whatever follows it
 pub good-more : {A : Type 0} (f : Format A) (place : ℕ) (bytes more : List ℕ) (a : A) (filled rest : List ℕ) → verdict f place bytes ≡ good a filled rest →
     verdict f place (bytes ++ more) ≡ good a filled (rest ++ more)
 good-more (means a') place bytes more a filled rest e =
@@ -215,7 +215,7 @@ good-more (fill size next) place bytes more a filled rest e =
     ]
 good-more (placed next) place bytes more a filled rest e = good-more (next place) place bytes more a filled rest e
 
--- a refusal stays the same, whatever follows the field that fails
+-- a refusal remains the same, whatever follows the field that fails
 pub refused-more : {A : Type 0} (f : Format A) (place : ℕ) (bytes more : List ℕ) (at : ℕ) (reason : Reason) (rest : List ℕ) → verdict f place bytes ≡ refused at reason rest →
     verdict f place (bytes ++ more) ≡ refused at reason (rest ++ more)
 refused-more (means a') place bytes more at reason rest e = absurd cc
@@ -241,7 +241,7 @@ refused-more (fill size next) place bytes more at reason rest e =
     ]
 refused-more (placed next) place bytes more at reason rest e = refused-more (next place) place bytes more at reason rest e
 
--- good fields and the field that fails were taken off the front of the bytes
+-- the bytes begin with accepted fields and the field that fails
 pub refused-split : {A : Type 0} (f : Format A) (place : ℕ) (bytes : List ℕ) (at : ℕ) (reason : Reason) (rest : List ℕ) → verdict f place bytes ≡ refused at reason rest →
     (text : List ℕ) × (bytes ≡ text ++ rest) × (verdict f place text ≡ refused at reason [])
 refused-split (means a') place bytes at reason rest e = absurd cc
@@ -274,7 +274,7 @@ no_prefix f place text more a a' filled filled' e e' =
     let both : good a filled more ≡ good a' filled' [] = sym (good-more f place text more a filled [] e) ∙ e' in
     cc
 
--- a format's truncation tells the number of all bytes
+-- a truncated verdict has the number of all bytes
 pub truncated-at : {A : Type 0} (f : Format A) (place : ℕ) (bytes : List ℕ) (count : ℕ) → verdict f place bytes ≡ truncated count → count ≡ place + length bytes
 truncated-at (means a) place bytes count e = absurd cc
 truncated-at (refuses at reason) place bytes count e = absurd cc
@@ -306,7 +306,7 @@ cut_cases f place front byte back a filled (refused at reason rest) e h =
     absurd cc
 cut_cases f place front byte back a filled (truncated count) e h = ap (λ (n : ℕ). truncated n) (truncated-at f place front count e)
 
--- A whole text that is cut anywhere inside ends within a field: its verdict is the number of bytes that are there.
+-- A proper prefix of a whole text ends within a field: its verdict is `truncated`, at its length.
 pub cut_anywhere : {A : Type 0} (f : Format A) (place : ℕ) (front : List ℕ) (byte : ℕ) (back : List ℕ) (a : A) (filled : List ℕ) →
     verdict f place (front ++ (byte ∷ back)) ≡ good a filled [] → verdict f place front ≡ truncated (place + length front)
 cut_anywhere f place front byte back a filled e = cut_cases f place front byte back a filled (verdict f place front) refl e

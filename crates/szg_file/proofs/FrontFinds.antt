@@ -1,4 +1,4 @@
--- What is found in a table whose front was read: its subtable, the value's block among the bytes, and the value.
+-- Look-ups in a table that was opened by its front: the subtable, the bytes of the value's block, and the value.
 use Rattle.std.proofs.Common.{◌≡◌, ℕ, ◌+◌, ◌-◌, ◌*◌, ◌^◌, ◌<◌, ◌≤◌, List, length, map, take, drop, refl, sym, ap, subst, ◌∙◌, arith, drop-drop, Option, Some, None, option_map}
 use Rattle.std.proofs.Common.{IsSome}
 use Rattle.std.specs.Prelude.{ℤ, Result, Ok, Err, IfOk, IfErr, IfSome, IsSomeAnd, position, slice_get, option_and_then}
@@ -64,7 +64,7 @@ module _ (kept : FrontKept) (content : List ℕ) (h : IsFrontOf kept content) wh
         fits = all_at (Fits (length content) kept.room) kept.subs n sub h.fits held;
       }
 
--- the slot that was found, by lists that are those kept
+-- the slot that was found, by lists that equal the table's
 module _ (kept : FrontKept) (placed : List Slot) (subs : List PlacedSub) (part side : ℕ) (same : placed ≡ slots_in kept.index) (same_subs : subs ≡ kept.subs) where
   pub many_slots : (content : List ℕ) → IsFrontOf kept content → length placed ≤ length subs
   many_slots content h = let many = as_many_slots kept content h in omega (arith, many, ap length same, ap length same_subs)
@@ -82,7 +82,7 @@ module _ (kept : FrontKept) (placed : List Slot) (subs : List PlacedSub) (part s
       front_found kept content h part side slot sub
       (subst (λ (z : List Slot). IsSlotted z kept.subs part side slot sub) same (subst (λ (z : List PlacedSub). IsSlotted placed z part side slot sub) same_subs held))
 
--- ---- what is known of it
+-- ---- its properties
 
 pub unread_known : (slot : Slot) (content : List ℕ) (sub : Sub) (first : ℕ) → IsUnread slot (whole_sub content (placed_at sub first)) → IsShapedHead sub slot.size × HasSoundIndex sub slot.size
 unread_known slot content (Constant flags byte) first h =
@@ -105,7 +105,7 @@ unread_known slot content (Pairs flags block_bits span_bits extra blocks code di
       (has_total-true _ slot.size h.3.0, first_bad_entry-None _ h.3.1),
     )
 
--- ---- the block among the bytes
+-- ---- the bytes of the block
 
 block_is_at : (block_bits blocks first n : ℕ) (content : List ℕ) → n < blocks → block_at block_bits (bytes_at content first (blocks * 2 ^ block_bits)) n ≡ bytes_at content (first + n * 2 ^ block_bits) (2 ^ block_bits)
 unfolding block_at
@@ -121,7 +121,7 @@ block_is_at block_bits blocks first n content there =
     ∙ take-take w k (drop (n * w) (drop first content)) long
     ∙ ap (λ (z : List ℕ). take w z) (drop-drop (n * w) first content)
 
--- the bytes of the spot's block end within those of all blocks
+-- the bytes of the value's block end within those of all blocks
 pub spot_inside : (sub : Sub) (first i count : ℕ) (spot : Spot) → IsSpot (placed_at sub first) i spot → first + blocks_size sub ≤ count → spot.offset + spot.count ≤ count
 spot_inside (Constant flags byte) first i count spot h inside = absurd h
 spot_inside (Pairs flags block_bits span_bits extra blocks code dict sparse lengths packed) first i count spot h inside =
@@ -178,7 +178,7 @@ pub spot_asked : (content : List ℕ) (sub : Sub) (first i old new long : ℕ) (
 spot_asked content (Constant flags byte) first i old new long spot h one e = absurd h
 spot_asked content (Pairs flags block_bits span_bits extra blocks code dict sparse lengths packed) first i old new long spot h one e = one ∙ ap (λ (k : ℕ). raised old k) (e ∙ h.count)
 
--- ---- two clauses of one answer
+-- ---- two clauses of one result
 
 pub ok_both : {X E : Type 0} (r : Result X E) (P Q S : X → Type 0) → IfOk r P → IfOk r Q → ((x : X) → P x → Q x → S x) → IfOk r S
 ok_both (Ok x) P Q S h k both = both x h k

@@ -1,4 +1,4 @@
--- A front and what follows it: by arithmetic alone the verdict is good, or the file is cut.
+-- A front and what follows it: arithmetic alone decides whether the file is accepted or truncated.
 use Rattle.std.proofs.Common.{◌≡◌, ℕ, ◌+◌, ◌-◌, ◌*◌, ◌^◌, ◌<◌, ◌≤◌, List, [], ◌∷◌, ◌++◌, length, take, drop, refl, sym, ap, subst, ◌∙◌, arith, inl, inr, drop-drop, append-nil}
 use Rattle.std.proofs.lemmas.Bool.{cases_lt}
 use Rattle.std.proofs.lemmas.List.{length-drop}
@@ -15,7 +15,7 @@ use Rattle.szg_file.proofs.EachLaws.{then-then}
 use Rattle.szg_file.proofs.FormatLaws.{verdict-then, continued, field-whole, field-short, fill-whole, fill-short}
 use Rattle.szg_file.proofs.WholeReads.{packed_by, behind_packed, behind_opening_by, pieces_are_file_by}
 
--- ---- the front and what follows it are the file
+-- ---- the front followed by the rest is the file
 
 front_made : Opened → List Begun → FrontRead
 front_made o measured = record { byte4 = o.byte4; parts = o.parts; maps = o.maps; measured = measured }
@@ -44,7 +44,7 @@ front_then material kind =
 
 -- ---- one subtable
 
--- a whole text from a place of the bytes on, and the place after it
+-- a whole text that begins at offset `place` and ends at offset `end`
 pub record Text {A : Type 0} (f : Format A) (a : A) (content : List ℕ) (place end : ℕ) : Type 0 where
   pub filled : List ℕ
   pub is : verdict f place (drop place content) ≡ good a filled (drop end content)
@@ -82,7 +82,7 @@ text_cut f g a content place middle order first second =
 text_means : {A : Type 0} (a : A) (content : List ℕ) (place : ℕ) → place ≤ length content → Text (means a) a content place place
 text_means a content place inside = record { filled = []; is = refl; inside = inside }
 
--- padding, and then so many bytes
+-- padding followed by `size` bytes
 text_padded : (unit size : ℕ) (content : List ℕ) (place : ℕ) → place + gap unit place + size ≤ length content →
     Text (filled_to unit >>= λ _. field size means) (bytes_at content (place + gap unit place) size) content place (place + gap unit place + size)
 text_padded unit size content place inside =
@@ -127,7 +127,7 @@ sub_cut (pairs head sparse lengths packed) content place inside short =
     let size : ℕ = head.blocks * 2 ^ head.block_bits in
     cut_then (filled_to 64 >>= λ _. field size means) (λ packed. means (pairs head sparse lengths packed)) place (length content) (drop place content) (cut_padded 64 size content place inside short)
 
--- blocks end no earlier than they begin
+-- blocks do not end before they begin
 pub ends_after : (place : ℕ) (s : Subtable) → place ≤ blocks_end place s
 ends_after place (constant flags byte) = omega arith
 ends_after place (pairs head sparse lengths packed) = omega arith
@@ -196,7 +196,7 @@ module _ (material : Sides) (kind : Kind) (f : FrontRead) (content : List ℕ) (
             (cut_then ending_field (λ last. means (unread_table material kind f subs last)) end (length content) (drop end content) (cut_padded 64 16 content end there short))
       ]
 
-  -- the front is a whole text: what the verdict on all bytes is
+  -- the front is a whole text: the verdict on all bytes
   module _ (filled : List ℕ) (rest : List ℕ) (front : verdict (front_field material kind) 0 content ≡ good f filled rest) (at : rest ≡ drop place content) (inside : place ≤ length content) where
     joined : verdict (unread_file material kind) 0 content ≡ after_fill filled (verdict (behind_front material kind f) place (drop place content))
     joined =

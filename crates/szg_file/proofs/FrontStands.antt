@@ -20,7 +20,7 @@ use Rattle.szg_file.proofs.HeadLaws.{IsBegun, sound_head}
 use Rattle.szg_file.proofs.OutlinedLaws.{flags_with}
 use Rattle.szg_file.proofs.WholeLaws.{sound_maps, sound_sparse, sound_lengths, IsIndexed, IsMeasured, measured_slot, map_moves}
 
--- ---- what a good verdict gives
+-- ---- consequences of acceptance
 
 pub record Gives {A : Type 0} (f : Format A) (P : A → Type 0) : Type 0 where
   pub gives : (place : ℕ) (bytes : List ℕ) (a : A) (filled : List ℕ) → AreNumbers 1 bytes → verdict f place bytes ≡ good a filled [] → P a
@@ -60,7 +60,7 @@ gives_opening material kind =
     (λ heads h. gives_then (maps_field kind heads) _ (AreMaps kind heads) _ (gives_of (maps_field kind heads) _ _ (sound_maps kind heads))
     (λ found m. gives_means (record { byte4 = byte; parts = ps; heads = heads; maps = found }) (OpeningStands material kind) (record { byte4 = b; parts = p; heads = h; maps = m }))))))
 
--- ---- a subtable up to its lengths
+-- ---- a subtable up to its block lengths
 
 pub record UnreadAt (slot : Slot) (m : Begun) : Type 0 where
   pub slot_is : m.slot ≡ slot
@@ -125,7 +125,7 @@ gives_front material kind =
     gives_means (record { byte4 = o.byte4; parts = o.parts; maps = o.maps; measured = measured }) (FrontStands material kind)
     (record { byte4 = h.byte4; parts = h.parts; measured = all.stand; maps = maps_moved kind (slots material kind o.parts) o.heads measured o.maps all h.maps }))))
 
--- ---- with the bytes where the blocks are
+-- ---- with the bytes at the offsets of the blocks
 
 unread_with : (slot : Slot) (s : Subtable) (bytes : List ℕ) → IsUnread slot s → IsUnread slot (with_blocks s bytes)
 unread_with slot (constant flags byte) bytes h = h

@@ -1,4 +1,5 @@
--- What is kept of a front is of the table that the bytes begin with, blocks unchecked.
+-- The index, length and subtables of a table that is opened by its front are those of the table that the bytes
+-- begin with. Its blocks are not checked.
 use Rattle.std.proofs.Common.{◌≡◌, ℕ, ◌+◌, ◌<◌, ◌≤◌, ◌^◌, List, [], ◌++◌, length, map, take, drop, refl, sym, ap, subst, ◌∙◌, arith, inl, inr}
 use Rattle.std.proofs.lemmas.Bool.{cases_lt}
 use Rattle.std.specs.List.{AllByRecursion}
@@ -57,7 +58,7 @@ module _ (material : Sides) (kind : Kind) (f : FrontRead) (place : ℕ) (content
         fits = fits;
       }
 
-  -- its index passes the checks of an index
+  -- its index is a valid index
   pub front_index : (subs : List PlacedSub) → map (whole_sub content) subs ≡ unread_subs content place f.measured →
       IsIndex (index_with material kind f.parts (map (λ placed. flags_of (subtable_of placed.sub)) subs) f.maps)
   front_index subs same =
@@ -77,7 +78,7 @@ module _ (material : Sides) (kind : Kind) (f : FrontRead) (place : ℕ) (content
       let short : length content < file_end place f.measured = elim (cases_lt (length content) (file_end place f.measured)) [ inl less ↦ less | inr more ↦ absurd (lacks more) ] in
       subst (λ (v : Verdict Contents). IsOpenRefusal v (Refused size Truncated)) (sym (front_cut material kind f content place h.filled (drop place content) begins refl h.inside short)) (sym long, refl)
 
--- a reader over a source that began at its first byte has read a front
+-- a reader over a source that began at the first byte has read a front
 pub begins_by : (material : Sides) (kind : Kind) (f : FrontRead) (begun ended : Front) (from to place : ℕ) (old new bytes content : List ℕ) → begun.place ≡ 0 → from ≡ 0 → take to new ≡ take from old ++ bytes →
     Advances (front_field material kind) f begun ended bytes → content ≡ new → place ≡ ended.place → BeginsWithFront material kind f place content
 begins_by material kind f begun ended from to place old new bytes content start first came h same at =

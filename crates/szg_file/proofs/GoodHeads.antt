@@ -1,4 +1,4 @@
--- The heads of an accepted table are good.
+-- The format accepts the headers of an accepted table.
 use Rattle.std.proofs.Common.{◌≡◌, ℕ, zero, suc, ◌+◌, ◌-◌, ◌*◌, ◌^◌, ◌/◌, ◌%◌, ◌<◌, ◌≤◌, Bool, true, false, cond, List, [], ◌∷◌, ◌++◌, length, map, take, drop, refl, sym, ap, subst, ◌∙◌, arith, Option, None}
 use Rattle.std.specs.Prelude.{flat_map, IsTrue, nat_lt, nat_le, ◌&&◌}
 use Rattle.std.specs.List.{AllByRecursion}
@@ -134,7 +134,7 @@ at_dictionary entries few bytes expand =
     (at_entries entries bytes expand)
     (at_of (fill (length entries % 2) (means entries)) (λ _. spare (length entries % 2) ∷ []) (λ list. list ≡ entries) entries (complete_fill (length entries % 2) entries) refl))
 
--- ---- a packed head
+-- ---- the header of a subtable that is not constant
 
 abbrev head_with : ℕ → ℕ → ℕ → ℕ → ℕ → ℕ × ℕ → List ℕ → List (List ℕ) → ℕ → Subtable
 head_with flags block_bits span_bits extra blocks words lowest entries symbols = pairs (record {
@@ -208,7 +208,7 @@ at_packed head h =
     at_next (byte_where (λ bits. nat_le bits 18) reason.BlockBits) (λ block_bits. after_bits head.flags block_bits) (written (head.block_bits ∷ []) ∷ []) s head.block_bits W
     (at_byte_where (λ bits. nat_le bits 18) reason.BlockBits head.block_bits (omega (arith, few_bits)) (le-leb head.block_bits 18 h.block_bits)) p2
 
--- ---- a head
+-- ---- a header
 
 pub at_first : {A : Type 0} (b : Bool) (f g : Format A) (z : List Section) (V : A → Type 0) → b ≡ true → At f z V → At (cond b f g) z V
 at_first b f g z V e h = subst (λ (c : Bool). At (cond c f g) z V) (sym e) h

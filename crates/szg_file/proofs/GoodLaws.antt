@@ -1,4 +1,4 @@
--- The file of an accepted table is good: section by section.
+-- The format accepts the file of an accepted table: section by section.
 use Rattle.std.proofs.Common.{◌≡◌, ℕ, ◌+◌, ◌^◌, ◌<◌, ◌≤◌, Bool, List, [], ◌∷◌, ◌++◌, length, drop, refl, sym, ap, subst, ◌∙◌, append_assoc, append-nil, arith, Option, None}
 use Rattle.std.specs.Prelude.{flat_map, IsTrue, bytes_eq}
 use Rattle.std.specs.List.{AllByRecursion}
@@ -21,7 +21,7 @@ use Rattle.szg_file.specs.Laws.{FileIsGood}
 use Rattle.szg_file.proofs.FileLaws.{Spells, Spells-then, AreNumbers-join, one_byte, file_from_sections}
 use Rattle.szg_file.proofs.CompleteLaws.{Text, Complete, asked_front, after_good, complete_field, complete_number, complete_bytes, complete_means, complete_demand}
 
--- Some value that meets V has a good text that these sections spell, wherever it stands.
+-- For some value that satisfies `V`, these sections spell an accepted text at any offset.
 pub record At {A : Type 0} (f : Format A) (z : List Section) (V : A → Type 0) : Type 0 where
   pub at : (place : ℕ) (supply text : List ℕ) → length text ≡ place → asked text z ≤ length supply → (a : A) × V a × Text f z place a supply
 
@@ -68,7 +68,7 @@ at_placed next z V h = record {
       (p.0, p.1, record { bytes = p.2.bytes; filled = p.2.filled; later = p.2.later; supply_is = p.2.supply_is; spells = p.2.spells; is_good = p.2.is_good });
 }
 
--- ---- the front
+-- ---- magic and byte 4
 
 magic_length : (kind : Kind) → length (magic_of kind) ≡ 4
 magic_length Wdl = refl
@@ -123,7 +123,7 @@ at_checks material kind place part (side ∷ sides) h =
 
 -- ---- from the sections of the whole file to the law
 
--- Each accepted table's sections spell a good text of it.
+-- The sections of each accepted table spell an accepted text of it.
 abbrev pub SectionsAreGood : Type 0
 SectionsAreGood = (t : Contents) (filled : List ℕ) → IsAccepted t filled → At (file t.material t.kind) (sections t) (Is t)
 
@@ -148,7 +148,7 @@ file_is_good law t filled rest h =
 abbrev part_with : List ℕ → List ℕ → Part
 part_with order men = record { order = order; men = men }
 
--- what spells some sections spells others that ask for as little
+-- other sections with the same text that need no fewer padding bytes
 pub at_respelled : {A : Type 0} (f : Format A) (z z' : List Section) (V : A → Type 0) → ((text : List ℕ) → asked text z ≤ asked text z') →
     ((place : ℕ) (bytes filled : List ℕ) → Spells place bytes z filled → Spells place bytes z' filled) → At f z V → At f z' V
 at_respelled f z z' V less same h = record {
@@ -167,7 +167,7 @@ at_respelled f z z' V less same h = record {
       );
 }
 
--- the text of one section is that of two, joined
+-- the text of one section is that of its two halves
 at_apart : {A : Type 0} (f : Format A) (x y : List ℕ) (a : A) → At f (written (x ++ y) ∷ []) (Is a) → At f (written x ∷ written y ∷ []) (Is a)
 at_apart f x y a =
     at_respelled f (written (x ++ y) ∷ []) (written x ∷ written y ∷ []) (Is a) (λ text. omega arith)

@@ -1,4 +1,4 @@
--- Maps, sparse indexes, lengths, blocks and the whole file: the file of an accepted table is good.
+-- Maps, sparse indexes, block lengths, blocks and the whole file: the format accepts the file of an accepted table.
 use Rattle.std.proofs.Common.{◌≡◌, ℕ, zero, suc, ◌+◌, ◌*◌, ◌^◌, ◌<◌, true, List, [], ◌∷◌, ◌++◌, length, map, take, drop, refl, sym, ap, subst, ◌∙◌, append_assoc, append-nil, arith, Option, Some, None}
 use Rattle.std.specs.Prelude.{flat_map, IsTrue}
 use Rattle.std.specs.List.{AllByRecursion}
@@ -26,14 +26,14 @@ use Rattle.szg_file.proofs.GoodLaws.{At, Is, at_respelled, at_of, at_then, at_ne
 use Rattle.szg_file.proofs.GoodHeads.{bytes_of-bytes, rows_of, at_rows, at_number, at_none_fails, at_head, at_first, at_second}
 use Rattle.szg_file.proofs.TableLaws.{one_file_one_table, no_file_begins_another, cut_file_is_truncated}
 
--- a weaker fact of the value
+-- a weaker condition on the value
 at_weaker : {A : Type 0} (f : Format A) (z : List Section) (V W : A → Type 0) → At f z V → ((a : A) → V a → W a) → At f z W
 at_weaker f z V W h k = record { at = λ place supply text e enough. let p = h.at place supply text e enough in (p.0, k p.0 p.1, p.2) }
 
 at_value : {A : Type 0} (a : A) (V : A → Type 0) → V a → At (means a) [] V
 at_value a V h = at_weaker (means a) [] (Is a) V (at_means a) (λ b same. subst V (sym same) h)
 
--- the same sections, but for nothing behind them
+-- the same sections, with no sections after them
 at_all : {A : Type 0} (f : Format A) (z : List Section) (V : A → Type 0) → At f (z ++ []) V → At f z V
 at_all f z V h = subst (λ (s : List Section). At f s V) (append-nil z) h
 
@@ -112,7 +112,7 @@ abbrev measured_of : Subtable → Subtable
 measured_of (constant flags byte) = constant flags byte
 measured_of (pairs head sparse lengths packed) = pairs head sparse lengths []
 
--- a stage of this subtable, which is accepted
+-- a stage of an accepted subtable
 abbrev IsStage : (Subtable → Subtable) → Begun → Slot × Subtable → Type 0
 IsStage stage b x = IsSubtable x.0 x.1 × ((b.slot ≡ x.0) × (b.subtable ≡ stage x.1))
 
@@ -166,7 +166,7 @@ at_sparse slot (pairs head sparse lengths packed) h =
     (at_rows 6 n rows (r.2 ∙ h.sparse_count) r.3)
     (at_value (staged slot (pairs head (map entry_of_bytes rows) [] []) place) V (h, (refl, ap (λ (z : List SparseEntry). pairs head z [] []) r.1)))))
 
--- ---- lengths
+-- ---- block lengths
 
 at_index_check : (place index : ℕ) (layout : Layout) (size : ℕ) → HasIndex layout size → At (index_check place index layout size) [] (Is tt)
 at_index_check place index layout size h =
@@ -237,7 +237,7 @@ at_blocks slot (pairs head sparse lengths packed) h =
 
 -- ---- all subtables
 
--- formats of items, each for an item of another list, with what is known of the values
+-- formats of items, one for each item of another list, with the properties of their values
 at_each_for : {A B X : Type 0} (format : A → Format B) (s : X → List Section) (R : A → X → Type 0) (V : B → X → Type 0) →
     ((a : A) (x : X) → R a x → At (format a) (s x) (λ b. V b x)) → (us : List A) (xs : List X) → SideBySide R us xs → At (each format us) (flat_map s xs) (λ bs. SideBySide V bs xs)
 at_each_for format s R V one [] [] h = at_value [] (λ bs. SideBySide V bs []) tt
@@ -412,7 +412,7 @@ sections_are_good t filled h =
     let regrouped : written (magic_of k) ∷ written (b ∷ []) ∷ z3 ≡ sections t = simp append_assoc in
     subst (λ (z : List Section). At (file m k) z W) regrouped all
 
--- The file of an accepted table is good, whatever follows it; and so no premise is left.
+-- The format accepts the file of an accepted table, whatever follows it. No assumption is left.
 pub accepted_file_is_good : FileIsGood
 accepted_file_is_good = file_is_good sections_are_good
 

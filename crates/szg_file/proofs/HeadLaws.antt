@@ -1,4 +1,4 @@
--- The heads: what is read is spelled by the sections of the subtable, and meets its conditions.
+-- The headers: a header that is read is spelled by the sections of its subtable, and satisfies the conditions.
 use Rattle.std.proofs.Common.{◌≡◌, ℕ, suc, ◌+◌, ◌-◌, ◌*◌, ◌^◌, ◌/◌, ◌%◌, ◌<◌, ◌≤◌, Bool, true, false, cond, List, [], ◌∷◌, ◌++◌, length, map, drop, refl, sym, ap, subst, ◌∙◌, arith, inl, inr, None}
 use Rattle.std.specs.Prelude.{flat_map, IsTrue, nat_lt, nat_le, ◌&&◌}
 use Rattle.std.specs.List.{AllByRecursion}
@@ -16,7 +16,7 @@ use Rattle.szg_file.specs.FileOf.{Section, written, spare, head_sections}
 use Rattle.szg_file.specs.Accepted.{AreNumbers, AreBytes, HasRoom, AllExpand, IsHead}
 use Rattle.szg_file.proofs.FileLaws.{Spells, Spells-then, Sound, parts, AreNumbers-split, AreNumbers-join, sound_number, sound_rows, sound_means, sound_demand, sound_none_fails, sound_placed, sound_as, sound_after, sound_value, sound_then, sound_fill, bytes_of-number_of, number_of-small, one_byte}
 
--- ---- reading in a chain: the sections are those of each step
+-- ---- sequences of steps, each with its sections
 
 pub record Read {A : Type 0} (f : Format A) (S : A → List Section → Type 0) : Type 0 where
   pub read : (place : ℕ) (bytes : List ℕ) (a : A) (filled : List ℕ) → AreNumbers 1 bytes → verdict f place bytes ≡ good a filled [] →
@@ -27,7 +27,7 @@ read_of f s P h = record {
   read = λ place bytes a filled small e. let x = h.sound place bytes a filled small e in (s a, x.0, x.1, (refl, x.2));
 }
 
--- what a step gave, and what the rest gave
+-- the results of one step and of the remaining ones
 pub record Linked {A B : Type 0} (S : A → List Section → Type 0) (T : A → B → List Section → Type 0) (b : B) (sections : List Section) : Type 0 where
   pub value : A
   pub front : List Section
@@ -138,7 +138,7 @@ sound_lowest_check place code =
     (first_rise code ≡ None) (λ _. first_overfull code ≡ None)
     (sound_none_fails (first_rise code) (λ item. place + 2 * item) reason.LowestOrder) (sound_none_fails (first_overfull code) (λ item. place + 2 * item) reason.TooFull)
 
--- what the list of lowest symbols has to be
+-- the conditions on the list of lowest symbols
 pub record AreLowest (min max : ℕ) (lowest : List ℕ) : Type 0 where
   pub count : length lowest ≡ max + 1 - min
   pub small : AreNumbers 2 lowest
@@ -174,7 +174,7 @@ sound_entries_check place entries =
     (first_cycle entries ≡ None) (λ _. first_long entries ≡ None)
     (sound_none_fails (first_cycle entries) (λ symbol. place + 3 * symbol) reason.Cycle) (sound_none_fails (first_long entries) (λ symbol. place + 3 * symbol) reason.LongSymbol))
 
--- what the entries have to be
+-- the conditions on the entries
 pub record AreEntries (count : ℕ) (entries : List (List ℕ)) : Type 0 where
   pub counted : length entries ≡ count
   pub bytes : AllByRecursion (AreBytes 3) entries
@@ -197,7 +197,7 @@ sound_entries count =
       subst (AreEntries count) (sym q.1) (record { counted = p.0; bytes = p.1; expand = q.0 }),
     )))
 
--- what a dictionary has to be
+-- the conditions on a dictionary
 pub record IsDictionary (entries : List (List ℕ)) : Type 0 where
   pub few : length entries < 2 ^ 16
   pub bytes : AllByRecursion (AreBytes 3) entries
@@ -226,7 +226,7 @@ sound_dictionary =
       record { few = omega (arith, small, q.counted); bytes = q.bytes; expand = q.expand },
     ))
 
--- ---- a packed head
+-- ---- the header of a subtable that is not constant
 
 abbrev pub packed_rest : ℕ → ℕ → ℕ → ℕ → ℕ → Format Subtable
 packed_rest flags block_bits span_bits extra blocks = do
@@ -261,7 +261,7 @@ words_sections words = written (words.1 ∷ []) ∷ written (words.0 ∷ []) ∷
 abbrev lowest_sections : List ℕ → List Section
 lowest_sections lowest = written (flat_map (bytes_of 2) lowest) ∷ []
 
--- what the whole head's sections are known as, step by step
+-- the properties of all sections of the header, step by step
 abbrev PackedChain : ℕ → Subtable → List Section → Type 0
 PackedChain flags =
     Linked (Step byte_section (λ bits. (bits < 256) × IsTrue (nat_le bits 18))) (λ block_bits.
@@ -293,7 +293,7 @@ read_packed_head flags =
     read_then (lowest_list words.0 words.1) _ _ _ (read_of (lowest_list words.0 words.1) lowest_sections _ (sound_lowest words.0 words.1)) (λ lowest.
     read_then dictionary _ _ _ (read_of dictionary dictionary_sections _ sound_dictionary) (λ entries. read_means _)))))))
 
--- a head that has been read: nothing of the sparse index, the lengths and the blocks is there yet
+-- a header that was read: sparse index, block lengths and blocks are still empty
 abbrev pub IsBegun : Subtable → Type 0
 IsBegun (constant flags byte) = (128 ≤ flags) × (flags < 256) × (byte < 256)
 IsBegun (pairs head sparse lengths packed) = IsHead head × (sparse ≡ []) × (lengths ≡ []) × (packed ≡ [])
@@ -354,7 +354,7 @@ packed_head_is flags small subtable z q1 =
     ) in
     subst (λ (s : Subtable). (written (flags ∷ []) ∷ z ≡ head_sections s) × IsBegun s) (sym same) all
 
--- ---- a head
+-- ---- a header
 
 pub sound_if : {A : Type 0} (b : Bool) (f g : Format A) (s : A → List Section) (P : A → Type 0) → (b ≡ true → Sound f s P) → (b ≡ false → Sound g s P) → Sound (cond b f g) s P
 sound_if true f g s P h k = h refl

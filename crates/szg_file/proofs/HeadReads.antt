@@ -1,4 +1,5 @@
--- Readers of heads: what a reading says of other values, how many items a field of rows has, and the checks of codes and dictionaries.
+-- Readers of headers: readings with other views, the number of items of a field of rows, and the checks of codes
+-- and dictionaries.
 use Rattle.std.proofs.Common.{◌≡◌, ℕ, zero, suc, ◌+◌, ◌*◌, List, [], length, map, take, drop, refl, sym, ap, subst, ◌∙◌, inl, inr, Option, Some, None, Err}
 use Rattle.std.specs.Prelude.{Result}
 use Rattle.std.proofs.lemmas.Bool.{cases_lt}
@@ -31,7 +32,7 @@ use Rattle.szg_file.proofs.FormatLaws.{field-short, field-whole}
 
 -- ---- readings
 
--- A fault is the same, whatever was to be made.
+-- A fault is independent of the value that was being read.
 pub reads_failed : {A X Y R : Type 0} (f : Format A) (view : X → A) (view' : Y → A) {o m n : Front}
     {dev : Ghosts R} {i j : R} (fault : ReadFault) →
     Reading f view o m dev i j (Err fault) →
@@ -46,7 +47,7 @@ length-items : (size count : ℕ) (bytes : List ℕ) → length (items size coun
 length-items size zero bytes = refl
 length-items size (suc count) bytes = ap suc (length-items size count (drop size bytes))
 
--- a field of rows has as many as it is asked for
+-- a field of `count` rows has `count` rows
 pub rows-count : (size count place : ℕ) (bytes : List ℕ) (rows : List (List ℕ)) (filled rest : List ℕ) →
     verdict (rows_field size count) place bytes ≡ good rows filled rest → length rows ≡ count
 rows-count size count place bytes rows filled rest e =
@@ -102,14 +103,14 @@ checks_from place child cycle long =
     none_fails child (λ symbol. place + 3 * symbol) reason.Child
     >> (none_fails cycle (λ symbol. place + 3 * symbol) reason.Cycle >> none_fails long (λ symbol. place + 3 * symbol) reason.LongSymbol)
 
--- the first fault of a list of entries, where it has one
+-- the first fault of a list of entries, if there is one
 abbrev fault_of : Option ℕ → Option ℕ → Option ℕ → Option DictFault
 fault_of (Some symbol) cycle long = Some (dict.Child symbol)
 fault_of None (Some symbol) long = Some (dict.Cycle symbol)
 fault_of None None (Some symbol) = Some (dict.LongSymbol symbol)
 fault_of None None None = None
 
--- what it is to have a fault, or none
+-- the conditions for this fault, or for none
 abbrev IsVerdict : List (List ℕ) → Option DictFault → Type 0
 IsVerdict entries None = IsDictionary entries
 IsVerdict entries (Some fault) = IsDictionaryFault entries fault × (fault ≡ dict.Memory → ⊥)
@@ -121,7 +122,7 @@ decided entries None (Some symbol) long e h k = ((first_child-None entries e, fi
 decided entries None None (Some symbol) e h k = ((first_cycle-None entries h, first_long-Some entries symbol h k), λ no. absurd cc)
 decided entries None None None e h k = first_long-None entries h k
 
--- the checks are what the first fault says
+-- the checks by the first fault
 abbrev verdict_of : ℕ → Option DictFault → Format (Unit {0})
 verdict_of place None = means tt
 verdict_of place (Some fault) = entries_refusal place fault
@@ -158,18 +159,18 @@ entries_refused place entries fault wrong there =
     ∙ entries_same place entries fault wrong there (fault_of (first_child entries) (first_cycle entries) (first_long entries))
     (decided entries (first_child entries) (first_cycle entries) (first_long entries) refl refl refl)
 
--- what is told of a dictionary's fault is what its checks say
+-- the refusal of a dictionary by its fault is the refusal by its checks
 pub entries_told : (place : ℕ) (entries : List (List ℕ)) (fault : DictFault) (r : ReadFault) → IsDictionaryFault entries fault →
     ((fault ≡ dict.Memory → ⊥) → Refuses (entries_refusal place fault) r) → (fault ≡ dict.Memory → r ≡ Memory) → (r ≡ Memory → ⊥) → Refuses (entries_check place entries) r
 entries_told place entries fault r wrong told lacks there =
     let full : fault ≡ dict.Memory → ⊥ = λ e. there (lacks e) in
     subst (λ (f : Format (Unit {0})). Refuses f r) (sym (entries_refused place entries fault wrong full)) (told full)
 
--- what is told of a fault of lowest symbols is what their checks say
+-- the refusal of lowest symbols by their fault is the refusal by their checks
 pub lowest_told : (place : ℕ) (code : CanonicalCode) (fault : CodeFault) (r : ReadFault) → HasLengths code → IsCodeFault code fault →
     Refuses (lowest_refusal place fault) r → Refuses (lowest_check place code) r
 lowest_told place code fault r lengths wrong told = subst (λ (f : Format (Unit {0})). Refuses f r) (sym (lowest_refused place code lengths fault wrong)) told
 
--- what says that memory ran out
+-- a fault that equals `Memory`
 pub memory_is : {Y : Type 0} (fault : ReadFault) → ◌≡◌ {A = Result Y ReadFault} (Err fault) (Err Memory) → fault ≡ Memory
 memory_is fault e = cc

@@ -1,4 +1,4 @@
--- What `check_index` answers, in the words of the format; how many rows a field of rows gives.
+-- The result of `check_index` as checks of the format, and the number of rows of a field of rows.
 use Rattle.std.proofs.Common.{◌≡◌, ℕ, zero, suc, ◌+◌, ◌-◌, ◌*◌, ◌^◌, ◌<◌, ◌≤◌, Bool, true, List, [], length, map, take, drop, refl, sym, ap, ◌∙◌, inl, inr, Option, Some, None, Ok, Err, arith}
 use Rattle.std.specs.Prelude.{IfSome, Result}
 use Rattle.std.proofs.Math.Nat.{div-le_self}
@@ -37,7 +37,7 @@ no_item : (o : Option ℕ) → ((k : ℕ) → o ≡ Some k → ⊥) → o ≡ No
 no_item None h = refl
 no_item (Some k) h = absurd (h k refl)
 
--- the checks at what they find
+-- the checks by their results
 abbrev checks_at : ℕ → ℕ → Bool → Option ℕ → Format (Unit {0})
 checks_at place index total bad = demand total place reason.ShortTotal >>= λ _. none_fails bad (λ item. index + 6 * item) reason.SparseEntry
 
@@ -65,7 +65,7 @@ index_bad place index size packed k (Some layout) h =
     ap (λ (b : Bool). checks_at place index b (first_bad_entry layout)) (has_total-of layout size h.0)
     ∙ ap (checks_at place index true) (first_is layout k h.1 (first_bad_entry layout) refl)
 
--- a sparse index has no more entries than positions and a span
+-- the number of entries of a sparse index is less than the number of positions plus a span
 pub entry_count-most : (span_bits size : ℕ) → entry_count span_bits size < size + 2 ^ span_bits
 unfolding entry_count
 entry_count-most span_bits size =
@@ -113,19 +113,19 @@ counted {B = B} f size count place bytes a filled rest e =
           sym (ap length same) ∙ length-map rows f ∙ items-count size count (take (size * count) bytes)
     ]
 
--- ---- lengths, and the checks behind them
+-- ---- block lengths and the checks after them
 
--- what was measured, or the refusal of a check
+-- the subtable with its block lengths, or the refusal by a check
 abbrev pub measured_or : Option (ℕ × Reason) → Begun → Result Begun ReadFault
 measured_or None found = Ok found
 measured_or (Some refusal) found = Err (Refused refusal.0 refusal.1)
 
--- what stands behind lengths that begin at a place
+-- the checks after block lengths that begin at offset `place`
 abbrev behind_lengths : Slot → ℕ → Head → List SparseEntry → List ℕ → ℕ → List ℕ → Format Begun
 behind_lengths slot index head sparse packed place numbers =
     index_check place index (layout_of head sparse numbers) slot.size >> means (record { slot = slot; subtable = pairs head sparse numbers packed; index = index })
 
--- lengths that were taken, and what the checks behind them say
+-- block lengths that were read, and the results of the checks after them
 pub lengths_checked : {X R : Type 0} (slot : Slot) (index size : ℕ) (head : Head) (sparse : List SparseEntry) (old packed : List ℕ) (view : X → List ℕ) (v : X) (refusal : Option (ℕ × Reason)) {o n : Front}
     {dev : Ghosts R} {i k : R} → size ≡ slot.size →
     Reading (numbers_field (head.blocks + head.extra)) view o n dev i k (Ok v) →

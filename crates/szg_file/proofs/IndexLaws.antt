@@ -1,4 +1,4 @@
--- What the index of a table is of the table.
+-- How the index of a table relates to the table.
 use Rattle.std.proofs.Common.{◌≡◌, ℕ, ◌<◌, List, [], ◌∷◌, length, map, get_or, refl, sym, ap, subst, ◌∙◌, arith, Some, None, Option, option_map, IsSome}
 use Rattle.std.specs.Prelude.{slice_get, position, ℤ, option_and_then}
 use Rattle.std.proofs.lemmas.List.{length-map}
@@ -16,19 +16,19 @@ use Rattle.szg_file.specs.Index.{Index, IsIndex, index_of, index_with, contents_
 use Rattle.szg_file.specs.Values.{item, found, slotted, subtable_at, list_number, number_at, number_of_value}
 use Rattle.szg_file.proofs.TableFinds.{is_at, item-slice_get, side_lengths, not_found, found_there, part_below, slot_count}
 
--- ---- what is found among the slots
+-- ---- searches among the slots
 
 no_slot : Slot
 no_slot = record { part = 0; side = 0; size = 0 }
 
--- the item at the place that a search gives
+-- the index that a search returns is below the length
 pub at_position : (part side : ℕ) (xs : List Slot) (n : ℕ) → position (is_at part side) xs ≡ Some n → n < length xs
 at_position part side xs n e = (position-Some (is_at part side) xs n no_slot e).0
 
 read_at : {A : Type 0} (xs : List A) (n : ℕ) (d : A) → n < length xs → (x : A) × (slice_get xs n ≡ Some x)
 read_at xs n d h = (get_or xs n d, slice_get-get_or xs n d h)
 
--- the slot and the flags of what is found among slots with their subtables
+-- the slot and the flags of a part and side among slots with their subtables
 pub slot_told : (part side : ℕ) (xs : List Slot) (ys : List Subtable) → length xs ≡ length ys →
     option_map (λ pair. pair.0) (found part side (slotted xs ys)) ≡ option_and_then (λ n. slice_get xs n) (position (is_at part side) xs)
 slot_told part side xs ys many = told (position (is_at part side) xs) refl where
@@ -57,7 +57,7 @@ flags_told part side xs ys many = told (position (is_at part side) xs) refl wher
 slot_many : (t : Contents) (filled : List ℕ) → IsAccepted t filled → length (slots t.material t.kind t.parts) ≡ length t.subtables
 slot_many t filled h = side_lengths IsSubtable (slots t.material t.kind t.parts) t.subtables h.subtables
 
--- an accepted table has one
+-- the index of an accepted table is valid
 pub accepted_index : (t : Contents) (filled : List ℕ) → IsAccepted t filled → IsIndex (index_of t)
 accepted_index t filled h = record {
   parts_stand = h.parts;
@@ -75,7 +75,7 @@ sized : (o : Option (Slot × Subtable)) → option_map (λ (slot : Slot). slot.s
 sized None = refl
 sized (Some pair) = refl
 
--- and its size
+-- the size of a part and side
 pub size_of_table : (t : Contents) (filled : List ℕ) (part side : ℕ) → IsAccepted t filled →
     option_map (λ (slot : Slot). slot.size) (slot_in (index_of t) part side) ≡ option_map (λ found. found.0.size) (subtable_at t part side)
 size_of_table t filled part side h = ap (option_map (λ (slot : Slot). slot.size)) (sym (slot_of_table t filled part side h)) ∙ sized (subtable_at t part side)
@@ -96,13 +96,13 @@ number_told o flags m None v e = refl
 number_told None flags m (Some list) v e = ap (option_and_then (λ flags. option_and_then (λ lists. number_at flags lists list v) m)) e
 number_told (Some pair) flags m (Some list) v e = ap (option_and_then (λ flags. option_and_then (λ lists. number_at flags lists list v) m)) e
 
--- the number of a value
+-- the distance of a value
 pub number_of_table : (t : Contents) (filled : List ℕ) (part : ℕ) (class : ℤ) (v : ℕ) → IsAccepted t filled → number_of_value t part class v ≡ number_in (index_of t) part class v
 number_of_table t filled part class v h =
     number_told (subtable_at t part 0) (flags_in (index_of t) part 0) (item t.maps part) (list_number class) v
     (flags_told part 0 (slots t.material t.kind t.parts) t.subtables (slot_many t filled h))
 
--- the number of a value, from its list, its flags and its map
+-- the distance of a value, by its list, its flags and its map
 pub number_found : (x : Index) (part : ℕ) (class : ℤ) (v list n flags : ℕ) (m : Option Map) → list_number class ≡ Some list → slot_number x part 0 ≡ Some n → item x.flags n ≡ Some flags →
     item x.maps part ≡ Some m → number_in x part class v ≡ number_at flags m list v
 number_found x part class v list n flags m class_is number_is flags_is map_is =
@@ -112,7 +112,7 @@ number_found x part class v list n flags m class_is number_is flags_is map_is =
 
 -- ---- maps
 
--- where a DTZ table has a subtable of a part, the part has an item among the maps
+-- if a DTZ table has a subtable of a part, there is an item for it among the maps
 pub mapped_index : (x : Index) (part n : ℕ) → IsIndex x → x.kind ≡ Dtz → slot_number x part 0 ≡ Some n → part < length x.maps
 mapped_index x part n h dtz e =
     let xs : List Slot = slots x.material Dtz x.parts in
@@ -133,14 +133,14 @@ mapped_index x part n h dtz e =
 
 -- ---- a table that owns its index
 
--- an index that was made of a table's subtables is the table's
+-- the index of a table's subtables is the index of the table
 pub told_index : (t : Contents) (given held : List Sub) (x : Index) → given ≡ held → x ≡ index_with t.material t.kind t.parts (map flags_of (map subtable_of given)) t.maps →
     map subtable_of held ≡ t.subtables → x ≡ index_of t
 told_index t given held x same e subs =
     e ∙ ap (λ (l : List Sub). index_with t.material t.kind t.parts (map flags_of (map subtable_of l)) t.maps) same
     ∙ ap (λ (l : List Subtable). index_with t.material t.kind t.parts (map flags_of l) t.maps) subs
 
--- and the table is that of its index
+-- the table equals the contents with its index
 pub owned : (t : Contents) (filled : List ℕ) (x : Index) → IsAccepted t filled → x ≡ index_of t →
     IsAccepted (contents_with x t.byte4 t.subtables t.last) filled × (x ≡ index_of (contents_with x t.byte4 t.subtables t.last))
 owned t filled x h e = (

@@ -1,4 +1,4 @@
--- Items that stand one behind another, read one at a time.
+-- Consecutive items, read one at a time.
 use Rattle.std.proofs.Common.{◌≡◌, ℕ, zero, suc, ◌+◌, ◌*◌, ◌≤◌, List, [], ◌∷◌, ◌++◌, length, map, take, drop, slice_index, refl, sym, ap, ◌∙◌, arith}
 use Rattle.std.proofs.lemmas.List.{drop-drop, drop-take, length-drop, length-take-le, map-append, take_at}
 use Rattle.std.proofs.Math.Seq.{take-add}
@@ -16,14 +16,14 @@ items-more size (suc n) bytes =
     ap (λ (z : List (List ℕ)). take size bytes ∷ z) (items-more size n (drop size bytes))
     ∙ ap (λ (z : List ℕ). take size bytes ∷ (items size n (drop size bytes) ++ take size z ∷ [])) (drop-drop (size * n) size bytes ∙ ap (λ (k : ℕ). drop k bytes) e)
 
--- a little-endian number is that of its bytes, least first
+-- the two definitions of a little-endian number agree
 pub little-number_of : (n : ℕ) (xs : List ℕ) → n ≤ length xs → little_number n xs ≡ number_of (take n xs)
 little-number_of zero xs h = refl
 little-number_of (suc n) [] h = absurd (omega (arith, h))
 little-number_of (suc n) (x ∷ xs) h =
     ap (λ (r : ℕ). x + 256 * r) (little_from-cons 0 n x xs ∙ little-number_of n xs (omega (arith, h)))
 
--- a list of items' numbers, and one more item
+-- a list of decoded items, and one more item
 pub mapped-more : {X : Type 0} (f : List ℕ → X) (size n : ℕ) (bytes : List ℕ) (list : List X) (x : X) → list ≡ map f (items size n bytes) →
     x ≡ f (take size (drop (size * n) bytes)) → list ++ x ∷ [] ≡ map f (items size (n + 1) bytes)
 mapped-more {X = X} f size n bytes list x e h =
@@ -32,7 +32,7 @@ mapped-more {X = X} f size n bytes list x e h =
     ap (map f) (items-more size n bytes) ∙ map-append f (items size n bytes) (take size (drop (size * n) bytes) ∷ []) in
     ap (λ (z : List X). z ++ x ∷ []) e ∙ ap (λ (y : X). map f (items size n bytes) ++ y ∷ []) h ∙ sym one ∙ ap (λ (k : ℕ). map f (items size k bytes)) (sym next)
 
--- one more item, as it stands
+-- one more item, not decoded
 pub rows-more : (size n : ℕ) (bytes : List ℕ) (list : List (List ℕ)) (x : List ℕ) → list ≡ items size n bytes →
     x ≡ take size (drop (size * n) bytes) → list ++ x ∷ [] ≡ items size (n + 1) bytes
 rows-more size n bytes list x e h =
@@ -46,7 +46,7 @@ three_bytes (a ∷ []) h = absurd (omega (arith, h))
 three_bytes (a ∷ b ∷ []) h = absurd (omega (arith, h))
 three_bytes (a ∷ b ∷ c ∷ xs) h = refl
 
--- an entry of a sparse index: four bytes of block, two of offset
+-- an entry of a sparse index: four bytes of block number, two of offset
 pub six_bytes : (xs : List ℕ) (block offset : ℕ) → 6 ≤ length xs → block ≡ little_number 4 xs → offset ≡ little_number 2 (drop 4 xs) →
     (let entry : SparseEntry = record { block = block; offset = offset } in entry ≡ entry_of_bytes (take 6 xs))
 six_bytes xs block offset h b o =

@@ -1,4 +1,4 @@
--- What is found among the heads of a table.
+-- Searches among the subtables of a mapped table.
 use Rattle.std.proofs.Common.{◌≡◌, ℕ, ◌≤◌, List, length, sym, ap, subst, ◌∙◌, arith, Some, None, Option, option_map}
 use Rattle.std.specs.Prelude.{position, slice_get, option_and_then}
 use Rattle.szg_file.specs.Contents.{Contents, Slot, Subtable}
@@ -10,7 +10,7 @@ use Rattle.szg_file.proofs.IndexLaws.{size_of_table}
 use Rattle.szg_file.proofs.OpenedLaws.{IsKept, as_many_kept, opened_present}
 use Rattle.szg_file.proofs.TableFinds.{is_at}
 
--- the size of a part's side is that of the table with whose file the bytes begin
+-- the size of a part's side is the one in the table whose file `content` begins with
 pub kept_size : (kept : Kept) (content : List ℕ) (part side : ℕ) → IsKeptOf kept content →
     option_map (λ (slot : Slot). slot.size) (slot_at kept part side) ≡ option_map (λ found. found.0.size) (kept_at kept content part side)
 kept_size kept content part side h =

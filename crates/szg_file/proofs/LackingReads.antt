@@ -1,4 +1,4 @@
--- Readings that end for want of memory before the text is whole.
+-- Readings that end with `Memory` before the text is whole.
 use Rattle.std.proofs.Common.{◌≡◌, ℕ, ◌+◌, List, [], ◌++◌, length, refl, sym, ap, subst, ◌∙◌, Ok, Err}
 use Rattle.std.specs.Prelude.{Result, IsErrOf}
 use Rattle.szg_io.proofs.DeviceLaws.{Takes-on}
@@ -17,7 +17,7 @@ use Rattle.szg_file.proofs.CutLaws.{stops-nil, cut-then, cut-first, cut-after_fi
 use Rattle.szg_file.proofs.ReadingLaws.{after_text}
 use Rattle.szg_file.proofs.WholeReads.{behind_opening, behind_packed, with_last, pieces_are_file}
 
--- Where more bytes are needed behind the text that was read, it is not the whole text.
+-- If more bytes are needed after the text that was read, it is not the whole text.
 pub lacks_more : {A B X R : Type 0} (f : Format A) (g : A → Format B) (view : X → A) (fault : ReadFault) {o n : Front}
     {dev : Ghosts R} {i k : R} →
     ((a : A) (at : ℕ) → IsCut (verdict (g a) at [])) →
@@ -30,13 +30,13 @@ lacks_more f g view Memory {o = o} needs h e = record {
   short = cut-then f g o.place h.bytes needs h.answer.0;
 }
 
--- What lacks bytes lacks them also with more behind it.
+-- A reading of the first format that lacks bytes lacks them for the sequence, too.
 pub lacks_first : {A B R : Type 0} (f : Format A) (g : A → Format B) {o : Front}
     {dev : Ghosts R} {i k : R} →
     Lacking f o dev i k → Lacking (f >>= g) o dev i k
 lacks_first f g {o = o} h = record { bytes = h.bytes; taken = h.taken; short = cut-first f g o.place h.bytes h.short }
 
--- Behind a text that was read whole, a second one lacks bytes.
+-- A second reading lacks bytes after a whole first text.
 pub lacks_then : {A B X R : Type 0} (f : Format A) (g : A → Format B) (view : X → A) {o m : Front}
     {dev : Ghosts R} {i j k : R} (v : X) →
     Reading f view o m dev i j (Ok v) → Lacking (g (view v)) m dev j k → Lacking (f >>= g) o dev i k
@@ -62,7 +62,7 @@ last_needed at = tt
 pub ending_needed : (at : ℕ) → IsCut (verdict ending_field at [])
 ending_needed at = cut-then (filled_to 64) (λ _. field 16 means) at [] (λ _ place. last_needed place) (stops-nil (filled_to 64) at)
 
--- ---- what stands behind the pieces of a file
+-- ---- what follows the stages of a file
 
 behind_packed_needed : (material : Sides) (kind : Kind) (o : Opened) (subtables : List Subtable) (at : ℕ) → IsCut (verdict (behind_packed material kind o subtables) at [])
 behind_packed_needed material kind o subtables at = cut-first ending_field (λ last. means (with_last material kind o subtables last)) at [] (ending_needed at)
@@ -72,7 +72,7 @@ behind_opening_needed material kind o at =
     let list : List Begun = begun (slots material kind o.parts) o.heads in
     cut-then (packed_field list) (behind_packed material kind o) at [] (behind_packed_needed material kind o) (stops-nil (packed_field list) at)
 
--- a fault for want of memory, whatever was to be answered
+-- a result that is `Memory`, whatever its type
 pub memory_told : {X : Type 0} (fault : ReadFault) → IsErrOf {T = X} (Err fault) Memory → fault ≡ Memory
 memory_told (Refused place reason) e = absurd cc
 memory_told Device e = absurd cc

@@ -1,4 +1,4 @@
--- Loops that read items one after another: what has been read up to an item, and what an item's fault says of them all.
+-- Loops that read items in order: the state before an item, and the effect of a fault.
 use Rattle.std.proofs.Common.{◌≡◌, ℕ, suc, ◌+◌, ◌<◌, List, [], ◌∷◌, ◌++◌, length, take, drop, get_or, refl, sym, ap, subst, ◌∙◌, arith, Ok, Err}
 use Rattle.std.proofs.Common.{drop-cons}
 use Rattle.std.proofs.lemmas.List.{take_more, take-append-drop}
@@ -22,7 +22,7 @@ cut_at {X = X} xs i x there e =
     sym (take-append-drop i xs)
     ∙ ap (λ (z : List X). take i xs ++ z) (drop-cons xs i x there ∙ ap (λ (y : X). y ∷ drop (suc i) xs) (sym e))
 
--- Where memory runs out behind a reading, its bytes were taken.
+-- A successful reading followed by a refused allocation.
 pub reads_lacking : {A X Y R : Type 0} (f : Format A) (view : X → A) (view' : Y → A) (v : X) {o m n : Front}
     {dev : Ghosts R} {i j : R} →
     Reading f view o m dev i j (Ok v) →
@@ -44,7 +44,7 @@ each_next {A = A} f xs at x view view' view'' {o = o} {n = n} {dev = dev} {i = i
     subst (λ (l : List A). Reading (each f l) view'' o n dev i k (Ok z)) (sym (taken_next xs at x there is))
     (reads_more f (take at xs) x view view' view'' v y z e first second)
 
--- An item's fault is that of all.
+-- The fault of an item is the fault of all.
 pub each_stops : {A B X Y Z R : Type 0} (f : A → Format B) (xs : List A) (at : ℕ) (x : A) (view : X → List B) (view' : Y → B) (view'' : Z → List B) {o m n : Front}
     {dev : Ghosts R} {i j k : R} (v : X) (fault : ReadFault) →
     at < length xs → x ≡ get_or xs at x →

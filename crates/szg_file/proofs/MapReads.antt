@@ -1,4 +1,4 @@
--- Readers of maps: lists of bytes, four lists one after another, and what a part's flags say of its map.
+-- Readers of maps: lists of bytes, four lists in sequence, and the flags that determine a part's map.
 use Rattle.std.proofs.Common.{◌≡◌, ℕ, zero, suc, ◌+◌, ◌*◌, Bool, true, false, cond, List, [], ◌∷◌, length, map, take, drop, refl, sym, ap, ◌∙◌, arith, inl, inr, Option, Some, None}
 use Rattle.std.specs.Prelude.{Result}
 use Rattle.std.proofs.lemmas.Bool.{cases_lt}
@@ -16,7 +16,7 @@ use Rattle.szg_file.proofs.Taken.{reads_like}
 
 -- ---- lists of bytes
 
--- each byte is a number of one byte
+-- each byte is a one-byte number
 ones : (count : ℕ) (bytes : List ℕ) → length bytes ≡ count → map number_of (items 1 count bytes) ≡ bytes
 ones zero [] e = refl
 ones zero (x ∷ xs) e = absurd (omega (arith, e))
@@ -25,7 +25,7 @@ ones (suc count) (x ∷ xs) e =
     let one : x + 256 * 0 ≡ x = omega arith in
     ap (λ (y : ℕ). y ∷ map number_of (items 1 count xs)) one ∙ ap (λ (ys : List ℕ). x ∷ ys) (ones count xs (omega (arith, e)))
 
--- the items of a list of bytes, as the format has them
+-- the items of a list after its length
 abbrev pub list_behind : ℕ → ℕ → Format (List ℕ)
 list_behind size count = rows_field size count >>= λ list. means (map number_of list)
 
@@ -67,7 +67,7 @@ module _ {B : Type 0} (f : Format B) where
   abbrev pub after_one : B → Format (List B)
   after_one w = f >>= after_two w
 
-  -- four times the same, step by step
+  -- the format of four equal items, step by step
   pub four_steps : each (λ (_ : ℕ). f) (1 ∷ 2 ∷ 3 ∷ 4 ∷ []) ≡ f >>= after_one
   four_steps =
       ap (λ (k : B → Format (List B)). f >>= k)

@@ -1,4 +1,5 @@
--- Opened tables: what they keep is of the table with whose file the source's bytes begin, and sound over them.
+-- Opened tables: the slots and subtables are those of the table whose file the source's bytes begin with, and sound
+-- over these bytes.
 use Rattle.std.proofs.Common.{◌≡◌, ℕ, zero, suc, ◌+◌, ◌*◌, ◌^◌, ◌≤◌, List, [], ◌∷◌, ◌++◌, length, map, take, drop, replicate, sym, ap, subst, ◌∙◌, arith, Option, Some, None, Err, option_map}
 use Rattle.std.specs.Prelude.{IfSome, IfNone, position, slice_get, option_and_then}
 use Rattle.std.specs.List.{AllByRecursion}
@@ -67,14 +68,14 @@ value_placed kind slot content (Pairs flags block_bits span_bits extra blocks co
     item-slice_get (values_of kind (slot, whole_sub content (placed_at sub first))) i
     ∙ ap (λ (z : List ℕ). slice_get (values_over sub z slot.size 0) i) same ∙ e
 
--- ---- what is found
+-- ---- searches
 
 pub all_at : (P : PlacedSub → Type 0) (xs : List PlacedSub) (k : ℕ) (x : PlacedSub) → AllByRecursion P xs → slice_get xs k ≡ Some x → P x
 all_at P [] k x h e = let no : None ≡ Some x = e in absurd (cc no)
 all_at P (a ∷ xs) zero x h e = let same : a ≡ x = cc e in subst P same h.0
 all_at P (a ∷ xs) (suc k) x h e = all_at P xs k x h.1 e
 
--- as many subtables are kept as slots
+-- there is one subtable per slot
 pub as_many_kept : (material : Sides) (kind : Kind) (content : List ℕ) (room : ℕ) (placed : List Slot) (subs : List PlacedSub) → IsOpened material kind content room placed subs →
     length placed ≡ length subs
 as_many_kept material kind content room placed subs h =
@@ -92,7 +93,7 @@ opened_absent material kind content room placed subs part side h none =
     at_table _ t part side h.there
     ∙ not_found part side (slots t.material t.kind t.parts) t.subtables (ap (λ (z : List Slot). position (is_at part side) z) (sym h.slots_are) ∙ none)
 
--- the subtable at a number, its slot, and what is known of it
+-- the subtable with a number, its slot, and its properties
 pub record IsKept (content : List ℕ) (room : ℕ) (there : Option (Slot × Subtable)) (slot : Slot) (sub : PlacedSub) : Type 0 where
   pub is : there ≡ Some (slot, whole_sub content sub)
   pub stands : IsSubtable slot (whole_sub content sub)
@@ -112,11 +113,11 @@ opened_present material kind content room placed subs part side slot sub h (n, t
       fits = all_at (Fits (length content) room) subs n sub h.fits kept;
     }
 
--- with what is kept, its blocks stand among the bytes
+-- its blocks are within the bytes
 pub kept_stands : (content : List ℕ) (room : ℕ) (there : Option (Slot × Subtable)) (slot : Slot) (sub : PlacedSub) → IsKept content room there slot sub → StandsIn content slot sub
 kept_stands content room there slot sub h = record { stands = h.stands; inside = h.fits.inside }
 
--- what a search among the slots finds
+-- the result of a search among the slots
 module _ (view now : Opened) (room : ℕ) (placed shown_slots : List Slot) (subs shown_subs : List PlacedSub) (part side : ℕ) (h : IsOpened view.material view.kind view.content room placed subs)
     (is : view ≡ now) (same : shown_slots ≡ placed) (same_subs : shown_subs ≡ subs) where
   pub as_many_opened : length shown_slots ≤ length shown_subs
@@ -141,13 +142,13 @@ pub few_bits : (slot : Slot) (content : List ℕ) (sub : Sub) (first : ℕ) → 
 few_bits slot content (Constant flags byte) first h = tt
 few_bits slot content (Pairs flags block_bits span_bits extra blocks code dict sparse lengths packed) first h = (accepted_shape slot.size _ _ _ _ h).block_bits
 
--- the buffer has room for a block
+-- the buffer holds a block
 pub room_enough : (sub : Sub) (w room : ℕ) → IfSome (layout_of sub) (λ layout. w ≡ 2 ^ layout.block_bits) → IfNone (layout_of sub) (w ≡ 0) →
     IfSome (layout_of sub) (λ layout. 2 ^ layout.block_bits ≤ room) → w ≤ room
 room_enough (Constant flags byte) w room long none roomy = omega (arith, none)
 room_enough (Pairs flags block_bits span_bits extra blocks code dict sparse lengths packed) w room long none roomy = omega (arith, long, roomy)
 
--- what is known of the blocks of a subtable to which the source was turned
+-- the blocks of a subtable after the source selected them
 pub turned_ready : (slot : Slot) (content content' : List ℕ) (sub : Sub) (first first' count count' w w' : ℕ) → IsSubtable slot (whole_sub content (placed_at sub first)) →
     first + blocks_size sub ≤ length content → IfSome (layout_of sub) (λ layout. count ≡ layout.blocks) → IfSome (layout_of sub) (λ layout. w ≡ 2 ^ layout.block_bits) →
     content' ≡ content → first' ≡ first → count' ≡ count → w' ≡ w → IsReady sub slot.size count' (λ n. bytes_at content' (first' + n * w') w')
@@ -178,7 +179,8 @@ asked_placed content (Pairs flags block_bits span_bits extra blocks code dict sp
 
 -- ---- opening
 
--- where a reader over a source began at its first byte, the source's bytes stayed, and those up to its place are those that it moved
+-- if a reader over a source began at its first byte, the source's bytes are unchanged, and those before the current
+-- offset were read
 pub forward_kept : (from to : ℕ) (old new bytes : List ℕ) → from ≡ 0 → drop from old ≡ bytes ++ drop to new → take to new ≡ take from old ++ bytes → new ≡ old
 forward_kept from to old new bytes first gone moved =
     let none : take from old ≡ [] = ap (λ (n : ℕ). take n old) first in

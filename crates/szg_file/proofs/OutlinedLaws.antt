@@ -1,4 +1,4 @@
--- What an opened table tells without its blocks is of the table that it opened.
+-- What an opened table returns without its blocks is that of the table that was opened.
 use Rattle.std.proofs.Common.{◌≡◌, ℕ, ◌<◌, List, [], ◌∷◌, ◌++◌, length, map, take, drop, refl, sym, ap, subst, ◌∙◌, Option, Some, option_map, IsSome}
 use Rattle.std.specs.Prelude.{IfSome, IsSomeAnd, ℤ, option_and_then}
 use Rattle.std.proofs.lemmas.List.{take-append-drop}
@@ -24,14 +24,14 @@ use Rattle.szg_file.proofs.ReadAnswers.{whole_file}
 use Rattle.szg_file.proofs.OpenedLaws.{forward_moved}
 use Rattle.szg_file.proofs.IndexLaws.{accepted_index, size_of_table, slot_there, number_of_table}
 
--- what holds of the table that was opened
+-- a property of the table that was opened
 pub told_in : (P : Contents → Type 0) (there : Option Contents) (t : Contents) → there ≡ Some t → P t → IsSomeAnd there P
 told_in P there t e h = subst (λ (o : Option Contents). IsSomeAnd o P) (sym e) h
 
 pub told_if : (P : Contents → Type 0) (there : Option Contents) (t : Contents) → there ≡ Some t → P t → IfSome there P
 told_if P there t e h = subst (λ (o : Option Contents). IfSome o P) (sym e) h
 
--- blocks change no flags
+-- blocks do not change the flags
 pub flags_with : (s : Subtable) (packed : List ℕ) → flags_of (with_blocks s packed) ≡ flags_of s
 flags_with (constant flags byte) packed = refl
 flags_with (pairs head sparse lengths blocks) packed = refl
@@ -46,7 +46,7 @@ flags_whole bytes (sub ∷ subs) =
     ap (λ (k : ℕ). k ∷ map flags_of (map (whole_sub bytes) subs)) (flags_with (subtable_of sub.sub) _)
     ∙ ap (λ (l : List ℕ). flags_of (subtable_of sub.sub) ∷ l) (flags_whole bytes subs)
 
--- ---- an index of the table that was opened
+-- ---- the index of the table that was opened
 
 pub size_opened : (x : Index) (content : List ℕ) (part side : ℕ) → IsIndexIn x content →
     option_map (λ (slot : Slot). slot.size) (slot_in x part side) ≡ option_map (λ found. found.0.size) (option_and_then (λ t. subtable_at t part side) (table_in x.material x.kind content))
@@ -67,7 +67,7 @@ number_opened P x content part class v h p =
     told_if (λ t. P (number_of_value t part class v)) (table_in x.material x.kind content) h.table h.there
     (subst P (ap (λ (y : Index). number_in y part class v) h.index_is ∙ sym (number_of_table h.table h.stands.filled part class v h.stands.accepted)) p)
 
--- the index of what was read
+-- the index of the contents that were read
 abbrev pub outline_index : Sides → Kind → Outline → Index
 outline_index material kind o =
     index_with material kind (map part_of o.parts.bytes.items) (map (λ placed. flags_of (subtable_of placed.sub)) o.subs.items) (map (option_map map_of) o.maps.items)
@@ -79,7 +79,7 @@ outlined_index material kind o begun ended from to old new bytes place fill h =
     let w = whole_file material kind table begun ended bytes place fill h in
     subst (λ (flags : List ℕ). IsIndex (index_with material kind table.parts flags table.maps)) (flags_whole (take to new) o.subs.items) (accepted_index table ended.fill.items w.accepted)
 
--- what was read is the table with whose file the source's bytes begin
+-- the contents that were read are the table whose file the source's bytes begin with
 pub outlined_by : (material : Sides) (kind : Kind) (o : Outline) (begun ended : Front) (from to : ℕ) (old new bytes content : List ℕ) (x : Index) → begun.place ≡ 0 → begun.fill.items ≡ [] →
     from ≡ 0 → take to new ≡ take from old ++ bytes → Advances (file material kind) (outlined material kind (take to new) o) begun ended bytes → content ≡ new →
     x ≡ outline_index material kind o → IsIndexIn x content

@@ -1,4 +1,4 @@
--- The steps of a reader of a packed head and of a dictionary: what is still to be read behind each.
+-- The steps of the readers of a header and of a dictionary: the format that remains after each.
 use Rattle.std.proofs.Common.{◌≡◌, ℕ, ◌/◌, ◌%◌, Bool, true, false, cond, List, [], length, map, sym, ap, ◌∙◌, arith, nat_lt, nat_le, ◌&&◌, inl, inr}
 use Rattle.std.proofs.lemmas.Bool.{cases_lt}
 use Rattle.std.proofs.lemmas.Bool.Decides.{Decides-eqb}
@@ -13,7 +13,7 @@ use Rattle.szg_file.specs.Held.{sparse_of}
 use Rattle.szg_file.specs.HeadPieces.{sizes_field, entries_field}
 use Rattle.szg_file.proofs.EachLaws.{then-then}
 
--- the fill behind so many entries
+-- the padding byte after `count` entries
 abbrev pub after_entries : ℕ → List (List ℕ) → Format (List (List ℕ))
 after_entries count entries = fill (count % 2) (means entries)
 
@@ -26,7 +26,7 @@ block_bits_field = byte_where (λ bits. nat_le bits 18) reason.BlockBits
 abbrev pub span_bits_field : Format ℕ
 span_bits_field = byte_where (λ bits. nat_lt 0 bits && nat_le bits 31) reason.SpanBits
 
--- the head of what was read, with this code
+-- the header that was read, with this code
 abbrev pub head_with : ℕ → ℕ → ℕ → HeadSizes → List (List ℕ) → CanonicalCode → Head
 head_with flags block_bits span_bits sizes entries code = record {
   flags = flags;
@@ -38,7 +38,7 @@ head_with flags block_bits span_bits sizes entries code = record {
   entries = entries;
 }
 
--- the subtable of a head that was read
+-- the subtable of a header that was read
 abbrev pub packed_of : ℕ → ℕ → ℕ → HeadSizes → List ℕ → List (List ℕ) → Subtable
 packed_of flags block_bits span_bits sizes lowest entries =
     pairs (head_with flags block_bits span_bits sizes entries (code_with sizes.min sizes.max lowest (length entries))) [] [] []
@@ -65,14 +65,14 @@ sizes-then h =
     ∙ ap (λ (k : ℕ → Format Subtable). number_field 4 >>= k)
     (λ i blocks. then-then lengths_of_words (λ words. means (record { extra = extra; blocks = blocks; min = words.0; max = words.1 })) h i)) i)
 
--- a packed head, step by step
+-- the header of a subtable that is not constant, step by step
 pub packed_steps : (flags : ℕ) → packed_head flags ≡ block_bits_field >>= after_block flags
 packed_steps flags =
     ap (λ (k : ℕ → Format Subtable). block_bits_field >>= k)
     (λ i block_bits. ap (λ (k : ℕ → Format Subtable). span_bits_field >>= k)
     (λ i span_bits. sym (sizes-then (after_sizes flags block_bits span_bits)) i) i)
 
--- the code that was made of the lowest symbols, with as many symbols as there are entries
+-- the code of the lowest symbols, with one symbol per entry
 code_is : (sizes : HeadSizes) (lowest code : CanonicalCode) (symbols : ℕ) (entries : List (List ℕ)) →
     lowest ≡ code_with sizes.min sizes.max lowest.lowest 0 → code ≡ code_with lowest.min_length lowest.max_length lowest.lowest symbols → symbols ≡ length entries →
     code ≡ code_with sizes.min sizes.max lowest.lowest (length entries)
@@ -82,7 +82,7 @@ code_is sizes lowest code symbols entries first second count =
     ∙ ap (λ (m : ℕ). code_with sizes.min m lowest.lowest symbols) (ap (λ (k : CanonicalCode). k.max_length) first)
     ∙ ap (λ (n : ℕ). code_with sizes.min sizes.max lowest.lowest n) count
 
--- what was read is the subtable, whose other lists are still empty
+-- the subtable that was read, whose other lists are still empty
 pub packed_is : (flags block_bits span_bits : ℕ) (sizes : HeadSizes) (lowest code : CanonicalCode) (symbols : ℕ) (entries : List (List ℕ)) (sparse : List Entry) (lengths packed : List ℕ) →
     lowest ≡ code_with sizes.min sizes.max lowest.lowest 0 → code ≡ code_with lowest.min_length lowest.max_length lowest.lowest symbols → symbols ≡ length entries →
     sparse ≡ [] → lengths ≡ [] → packed ≡ [] →
@@ -96,7 +96,7 @@ packed_is flags block_bits span_bits sizes lowest code symbols entries sparse le
 
 -- ---- flags
 
--- what stands behind the flags
+-- the format after the flags
 abbrev pub after_flags : ℕ → Format Subtable
 after_flags flags = cond (has_bit 7 flags) (number_field 1 >>= (λ byte. means (constant flags byte))) (packed_head flags)
 

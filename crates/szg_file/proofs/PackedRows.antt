@@ -1,5 +1,5 @@
--- A small packed file, computed through the definitions: KNvK, constant where White moves, all draws where Black
--- moves, with nine symbols of 1, 2, 4, .. 256 values and words of one bit.
+-- A small packed file, evaluated by the definitions: KNvK, constant with White to move, all draws with Black to
+-- move, with nine symbols of 1, 2, 4, .. 256 values and code words of one bit.
 use Rattle.std.proofs.Common.{◌≡◌, ℕ, ◌+◌, List, [], ◌∷◌, ◌++◌, replicate, refl, drop, take}
 use Rattle.std.specs.Prelude.{length}
 use Rattle.szg_values.specs.declared.Kind.TheVariants.{Wdl}
@@ -23,7 +23,7 @@ use Rattle.szg_file.specs.File.{file}
 use Rattle.szg_file.specs.FileOf.{file_of}
 use Rattle.szg_file.proofs.Rows.{knvk, last_bytes}
 
--- a leaf of the value 2, and eight pairs of the symbol before
+-- a leaf with value 2, and eight pairs of the previous symbol with itself
 abbrev entries : List (List ℕ)
 entries =
     (2 ∷ 0xF0 ∷ 0xFF ∷ []) ∷ (0 ∷ 0 ∷ 0 ∷ []) ∷ (1 ∷ 0x10 ∷ 0 ∷ []) ∷ (2 ∷ 0x20 ∷ 0 ∷ []) ∷ (3 ∷ 0x30 ∷ 0 ∷ [])
@@ -44,7 +44,8 @@ symbols =
 abbrev behind : List ℕ
 behind = replicate 48 0 ++ last_bytes
 
--- the dictionary's fill byte; the sparse index: block 0, offset 16,384; the lengths: 31,332 less one; fill up to 64
+-- the dictionary's padding byte; the sparse index: block 0, offset 16,384; the block lengths: 31,332 less one;
+-- padding up to 64
 abbrev packed : List ℕ
 packed = front ++ symbols ++ (0 ∷ 0 ∷ 0 ∷ 0 ∷ 0 ∷ 0 ∷ 0x40 ∷ 0x63 ∷ 0x7A ∷ 0 ∷ 0 ∷ []) ++ block ++ behind
 
@@ -82,9 +83,9 @@ cut_inside_the_block : verdict (file knvk Wdl) 0 (take 79 packed) ≡ truncated 
 unfolding order_fault groups_of runs_of size_of counted lead_sets lead_ways group_ways factors_of triples triples_from lists_by squares diagonal below_diagonal sets_of numbers_below first_rise first_overfull base base_below_max lowest_of top symbol_at word_lengths is_word first_word symbols_within symbols_spelled bits first_child first_cycle first_long lengths_within length_of_symbol left_of right_of is_leaf names_symbols_below values_within expansion_of start needed block_values entry_count middle_of_span has_total first_bad_entry spells_needed
 cut_inside_the_block = refl
 
--- ---- refusals, each with what stands behind the field that fails
+-- ---- refusals, each with the bytes after the field that fails
 
--- the byte at a place changed
+-- one byte replaced
 abbrev changed : ℕ → ℕ → List ℕ
 changed place byte = take place packed ++ byte ∷ drop (place + 1) packed
 
@@ -100,22 +101,22 @@ max_33 : verdict (file knvk Wdl) 0 (changed 20 33) ≡ refused 20 reason.CodeLen
 unfolding order_fault groups_of runs_of first_rise first_overfull base base_below_max lowest_of first_child first_cycle first_long lengths_within length_of_symbol left_of right_of is_leaf names_symbols_below
 max_33 = refl
 
--- max 2, lowest 7 and 9: item 1 is above item 0
+-- greatest length 2, lowest symbols 7 and 9: item 1 is above item 0
 rising_lowest : verdict (file knvk Wdl) 0 (take 20 packed ++ 2 ∷ 1 ∷ 7 ∷ 0 ∷ 9 ∷ 0 ∷ []) ≡ refused 24 reason.LowestOrder []
 unfolding order_fault groups_of runs_of first_rise first_overfull base base_below_max lowest_of first_child first_cycle first_long lengths_within length_of_symbol left_of right_of is_leaf names_symbols_below
 rising_lowest = refl
 
--- max 3, lowest 2, 2, 0: the length of item 0 is too full
+-- greatest length 3, lowest symbols 2, 2, 0: at item 0 the words do not fit
 equal_lowest : verdict (file knvk Wdl) 0 (take 20 packed ++ 3 ∷ 1 ∷ 2 ∷ 0 ∷ 2 ∷ 0 ∷ 0 ∷ 0 ∷ []) ≡ refused 22 reason.TooFull []
 unfolding order_fault groups_of runs_of first_rise first_overfull base base_below_max lowest_of first_child first_cycle first_long lengths_within length_of_symbol left_of right_of is_leaf names_symbols_below
 equal_lowest = refl
 
--- symbol 8 names symbol 9
+-- symbol 8 has child 9
 missing_child : verdict (file knvk Wdl) 0 (changed 50 9) ≡ refused 50 reason.Child (drop 53 packed)
 unfolding order_fault groups_of runs_of first_rise first_overfull base base_below_max lowest_of first_child first_cycle first_long lengths_within length_of_symbol left_of right_of is_leaf names_symbols_below
 missing_child = refl
 
--- symbol 1 is made of symbols 1 and 0
+-- symbol 1 has the children 1 and 0
 endless : verdict (file knvk Wdl) 0 (changed 29 1) ≡ refused 29 reason.Cycle (drop 53 packed)
 unfolding order_fault groups_of runs_of first_rise first_overfull base base_below_max lowest_of first_child first_cycle first_long lengths_within length_of_symbol left_of right_of is_leaf names_symbols_below
 endless = refl
@@ -133,7 +134,7 @@ wrong_offset : verdict (file knvk Wdl) 0 (changed 58 1) ≡ refused 54 reason.Sp
 unfolding order_fault groups_of runs_of size_of counted lead_sets lead_ways group_ways factors_of triples triples_from lists_by squares diagonal below_diagonal sets_of numbers_below first_rise first_overfull base base_below_max lowest_of top symbol_at word_lengths is_word first_word symbols_within symbols_spelled bits first_child first_cycle first_long lengths_within length_of_symbol left_of right_of is_leaf names_symbols_below values_within expansion_of start needed block_values entry_count middle_of_span has_total first_bad_entry spells_needed
 wrong_offset = refl
 
--- 128 words of symbol 7 are 16,384 values
+-- 128 words of symbol 7 have 16,384 values
 too_few_values : verdict (file knvk Wdl) 0 (take 64 packed ++ replicate 16 0) ≡ refused 64 reason.Word []
 unfolding order_fault groups_of runs_of size_of counted lead_sets lead_ways group_ways factors_of triples triples_from lists_by squares diagonal below_diagonal sets_of numbers_below first_rise first_overfull base base_below_max lowest_of top symbol_at word_lengths is_word first_word symbols_within symbols_spelled bits first_child first_cycle first_long lengths_within length_of_symbol left_of right_of is_leaf names_symbols_below values_within expansion_of start needed block_values entry_count middle_of_span has_total first_bad_entry spells_needed
 too_few_values = refl

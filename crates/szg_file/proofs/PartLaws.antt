@@ -1,4 +1,4 @@
--- Sizes of groups, and slots of more parts.
+-- The sizes of groups, and the slots of one more part.
 use Rattle.std.proofs.Common.{map-id, ◌≡◌, ℕ, zero, suc, ◌+◌, ◌≤◌, List, [], ◌∷◌, ◌++◌, length, map, slice_index, refl, sym, ap, ◌∙◌, arith, append_assoc, append-nil}
 use Rattle.std.specs.List.{range_with_len}
 use Rattle.std.specs.Prelude.{Result, Ok, Err, Option, Some, None, IsNone, IfSome}
@@ -12,7 +12,7 @@ use Rattle.szg_count.specs.Views.{group_at, groups_in_slot_order}
 use Rattle.szg_file.specs.Parts.{slots_with}
 use Rattle.szg_file.specs.Contents.{Part, Slot, part_slots, slots_from}
 
--- the items of a list by their places
+-- the items of a list by their indexes
 indexed_from : (front xs : List ℕ) → map (slice_index (front ++ xs)) (range_with_len (length front) (length xs)) ≡ xs
 indexed_from front [] = refl
 indexed_from front (x ∷ xs) =
@@ -23,7 +23,7 @@ indexed_from front (x ∷ xs) =
     ∙ ap (λ (n : ℕ). x ∷ map (slice_index ((front ++ x ∷ []) ++ xs)) (range_with_len n (length xs))) (sym longer)
     ∙ ap (λ (z : List ℕ). x ∷ z) (indexed_from (front ++ x ∷ []) xs)
 
--- the ways of groups as they are told
+-- two ways to list the ways of groups
 ways_told : {A : Type 0} (ways : A → ℕ) (told : ℕ → A) (list : List ℕ) (indexes : List ℕ) → ((i : ℕ) → ways (told i) ≡ slice_index list i) →
     map ways (map told indexes) ≡ map (slice_index list) indexes
 ways_told ways told list [] h = refl
@@ -41,7 +41,7 @@ size_told sides part n =
     ∙ ap (λ (k : ℕ). map (slice_index ways) (range_with_len 0 k)) (sym long)
     ∙ indexed_from [] ways)
 
--- slots of one more part
+-- the slots of one more part
 pub slots-more : (material : Sides) (sides : List ℕ) (number : ℕ) (parts : List Part) (part : Part) →
     slots_from material sides number (parts ++ part ∷ []) ≡ slots_from material sides number parts ++ part_slots material sides (number + length parts) part
 slots-more material sides number [] part =
@@ -63,20 +63,20 @@ inside : {G F : Type 0} → G → Result G F → G
 inside other (Ok x) = x
 inside other (Err e) = other
 
--- an accepted order's groups are those that are told
+-- the groups of an accepted order are those returned
 pub told_groups : {G F : Type 0} (fault : Option F) (groups told : G) →
     (IsNone fault → (let read : Result G F = Ok groups in read ≡ Ok told)) → IfSome fault (λ f. let read : Result G F = Ok groups in read ≡ Err f) → groups ≡ told
 unfolding inside
 told_groups None groups told h r = ap (inside groups) (h refl)
 told_groups (Some f) groups told h r = absurd (not_both groups f r)
 
--- ---- numbers one after another
+-- ---- consecutive numbers
 
 pub numbers-more : (n : ℕ) → range_with_len 0 (n + 1) ≡ range_with_len 0 n ++ n ∷ []
 numbers-more n =
     sym (map-id (range_with_len 0 (n + 1))) ∙ map-range_with_len_more (λ x. x) 0 n n (omega arith) ∙ ap (λ (z : List ℕ). z ++ n ∷ []) (map-id (range_with_len 0 n))
 
--- numbers up to one, that one, and those behind it
+-- the numbers before one, that one, and those after it
 pub numbers-split : (a n rest : ℕ) → range_with_len a (n + suc rest) ≡ range_with_len a n ++ (a + n) ∷ range_with_len (a + n + 1) rest
 numbers-split a zero rest =
     let none : 0 + suc rest ≡ suc rest = omega arith in
@@ -89,7 +89,7 @@ numbers-split a (suc n) rest =
     ∙ ap (λ (z : List ℕ). a ∷ z) (numbers-split (a + 1) n rest)
     ∙ ap (λ (k : ℕ). a ∷ (range_with_len (a + 1) n ++ k ∷ range_with_len (k + 1) rest)) there
 
--- a part has two subtables at most
+-- a part has at most two subtables
 pub slots_few : (part first : ℕ) (second : Option ℕ) → length (slots_with part first second) ≤ 2
 slots_few part first None = omega arith
 slots_few part first (Some second) = omega arith

@@ -1,4 +1,4 @@
--- Blocks that are read and not kept: they are the bytes that were moved since.
+-- Blocks that are read and dropped are the bytes moved since.
 use Rattle.std.proofs.Common.{◌≡◌, ℕ, ◌+◌, ◌^◌, List, [], ◌++◌, length, take, drop, sym, ap, subst, inl, inr, ◌∙◌, append_assoc, append-nil, arith, Option, Ok}
 use Rattle.std.specs.Prelude.{IfSome, IsSomeAnd}
 use Rattle.std.proofs.Math.Seq.{drop-append_seam}
@@ -29,7 +29,7 @@ since_then a b c x y p q =
     let whole : c ≡ a ++ (x ++ y) = q ∙ ap (λ (z : List ℕ). z ++ y) p ∙ append_assoc a x y in
     since_is a c (x ++ y) whole ∙ ap (λ (z : List ℕ). z ++ y) (sym (since_is a b x p)) ∙ ap (λ (z : List ℕ). since a b ++ z) (sym (since_is b c y q))
 
--- what two readings moved, one after the other
+-- the bytes of two readings in sequence
 pub since_on : {A B X Y R : Type 0} (f : Format A) (g : Format B) (view : X → A) (view' : Y → B) {o m n : Front}
     {dev : Ghosts R} {i j k : R} (v : X) (w : Y) →
     Reading f view o m dev i j (Ok v) →
@@ -38,7 +38,7 @@ pub since_on : {A B X Y R : Type 0} (f : Format A) (g : Format B) (view : X → 
 since_on f g view view' {dev = dev} {i = i} {j = j} {k = k} v w first second =
     since_then (dev.moved i) (dev.moved j) (dev.moved k) first.bytes second.bytes first.taken.bytes_moved second.taken.bytes_moved
 
--- as many bytes were moved as the front has gone past
+-- the offset of the reader state is the number of bytes moved
 pub stands_at : {A X R : Type 0} (f : Format A) (view : X → A) {o n : Front}
     {dev : Ghosts R} {i k : R} (v : X) → o.place ≡ length (dev.moved i) →
     Reading f view o n dev i k (Ok v) → n.place ≡ length (dev.moved k)
@@ -68,7 +68,7 @@ moved_piece : {R : Type 0} (n : ℕ) (piece : List ℕ) {f m : Front}
 moved_piece n piece {f = f} {dev = dev} {i = i} {k = k} h =
     since_is (dev.moved i) (dev.moved k) h.bytes h.taken.bytes_moved ∙ field_is n f.place h.bytes piece h.answer.0.filled h.answer.0.whole
 
--- a block that spells what is needed of it
+-- a block that spells the values that it needs
 pub passes_block : {R : Type 0} (o : Option Layout) (size n bytes : ℕ) (piece : List ℕ) {f m : Front}
     {dev : Ghosts R} {i k : R} →
     IfSome o (λ layout. IsCode layout.code) → IfSome o (λ layout. bytes ≡ 2 ^ layout.block_bits) → IsSomeAnd o (λ layout. SpellsNeeded layout size n piece) →

@@ -1,4 +1,4 @@
--- Subtables whose blocks stand among the bytes that were moved.
+-- Subtables whose blocks are among the bytes that were moved.
 use Rattle.std.proofs.Common.{◌≡◌, ℕ, ◌+◌, ◌*◌, ◌^◌, ◌≤◌, List, [], ◌∷◌, ◌++◌, length, map, take, drop, refl, sym, ap, subst, ◌∙◌, arith, None, Ok, Err}
 use Rattle.std.specs.Prelude.{IfSome}
 use Rattle.std.specs.List.{AllByRecursion}
@@ -28,19 +28,19 @@ use Rattle.szg_file.proofs.Taken.{reads_equal}
 use Rattle.szg_io.specs.declared.device.Input.{Ghosts}
 use Rattle.szg_io.proofs.DeviceLaws.{Takes-none}
 
--- memory runs out before a byte is taken
+-- an allocation is refused before any byte is read
 pub lacks_first : {A X R : Type 0} (f : Format A) (view : X → A) {o : Front}
     {dev : Ghosts R} {i : R} → Reading f view o o dev i i (Err Memory)
 lacks_first f view {o = o} {dev = dev} {i = i} = record { bytes = []; taken = Takes-none dev i 1; answer = (stops-nil f o.place, refl) }
 
--- what a fault says depends on no view
+-- a fault is independent of the view
 stopped_as : {A X Y R : Type 0} (f : Format A) (view : X → A) (view' : Y → A) {o n : Front}
     {dev : Ghosts R} {i k : R} (fault : ReadFault) → Reading f view o n dev i k (Err fault) → Reading f view' o n dev i k (Err fault)
 stopped_as f view view' (Refused place reason) h = record { bytes = h.bytes; taken = h.taken; answer = h.answer }
 stopped_as f view view' Device h = record { bytes = h.bytes; taken = h.taken; answer = h.answer }
 stopped_as f view view' Memory h = record { bytes = h.bytes; taken = h.taken; answer = h.answer }
 
--- the fill before the blocks isn't whole
+-- the padding before the blocks is not whole
 pub reads_unfilled : {R : Type 0} (slot : Slot) (sub : Sub) (view : PlacedSub → Subtable) (fault : ReadFault) {f h : Front}
     {dev : Ghosts R} {i k : R} → (layout_of sub ≡ None → ⊥) →
     Reading (filled_to 64) (λ (_ : Unit {0}). tt) f h dev i k (Err fault) →
@@ -75,13 +75,13 @@ placed_fits count room first (Constant flags byte) some ends roomy = absurd (som
 placed_fits count room first (Pairs flags block_bits span_bits extra blocks code dict sparse lengths packed) some ends roomy =
     record { inside = omega (arith, ends); roomy = roomy }
 
--- the last so many bytes
+-- the last `count` bytes
 last_bytes : (bytes : List ℕ) (first count : ℕ) → length bytes ≡ first + count → drop first bytes ≡ bytes_at bytes first count
 last_bytes bytes first count e =
     let left : length (drop first bytes) ≡ count = omega (arith, length-drop first bytes, e) in
     sym (take-length (drop first bytes)) ∙ ap (λ (n : ℕ). take n (drop first bytes)) left
 
--- the blocks behind their fill
+-- the blocks after their padding
 pub reads_placed : {R : Type 0} (slot : Slot) (size : ℕ) (sub : Sub) {f m h : Front}
     {dev : Ghosts R} {i j k : R} →
     size ≡ slot.size → (layout_of sub ≡ None → ⊥) → m.place ≡ length (dev.moved j) →
@@ -120,7 +120,7 @@ reads_placed_stopped slot size (Pairs flags block_bits span_bits extra blocks co
     reads_then (filled_to 64) (λ _. all >>= λ p. means (found p)) (λ (_ : Unit {0}). tt) view tt filled
     (reads_stopped all (λ p. means (found p)) (λ (_ : Unit {0}). seen) view fault (reads_equal _ all (λ (_ : Unit {0}). seen) (Err fault) same_size read))
 
--- so many bytes were moved
+-- the number of bytes that were moved
 pub ends_at : {R : Type 0} (size : ℕ) (sub : Sub) (m h : Front) (dev : Ghosts R) (j k : R) → m.place ≡ length (dev.moved j) →
     IfSome (layout_of sub) (λ layout. h.place ≡ m.place + layout.blocks * 2 ^ layout.block_bits) →
     IfSome (layout_of sub) (λ layout. Reading (blocks_from layout size 0 layout.blocks) (λ (_ : Unit {0}). since (dev.moved j) (dev.moved k)) m h dev j k (Ok tt)) →
@@ -137,7 +137,7 @@ pub roomy_for : (sub : Sub) (size room : ℕ) → IfSome (layout_of sub) (λ lay
 roomy_for (Constant flags byte) size room h e = tt
 roomy_for (Pairs flags block_bits span_bits extra blocks code dict sparse lengths packed) size room h e = omega (arith, h, e)
 
--- a list keeps its length where its front is written
+-- overwriting the front of a list does not change its length
 pub still_long : (len : ℕ) (given items : List ℕ) → length items ≡ len → length items ≤ length (take len (given ++ drop (length given) items))
 still_long len given items e =
     omega (arith, e, length-take len (given ++ drop (length given) items), length-append given (drop (length given) items), length-drop (length given) items)

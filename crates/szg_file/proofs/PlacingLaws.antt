@@ -1,4 +1,4 @@
--- Where blocks are, one subtable more.
+-- The offsets of blocks, for one more subtable.
 use Rattle.std.proofs.Common.{◌≡◌, ℕ, ◌+◌, ◌*◌, ◌^◌, ◌≤◌, List, [], ◌∷◌, ◌++◌, length, map, refl, sym, ap, subst, ◌∙◌, arith}
 use Rattle.std.specs.Prelude.{IfSome}
 use Rattle.std.specs.List.{AllByRecursion}
@@ -21,7 +21,7 @@ pub end_more : (place : ℕ) (list : List Begun) (b : Begun) → unread_end plac
 end_more place [] b = refl
 end_more place (x ∷ list) b = end_more (blocks_end place x.subtable) list b
 
--- a subtable with the bytes where its blocks are
+-- a subtable with the bytes at the offset of its blocks
 abbrev pub placed_of : List ℕ → ℕ → Subtable → Subtable
 placed_of content place s = with_blocks s (bytes_at content (blocks_first place s) (blocks_count s))
 
@@ -29,7 +29,7 @@ pub subs_more : (content : List ℕ) (place : ℕ) (list : List Begun) (b : Begu
 subs_more content place [] b = refl
 subs_more content place (x ∷ list) b = ap (λ (l : List Subtable). placed_of content place x.subtable ∷ l) (subs_more content (blocks_end place x.subtable) list b)
 
--- the subtable that is kept with the place of its first block
+-- the subtable with the offset of its first block
 whole_placed : (content : List ℕ) (place : ℕ) (sub : Sub) (first : ℕ) → first ≡ blocks_first place (subtable_of sub) → whole_sub content (placed_at sub first) ≡ placed_of content place (subtable_of sub)
 whole_placed content place (Constant flags byte) first e = refl
 whole_placed content place (Pairs flags block_bits span_bits extra blocks code dict sparse lengths packed) first e =
@@ -45,7 +45,7 @@ placed_more content place list b subs sub first end before at is begins =
     ∙ ap (λ (s : Subtable). unread_subs content place list ++ s ∷ []) (whole_placed content end sub first begins ∙ ap (λ (n : ℕ). placed_of content n (subtable_of sub)) at ∙ ap (placed_of content (unread_end place list)) is)
     ∙ sym (subs_more content place list b)
 
--- its blocks end where the next begin, and there is room for each
+-- its blocks end where the next ones begin, and the buffer holds each of them
 pub fits_here : (count room : ℕ) (place : ℕ) (sub : Sub) (first bytes : ℕ) → first ≡ blocks_first place (subtable_of sub) → blocks_end place (subtable_of sub) ≤ count →
     IfSome (layout_of sub) (λ layout. bytes ≡ 2 ^ layout.block_bits) → bytes ≤ room → Fits count room (placed_at sub first)
 fits_here count room place (Constant flags byte) first bytes at ends long roomy = record { inside = omega (arith, at); roomy = tt }

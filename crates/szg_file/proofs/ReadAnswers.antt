@@ -1,4 +1,4 @@
--- What `read` answers follows from one reading of the whole file from its first byte on.
+-- The result of `read` follows from a reading of the whole file from its first byte on.
 use Rattle.std.proofs.Common.{◌≡◌, ℕ, List, [], ◌++◌, refl, sym, ap, subst, ◌∙◌, append-nil, Option, Some, None, Ok, Err}
 use Rattle.std.specs.Prelude.{IfSome, Result, IsErrOf}
 use Rattle.std.specs.Io.KnownBytes.{Consumes}
@@ -22,7 +22,7 @@ use Rattle.szg_file.proofs.FormatLaws.{good-more, refused-more}
 use Rattle.szg_io.specs.declared.device.Input.{Ghosts}
 use Rattle.szg_file.proofs.WholeLaws.{good_is_file}
 
--- ---- told bytes
+-- ---- specified bytes
 
 pub follows_good : (f : Format Contents) (t : Shown) (old new : Option (List ℕ)) (bytes : List ℕ) → Consumes old new bytes →
     verdict f 0 bytes ≡ good t.contents t.filled [] → IfSome old (λ all. FollowsVerdict (verdict f 0 all) (Ok t) new)
@@ -64,7 +64,7 @@ follows_memory f (Some all) (Some rest) bytes c h =
 
 -- ---- a table
 
--- the bytes are the file of this accepted table
+-- the bytes are the file of an accepted table
 pub record IsWhole (material : Sides) (kind : Kind) (bytes : List ℕ) (t : Contents) (fill : List ℕ) : Type 0 where
   pub whole : verdict (file material kind) 0 bytes ≡ good t fill []
   pub accepted : IsAccepted t fill

@@ -1,4 +1,4 @@
--- Readers compose: what two calls read one after another is what the two formats one after another are.
+-- Readers compose: two calls in sequence read the two formats in sequence.
 use Rattle.std.proofs.Common.{◌≡◌, ℕ, ◌+◌, ◌-◌, List, [], ◌∷◌, ◌++◌, length, refl, sym, ap, subst, ◌∙◌, append_assoc, arith, append-nil, Option, Ok, Err}
 use Rattle.std.specs.Prelude.{Result, Bool}
 use Rattle.std.proofs.lemmas.List.{length-append}
@@ -16,7 +16,7 @@ use Rattle.szg_file.proofs.FormatLaws.{verdict-then, good-more, continued}
 use Rattle.szg_io.specs.declared.device.Input.{Ghosts}
 use Rattle.szg_file.proofs.FileLaws.{AreNumbers-join}
 
--- Bytes x are a whole text of f; what follows them has the verdict of g.
+-- Bytes `x` are a whole text of `f`; what follows them has the verdict of `g`.
 pub after_text : {A B : Type 0} (f : Format A) (g : A → Format B) (place : ℕ) (x y : List ℕ) (a : A) (filled : List ℕ) →
     verdict f place x ≡ good a filled [] → verdict (f >>= g) place (x ++ y) ≡ after_fill filled (verdict (g a) (place + length x) y)
 after_text f g place x y a filled e =
@@ -38,7 +38,7 @@ IsRefusal-after_fill filled (good a more rest) place reason coming h = absurd h
 IsRefusal-after_fill filled (refused at why rest) place reason coming h = h
 IsRefusal-after_fill filled (truncated at) place reason coming h = h
 
--- the answer of the second reader, seen from before the first
+-- the result of the second reader, stated from before the first
 Answer-then : {A B Y : Type 0} (f : Format A) (g : A → Format B) (view' : Y → B) (o m n : Front) (coming : Option (List ℕ)) (fs fs' row : ℕ) (may : Bool) (x y : List ℕ) (a : A) (r : Result Y ReadFault) →
     Advances f a o m x → Answer (g a) view' m n coming fs fs' row may y r → Answer (f >>= g) view' o n coming fs fs' row may (x ++ y) r
 Answer-then f g view' o m n coming fs fs' row may x y a (Ok v) first h =
@@ -73,7 +73,7 @@ Answer-then f g view' o m n coming fs fs' row may x y a (Err Memory) first h =
     ∙ ap (λ (p : ℕ). after_fill first.filled (verdict (g a) p y)) at in
     (subst (λ (v : Verdict _). StopsWithin v) (sym joint) (stops-after_fill first.filled (verdict (g a) m.place y) h.0), h.1)
 
--- One reader after another that gave a value.
+-- A successful reader followed by another.
 pub reads_then : {A B X Y R : Type 0} (f : Format A) (g : A → Format B) (view : X → A) (view' : Y → B) {o m n : Front}
     {dev : Ghosts R} {i j k : R} (v : X) {r : Result Y ReadFault} →
     Reading f view o m dev i j (Ok v) →
@@ -89,7 +89,7 @@ reads_then f g view view' {o = o} {m = m} {n = n} {dev = dev} {i = i} {j = j} {k
           (subst (λ (fs : ℕ). Answer (g (view v)) view' m n (dev.coming k) fs (dev.failures k) (dev.interrupted k) (dev.may_fail j) second.bytes r) same second.answer));
     }
 
--- A reader that answers a fault ends the whole.
+-- A reader that returns a fault ends the sequence.
 pub reads_stopped : {A B X Y R : Type 0} (f : Format A) (g : A → Format B) (view : X → A) (view' : Y → B) {o n : Front}
     {dev : Ghosts R} {i k : R} (fault : ReadFault) →
     Reading f view o n dev i k (Err fault) →
@@ -106,7 +106,7 @@ reads_stopped f g view view' {o = o} {dev = dev} {k = k} (Refused place reason) 
 reads_stopped f g view view' Device h = record { bytes = h.bytes; taken = h.taken; answer = h.answer }
 reads_stopped f g view view' {o = o} Memory h = record { bytes = h.bytes; taken = h.taken; answer = (stops-then f g o.place h.bytes h.answer.0, h.answer.1) }
 
--- What means a value is read by no call.
+-- A value without bytes is read by no call.
 pub reads_nothing : {A X R : Type 0} (f : Format A) (view : X → A) (x : X) {o : Front}
     {dev : Ghosts R} {i : R} → f ≡ means (view x) →
     Reading f view o o dev i i (Ok x)
@@ -116,7 +116,7 @@ reads_nothing f view x {o = o} {dev = dev} {i = i} e = record {
   answer = (record { fits = tt; filled = []; whole = ap (λ (h : Format _). verdict h o.place []) e; place = omega arith; fill = sym (append-nil o.fill.items) }, refl);
 }
 
--- A check that fails is told without a call.
+-- A failing check is reported without a call.
 pub reads_refused : {A X R : Type 0} (f : Format A) (view : X → A) (place : ℕ) (reason : Reason) {o : Front}
     {dev : Ghosts R} {i : R} → f ≡ refuses place reason →
     Reading f view o o dev i i (Err (Refused place reason))
@@ -128,7 +128,7 @@ reads_refused f view place reason {o = o} {dev = dev} {i = i} e = record {
 
 -- ---- loops over items
 
--- One more item: what a loop has read so far, and the item behind it.
+-- One more item: the items that a loop has read so far, and the next one.
 pub reads_more : {A B X Y Z R : Type 0} (f : A → Format B) (xs : List A) (x : A) (view : X → List B) (view' : Y → B) (view'' : Z → List B) {o m n : Front}
     {dev : Ghosts R} {i j k : R} (v : X) (y : Y) (z : Z) → view'' z ≡ view v ++ view' y ∷ [] →
     Reading (each f xs) view o m dev i j (Ok v) →
@@ -140,7 +140,7 @@ reads_more f xs x view view' view'' {o = o} {n = n} {dev = dev} {i = i} {k = k} 
     (reads_then (f x) (λ b. means (view v ++ b ∷ [])) view' view'' y second
     (reads_nothing (means (view v ++ view' y ∷ [])) view'' z (ap means (sym e)))))
 
--- An item that answers a fault ends the loop, whatever items are still to come.
+-- An item that returns a fault ends the loop, whatever items remain.
 pub reads_more_stopped : {A B X Y Z R : Type 0} (f : A → Format B) (xs : List A) (x : A) (ys : List A) (view : X → List B) (view' : Y → B) (view'' : Z → List B) {o m n : Front}
     {dev : Ghosts R} {i j k : R} (v : X) (fault : ReadFault) →
     Reading (each f xs) view o m dev i j (Ok v) →

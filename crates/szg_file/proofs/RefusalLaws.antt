@@ -1,4 +1,4 @@
--- What a refusal says of bytes that begin alike, and that what is refused or cut short begins with no table's file.
+-- Refusals of bytes with a common prefix; and bytes that are refused or truncated begin with no table's file.
 use Rattle.std.proofs.Common.{◌≡◌, ℕ, List, [], ◌++◌, sym, ap, ◌∙◌}
 use Rattle.std.proofs.lemmas.List.{append_cancel_right}
 use Rattle.szg_values.specs.declared.Kind.{Kind}

@@ -1,4 +1,4 @@
--- Rows of the format, computed through the definitions: the 80 bytes of a constant KNvK WDL table.
+-- Examples evaluated by the definitions: the 80 bytes of a constant KNvK WDL table.
 use Rattle.std.proofs.Common.{◌≡◌, ℕ, List, [], ◌∷◌, ◌++◌, replicate, refl, drop, take, Some, None}
 use Rattle.szg_values.specs.declared.Kind.TheVariants.{Wdl, Dtz}
 use Rattle.szg_file.specs.declared.fault.Reason.TheVariants as reason
@@ -126,7 +126,8 @@ mapped_written_back : file_of kpvk_table (replicate 20 0) ≡ kpvk_dtz_mapped
 unfolding file_of
 mapped_written_back = refl
 
--- class win: 14 on the a file, 600 on the b file, 0 on the c file; no blessed loss in the map; no number for a draw
+-- class win: 14 with the lead pawn on the a file, 600 on the b file, 0 on the c file; no blessed loss in the map;
+-- no distance of a draw
 win_a : number_of_value kpvk_table 0 (pos 2) 0 ≡ Some 14
 win_a = refl
 
@@ -139,7 +140,7 @@ win_c = refl
 outside : number_of_value kpvk_table 0 (negsuc 0) 0 ≡ None
 outside = refl
 
--- list 1 of a byte map is 3, 9: a loss counts moves, or with flag 8 plies
+-- list 1 of a byte map is 3, 9: it counts a loss in moves, or with flag 8 in plies
 loss_in_moves : number_at 0x82 (Some (narrow ([] ∷ (3 ∷ 9 ∷ []) ∷ [] ∷ [] ∷ []))) 1 1 ≡ Some 18
 loss_in_moves = refl
 

@@ -1,5 +1,4 @@
--- What the checks of an accepted table say in the words of the layers below: its codes, dictionaries and subtables
--- are those that these layers accept.
+-- The codes, dictionaries and subtables of an accepted table are accepted by the lower crates.
 use Rattle.std.proofs.Common.{◌≡◌, ℕ, zero, suc, ◌+◌, ◌*◌, ◌^◌, ◌<◌, List, take, drop, sym, ap, subst, ◌∙◌, arith}
 use Rattle.std.specs.Prelude.{IsTrue}
 use Rattle.std.proofs.lemmas.List.{drop-drop}
@@ -31,7 +30,7 @@ accepted_shape size head sparse lengths packed h = record {
   lengths = h.lengths_count;
 }
 
--- block j of so many joined blocks
+-- block `j` of `count` joined blocks
 held_block : (layout : Layout) (size n count : ℕ) (packed : List ℕ) → BlocksHold layout size n (items (2 ^ layout.block_bits) count packed) → (j : ℕ) → j < count →
     IsTrue (spells_needed layout size (n + j) (take (2 ^ layout.block_bits) (drop (j * 2 ^ layout.block_bits) packed)))
 held_block layout size n zero packed h j lt = absurd (omega arith)

@@ -1,4 +1,4 @@
--- A subtable whose numbers fit, whose code and dictionary are accepted and which is sound passes the checks of a file.
+-- A sound subtable whose numbers fit, and whose code and dictionary are accepted, passes the checks of a file.
 use Rattle.std.proofs.Common.{◌≡◌, ℕ, zero, suc, ◌+◌, ◌*◌, ◌^◌, ◌<◌, List, length, take, drop, sym, ap, subst, ◌∙◌, arith}
 use Rattle.std.specs.Prelude.{IsTrue}
 use Rattle.std.specs.List.{AllByRecursion}
@@ -35,7 +35,7 @@ code_stands code h fit =
 pub dictionary_stands : (entries : List (List ℕ)) → IsDictionary entries → AllExpand entries
 dictionary_stands entries h = let none = (found_is_fault entries).0.0 h in (none.0, (none.1, none.2))
 
--- the blocks from the n-th on, so many
+-- `count` blocks from block `n` on
 blocks_hold : (layout : Layout) (size n count : ℕ) (packed : List ℕ) →
     ((j : ℕ) → j < count → IsTrue (spells_needed layout size (n + j) (take (2 ^ layout.block_bits) (drop (j * 2 ^ layout.block_bits) packed)))) →
     BlocksHold layout size n (items (2 ^ layout.block_bits) count packed)

@@ -1,4 +1,4 @@
--- The steps to a value of what looking for a subtable finds.
+-- The steps of a look-up in the subtable that a search finds.
 use Rattle.std.proofs.Common.{◌≡◌, ℕ, refl, sym, ap, ◌∙◌, Some, None, Option, IfSome}
 use Rattle.szg_block.specs.declared.Sub.{Sub}
 use Rattle.szg_block.specs.declared.Sub.TheVariants.{Constant, Pairs}

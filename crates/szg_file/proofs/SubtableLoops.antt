@@ -1,4 +1,4 @@
--- The loop that takes something into each subtable: what stands between two turns, and what a turn adds.
+-- The loop that reads more of each subtable: its invariant, and the effect of one step.
 use Rattle.std.proofs.Common.{◌≡◌, ℕ, ◌+◌, ◌<◌, List, [], ◌∷◌, ◌++◌, length, map, take, take_all, get_or, refl, sym, ap, ◌∙◌, arith, Ok}
 use Rattle.std.specs.List.{sum_by}
 use Rattle.std.proofs.lemmas.List.{length_push, map-id}
@@ -14,7 +14,7 @@ use Rattle.szg_file.proofs.LoopReads.{each_next}
 use Rattle.szg_file.proofs.ReadingLaws.{reads_nothing}
 use Rattle.szg_file.proofs.Taken.{reads_as, reads_equal}
 
--- the items that were handed out stand, with what was taken into them, in the list that is made
+-- the items passed on so far, with what was read into them, are in the resulting list
 pub record Loading {T U X R : Type 0} (field : T → Format U) (items yielded : List T) (before : T → ℕ) (after : U → ℕ) (list_of : X → List U) (made : X) (o n : Front)
     (dev : Ghosts R) (i j : R) : Type 0 where
   pub read : Reading (each field (take (length yielded) items)) list_of o n dev i j (Ok made)
@@ -27,7 +27,7 @@ loading_none {U = U} field items before after list_of made empty = record {
   grown = omega (arith, none_yet after (list_of made) empty);
 }
 
--- What was taken of one more item, and the list with it.
+-- The result of one more item, and the list with it.
 pub record Loaded {T U X R : Type 0} (field : T → Format U) (item : T) (loaded : U) (before : T → ℕ) (after : U → ℕ) (list_of : X → List U) (made made' : X) (m p n : Front)
     (dev : Ghosts R) (j k : R) : Type 0 where
   pub read : Reading (field item) (λ (u : U). u) m p dev j k (Ok loaded)
@@ -60,7 +60,7 @@ loading_next {U = U} field items yielded item loaded before after list_of made m
       );
     }
 
--- where all items were handed out, something was taken into each
+-- when all items were passed on, each was extended
 pub loading_all : {T U X R : Type 0} (field : T → Format U) (items yielded : List T) (before : T → ℕ) (after : U → ℕ) (list_of : X → List U) (made : X) {o n : Front}
     {dev : Ghosts R} {i j : R} →
     (map (λ item. item) yielded ≡ items) × (length yielded ≡ length items) →

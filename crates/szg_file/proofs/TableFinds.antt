@@ -1,4 +1,4 @@
--- What looking for a subtable of a table finds.
+-- The result of a search for a subtable.
 use Rattle.std.proofs.Common.{◌≡◌, ℕ, zero, suc, ◌+◌, ◌<◌, ◌≤◌, Bool, true, false, cond, not, ◌&&◌, nat_eq, nat_lt, List, [], ◌∷◌, length, map, get_or, replicate, refl, sym, ap, subst, ◌∙◌, arith, Some, None, Option, option_map, IsSome, IfSome, MatchOption}
 use Rattle.std.specs.Prelude.{slice_get, position, ℤ, Result, Ok, Err, option_and_then, ok_or}
 use Rattle.std.specs.List.{position_or_len}
@@ -63,7 +63,7 @@ slotted_past (a ∷ xs) [] k h = refl
 slotted_past (a ∷ xs) (b ∷ ys) zero h = absurd (omega arith)
 slotted_past (a ∷ xs) (b ∷ ys) (suc k) h = slotted_past xs ys k (omega arith)
 
--- ---- the place of a part's side
+-- ---- the index of a part's side
 
 abbrev pub is_at : ℕ → ℕ → Slot → Bool
 is_at part side slot = nat_eq slot.part part && nat_eq slot.side side
@@ -97,7 +97,7 @@ found_there part side xs ys n x y e ex ey =
 
 -- ---- of a table
 
--- as many subtables are held as slots
+-- there is one subtable per slot
 pub as_many : (t : Contents) (filled : List ℕ) (subs : List Sub) → IsAccepted t filled → map subtable_of subs ≡ t.subtables → length (slots t.material t.kind t.parts) ≡ length subs
 as_many t filled subs h es =
     side_lengths IsSubtable (slots t.material t.kind t.parts) t.subtables h.subtables ∙ ap (λ (z : List Subtable). length z) (sym es) ∙ length-map subs subtable_of
@@ -119,7 +119,7 @@ shaped_and_sound slot (Pairs flags block_bits span_bits extra blocks code dict s
     let few = h.head_stands.flags in
     (((omega (arith, few), accepted_shape slot.size _ _ _ _ h), h.packed_bytes.0), accepted_subtable slot.size _ _ _ _ h)
 
--- ---- a subtable that is there
+-- ---- a subtable that exists
 
 pub present : (t : Contents) (filled : List ℕ) (subs : List Sub) (part side n size : ℕ) (slot : Slot) (sub : Sub) → IsAccepted t filled → map subtable_of subs ≡ t.subtables →
     position (is_at part side) (slots t.material t.kind t.parts) ≡ Some n → slice_get (slots t.material t.kind t.parts) n ≡ Some slot → n < length subs → sub ≡ get_or subs n sub → size ≡ slot.size →
@@ -147,7 +147,7 @@ value_at None kind sub size i value h e = tt
 value_at (Some pair) kind sub size i value h e =
     ap (λ (n : ℕ). item (values_in kind n pair.1) i) h.0 ∙ ap (λ (s : Subtable). item (values_in kind size s) i) h.1 ∙ value_found kind sub size i value e
 
--- all values of what was found
+-- all values of the subtable that was found
 pub values_found : (kind : Kind) (sub : Sub) (size : ℕ) → values_over sub (packed_of sub) size (constant_value kind (byte_of sub)) ≡ values_in kind size (subtable_of sub)
 values_found kind (Constant flags byte) size = refl
 values_found kind (Pairs flags block_bits span_bits extra blocks code dict sparse lengths packed) size = refl

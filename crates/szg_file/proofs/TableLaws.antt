@@ -1,4 +1,4 @@
--- What follows for tables from "the file of an accepted table is good".
+-- Consequences for tables of the law that the format accepts the file of an accepted table.
 use Rattle.std.proofs.Common.{◌≡◌, ℕ, ◌==◌, Bool, true, false, List, [], ◌∷◌, ◌++◌, length, take, drop, refl, sym, ap, ◌∙◌, append-nil, arith}
 use Rattle.std.proofs.lemmas.List.{append_assoc}
 use Rattle.szg_values.specs.declared.Kind.{Kind}
@@ -15,13 +15,13 @@ use Rattle.szg_file.proofs.FormatLaws.{no_prefix, cut_anywhere}
 alone : FileIsGood → (t : Contents) (fill : List ℕ) → IsAccepted t fill → verdict (file t.material t.kind) 0 (file_of t fill) ≡ good t fill []
 alone law t fill h = ap (λ (z : List ℕ). verdict (file t.material t.kind) 0 z) (sym (append-nil (file_of t fill))) ∙ law t fill [] h
 
--- the second table's verdict, told with the first one's material and kind
+-- the second table's verdict, with the first one's material and kind
 other : FileIsGood → (t t' : Contents) (fill' : List ℕ) → IsAccepted t' fill' → t.material ≡ t'.material → t.kind ≡ t'.kind →
     verdict (file t.material t.kind) 0 (file_of t' fill') ≡ good t' fill' []
 other law t t' fill' h m k =
     ap (λ (x : Sides). verdict (file x t.kind) 0 (file_of t' fill')) m ∙ ap (λ (x : Kind). verdict (file t'.material x) 0 (file_of t' fill')) k ∙ alone law t' fill' h
 
--- ---- a file's first bytes tell its kind
+-- ---- a file's first byte determines its kind
 
 begins : (text : List ℕ) (rows : List Section) (fill : List ℕ) → (more : List ℕ) × (joined text rows fill ≡ text ++ more)
 begins text [] fill = ([], sym (append-nil text))

@@ -1,4 +1,4 @@
--- One field that was taken, and how fields of the same bytes are one field.
+-- Single fields that are read, and consecutive fields as one field.
 use Rattle.std.proofs.Common.{◌≡◌, ℕ, ◌+◌, ◌-◌, List, [], ◌++◌, length, take, drop, refl, sym, ap, subst, inl, inr, ◌∙◌, append_assoc, arith, append-nil, Ok, Err}
 use Rattle.std.specs.Prelude.{Result}
 use Rattle.std.proofs.Math.Seq.{take-length, take-add, take-append_seam, drop-append_seam}
@@ -15,7 +15,7 @@ use Rattle.szg_file.proofs.FormatLaws.{field-whole, field-short}
 use Rattle.szg_io.specs.declared.device.Input.{Ghosts}
 use Rattle.szg_file.proofs.ReadingLaws.{reads_then, reads_stopped, reads_nothing}
 
--- a field of a text's own length is the text
+-- a field of the text's own length is the text
 pub field_of_text : (place : ℕ) (bytes : List ℕ) → verdict (field (length bytes) means) place bytes ≡ good bytes [] []
 field_of_text place bytes =
     let taken : take (length bytes) bytes ≡ bytes = take-length bytes in
@@ -37,11 +37,11 @@ field_taken o n piece small taken place fill quiet = record {
 
 -- ---- one field and its parts
 
--- so many bytes, and then so many more
+-- `a` bytes followed by `b` bytes
 abbrev pub two_fields : ℕ → ℕ → Format (List ℕ)
 two_fields a b = field a means >>= λ x. field b means >>= λ y. means (x ++ y)
 
--- a field of a + b bytes is one of a and then one of b
+-- a field of `a + b` bytes is one of `a` followed by one of `b`
 pub two_fields-one : (a b place : ℕ) (bytes : List ℕ) → verdict (two_fields a b) place bytes ≡ verdict (field (a + b) means) place bytes
 two_fields-one a b place bytes =
     elim (cases_lt (length bytes) a) [
@@ -64,7 +64,7 @@ two_fields-one a b place bytes =
           ]
     ]
 
--- formats with the same verdicts are read alike
+-- formats with the same verdicts have the same readings
 pub reads_like : {A X R : Type 0} (f g : Format A) (view : X → A) {o n : Front}
     {dev : Ghosts R} {i k : R} (r : Result X ReadFault) →
     ((bytes : List ℕ) → verdict f o.place bytes ≡ verdict g o.place bytes) →
@@ -112,7 +112,7 @@ field_stopped a b rest view view' view'' {o = o} {m = m} v fault first second =
     (reads_like (two_fields b rest) (field (b + rest) means) view'' (Err fault) (λ bytes. two_fields-one b rest m.place bytes)
     (reads_stopped (field b means) (λ x. field rest means >>= λ y. means (x ++ y)) view' view'' fault second))))
 
--- the same reading, where the front holds more, and with another way to see its answer
+-- the same reading with an equal state and another view of its result
 pub reads_as : {A X Y R : Type 0} (f g : Format A) (view : X → A) (view' : Y → A) {o n n' : Front}
     {dev : Ghosts R} {i k : R} (v : X) (w : Y) →
     f ≡ g → view' w ≡ view v → n'.place ≡ n.place → n'.fill.items ≡ n.fill.items →
@@ -133,7 +133,7 @@ reads_as f g view view' {o = o} v w same seen place fill h = record {
   );
 }
 
--- what a list holds whose tail from a place on was written anew
+-- a list whose tail from an index on was overwritten
 pub tail_written : (before piece after : List ℕ) (at size : ℕ) → length before ≡ at + size → length piece ≡ size →
     drop at (take (at + size) ((take at before ++ (piece ++ drop (length before - at) (drop at before))) ++ after)) ≡ piece
 tail_written before piece after at size long sized =
@@ -145,7 +145,7 @@ tail_written before piece after at size long sized =
     ∙ ap (drop at) (take_at (take at before ++ piece) after (at + size) whole)
     ∙ drop_at (take at before) piece at front
 
--- no bytes are a field of none
+-- a field of no bytes
 pub reads_no_bytes : {X R : Type 0} (size : ℕ) (view : X → List ℕ) (x : X) {o : Front}
     {dev : Ghosts R} {i : R} → size ≡ 0 → view x ≡ [] →
     Reading (field size means) view o o dev i i (Ok x)
@@ -170,14 +170,14 @@ grown_twice first second third p q =
       ap (drop (length first)) whole ∙ drop-append_seam first (d ++ r),
     )
 
--- one format written in two ways
+-- two equal formats
 pub reads_equal : {A X R : Type 0} (f g : Format A) (view : X → A) {o n : Front}
     {dev : Ghosts R} {i k : R} (r : Result X ReadFault) → f ≡ g →
     Reading f view o n dev i k r → Reading g view o n dev i k r
 reads_equal f g view {o = o} {n = n} {dev = dev} {i = i} {k = k} r e h =
     subst (λ (t : Format _). Reading t view o n dev i k r) e h
 
--- the same reading, from a front with the same bytes before it
+-- the same reading from an equal state
 pub reads_from : {A X R : Type 0} (f : Format A) (view : X → A) {o o' n : Front}
     {dev : Ghosts R} {i k : R} (r : Result X ReadFault) →
     o'.place ≡ o.place → o'.fill.items ≡ o.fill.items →

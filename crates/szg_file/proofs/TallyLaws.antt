@@ -1,4 +1,4 @@
--- Counts compose, and what they count is what a table's file asks for.
+-- Counts compose, and their result is the number of padding bytes in a table's file.
 use Rattle.std.proofs.Common.{◌≡◌, ℕ, suc, add-one, ◌+◌, ◌-◌, ◌*◌, ◌%◌, ◌^◌, ◌<◌, ◌≤◌, List, [], ◌∷◌, ◌++◌, length, map, take, get_or, refl, sym, ap, subst, ◌∙◌, append-nil, arith, Option, Some, None}
 use Rattle.std.specs.Prelude.{flat_map, replicate, slice_get}
 use Rattle.std.proofs.lemmas.List.{length-append, length-replicate}
@@ -18,7 +18,7 @@ use Rattle.szg_values.specs.declared.Kind.{Kind}
 use Rattle.szg_values.specs.declared.Kind.TheVariants.{Wdl, Dtz}
 use Rattle.szg_file.specs.Tally.{length_of, end_of, fill_from, IsAlike, Counts}
 
--- ---- sections one behind another
+-- ---- sections in sequence
 
 end-append : (s t : List Section) (p : ℕ) → end_of p (s ++ t) ≡ end_of (end_of p s) t
 end-append [] t p = refl
@@ -30,7 +30,7 @@ fill_from-append (section ∷ s) t p =
     let h = fill_from-append s t (p + length_of section + fill_of section p) in
     omega (arith, h)
 
--- what is asked depends on lengths alone
+-- the number of padding bytes depends on lengths alone
 pub asked-from : (text : List ℕ) (s : List Section) → asked text s ≡ fill_from (length text) s
 asked-from text [] = refl
 asked-from text (written bytes ∷ s) =
@@ -45,7 +45,7 @@ asked-from text (spare size ∷ s) =
     let next : length (text ++ more) ≡ length text + 0 + size = omega (arith, length-append text more, length-replicate {A = ℕ} size 0) in
     ap (λ (n : ℕ). size + n) (asked-from (text ++ more) s ∙ ap (λ (p : ℕ). fill_from p s) next)
 
--- ---- one count after another
+-- ---- counts in sequence
 
 pub counts_none : (a : Tally) → Counts [] a a
 counts_none a = record { place = λ p h. h; fill = λ p h. omega arith }
@@ -60,7 +60,7 @@ counts_then s t {a = a} {b = b} {c = c} first second = record {
       omega (arith, before, behind, joint);
 }
 
--- sections without fill that have so many bytes
+-- sections without padding bytes, of `n` bytes
 abbrev pub IsPlain : List Section → ℕ → Type 0
 IsPlain s n = (p : ℕ) → (end_of p s ≡ p + n) × (fill_from p s ≡ 0)
 
@@ -95,7 +95,7 @@ counts_item f xs at x {a = a} {c = c} h is first second =
     ap (flat_map f) longer ∙ flat_map-append f (take at xs) (x ∷ []) ∙ ap (λ (z : List Section). flat_map f (take at xs) ++ z) (append-nil (f x)) in
     subst (λ (z : List Section). Counts z a c) (sym apart) (counts_then (flat_map f (take at xs)) (f x) first second)
 
--- the sections of what the items stand for
+-- the sections of the views of the items
 pub counts_mapped : {A B : Type 0} (f : B → List Section) (view : A → B) (xs : List A) {a b : Tally} →
     Counts (flat_map (λ x. f (view x)) xs) a b → Counts (flat_map f (map view xs)) a b
 counts_mapped f view xs {a = a} {b = b} first = subst (λ (z : List Section). Counts z a b) (sym (flat_map-map f view xs)) first
@@ -114,7 +114,7 @@ plain_sparse sparse p = let six = sparse-length sparse in (omega (arith, six), o
 pub plain_lengths : (lengths : List ℕ) → IsPlain (written (flat_map (bytes_of 2) lengths) ∷ []) (2 * length lengths)
 plain_lengths lengths p = let pairs = pairs-length lengths in (omega (arith, pairs), omega arith)
 
--- the head of a subtable that isn't constant, but for its dictionary
+-- the header of a subtable that is not constant, without its dictionary
 abbrev pub front_of : Head → List Section
 front_of head =
     written (head.flags ∷ [])
@@ -131,7 +131,7 @@ front_of head =
 pub plain_front : (head : Head) → IsPlain (front_of head) (12 + 2 * length head.code.lowest)
 plain_front head p = let pairs = pairs-length head.code.lowest in (omega (arith, pairs), omega arith)
 
--- one more field behind another, as one
+-- two fields counted as one
 pub counts_longer : (x y : List ℕ) {a b c : Tally} → Counts (written x ∷ []) a b → IsAlike c.place (b.place + length y) → c.fill ≡ b.fill → Counts (written (x ++ y) ∷ []) a c
 counts_longer x y {a = a} {b = b} {c = c} first place fill = record {
   place = λ p h. let before = first.place p h in let joint = length-append x y in omega (arith, before, joint, place);
@@ -149,7 +149,7 @@ counts_entry entries at entry {a = a} {c = c} there first place fill =
     (subst (λ (z : List ℕ). Counts (written z ∷ []) a c) (sym (flat_map-one (take at entries) entry))
     (counts_longer (flat_map (λ (entry : List ℕ). entry) (take at entries)) entry first place fill))
 
--- ---- how much fill fields ask for at most
+-- ---- a bound on the number of padding bytes
 
 fill_of_each : {A : Type 0} (f : A → List Section) (most : ℕ) → ((x : A) → most_fill (f x) ≤ most) → (xs : List A) → most_fill (flat_map f xs) ≤ most * length xs
 fill_of_each f most one [] = omega arith
@@ -225,7 +225,7 @@ few_asked t =
 
 -- ---- the whole file
 
--- the sections of a table, counted in their order from nothing on
+-- the sections of a table, counted in order from zero
 pub counts_whole : (t : Contents) (a z : Tally) → a.place ≡ 0 → a.fill ≡ 0 → Counts (sections t) a z → z.fill < 2 ^ 64 → asked [] (sections t) < 2 ^ 64 → z.fill ≡ fill_asked t
 unfolding fill_asked
 counts_whole t a z place fill h small few =
@@ -234,11 +234,11 @@ counts_whole t a z place fill h small few =
     let told = asked-from [] (sections t) in
     omega (arith, counted, told, fill, small, few)
 
--- the same sections, told otherwise
+-- equal sections
 pub counts_as : {s s' : List Section} {a b : Tally} → s ≡ s' → Counts s' a b → Counts s a b
 counts_as {a = a} {b = b} e h = subst (λ (z : List Section). Counts z a b) (sym e) h
 
--- the sections of a table, counted in their order
+-- the sections of a table, counted in order
 pub counts_sections : (t : Contents) {a b c d e f g h i j k : Tally} →
     Counts (written (magic_of t.kind) ∷ written (t.byte4 ∷ []) ∷ []) a b → Counts (flat_map part_sections t.parts) b c →
     Counts (padding 2 ∷ []) c d → Counts (flat_map head_sections t.subtables) d e → Counts (maps_sections t.kind t.maps) e f →
@@ -273,7 +273,7 @@ magic_start Dtz = refl
 pub plain_start : (kind : Kind) (byte : ℕ) → IsPlain (written (magic_of kind) ∷ written (byte ∷ []) ∷ []) 5
 plain_start kind byte p = let four = magic_start kind in (omega (arith, four), omega arith)
 
--- a list whose items take so many bytes is short
+-- a list in memory whose items take at least 80 bytes each is short
 pub few_held : (count size bytes : ℕ) → bytes ≡ count * size → bytes < 2 ^ 64 → 80 ≤ size → 80 * count < 2 ^ 64
 few_held count size bytes e h large =
     let most : count * 80 ≤ count * size = mul-le-mul_left count large in

@@ -1,4 +1,5 @@
--- A format whose blocks aren't checked agrees with the file's, but for what the words of blocks spell.
+-- The format without the checks of blocks agrees with the format of the file, except for refusals of a block's
+-- words.
 use Rattle.std.proofs.Common.{◌≡◌, ℕ, zero, suc, ◌+◌, ◌-◌, ◌*◌, ◌^◌, ◌<◌, ◌≤◌, Bool, true, false, List, [], ◌∷◌, ◌++◌, length, take, drop, refl, sym, ap, subst, ◌∙◌, arith, inl, inr}
 use Rattle.std.proofs.Math.Seq.{take-add}
 use Rattle.std.proofs.lemmas.Bool.{cases_lt}
@@ -77,7 +78,7 @@ pub passes_then : {A B : Type 0} (f : Format A) (g : A → Format B) → Passes 
 passes_then f g h k place bytes =
     subst (λ (v : Verdict _). NotRefused v) (sym (verdict-then f g place bytes)) (passes_on g (place + length bytes) (verdict f place bytes) (h place bytes) k)
 
--- one format after another, where the second formats refuse nothing
+-- two formats in sequence, where the second ones refuse nothing
 pub agrees_then : {A B : Type 0} (f f' : Format A) (g g' : A → Format B) → Agrees f f' → ((a : A) → Agrees (g a) (g' a)) → ((a : A) → Passes (g' a)) → Agrees (f >>= g) (f' >>= g')
 agrees_then f f' g g' first next passes place bytes =
     subst (λ (v : Verdict _). AgreesButForWords (verdict (f >>= g) place bytes) v) (sym (verdict-then f' g' place bytes))
@@ -104,7 +105,7 @@ passes_filled_to unit place bytes = elim (cases_lt (length bytes) (gap unit plac
   | inr whole ↦ subst (λ (v : Verdict (Unit {0})). NotRefused v) (sym (fill-whole (gap unit place) (means tt) place bytes whole)) tt
 ]
 
--- a block, checked and not
+-- a block with and without its check
 demanded : (b : Bool) (at place : ℕ) (x rest : List ℕ) → AgreesButForWords (verdict (demand b at reason.Word >>= λ _. means x) place rest) (good x [] rest)
 demanded true at place x rest = refl
 demanded false at place x rest = inr (refl, tt)
@@ -189,7 +190,7 @@ module _ (material : Sides) (kind : Kind) (byte : ℕ) (parts : List Part) (foun
   agrees_measured measured =
       agrees_then (each blocks_field measured) (each unread_field measured) ended ended (agrees_subs measured) (λ subtables. agrees_is (ended subtables)) passes_ended
 
--- the same as a record, whose formats are seen through its type
+-- the same as a record, so that the formats are inferred from its type
 pub record AgreesWith {A : Type 0} (f g : Format A) : Type 0 where
   pub agrees : Agrees f g
 

@@ -1,4 +1,4 @@
--- The blocks that values of opened tables want, and the values in them.
+-- The blocks that values of opened tables need, and the values in them.
 use Rattle.std.proofs.Common.{◌≡◌, ℕ, ◌+◌, ◌*◌, ◌^◌, ◌<◌, ◌≤◌, List, length, map, drop, length-take, length-drop, get_or, refl, sym, ap, subst, ◌∙◌, arith, Option, Some, None}
 use Rattle.std.specs.Prelude.{IfSome, IfNone, IsSomeAnd, slice_get}
 use Rattle.std.proofs.Math.Nat.{mul-le-mul_right}
@@ -34,14 +34,14 @@ kept_sound slot content (Pairs flags block_bits span_bits extra blocks code dict
   placed_ready slot content (Pairs flags block_bits span_bits extra blocks code dict sparse lengths packed) first blocks (2 ^ block_bits) h inside refl refl,
 )
 
--- ---- which block
+-- ---- the number of the block
 
--- what holds of a constant subtable holds where no block is wanted
+-- what holds of a constant subtable holds if no block is needed
 pub constant_holds : (P : Type 0) (content : List ℕ) (sub : Sub) (first i : ℕ) → IfNone (layout_of sub) P → wanted_block (whole_sub content (placed_at sub first)) i ≡ None → P
 constant_holds P content (Constant flags byte) first i holds none = holds
 constant_holds P content (Pairs flags block_bits span_bits extra blocks code dict sparse lengths packed) first i holds none = absurd (cc none)
 
--- a block among the bytes
+-- the bytes of a block
 pub record IsThere (content : List ℕ) (subtable : Subtable) (i place count : ℕ) : Type 0 where
   pub is : wanted_block subtable i ≡ Some (bytes_at content place count)
   pub inside : place + count ≤ length content

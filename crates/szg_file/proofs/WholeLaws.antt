@@ -1,4 +1,5 @@
--- Maps, sparse indexes, lengths, blocks and the whole file: what is good is the file of an accepted table.
+-- Maps, sparse indexes, block lengths, blocks and the whole file: a text that the format accepts is the file of an
+-- accepted table.
 use Rattle.std.proofs.Common.{◌≡◌, ℕ, zero, suc, ◌+◌, ◌*◌, ◌^◌, ◌<◌, true, false, List, [], ◌∷◌, ◌++◌, length, map, take, drop, refl, sym, ap, subst, ◌∙◌, append_assoc, append-nil, arith, Option, Some, None}
 use Rattle.std.specs.Prelude.{flat_map, IsTrue}
 use Rattle.std.specs.List.{AllByRecursion}
@@ -34,7 +35,7 @@ sound_list size =
     (λ list p. let n = numbers_of_rows size list p.1 in (ap (λ (z : List ℕ). written z ∷ []) n.0, (n.2 ∙ p.0, n.1))))
     (λ count list small q. (ap (λ (n : ℕ). written (bytes_of size n) ∷ written (flat_map (bytes_of size) list) ∷ []) (sym q.0), (subst (λ (n : ℕ). n < 256 ^ size) (sym q.0) small, q.1)))
 
--- as many items as there were formats
+-- the number of items is the number of formats
 beside_length : {A B : Type 0} (P : A → B → Type 0) (xs : List A) (ys : List B) → SideBySide P xs ys → length ys ≡ length xs
 beside_length P [] [] h = refl
 beside_length P [] (y ∷ ys) h = absurd h
@@ -56,7 +57,7 @@ sound_four size = sound_as (each list_field (four size)) (flat_map (list_section
     (λ k same. subst (λ (n : ℕ). Sound (list_field n) (list_sections size) (λ list. (length list < 256 ^ size) × AreNumbers size list)) (sym same) (sound_list size)) (four size) (refl, (refl, (refl, (refl, tt)))))
     (λ lists h. (refl, (beside_length (λ k list. (length list < 256 ^ size) × AreNumbers size list) (four size) lists h, beside_all (λ list. (length list < 256 ^ size) × AreNumbers size list) (four size) lists h)))
 
--- lists of the width that flag 16 says
+-- lists of the width that flag 16 determines
 abbrev pub HasWidth : ℕ → Map → Type 0
 HasWidth flags (narrow lists) = (has_bit 4 flags ≡ false) × AreLists 1 lists
 HasWidth flags (wide lists) = (has_bit 4 flags ≡ true) × AreLists 2 lists
@@ -118,7 +119,7 @@ entries_of_rows (row ∷ rows) h =
       ((subst (λ (k : ℕ). number_of (take 4 row) < 256 ^ k) four_long (number_of-small (take 4 row) halves.0), subst (λ (k : ℕ). number_of (drop 4 row) < 256 ^ k) two_long (number_of-small (drop 4 row) halves.1)), r.2),
     )
 
--- the next stage of a subtable: the sparse index has come
+-- the next stage of a subtable, with its sparse index
 abbrev pub IsIndexed : Slot → Subtable → Begun → Type 0
 IsIndexed slot (constant flags byte) next = (next.slot ≡ slot) × (next.subtable ≡ constant flags byte)
 IsIndexed slot (pairs head sparse lengths packed) next =
@@ -138,7 +139,7 @@ sound_sparse slot (pairs head sparse lengths packed) =
     (sound_rows 6 (entry_count head.span_bits slot.size))
     (λ rows p. let n = entries_of_rows rows p.1 in (ap (λ (z : List ℕ). written z ∷ []) n.0, (refl, map entry_of_bytes rows, refl, n.1 ∙ p.0, n.2))))
 
--- ---- lengths
+-- ---- block lengths
 
 sound_index_check : (place index : ℕ) (layout : Layout) (size : ℕ) → Sound (index_check place index layout size) (λ _. []) (λ _. HasIndex layout size)
 sound_index_check place index layout size =
@@ -146,7 +147,7 @@ sound_index_check place index layout size =
     (IsTrue (has_total layout size)) (λ _. first_bad_entry layout ≡ None)
     (sound_demand (has_total layout size) place reason.ShortTotal) (sound_none_fails (first_bad_entry layout) (λ item. index + 6 * item) reason.SparseEntry)
 
--- the next stage: the lengths have come
+-- the next stage, with its block lengths
 abbrev pub IsMeasured : Slot → Subtable → Begun → Type 0
 IsMeasured slot (constant flags byte) next = (next.slot ≡ slot) × (next.subtable ≡ constant flags byte)
 IsMeasured slot (pairs head sparse lengths packed) next =
@@ -210,7 +211,7 @@ sound_block layout size n =
     (sound_demand (spells_needed layout size n bytes) place reason.Word) (sound_means bytes (λ b. b ≡ bytes) refl))
     (λ bytes b p q. (ap (λ (z : List ℕ). written z ∷ []) (sym q.1), subst (λ (z : List ℕ). AreBytes (2 ^ layout.block_bits) z × IsTrue (spells_needed layout size n z)) (sym q.1) (p, q.0))))
 
--- so many blocks that hold from the n-th on
+-- `count` valid blocks from block `n` on
 abbrev pub AreBlocks : Layout → ℕ → ℕ → ℕ → List ℕ → Type 0
 AreBlocks layout size n count packed = AreBytes (count * 2 ^ layout.block_bits) packed × BlocksHold layout size n (items (2 ^ layout.block_bits) count packed)
 
@@ -260,7 +261,7 @@ sound_blocks_from layout size n (suc count) = record {
       );
 }
 
--- the last stage: the blocks have come
+-- the last stage, with its blocks
 abbrev pub IsFilled : Slot → Subtable → Subtable → Type 0
 IsFilled slot (constant flags byte) s = s ≡ constant flags byte
 IsFilled slot (pairs head sparse lengths packed) s = (bytes : List ℕ) × (s ≡ pairs head sparse lengths bytes) × AreBlocks (layout_of head sparse lengths) slot.size 0 head.blocks bytes
@@ -279,7 +280,7 @@ sound_blocks slot (pairs head sparse lengths packed) =
 
 -- ---- a subtable through its stages
 
--- the stages of one subtable give one that is accepted, with the sections that each stage had
+-- the stages of one subtable result in an accepted one, which has the sections of each stage
 pub record OneChain (slot : Slot) (h i m s : Subtable) : Type 0 where
   pub stands : IsSubtable slot s
   pub heads : head_sections h ≡ head_sections s
@@ -406,7 +407,7 @@ read_file material kind =
     read_then (field 16 means) _ _ _ (read_of (field 16 means) (λ last. written last ∷ []) (AreBytes 16) (sound_bytes 16)) (λ last.
     read_means _)))))))))))
 
--- the sections of the steps are the table's, and its conditions hold
+-- the sections of the steps are those of the table, and its conditions hold
 pub record FileStands (material : Sides) (kind : Kind) (t : Contents) (z : List Section) : Type 0 where
   pub material_is : t.material ≡ material
   pub kind_is : t.kind ≡ kind
@@ -466,7 +467,7 @@ file_stands material kind t z q1 =
           });
     }
 
--- What is good is the file of an accepted table, and then the rest.
+-- Bytes that the format accepts are the file of an accepted table and the bytes after it.
 pub good_is_file : GoodIsFile
 unfolding file_of fill_asked
 good_is_file material kind bytes t filled rest small e =

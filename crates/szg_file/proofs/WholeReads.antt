@@ -1,4 +1,4 @@
--- A whole file is read in three pieces, and what `read` answers follows from one reading of it.
+-- A whole file is read in three stages, and the result of `read` follows from one reading of it.
 use Rattle.std.proofs.Common.{◌≡◌, ℕ, List, sym, ap, subst, ◌∙◌, Option, Ok, Err}
 use Rattle.szg_values.specs.declared.Kind.{Kind}
 use Rattle.szg_values.specs.Material.{Sides}
@@ -14,7 +14,7 @@ use Rattle.szg_file.proofs.EachLaws.{then-then, then-means}
 use Rattle.szg_io.specs.declared.device.Input.{Ghosts}
 use Rattle.szg_file.proofs.ReadingLaws.{reads_then, reads_stopped, reads_nothing}
 
--- A fault is the same whatever the value would have been, and in equal formats.
+-- A fault is independent of the value that was being read, and the same for equal formats.
 pub reads_stopped_as : {A X Y R : Type 0} (f : Format A) (g : Format A) (view : X → A) (view' : Y → A) {o n : Front}
     {dev : Ghosts R} {i k : R} (fault : ReadFault) → f ≡ g →
     Reading f view o n dev i k (Err fault) →
@@ -23,7 +23,7 @@ reads_stopped_as f g view view' {o = o} {n = n} {dev = dev} {i = i} {k = k} faul
     subst (λ (t : Format _). Reading t view' o n dev i k (Err fault)) (then-means f ∙ e)
     (reads_stopped f means view view' fault h)
 
--- The last reading of several, whose value makes the value of all.
+-- The last of several readings, whose value determines the value of all.
 pub reads_made : {A B X Y R : Type 0} (f : Format A) (made : A → B) (view : X → A) (view' : Y → B) {o n : Front}
     {dev : Ghosts R} {i k : R} (v : X) (w : Y) → view' w ≡ made (view v) →
     Reading f view o n dev i k (Ok v) →
@@ -31,7 +31,7 @@ pub reads_made : {A B X Y R : Type 0} (f : Format A) (made : A → B) (view : X 
 reads_made f made view view' v w e h =
     reads_then f (λ a. means (made a)) view view' v h (reads_nothing (means (made (view v))) view' w (ap means (sym e)))
 
--- ---- what stands behind each piece of an opening
+-- ---- what follows each part of an opening
 
 abbrev pub after_heads : Sides → Kind → ℕ → List Part → List Subtable → Format Opened
 after_heads material kind byte parts heads = maps_field kind heads >>= λ found. means (record { byte4 = byte; parts = parts; heads = heads; maps = found })
@@ -45,22 +45,22 @@ after_parts material kind byte parts = filled_to 2 >>= after_gap material kind b
 abbrev pub after_start : Sides → Kind → ℕ → Format Opened
 after_start material kind byte = each (λ _. part_field material kind) (part_numbers material) >>= after_parts material kind byte
 
--- ---- the three pieces are the file
+-- ---- the three stages are the file
 
--- the contents that a file's last bytes complete
+-- the contents of an opening, subtables and last bytes
 abbrev pub with_last : Sides → Kind → Opened → List Subtable → List ℕ → Contents
 with_last material kind o subtables last =
     record { material = material; kind = kind; byte4 = o.byte4; parts = o.parts; subtables = subtables; maps = o.maps; last = last }
 
--- what stands behind the blocks
+-- what follows the blocks
 abbrev pub behind_packed : Sides → Kind → Opened → List Subtable → Format Contents
 behind_packed material kind o subtables = ending_field >>= λ last. means (with_last material kind o subtables last)
 
--- what stands behind an opening
+-- what follows an opening
 abbrev pub behind_opening : Sides → Kind → Opened → Format Contents
 behind_opening material kind o = packed_field (begun (slots material kind o.parts) o.heads) >>= behind_packed material kind o
 
--- the front, up to the maps, as one format
+-- everything up to the maps, as one format
 module _ {M B P H F C D : Type 0} (magic : Format M) (byte4 : Format B) (parts : Format P) (gap : Format (Unit {0})) (heads : P → Format H) (maps : H → Format F)
     (whole : B → P → H → F → D) (next : D → Format C) (rest : B → P → H → F → Format C) (same : (b : B) (p : P) (h : H) (f : F) → next (whole b p h f) ≡ rest b p h f) where
   from_maps : (b : B) (p : P) (h : H) → (maps h >>= λ f. means (whole b p h f)) >>= next ≡ maps h >>= λ f. rest b p h f
@@ -91,7 +91,7 @@ module _ {M B P H F C D : Type 0} (magic : Format M) (byte4 : Format B) (parts :
       ∙ ap (λ (k : B → Format C). (magic >>= λ _. byte4) >>= k) (λ i b. from_parts b i)
       ∙ then-then magic (λ _. byte4) (λ b. parts >>= λ p. gap >>= λ _. heads p >>= λ h. maps h >>= λ f. rest b p h f)
 
--- indexes, lengths and blocks, and the end
+-- sparse indexes, block lengths, blocks and the end
 module _ {I L S E C : Type 0} (indexes : Format I) (lengths : I → Format L) (blocks : L → Format S) (gap : Format (Unit {0})) (ending : Format E) (whole : S → E → C) where
   from_gap_to_end : (s : S) → (gap >>= λ _. ending) >>= (λ last. means (whole s last)) ≡ gap >>= λ _. ending >>= λ last. means (whole s last)
   from_gap_to_end s = then-then gap (λ _. ending) (λ last. means (whole s last))
@@ -123,7 +123,7 @@ behind_maps blocks material kind byte parts heads found =
     field 16 means >>= λ last.
     means (table_of material kind byte parts found subtables last)
 
--- the sparse indexes, the lengths, and the blocks by any format of a subtable's blocks
+-- the sparse indexes, the block lengths, and the blocks by any format of a subtable's blocks
 abbrev pub packed_by : (Begun → Format Subtable) → List Begun → Format (List Subtable)
 packed_by blocks list = each sparse_field list >>= λ indexed. each lengths_field indexed >>= each blocks
 

@@ -1,4 +1,4 @@
--- Writers compose: what two calls write one after another is what their sections are, one after another.
+-- Writers compose: two calls in sequence write their sections in sequence.
 use Rattle.std.proofs.Common.{◌≡◌, ℕ, suc, add-one, get_or, ◌+◌, ◌-◌, ◌%◌, ◌^◌, ◌<◌, ◌≤◌, List, [], ◌∷◌, ◌++◌, length, take, drop, map, refl, sym, ap, subst, ◌∙◌, append_assoc, append-nil, arith}
 use Rattle.std.specs.Prelude.{Result, Ok, Err, flat_map}
 use Rattle.std.proofs.lemmas.List.{length-append, length-take, length-drop, take-append-drop, take_all}
@@ -18,7 +18,7 @@ use Rattle.szg_file.specs.FileOf.{Section, written, padding, spare, fill_of, byt
 use Rattle.szg_io.specs.declared.device.Output.{Ghosts}
 use Rattle.szg_file.specs.Writing.{Writing, Writes, Stops, Answer, CountsOut, turns_of}
 
--- a text that sections are joined to goes on
+-- joining sections extends the text
 pub joined-front : (text : List ℕ) (s : List Section) (fill : List ℕ) → (rest : List ℕ) × (joined text s fill ≡ text ++ rest)
 joined-front text [] fill = ([], sym (append-nil text))
 joined-front text (section ∷ s) fill =
@@ -26,7 +26,7 @@ joined-front text (section ∷ s) fill =
     let h = joined-front (text ++ piece) s (drop (fill_of section (length text)) fill) in
     (piece ++ h.0, h.1 ∙ append_assoc text piece h.0)
 
--- ---- one call after another
+-- ---- calls in sequence
 
 Writes-then : (s t : List Section) (o m n : Outgoing) (x y : List ℕ) → Writes s o m x → Writes t m n y → Writes (s ++ t) o n (x ++ y)
 Writes-then s t o m n x y p q = record {
@@ -65,7 +65,7 @@ Answer-then : {Y : Type 0} (s t : List Section) (o m n : Outgoing) (fs fs' row :
 Answer-then s t o m n fs fs' row x y (Ok v) first h = (Writes-then s t o m n x y first h.0, h.1)
 Answer-then s t o m n fs fs' row x y (Err fault) first h = (Writes-stops s t o m fault.out x y first h.0, h.1)
 
--- One writer after another that wrote its sections.
+-- A successful writer followed by another.
 pub writes_then : {X Y W : Type 0} (s t : List Section) {o m n : Outgoing}
     {dev : Ghosts W} {i j k : W} (v : X) {r : Result Y WriteFault} →
     Writing s o m dev i j (Ok v) →
@@ -80,7 +80,7 @@ writes_then s t {o = o} {m = m} {n = n} {dev = dev} {i = i} {j = j} {k = k} v {r
           (subst (λ (fs : ℕ). Answer t m n fs (dev.failures k) (dev.interrupted k) second.bytes r) same second.answer);
     }
 
--- A writer that answers a fault ends the whole.
+-- A writer that returns a fault ends the sequence.
 pub writes_stopped : {X Y W : Type 0} (s t : List Section) {o n n' : Outgoing}
     {dev : Ghosts W} {i k : W} (fault : WriteFault) →
     Writing {X = X} s o n dev i k (Err fault) →
@@ -91,7 +91,7 @@ writes_stopped s t {o = o} fault h = record {
   answer = (Stops-first s t o fault.out h.bytes h.answer.0, h.answer.1);
 }
 
--- No section is written by no call.
+-- Writing no section takes no call.
 pub writes_nothing : {X W : Type 0} (x : X) {o : Outgoing}
     {dev : Ghosts W} {i : W} →
     Writing [] o o dev i i (Ok x)
@@ -109,7 +109,7 @@ writes_nothing x {o = o} {dev = dev} {i = i} = record {
 
 -- ---- other sections with the same bytes
 
--- Sections that join to the same text wherever they stand.
+-- Sections that join to the same text after every text.
 pub record Same (s t : List Section) : Type 0 where
   pub same : (text : List ℕ) (more : List Section) (fill : List ℕ) → joined text (s ++ more) fill ≡ joined text (t ++ more) fill
 
@@ -130,11 +130,11 @@ writes_same {s = s} {t = t} {o = o} {n = n} {dev = dev} {i = i} {k = k} {r = r} 
   answer = Answer-same s t e o n (dev.failures i) (dev.failures k) (dev.interrupted k) h.bytes r h.answer;
 }
 
--- two pieces written as one
+-- two chunks written as one
 pub Same-apart : (x y : List ℕ) → Same (written (x ++ y) ∷ []) (written x ∷ written y ∷ [])
 Same-apart x y = record { same = λ text more fill. ap (λ (z : List ℕ). joined z more fill) (sym (append_assoc text x y)) }
 
--- items written one after another, and as one piece
+-- items written in order, or as one chunk
 joined-items : {A : Type 0} (f : A → List ℕ) (xs : List A) (text : List ℕ) (more : List Section) (fill : List ℕ) →
     joined text (flat_map (λ x. written (f x) ∷ []) xs ++ more) fill ≡ joined (text ++ flat_map f xs) more fill
 joined-items f [] text more fill = ap (λ (z : List ℕ). joined z more fill) (sym (append-nil text))
@@ -158,7 +158,7 @@ writes_more f xs x {o = o} {n = n} {dev = dev} {i = i} {k = k} v y z first secon
     subst (λ (w : List Section). Writing w o n dev i k (Ok z)) (sym one)
     (record { bytes = joint.bytes; given = joint.given; answer = joint.answer })
 
--- An item that answers a fault ends the loop, whatever items are still to come.
+-- An item that returns a fault ends the loop, whatever items remain.
 pub writes_more_stopped : {A X Y Z W : Type 0} (f : A → List Section) (xs : List A) (x : A) (ys : List A) {o m n n' : Outgoing}
     {dev : Ghosts W} {i j k : W} (v : X) (fault : WriteFault) →
     Writing (flat_map f xs) o m dev i j (Ok v) →
@@ -170,9 +170,9 @@ writes_more_stopped {Z = Z} f xs x ys {o = o} {n = n} {n' = n'} {dev = dev} {i =
     subst (λ (w : List Section). Writing {X = Z} w o n' dev i k (Err fault)) (sym (flat_map-append f xs (x ∷ ys)))
     (record { bytes = joint.bytes; given = joint.given; answer = joint.answer })
 
--- ---- fill
+-- ---- padding
 
--- Fill bytes, written as a piece.
+-- Padding bytes, written as a chunk.
 Writes-spare : (count : ℕ) (o m n : Outgoing) (x : List ℕ) → m.out ≡ o.out → m.held.items ≡ o.held.items → m.fill.now ≡ drop count o.fill.now →
     Writes (written (take count o.fill.now) ∷ []) m n x → Writes (spare count ∷ []) o n x
 Writes-spare count o m n x out held fill p = record {
@@ -213,7 +213,7 @@ writes_spare count o m {n = n} {dev = dev} {i = i} {k = k} r out held fill h = r
   answer = Answer-spare count o m n (dev.failures i) (dev.failures k) (dev.interrupted k) h.bytes r out held fill h.answer;
 }
 
--- Padding is the fill up to the next multiple of the unit, a divisor of 2 ^ 64.
+-- The padding up to a multiple of the unit depends only on the offset modulo 2 ^ 64, which the unit divides.
 pub padding_place : (unit out : ℕ) (text held : List ℕ) → 2 ^ 64 % unit ≡ 0 → CountsOut out text →
     gap unit ((out + length held) % 2 ^ 64) ≡ gap unit (length (text ++ held))
 padding_place unit out text held whole h =
@@ -257,9 +257,9 @@ writes_padding unit count {o = o} {n = n} {dev = dev} {i = i} {k = k} r whole e 
   answer = Answer-padding unit count o n (dev.failures i) (dev.failures k) (dev.interrupted k) h.bytes r whole e h.answer;
 }
 
--- ---- what is held
+-- ---- buffered bytes
 
--- A fault while the held bytes are given.
+-- A fault while the buffered bytes are written.
 pub writes_held_stopped : {X W : Type 0} (o n : Outgoing)
     {dev : Ghosts W} {i k : W} (piece : List ℕ) (count : ℕ) (fault : WriteFault) → piece ≡ o.held.items →
     count < length piece → fault.out ≡ (o.out + count) % 2 ^ 64 →
@@ -287,7 +287,7 @@ writes_held_stopped o n {dev = dev} {i = i} {k = k} piece count fault held at ou
   );
 }
 
--- A piece that is held.
+-- A chunk that is buffered.
 pub writes_held : {X W : Type 0} (x : X) (piece : List ℕ) (o n : Outgoing)
     {dev : Ghosts W} {i : W} →
     n.out ≡ o.out → n.held.items ≡ o.held.items ++ piece → n.fill.now ≡ o.fill.now →
@@ -311,7 +311,7 @@ writes_held x piece o n {dev = dev} {i = i} out held fill = record {
 nothing_held : (text held piece : List ℕ) → held ≡ [] → (text ++ held) ++ piece ≡ text ++ piece
 nothing_held text held piece e = ap (λ (z : List ℕ). (text ++ z) ++ piece) e ∙ ap (λ (z : List ℕ). z ++ piece) (append-nil text)
 
--- A piece that is given while nothing is held.
+-- A chunk that is written while the buffer is empty.
 pub writes_piece : {X W : Type 0} (x : X) (piece : List ℕ) (o n : Outgoing)
     {dev : Ghosts W} {i k : W} →
     o.held.items ≡ [] → n.held.items ≡ [] → n.out ≡ (o.out + length piece) % 2 ^ 64 → n.fill.now ≡ o.fill.now →
@@ -333,7 +333,7 @@ writes_piece x piece o n before after out fill given quiet = record {
   );
 }
 
--- A fault in it.
+-- A fault while it is written.
 pub writes_piece_stopped : {X W : Type 0} (piece : List ℕ) (o n : Outgoing)
     {dev : Ghosts W} {i k : W} (count : ℕ) (fault : WriteFault) →
     o.held.items ≡ [] → count < length piece → fault.out ≡ (o.out + count) % 2 ^ 64 →
@@ -362,7 +362,7 @@ writes_piece_stopped piece o n count fault before short out given failed = recor
   );
 }
 
--- ---- the same start, told by other names
+-- ---- equal states
 
 Answer-from : {X : Type 0} (s : List Section) (o o' n : Outgoing) (fs fs' row : ℕ) (x : List ℕ) (r : Result X WriteFault) →
     o'.out ≡ o.out → o'.held.items ≡ o.held.items → o'.fill.now ≡ o.fill.now → Answer s o' n fs fs' row x r → Answer s o n fs fs' row x r
@@ -415,7 +415,7 @@ writes_next f xs at d {o = o} {n = n} {dev = dev} {i = i} {k = k} y h first seco
     subst (λ (ys : List _). Writing {X = Unit {0}} (flat_map f ys) o n dev i k (Ok tt)) (sym longer)
     (writes_more f (take at xs) (get_or xs at d) tt y tt first second)
 
--- An item that answers a fault, at its index.
+-- An item that returns a fault, at its index.
 pub writes_next_stopped : {A Y Z W : Type 0} (f : A → List Section) (xs : List A) (at : ℕ) (d : A) {o m n n' : Outgoing}
     {dev : Ghosts W} {i j k : W} (fault : WriteFault) → at < length xs →
     Writing {X = Unit {0}} (flat_map f (take at xs)) o m dev i j (Ok tt) →
@@ -426,7 +426,7 @@ writes_next_stopped {Z = Z} f xs at d {o = o} {n' = n'} {dev = dev} {i = i} {k =
     subst (λ (ys : List _). Writing {X = Z} (flat_map f ys) o n' dev i k (Err fault)) whole
     (writes_more_stopped f (take at xs) (get_or xs at d) (drop (suc at) xs) tt fault first second)
 
--- No item is left.
+-- No item remains.
 pub writes_all : {A W : Type 0} (f : A → List Section) (xs : List A) (at : ℕ) {o n : Outgoing}
     {dev : Ghosts W} {i k : W} → length xs ≤ at →
     Writing {X = Unit {0}} (flat_map f (take at xs)) o n dev i k (Ok tt) →
@@ -434,9 +434,9 @@ pub writes_all : {A W : Type 0} (f : A → List Section) (xs : List A) (at : ℕ
 writes_all f xs at {o = o} {n = n} {dev = dev} {i = i} {k = k} h first =
     subst (λ (ys : List _). Writing {X = Unit {0}} (flat_map f ys) o n dev i k (Ok tt)) (take_all at xs h) first
 
--- ---- loops over items that stand for others
+-- ---- loops over items with a view
 
--- The sections of what the items stand for.
+-- The sections of the views of the items.
 pub writes_mapped : {A B X W : Type 0} (h : B → List Section) (v : A → B) (xs : List A) {o n : Outgoing}
     {dev : Ghosts W} {i k : W} {r : Result X WriteFault} →
     Writing (flat_map (λ x. h (v x)) xs) o n dev i k r →
@@ -444,13 +444,13 @@ pub writes_mapped : {A B X W : Type 0} (h : B → List Section) (v : A → B) (x
 writes_mapped h v xs {o = o} {n = n} {dev = dev} {i = i} {k = k} {r = r} first =
     subst (λ (s : List Section). Writing s o n dev i k r) (sym (flat_map-map h v xs)) first
 
--- Items as one piece.
+-- Items as one chunk.
 pub Same-mapped : {A B : Type 0} (h : B → List ℕ) (v : A → B) (xs : List A) → Same (flat_map (λ x. written (h (v x)) ∷ []) xs) (written (flat_map h (map v xs)) ∷ [])
 Same-mapped h v xs = subst (λ (z : List ℕ). Same (flat_map (λ x. written (h (v x)) ∷ []) xs) (written z ∷ [])) (sym (flat_map-map h v xs)) (Same-items (λ x. h (v x)) xs)
 
 -- ---- numbers
 
--- bytes as numbers of one byte
+-- bytes as one-byte numbers
 pub ones_of : (list : List ℕ) → ((i : ℕ) → get_or list i 0 < 256) → flat_map (bytes_of 1) list ≡ list
 ones_of [] small = refl
 ones_of (byte ∷ list) small =
@@ -458,11 +458,11 @@ ones_of (byte ∷ list) small =
     let low : byte % 256 ≡ byte = omega (arith, first) in
     ap (λ (n : ℕ). n ∷ flat_map (bytes_of 1) list) low ∙ ap (λ (z : List ℕ). byte ∷ z) (ones_of list (λ i. small (suc i)))
 
--- one piece written as two
+-- one chunk written as two
 pub Same-joined : (x y : List ℕ) → Same (written x ∷ written y ∷ []) (written (x ++ y) ∷ [])
 Same-joined x y = record { same = λ text more fill. ap (λ (z : List ℕ). joined z more fill) (append_assoc text x y) }
 
--- The same two where the item is read out of the slice.
+-- One more item, and a fault, with the item read out of the slice.
 pub writes_item : {A Y W : Type 0} (f : A → List Section) (xs : List A) (at : ℕ) (x : A) {o m n : Outgoing}
     {dev : Ghosts W} {i j k : W} (y : Y) → at < length xs → x ≡ get_or xs at x →
     Writing {X = Unit {0}} (flat_map f (take at xs)) o m dev i j (Ok tt) →
@@ -479,14 +479,14 @@ pub writes_item_stopped : {A Y Z W : Type 0} (f : A → List Section) (xs : List
 writes_item_stopped {Y = Y} f xs at x {m = m} {n = n} {dev = dev} {j = j} {k = k} fault h is first second =
     writes_next_stopped f xs at x fault h first (subst (λ (z : _). Writing {X = Y} (f z) m n dev j k (Err fault)) is second)
 
--- Bytes of a number in 64 bits, the first of them.
+-- The first byte of a 64-bit number.
 pub one_byte_of : (n : ℕ) → take 1 (to_le_bytes w64 n) ≡ bytes_of 1 n
 one_byte_of n = refl
 
 pub two_bytes_of : (n : ℕ) → take 2 (to_le_bytes w64 n) ≡ bytes_of 2 n
 two_bytes_of n = refl
 
--- The same sections, told otherwise.
+-- Equal sections.
 pub writes_as : {X W : Type 0} {s t : List Section} {o n : Outgoing}
     {dev : Ghosts W} {i k : W} {r : Result X WriteFault} → s ≡ t →
     Writing t o n dev i k r →
@@ -500,6 +500,6 @@ one_piece x y e = ap (λ (z : List ℕ). written z ∷ []) e
 four_apart : (text : List ℕ) (a b c d : ℕ) → (((text ++ a ∷ []) ++ b ∷ []) ++ c ∷ []) ++ d ∷ [] ≡ text ++ a ∷ b ∷ c ∷ d ∷ []
 four_apart text a b c d = simp append_assoc
 
--- four bytes written as one piece
+-- four bytes written as one chunk
 pub Same-four : (a b c d : ℕ) → Same (written (a ∷ b ∷ c ∷ d ∷ []) ∷ []) (written (a ∷ []) ∷ written (b ∷ []) ∷ written (c ∷ []) ∷ written (d ∷ []) ∷ [])
 Same-four a b c d = record { same = λ text more fill. ap (λ (z : List ℕ). joined z more fill) (sym (four_apart text a b c d)) }

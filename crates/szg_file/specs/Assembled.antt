@@ -1,4 +1,4 @@
--- What fields that are put together stand for, and what a test of them may rest on.
+-- The table of assembled fields, and what the types of its fields imply.
 use Rattle.std.specs.Prelude.{◌<◌, ◌^◌, ℕ, List, length, map, option_map}
 use Rattle.std.specs.List.{AllByRecursion}
 use Rattle.szg_code.specs.Acceptance.{IsCode}
@@ -23,7 +23,7 @@ fields_shown fields = record {
   filled = fields.fill.items;
 }
 
--- the numbers of a subtable that isn't constant fit their fields, and its code and its dictionary are accepted ones
+-- the numbers of a subtable that is not constant fit their fields, and its code and its dictionary are accepted
 pub record AreTyped (head : Head) (sparse : List SparseEntry) (lengths packed : List ℕ) : Type 0 where
   pub flags : head.flags < 256
   pub extra : head.extra < 256
@@ -37,7 +37,7 @@ pub record AreTyped (head : Head) (sparse : List SparseEntry) (lengths packed : 
   pub lengths_fit : AreNumbers 2 lengths
   pub packed_fit : AreNumbers 1 packed
 
--- what the types of a subtable say of its numbers
+-- what the types of a subtable imply for its numbers
 abbrev pub IsTyped : Subtable → Type 0
 IsTyped (constant flags byte) = (flags < 256) × (byte < 256)
 IsTyped (pairs head sparse lengths packed) = AreTyped head sparse lengths packed

@@ -1,4 +1,4 @@
--- What checking a file answers, where nothing of the table is kept.
+-- The result of checking a file.
 use Rattle.std.specs.Prelude.{◌≡◌, ℕ, List, length, Option, Result, Ok, Err, IfSome, IfOk}
 use Rattle.szg_io.specs.Moved.{Takes}
 use Rattle.szg_io.specs.declared.device.Input.{Ghosts}
@@ -11,7 +11,7 @@ use Rattle.szg_file.specs.Held.{Shown, file_bytes}
 use Rattle.szg_file.specs.WholeRead.{FollowsVerdict, TookBytes}
 use Rattle.szg_file.specs.declared.fault.ReadFault.{ReadFault}
 
--- of what reading a table answers, the file's length alone
+-- the result of reading a table, reduced to the file's length
 abbrev pub length_of : Result Shown ReadFault → Result ℕ ReadFault
 length_of (Ok t) = Ok (length (file_bytes t))
 length_of (Err fault) = Err fault
@@ -22,8 +22,9 @@ pub record IsTable (material : Sides) (kind : Kind) (t : Shown) : Type 0 where
   pub kind_is : t.contents.kind ≡ kind
   pub accepted : IsAccepted t.contents t.filled
 
--- The answer is the length of what reading the table would answer: that follows the verdict on the bytes to come, where the
--- reader tells them, and is the verdict on the bytes that were taken.
+-- The result is the length of the file in `answer`, the result that reading the table would have. If the reader
+-- specifies its remaining bytes, `answer` is the verdict on them; in any case it is the verdict on the bytes that
+-- were read.
 pub record IsChecked {R : Type 0} (device : Ghosts R) (material : Sides) (kind : Kind) (old new : R) (result : Result ℕ ReadFault) : Type 0 where
   pub answer : Result Shown ReadFault
   pub told : result ≡ length_of answer

@@ -1,4 +1,4 @@
--- Where a value's block is, and what a fault names.
+-- The location of a value's block, and the block that a fault names.
 use Rattle.std.specs.Prelude.{ℕ, ◌≡◌, ◌+◌, ◌*◌, ◌^◌, ◌<◌, ◌≤◌, List, IfNone, IsSomeAnd}
 use Rattle.szg_block.specs.Block.{block_at}
 use Rattle.szg_block.specs.BlocksTrait.{bytes_at}
@@ -12,7 +12,7 @@ use Rattle.szg_file.specs.declared.fetching.FetchFault.{FetchFault}
 use Rattle.szg_file.specs.declared.fetching.FetchFault.TheVariants.{Block, Source}
 use Rattle.szg_file.specs.declared.fetching.Spot.{Spot}
 
--- the spot of value i by a layout, where the first block is at an offset
+-- the location of value `i` by a layout whose first block is at offset `first`
 pub record IsSpotAt (layout : Layout) (first i : ℕ) (spot : Spot) : Type 0 where
   pub block : spot.value.block ≡ (block_location layout i).list
   pub item : spot.value.item ≡ (block_location layout i).item
@@ -24,12 +24,12 @@ pub record IsSpotAt (layout : Layout) (first i : ℕ) (spot : Spot) : Type 0 whe
 abbrev pub IsSpot : PlacedSub → ℕ → Spot → Type 0
 IsSpot placed i spot = IsSomeAnd (layout_of placed.sub) (λ layout. IsSpotAt layout placed.first i spot)
 
--- block n of a subtable is at this offset of the bytes
+-- the bytes of block `n` of a subtable are at `offset`
 abbrev pub BlockIsAt : List ℕ → Slot × Subtable → ℕ → ℕ → Type 0
 BlockIsAt content (slot, constant flags byte) n offset = ⊥
 BlockIsAt content (slot, pairs head sparse lengths packed) n offset = block_at head.block_bits packed n ≡ bytes_at content offset (2 ^ head.block_bits)
 
--- the fault names the value's block, which doesn't decode, and where it is
+-- the fault names the value's block, which does not decode, and its offset
 abbrev pub NamesBadBlock : List ℕ → Slot × Subtable → ℕ → FetchFault → Type 0
 NamesBadBlock content found i (Block number offset) = IsBadBlock found i number × BlockIsAt content found number offset
 NamesBadBlock content found i Source = ⊥

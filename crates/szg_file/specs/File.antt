@@ -1,4 +1,4 @@
--- The format of a table file, field after field in the file's order, each with the checks that follow it.
+-- The format of a table file: its fields in file order, each with the checks that follow it.
 use Rattle.std.specs.Prelude.{bytes_eq, ℕ, zero, suc, ◌+◌, ◌-◌, ◌*◌, ◌%◌, ◌^◌, ◌&&◌, not, Bool, true, false, List, [], ◌∷◌, ◌++◌, length, map, take, drop, nat_lt, nat_le, if◌then◌else◌, Option, Some, None}
 use Rattle.szg_values.specs.declared.Kind.{Kind}
 use Rattle.szg_values.specs.declared.Kind.TheVariants.{Wdl, Dtz}
@@ -17,31 +17,31 @@ use Rattle.szg_block.specs.Sound.{entry_count}
 use Rattle.szg_block.specs.FirstFault.{has_total, first_bad_entry, spells_needed}
 use Rattle.szg_file.specs.Contents.{Part, Subtable, constant, pairs, layout_of, Map, narrow, wide, Contents, number_of, items, has_bit, gap, part_numbers, side_numbers, order_bytes, order_of, Slot, slots}
 
--- ---- pieces of formats
+-- ---- parts of formats
 
--- a number of so many bytes
+-- a number of `size` bytes
 abbrev pub number_field : ℕ → Format ℕ
 number_field size = field size (λ bytes. means (number_of bytes))
 
--- so many items of so many bytes each, as one field
+-- `count` items of `size` bytes each, as one field
 abbrev pub rows_field : ℕ → ℕ → Format (List (List ℕ))
 rows_field size count = field (size * count) (λ bytes. means (items size count bytes))
 
--- a test that has to hold, else the file is refused here
+-- a condition: if it is false, the file is refused at offset `place`
 abbrev pub demand : Bool → ℕ → Reason → Format (Unit {0})
 demand true place reason = means tt
 demand false place reason = refuses place reason
 
--- a check of items: where one fails, the file is refused at its place
+-- a check of items: if an item fails, the file is refused at the item's offset
 abbrev pub none_fails : Option ℕ → (ℕ → ℕ) → Reason → Format (Unit {0})
 none_fails None place reason = means tt
 none_fails (Some item) place reason = refuses (place item) reason
 
--- fill up to a multiple of the unit
+-- the padding up to a multiple of `unit`
 abbrev pub filled_to : ℕ → Format (Unit {0})
 filled_to unit = placed (λ place. fill (gap unit place) (means tt))
 
--- the formats of the items, one after another
+-- the formats of the items, in order
 abbrev pub each : {A B : Type 0} → (A → Format B) → List A → Format (List B)
 each format [] = means []
 each format (x ∷ xs) = do
@@ -49,7 +49,7 @@ each format (x ∷ xs) = do
   ys ← each format xs
   means (y ∷ ys)
 
--- ---- the front: magic, byte 4, the parts
+-- ---- magic, byte 4, parts
 
 abbrev pub magic_of : Kind → List ℕ
 magic_of Wdl = 0x71 ∷ 0xE8 ∷ 0x23 ∷ 0x5D ∷ []
@@ -62,12 +62,12 @@ abbrev pub agrees : Bool → Bool → Bool
 agrees true b = b
 agrees false b = not b
 
--- bit 0 of a WDL file says whether there are two sides; a DTZ file's is carried
+-- bit 0 of a WDL file is set exactly if there are two sides; in a DTZ file it may be either
 abbrev pub split_agrees : Sides → Kind → ℕ → Bool
 split_agrees material Wdl byte = agrees (has_bit 0 byte) (not (is_symmetric material))
 split_agrees material Dtz byte = true
 
--- bit 1 says whether there are pawns; bits 2 to 7 are carried
+-- bit 1 is set exactly if there are pawns; bits 2 to 7 may be anything
 abbrev pub byte4_field : Sides → Kind → Format ℕ
 byte4_field material kind = do
   byte ← number_field 1
@@ -75,7 +75,8 @@ byte4_field material kind = do
   demand (agrees (has_bit 1 byte) (has_pawns material)) 4 reason.PawnBit
   means byte
 
--- one side of a part: the men are the name's, the pawns come first, the groups' places are places
+-- the check of a side of a part: the men are a permutation of the name's men, pawns come first, and the positions
+-- of the groups are valid
 abbrev pub order_check : ℕ → ℕ → Option OrderFault → Format (Unit {0})
 order_check place orders None = means tt
 order_check place orders (Some Pieces) = refuses (place + orders) reason.Pieces
@@ -97,16 +98,16 @@ part_field material kind = placed (λ place. do
   part_checks material kind place (part_of_bytes material bytes)
   means (part_of_bytes material bytes))
 
--- ---- heads
+-- ---- headers
 
--- a byte that passes a test
+-- a byte that satisfies `test`
 abbrev pub byte_where : (ℕ → Bool) → Reason → Format ℕ
 byte_where test reason = placed (λ place. do
   byte ← number_field 1
   demand (test byte) place reason
   means byte)
 
--- the greatest and the least length of a word
+-- the greatest and the least code length
 abbrev pub lengths_of_words : Format (ℕ × ℕ)
 lengths_of_words = placed (λ place. do
   max ← number_field 1
@@ -114,11 +115,11 @@ lengths_of_words = placed (λ place. do
   demand (nat_lt 0 min && nat_le min max && nat_le max 32) place reason.CodeLengths
   means (min, max))
 
--- the code that lengths and lowest symbols make; how many symbols there are is read behind them
+-- the code of these lengths and lowest symbols; its number of symbols is read after them
 abbrev pub code_with : ℕ → ℕ → List ℕ → ℕ → CanonicalCode
 code_with min max lowest symbols = record { min_length = min; max_length = max; lowest = lowest; symbols = symbols }
 
--- no item is above the one before it; no length has more words than there is room for
+-- no lowest symbol is above the previous one, and the words of each length fit
 abbrev pub lowest_check : ℕ → CanonicalCode → Format (Unit {0})
 lowest_check place code = do
   none_fails (first_rise code) (λ item. place + 2 * item) reason.LowestOrder
@@ -131,14 +132,14 @@ lowest_list min max = placed (λ place. do
   lowest_check place (code_with min max (map number_of list) 0)
   means (map number_of list))
 
--- each pair names symbols that are there; each symbol has a finite expansion, of at most 256 values
+-- the children of each pair exist, and each symbol has a finite expansion of at most 256 values
 abbrev pub entries_check : ℕ → List (List ℕ) → Format (Unit {0})
 entries_check place entries = do
   none_fails (first_child entries) (λ symbol. place + 3 * symbol) reason.Child
   none_fails (first_cycle entries) (λ symbol. place + 3 * symbol) reason.Cycle
   none_fails (first_long entries) (λ symbol. place + 3 * symbol) reason.LongSymbol
 
--- the dictionary's entries, three bytes each, and a fill byte where their number is odd
+-- the entries of the dictionary, three bytes each, and a padding byte if their number is odd
 abbrev pub dictionary : Format (List (List ℕ))
 dictionary = do
   count ← number_field 2
@@ -167,7 +168,7 @@ packed_head flags = do
     entries = entries;
   }) [] [] [])
 
--- bit 7 of the flags: the subtable is constant, with one more byte
+-- with bit 7 of the flags the subtable is constant, and has one more byte
 abbrev pub head_field : Slot → Format Subtable
 head_field slot = do
   flags ← number_field 1
@@ -181,7 +182,7 @@ list_field size = do
   list ← rows_field size count
   means (map number_of list)
 
--- four lists; with bit 4 of the flags their lengths and items have two bytes and begin at an even place
+-- four lists; with bit 4 of the flags their lengths and items have two bytes each and begin at an even offset
 abbrev pub map_lists : ℕ → Format Map
 map_lists flags =
     if has_bit 4 flags
@@ -192,12 +193,12 @@ abbrev pub flags_of : Subtable → ℕ
 flags_of (constant flags byte) = flags
 flags_of (pairs head sparse lengths packed) = head.flags
 
--- a part with bit 1 of the flags has a map
+-- a part has a map if bit 1 of its flags is set
 abbrev pub map_field : Subtable → Format (Option Map)
 map_field subtable =
     if has_bit 1 (flags_of subtable) then (map_lists (flags_of subtable) >>= λ lists. means (Some lists)) else means None
 
--- in DTZ files alone; behind the maps there is fill up to an even place
+-- only DTZ files have maps; padding up to an even offset follows them
 abbrev pub maps_field : Kind → List Subtable → Format (List (Option Map))
 maps_field Wdl subtables = means []
 maps_field Dtz subtables = do
@@ -205,9 +206,9 @@ maps_field Dtz subtables = do
   filled_to 2
   means found
 
--- ---- sparse indexes, lengths, blocks
+-- ---- sparse indexes, block lengths, blocks
 
--- a subtable so far, its slot, and where its sparse index stands
+-- a subtable that is read in part, its slot, and the offset of its sparse index
 pub record Begun : Type 0 where
   pub slot : Slot
   pub subtable : Subtable
@@ -220,7 +221,7 @@ begun _ _ = []
 abbrev pub entry_of_bytes : List ℕ → SparseEntry
 entry_of_bytes bytes = record { block = number_of (take 4 bytes); offset = number_of (drop 4 bytes) }
 
--- an entry for each span: four bytes of block, two of offset
+-- one entry per span: four bytes of block number, two of offset
 abbrev pub sparse_index_of : Slot → Subtable → Format Begun
 sparse_index_of slot (constant flags byte) = means (record { slot = slot; subtable = constant flags byte; index = 0 })
 sparse_index_of slot (pairs head sparse lengths packed) = placed (λ place. do
@@ -230,13 +231,14 @@ sparse_index_of slot (pairs head sparse lengths packed) = placed (λ place. do
 abbrev pub sparse_field : Begun → Format Begun
 sparse_field begun = sparse_index_of begun.slot begun.subtable
 
--- the lengths tell of as many values as there are positions; each entry leads to the middle of its span
+-- the block lengths sum to at least the number of positions; each entry of the sparse index locates the middle of
+-- its span
 abbrev pub index_check : ℕ → ℕ → Layout → ℕ → Format (Unit {0})
 index_check place index layout size = do
   demand (has_total layout size) place reason.ShortTotal
   none_fails (first_bad_entry layout) (λ item. index + 6 * item) reason.SparseEntry
 
--- for each block, and then extra ones, its number of values less one
+-- for each block, and then for each extra length: its number of values less one
 abbrev pub lengths_of : Slot → ℕ → Subtable → Format Begun
 lengths_of slot index (constant flags byte) = means (record { slot = slot; subtable = constant flags byte; index = index })
 lengths_of slot index (pairs head sparse lengths packed) = placed (λ place. do
@@ -247,14 +249,14 @@ lengths_of slot index (pairs head sparse lengths packed) = placed (λ place. do
 abbrev pub lengths_field : Begun → Format Begun
 lengths_field begun = lengths_of begun.slot begun.index begun.subtable
 
--- a block's own bits spell the values that are needed of it
+-- the block's own bits spell the values that it needs
 abbrev pub block_field : Layout → ℕ → ℕ → Format (List ℕ)
 block_field layout size n = placed (λ place. do
   bytes ← field (2 ^ layout.block_bits) means
   demand (spells_needed layout size n bytes) place reason.Word
   means bytes)
 
--- so many blocks from the n-th on
+-- `count` blocks from block `n` on
 abbrev pub blocks_from : Layout → ℕ → ℕ → ℕ → Format (List ℕ)
 blocks_from layout size n zero = means []
 blocks_from layout size n (suc count) = do

@@ -1,4 +1,4 @@
--- The format of a table file, in three pieces that are read one after another.
+-- The format of a table file in three stages.
 use Rattle.std.specs.Prelude.{ℕ, List, map, option_map, Option}
 use Rattle.szg_values.specs.declared.Kind.{Kind}
 use Rattle.szg_values.specs.Material.{Sides}
@@ -10,14 +10,14 @@ use Rattle.szg_file.specs.File.{Begun, each, part_field, filled_to, head_field, 
 use Rattle.szg_file.specs.Held.{part_of, subtable_of, map_of}
 use Rattle.szg_file.specs.Reading.{start_field}
 
--- what stands before the sparse indexes: byte 4, the parts, the subtables with their heads alone, the maps
+-- the contents before the sparse indexes: byte 4, the parts, the subtables with their headers alone, and the maps
 pub record Opened : Type 0 where
   pub byte4 : ℕ
   pub parts : List held.Part
   pub heads : List held.Subtable
   pub maps : List (Option held.Map)
 
--- magic and byte 4, the parts, fill, the heads, the maps
+-- magic and byte 4, the parts, padding, the headers, the maps
 abbrev pub opening_field : Sides → Kind → Format Opened
 opening_field material kind = do
   byte ← start_field material kind
@@ -27,18 +27,18 @@ opening_field material kind = do
   found ← maps_field kind heads
   means (record { byte4 = byte; parts = parts; heads = heads; maps = found })
 
--- the sparse indexes, the lengths, the blocks
+-- the sparse indexes, the block lengths, the blocks
 abbrev pub packed_field : List Begun → Format (List held.Subtable)
 packed_field list = do
   indexed ← each sparse_field list
   measured ← each lengths_field indexed
   each blocks_field measured
 
--- fill, and the last sixteen bytes
+-- padding and the last sixteen bytes
 abbrev pub ending_field : Format (List ℕ)
 ending_field = filled_to 64 >> field 16 means
 
--- what an opening that was read stands for
+-- the contents of an opening that was read
 abbrev pub opened : Opening → Opened
 opened o = record {
   byte4 = o.byte4;
@@ -47,7 +47,7 @@ opened o = record {
   maps = map (option_map map_of) o.maps.items;
 }
 
--- what a file that was read holds
+-- the contents of a file that was read
 abbrev pub contents_of : Sides → Kind → Pieces → held.Contents
 contents_of material kind p = record {
   material = material;

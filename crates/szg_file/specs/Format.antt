@@ -1,36 +1,36 @@
--- What a format is, and the verdict of a format on bytes. Nothing here knows a table file.
+-- Formats, and the verdict of a format on bytes. Nothing here is specific to table files.
 use Rattle.std.specs.Prelude.{ℕ, ◌+◌, List, [], ◌++◌, length, take, drop, nat_lt, true, false}
 use Rattle.szg_file.specs.declared.fault.Reason.{Reason}
 
--- What stands from a place of a file on, read from left to right.
+-- The format of the bytes of a file from some offset on, read from left to right.
 pub data Format (A : Type 0) : Type 0 where
-  -- nothing more: what was read means this
+  -- the end: the bytes so far have this meaning
   means : A → Format A
-  -- a check that fails: the place that is told, and the reason
+  -- a failing check: the offset and the reason of the refusal
   refuses : ℕ → Reason → Format A
-  -- a field of so many bytes; they say what comes next
+  -- a field of a given number of bytes, which determine what follows
   field : ℕ → (List ℕ → Format A) → Format A
-  -- fill: so many bytes, and nobody reads them
+  -- a given number of padding bytes, whose values have no effect
   fill : ℕ → Format A → Format A
-  -- what comes next depends on how many bytes stand before it
+  -- what follows depends on the current offset
   placed : (ℕ → Format A) → Format A
 
--- What the bytes from a place on are.
+-- The verdict on the bytes from some offset on.
 pub data Verdict (A : Type 0) : Type 0 where
-  -- a whole text: what it means, its fill bytes in their order, and the bytes that follow it
+  -- a whole text: its meaning, its padding bytes in order, and the bytes after it
   good : A → List ℕ → List ℕ → Verdict A
-  -- the first check that fails: its place, its reason, and the bytes after the field that it checks
+  -- the first failing check: its offset, its reason, and the bytes after the field that it checks
   refused : ℕ → Reason → List ℕ → Verdict A
-  -- the bytes end inside a field: how many bytes the file has
+  -- the bytes end within a field: the number of bytes of the file
   truncated : ℕ → Verdict A
 
--- the fill bytes of a text that begins with these
+-- prepends padding bytes to those of a verdict
 abbrev pub after_fill : {A : Type 0} → List ℕ → Verdict A → Verdict A
 after_fill skipped (good a filled rest) = good a (skipped ++ filled) rest
 after_fill skipped (refused place reason rest) = refused place reason rest
 after_fill skipped (truncated count) = truncated count
 
--- The verdict on the bytes that stand behind `place` bytes: field after field, each read whole.
+-- The verdict on the bytes from offset `place` on, field by field.
 abbrev pub verdict : {A : Type 0} → Format A → ℕ → List ℕ → Verdict A
 verdict (means a) place bytes = good a [] bytes
 verdict (refuses at reason) place bytes = refused at reason bytes
@@ -46,7 +46,7 @@ verdict (fill size next) place bytes =
     ]
 verdict (placed next) place bytes = verdict (next place) place bytes
 
--- one format after another
+-- one format followed by another
 infixl 10 ◌>>=◌
 abbrev pub ◌>>=◌ : {A B : Type 0} → Format A → (A → Format B) → Format B
 (means a) >>= g = g a
@@ -55,7 +55,7 @@ abbrev pub ◌>>=◌ : {A B : Type 0} → Format A → (A → Format B) → Form
 (fill size next) >>= g = fill size (next >>= g)
 (placed next) >>= g = placed (λ place. next place >>= g)
 
--- a check, and then the rest
+-- a check followed by the rest
 infixl 10 ◌>>◌
 abbrev pub ◌>>◌ : {A B : Type 0} → Format A → Format B → Format B
 f >> g = f >>= λ _. g

@@ -1,7 +1,7 @@
--- What a reader over a source shows.
+-- The public view of a reader over a source, and its invariant.
 use Rattle.std.specs.Prelude.{ℕ, ◌≡◌, ◌+◌, ◌-◌, ◌<◌, ◌≤◌, List, length, take, drop}
 
--- the source's bytes, how many of them were taken, the source's counts, and how often the reader was called
+-- the source's bytes, the number of them that were read, the source's counts, and the number of calls of the reader
 pub record Forward : Type 0 where
   pub content : List ℕ
   pub place : ℕ
@@ -9,7 +9,7 @@ pub record Forward : Type 0 where
   pub requested : ℕ
   pub calls : ℕ
 
--- the bytes from its place on that it has read stand in its piece, from one index up to another
+-- the bytes from `place` on that were read ahead are the chunk's bytes from index `from` up to `to`
 pub record IsForward (content : List ℕ) (place end : ℕ) (piece : List ℕ) (from to : ℕ) : Type 0 where
   pub whole : end ≡ length content
   pub room : 0 < length piece

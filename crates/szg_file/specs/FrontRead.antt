@@ -1,4 +1,4 @@
--- What a front that was read stands for.
+-- The contents of a front that was read.
 use Rattle.std.specs.Prelude.{map, option_map}
 use Rattle.szg_file.specs.Held.{part_of, map_of}
 use Rattle.szg_file.specs.Unread as told

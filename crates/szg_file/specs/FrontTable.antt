@@ -1,4 +1,4 @@
--- What is kept of a table whose front was read.
+-- The view of a table that was opened by its front, and its invariant.
 use Rattle.std.specs.Prelude.{ℕ, ◌≡◌, ◌<◌, ◌^◌, List, length, map, Some}
 use Rattle.std.specs.List.{AllByRecursion}
 use Rattle.szg_file.specs.Accepted.{IsPart, AreMaps, SideBySide}
@@ -15,7 +15,7 @@ pub record FrontKept : Type 0 where
   pub room : ℕ
   pub subs : List PlacedSub
 
--- they are of the table that these bytes begin with, blocks unchecked
+-- the index, length and subtables of the table that `content` begins with; its blocks are not checked
 pub record IsFrontOf (kept : FrontKept) (content : List ℕ) : Type 0 where
   pub table : Contents
   pub there : front_in kept.index.material kept.index.kind content ≡ Some table

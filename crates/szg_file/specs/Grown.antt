@@ -1,4 +1,4 @@
--- What the readers say of the lists that they give: `grow` counted them.
+-- The lengths of the lists that readers return are counted, by `grow`.
 use Rattle.std.specs.Prelude.{ℕ, ◌+◌, ◌*◌, ◌≤◌, List, length, option_map, Option}
 use Rattle.std.specs.List.{sum_by}
 use Rattle.szg_block.specs.declared.Sub.{Sub}
@@ -12,11 +12,12 @@ use Rattle.szg_file.specs.Held.{part_of, subtable_of, map_of}
 use Rattle.szg_file.specs.Lengths.{part_length}
 use Rattle.szg_file.specs.WholeRead.{sub_lengths, map_lengths}
 
--- The lists handed in have `before` items, those given `after`: with the fill they have grown by no more than was counted.
+-- The lists passed in have `before` items, those returned have `after`: together with the padding bytes they have
+-- grown by at most the number counted.
 abbrev pub HasCounted : Front → Front → ℕ → ℕ → Type 0
 HasCounted old new before after = old.growth + after + length new.fill.items ≤ new.growth + before + length old.fill.items
 
--- ---- the lengths of the lists within an item of these lists
+-- ---- the total length of the lists in the items of a list
 
 abbrev pub parts_lengths : List PartBytes → ℕ
 parts_lengths parts = sum_by (λ part. part_length (part_of part)) parts
@@ -30,14 +31,14 @@ subs_lengths subs = sum_by (λ sub. sub_lengths (subtable_of sub)) subs
 abbrev pub maps_lengths : List (Option Map) → ℕ
 maps_lengths maps = sum_by (λ found. map_lengths (option_map map_of found)) maps
 
--- ---- the lengths of all lists
+-- ---- the total length of all lists
 
 abbrev pub opening_lengths : Opening → ℕ
 opening_lengths o =
     length o.parts.bytes.items + parts_lengths o.parts.bytes.items + length o.heads.items + begun_lengths o.heads.items
     + length o.maps.items + maps_lengths o.maps.items
 
--- beside the subtables stand their slots
+-- each subtable has a slot as well
 abbrev pub pieces_lengths : Pieces → ℕ
 pieces_lengths p =
     length p.parts.bytes.items + parts_lengths p.parts.bytes.items + 2 * length p.subs.items + subs_lengths p.subs.items

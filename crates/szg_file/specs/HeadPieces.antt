@@ -1,4 +1,4 @@
--- What the readers of heads say: the numbers of a head that no check stands between, and what a check of a list answers.
+-- The sizes of a header that are read at once, and the refusals by the checks of a list.
 use Rattle.std.specs.Prelude.{◌≡◌, ℕ, ◌+◌, ◌*◌, List}
 use Rattle.szg_code.specs.declared.CodeFault.{CodeFault}
 use Rattle.szg_code.specs.declared.CodeFault.TheVariants.{Lengths, LowestOrder, TooFull}
@@ -11,7 +11,7 @@ use Rattle.szg_file.specs.declared.heads.HeadSizes.{HeadSizes}
 use Rattle.szg_file.specs.Format.{Format, means, refuses, placed, ◌>>=◌, ◌>>◌}
 use Rattle.szg_file.specs.File.{number_field, rows_field, lengths_of_words, entries_check}
 
--- the numbers of extra lengths and of blocks, and the lengths of words: the bytes behind the span bits
+-- the number of extra lengths, the number of blocks, and the code lengths: the bytes after the span bits
 abbrev pub sizes_field : Format HeadSizes
 sizes_field = do
   extra ← number_field 1
@@ -19,26 +19,26 @@ sizes_field = do
   words ← lengths_of_words
   means (record { extra = extra; blocks = blocks; min = words.0; max = words.1 })
 
--- so many entries of a dictionary, with their checks
+-- `count` entries of a dictionary, with their checks
 abbrev pub entries_field : ℕ → Format (List (List ℕ))
 entries_field count = placed (λ place. do
   entries ← rows_field 3 count
   entries_check place entries
   means entries)
 
--- the fault is the refusal of a check that fails
+-- the fault is the refusal by a failing check
 abbrev pub Refuses : Format (Unit {0}) → ReadFault → Type 0
 Refuses check (Refused place reason) = check ≡ refuses place reason
 Refuses check Device = ⊥
 Refuses check Memory = ⊥
 
--- what the check of a list of lowest symbols is, where their code has this fault
+-- the check of a list of lowest symbols whose code has this fault
 abbrev pub lowest_refusal : ℕ → CodeFault → Format (Unit {0})
 lowest_refusal place Lengths = means tt
 lowest_refusal place (LowestOrder item) = refuses (place + 2 * item) reason.LowestOrder
 lowest_refusal place (TooFull item) = refuses (place + 2 * item) reason.TooFull
 
--- what the check of a list of entries is, where their dictionary has this fault
+-- the check of a list of entries whose dictionary has this fault
 abbrev pub entries_refusal : ℕ → DictFault → Format (Unit {0})
 entries_refusal place (dict.Child symbol) = refuses (place + 3 * symbol) reason.Child
 entries_refusal place (dict.Cycle symbol) = refuses (place + 3 * symbol) reason.Cycle

@@ -1,4 +1,4 @@
--- What the crate's types stand for.
+-- The views of the crate's types.
 use Rattle.std.specs.Prelude.{◌≡◌, ℕ, ◌≤◌, List, length, map, IfSome}
 use Rattle.szg_block.specs.declared.Sub.{Sub}
 use Rattle.szg_block.specs.declared.Sub.TheVariants as sub_variants
@@ -14,7 +14,7 @@ use Rattle.szg_file.specs.File as fields
 use Rattle.szg_file.specs.FileOf.{file_of}
 use Rattle.szg_file.specs.Format.{Format, means, fill, ◌>>=◌}
 
--- a table: what its file holds but the fill, and the fill bytes in file order
+-- a table: its contents without padding bytes, and its padding bytes in file order
 pub record Shown : Type 0 where
   pub contents : held.Contents
   pub filled : List ℕ
@@ -25,7 +25,7 @@ part_of part = record { order = part.order.items; men = part.men.items }
 abbrev pub sparse_of : Entry → SparseEntry
 sparse_of entry = record { block = entry.block; offset = entry.offset }
 
--- what a subtable in memory stands for
+-- the subtable that is in memory
 abbrev pub subtable_of : Sub → held.Subtable
 subtable_of (sub_variants.Constant flags byte) = held.constant flags byte
 subtable_of (sub_variants.Pairs flags block_bits span_bits extra blocks code dict sparse lengths packed) =
@@ -42,25 +42,25 @@ file_bytes t = file_of t.contents t.filled
 
 -- ---- subtables while they are read
 
--- the head's numbers are in their ranges, and its code and its dictionary have the same symbols
+-- the numbers of the header are in their ranges, and its code and its dictionary have the same number of symbols
 abbrev pub IsHeaded : Sub → Type 0
 IsHeaded sub = HasFlagOf (flags_of sub) (layout_of sub) × IfSome (layout_of sub) (λ layout.
     (layout.block_bits ≤ 18) × (1 ≤ layout.span_bits) × (layout.span_bits ≤ 31) × (layout.code.symbols ≡ length layout.entries))
 
--- and its sparse index has an entry for each span begun
+-- likewise, and its sparse index has one entry per span, of which the last may be partial
 abbrev pub IsIndexed : Sub → ℕ → Type 0
 IsIndexed sub size = IsHeaded sub × IfSome (layout_of sub) (λ layout. length layout.sparse ≡ entry_count layout.span_bits size)
 
 -- ---- lists of numbers, as one field
 
--- so many numbers of two bytes each
+-- `count` two-byte numbers
 abbrev pub numbers_field : ℕ → Format (List ℕ)
 numbers_field count = fields.rows_field 2 count >>= λ rows. means (map held.number_of rows)
 
--- so many entries of a sparse index
+-- `count` entries of a sparse index
 abbrev pub sparse_rows : ℕ → Format (List SparseEntry)
 sparse_rows count = fields.rows_field 6 count >>= λ rows. means (map fields.entry_of_bytes rows)
 
--- so many fill bytes
+-- `count` padding bytes
 abbrev pub spare_field : ℕ → Format (Unit {0})
 spare_field count = fill count (means tt)

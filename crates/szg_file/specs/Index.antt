@@ -1,4 +1,4 @@
--- The index of a table: all that a lookup needs but the blocks, and where they stand.
+-- The index of a table: which subtables it has, with their flags and maps.
 use Rattle.std.specs.Prelude.{ℕ, ◌≡◌, ◌&&◌, nat_eq, ℤ, List, length, map, position, slice_get, Option, Some, option_and_then}
 use Rattle.szg_values.specs.declared.Kind.{Kind}
 use Rattle.szg_values.specs.declared.Kind.TheVariants.{Dtz}
@@ -23,7 +23,7 @@ index_with material kind parts flags maps = record { material = material; kind =
 abbrev pub index_of : Contents → Index
 index_of t = index_with t.material t.kind t.parts (map flags_of t.subtables) t.maps
 
--- the table of an index, with byte 4, subtables and last bytes
+-- the contents with an index and the given byte 4, subtables and last bytes
 abbrev pub contents_with : Index → ℕ → List Subtable → List ℕ → Contents
 contents_with x byte4 subtables last = record {
   material = x.material;
@@ -35,11 +35,11 @@ contents_with x byte4 subtables last = record {
   last = last;
 }
 
--- the slots of its subtables, in file order
+-- the slots of the subtables, in file order
 abbrev pub slots_in : Index → List Slot
 slots_in x = slots x.material x.kind x.parts
 
--- which subtable is that of a part and side, counted from 0
+-- the number of the subtable of a part and side, from 0
 abbrev pub slot_number : Index → ℕ → ℕ → Option ℕ
 slot_number x part side = position (λ slot. nat_eq slot.part part && nat_eq slot.side side) (slots_in x)
 
@@ -51,18 +51,18 @@ slot_in x part side = option_and_then (λ n. slice_get (slots_in x) n) (slot_num
 abbrev pub flags_in : Index → ℕ → ℕ → Option ℕ
 flags_in x part side = option_and_then (λ n. item x.flags n) (slot_number x part side)
 
--- the number of value v of a part in a class, where it has one
+-- the distance in plies of value `v` of a part in a class, if it has one
 abbrev pub number_in : Index → ℕ → ℤ → ℕ → Option ℕ
 number_in x part class v =
     option_and_then (λ list. option_and_then (λ flags. option_and_then (λ lists. number_at flags lists list v) (item x.maps part)) (flags_in x part 0)) (list_number class)
 
--- each part is accepted, each subtable has flags, and in DTZ each has an item among the maps
+-- each part is accepted, each subtable has flags, and in DTZ each subtable has an item among the maps
 pub record IsIndex (x : Index) : Type 0 where
   pub parts_stand : SideBySide (λ _. IsPart x.material x.kind) (part_numbers x.material) x.parts
   pub flags_many : length x.flags ≡ length (slots_in x)
   pub maps_many : x.kind ≡ Dtz → length x.maps ≡ length x.flags
 
--- the subtable of a part and side has this number and this slot
+-- the subtable of a part and side has number `n` and this slot
 pub record IsNumbered (x : Index) (part side n : ℕ) (slot : Slot) : Type 0 where
   pub number_is : slot_number x part side ≡ Some n
   pub slot_is : slice_get (slots_in x) n ≡ Some slot

@@ -1,4 +1,4 @@
--- How many bytes a table's parts, subtables and maps have in its file, without the fill between them.
+-- The number of bytes of a table's parts, subtables and maps in its file, without padding bytes.
 use Rattle.std.specs.Prelude.{◌≡◌, ℕ, ◌+◌, ◌*◌, ◌^◌, ◌≤◌, List, length, Option, Some, None}
 use Rattle.std.specs.List.{sum_by}
 use Rattle.szg_file.specs.Contents.{Part, Subtable, constant, pairs, Map, narrow, wide, Contents}
@@ -7,7 +7,7 @@ use Rattle.szg_file.specs.FileOf.{file_of}
 abbrev pub part_length : Part → ℕ
 part_length part = length part.order + length part.men
 
--- the head with its code and dictionary, the sparse index, the lengths, the blocks
+-- the header with its code and dictionary, the sparse index, the block lengths, the blocks
 abbrev pub subtable_length : Subtable → ℕ
 subtable_length (constant flags byte) = 2
 subtable_length (pairs head sparse lengths packed) =
@@ -18,7 +18,7 @@ map_length None = 0
 map_length (Some (narrow lists)) = sum_by (λ list. 1 + length list) lists
 map_length (Some (wide lists)) = sum_by (λ list. 2 + 2 * length list) lists
 
--- How long a table's file is: magic, byte 4 and the last bytes have 21.
+-- The length of a table's file: the magic, byte 4 and the last bytes have 21 bytes.
 pub record FileLength (t : Contents) (fill : List ℕ) : Type 0 where
   pub is : length (file_of t fill) ≡ 21 + sum_by part_length t.parts + sum_by subtable_length t.subtables + sum_by map_length t.maps + length fill
   pub parts : sum_by part_length t.parts ≤ 32

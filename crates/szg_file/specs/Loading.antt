@@ -1,4 +1,5 @@
--- Calls that are handed to a loop of readers: those that take something more into a subtable, and those that read a list.
+-- What loops require of the calls that are passed to them: calls that extend a subtable, and calls that read a
+-- list.
 use Rattle.std.specs.Prelude.{ℕ, ◌+◌, ◌*◌, ◌^◌, ◌<◌, ◌≤◌, Result, OnOk, IfOk}
 use denote.Ref.{MutBor}
 use denote.Param.Members.{Shared}
@@ -9,21 +10,21 @@ use Rattle.szg_file.specs.Format.{Format}
 use Rattle.szg_file.specs.Grown.{HasCounted}
 use Rattle.szg_file.specs.Reading.{Reading}
 
--- A call may be made where the front hasn't gone far and what has grown is paid for.
+-- A call is allowed if few enough bytes were read, and the growth so far is within its bound.
 abbrev pub MayTake : {M F T U R : Type 0} → Shared F (M × (T × (MutBor R × (MutBor Front × Unit {0})))) (Result U ReadFault × (MutBor R × (MutBor Front × Unit {0}))) → F → Type 0
 MayTake {M = M} {T = T} {R = R} calls take =
     (alloc : M) (item : T) (input : MutBor R) (front : MutBor Front) →
     front.now.place < 2 ^ 60 + 2 ^ 40 → front.now.growth ≤ 2 * front.now.place + 2 ^ 15 →
     calls.pre take (alloc, (item, (input, (front, tt))))
 
--- Each call that takes a whole field takes few enough bytes, and lists grow by at most twice as many items.
+-- Each successful call reads few enough bytes, and lists grow by at most twice their number.
 abbrev pub TakesFew : {M F T U R : Type 0} → Shared F (M × (T × (MutBor R × (MutBor Front × Unit {0})))) (Result U ReadFault × (MutBor R × (MutBor Front × Unit {0}))) → F → Type 0
 TakesFew {M = M} {T = T} {U = U} {R = R} calls take =
     (alloc : M) (item : T) (input left : MutBor R) (front rest : MutBor Front) (result : Result U ReadFault) →
     calls.post take (alloc, (item, (input, (front, tt)))) (result, (left, (rest, tt))) →
     OnOk result ((rest.now.place ≤ front.now.place + 2 ^ 36) × (rest.now.growth + 2 * front.now.place ≤ front.now.growth + 2 * rest.now.place))
 
--- Each call reads an item's field, and what the item's lists have grown by was counted.
+-- Each call reads an item's field, and counts the growth of the item's lists.
 abbrev pub TakesAs : {M F T U R : Type 0} → Shared F (M × (T × (MutBor R × (MutBor Front × Unit {0})))) (Result U ReadFault × (MutBor R × (MutBor Front × Unit {0}))) →
     Ghosts R → F → (T → Format U) → (T → ℕ) → (U → ℕ) → Type 0
 TakesAs {M = M} {T = T} {U = U} {R = R} calls dev take field before after =
@@ -34,14 +35,14 @@ TakesAs {M = M} {T = T} {U = U} {R = R} calls dev take field before after =
 
 -- ---- a list
 
--- A call may be made where the front hasn't gone far and what has grown is paid for.
+-- A call is allowed if few enough bytes were read, and the growth so far is within its bound.
 abbrev pub MayRead : {M F X R : Type 0} → Shared F (M × (MutBor R × (MutBor Front × Unit {0}))) (Result X ReadFault × (MutBor R × (MutBor Front × Unit {0}))) → F → Type 0
 MayRead {M = M} {R = R} calls read =
     (alloc : M) (input : MutBor R) (front : MutBor Front) →
     front.now.place + 2 ^ 17 < 2 ^ 62 → front.now.growth ≤ 2 * front.now.place + 2 ^ 15 →
     calls.pre read (alloc, (input, (front, tt)))
 
--- Each call that reads a whole list takes few enough bytes, and what the list has grown by was counted.
+-- Each successful call reads few enough bytes, and counts the growth of the list.
 abbrev pub ReadsFew : {M F X R : Type 0} → Shared F (M × (MutBor R × (MutBor Front × Unit {0}))) (Result X ReadFault × (MutBor R × (MutBor Front × Unit {0}))) → F → (X → ℕ) → Type 0
 ReadsFew {M = M} {X = X} {R = R} calls read count =
     (alloc : M) (input left : MutBor R) (front rest : MutBor Front) (result : Result X ReadFault) →

@@ -1,10 +1,10 @@
--- A subtable that was found, by its size and what it holds.
+-- The subtable that a look-up finds.
 use Rattle.std.specs.Prelude.{◌≡◌, ℕ, Option, IsSomeAnd}
 use Rattle.szg_block.specs.declared.Sub.{Sub}
 use Rattle.szg_block.specs.declared.Sub.TheVariants as sub_variants
 use Rattle.szg_file.specs.Contents.{Slot, Subtable}
 
--- there is a subtable, it has this size, and it is this one
+-- there is a subtable with this size and these contents
 abbrev pub IsFound : Option (Slot × Subtable) → ℕ → Subtable → Type 0
 IsFound found size subtable = IsSomeAnd found (λ pair. (pair.0.size ≡ size) × (pair.1 ≡ subtable))
 

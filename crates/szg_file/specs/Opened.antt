@@ -1,4 +1,4 @@
--- What a table opened over a source shows.
+-- The view of an opened table, and its invariant.
 use Rattle.std.specs.Prelude.{ℕ, ◌≡◌, ◌^◌, List, length, map, Option, Some, None, option_and_then}
 use Rattle.std.specs.List.{AllByRecursion}
 use Rattle.szg_values.specs.Material.{Sides}
@@ -18,7 +18,7 @@ use Rattle.szg_file.specs.declared.opened.OpenFault.{OpenFault}
 use Rattle.szg_file.specs.declared.opened.OpenFault.TheVariants.{Refused, Source, Memory}
 use Rattle.szg_file.specs.declared.dropping.PlacedSub.{PlacedSub}
 
--- its name and kind, the source's bytes, and the source's counts
+-- its material and kind, the source's bytes, and the source's counts
 pub record Opened : Type 0 where
   pub material : Sides
   pub kind : Kind
@@ -32,11 +32,11 @@ table_of (good t filled rest) = Some t
 table_of (refused place reason rest) = None
 table_of (truncated count) = None
 
--- the table with whose file the bytes begin
+-- the table whose file `bytes` begins with
 abbrev pub table_in : Sides → Kind → List ℕ → Option Contents
 table_in material kind bytes = table_of (verdict (file material kind) 0 bytes)
 
--- the table that it opened
+-- the table that was opened
 abbrev pub opened_table : Opened → Option Contents
 opened_table o = table_in o.material o.kind o.content
 
@@ -44,18 +44,18 @@ opened_table o = table_in o.material o.kind o.content
 abbrev pub opened_at : Opened → ℕ → ℕ → Option (Slot × Subtable)
 opened_at o part side = option_and_then (λ t. subtable_at t part side) (table_in o.material o.kind o.content)
 
--- how many bytes were asked for once a value was: one block's more, none more in a constant subtable
+-- the number of bytes requested after a value was returned: one block more, or none more for a constant subtable
 abbrev pub asked_after : Subtable → ℕ → ℕ
 asked_after (constant flags byte) requested = requested
 asked_after (pairs head sparse lengths packed) requested = raised requested (2 ^ head.block_bits)
 
--- a fault of reading, as one of opening
+-- a fault of reading, converted to one of opening
 abbrev pub opened_fault : ReadFault → OpenFault
 opened_fault (fault.Refused place reason) = Refused place reason
 opened_fault fault.Device = Source
 opened_fault fault.Memory = Memory
 
--- a refusal is that of the verdict
+-- a refusal is the one of the verdict
 abbrev pub IsOpenRefusal : Verdict Contents → OpenFault → Type 0
 IsOpenRefusal (good t filled rest) (Refused place reason) = ⊥
 IsOpenRefusal (refused at why rest) (Refused place reason) = (place ≡ at) × (reason ≡ why)
@@ -63,7 +63,7 @@ IsOpenRefusal (truncated count) (Refused place reason) = (place ≡ count) × (r
 IsOpenRefusal v Source = Unit {0}
 IsOpenRefusal v Memory = Unit {0}
 
--- what it keeps is of the table with whose file the bytes begin
+-- the slots and subtables of the table whose file `content` begins with
 pub record IsOpened (material : Sides) (kind : Kind) (content : List ℕ) (room : ℕ) (placed : List Slot) (subs : List PlacedSub) : Type 0 where
   pub table : Contents
   pub filled : List ℕ
@@ -80,7 +80,7 @@ pub record IsTableOf (material : Sides) (kind : Kind) (table : Contents) : Type 
   pub material_is : table.material ≡ material
   pub kind_is : table.kind ≡ kind
 
--- the index is that table's
+-- the index of the table whose file `content` begins with
 pub record IsIndexIn (x : Index) (content : List ℕ) : Type 0 where
   pub table : Contents
   pub there : table_in x.material x.kind content ≡ Some table

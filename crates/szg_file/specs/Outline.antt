@@ -1,4 +1,4 @@
--- What a file that was checked, and whose blocks were not kept, holds.
+-- The contents of a file that was checked without keeping its blocks.
 use Rattle.std.specs.Prelude.{ℕ, List, map, option_map}
 use Rattle.szg_values.specs.declared.Kind.{Kind}
 use Rattle.szg_values.specs.Material.{Sides}
@@ -7,7 +7,7 @@ use Rattle.szg_file.specs.Contents as held
 use Rattle.szg_file.specs.Held.{part_of, map_of}
 use Rattle.szg_file.specs.Placed.{whole_sub}
 
--- its blocks stand among these bytes
+-- the blocks are taken from `bytes`, the file
 abbrev pub outlined : Sides → Kind → List ℕ → Outline → held.Contents
 outlined material kind bytes o = record {
   material = material;

@@ -1,4 +1,4 @@
--- What a call that reads a part of a file says of the reader, of how far it has come, and of its answer.
+-- What a call that reads a part of a file ensures about the reader, its state and the result.
 use Rattle.std.specs.Prelude.{◌≡◌, ℕ, ◌+◌, List, [], ◌++◌, length, Option, Some, None, Result, Ok, Err, Bool, IsTrue}
 use Rattle.std.specs.Io.KnownBytes.{IsAtEnd}
 use Rattle.szg_io.specs.Device.{HasFailed}
@@ -15,26 +15,26 @@ use Rattle.szg_file.specs.File.{magic_field, byte4_field}
 use Rattle.szg_io.specs.declared.device.Input.{Ghosts}
 use Rattle.szg_file.specs.Accepted.{AreNumbers}
 
--- The verdict refuses the bytes with nothing left behind the field that fails; where they end within a
--- field, the reader is at its end.
+-- The verdict is this refusal, with no byte left after the field that fails; if the bytes end within a field, the
+-- reader is at its end.
 abbrev pub IsRefusal : {A : Type 0} → Verdict A → ℕ → Reason → Option (List ℕ) → Type 0
 IsRefusal (good a filled rest) place reason coming = ⊥
 IsRefusal (refused at why rest) place reason coming = (place ≡ at) × (reason ≡ why) × (rest ≡ [])
 IsRefusal (truncated count) place reason coming = (place ≡ count) × (reason ≡ Truncated) × IsAtEnd coming
 
--- Nothing stands behind the text, nor behind the first field that fails.
+-- No byte is left after the text, or after the first field that fails.
 abbrev pub StopsWithin : {A : Type 0} → Verdict A → Type 0
 StopsWithin (good a filled rest) = rest ≡ []
 StopsWithin (refused at why rest) = rest ≡ []
 StopsWithin (truncated count) = Unit {0}
 
--- And the text is not whole.
+-- Likewise, and the text is not whole.
 abbrev pub IsCut : {A : Type 0} → Verdict A → Type 0
 IsCut (good a filled rest) = ⊥
 IsCut (refused at why rest) = rest ≡ []
 IsCut (truncated count) = Unit {0}
 
--- The bytes, numbers below 256, are a whole text of the format, and the front has gone past them.
+-- The bytes are a whole text of the format, each below 256, and the state has moved past them.
 pub record Advances {A : Type 0} (f : Format A) (a : A) (old new : Front) (bytes : List ℕ) : Type 0 where
   pub fits : AreNumbers 1 bytes
   pub filled : List ℕ
@@ -42,27 +42,27 @@ pub record Advances {A : Type 0} (f : Format A) (a : A) (old new : Front) (bytes
   pub place : new.place ≡ old.place + length bytes
   pub fill : new.fill.items ≡ old.fill.items ++ filled
 
--- A refused answer may have taken one more turn of retries.
+-- An error may have cost one more round of retries.
 abbrev pub turns_of : {X : Type 0} → Result X ReadFault → ℕ
 turns_of (Ok x) = 0
 turns_of (Err fault) = 1
 
--- What the answer says of the bytes that were taken: `Device` comes only where the reader may fail, and with `Memory`
--- no byte was taken past the text or past the first field that fails.
+-- How the result depends on the bytes that were read: `Device` occurs only if the reader may fail, and with
+-- `Memory` no byte after the text or after the first field that fails was read.
 abbrev pub Answer : {A X : Type 0} → Format A → (X → A) → Front → Front → Option (List ℕ) → ℕ → ℕ → ℕ → Bool → List ℕ → Result X ReadFault → Type 0
 Answer f view old new coming failures failures' row may_fail bytes (Ok x) = Advances f (view x) old new bytes × (failures' ≡ failures)
 Answer f view old new coming failures failures' row may_fail bytes (Err (Refused place reason)) = IsRefusal (verdict f old.place bytes) place reason coming × (failures' ≡ failures)
 Answer f view old new coming failures failures' row may_fail bytes (Err Device) = HasFailed failures failures' row × IsTrue may_fail
 Answer f view old new coming failures failures' row may_fail bytes (Err Memory) = StopsWithin (verdict f old.place bytes) × (failures' ≡ failures)
 
--- These bytes were taken, with few enough calls, and the answer is their verdict.
+-- These bytes were read, with few enough calls, and the result is their verdict.
 pub record Reading {A X R : Type 0} (f : Format A) (view : X → A) (old new : Front)
     (dev : Ghosts R) (input input' : R) (result : Result X ReadFault) : Type 0 where
   pub bytes : List ℕ
   pub taken : Takes dev input input' bytes (turns_of result)
   pub answer : Answer f view old new (dev.coming input') (dev.failures input) (dev.failures input') (dev.interrupted input') (dev.may_fail input) bytes result
 
--- These bytes were taken, and they are no whole text.
+-- These bytes were read, and they are no whole text.
 pub record Lacking {A R : Type 0} (f : Format A) (old : Front) (dev : Ghosts R) (input input' : R) : Type 0 where
   pub bytes : List ℕ
   pub taken : Takes dev input input' bytes 1
@@ -71,7 +71,7 @@ pub record Lacking {A R : Type 0} (f : Format A) (old : Front) (dev : Ghosts R) 
 abbrev pub start_field : Sides → Kind → Format ℕ
 start_field material kind = magic_field kind >> byte4_field material kind
 
--- A check that reads nothing: it passes, or it refuses at a place for a reason.
+-- A check that reads nothing: it passes, or it refuses at an offset for a reason.
 abbrev pub Checks : Format (Unit {0}) → Option (ℕ × Reason) → Type 0
 Checks f None = f ≡ means tt
 Checks f (Some refusal) = f ≡ refuses refusal.0 refusal.1

@@ -1,36 +1,36 @@
--- How far a count of a file's sections has come, without their bytes.
+-- The state of a count of a file's sections.
 use Rattle.std.specs.Prelude.{◌≡◌, ℕ, ◌+◌, ◌%◌, ◌^◌, List, [], ◌∷◌, length}
 use denote.Ref.{Bor, MutBor}
 use denote.Param.Members.{Shared}
 use Rattle.szg_file.specs.declared.tally.Tally.{Tally}
 use Rattle.szg_file.specs.FileOf.{Section, written, padding, spare, fill_of}
 
--- how many bytes a section has beside its fill
+-- the number of bytes of a section except its padding bytes
 abbrev pub length_of : Section → ℕ
 length_of (written bytes) = length bytes
 length_of (padding unit) = 0
 length_of (spare size) = 0
 
--- the place behind sections that begin at a place
+-- the offset after sections that begin at offset `place`
 abbrev pub end_of : ℕ → List Section → ℕ
 end_of place [] = place
 end_of place (section ∷ sections) = end_of (place + length_of section + fill_of section place) sections
 
--- how many fill bytes they ask for
+-- the number of their padding bytes
 abbrev pub fill_from : ℕ → List Section → ℕ
 fill_from place [] = 0
 fill_from place (section ∷ sections) = fill_of section place + fill_from (place + length_of section + fill_of section place) sections
 
--- the same number, as 64 bits count
+-- equal modulo 2^64
 abbrev pub IsAlike : ℕ → ℕ → Type 0
 IsAlike a b = a % 2 ^ 64 ≡ b % 2 ^ 64
 
--- These sections were counted, wherever they begin.
+-- These sections were counted, at whichever offset they begin.
 pub record Counts (sections : List Section) (old new : Tally) : Type 0 where
   pub place : (place : ℕ) → IsAlike old.place place → IsAlike new.place (end_of place sections)
   pub fill : (place : ℕ) → IsAlike old.place place → IsAlike new.fill (old.fill + fill_from place sections)
 
--- Each call of a counter of items counts an item as these sections.
+-- Each call counts an item as these sections.
 abbrev pub CountsAs : {F T : Type 0} → Shared F (Bor T × (MutBor Tally × Unit {0})) (Unit {0} × (MutBor Tally × Unit {0})) → F → (T → List Section) → Type 0
 CountsAs {T = T} calls count sections =
     (item : Bor T) (tally rest : MutBor Tally) → calls.post count (item, (tally, tt)) (tt, (rest, tt)) → Counts (sections item.now) tally.now rest.now

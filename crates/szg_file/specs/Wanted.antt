@@ -1,17 +1,18 @@
--- The bytes that a value of a subtable wants.
+-- The bytes that a value of a subtable needs.
 use Rattle.std.specs.Prelude.{ℕ, ◌≡◌, ◌^◌, List, Option, Some, None, length, slice_get}
 use Rattle.szg_block.specs.Block.{block_at, block_values}
 use Rattle.szg_block.specs.Steps.{block_location}
 use Rattle.szg_file.specs.Contents.{Subtable, constant, pairs, layout_of}
 
--- the block that holds value i; a constant subtable has no blocks
+-- the block of value `i`; a constant subtable has none
 abbrev pub wanted_block : Subtable → ℕ → Option (List ℕ)
 wanted_block (constant flags byte) i = None
 wanted_block (pairs head sparse lengths packed) i =
     Some (block_at head.block_bits packed (block_location (layout_of head sparse lengths) i).list)
 
--- What bytes that are brought for value i tell, be they that block or not: the value that their words spell at its place,
--- and nothing where they spell fewer or aren't as many as a block has. Of a constant subtable they tell nothing.
+-- The value that a look-up of value `i` returns for the bytes in `piece`, which may be another block: the value
+-- that their words spell at the value's index in its block, and none if they spell fewer or do not have the length
+-- of a block. Of a constant subtable it says nothing.
 abbrev pub IsSpelledBy : List ℕ → Subtable → ℕ → Option ℕ → Type 0
 IsSpelledBy piece (constant flags byte) i told = Unit {0}
 IsSpelledBy piece (pairs head sparse lengths packed) i told =

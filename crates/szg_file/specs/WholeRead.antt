@@ -1,4 +1,4 @@
--- What reading a whole table answers.
+-- The result of reading a whole table.
 use Rattle.std.specs.Prelude.{◌≡◌, ℕ, ◌+◌, ◌*◌, ◌<◌, List, [], ◌++◌, length, map, sum, Option, Some, None, Result, Ok, Err}
 use Rattle.szg_values.specs.declared.Kind.{Kind}
 use Rattle.szg_file.specs.declared.fault.Reason.TheVariants.{Truncated}
@@ -11,15 +11,15 @@ use Rattle.szg_file.specs.File.{file}
 use Rattle.szg_file.specs.Held.{Shown, file_bytes}
 use Rattle.szg_file.specs.Reading.{IsRefusal, IsCut}
 
--- More is still to come than what stands behind a table, and no less than what stands behind a field that fails.
+-- The remaining bytes are more than those after a table, and no fewer than those after a field that fails.
 abbrev pub LeavesMore : {A : Type 0} → Verdict A → Option (List ℕ) → Type 0
 LeavesMore (good t filled rest) coming = (more : List ℕ) × (0 < length more) × (coming ≡ Some (more ++ rest))
 LeavesMore (refused at why rest) coming = (more : List ℕ) × (coming ≡ Some (more ++ rest))
 LeavesMore (truncated count) coming = Unit {0}
 
--- The answer is the verdict on the bytes that were to come, and what stands behind the table, or behind
--- the field that fails, is still to come. Where memory ran out, the file was not read to its end, and no check that
--- fails was passed over.
+-- The result is the verdict on the bytes that remained before, and the bytes after the table, or after the field
+-- that fails, remain. If an allocation was refused, the file was not read to its end, and no failing check was
+-- skipped.
 abbrev pub FollowsVerdict : Verdict held.Contents → Result Shown ReadFault → Option (List ℕ) → Type 0
 FollowsVerdict v (Ok t) coming = (rest : List ℕ) × (v ≡ good t.contents t.filled rest) × (coming ≡ Some rest)
 FollowsVerdict (good t filled rest) (Err (Refused place reason)) coming = ⊥
@@ -28,7 +28,7 @@ FollowsVerdict (truncated count) (Err (Refused place reason)) coming = (place �
 FollowsVerdict v (Err Device) coming = Unit {0}
 FollowsVerdict v (Err Memory) coming = LeavesMore v coming
 
--- The answer is the verdict on bytes in memory, or memory ran out.
+-- The result is the verdict on bytes in memory, or an allocation was refused.
 abbrev pub IsVerdict : Verdict held.Contents → Result Shown ReadFault → Type 0
 IsVerdict v (Ok t) = (rest : List ℕ) × (v ≡ good t.contents t.filled rest)
 IsVerdict (good t filled rest) (Err (Refused place reason)) = ⊥
@@ -37,15 +37,15 @@ IsVerdict (truncated count) (Err (Refused place reason)) = (place ≡ count) × 
 IsVerdict v (Err Device) = ⊥
 IsVerdict v (Err Memory) = Unit {0}
 
--- The bytes that were taken are the table's file, or those up to the end of the field that fails; where memory ran
--- out, a part of such a text.
+-- The bytes that were read are the table's file, or those up to the end of the field that fails; if an allocation
+-- was refused, part of such a text, but no whole file.
 abbrev pub TookBytes : Sides → Kind → List ℕ → Option (List ℕ) → Result Shown ReadFault → Type 0
 TookBytes material kind bytes coming (Ok t) = bytes ≡ file_bytes t
 TookBytes material kind bytes coming (Err (Refused place reason)) = IsRefusal (verdict (file material kind) 0 bytes) place reason coming
 TookBytes material kind bytes coming (Err Device) = Unit {0}
 TookBytes material kind bytes coming (Err Memory) = IsCut (verdict (file material kind) 0 bytes)
 
--- the lengths of a subtable's lists; a dictionary has two: the entries, and their symbols' lengths
+-- the total length of a subtable's lists; a dictionary has two: the entries, and the lengths of their symbols
 abbrev pub sub_lengths : held.Subtable → ℕ
 sub_lengths (held.constant flags byte) = 0
 sub_lengths (held.pairs head sparse lengths packed) =
@@ -56,7 +56,7 @@ map_lengths None = 0
 map_lengths (Some (held.narrow lists)) = sum (map length lists)
 map_lengths (Some (held.wide lists)) = sum (map length lists)
 
--- the lengths of all lists that a table holds; beside the subtables stand their slots
+-- the total length of all lists of a table; each subtable has a slot as well
 abbrev pub list_lengths : Shown → ℕ
 list_lengths t = length t.contents.parts + sum (map (λ part. length part.order + length part.men) t.contents.parts)
     + 2 * length t.contents.subtables + sum (map sub_lengths t.contents.subtables)

@@ -1,4 +1,4 @@
--- What a call that writes a part of a file says of the writer, of how far it has come, and of its answer.
+-- What a call that writes a part of a file ensures about the writer, its state and the result.
 use Rattle.std.specs.Prelude.{◌≡◌, ℕ, ◌<◌, ◌%◌, ◌^◌, List, [], ◌∷◌, ◌++◌, length, flat_map, Result, Ok, Err}
 use denote.Ref.{Bor, MutBor}
 use denote.Param.Members.{Shared}
@@ -11,50 +11,50 @@ use Rattle.szg_file.specs.Contents.{bytes_of}
 use Rattle.szg_io.specs.declared.device.Output.{Ghosts}
 use Rattle.szg_file.specs.FileOf.{Section, written, spare, joined}
 
--- So many bytes went out, as 64 bits count them: this text.
+-- The count is the length of this text, modulo 2^64.
 abbrev pub CountsOut : ℕ → List ℕ → Type 0
 CountsOut out text = out ≡ length text % 2 ^ 64
 
--- Behind the text that was out already these bytes went out. Together with what is held they are the text and the
--- sections joined, and the sections' fill has left the fill.
+-- These bytes were written after the text so far. The text, these bytes and the bytes buffered now are the text and
+-- the bytes buffered before with the sections joined to them. The padding bytes of the sections are used up.
 pub record Writes (sections : List Section) (old new : Outgoing) (bytes : List ℕ) : Type 0 where
   pub counts : (text : List ℕ) → CountsOut old.out text → CountsOut new.out (text ++ bytes)
   pub whole : (text : List ℕ) (more : List Section) → CountsOut old.out text →
       joined (text ++ old.held.items) (sections ++ more) old.fill.now ≡ joined ((text ++ bytes) ++ new.held.items) more new.fill.now
 
--- Behind the text that was out already these bytes went out, and they are not all of the text and the sections joined.
+-- These bytes were written after the text so far, and they are not yet all of the text and the sections joined.
 pub record Stops (sections : List Section) (old : Outgoing) (out : ℕ) (bytes : List ℕ) : Type 0 where
   pub counts : (text : List ℕ) → CountsOut old.out text → CountsOut out (text ++ bytes)
   pub begun : (text : List ℕ) (more : List Section) → CountsOut old.out text →
       (rest : List ℕ) × (0 < length rest) × (joined (text ++ old.held.items) (sections ++ more) old.fill.now ≡ (text ++ bytes) ++ rest)
 
--- A fault may have taken one more turn of retries.
+-- An error may have cost one more round of retries.
 abbrev pub turns_of : {X : Type 0} → Result X WriteFault → ℕ
 turns_of (Ok x) = 0
 turns_of (Err fault) = 1
 
--- What the answer says of the bytes that went out.
+-- How the result depends on the bytes that were written.
 abbrev pub Answer : {X : Type 0} → List Section → Outgoing → Outgoing → ℕ → ℕ → ℕ → List ℕ → Result X WriteFault → Type 0
 Answer sections old new failures failures' row bytes (Ok x) = Writes sections old new bytes × (failures' ≡ failures)
 Answer sections old new failures failures' row bytes (Err fault) = Stops sections old fault.out bytes × HasFailed failures failures' row
 
--- Some bytes went out, with few enough calls, and the answer is true of them.
+-- Some bytes were written, with few enough calls, and the result is correct for them.
 pub record Writing {X W : Type 0} (sections : List Section) (old new : Outgoing)
     (dev : Ghosts W) (output output' : W) (result : Result X WriteFault) : Type 0 where
   pub bytes : List ℕ
   pub given : Gives dev output output' bytes (turns_of result)
   pub answer : Answer sections old new (dev.failures output) (dev.failures output') (dev.interrupted output') bytes result
 
--- a code's longest and shortest word, and its lowest symbols
+-- a code's greatest and least code length, and its lowest symbols
 abbrev pub code_sections : CanonicalCode → List Section
 code_sections code = written (code.max_length ∷ []) ∷ written (code.min_length ∷ []) ∷ written (flat_map (bytes_of 2) code.lowest) ∷ []
 
--- how many entries, the entries, and a fill byte where their number is odd
+-- the number of entries, the entries, and a padding byte if their number is odd
 abbrev pub dictionary_sections : List (List ℕ) → List Section
 dictionary_sections entries =
     written (bytes_of 2 (length entries)) ∷ written (flat_map (λ entry. entry) entries) ∷ spare (length entries % 2) ∷ []
 
--- Each call of a writer of items writes an item as these sections.
+-- Each call writes an item as these sections.
 abbrev pub WritesAs : {F T W : Type 0} → Shared F (Bor T × (MutBor W × (MutBor Outgoing × Unit {0}))) (Result (Unit {0}) WriteFault × (MutBor W × (MutBor Outgoing × Unit {0}))) →
     Ghosts W → F → (T → List Section) → Type 0
 WritesAs {T = T} {W = W} calls dev write sections =

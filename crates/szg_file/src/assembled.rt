@@ -1,4 +1,4 @@
-//! Tables that are put together, not read: their fields, and the table that fields make.
+//! Tables assembled from fields instead of read from a file.
 ghost use Rattle.std.specs.Prelude.{◌≡◌, ◌<◌, ◌^◌, ◌↔◌, IsTrue, map, IfNone, IfSome};
 ghost use Rattle.std.specs.List.{AllByRecursion};
 ghost use Rattle.szg_file.specs.Accepted.{SideBySide, IsPart, IsAccepted};
@@ -23,32 +23,32 @@ use std::mem::size_of_val;
 use szg_block::Sub;
 use szg_values::{Kind, Material};
 
-/// What a table holds, field by field. Not every such value is a table: `passes` tells which are.
+/// The contents of a table, field by field. Not every value of this type is a valid table: `passes` decides.
 #[derive(Drop)]
 pub struct Fields {
     pub material: Material,
     pub kind: Kind,
-    /// Bit 0 split, bit 1 pawns, all others carried.
+    /// The byte after the magic. Bit 0: split. Bit 1: pawns. The other bits are preserved.
     pub byte4: u8,
     /// Four parts with pawns, else one.
     pub parts: Vec<PartBytes>,
-    /// In file order: part by part, side 0 then side 1.
+    /// In file order: part by part, side 0 before side 1.
     pub subs: Vec<Sub>,
-    /// One item a part in DTZ, none in WDL.
+    /// One item per part in DTZ, none in WDL.
     pub maps: Vec<Option<Map>>,
-    /// As many bytes as `fill_asked` says.
+    /// The padding bytes: exactly `fill_asked` of them.
     pub fill: Vec<u8>,
-    /// Nobody checks them.
+    /// The last sixteen bytes of the file, which no check reads.
     pub last: [u8; 16],
 }
 
 impl Fields {
-    /// How many fill bytes the file of these fields has: those up to even offsets, up to multiples of 64, and behind
-    /// dictionaries of an odd number of entries. It takes no memory.
+    /// Returns the number of padding bytes in the file of these fields: those up to even offsets and to multiples
+    /// of 64, and the one after each dictionary with an odd number of entries. It takes no memory.
     pub fn fill_asked(&self) -> u64
         ensures { result ≡ fill_asked (fields_shown self.now).contents }
     {
-        // the sum fits, since memory holds so few subtables and maps
+        // the sum does not overflow, because memory bounds the numbers of subtables and maps
         let _held = (
             size_of_val(self.subs.as_slice()),
             size_of_val(self.maps.as_slice()),
@@ -67,7 +67,8 @@ impl Fields {
         tally.fill()
     }
 
-    /// Whether these fields, with this fill, make a table that every check of the format accepts. It takes no memory.
+    /// Whether these fields, with these padding bytes, form a table that every check of the format accepts. It
+    /// takes no memory.
     pub fn passes(&self) -> bool
         ensures { IsTrue result ↔ IsAccepted (fields_shown self.now).contents (fields_shown self.now).filled }
     {
@@ -92,8 +93,8 @@ impl Fields {
     }
 }
 
-/// The sizes of the sides of a part with these bytes that passes its checks: the bytes are as many as the material asks
-/// for, and each side's order stands.
+/// Returns the sizes of the sides of part `number`. None if the material requires another number of order bytes or
+/// men, or if a side's order fails a check.
 fn sizes_of(
     material: &Material,
     kind: Kind,
@@ -116,7 +117,7 @@ fn sizes_of(
     }
 }
 
-/// The slots of the subtables of parts that pass their checks.
+/// Returns the slots of the subtables. None if a part fails a check.
 fn slots_of(material: &Material, kind: Kind, parts: &[PartBytes]) -> Option<ArrayVec<Slot, 8>>
     ensures none { IfNone result (¬ SideBySide (λ _. IsPart material.now kind) (part_numbers material.now) (map part_of parts.now)) }
     ensures parts { IfSome result (λ list. SideBySide (λ _. IsPart material.now kind) (part_numbers material.now) (map part_of parts.now)) }
@@ -133,10 +134,9 @@ fn slots_of(material: &Material, kind: Kind, parts: &[PartBytes]) -> Option<Arra
     Some(list)
 }
 
-/// How many positions each subtable of these parts has, in file order: part by part, side 0 then side 1. `None` where
-/// there is another number of parts, or a part has another number of order bytes or of men than the material asks for,
-/// or an order that no file may have.
-/// It takes no memory.
+/// Returns the number of positions of each subtable of these parts, in file order: part by part, side 0 before side
+/// 1. None if there is a different number of parts than the material requires, or if a part has a different number
+/// of order bytes or men, or an order that no file may have. It takes no memory.
 pub fn subtable_sizes(
     material: &Material,
     kind: Kind,
@@ -156,7 +156,7 @@ pub fn subtable_sizes(
 }
 
 impl Table {
-    /// The table of fields that pass. It takes no memory.
+    /// Creates the table of fields that pass. It takes no memory.
     pub fn assemble(fields: Fields) -> Table
         requires { IsAccepted (fields_shown fields).contents (fields_shown fields).filled }
         ensures { result ≡ fields_shown fields }

@@ -1,10 +1,11 @@
-//! Subtables while they are read: with their heads, then with their sparse indexes, then with their lengths.
+//! Subtables while they are read: first with their headers, then with their sparse indexes, then with their block
+//! lengths.
 ghost use Rattle.std.specs.Prelude.{ℕ, ◌≡◌, ◌<◌, ◌^◌};
 
 use std::marker::Model;
 use szg_block::Sub;
 
-/// A subtable's part, side and number of positions.
+/// The part, side and number of positions of a subtable.
 #[derive(Clone, Copy, Default)]
 pub struct Slot {
     pub part: u8,
@@ -25,7 +26,7 @@ impl Model for Slot {
     ghost inverse = { λ s. record { part = s.part; side = s.side; size = s.size } };
 }
 
-/// A subtable with its head alone.
+/// A subtable with its header alone.
 #[derive(Drop)]
 pub struct Begun {
     pub slot: Slot,
@@ -43,7 +44,7 @@ impl Model for Begun {
     ghost invariant = { λ begun. IsHeaded begun.sub };
 }
 
-/// A subtable with its head and its sparse index, which stands at `index`.
+/// A subtable with its header and its sparse index, which begins at offset `index`.
 #[derive(Drop)]
 pub struct Indexed {
     pub slot: Slot,
@@ -63,7 +64,7 @@ impl Model for Indexed {
     ghost invariant = { λ begun. IsIndexed begun.sub begun.slot.size × (begun.index < 2 ^ 61) };
 }
 
-/// A subtable with all but its blocks.
+/// A subtable with everything but its blocks.
 #[derive(Drop)]
 pub struct Measured {
     pub slot: Slot,

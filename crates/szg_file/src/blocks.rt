@@ -16,7 +16,7 @@ use std::alloc::Global;
 use szg_block::{Sub, check_block_from};
 use szg_io::Input;
 
-/// Takes the blocks of each subtable that isn't constant.
+/// Reads the blocks of each subtable that is not constant.
 pub fn read_blocks<R: Input>(
     alloc: Global,
     list: Vec<Measured>,
@@ -40,7 +40,7 @@ pub fn read_blocks<R: Input>(
     Ok(subs)
 }
 
-/// Takes one subtable's blocks into it; a constant subtable has none.
+/// Reads one subtable's blocks into it, after their padding. A constant subtable has none.
 fn read_sub<R: Input>(
     alloc: Global,
     measured: Measured,
@@ -75,7 +75,7 @@ pub fn is_constant(sub: &Sub) -> bool
     }
 }
 
-/// Takes the blocks of a subtable one after another, each with its check.
+/// Reads the blocks of a subtable in order, each with its check.
 fn take_packed<R: Input>(
     alloc: Global,
     sub: &Sub,
@@ -101,7 +101,7 @@ fn take_packed<R: Input>(
     else {
         return Ok(packed);
     };
-    // what each block's check stands on: no word of the code begins another
+    // a fact that the check of each block needs: no word of the code begins another
     let _symbols = code.symbols();
     let mut before = 0;
     'each_block: for n in 0..*blocks {
@@ -111,7 +111,8 @@ fn take_packed<R: Input>(
     Ok(packed)
 }
 
-/// Takes block n, before which so many values stand, to the end of the list, and checks it there.
+/// Reads block `n`, appends it to `packed`, and checks it there. `before` is the number of values in the blocks
+/// before it.
 fn take_block<R: Input>(
     packed: &mut Vec<u8>,
     sub: &Sub,
@@ -145,7 +146,7 @@ fn take_block<R: Input>(
     }
 }
 
-/// The number of bytes of each block; a constant subtable has none.
+/// Returns the number of bytes of each block, 0 for a constant subtable.
 pub fn block_bytes(sub: &Sub) -> u64
     requires { IfSome (layout_of sub.now) (λ layout. layout.block_bits ≤ 18) }
     ensures bytes { IfSome (layout_of sub.now) (λ layout. result ≡ 2 ^ layout.block_bits) }
@@ -158,7 +159,7 @@ pub fn block_bytes(sub: &Sub) -> u64
     }
 }
 
-/// The number of blocks; a constant subtable has none.
+/// Returns the number of blocks, 0 for a constant subtable.
 pub fn block_count(sub: &Sub) -> u32
     ensures { IfSome (layout_of sub.now) (λ layout. result ≡ layout.blocks) }
 {

@@ -1,4 +1,4 @@
-//! A file that is checked, and of which nothing is kept but its length.
+//! Checking a file without keeping anything of it but its length.
 ghost use Rattle.std.specs.Prelude.{◌≡◌, [], IsErrOf, IsTrue};
 ghost use Rattle.szg_io.specs.Device.{HasFailed};
 ghost use Rattle.szg_file.specs.Checked.{IsChecked};
@@ -11,10 +11,11 @@ use std::alloc::Global;
 use szg_io::Input;
 use szg_values::{Kind, Material};
 
-/// Checks the file of a table of this material and kind, from the reader's first byte on; returns the file's length in
-/// bytes.
+/// Checks the file of a table of this material and kind, from the reader's first byte on. Returns the file's length
+/// in bytes.
 ///
-/// It takes the bytes that `read` takes, and refuses what `read` refuses, but holds one block at a time. Errors: as `read`.
+/// It reads the bytes that `read` reads and refuses what `read` refuses, but keeps one block in memory at a time.
+/// Errors: as `read`.
 pub fn check<R: Input + Ahead>(
     alloc: Global,
     material: &Material,

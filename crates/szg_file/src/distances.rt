@@ -1,4 +1,4 @@
-//! The numbers that a DTZ table's values stand for.
+//! The distances that a DTZ table's values encode.
 ghost use Rattle.std.specs.Prelude.{◌≡◌, ◌<◌, option_map, IsTrue, Some, IfSome};
 ghost use Rattle.szg_file.specs.Held.{map_of};
 ghost use Rattle.szg_file.specs.Values.{list_number as list_of_class, mapped, in_plies as told_in_plies, distance, number_at as number_of};
@@ -6,7 +6,7 @@ ghost use Rattle.szg_file.specs.Values.{list_number as list_of_class, mapped, in
 use crate::flags::has_bit;
 use crate::table::Map;
 
-/// Which of a map's lists has a class's values: none for a draw.
+/// Returns the number of a map's list for a class. None for a draw.
 pub fn list_number(class: i8) -> Option<usize>
     ensures number { result ≡ list_of_class class }
     ensures below { IfSome result (λ list. list < 4) }
@@ -20,7 +20,7 @@ pub fn list_number(class: i8) -> Option<usize>
     }
 }
 
-/// Item `v` of one of a map's lists, where it has one.
+/// Returns item `v` of one of a map's lists. None if the list is shorter.
 fn map_item(map: &Map, list: usize, v: u16) -> Option<u16>
     requires { list < 4 }
     ensures { result ≡ mapped (Some (map_of map.now)) list v }
@@ -33,8 +33,8 @@ fn map_item(map: &Map, list: usize, v: u16) -> Option<u16>
     }
 }
 
-/// Whether the numbers of this list count plies: with bit 2 (flag 4) those of wins, with bit 3 (flag 8)
-/// those of losses.
+/// Whether the numbers of a list count plies: those of wins with bit 2 (flag 4), those of losses with bit 3 (flag
+/// 8).
 fn in_plies(flags: u8, list: usize) -> bool
     ensures { result ≡ told_in_plies flags list }
 {
@@ -45,7 +45,8 @@ fn in_plies(flags: u8, list: usize) -> bool
     }
 }
 
-/// The number of value `v` in one of a part's lists: the map's item, where the part has a map, in plies.
+/// Returns the distance in plies that value `v` encodes in one of a part's lists: through the map if the part has
+/// one. None if the map has no such item.
 pub fn number_at(flags: u8, map: &Option<Map>, list: usize, v: u16) -> Option<u32>
     requires { list < 4 }
     ensures { result ≡ number_of flags (option_map map_of map.now) list v }

@@ -1,5 +1,5 @@
-//! Blocks that are checked and not kept: of a subtable's blocks only the first one's place is.
-ghost use Rattle.std.specs.Prelude.{◌≡◌, ◌+◌, ◌*◌, ◌≤◌, ◌<◌, ◌^◌, length, map, OnOk, IfOk, IfSome, IsSomeAnd, OnErr, Err};
+//! Blocks that are checked and dropped: only the offset of a subtable's first block is kept.
+ghost use Rattle.std.specs.Prelude.{◌≡◌, ◌+◌, ◌*◌, ◌≤◌, ◌<◌, ◌^◌, length, max, map, OnOk, IfOk, IfSome, IsSomeAnd, OnErr, Err};
 ghost use Rattle.std.specs.List.{AllByRecursion};
 ghost use Rattle.szg_code.specs.Acceptance.{IsCode};
 ghost use Rattle.szg_block.specs.Block.{start};
@@ -18,14 +18,15 @@ use std::alloc::Global;
 use szg_block::{Sub, check_block_from};
 use szg_io::Input;
 
-/// A subtable without its blocks, and the place of the first of them, 0 where there is none.
+/// A subtable without its blocks, with the offset of its first block, or 0 if it has none.
 #[derive(Drop)]
 pub struct PlacedSub {
     pub sub: Sub,
     pub first: u64,
 }
 
-/// Takes the blocks of each subtable that isn't constant, and keeps their places. The buffer grows to the longest block.
+/// Reads and checks the blocks of each subtable that is not constant, and keeps the offset of the first. The buffer
+/// grows to the longest block.
 pub fn pass_subs<R: Input + Ahead>(
     alloc: Global,
     list: Vec<Measured>,
@@ -50,7 +51,8 @@ pub fn pass_subs<R: Input + Ahead>(
     Ok(subs)
 }
 
-/// Takes one subtable's blocks behind their fill, and keeps their place; a constant subtable has none.
+/// Reads one subtable's blocks after their padding, and keeps the offset of the first. A constant subtable has
+/// none.
 fn pass_sub<R: Input + Ahead>(
     alloc: Global,
     measured: Measured,
@@ -80,10 +82,11 @@ fn pass_sub<R: Input + Ahead>(
     Ok(PlacedSub { sub, first })
 }
 
-/// Makes a buffer at least so long.
+/// Extends a shorter buffer to `size` bytes, and leaves a longer one as it is.
 fn make_room(buffer: &mut Vec<u8>, size: usize) -> Result<(), ReadFault>
     ensures room { OnOk result (size ≤ length buffer.new.items) }
     ensures longer { OnOk result (length buffer.old.items ≤ length buffer.new.items) }
+    ensures most { OnOk result (length buffer.new.items ≤ max (length buffer.old.items) size) }
     ensures memory { OnErr result (result ≡ Err ReadFault.Memory) }
 {
     if buffer.len() < size && buffer.resize(size, 0).is_err() {
@@ -92,7 +95,7 @@ fn make_room(buffer: &mut Vec<u8>, size: usize) -> Result<(), ReadFault>
     Ok(())
 }
 
-/// Takes the blocks of a subtable one after another into a buffer as long as a block, each with its check.
+/// Reads the blocks of a subtable in order, each with its check, into a buffer of a block's length.
 fn pass_blocks<R: Input>(
     buffer: &mut [u8],
     sub: &Sub,
@@ -118,7 +121,7 @@ fn pass_blocks<R: Input>(
     else {
         return Ok(());
     };
-    // what each block's check stands on: no word of the code begins another
+    // a fact that the check of each block needs: no word of the code begins another
     let _symbols = code.symbols();
     let mut before = 0;
     'each_block: for n in 0..*blocks {
@@ -128,7 +131,8 @@ fn pass_blocks<R: Input>(
     Ok(())
 }
 
-/// Takes block n, before which so many values stand, into a buffer as long as a block, and checks it there.
+/// Reads block `n` into a buffer of a block's length and checks it there. `before` is the number of values in the
+/// blocks before it.
 fn pass_block<R: Input>(
     buffer: &mut [u8],
     sub: &Sub,

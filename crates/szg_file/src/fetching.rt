@@ -1,4 +1,4 @@
-//! Look-ups in a table whose front alone was read: the block that has the value is verified, and then the value decoded.
+//! Look-ups in a table that was opened by its front: the block of a value is verified before the value is decoded.
 ghost use Rattle.std.specs.Prelude.{ℕ, ◌≡◌, ◌+◌, ◌*◌, ◌≤◌, ◌<◌, ◌^◌, Err, None, Some, IfErr, IfNone, IfOk, IfSome, IsSomeAnd, OnErr, OnOk, length, slice_get};
 ghost use Rattle.szg_block.specs.Block.{block_values};
 ghost use Rattle.szg_block.specs.BlocksTrait.{Rose, bytes_at, raised};
@@ -16,14 +16,14 @@ use szg_block::{Source, ValueLocation, checked_value, locate_value};
 /// Why no value is returned.
 #[derive(Debug, Clone, Copy, PartialEq, Eq)]
 pub enum FetchFault {
-    /// The bits of the value's block don't spell the values that it needs: the block's number in its subtable, and its
-    /// offset in the file.
+    /// The bits of the value's block do not spell the values that it needs. `number` is the block's number in its
+    /// subtable, `offset` its offset in the file.
     Block { number: u32, offset: u64 },
     /// The source failed, or it has fewer bytes than when the table was opened.
     Source,
 }
 
-/// Where a value is.
+/// The location of a value.
 #[derive(Clone, Copy)]
 struct Spot {
     value: ValueLocation,
@@ -32,7 +32,7 @@ struct Spot {
     count: u64,
 }
 
-/// Returns where value `i` of a subtable is. None in a constant subtable.
+/// Returns the location of value `i` of a subtable. None in a constant subtable.
 fn spot_of(found: &Slotted, i: u64) -> Option<Spot>
     requires head { IsShapedHead found.now.placed.now.sub found.now.slot.size }
     requires index { HasSoundIndex found.now.placed.now.sub found.now.slot.size }
@@ -73,7 +73,7 @@ fn value_at(found: &Slotted, i: u64, spot: Spot, block: &[u8]) -> Result<u16, Fe
     }
 }
 
-/// Returns `count` bytes from `offset` on. None if they aren't all there.
+/// Returns `count` bytes from `offset` on. None if there are fewer.
 fn bytes_from(bytes: &[u8], offset: u64, count: u64) -> Option<&[u8]>
     ensures there { IfSome result (λ piece. piece.now ≡ bytes_at bytes.now offset count) }
     ensures whole { IfSome result (λ piece. length piece.now ≡ count) }
@@ -87,8 +87,8 @@ fn bytes_from(bytes: &[u8], offset: u64, count: u64) -> Option<&[u8]>
     Some(&bytes[first..first + count as usize])
 }
 
-/// Reads a block's bytes from `offset` on, as many as `block` has. Errors: `Source` if the source failed, or doesn't have
-/// them all.
+/// Reads the bytes of a block from `offset` on; `block` has its length. Errors: `Source` if the source failed or
+/// has fewer bytes.
 fn read_block<S: Source>(source: &mut S, offset: u64, block: &mut [u8]) -> Result<(), FetchFault>
     ensures block { OnOk result (block.new ≡ bytes_at (S.content source.old) offset (length block.old)) }
     ensures fault { OnErr result (result ≡ Err FetchFault.Source) }
@@ -118,11 +118,11 @@ impl FrontTable {
     ghost use Rattle.szg_file.specs.Opened.{asked_after};
     ghost use Rattle.szg_file.specs.Unread.{front_at, IsDecoded};
 
-    /// Returns value `i` of a part's side out of the file's bytes. It takes no memory, and verifies the value's block; a
-    /// constant subtable needs none. Any number of threads may call it on one table.
+    /// Returns value `i` of a part's side, decoded from the file's bytes. It verifies the value's block; a constant
+    /// subtable needs none. It takes no memory. Any number of threads may call it on one table.
     ///
-    /// Errors: `Block` if the block doesn't decode, `Source` if there are fewer bytes than when the table was opened. After
-    /// an error the next call is answered as if there had been none.
+    /// Errors: `Block` if the block does not decode, `Source` if there are fewer bytes than when the table was
+    /// opened. An error has no effect on later calls.
     pub fn get_in(&self, bytes: &[u8], part: u8, side: u8, i: u64) -> Result<u16, FetchFault>
         requires { IsSomeAnd (slot_in self.now.index part side) (λ slot. i < slot.size) }
         ensures value { IsFrontOf self.now bytes.now → IfOk result (λ value. IfSome (front_at self.now.index.material self.now.index.kind bytes.now part side) (λ found. IsDecoded self.now.index.kind found i value)) }
@@ -140,18 +140,18 @@ impl FrontTable {
         value_at(&found, i, spot, block)
     }
 
-    /// The length of the longest block.
+    /// Returns the length of the longest block.
     pub fn longest_block(&self) -> usize
         ensures { result ≡ self.now.room }
     {
         self.room
     }
 
-    /// Returns value `i` of a part's side. It requests the value's block of the source, into `buffer`, and verifies it; a
-    /// constant subtable needs none. It takes no memory.
+    /// Returns value `i` of a part's side. It requests the value's block from the source, into `buffer`, and
+    /// verifies it; a constant subtable needs none. It takes no memory.
     ///
-    /// Errors: `Block` if the block doesn't decode, `Source` if the source failed. After an error the next call is answered
-    /// as if there had been none.
+    /// Errors: `Block` if the block does not decode, `Source` if the source failed. An error has no effect on later
+    /// calls.
     pub fn get<S: Source>(
         &self,
         source: &mut S,

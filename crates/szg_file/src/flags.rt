@@ -6,7 +6,7 @@ ghost use Rattle.szg_file.specs.Held.{subtable_of};
 
 use szg_block::Sub;
 
-/// The flags byte of a subtable.
+/// Returns the flag byte of a subtable.
 pub fn flags_of(sub: &Sub) -> u8
     ensures { result ≡ flags_byte (subtable_of sub.now) }
 {
@@ -15,7 +15,7 @@ pub fn flags_of(sub: &Sub) -> u8
     }
 }
 
-/// Whether bit k of a byte is set: of a byte of flags that is flag `2^k`.
+/// Whether bit `k` of a byte is set. In a flag byte that is flag `2^k`.
 pub fn has_bit(k: u8, byte: u8) -> bool
     requires { k < 8 }
     ensures { result ≡ has_bit k byte }

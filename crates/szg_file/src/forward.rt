@@ -8,25 +8,26 @@ use std::marker::Model;
 use szg_block::{Source, SourceFault};
 use szg_io::{Bytes, Input, IoFault, Std};
 
-/// A reader that may be told how much will be asked of it.
+/// A reader that accepts a hint of how many bytes are read next.
 pub trait Ahead {
-    /// So many bytes will be taken next, or a check of them fails: the reader may read as far ahead.
+    /// Announces that the next `bytes` bytes will be read unless a check of them fails. The reader may read that
+    /// far ahead.
     fn expect(&mut self, bytes: u64)
         ensures same { self.new ≡ self.old };
 }
 
-/// A device that takes the bytes of a source from the first on. It asks for those that are taken of it and no others; of
-/// those that are expected for as many at a time as its piece has room for. It never asks past the source's end, and only
-/// once it has handed on all that it has. It is never interrupted.
+/// A device that reads the bytes of a source from the first on. It requests only bytes that are read from it,
+/// except that it may read expected bytes ahead, up to its chunk's length at a time. It makes a request only when
+/// its chunk is used up, and none past the source's end. It is never interrupted.
 #[derive(Drop)]
 pub struct Forward<S: Source + Drop> {
     source: S,
-    // the place of the next byte
+    // the offset of the next byte
     place: u64,
     end: u64,
-    // up to this place it may read ahead
+    // the offset up to which it may read ahead
     ahead: u64,
-    // the bytes from its place on that were read: those of the piece from `from` up to `to`
+    // the bytes from `place` on that were read ahead: `piece[from..to]`
     piece: Vec<u8>,
     from: usize,
     to: usize,
@@ -53,8 +54,8 @@ impl<S: Source + Drop> Model for Forward<S> {
 impl<S: Source + Drop> Forward<S> {
     ghost use Rattle.std.specs.Prelude.{◌≡◌, ◌<◌, length};
 
-    /// A reader before the source's first byte, by pieces of at most this one's length. Its failures are the source's; its
-    /// calls begin at 0.
+    /// Creates a reader at the source's first byte, which reads chunks of at most the length of `piece`. Its
+    /// failures are the source's; its call count is 0.
     pub fn new(source: S, piece: Vec<u8>) -> Forward<S>
         requires { 0 < length piece.items }
         ensures content { result.content ≡ S.content source }
@@ -74,7 +75,7 @@ impl<S: Source + Drop> Forward<S> {
         }
     }
 
-    /// The source, as it was left.
+    /// Returns the source.
     pub fn into_source(self) -> S
         ensures content { S.content result ≡ self.content }
         ensures failed { S.failed result ≡ self.failed }
@@ -83,7 +84,8 @@ impl<S: Source + Drop> Forward<S> {
     }
 }
 
-/// Reads bytes from a place up to another, of which there are some, into the front of a piece: as many as fit.
+/// Reads bytes from `place` on, before `last`, into the front of a chunk; returns their number. There is at least
+/// one.
 fn read_piece<S: Source>(
     source: &mut S,
     place: u64,
@@ -104,8 +106,8 @@ fn read_piece<S: Source>(
     source.read_at(place, &mut piece[..size])
 }
 
-/// Where the bytes of the piece stand that are to be handed on next: those that are left in it, else at most so many that
-/// are read now. There are none only at the source's end.
+/// Returns the range of the chunk's bytes to be returned next: those left in it, else up to `most` bytes that are
+/// read now. It is empty only at the source's end.
 fn next_bytes<S: Source>(
     source: &mut S,
     place: u64,
@@ -130,7 +132,7 @@ fn next_bytes<S: Source>(
     Ok((0, count))
 }
 
-/// Copies as many bytes as fit, and tells how many.
+/// Copies the bytes that fit into the front of `out`; returns their number.
 fn copy_front(bytes: &[u8], out: &mut [u8]) -> usize
     ensures count { result ≡ min (length bytes.now) (length out.old) }
     ensures copied { take result out.new ≡ take result bytes.now }
@@ -185,7 +187,7 @@ impl<S: Source + Drop> Ahead for Forward<S> {
     }
 }
 
-/// What std reads is read as it is asked for.
+/// A reader of std ignores the hint.
 impl<T> Ahead for Std<T> {
     fn expect(&mut self, _bytes: u64) {}
 }

@@ -1,24 +1,24 @@
-//! How far the reading has come, and lists that grow while it goes on.
+//! The state of a reader, and lists that grow while a file is read.
 ghost use Rattle.std.specs.Prelude.{◌≡◌, ◌+◌, ◌*◌, ◌^◌, ◌≤◌, ◌<◌, ◌∷◌, [], ◌++◌, OnOk, OnErr, Err};
 
 use crate::fault::ReadFault;
 use std::alloc::Global;
 
-/// How far the reading has come.
+/// The state of a reader.
 #[derive(Drop)]
 pub struct Front {
-    /// The number of bytes taken.
+    /// The number of bytes read.
     pub place: u64,
-    /// By how many items the lists of this crate have grown, those let go too. Only `grow` raises it.
+    /// The total growth of this crate's lists in items, dropped lists included. Only `grow` increases it.
     pub growth: u64,
-    /// The fill bytes among the bytes taken, in their order.
+    /// The padding bytes among the bytes read, in order.
     pub fill: Vec<u8>,
-    // All lists together hold at most 4 items for each byte taken, and 65,536 more.
+    // All lists together grow by at most 4 items for each byte read, and 65,536 more.
     pub ghost bound: { growth ≤ 4 * place + 65536 },
 }
 
 impl Front {
-    /// The front before the first byte.
+    /// Creates the state before the first byte.
     pub fn new(alloc: Global) -> Front
         ensures place { result.place ≡ 0 }
         ensures growth { result.growth ≡ 0 }
@@ -32,9 +32,9 @@ impl Front {
     }
 }
 
-/// Makes room for `more` items of a list, and counts them. All growth of this crate's lists while a file is read goes
-/// through here: a list runs at most 65,536 items ahead of its bytes, and all lists together hold at most 4 items for each
-/// byte taken and 65,536 more.
+/// Reserves space for `more` items of a list, and counts them. All lists of this crate grow through this function
+/// while a file is read: a list is at most 65,536 items ahead of its bytes, and all lists together grow by at most
+/// 4 items for each byte read, and 65,536 more.
 pub fn grow<T>(list: &mut Vec<T>, more: usize, front: &mut Front) -> Result<(), ReadFault>
     requires ahead { more ≤ 65536 }
     requires bound { front.old.growth + more ≤ 4 * front.old.place + 65536 }

@@ -1,5 +1,5 @@
-//! Tables whose front alone is read and checked: headers, maps, sparse indexes and block lengths. Each block is verified
-//! when it is fetched.
+//! Tables opened by their front alone: headers, maps, sparse indexes and block lengths are read and checked. A
+//! block is verified when it is fetched.
 ghost use Rattle.std.specs.Prelude.{ℕ, List, ◌≡◌, ◌+◌, ◌≤◌, ◌<◌, ◌^◌, ◌↔◌, IfErr, IfOk, IsTrue, length, map};
 ghost use Rattle.szg_block.specs.BlocksTrait.{Rose};
 ghost use Rattle.szg_file.specs.Contents.{gap, slots};
@@ -23,7 +23,8 @@ use std::marker::Model;
 use szg_block::Source;
 use szg_values::{Kind, Material};
 
-/// A table whose front passes every check, and whose blocks may hold anything: they are verified when they are fetched.
+/// A table whose front passes every check. Its blocks may contain anything: they are verified when they are
+/// fetched.
 #[derive(Drop)]
 pub struct FrontTable {
     pub(crate) index: TableIndex,
@@ -48,7 +49,7 @@ impl Model for FrontTable {
 impl FrontTable {
     ghost use Rattle.std.specs.Prelude.{◌≡◌};
 
-    /// Returns its index: all but the blocks, and where they are.
+    /// Returns the table's index: its material and kind, its parts, and the flags and maps of its subtables.
     pub fn index(&self) -> &TableIndex
         ensures { result.now ≡ self.now.index }
     {
@@ -56,10 +57,10 @@ impl FrontTable {
     }
 }
 
-/// How many bytes are asked of the source at once.
+/// The number of bytes requested from the source at once.
 const CHUNK: usize = 32768;
 
-/// Whether a file whose blocks end at `end` has room for its padding and its last sixteen bytes.
+/// Whether a file of `length` bytes whose blocks end at `end` has room for the padding and the last sixteen bytes.
 fn has_ending(end: u64, length: u64) -> bool
     requires { end < 2 ^ 62 }
     ensures { IsTrue result ↔ (end + gap 64 end + 16 ≤ length) }
@@ -67,8 +68,8 @@ fn has_ending(end: u64, length: u64) -> bool
     end + padding_to_64(end) + 16 <= length
 }
 
-/// Returns the table of a front that was read in the first `place` bytes of a source of `size` bytes. Errors: `Truncated`
-/// at the source's length if it is too short for the blocks and what follows them, or want of memory.
+/// Returns the table of a front that was read from the first `place` bytes of a source of `size` bytes. Errors:
+/// `Truncated` at the source's length if it is too short for the blocks and what follows them; `Memory`.
 fn front_table(
     alloc: Global,
     material: Material,
@@ -111,12 +112,12 @@ fn front_table(
     })
 }
 
-/// Opens a table of this material and kind by its front: reads the source from its first byte up to the block lengths,
-/// with every check of `read`, and finds by arithmetic that the source is long enough for the blocks, the padding and the
-/// last sixteen bytes. It requests no byte of a block, and hands the source back.
+/// Opens a table of this material and kind by its front. It reads the source from its first byte up to the block
+/// lengths, with every check that `read` makes there, and computes that the source is long enough for the blocks,
+/// the padding and the last sixteen bytes. It requests no byte of a block. Returns the source, too.
 ///
-/// Errors: `Refused` with the offset and the reason that `read` returns for these checks, or `Truncated` at the source's
-/// length; `Source` if the source failed; `Memory` if memory was refused.
+/// Errors: `Refused` with the offset and the reason that `read` returns for these checks, or `Truncated` at the
+/// source's length; `Source` if the source failed; `Memory` if an allocation was refused.
 pub fn open_front<S: Source + Drop>(
     alloc: Global,
     material: Material,

@@ -21,11 +21,11 @@ use szg_code::{Code, CodeFault};
 use szg_io::Input;
 use szg_pairs::{Dict, DictFault};
 
-/// Takes the head of each subtable: its flags, and one byte of a constant subtable, or else the numbers, the code and the
-/// dictionary that its values are packed with (de Man's format).
+/// Reads the header of each subtable: its flags, and one byte of a constant subtable, or else the sizes, the code
+/// and the dictionary of its packed values (de Man's format).
 ///
-/// `BlockBits`, `SpanBits`, `CodeLengths`, `LowestOrder`, `TooFull`, `Child`, `Cycle` and `LongSymbol` are told in the
-/// order in which a head's bytes come.
+/// `BlockBits`, `SpanBits`, `CodeLengths`, `LowestOrder`, `TooFull`, `Child`, `Cycle` and `LongSymbol` are checked
+/// in the order of a header's bytes.
 pub fn read_heads<R: Input>(
     alloc: Global,
     slots: &[Slot],
@@ -50,7 +50,7 @@ pub fn read_heads<R: Input>(
     Ok(list)
 }
 
-/// Takes the head of a subtable.
+/// Reads the header of a subtable.
 fn read_head<R: Input>(
     alloc: Global,
     slot: Slot,
@@ -77,7 +77,7 @@ fn read_head<R: Input>(
     Ok(Begun { slot, sub })
 }
 
-/// Takes what stands behind the flags of a subtable that isn't constant.
+/// Reads the header of a subtable that is not constant, after its flags.
 fn read_packed_head<R: Input>(
     alloc: Global,
     flags: u8,
@@ -113,7 +113,7 @@ fn read_packed_head<R: Input>(
     })
 }
 
-/// Takes the block bits: a block has 2 to that many bytes, at most 2^18.
+/// Reads the block bits: a block has 2^bits bytes, at most 2^18.
 fn read_block_bits<R: Input>(input: &mut R, front: &mut Front) -> Result<u8, ReadFault>
     requires { front.old.place < 2 ^ 62 }
     ensures bits { Reading (byte_where (λ bits. nat_le bits 18) Reason.BlockBits) (λ bits. bits) front.old front.new R.Input input.old input.new result }
@@ -133,7 +133,7 @@ fn read_block_bits<R: Input>(input: &mut R, front: &mut Front) -> Result<u8, Rea
     Ok(bits)
 }
 
-/// Takes the span bits: an entry of the sparse index stands for 2 to that many positions, 2 to 2^31.
+/// Reads the span bits: each entry of the sparse index covers a span of 2^bits positions, 2 to 2^31.
 fn read_span_bits<R: Input>(input: &mut R, front: &mut Front) -> Result<u8, ReadFault>
     requires { front.old.place < 2 ^ 62 }
     ensures bits { Reading (byte_where (λ bits. nat_lt 0 bits && nat_le bits 31) Reason.SpanBits) (λ bits. bits) front.old front.new R.Input input.old input.new result }
@@ -154,8 +154,8 @@ fn read_span_bits<R: Input>(input: &mut R, front: &mut Front) -> Result<u8, Read
     Ok(bits)
 }
 
-/// The sizes that a head tells behind the span bits: how many extra lengths and blocks there are, and the least and the
-/// greatest length of a word.
+/// The sizes that follow the span bits in a header: the number of extra lengths, the number of blocks, and the
+/// least and the greatest code length.
 #[derive(Clone, Copy)]
 pub struct HeadSizes {
     pub extra: u8,
@@ -164,14 +164,14 @@ pub struct HeadSizes {
     pub max: u8,
 }
 
-/// Whether words may have these lengths.
+/// Whether a code may have these least and greatest lengths.
 fn are_lengths(min: u8, max: u8) -> bool
     ensures { result ≡ (nat_lt 0 min && nat_le min max && nat_le max 32) }
 {
     0 < min && min <= max && max <= 32
 }
 
-/// Takes the numbers behind the span bits, in one piece, since no check stands between them.
+/// Reads the sizes after the span bits at once, because no check comes between them.
 fn read_sizes<R: Input>(input: &mut R, front: &mut Front) -> Result<HeadSizes, ReadFault>
     requires { front.old.place < 2 ^ 62 }
     ensures sizes { Reading sizes_field (λ sizes. sizes) front.old front.new R.Input input.old input.new result }
@@ -200,7 +200,7 @@ fn read_sizes<R: Input>(input: &mut R, front: &mut Front) -> Result<HeadSizes, R
     Ok(sizes)
 }
 
-/// Takes the lowest symbol of each length, and tells their code, as yet without symbols.
+/// Reads the lowest symbol of each length. Returns the code with 0 symbols; their number is read later.
 fn read_lowest<R: Input>(
     alloc: Global,
     min: u8,
@@ -225,7 +225,7 @@ fn read_lowest<R: Input>(
     code_of_lowest(place, min, max, lowest)
 }
 
-/// The code, without symbols, of lowest symbols that stand at a place.
+/// Creates the code, with 0 symbols, of lowest symbols that begin at offset `place`.
 fn code_of_lowest(place: u64, min: u8, max: u8, lowest: Vec<u16>) -> Result<Code, ReadFault>
     requires some { 1 ≤ min }
     requires in_order { min ≤ max }
@@ -243,7 +243,7 @@ fn code_of_lowest(place: u64, min: u8, max: u8, lowest: Vec<u16>) -> Result<Code
     }
 }
 
-/// The refusal of a fault of lowest symbols that stand at a place.
+/// Returns the refusal for a fault of lowest symbols that begin at offset `place`.
 fn lowest_refusal(place: u64, fault: CodeFault) -> ReadFault
     requires place { place < 2 ^ 62 }
     requires lengths { fault ≢ CodeFault.Lengths }
@@ -262,7 +262,7 @@ fn lowest_refusal(place: u64, fault: CodeFault) -> ReadFault
     }
 }
 
-/// Takes the dictionary: its number of entries, the entries, and a fill byte where the number is odd.
+/// Reads the dictionary: its number of entries, the entries, and a padding byte if the number is odd.
 fn read_dictionary<R: Input>(
     alloc: Global,
     input: &mut R,
@@ -281,7 +281,7 @@ fn read_dictionary<R: Input>(
     Ok(dict)
 }
 
-/// Takes so many entries of a dictionary.
+/// Reads `count` entries of a dictionary.
 fn read_entries<R: Input>(
     alloc: Global,
     count: u16,
@@ -300,7 +300,7 @@ fn read_entries<R: Input>(
     dict_of_entries(alloc, place, entries)
 }
 
-/// The dictionary of entries that stand at a place.
+/// Creates the dictionary of entries that begin at offset `place`.
 fn dict_of_entries(alloc: Global, place: u64, entries: Vec<[u8; 3]>) -> Result<Dict, ReadFault>
     requires count { length entries.items ≤ 65535 }
     requires place { place < 2 ^ 62 }
@@ -314,7 +314,7 @@ fn dict_of_entries(alloc: Global, place: u64, entries: Vec<[u8; 3]>) -> Result<D
     }
 }
 
-/// The refusal of a fault of entries that stand at a place.
+/// Returns the refusal for a fault of entries that begin at offset `place`.
 fn entries_refusal(place: u64, fault: DictFault) -> ReadFault
     requires { place < 2 ^ 62 }
     ensures refused { fault ≢ DictFault.Memory → Refuses (entries_refusal place fault) result }

@@ -9,8 +9,8 @@ use std::alloc::Global;
 use szg_io::Bytes;
 use szg_values::{Kind, Material};
 
-/// Reads a table of this material and kind from the front of bytes in memory, as `read` does. No device can fail
-/// there: the answer is the verdict on the bytes, or `Memory`.
+/// Reads a table of this material and kind from the front of `bytes`, as `read` does. There is no device that can
+/// fail: the result is the verdict on the bytes, or `Memory`.
 pub fn read_bytes(
     alloc: Global,
     material: Material,

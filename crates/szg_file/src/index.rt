@@ -16,7 +16,7 @@ use std::alloc::Global;
 use szg_block::{Sub, SubFault, check_index, entry_count};
 use szg_io::Input;
 
-/// Takes something more into each item of a list, one after another, by a call of `take`.
+/// Passes each item of a list, in order, to `take`, which reads more of it. Returns the results.
 fn take_each<
     T: Drop,
     U: Drop,
@@ -47,7 +47,7 @@ fn take_each<
     Ok(taken)
 }
 
-/// Takes the sparse index of each subtable that isn't constant.
+/// Reads the sparse index of each subtable that is not constant.
 pub fn read_indexes<R: Input>(
     alloc: Global,
     list: Vec<Begun>,
@@ -66,7 +66,7 @@ pub fn read_indexes<R: Input>(
     take_each(alloc, list, read_index, input, front)
 }
 
-/// Takes one subtable's sparse index into it, and tells where it stands; a constant subtable has none.
+/// Reads one subtable's sparse index into it, and records its offset. A constant subtable has none.
 fn read_index<R: Input>(
     alloc: Global,
     begun: Begun,
@@ -94,7 +94,7 @@ fn read_index<R: Input>(
     Ok(Indexed { slot, sub, index })
 }
 
-/// Takes the lengths of each subtable that isn't constant.
+/// Reads the block lengths of each subtable that is not constant.
 pub fn read_lengths<R: Input>(
     alloc: Global,
     list: Vec<Indexed>,
@@ -113,7 +113,7 @@ pub fn read_lengths<R: Input>(
     take_each(alloc, list, read_measured, input, front)
 }
 
-/// Takes one subtable's lengths into it, and checks them and the sparse index; a constant subtable has none.
+/// Reads one subtable's block lengths into it, and checks them and the sparse index. A constant subtable has none.
 fn read_measured<R: Input>(
     alloc: Global,
     indexed: Indexed,
@@ -149,7 +149,8 @@ fn read_measured<R: Input>(
     Ok(Measured { slot, sub, index })
 }
 
-/// The checks of lengths that stand at `place` and of a sparse index that stands at `index`.
+/// Checks block lengths that begin at offset `place` and a sparse index that begins at offset `index`. Returns the
+/// first failing check with its offset.
 fn index_refusal(sub: &Sub, size: u64, place: u64, index: u64) -> Option<(u64, Reason)>
     requires shaped { IsShapedHead sub.now size }
     requires size { size < 2 ^ 33 }
@@ -161,7 +162,7 @@ fn index_refusal(sub: &Sub, size: u64, place: u64, index: u64) -> Option<(u64, R
         Ok(()) => None,
         Err(SubFault::ShortTotal) => Some((place, Reason::ShortTotal)),
         Err(SubFault::SparseEntry(entry)) => Some((index + 6 * entry, Reason::SparseEntry)),
-        // the index alone has no other fault
+        // this check has no other fault
         Err(SubFault::Word(_)) => None,
     }
 }

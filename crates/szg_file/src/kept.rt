@@ -1,4 +1,4 @@
-//! Tables without their source: whoever has the file reads the bytes that are wanted.
+//! Mapped tables: opened tables that no longer own their source. The caller reads or maps the file's bytes.
 
 use crate::dropping::PlacedSub;
 use crate::lookup::{slotted_at, value_of, wanted_of};
@@ -8,12 +8,12 @@ use crate::wanted::Wanted;
 use std::marker::Model;
 use szg_block::Source;
 
-/// What is kept of a table that every check of the format accepts, so that its values are found in bytes that the caller
-/// brings: all but the blocks, and no source.
+/// A mapped table: all but the blocks of a table that every check of the format accepts. Its values are decoded
+/// from bytes that the caller provides.
 #[derive(Drop)]
 pub struct Heads {
     index: TableIndex,
-    // how many bytes the source had
+    // the source's number of bytes
     length: u64,
     subs: Vec<PlacedSub>,
 }
@@ -34,7 +34,7 @@ impl<S: Source + Drop> Opened<S> {
     ghost use Rattle.szg_file.specs.Heads.{IsKeptOf};
     ghost use Rattle.szg_file.specs.Opened.{IsIndexIn};
 
-    /// Lets the source go, and keeps all that look-ups in its bytes need.
+    /// Drops the source, and keeps what look-ups in its bytes need.
     pub fn into_heads(self) -> Heads
         ensures heads { IsKeptOf result self.content }
         ensures material { result.material ≡ self.material }
@@ -62,14 +62,14 @@ impl Heads {
     ghost use Rattle.szg_file.specs.Values.{values_of, item};
     ghost use Rattle.szg_file.specs.Wanted.{wanted_block, IsSpelledBy};
 
-    /// Returns its index: all but the blocks, and where they are.
+    /// Returns the table's index: its material and kind, its parts, and the flags and maps of its subtables.
     pub fn index(&self) -> &TableIndex
         ensures { result.now ≡ self.now.index }
     {
         &self.index
     }
 
-    /// The number of positions of a part's side, where there is one.
+    /// Returns the number of positions of a part's side. None if there is no such side.
     pub fn size(&self, part: u8, side: u8) -> Option<u64>
         ensures slot { result ≡ option_map (λ slot. slot.size) (slot_at self.now part side) }
         ensures size { (content : List ℕ) → IsKeptOf self.now content → result ≡ option_map (λ found. found.0.size) (kept_at self.now content part side) }
@@ -77,8 +77,8 @@ impl Heads {
         self.index.size(part, side)
     }
 
-    /// The bytes of the file that value i of a part's side wants: those of one block; None in a constant subtable, whose
-    /// values want none.
+    /// Returns the byte range of the file that value `i` of a part's side needs: that of one block. None in a
+    /// constant subtable.
     pub fn find(&self, part: u8, side: u8, i: u64) -> Option<Wanted>
         requires { IsSomeAnd (slot_at self.now part side) (λ slot. i < slot.size) }
         ensures wanted { (content : List ℕ) → IsKeptOf self.now content → IfSome (kept_at self.now content part side) (λ found. MatchOption result (wanted_block found.1 i ≡ None) (λ wanted. wanted_block found.1 i ≡ Some (bytes_at content wanted.place wanted.count))) }
@@ -90,10 +90,11 @@ impl Heads {
         wanted_of(&found, i)
     }
 
-    /// Value i of a part's side, out of the bytes that it wants. A constant subtable has it without any.
+    /// Returns value `i` of a part's side, decoded from `piece`, the bytes at the range that `find` returns. A
+    /// constant subtable ignores them.
     ///
-    /// Where the bytes are others, since the file changed meanwhile, the value is what their words spell at its place; None
-    /// where they spell too few values, or where they aren't as many as a block has.
+    /// If the bytes differ, because the file has changed meanwhile, the value is the one that their words spell at
+    /// its index in the block. None if they spell too few values, or if they do not have the length of a block.
     pub fn value_in(&self, part: u8, side: u8, i: u64, piece: &[u8]) -> Option<u16>
         requires { IsSomeAnd (slot_at self.now part side) (λ slot. i < slot.size) }
         ensures value { (content : List ℕ) → IsKeptOf self.now content → IfSome (kept_at self.now content part side) (λ found. IfSome (wanted_block found.1 i) (λ block. block ≡ piece.now) → IsSomeAnd result (λ value. item (values_of self.now.kind found) i ≡ Some value)) }

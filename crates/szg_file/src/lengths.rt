@@ -1,4 +1,4 @@
-//! How many bytes a table's parts, subtables and maps have in its file.
+//! The number of bytes of a table's parts, subtables and maps in its file.
 ghost use Rattle.std.specs.Prelude.{◌≡◌, ◌+◌, ◌*◌, ◌^◌, ◌<◌, length, option_map, sum_by};
 ghost use Rattle.szg_file.specs.Held.{part_of, subtable_of, map_of};
 ghost use Rattle.szg_file.specs.Lengths.{part_length, subtable_length, map_length};
@@ -13,7 +13,7 @@ fn part_len(part: &PartBytes) -> u64
     part.order.len() as u64 + part.men.len() as u64
 }
 
-/// The bytes of the parts.
+/// Returns the number of bytes of the parts.
 pub fn parts_len(parts: &[PartBytes]) -> u64
     requires { sum_by (λ part. part_length (part_of part)) parts.now < 2 ^ 62 }
     ensures { result ≡ sum_by (λ part. part_length (part_of part)) parts.now }
@@ -45,7 +45,7 @@ fn sub_len(sub: &Sub) -> u64
     }
 }
 
-/// The bytes of the subtables' heads, indexes, lengths and blocks.
+/// Returns the number of bytes of the subtables' headers, sparse indexes, block lengths and blocks.
 pub fn subs_len(subs: &[Sub]) -> u64
     requires { sum_by (λ sub. subtable_length (subtable_of sub)) subs.now < 2 ^ 62 }
     ensures { result ≡ sum_by (λ sub. subtable_length (subtable_of sub)) subs.now }
@@ -90,7 +90,7 @@ fn map_len(map: &Option<Map>) -> u64
     }
 }
 
-/// The bytes of the maps.
+/// Returns the number of bytes of the maps.
 pub fn maps_len(maps: &[Option<Map>]) -> u64
     requires { sum_by (λ item. map_length (option_map map_of item)) maps.now < 2 ^ 62 }
     ensures { result ≡ sum_by (λ item. map_length (option_map map_of item)) maps.now }

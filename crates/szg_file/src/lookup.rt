@@ -1,4 +1,4 @@
-//! Finding a subtable among a table's.
+//! Finding a subtable of a table.
 ghost use Rattle.std.specs.Prelude.{ℕ, List, ◌≡◌, ◌+◌, ◌^◌, ◌<◌, ◌≤◌, ◌&&◌, nat_eq, position, slice_get, length, MatchOption, IfSome, IsSomeAnd, Some, None};
 ghost use Rattle.szg_block.specs.BlocksTrait.{bytes_at};
 ghost use Rattle.szg_file.specs.Values.{constant_value as constant_of};
@@ -22,14 +22,14 @@ pub struct Found<'a> {
     pub sub: &'a Sub,
 }
 
-/// A subtable that is kept without its blocks, with its slot.
+/// A subtable without its blocks, with its slot.
 #[derive(Clone, Copy)]
 pub struct Slotted<'a> {
     pub slot: Slot,
     pub placed: &'a PlacedSub,
 }
 
-/// Which slot is this part's and side's, counted from 0.
+/// Returns the number of the slot of a part and side, from 0.
 pub fn slot_number(slots: &[Slot], part: u8, side: u8) -> Option<usize>
     ensures { result ≡ position (λ slot. nat_eq slot.part part && nat_eq slot.side side) slots.now }
 {
@@ -38,7 +38,7 @@ pub fn slot_number(slots: &[Slot], part: u8, side: u8) -> Option<usize>
         .position(|slot| slot.part == part && slot.side == side)
 }
 
-/// The value that a subtable stands for where it is constant: in WDL its byte, in DTZ 0.
+/// Returns the value of a constant subtable: its byte in WDL, 0 in DTZ.
 pub fn constant_value(kind: Kind, sub: &Sub) -> u16
     ensures { result ≡ constant_of kind (byte_of sub.now) }
 {
@@ -48,7 +48,7 @@ pub fn constant_value(kind: Kind, sub: &Sub) -> u16
     }
 }
 
-/// The first slot of this part and side, with the subtable that is kept for it.
+/// Returns the first slot of a part and side, with its subtable.
 pub fn slotted_at<'a>(
     slots: &[Slot],
     subs: &'a [PlacedSub],
@@ -65,7 +65,7 @@ pub fn slotted_at<'a>(
     })
 }
 
-/// The bytes that value i of a subtable wants; None in a constant one.
+/// Returns the byte range that value `i` of a subtable needs. None in a constant subtable.
 pub fn wanted_of(found: &Slotted, i: u64) -> Option<Wanted>
     requires known { (content : List ℕ) × StandsIn content found.now.slot found.now.placed.now × (length content < 2 ^ 64) }
     requires below { i < found.now.slot.size }
@@ -81,7 +81,8 @@ pub fn wanted_of(found: &Slotted, i: u64) -> Option<Wanted>
     })
 }
 
-/// Value i of a subtable out of the bytes that it wants, or what others spell at its place.
+/// Returns value `i` of a subtable, decoded from the bytes of its block. For other bytes it returns the value that
+/// they spell at the same index, or None if they spell too few.
 pub fn value_of(kind: Kind, found: &Slotted, i: u64, piece: &[u8]) -> Option<u16>
     requires known { (content : List ℕ) × StandsIn content found.now.slot found.now.placed.now }
     requires below { i < found.now.slot.size }

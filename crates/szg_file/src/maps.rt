@@ -18,7 +18,7 @@ use std::alloc::Global;
 use szg_io::Input;
 use szg_values::Kind;
 
-/// Takes the maps of a DTZ file, an item a part; a WDL file has none.
+/// Reads the maps of a DTZ file, one item per part. A WDL file has none.
 pub fn read_maps<R: Input>(
     alloc: Global,
     kind: Kind,
@@ -40,7 +40,7 @@ pub fn read_maps<R: Input>(
     }
 }
 
-/// Takes the maps of a DTZ file, and the fill behind them.
+/// Reads the maps of a DTZ file and the padding after them.
 fn read_dtz_maps<R: Input>(
     alloc: Global,
     heads: &[Begun],
@@ -60,7 +60,7 @@ fn read_dtz_maps<R: Input>(
     Ok(maps)
 }
 
-/// Takes the map of each part that has one.
+/// Reads the map of each part that has one.
 fn read_each<R: Input>(
     alloc: Global,
     heads: &[Begun],
@@ -83,7 +83,7 @@ fn read_each<R: Input>(
     Ok(list)
 }
 
-/// Takes the map of a part, where bit 1 of the flags says that it has one.
+/// Reads the map of a part if bit 1 of its flags is set.
 fn read_map<R: Input>(
     alloc: Global,
     begun: &Begun,
@@ -105,7 +105,7 @@ fn read_map<R: Input>(
     Ok(Some(lists))
 }
 
-/// Takes a map: with bit 4 of the flags (flag 16) its lists are wide and begin at an even place.
+/// Reads a map. With bit 4 of the flags (flag 16) its lists are wide and begin at an even offset.
 fn read_lists<R: Input>(
     alloc: Global,
     flags: u8,
@@ -128,7 +128,7 @@ fn read_lists<R: Input>(
     Ok(Map::Bytes(lists))
 }
 
-/// Takes four lists, each by a call of `read`: for wins, losses, cursed wins and blessed losses.
+/// Reads four lists, each by a call of `read`: for wins, losses, cursed wins and blessed losses.
 fn read_four<T: Drop, R: Input, F: Fn(Global, &mut R, &mut Front) -> Result<Vec<T>, ReadFault>>(
     alloc: Global,
     read: F,
@@ -151,7 +151,7 @@ fn read_four<T: Drop, R: Input, F: Fn(Global, &mut R, &mut Front) -> Result<Vec<
     Ok([wins, losses, cursed_wins, blessed_losses])
 }
 
-/// Takes a list of bytes, which a byte says the length of.
+/// Reads a list of bytes, after a byte with its length.
 fn read_bytes<R: Input>(
     alloc: Global,
     input: &mut R,
@@ -168,7 +168,7 @@ fn read_bytes<R: Input>(
     take_bytes(alloc, u64::from(count), input, front)
 }
 
-/// Takes a list of numbers of two bytes, which such a number says the length of.
+/// Reads a list of two-byte numbers, after a two-byte number with its length.
 fn read_numbers<R: Input>(
     alloc: Global,
     input: &mut R,

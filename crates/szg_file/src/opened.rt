@@ -1,4 +1,4 @@
-//! Tables by place: their heads and lengths in memory, their blocks in a source.
+//! Opened tables: headers and block lengths are in memory, blocks stay in a source.
 ghost use Rattle.std.specs.Prelude.{◌≡◌, IsSome, IfOk, IfErr};
 ghost use Rattle.szg_block.specs.BlocksTrait.{Rose};
 ghost use Rattle.szg_file.specs.File.{file};
@@ -18,18 +18,18 @@ use std::marker::Model;
 use szg_block::{Paged, Source, SourceFault, look_up};
 use szg_values::{Kind, Material};
 
-/// Why a table isn't opened.
+/// Why a table is not opened.
 #[derive(Debug, Clone, Copy, PartialEq, Eq, Drop)]
 pub enum OpenFault {
-    /// The first check that fails, and its place.
+    /// The first check that fails, and its offset.
     Refused { place: u64, reason: Reason },
     /// The source failed.
     Source,
-    /// Memory was refused.
+    /// An allocation was refused.
     Memory,
 }
 
-/// A table that every check of the format accepts, whose blocks are read from a source when they are asked for.
+/// A table that every check of the format accepts. Its blocks are read from a source when they are needed.
 #[derive(Drop)]
 pub struct Opened<S: Source + Drop> {
     pub(crate) index: TableIndex,
@@ -63,14 +63,14 @@ impl<S: Source + Drop> Opened<S> {
     ghost use Rattle.szg_file.specs.Values.{values_of, item};
     ghost use Rattle.szg_file.specs.Wanted.{wanted_block};
 
-    /// The number of positions of a part's side, where there is one.
+    /// Returns the number of positions of a part's side. None if there is no such side.
     pub fn size(&self, part: u8, side: u8) -> Option<u64>
         ensures { result ≡ option_map (λ found. found.0.size) (opened_at self.now part side) }
     {
         self.index.size(part, side)
     }
 
-    /// The source.
+    /// Returns the source.
     pub fn source(&self) -> &S
         ensures content { S.content result.now ≡ self.now.content }
         ensures failed { S.failed result.now ≡ self.now.failed }
@@ -79,10 +79,11 @@ impl<S: Source + Drop> Opened<S> {
         self.blocks.source()
     }
 
-    /// Value i of a part's side. It takes no memory, and asks the source for one block, for none in a constant subtable.
+    /// Returns value `i` of a part's side. It takes no memory, and requests one block from the source, or none for
+    /// a constant subtable.
     ///
-    /// A fault comes only where the source failed, in a constant subtable never; the next call is answered as if there had
-    /// been none.
+    /// Errors: the source failed, which never happens for a constant subtable. An error has no effect on later
+    /// calls.
     pub fn get(&mut self, part: u8, side: u8, i: u64) -> Result<u16, SourceFault>
         requires there { IsSome (opened_at self.old part side) }
         requires below { IfSome (opened_at self.old part side) (λ found. i < found.0.size) }
@@ -109,16 +110,16 @@ impl<S: Source + Drop> Opened<S> {
     }
 }
 
-/// How many bytes of a subtable's blocks are asked of the source at once while a table is opened.
+/// The number of bytes of a subtable's blocks that are requested at once while a table is opened.
 const PIECE: usize = 65536;
 
-/// Opens a table of this material and kind over a source: every check of `read` is made of the source's bytes from the
-/// first on, blocks and all, and no block is kept. It asks the source for one field behind another, and for the blocks of
-/// a subtable, 64 KiB at a time; for no byte behind the table, nor behind a field whose check fails. Only behind a block
-/// whose check fails it may have asked for later blocks of its subtable.
+/// Opens a table of this material and kind over a source. It makes every check of `read` on the source's bytes from
+/// the first on, those of blocks included, and keeps no block. It requests one field after another, and the blocks
+/// of a subtable in chunks of 64 KiB. It requests no byte after the table, and none after a field whose check
+/// fails, except that chunks may extend past a block whose check fails to later blocks of its subtable.
 ///
-/// The source is handed back with a fault: `Refused` with the place and the reason that `read` tells, `Source` where the
-/// source failed, `Memory` where memory was refused.
+/// An error includes the source. Errors: `Refused` with the offset and the reason that `read` returns; `Source` if
+/// the source failed; `Memory` if an allocation was refused.
 pub fn open<S: Source + Drop>(
     alloc: Global,
     material: Material,
@@ -163,7 +164,7 @@ pub fn open<S: Source + Drop>(
     }
 }
 
-/// What a fault of reading is where a source is opened.
+/// Converts a fault of reading to one of opening.
 pub fn open_fault(fault: ReadFault) -> OpenFault
     ensures { result ≡ opened_fault fault }
 {

@@ -8,19 +8,19 @@ use crate::fault::WriteFault;
 use arrayvec::ArrayVec;
 use szg_io::{Output, give_whole};
 
-/// How far the writing has come.
+/// The state of a writer.
 #[derive(Drop)]
 pub struct Outgoing<'a> {
-    /// The number of bytes that went out, modulo 2^64; no table's file is as long.
+    /// The number of bytes written, modulo 2^64. No table's file is that long.
     pub out: u64,
-    /// The bytes behind them that wait to be given.
+    /// The buffered bytes after them.
     pub held: ArrayVec<u8, 4096>,
-    /// The fill bytes that no section has taken.
+    /// The padding bytes that no section has used yet.
     pub fill: &'a [u8],
 }
 
 impl<'a> Outgoing<'a> {
-    /// Before the first byte of a file with this fill.
+    /// Creates the state before the first byte of a file with these padding bytes.
     pub fn new(fill: &'a [u8]) -> Outgoing<'a>
         ensures out { result.out ≡ 0 }
         ensures held { result.held.items ≡ [] }
@@ -34,7 +34,7 @@ impl<'a> Outgoing<'a> {
     }
 }
 
-/// Gives a piece behind so many bytes, and tells how many bytes went out then.
+/// Writes `piece` after the first `out` bytes; returns the new total. Errors: the total when the device failed.
 fn give<W: Output>(piece: &[u8], output: &mut W, out: u64) -> Result<u64, WriteFault>
     ensures ok { IfOk result (λ now. now ≡ (out + length piece.now) % 2 ^ 64) }
     ensures given { OnOk result (Gives W.Output output.old output.new piece.now 0) }
@@ -51,7 +51,7 @@ fn give<W: Output>(piece: &[u8], output: &mut W, out: u64) -> Result<u64, WriteF
     }
 }
 
-/// Gives the bytes that are held.
+/// Writes the buffered bytes.
 pub fn flush<W: Output>(output: &mut W, outgoing: &mut Outgoing) -> Result<(), WriteFault>
     ensures none { Writing [] outgoing.old outgoing.new W.Output output.old output.new result }
     ensures held { OnOk result (outgoing.new.held.items ≡ []) }
@@ -61,7 +61,7 @@ pub fn flush<W: Output>(output: &mut W, outgoing: &mut Outgoing) -> Result<(), W
     Ok(())
 }
 
-/// Holds a piece, where there is room for it.
+/// Buffers `piece` if there is room for it; returns whether there was.
 fn hold(piece: &[u8], outgoing: &mut Outgoing) -> bool
     ensures room { IsTrue result ↔ (length outgoing.old.held.items + length piece.now ≤ 4096) }
     ensures out { outgoing.new.out ≡ outgoing.old.out }
@@ -72,7 +72,7 @@ fn hold(piece: &[u8], outgoing: &mut Outgoing) -> bool
     outgoing.held.try_extend_from_slice(piece).is_ok()
 }
 
-/// Holds a piece, or gives it where it is too long.
+/// Buffers `piece`, or writes it if it is longer than the buffer.
 pub fn put<W: Output>(
     piece: &[u8],
     output: &mut W,
@@ -90,7 +90,7 @@ pub fn put<W: Output>(
     Ok(())
 }
 
-/// Puts so many fill bytes.
+/// Buffers or writes the next `count` padding bytes.
 pub fn put_spare<W: Output>(
     count: u64,
     output: &mut W,
@@ -105,7 +105,7 @@ pub fn put_spare<W: Output>(
     put(fill, output, outgoing)
 }
 
-/// Puts the fill up to a multiple of the unit, 2 or 64.
+/// Buffers or writes the padding up to a multiple of `unit`, which is 2 or 64.
 pub fn put_padding<W: Output>(
     unit: u64,
     output: &mut W,

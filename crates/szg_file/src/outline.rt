@@ -1,4 +1,4 @@
-//! A whole file that is checked, with no block kept.
+//! Reading and checking a whole file without keeping blocks.
 ghost use Rattle.std.specs.Prelude.{◌≡◌, ◌+◌, ◌*◌, ◌^◌, ◌≤◌, ◌<◌, [], length, map, IfOk, OnOk, IsErrOf};
 ghost use Rattle.std.specs.List.{AllByRecursion};
 ghost use Rattle.szg_file.specs.Contents.{slots};
@@ -22,7 +22,7 @@ use std::alloc::Global;
 use szg_io::Input;
 use szg_values::{Kind, Material};
 
-/// A whole file, but for its name, its fill and its blocks.
+/// The contents of a whole file except its material and kind, its padding bytes and its blocks.
 #[derive(Drop)]
 pub struct Outline {
     pub byte4: u8,
@@ -32,7 +32,7 @@ pub struct Outline {
     pub last: [u8; 16],
 }
 
-/// Takes the sparse indexes, the lengths and the blocks, and keeps of the blocks their places.
+/// Reads the sparse indexes, the block lengths and the blocks. Of the blocks it keeps the offsets.
 fn outline_subtables<R: Input + Ahead>(
     alloc: Global,
     heads: Vec<Begun>,
@@ -54,7 +54,7 @@ fn outline_subtables<R: Input + Ahead>(
     pass_subs(alloc, measured, buffer, input, front)
 }
 
-/// Takes a whole file, each block into the buffer, which grows to the longest.
+/// Reads a whole file. Each block is read into the buffer, which grows to the longest.
 pub fn read_outline<R: Input + Ahead>(
     alloc: Global,
     material: &Material,

@@ -1,4 +1,5 @@
-//! What tables tell without their blocks: the flags of subtables, and of a table by place its name, its parts and its numbers.
+//! Access to a table without its blocks: the flags of its subtables, and of an opened table its material, kind,
+//! parts and DTZ distances.
 ghost use Rattle.std.specs.Prelude.{◌≡◌, ◌≤◌, length, map};
 
 use crate::fault::MapFault;
@@ -13,7 +14,7 @@ impl Table {
     ghost use Rattle.std.specs.Prelude.{◌≡◌, map};
     ghost use Rattle.szg_file.specs.File.{flags_of as flags_byte};
 
-    /// The flags bytes of the subtables, in file order.
+    /// Returns the flag bytes of the subtables, in file order.
     pub fn flags(&self) -> ArrayVec<u8, 8>
         ensures { result.items ≡ map flags_byte self.now.contents.subtables }
     {
@@ -21,7 +22,7 @@ impl Table {
     }
 }
 
-// Returns a list of its own of these flags.
+// Returns a copy of these flags.
 fn copied(flags: &[u8]) -> ArrayVec<u8, 8>
     requires { length flags.now ≤ 8 }
     ensures { result.items ≡ flags.now }
@@ -41,7 +42,7 @@ impl<S: Source + Drop> Opened<S> {
     ghost use Rattle.szg_file.specs.Opened.{opened_table, opened_at, IsTableOf};
     ghost use Rattle.szg_file.specs.Values.{number_of_value};
 
-    /// Returns its index: all but the blocks, and where they are.
+    /// Returns the table's index: its material and kind, its parts, and the flags and maps of its subtables.
     pub fn index(&self) -> &TableIndex
         ensures index { IsSomeAnd (opened_table self.now) (λ t. result.now ≡ index_of t) }
         ensures table { IsSomeAnd (opened_table self.now) (IsTableOf self.now.material self.now.kind) }
@@ -49,21 +50,21 @@ impl<S: Source + Drop> Opened<S> {
         &self.index
     }
 
-    /// The material of the name that it was opened by.
+    /// Returns the material of the name that the table was opened by.
     pub fn material(&self) -> &Material
         ensures { result.now ≡ self.now.material }
     {
         self.index.material()
     }
 
-    /// What it tells: outcomes or distances.
+    /// Returns the kind of the table's values: outcomes or distances.
     pub fn kind(&self) -> Kind
         ensures { result ≡ self.now.kind }
     {
         self.index.kind()
     }
 
-    /// The parts' bytes: four parts with pawns, else one.
+    /// Returns the bytes of the parts: four parts with pawns, else one.
     pub fn parts(&self) -> &[PartBytes]
         ensures bytes { IsSomeAnd (opened_table self.now) (λ t. map part_of result.now ≡ t.parts) }
         ensures table { IsSomeAnd (opened_table self.now) (IsTableOf self.now.material self.now.kind) }
@@ -71,16 +72,17 @@ impl<S: Source + Drop> Opened<S> {
         self.index.parts()
     }
 
-    /// The flags bytes of the subtables, in file order.
+    /// Returns the flag bytes of the subtables, in file order.
     pub fn flags(&self) -> ArrayVec<u8, 8>
         ensures { IsSomeAnd (opened_table self.now) (λ t. result.items ≡ map flags_byte t.subtables) }
     {
         copied(self.index.flags())
     }
 
-    /// The number of a DTZ value in a class (2 win, 1 cursed win, -1 blessed loss, -2 loss). It asks the source for nothing.
+    /// Returns the distance in plies of a DTZ value in a class (2 win, 1 cursed win, -1 blessed loss, -2 loss). It
+    /// requests nothing from the source.
     ///
-    /// `Draw` exactly for class 0; else `OutsideMap` exactly where the part has a map without such an item.
+    /// Errors: `Draw` exactly for class 0; else `OutsideMap` exactly if the part has a map without such an item.
     pub fn map_value(&self, part: u8, class: i8, v: u16) -> Result<u32, MapFault>
         requires dtz { self.now.kind ≡ Kind.Dtz }
         requires part { IsSome (opened_at self.now part 0) }

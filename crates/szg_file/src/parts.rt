@@ -23,15 +23,15 @@ use szg_count::{Groups, Order, OrderFault};
 use szg_io::Input;
 use szg_values::{Kind, Material};
 
-/// The parts of a file, and the subtables that they make.
+/// The parts of a file, and the slots of their subtables.
 #[derive(Drop)]
 pub struct Parts {
     pub bytes: Vec<PartBytes>,
-    /// At most two for each of four parts; it takes no memory.
+    /// At most two for each of four parts. They need no allocation.
     pub slots: ArrayVec<Slot, 8>,
 }
 
-/// How many order bytes a part has.
+/// Returns the number of order bytes of a part.
 pub fn order_count(material: &Material) -> usize
     ensures number { result ≡ order_bytes material.now }
     ensures some { 1 ≤ result }
@@ -44,7 +44,7 @@ pub fn order_count(material: &Material) -> usize
     }
 }
 
-/// How many men a material has.
+/// Returns the number of men of a material.
 pub fn man_count(material: &Material) -> usize
     ensures number { result ≡ length (man_codes material.now) }
     ensures some { 3 ≤ result }
@@ -53,7 +53,7 @@ pub fn man_count(material: &Material) -> usize
     material.men().len()
 }
 
-/// Whether subtables have two sides.
+/// Whether each part has subtables for both sides.
 fn has_two_sides(material: &Material, kind: Kind) -> bool
     ensures { side_numbers material.now kind ≡ (if result then 0 ∷ 1 ∷ [] else 0 ∷ []) }
 {
@@ -63,7 +63,7 @@ fn has_two_sides(material: &Material, kind: Kind) -> bool
     }
 }
 
-/// A side's nibble of a byte: side 0 has the low one.
+/// Returns the nibble of a side: the low one for side 0.
 fn nibble_of(side: u8, byte: u8) -> u8
     requires { side < 2 }
     ensures { result ≡ nibble side byte }
@@ -71,7 +71,7 @@ fn nibble_of(side: u8, byte: u8) -> u8
     if side == 0 { byte % 16 } else { byte / 16 }
 }
 
-/// A side's nibbles of a part.
+/// Returns the order nibbles of a side of a part.
 fn order_of(side: u8, order: &[u8], men: &[u8]) -> Order
     requires side { side < 2 }
     requires order { 1 ≤ length order.now }
@@ -94,7 +94,7 @@ fn order_of(side: u8, order: &[u8], men: &[u8]) -> Order
     }
 }
 
-/// The number of positions of a part's side; else the first check of its order that fails.
+/// Returns the number of positions of a part's side. Errors: the first failing check of its order.
 fn side_size(
     material: &Material,
     part: u8,
@@ -115,14 +115,15 @@ fn side_size(
     Ok(groups.size())
 }
 
-/// The sizes of a part's sides.
+/// The sizes of the sides of a part.
 #[derive(Clone, Copy)]
 pub struct SideSizes {
     pub first: u64,
     pub second: Option<u64>,
 }
 
-/// Where and why a part is refused whose order fails a check, and which stands at this place.
+/// Returns the offset and the reason of the refusal of a part that begins at offset `place`, for a fault of its
+/// order.
 fn refusal_of(fault: OrderFault, place: u64, orders: usize) -> (u64, Reason)
     requires place { place < 2 ^ 61 }
     requires orders { orders ≤ 2 }
@@ -135,7 +136,8 @@ fn refusal_of(fault: OrderFault, place: u64, orders: usize) -> (u64, Reason)
     }
 }
 
-/// The sizes of the sides of a part that stands at this place; else where and why it is refused.
+/// Returns the sizes of the sides of a part that begins at offset `place`. Errors: the offset and the reason of its
+/// refusal.
 pub fn part_sizes(
     material: &Material,
     kind: Kind,
@@ -172,7 +174,7 @@ pub fn part_sizes(
     }
 }
 
-/// A list of its own of these bytes, which the front has taken.
+/// Returns a copy of bytes that were already read.
 fn copied(alloc: Global, bytes: &[u8], front: &mut Front) -> Result<Vec<u8>, ReadFault>
     requires few { length bytes.now ≤ 8 }
     requires place { front.old.place < 2 ^ 61 }
@@ -189,7 +191,7 @@ fn copied(alloc: Global, bytes: &[u8], front: &mut Front) -> Result<Vec<u8>, Rea
     Ok(list)
 }
 
-/// Takes a part, and tells the sizes of its sides.
+/// Reads a part; returns it with the sizes of its sides.
 fn read_part<R: Input>(
     alloc: Global,
     material: &Material,
@@ -224,7 +226,7 @@ fn read_part<R: Input>(
     Ok((PartBytes { order, men }, sizes))
 }
 
-/// How many parts a file has.
+/// Returns the number of parts of a file.
 pub fn part_count(material: &Material) -> u8
     ensures numbers { part_numbers material.now ≡ range_with_len 0 result }
     ensures parts { (part : ℕ) → part < result → IsPart material.now part }
@@ -233,7 +235,7 @@ pub fn part_count(material: &Material) -> u8
     if material.has_pawns() { 4 } else { 1 }
 }
 
-/// Adds the subtables of a part.
+/// Appends the slots of a part.
 pub fn push_slots(slots: &mut ArrayVec<Slot, 8>, part: u8, sizes: SideSizes)
     requires part { part < 4 }
     requires first { sizes.first < 2 ^ 33 }
@@ -255,7 +257,7 @@ pub fn push_slots(slots: &mut ArrayVec<Slot, 8>, part: u8, sizes: SideSizes)
     }
 }
 
-/// Adds a part with its subtables.
+/// Appends a part and its slots.
 fn push_part(
     parts: &mut Parts,
     part: u8,
@@ -282,7 +284,7 @@ fn push_part(
     Ok(())
 }
 
-/// Takes the parts.
+/// Reads the parts.
 pub fn read_parts<R: Input>(
     alloc: Global,
     material: &Material,

@@ -1,4 +1,4 @@
-//! Whether subtables and maps that are put together pass the checks of a file.
+//! Checks of assembled subtables and maps, as a reader makes them.
 ghost use Rattle.std.specs.Prelude.{◌≡◌, ◌<◌, ◌^◌, ◌↔◌, IsTrue, length, map, option_map};
 ghost use Rattle.std.specs.List.{AllByRecursion};
 ghost use Rattle.szg_file.specs.Accepted.{SideBySide, AreNumbers, AreBytes, IsEntry, IsSubtable, AreLists, IsMapOf, AreMaps};
@@ -12,32 +12,32 @@ use szg_block::{Entry, Sub, check, shaped};
 use szg_pairs::Dict;
 use szg_values::Kind;
 
-// ---- what types say
+// ---- bounds by types
 
-/// Bytes are below 256. It does nothing.
+/// For proofs alone: bytes are below 256. It does nothing.
 pub fn bytes_fit(list: &[u8])
     ensures { AreNumbers 1 list.now }
 {}
 
-/// Numbers of two bytes fit them. It does nothing.
+/// For proofs alone: two-byte numbers are below 2^16. It does nothing.
 fn words_fit(list: &[u16])
     ensures { AreNumbers 2 list.now }
 {}
 
-/// Numbers of one byte and of four fit them. It does nothing.
+/// For proofs alone: numbers of one byte and of four bytes fit their types. It does nothing.
 fn numbers_fit(flags: u8, extra: u8, blocks: u32)
     ensures flags { flags < 256 }
     ensures extra { extra < 256 }
     ensures blocks { blocks < 2 ^ 32 }
 {}
 
-/// Block and offset of an entry of a sparse index fit their types. It does nothing.
+/// For proofs alone: block and offset of an entry of a sparse index fit their types. It does nothing.
 fn entry_fits(block: u32, offset: u16)
     ensures block { block < 2 ^ 32 }
     ensures offset { offset < 2 ^ 16 }
 {}
 
-/// The entries of a sparse index fit their types.
+/// For proofs alone: the entries of a sparse index fit their types.
 fn sparse_fits(sparse: &[Entry])
     ensures { AllByRecursion IsEntry (map sparse_of sparse.now) }
 {
@@ -46,7 +46,7 @@ fn sparse_fits(sparse: &[Entry])
     }
 }
 
-/// The entries of a dictionary have three bytes each.
+/// For proofs alone: the entries of a dictionary have three bytes each.
 fn entries_fit(dict: &Dict)
     ensures { AllByRecursion (AreBytes 3) dict.now }
 {
@@ -56,7 +56,7 @@ fn entries_fit(dict: &Dict)
     }
 }
 
-/// The numbers of a subtable fit their types, and its code and its dictionary are accepted ones.
+/// For proofs alone: the numbers of a subtable fit their types, and its code and its dictionary are accepted.
 fn typed(sub: &Sub)
     ensures { IsTyped (subtable_of sub.now) }
 {
@@ -86,7 +86,7 @@ fn typed(sub: &Sub)
     }
 }
 
-/// Byte 4 and the sixteen bytes at the end, as they are: they are bytes.
+/// Returns the last sixteen bytes unchanged. For proofs: they and byte 4 are bytes.
 pub fn end_bytes(byte4: u8, last: &[u8; 16]) -> [u8; 16]
     ensures byte4 { byte4 < 256 }
     ensures last { result ≡ last.now }
@@ -110,7 +110,7 @@ fn sub_stands(slot: &Slot, sub: &Sub) -> bool
     }
 }
 
-/// Whether there is a subtable for each slot, and passes its checks.
+/// Whether there is one subtable per slot, and each passes its checks.
 pub fn subs_stand(slots: &[Slot], subs: &[Sub]) -> bool
     ensures { IsTrue result ↔ SideBySide IsSubtable slots.now (map subtable_of subs.now) }
 {
@@ -127,7 +127,7 @@ pub fn subs_stand(slots: &[Slot], subs: &[Sub]) -> bool
 
 // ---- maps
 
-/// Whether the length of a list fits a byte.
+/// Whether the length of a list fits one byte.
 fn short_list_fits(list: &[u8]) -> bool
     ensures { IsTrue result ↔ ((length list.now < 256 ^ 1) × AreNumbers 1 list.now) }
 {
@@ -163,8 +163,8 @@ fn wide_lists_fit(lists: &[Vec<u16>; 4]) -> bool
     true
 }
 
-/// Whether a map is just what the flags of the part's subtable ask for: with bit 1 (flag 2) a map, with bit 4 (flag 16) a wide
-/// one.
+/// Whether a map is the one that the flags of the part's subtable require: a map with bit 1 (flag 2), a wide one
+/// with bit 4 (flag 16).
 fn map_stands(sub: &Sub, map: &Option<Map>) -> bool
     ensures { IsTrue result ↔ IsMapOf (subtable_of sub.now) (option_map map_of map.now) }
 {
@@ -178,7 +178,7 @@ fn map_stands(sub: &Sub, map: &Option<Map>) -> bool
     }
 }
 
-/// Whether there is an item for each subtable, and its flags ask for it.
+/// Whether there is one item per subtable, and each is the one that the flags require.
 fn each_map_stands(subs: &[Sub], maps: &[Option<Map>]) -> bool
     ensures { IsTrue result ↔ SideBySide IsMapOf (map subtable_of subs.now) (map (option_map map_of) maps.now) }
 {
@@ -193,7 +193,7 @@ fn each_map_stands(subs: &[Sub], maps: &[Option<Map>]) -> bool
     true
 }
 
-/// Whether the maps are those that kind and flags ask for.
+/// Whether the maps are those that the kind and the flags require.
 pub fn maps_stand(kind: Kind, subs: &[Sub], maps: &[Option<Map>]) -> bool
     ensures { IsTrue result ↔ AreMaps kind (map subtable_of subs.now) (map (option_map map_of) maps.now) }
 {

@@ -1,4 +1,4 @@
-//! Where the blocks of a table are, by arithmetic alone.
+//! The offsets of a table's blocks, computed from its headers.
 ghost use Rattle.std.specs.Prelude.{ℕ, List, ◌≡◌, ◌+◌, ◌*◌, ◌^◌, ◌≤◌, ◌<◌, length, map, Err, IfOk, IfSome, OnErr};
 ghost use Rattle.std.specs.List.{AllByRecursion};
 ghost use Rattle.szg_block.specs.Subtable.{layout_of};
@@ -23,14 +23,14 @@ pub struct PlacedSubs {
     pub room: usize,
 }
 
-/// Where the blocks of a subtable are.
+/// The offsets of a subtable's first block and after its last.
 #[derive(Clone, Copy)]
 struct Extent {
     first: u64,
     end: u64,
 }
 
-/// Returns the number of padding bytes from `place` up to a multiple of 64.
+/// Returns the number of padding bytes from offset `place` up to a multiple of 64.
 pub fn padding_to_64(place: u64) -> u64
     ensures gap { result ≡ gap 64 place }
     ensures few { result < 64 }
@@ -38,8 +38,8 @@ pub fn padding_to_64(place: u64) -> u64
     (64 - place % 64) % 64
 }
 
-/// Returns the offset of a subtable's first block, and the offset after its last, where `place` bytes are before its
-/// padding.
+/// Returns the offset of a subtable's first block and the offset after its last. The padding of the blocks begins
+/// at offset `place`.
 fn place_blocks(sub: &Sub, place: u64) -> Extent
     requires place { place < 2 ^ 61 }
     requires bits { IfSome (layout_of sub.now) (λ layout. layout.block_bits ≤ 18) }
@@ -74,7 +74,8 @@ fn longer(a: usize, b: usize) -> usize
     if a < b { b } else { a }
 }
 
-/// Finds where the blocks of each subtable are: behind `place` bytes, one subtable after another. Errors: want of memory.
+/// Computes the offsets of each subtable's blocks. The padding of the first begins at offset `place`, and each
+/// subtable follows the previous one. Errors: an allocation was refused.
 pub fn place_subs(alloc: Global, list: Vec<Measured>, place: u64) -> Result<PlacedSubs, AllocError>
     requires few { length list.items ≤ 8 }
     requires place { place < 2 ^ 60 }

@@ -1,4 +1,4 @@
-//! A file up to its block lengths, and where its blocks are by arithmetic.
+//! Reading a file up to its block lengths.
 ghost use Rattle.std.specs.Prelude.{◌≡◌, ◌+◌, ◌*◌, ◌^◌, ◌≤◌, ◌<◌, length, map, IfOk, OnOk};
 ghost use Rattle.szg_file.specs.Contents.{slots};
 ghost use Rattle.szg_file.specs.FrontRead.{front_read};
@@ -17,7 +17,7 @@ use std::alloc::Global;
 use szg_io::Input;
 use szg_values::{Kind, Material};
 
-/// A file up to its block lengths.
+/// The contents of a file up to its block lengths.
 #[derive(Drop)]
 pub struct FrontRead {
     pub byte4: u8,

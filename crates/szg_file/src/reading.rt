@@ -28,7 +28,7 @@ use szg_block::Sub;
 use szg_io::Input;
 use szg_values::{Kind, Material};
 
-/// A file up to its sparse indexes.
+/// The contents of a file up to its sparse indexes.
 #[derive(Drop)]
 pub struct Opening {
     pub byte4: u8,
@@ -37,7 +37,7 @@ pub struct Opening {
     pub maps: Vec<Option<Map>>,
 }
 
-/// A whole file, but for its name and its fill.
+/// The contents of a whole file, except its material and kind and its padding bytes.
 #[derive(Drop)]
 pub struct Pieces {
     pub byte4: u8,
@@ -47,7 +47,7 @@ pub struct Pieces {
     pub last: [u8; 16],
 }
 
-/// Takes magic and byte 4, the parts, the heads and the maps.
+/// Reads the magic, byte 4, the parts, the headers and the maps.
 pub fn read_opening<R: Input>(
     alloc: Global,
     material: &Material,
@@ -78,7 +78,7 @@ pub fn read_opening<R: Input>(
     })
 }
 
-/// Takes the sparse indexes, the lengths and the blocks, and so makes whole subtables of their heads.
+/// Reads the sparse indexes, the block lengths and the blocks of subtables whose headers were read.
 fn read_subtables<R: Input>(
     alloc: Global,
     heads: Vec<Begun>,
@@ -98,7 +98,7 @@ fn read_subtables<R: Input>(
     read_blocks(alloc, measured, input, front)
 }
 
-/// Takes the fill behind the blocks, and the last sixteen bytes.
+/// Reads the padding after the blocks, and the last sixteen bytes.
 pub fn read_ending<R: Input>(
     alloc: Global,
     input: &mut R,
@@ -117,7 +117,7 @@ pub fn read_ending<R: Input>(
     Ok(last)
 }
 
-/// Takes a whole file.
+/// Reads a whole file.
 fn read_pieces<R: Input>(
     alloc: Global,
     material: &Material,
@@ -149,21 +149,21 @@ fn read_pieces<R: Input>(
     })
 }
 
-/// Reads a table of this material and kind, and takes just its file's bytes.
+/// Reads a table of this material and kind. It reads exactly the bytes of the table's file.
 ///
-/// `Refused` tells the first check that fails and its place: then the bytes up to the end of the field that
-/// it checks were taken, and none past it; `Truncated` where the bytes end within a field. `Device` where the
-/// reader failed, never of a reader that may not fail. `Memory` where a growth was refused: then no byte was taken past
-/// the file or past the first field that fails, and no check that fails was passed over.
+/// Errors: `Refused` with the first failing check and its offset; the bytes up to the end of the field that it
+/// checks were read, and none after it. `Truncated` if the bytes end within a field. `Device` if the reader failed,
+/// which never happens with a reader that cannot fail. `Memory` if an allocation was refused; then no byte after
+/// the file or after the first failing field was read, and no failing check was skipped.
 pub fn read<R: Input>(
     alloc: Global,
     material: Material,
     kind: Kind,
     input: &mut R,
 ) -> Result<Table, ReadFault>
-    // Where the reader tells its bytes, the answer is their verdict, however they come in pieces.
+    // If the reader specifies its bytes, the result is the verdict on them, however they are divided into chunks.
     ensures verdict { IfSome (R.coming input.old) (λ bytes. FollowsVerdict (verdict (file material kind) 0 bytes) result (R.coming input.new)) }
-    // Whatever the reader tells: these are the bytes that it moved, and with how many calls.
+    // In any case: the bytes that were read, and the number of calls.
     ensures taken { (bytes : List ℕ)
         × Takes R.Input input.old input.new bytes 1
         × TookBytes material kind bytes (R.coming input.new) result }

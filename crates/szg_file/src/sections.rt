@@ -1,4 +1,4 @@
-//! The sections of a table, one writer for each.
+//! Writers of the sections of a table.
 ghost use Rattle.std.specs.Prelude.{◌≡◌, ◌+◌, ◌%◌, List, [], ◌∷◌, ◌++◌, length, map, flat_map, option_map, Some};
 ghost use Rattle.szg_file.specs.Contents.{bytes_of};
 ghost use Rattle.szg_file.specs.File.{magic_of};
@@ -16,7 +16,7 @@ use szg_io::Output;
 use szg_pairs::Dict;
 use szg_values::Kind;
 
-/// Writes items one after another, each by a call of `write`.
+/// Writes the items in order, each by a call of `write`.
 fn write_each<T, W: Output, F: Fn(&T, &mut W, &mut Outgoing) -> Result<(), WriteFault>>(
     items: &[T],
     write: F,
@@ -34,7 +34,7 @@ fn write_each<T, W: Output, F: Fn(&T, &mut W, &mut Outgoing) -> Result<(), Write
 
 // ---- lists
 
-/// Puts a number of two bytes, the least first.
+/// Writes a two-byte number, least byte first.
 fn put_u16<W: Output>(
     number: u16,
     output: &mut W,
@@ -45,7 +45,7 @@ fn put_u16<W: Output>(
     put(&number.to_le_bytes(), output, outgoing)
 }
 
-/// Puts a number of four bytes, the least first.
+/// Writes a four-byte number, least byte first.
 fn put_u32<W: Output>(
     number: u32,
     output: &mut W,
@@ -56,7 +56,7 @@ fn put_u32<W: Output>(
     put(&number.to_le_bytes(), output, outgoing)
 }
 
-/// Puts numbers of two bytes each.
+/// Writes two-byte numbers.
 fn put_numbers<W: Output>(
     list: &[u16],
     output: &mut W,
@@ -72,7 +72,7 @@ fn put_numbers<W: Output>(
     )
 }
 
-/// Puts a list's length in a byte, and its items of a byte each.
+/// Writes a list's length as one byte, and its items as one byte each.
 fn put_short_list<W: Output>(
     list: &[u8],
     output: &mut W,
@@ -84,7 +84,7 @@ fn put_short_list<W: Output>(
     put(list, output, outgoing)
 }
 
-/// Puts a list's length in two bytes, and its items of two bytes each.
+/// Writes a list's length as two bytes, and its items as two bytes each.
 fn put_wide_list<W: Output>(
     list: &[u16],
     output: &mut W,
@@ -109,7 +109,7 @@ fn put_part<W: Output>(
     put(&part.men, output, outgoing)
 }
 
-/// Writes magic, byte 4 and the parts.
+/// Writes the magic, byte 4 and the parts.
 pub fn write_start_and_parts<W: Output>(
     kind: Kind,
     byte4: u8,
@@ -124,7 +124,7 @@ pub fn write_start_and_parts<W: Output>(
     write_each(parts, put_part, output, outgoing)
 }
 
-// ---- heads
+// ---- headers
 
 fn put_code<W: Output>(
     code: &Code,
@@ -186,7 +186,7 @@ fn put_head<W: Output>(sub: &Sub, output: &mut W, outgoing: &mut Outgoing) -> Re
     }
 }
 
-/// Writes the fill behind the parts, and the subtables' heads.
+/// Writes the padding after the parts, and the subtables' headers.
 pub fn write_heads<W: Output>(
     subs: &[Sub],
     output: &mut W,
@@ -259,7 +259,7 @@ fn put_map<W: Output>(
     }
 }
 
-/// Writes the maps of a DTZ table and the fill behind them.
+/// Writes the maps of a DTZ table and the padding after them.
 pub fn write_maps<W: Output>(
     kind: Kind,
     maps: &[Option<Map>],
@@ -277,7 +277,7 @@ pub fn write_maps<W: Output>(
     }
 }
 
-// ---- sparse indexes, lengths, blocks
+// ---- sparse indexes, block lengths, blocks
 
 fn put_entry<W: Output>(
     entry: &Entry,
@@ -337,7 +337,7 @@ fn put_lengths<W: Output>(
     }
 }
 
-/// Writes the lengths of the subtables' blocks.
+/// Writes the block lengths of the subtables.
 pub fn write_lengths<W: Output>(
     subs: &[Sub],
     output: &mut W,
@@ -364,7 +364,7 @@ fn put_blocks<W: Output>(
     }
 }
 
-/// Writes the subtables' blocks.
+/// Writes the blocks of the subtables, each after its padding.
 pub fn write_blocks<W: Output>(
     subs: &[Sub],
     output: &mut W,
@@ -375,7 +375,7 @@ pub fn write_blocks<W: Output>(
     write_each(subs, put_blocks, output, outgoing)
 }
 
-/// Writes the fill behind the blocks, and the last bytes.
+/// Writes the padding after the blocks, and the last sixteen bytes.
 pub fn write_end<W: Output>(
     last: &[u8; 16],
     output: &mut W,

@@ -12,7 +12,7 @@ use crate::taking::take_field;
 use szg_io::Input;
 use szg_values::{Kind, Material};
 
-/// The first four bytes of a file.
+/// Returns the first four bytes of a file of a kind.
 pub fn magic(kind: Kind) -> [u8; 4]
     ensures { result ≡ magic_of kind }
 {
@@ -22,7 +22,7 @@ pub fn magic(kind: Kind) -> [u8; 4]
     }
 }
 
-/// Whether two texts are the same.
+/// Whether two byte strings are equal.
 fn same(a: &[u8], b: &[u8]) -> bool
     ensures { result ≡ bytes_eq a.now b.now }
 {
@@ -47,14 +47,15 @@ fn read_magic<R: Input>(kind: Kind, input: &mut R, front: &mut Front) -> Result<
     Ok(())
 }
 
-/// Whether bit 1 says whether there are pawns.
+/// Whether bit 1 of byte 4 is set exactly if the material has pawns.
 pub fn pawns_as(material: &Material, byte: u8) -> bool
     ensures { result ≡ agrees (has_bit 1 byte) (has_pawns material.now) }
 {
     has_bit(1, byte) == material.has_pawns()
 }
 
-/// Whether bit 0 of a WDL file says whether there are two sides; a DTZ file's is carried.
+/// Whether bit 0 of byte 4 of a WDL file is set exactly if the material is not symmetric. In a DTZ file it may be
+/// either.
 pub fn splits_as(material: &Material, kind: Kind, byte: u8) -> bool
     ensures { result ≡ split_agrees material.now kind byte }
 {
@@ -94,7 +95,7 @@ fn read_byte4<R: Input>(
     Ok(byte)
 }
 
-/// Takes magic and byte 4, and tells byte 4.
+/// Reads the magic and byte 4; returns byte 4.
 pub fn read_start<R: Input>(
     material: &Material,
     kind: Kind,

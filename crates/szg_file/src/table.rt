@@ -8,21 +8,21 @@ use std::marker::Model;
 use szg_block::{Sound, Steps, Sub};
 use szg_values::{Kind, Material};
 
-/// A part's bytes, as they stand in the file: low nibbles belong to side 0, high nibbles to side 1.
+/// The bytes of a part, as in the file: low nibbles belong to side 0, high nibbles to side 1.
 #[derive(Drop)]
 pub struct PartBytes {
-    /// One order byte, or two where both colours have pawns.
+    /// One order byte, or two if both colours have pawns.
     pub order: Vec<u8>,
-    /// A byte for each man.
+    /// One byte per man.
     pub men: Vec<u8>,
 }
 
-/// A DTZ part's four lists: for wins, losses, cursed wins and blessed losses.
+/// The four lists of a DTZ part: for wins, losses, cursed wins and blessed losses.
 #[derive(Drop)]
 pub enum Map {
-    /// Items of one byte.
+    /// Items of one byte each.
     Bytes([Vec<u8>; 4]),
-    /// Items of two bytes.
+    /// Items of two bytes each.
     Wide([Vec<u16>; 4]),
 }
 
@@ -60,7 +60,7 @@ impl Table {
     ghost use Rattle.szg_file.specs.Steps.{steps_of};
     ghost use Rattle.szg_file.specs.Values.{subtable_at, values_of, item, number_of_value};
 
-    /// Returns its index: all but the blocks.
+    /// Returns the table's index: its material and kind, its parts, and the flags and maps of its subtables.
     pub fn index(&self) -> &TableIndex
         ensures index { result.now ≡ index_of self.now.contents }
         ensures accepted { IsAccepted self.now.contents self.now.filled }
@@ -68,42 +68,44 @@ impl Table {
         &self.index
     }
 
-    /// The material of the name that it was read by.
+    /// Returns the material of the name that the table was read by.
     pub fn material(&self) -> &Material
         ensures { result.now ≡ self.now.contents.material }
     {
         self.index.material()
     }
 
-    /// What it tells: outcomes or distances.
+    /// Returns the kind of the table's values: outcomes or distances.
     pub fn kind(&self) -> Kind
         ensures { result ≡ self.now.contents.kind }
     {
         self.index.kind()
     }
 
-    /// The byte behind the magic: bit 0 split, bit 1 pawns, all others carried.
+    /// Returns the byte after the magic. Bit 0: split. Bit 1: pawns. The other bits are preserved.
     pub fn byte4(&self) -> u8
         ensures { result ≡ self.now.contents.byte4 }
     {
         self.byte4
     }
 
-    /// The parts' bytes: four parts with pawns, else one.
+    /// Returns the bytes of the parts: four parts with pawns, else one.
     pub fn parts(&self) -> &[PartBytes]
         ensures { map part_of result.now ≡ self.now.contents.parts }
     {
         self.index.parts()
     }
 
-    /// The maps of a DTZ table, an item a part; none of a WDL table.
+    /// Returns the maps of a DTZ table, one item per part. A WDL table has none.
     pub fn maps(&self) -> &[Option<Map>]
         ensures { map (option_map map_of) result.now ≡ self.now.contents.maps }
     {
         self.index.maps()
     }
 
-    /// The fill bytes, in file order.
+    /// Returns the padding bytes (the "fill bytes" of the format) in file order: those up to even offsets and to
+    /// multiples of 64, and the one after each dictionary with an odd number of entries. Their values are
+    /// arbitrary, and preserved.
     pub fn fill(&self) -> &[u8]
         ensures bytes { result.now ≡ self.now.filled }
         ensures accepted { IsAccepted self.now.contents self.now.filled }
@@ -111,14 +113,14 @@ impl Table {
         &self.filled
     }
 
-    /// The sixteen bytes at the end, which nobody checks.
+    /// Returns the last sixteen bytes of the file, which no check reads.
     pub fn last(&self) -> &[u8; 16]
         ensures { result.now ≡ self.now.contents.last }
     {
         &self.last
     }
 
-    // A part's side, where there is one.
+    // Finds a part's side. None if there is no such side.
     fn find(&self, part: u8, side: u8) -> Option<Found<'_>>
         ensures found { MatchOption result (subtable_at self.now.contents part side ≡ None) (λ found. IsFound (subtable_at self.now.contents part side) found.size (subtable_of found.sub.now)) }
         ensures accepted { IfSome result (λ found. IsShaped found.sub.now found.size × IsSoundOver found.sub.now (packed_of found.sub.now) found.size) }
@@ -130,21 +132,21 @@ impl Table {
         })
     }
 
-    /// The number of positions of a part's side, where there is one.
+    /// Returns the number of positions of a part's side. None if there is no such side.
     pub fn size(&self, part: u8, side: u8) -> Option<u64>
         ensures { result ≡ option_map (λ found. found.0.size) (subtable_at self.now.contents part side) }
     {
         self.index.size(part, side)
     }
 
-    /// A part's side, where there is one.
+    /// Returns the subtable of a part's side. None if there is no such side.
     pub fn sub(&self, part: u8, side: u8) -> Option<&Sub>
         ensures { option_map subtable_of (option_copied result) ≡ option_map (λ found. found.1) (subtable_at self.now.contents part side) }
     {
         self.find(part, side).map(|found| found.sub)
     }
 
-    /// Value i of a part's side. A constant WDL subtable stands for its byte, a DTZ one for 0.
+    /// Returns value `i` of a part's side. Each value of a constant subtable is its byte in WDL, 0 in DTZ.
     pub fn get(&self, part: u8, side: u8, i: u64) -> u16
         requires there { IsSome (subtable_at self.now.contents part side) }
         requires below { IfSome (subtable_at self.now.contents part side) (λ found. i < found.0.size) }
@@ -157,7 +159,7 @@ impl Table {
         Sound::of(found.sub, found.size, constant).get(i)
     }
 
-    /// Value i of a part's side, and the steps by which it is found.
+    /// Returns value `i` of a part's side, and the steps of the look-up.
     pub fn get_counted(&self, part: u8, side: u8, i: u64) -> (u16, Steps)
         requires there { IsSome (subtable_at self.now.contents part side) }
         requires below { IfSome (subtable_at self.now.contents part side) (λ found. i < found.0.size) }
@@ -175,7 +177,7 @@ impl Table {
         }
     }
 
-    /// All values of a part's side, in the order of their indexes.
+    /// Returns all values of a part's side, in the order of their indexes.
     pub fn values(&self, alloc: Global, part: u8, side: u8) -> Result<Vec<u16>, AllocError>
         requires { IsSome (subtable_at self.now.contents part side) }
         ensures { IfOk result (λ list. IfSome (subtable_at self.now.contents part side) (λ found. list.items ≡ values_of self.now.contents.kind found)) }
@@ -187,9 +189,9 @@ impl Table {
         Sound::of(found.sub, found.size, constant).values(alloc)
     }
 
-    /// The number of a DTZ value in a class (2 win, 1 cursed win, -1 blessed loss, -2 loss).
+    /// Returns the distance in plies of a DTZ value in a class (2 win, 1 cursed win, -1 blessed loss, -2 loss).
     ///
-    /// `Draw` exactly for class 0; else `OutsideMap` exactly where the part has a map without such an item.
+    /// Errors: `Draw` exactly for class 0; else `OutsideMap` exactly if the part has a map without such an item.
     pub fn map_value(&self, part: u8, class: i8, v: u16) -> Result<u32, MapFault>
         requires dtz { self.now.contents.kind ≡ Kind.Dtz }
         requires part { IsSome (subtable_at self.now.contents part 0) }

@@ -1,4 +1,4 @@
-//! The index of a table: what a lookup needs beside the blocks.
+//! The index of a table: which subtables it has, with their flags and maps.
 ghost use Rattle.std.specs.Prelude.{◌≡◌, ◌≢◌, ◌<◌, ◌≤◌, ◌↔◌, ◌≤ℤ◌, ℤ, pos, neg_ℤ, length, map, option_map, IsSome, MatchOption, Ok, Err, Some, None};
 ghost use Rattle.szg_file.specs.Contents.{slots as slots_of};
 ghost use Rattle.szg_file.specs.Held.{part_of, map_of, subtable_of};
@@ -18,8 +18,8 @@ use std::marker::Model;
 use szg_block::Sub;
 use szg_values::{Kind, Material};
 
-/// The index of a table: its material and kind, its parts, the slots and flags of its subtables, and its maps. Each kind of
-/// table owns one, and adds only where its blocks come from.
+/// The index of a table: its material and kind, its parts, the slots and flags of its subtables, and its maps. Each
+/// kind of table owns one, and adds its subtables and where their blocks come from.
 #[derive(Drop)]
 pub struct TableIndex {
     material: Material,
@@ -56,7 +56,7 @@ pub fn index_of_subs(
     requires slots { parts.slots.items ≡ slots_of material kind (map part_of parts.bytes.items) }
     ensures { result ≡ index_with material kind (map part_of parts.bytes.items) (map flags_byte (map subtable_of subs.now)) (map (option_map map_of) maps.items) }
 {
-    // there are as many slots, at most eight
+    // the number of slots is the same, at most eight
     let _slots = parts.slots.as_slice();
     let flags = flags_of_all(subs);
     TableIndex::new(material, kind, parts, flags, maps)
@@ -74,13 +74,13 @@ pub fn index_of_placed(
     requires slots { parts.slots.items ≡ slots_of material kind (map part_of parts.bytes.items) }
     ensures { result ≡ index_with material kind (map part_of parts.bytes.items) (map (λ placed. flags_byte (subtable_of placed.sub)) subs.now) (map (option_map map_of) maps.items) }
 {
-    // there are as many slots, at most eight
+    // the number of slots is the same, at most eight
     let _slots = parts.slots.as_slice();
     let flags = flags_of_placed(subs);
     TableIndex::new(material, kind, parts, flags, maps)
 }
 
-// The flags bytes of subtables.
+// Returns the flag bytes of subtables.
 fn flags_of_all(subs: &[Sub]) -> ArrayVec<u8, 8>
     requires { length subs.now ≤ 8 }
     ensures { result.items ≡ map (λ sub. flags_byte (subtable_of sub)) subs.now }
@@ -92,7 +92,7 @@ fn flags_of_all(subs: &[Sub]) -> ArrayVec<u8, 8>
     flags
 }
 
-/// Returns the flags bytes of subtables whose blocks are elsewhere.
+/// Returns the flag bytes of subtables whose blocks are elsewhere.
 pub fn flags_of_placed(subs: &[PlacedSub]) -> ArrayVec<u8, 8>
     requires { length subs.now ≤ 8 }
     ensures { result.items ≡ map (λ placed. flags_byte (subtable_of placed.sub)) subs.now }
@@ -104,7 +104,7 @@ pub fn flags_of_placed(subs: &[PlacedSub]) -> ArrayVec<u8, 8>
     flags
 }
 
-/// The number of a subtable in file order, counted from 0, and its slot.
+/// A subtable's number in file order, from 0, and its slot.
 #[derive(Clone, Copy)]
 pub struct Numbered {
     pub number: usize,
@@ -140,7 +140,7 @@ impl TableIndex {
         &self.material
     }
 
-    /// Returns what the table's values are: outcomes or distances.
+    /// Returns the kind of the table's values: outcomes or distances.
     pub fn kind(&self) -> Kind
         ensures { result ≡ self.now.kind }
     {
@@ -155,7 +155,7 @@ impl TableIndex {
         &self.parts.bytes
     }
 
-    /// Returns the flags bytes of the subtables, in file order.
+    /// Returns the flag bytes of the subtables, in file order.
     pub fn flags(&self) -> &[u8]
         ensures flags { result.now ≡ self.now.flags }
         ensures many { length result.now ≡ length (slots_in self.now) }
@@ -165,7 +165,7 @@ impl TableIndex {
         self.flags.as_slice()
     }
 
-    /// Returns the maps of a DTZ table, one item a part; none of a WDL table.
+    /// Returns the maps of a DTZ table, one item per part. A WDL table has none.
     pub fn maps(&self) -> &[Option<Map>]
         ensures { map (option_map map_of) result.now ≡ self.now.maps }
     {
@@ -198,9 +198,9 @@ impl TableIndex {
         Some(slot.size)
     }
 
-    /// Returns the number of a DTZ value in a class (2 win, 1 cursed win, -1 blessed loss, -2 loss).
+    /// Returns the distance in plies of a DTZ value in a class (2 win, 1 cursed win, -1 blessed loss, -2 loss).
     ///
-    /// Errors: `Draw` exactly for class 0; else `OutsideMap` exactly where the part has a map without such an item.
+    /// Errors: `Draw` exactly for class 0; else `OutsideMap` exactly if the part has a map without such an item.
     pub fn map_value(&self, part: u8, class: i8, v: u16) -> Result<u32, MapFault>
         requires dtz { self.now.kind ≡ Kind.Dtz }
         requires part { IsSome (slot_in self.now part 0) }

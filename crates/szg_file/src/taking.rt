@@ -1,4 +1,4 @@
-//! What readers take from a device: fields, numbers, lists and fill.
+//! Reading from a device: fields, numbers, lists and padding.
 ghost use Rattle.std.specs.Prelude.{◌≡◌, ◌+◌, ◌*◌, ◌≤◌, ◌<◌, ◌^◌, ◌/◌, length, map, take, drop, Err, OnOk, IfOk, OnErr, IsErrOf};
 ghost use Rattle.szg_file.specs.Format.{field, means};
 ghost use Rattle.szg_file.specs.Contents.{number_of, items};
@@ -15,7 +15,7 @@ use std::mem;
 use szg_block::Entry;
 use szg_io::{Input, take_whole};
 
-/// Takes a field of the piece's length.
+/// Reads a field of the length of `piece` into it.
 pub fn take_field<R: Input>(
     input: &mut R,
     front: &mut Front,
@@ -42,7 +42,7 @@ pub fn take_field<R: Input>(
     Ok(())
 }
 
-/// Takes a byte.
+/// Reads a byte.
 pub fn read_byte<R: Input>(input: &mut R, front: &mut Front) -> Result<u8, ReadFault>
     requires { front.old.place < 2 ^ 62 }
     ensures byte { Reading (number_field 1) (λ byte. byte) front.old front.new R.Input input.old input.new result }
@@ -55,7 +55,7 @@ pub fn read_byte<R: Input>(input: &mut R, front: &mut Front) -> Result<u8, ReadF
     Ok(piece[0])
 }
 
-/// Takes a number of two bytes.
+/// Reads a two-byte number.
 pub fn read_number<R: Input>(input: &mut R, front: &mut Front) -> Result<u16, ReadFault>
     requires { front.old.place < 2 ^ 62 }
     ensures number { Reading (number_field 2) (λ number. number) front.old front.new R.Input input.old input.new result }
@@ -68,11 +68,11 @@ pub fn read_number<R: Input>(input: &mut R, front: &mut Front) -> Result<u16, Re
     Ok(LittleEndian::read_u16(&piece))
 }
 
-/// The most bytes that a list takes at a time: half of what lists may run ahead of their bytes, so that there is room for
-/// items that few bytes pay for.
+/// The most bytes that are read into a list at a time. It is half of the number of items that lists may be ahead of
+/// their bytes, which leaves room for items that few bytes account for.
 const PIECE: u64 = 32768;
 
-/// Takes at most 32,768 bytes to the end of a list.
+/// Reads `size` bytes, at most 32,768, and appends them to a list.
 fn take_piece<R: Input>(
     list: &mut Vec<u8>,
     size: usize,
@@ -98,7 +98,7 @@ fn take_piece<R: Input>(
     Ok(())
 }
 
-/// Takes a field of so many bytes into a list of its own, a piece at a time.
+/// Reads a field of `count` bytes into a new list, in chunks.
 pub fn take_bytes<R: Input>(
     alloc: Global,
     count: u64,
@@ -118,7 +118,7 @@ pub fn take_bytes<R: Input>(
     Ok(list)
 }
 
-/// Takes a field of so many bytes to the end of a list, a piece at a time.
+/// Reads a field of `count` bytes in chunks, and appends it to a list.
 pub fn take_more<R: Input>(
     list: &mut Vec<u8>,
     count: u64,
@@ -143,7 +143,7 @@ pub fn take_more<R: Input>(
     Ok(())
 }
 
-/// Takes so many fill bytes, at most 63.
+/// Reads `count` padding bytes, at most 63.
 pub fn take_spare<R: Input>(
     alloc: Global,
     count: u8,
@@ -170,7 +170,7 @@ pub fn take_spare<R: Input>(
     Ok(())
 }
 
-/// Takes the fill up to a multiple of the unit, 2 or 64.
+/// Reads the padding up to a multiple of `unit`, which is 2 or 64.
 pub fn take_fill<R: Input>(
     alloc: Global,
     unit: u8,
@@ -190,7 +190,39 @@ pub fn take_fill<R: Input>(
     take_spare(alloc, (unit - rest) % unit, input, front)
 }
 
-/// The numbers of two bytes each that stand one behind another.
+/// The most items for which room is made at once: each takes two bytes or more, so they stay below `PIECE`.
+const ROWS: usize = 16384;
+
+/// Makes room for items of a list that grows by `left` more, unless there is `room` for one already; returns the items
+/// that there is room for.
+#[inline(always)]
+fn grow_ahead<T>(
+    list: &mut Vec<T>,
+    room: usize,
+    left: usize,
+    front: &mut Front,
+) -> Result<usize, ReadFault>
+    requires some { 0 < left }
+    requires room { room ≤ left }
+    requires paid { front.old.growth + left ≤ 2 * front.old.place + 2 ^ 15 + room }
+    requires place { front.old.place < 2 ^ 62 }
+    ensures some { IfOk result (λ new. 0 < new) }
+    ensures most { IfOk result (λ new. new ≤ left) }
+    ensures items { list.new.items ≡ list.old.items }
+    ensures growth { IfOk result (λ new. front.new.growth + room ≡ front.old.growth + new) }
+    ensures place { front.new.place ≡ front.old.place }
+    ensures fill { front.new.fill.items ≡ front.old.fill.items }
+    ensures memory { OnErr result (result ≡ Err ReadFault.Memory) }
+{
+    if room > 0 {
+        return Ok(room);
+    }
+    let more = left.min(ROWS);
+    grow(list, more, front)?;
+    Ok(more)
+}
+
+/// Decodes consecutive two-byte numbers.
 fn numbers(alloc: Global, bytes: &[u8], front: &mut Front) -> Result<Vec<u16>, ReadFault>
     requires paid { front.old.growth + length bytes.now ≤ 2 * front.old.place + 2 ^ 15 }
     requires place { front.old.place < 2 ^ 62 }
@@ -202,15 +234,16 @@ fn numbers(alloc: Global, bytes: &[u8], front: &mut Front) -> Result<Vec<u16>, R
     ensures memory { OnErr result (result ≡ Err ReadFault.Memory) }
 {
     let mut list = Vec::new(alloc);
+    let mut room = 0;
     'rows: for i in 0..bytes.len() / 2 {
-        grow(&mut list, 1, front)?;
+        room = grow_ahead(&mut list, room, bytes.len() / 2 - i, front)? - 1;
         let number = LittleEndian::read_u16(&bytes[2 * i..]);
         list.push(number)?;
     }
     Ok(list)
 }
 
-/// Takes so many numbers of two bytes each, as one field.
+/// Reads `count` two-byte numbers as one field.
 pub fn take_numbers<R: Input>(
     alloc: Global,
     count: u64,
@@ -229,7 +262,7 @@ pub fn take_numbers<R: Input>(
     numbers(alloc, &bytes, front)
 }
 
-/// The entries of three bytes each that stand one behind another.
+/// Decodes consecutive three-byte entries.
 fn entries(alloc: Global, bytes: &[u8], front: &mut Front) -> Result<Vec<[u8; 3]>, ReadFault>
     requires paid { front.old.growth + length bytes.now ≤ 2 * front.old.place + 2 ^ 15 }
     requires place { front.old.place < 2 ^ 62 }
@@ -241,15 +274,16 @@ fn entries(alloc: Global, bytes: &[u8], front: &mut Front) -> Result<Vec<[u8; 3]
     ensures memory { OnErr result (result ≡ Err ReadFault.Memory) }
 {
     let mut list = Vec::new(alloc);
+    let mut room = 0;
     'rows: for i in 0..bytes.len() / 3 {
-        grow(&mut list, 1, front)?;
+        room = grow_ahead(&mut list, room, bytes.len() / 3 - i, front)? - 1;
         let row = &bytes[3 * i..];
         list.push([row[0], row[1], row[2]])?;
     }
     Ok(list)
 }
 
-/// Takes so many dictionary entries of three bytes each, as one field.
+/// Reads `count` dictionary entries, three bytes each, as one field.
 pub fn take_entries<R: Input>(
     alloc: Global,
     count: u64,
@@ -268,7 +302,7 @@ pub fn take_entries<R: Input>(
     entries(alloc, &bytes, front)
 }
 
-/// The entries of a sparse index, six bytes each, that stand one behind another.
+/// Decodes consecutive entries of a sparse index, six bytes each.
 fn sparse_entries(alloc: Global, bytes: &[u8], front: &mut Front) -> Result<Vec<Entry>, ReadFault>
     requires paid { front.old.growth + length bytes.now ≤ 2 * front.old.place + 2 ^ 15 }
     requires place { front.old.place < 2 ^ 62 }
@@ -280,8 +314,9 @@ fn sparse_entries(alloc: Global, bytes: &[u8], front: &mut Front) -> Result<Vec<
     ensures memory { OnErr result (result ≡ Err ReadFault.Memory) }
 {
     let mut list = Vec::new(alloc);
+    let mut room = 0;
     'rows: for i in 0..bytes.len() / 6 {
-        grow(&mut list, 1, front)?;
+        room = grow_ahead(&mut list, room, bytes.len() / 6 - i, front)? - 1;
         let row = &bytes[6 * i..];
         let block = LittleEndian::read_u32(row);
         let offset = LittleEndian::read_u16(&row[4..]);
@@ -290,7 +325,7 @@ fn sparse_entries(alloc: Global, bytes: &[u8], front: &mut Front) -> Result<Vec<
     Ok(list)
 }
 
-/// Takes so many entries of a sparse index, six bytes each, as one field.
+/// Reads `count` entries of a sparse index, six bytes each, as one field.
 pub fn take_sparse<R: Input>(
     alloc: Global,
     count: u64,

@@ -1,4 +1,5 @@
-//! How many fill bytes the fields of a table ask for: they are counted as they would be written, and nothing is written.
+//! The number of padding bytes in the file of a table's fields: the sections are counted as a writer would write
+//! them.
 ghost use Rattle.std.specs.Prelude.{◌≡◌, ◌+◌, ◌<◌, ◌%◌, ◌^◌, List, [], ◌∷◌, ◌++◌, length, map, flat_map, option_map, Some};
 ghost use Rattle.szg_file.specs.FileOf.{Section, written, padding, spare, part_sections, head_sections, list_sections, map_sections, maps_sections, sparse_sections, lengths_sections, blocks_sections};
 ghost use Rattle.szg_file.specs.Held.{part_of, subtable_of, map_of};
@@ -9,17 +10,17 @@ use szg_block::Sub;
 use szg_pairs::Dict;
 use szg_values::Kind;
 
-/// How far the count has come, both numbers modulo 2^64.
+/// The state of the count; both numbers are modulo 2^64.
 #[derive(Clone, Copy)]
 pub struct Tally {
-    /// The bytes so far.
+    /// The number of bytes so far.
     pub place: u64,
-    /// The fill bytes among them.
+    /// The number of padding bytes among them.
     pub fill: u64,
 }
 
 impl Tally {
-    /// Before the first byte.
+    /// Creates the count before the first byte.
     pub fn new() -> Tally
         ensures place { result.place ≡ 0 }
         ensures fill { result.fill ≡ 0 }
@@ -27,14 +28,14 @@ impl Tally {
         Tally { place: 0, fill: 0 }
     }
 
-    /// The fill bytes so far.
+    /// Returns the number of padding bytes so far.
     pub fn fill(&self) -> u64
         ensures { result ≡ self.now.fill }
     {
         self.fill
     }
 
-    /// Counts a field of so many bytes.
+    /// Counts a field of `count` bytes.
     pub fn field(&mut self, count: u64)
         ensures place { self.new.place ≡ (self.old.place + count) % 2 ^ 64 }
         ensures fill { self.new.fill ≡ self.old.fill }
@@ -42,7 +43,7 @@ impl Tally {
         self.place = self.place.wrapping_add(count);
     }
 
-    /// Counts so many fill bytes.
+    /// Counts `count` padding bytes.
     pub fn spare(&mut self, count: u64)
         ensures { Counts (spare count ∷ []) self.old self.new }
     {
@@ -50,7 +51,7 @@ impl Tally {
         self.fill = self.fill.wrapping_add(count);
     }
 
-    /// Counts the fill up to a multiple of the unit, 2 or 64.
+    /// Counts the padding up to a multiple of `unit`, which is 2 or 64.
     pub fn padding(&mut self, unit: u64)
         requires some { 0 < unit }
         requires whole { 2 ^ 64 % unit ≡ 0 }
@@ -60,7 +61,7 @@ impl Tally {
     }
 }
 
-/// Counts items one after another, each by a call of `count`.
+/// Counts the items in order, each by a call of `count`.
 fn count_each<T, F: Fn(&T, &mut Tally)>(items: &[T], count: F, tally: &mut Tally)
     requires { F.IsAlwaysCallable count }
     ensures { (sections : T → List Section) → CountsAs F.Fn count sections → Counts (flat_map sections items.now) tally.old tally.new }
@@ -86,9 +87,9 @@ pub fn count_parts(parts: &[PartBytes], tally: &mut Tally)
     count_each(parts, add_part, tally);
 }
 
-// ---- heads
+// ---- headers
 
-/// Counts the entries of a dictionary, three bytes each, and the fill byte behind an odd number of them.
+/// Counts the entries of a dictionary, three bytes each, and the padding byte after an odd number of them.
 fn add_dictionary(dict: &Dict, tally: &mut Tally)
     ensures { Counts (written (flat_map (λ entry. entry) dict.now) ∷ spare (length dict.now % 2) ∷ []) tally.old tally.new }
 {
@@ -111,7 +112,7 @@ fn add_head(sub: &Sub, tally: &mut Tally)
     }
 }
 
-/// Counts the subtables' heads.
+/// Counts the headers of the subtables.
 pub fn count_heads(subs: &[Sub], tally: &mut Tally)
     ensures { Counts (flat_map head_sections (map subtable_of subs.now)) tally.old tally.new }
 {
@@ -166,7 +167,7 @@ fn add_map(map: &Option<Map>, tally: &mut Tally)
     }
 }
 
-/// Counts the maps of a DTZ table and the fill behind them.
+/// Counts the maps of a DTZ table and the padding after them.
 pub fn count_maps(kind: Kind, maps: &[Option<Map>], tally: &mut Tally)
     ensures { Counts (maps_sections kind (map (option_map map_of) maps.now)) tally.old tally.new }
 {
@@ -179,7 +180,7 @@ pub fn count_maps(kind: Kind, maps: &[Option<Map>], tally: &mut Tally)
     }
 }
 
-// ---- sparse indexes, lengths, blocks
+// ---- sparse indexes, block lengths, blocks
 
 fn add_index(sub: &Sub, tally: &mut Tally)
     ensures { Counts (sparse_sections (subtable_of sub.now)) tally.old tally.new }
@@ -189,7 +190,7 @@ fn add_index(sub: &Sub, tally: &mut Tally)
     }
 }
 
-/// Counts the subtables' sparse indexes.
+/// Counts the sparse indexes of the subtables.
 pub fn count_indexes(subs: &[Sub], tally: &mut Tally)
     ensures { Counts (flat_map sparse_sections (map subtable_of subs.now)) tally.old tally.new }
 {
@@ -204,7 +205,7 @@ fn add_lengths(sub: &Sub, tally: &mut Tally)
     }
 }
 
-/// Counts the lengths of the subtables' blocks.
+/// Counts the block lengths of the subtables.
 pub fn count_lengths(subs: &[Sub], tally: &mut Tally)
     ensures { Counts (flat_map lengths_sections (map subtable_of subs.now)) tally.old tally.new }
 {
@@ -220,7 +221,7 @@ fn add_blocks(sub: &Sub, tally: &mut Tally)
     }
 }
 
-/// Counts the subtables' blocks.
+/// Counts the blocks of the subtables, each after its padding.
 pub fn count_blocks(subs: &[Sub], tally: &mut Tally)
     ensures { Counts (flat_map blocks_sections (map subtable_of subs.now)) tally.old tally.new }
 {

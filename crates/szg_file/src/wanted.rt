@@ -1,15 +1,16 @@
-//! Look-ups by bytes that the caller brings: which bytes of the file a value wants, and the value out of them.
+//! Look-ups in bytes that the caller provides: the byte range that a value needs, and the value decoded from these
+//! bytes.
 
 use crate::lookup::{slotted_at, value_of, wanted_of};
 use crate::opened::Opened;
 use szg_block::Source;
 
-/// The bytes of a file that a value wants.
+/// The byte range of a file that a value needs.
 #[derive(Clone, Copy)]
 pub struct Wanted {
-    /// The place of the first of them.
+    /// The offset of the first byte.
     pub place: u64,
-    /// How many they are.
+    /// The number of bytes.
     pub count: u64,
 }
 
@@ -20,8 +21,8 @@ impl<S: Source + Drop> Opened<S> {
     ghost use Rattle.szg_file.specs.Values.{values_of, item};
     ghost use Rattle.szg_file.specs.Wanted.{wanted_block, IsSpelledBy};
 
-    /// The bytes of the source that value i of a part's side wants: those of one block; None in a constant subtable, whose
-    /// values want none. It asks the source for nothing but its length.
+    /// Returns the byte range of the source that value `i` of a part's side needs: that of one block. None in a
+    /// constant subtable. It requests no byte of the source.
     pub fn find(&self, part: u8, side: u8, i: u64) -> Option<Wanted>
         requires there { IsSome (opened_at self.now part side) }
         requires below { IfSome (opened_at self.now part side) (λ found. i < found.0.size) }
@@ -31,16 +32,17 @@ impl<S: Source + Drop> Opened<S> {
         let Some(found) = slotted_at(self.index.slots(), &self.subs, part, side) else {
             unreachable!()
         };
-        // no place is past the source's end
+        // no offset is past the source's end
         let _end = self.source().len();
         wanted_of(&found, i)
     }
 
-    /// Value i of a part's side, out of the bytes that it wants. A constant subtable has it without any.
+    /// Returns value `i` of a part's side, decoded from `piece`, the bytes at the range that `find` returns. A
+    /// constant subtable ignores them.
     ///
-    /// The bytes are the caller's, who read them where `find` tells. Where they are others, since the source changed
-    /// meanwhile, the value is what their words spell at its place; None where they spell too few values, or where they
-    /// aren't as many as a block has.
+    /// The caller reads these bytes. If they differ from the table's, because the source has changed meanwhile, the
+    /// value is the one that their words spell at its index in the block. None if they spell too few values, or if
+    /// they do not have the length of a block.
     pub fn value_in(&self, part: u8, side: u8, i: u64, piece: &[u8]) -> Option<u16>
         requires there { IsSome (opened_at self.now part side) }
         requires below { IfSome (opened_at self.now part side) (λ found. i < found.0.size) }

@@ -16,7 +16,7 @@ use crate::sections::{
 use crate::table::Table;
 use szg_io::Output;
 
-/// Writes the table's file. Where the writer fails, the fault tells how many bytes of the file went out.
+/// Writes the table's file. Errors: the writer failed, with the number of bytes of the file that were written.
 pub fn write<W: Output>(table: &Table, output: &mut W) -> Result<(), WriteFault>
     ensures ok { OnOk result (Gives W.Output output.old output.new (file_bytes table.now) 0) }
     ensures err { IfErr result (λ fault. Gives W.Output output.old output.new (take fault.out (file_bytes table.now)) 1) }
@@ -29,7 +29,7 @@ pub fn write<W: Output>(table: &Table, output: &mut W) -> Result<(), WriteFault>
     write_whole(table, output, &mut outgoing)
 }
 
-/// Writes the sections of a table, and holds nothing back.
+/// Writes the sections of a table, and flushes the buffer.
 fn write_whole<W: Output>(
     table: &Table,
     output: &mut W,
@@ -60,7 +60,7 @@ fn write_table<W: Output>(
     write_end(&table.last, output, outgoing)
 }
 
-/// How many bytes the table's file has.
+/// Returns the number of bytes of the table's file.
 pub fn file_len(table: &Table) -> u64
     ensures { result ≡ length (file_bytes table.now) }
 {
@@ -70,7 +70,7 @@ pub fn file_len(table: &Table) -> u64
     21 + fields + table.filled.len() as u64
 }
 
-/// A table's file is short, since a material has few men. It does nothing.
+/// For proofs alone: a table's file is short, because a material has few men.
 fn bounded(table: &Table)
     ensures { FileLength table.now.contents table.now.filled }
 {

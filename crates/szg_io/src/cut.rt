@@ -52,7 +52,8 @@ impl<T> Cut<T> {
         ensures device { self.new.device ≡ self.old.device }
         ensures counts { self.new.counts ≡ self.old.counts }
         ensures settings { cut_settings_of self.new ≡ cut_settings_of self.old }
-        ensures failed { raised self.old.counts.calls ≡ self.old.fails_at → result ≡ Some IoFault.Failed }
+        ensures failed { raised self.old.counts.calls ≡ self.old.fails_at →
+            (result ≡ Some IoFault.Failed) × (self.new.interrupted_since ≡ self.old.interrupted_since) }
         ensures interrupted { ¬ raised self.old.counts.calls ≡ self.old.fails_at → self.old.interrupted_since < self.old.interrupts →
             (result ≡ Some IoFault.Interrupted) × (self.new.interrupted_since ≡ self.old.interrupted_since + 1) }
         ensures none { ¬ raised self.old.counts.calls ≡ self.old.fails_at → self.old.interrupts ≤ self.old.interrupted_since →
@@ -95,7 +96,7 @@ impl<T: Input> Input for Cut<T> {
         ensures stays { T.may_fail (cut_device_of self.new) ≡ T.may_fail (cut_device_of self.old) }
         ensures settings { cut_settings_of self.new ≡ cut_settings_of self.old }
         // a fault that is set is returned, and the wrapped device is not called
-        ensures fails { IsToFail self.old → (result ≡ Err IoFault.Failed) × (cut_device_of self.new ≡ cut_device_of self.old) }
+        ensures fails { IsToFail self.old → (result ≡ Err IoFault.Failed) × (cut_device_of self.new ≡ cut_device_of self.old) × (cut_interrupted_since_of self.new ≡ cut_interrupted_since_of self.old) }
         ensures interrupts { IsToInterrupt self.old → (result ≡ Err IoFault.Interrupted) × (cut_device_of self.new ≡ cut_device_of self.old) × (cut_interrupted_since_of self.new ≡ cut_interrupted_since_of self.old + 1) }
         // otherwise the wrapped device is called once, for a short chunk
         ensures passes { IsToPass self.old → (T.calls (cut_device_of self.new) ≡ raised (T.calls (cut_device_of self.old)))
@@ -135,7 +136,7 @@ impl<T: Output> Output for Cut<T> {
         ensures interrupted { (cut_counts_of self.new).interrupted ≡ interrupted_after result (cut_counts_of self.old).interrupted }
         ensures settings { cut_settings_of self.new ≡ cut_settings_of self.old }
         // a fault that is set is returned, and the wrapped device is not called
-        ensures fails { IsToFail self.old → (result ≡ Err IoFault.Failed) × (cut_device_of self.new ≡ cut_device_of self.old) }
+        ensures fails { IsToFail self.old → (result ≡ Err IoFault.Failed) × (cut_device_of self.new ≡ cut_device_of self.old) × (cut_interrupted_since_of self.new ≡ cut_interrupted_since_of self.old) }
         ensures interrupts { IsToInterrupt self.old → (result ≡ Err IoFault.Interrupted) × (cut_device_of self.new ≡ cut_device_of self.old) × (cut_interrupted_since_of self.new ≡ cut_interrupted_since_of self.old + 1) }
         // otherwise the wrapped device is called once, for a short chunk
         ensures passes { IsToPass self.old → (T.calls (cut_device_of self.new) ≡ raised (T.calls (cut_device_of self.old)))

@@ -1,7 +1,7 @@
 //! Pair dictionaries of Syzygy tables: each symbol is a single value or a pair of symbols.
 #![tactic(auto)]
 
-ghost use Rattle.std.specs.Prelude.{◌≡◌, ◌<◌, ◌≤◌, length, slice_get, ℕ, Some, IfOk, IfErr, IsErrOf, OnOk};
+ghost use Rattle.std.specs.Prelude.{◌≡◌, ◌<◌, ◌≤◌, ◌⊎◌, length, slice_get, ℕ, Some, IfOk, IfErr, IsErrOf, OnOk};
 ghost use Rattle.szg_pairs.specs.Expansion.{expansion_of, depths_of};
 ghost use Rattle.szg_pairs.specs.Dictionary.{IsDictionary, IsDictionaryFault};
 ghost use Rattle.szg_pairs.specs.Entry.{NamesSymbols};
@@ -86,6 +86,9 @@ impl Dict {
         ensures accepted { IfOk result (λ dict. (dict ≡ entries.items) × IsDictionary entries.items) }
         ensures refused { IfErr result (λ fault. IsDictionaryFault entries.items fault) }
         ensures memory { IsErrOf result DictFault.Memory → (s : ℕ) → NamesSymbols entries.items s }
+        ensures child { (s : ℕ) → IsDictionaryFault entries.items (DictFault.Child s) → IsErrOf result (DictFault.Child s) }
+        ensures cycle { (s : ℕ) → IsDictionaryFault entries.items (DictFault.Cycle s) → IsErrOf result (DictFault.Cycle s) ⊎ IsErrOf result DictFault.Memory }
+        ensures long_symbol { (s : ℕ) → IsDictionaryFault entries.items (DictFault.LongSymbol s) → IsErrOf result (DictFault.LongSymbol s) ⊎ IsErrOf result DictFault.Memory }
     {
         if let Some(symbol) = first_child(&entries) {
             return Err(DictFault::Child(symbol));

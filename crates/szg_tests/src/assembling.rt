@@ -1,4 +1,4 @@
-//! Tables that are put together from their fields, as they were read and with a fault in them.
+//! Tables assembled from their fields, unchanged and with a fault.
 
 use crate::files::{accepted, check_written, fixtures_of_all_sections, made, push, table_of};
 use crate::fixtures::{self, Fixture};
@@ -101,7 +101,7 @@ fn copy_of_map(rt: &(impl Abort + Alloc<A = Global>), map: &Map) -> Map {
     }
 }
 
-/// A part's map, where it has one.
+/// A copy of a part's map, if it has one.
 fn copy_of_item(rt: &(impl Abort + Alloc<A = Global>), item: &Option<Map>) -> Option<Map> {
     match item {
         Some(map) => Some(copy_of_map(rt, map)),
@@ -117,7 +117,7 @@ fn copies_of_maps(rt: &(impl Abort + Alloc<A = Global>), maps: &[Option<Map>]) -
     copies
 }
 
-/// The subtables of a table, in file order.
+/// Copies of the subtables of a table, in file order.
 fn copies_of_subs(rt: &(impl Abort + Alloc<A = Global>), table: &Table) -> Vec<Sub> {
     let mut copies = Vec::new(rt.alloc());
     for place in 0..8u8 {
@@ -128,7 +128,7 @@ fn copies_of_subs(rt: &(impl Abort + Alloc<A = Global>), table: &Table) -> Vec<S
     copies
 }
 
-/// What a table holds, field by field.
+/// The contents of a table, field by field.
 fn fields_of(rt: &(impl Abort + Alloc<A = Global>), table: &Table) -> Fields {
     Fields {
         material: table.material().copy(),
@@ -142,7 +142,8 @@ fn fields_of(rt: &(impl Abort + Alloc<A = Global>), table: &Table) -> Fields {
     }
 }
 
-/// The fields of a file's table ask for its fill and make it again.
+/// The fields of a file's table need exactly its padding bytes, and the table assembled from them is written as the
+/// file.
 fn check_put_together(rt: &(impl Abort + Alloc<A = Global>), file: &Fixture) {
     let fields = fields_of(rt, &accepted(rt, file, &[]));
     assert!(rt; fields.fill_asked() == fields.fill.len() as u64);
@@ -159,7 +160,7 @@ fn tables_are_put_together(rt: HostRuntime) {
     check_put_together(&rt, &made(&rt, fixtures::kpvkp_wdl_constant(rt.alloc())));
 }
 
-/// Fields that pass may have other bits in byte 4 that tell nothing, and other bytes as fill.
+/// Fields that pass still pass with other values of the unused bits of byte 4 and of the padding bytes.
 fn check_faults(rt: &impl Abort, mut fields: Fields) {
     assert!(rt; fields.passes());
     fields.byte4 = 0x80;

@@ -1,4 +1,4 @@
-//! Subtables: a small one and its changes, a constant one, blocks one by one, and look-ups with their steps.
+//! Subtables: a small one and variants of it, a constant one, single blocks, and look-ups with their steps.
 
 ghost use Rattle.std.specs.Prelude.{◌≡◌, IsSomeAnd, length};
 ghost use Rattle.szg_block.specs.Subtable.{layout_of, packed_of, IsShaped, IsSoundOver};
@@ -9,18 +9,18 @@ use std::alloc::{AllocError, Global};
 use std::process::Abort;
 use szg_block::{
     Entry, Image, Paged, Sound, SourceFault, Steps, Sub, SubFault, Watch, Whole, check,
-    check_block, check_index, look_up, shaped, shaped_head,
+    check_block, check_index, find_block, look_up, shaped, shaped_head, value_in_block,
 };
 use szg_code::Code;
 use szg_pairs::Dict;
 
-/// Words of one and two bits, for three symbols.
+/// A code with words of one and two bits, for three symbols.
 fn code(rt: &(impl Abort + Alloc<A = Global>)) -> Code {
     let lowest = made(rt, vec![in rt.alloc(); 2, 0]);
     made(rt, Code::new(1, 2, lowest, 3))
 }
 
-/// Two values and their pair.
+/// A dictionary of two values and their pair.
 fn dict(rt: &(impl Abort + Alloc<A = Global>)) -> Dict {
     let entries = [[0x02, 0xf0, 0xff], [0x04, 0xf0, 0xff], [0x00, 0x10, 0x00]];
     let entries = made(rt, Vec::from_slice(rt.alloc(), &entries));
@@ -28,7 +28,7 @@ fn dict(rt: &(impl Abort + Alloc<A = Global>)) -> Dict {
     made(rt, Dict::new(rt.alloc(), entries))
 }
 
-/// Two values and their pair, words of one and two bits, so many blocks of one byte, spans of two values.
+/// A subtable with this dictionary and code, `blocks` blocks of one byte, and spans of two values.
 fn small(
     rt: &(impl Abort + Alloc<A = Global>),
     blocks: u32,
@@ -52,7 +52,7 @@ fn small(
     }
 }
 
-/// A small index whose last entry is this one.
+/// A sparse index of three entries, the last of which is given.
 fn index(block: u32, offset: u16) -> [Entry; 3] {
     [
         Entry {
@@ -109,7 +109,7 @@ fn changes_of_a_small_subtable(rt: HostRuntime) {
     }
 }
 
-/// The subtable of so many values, which passes its check; a constant one has the value 2.
+/// A subtable of `size` values that passes its check. If it is constant, its value is 2.
 fn sound<'a>(rt: &impl Abort, sub: &'a Sub, size: u64) -> Sound<'a, Whole<'a>> {
     assert!(rt; shaped(sub, size));
     match check(sub, size) {
@@ -118,7 +118,52 @@ fn sound<'a>(rt: &impl Abort, sub: &'a Sub, size: u64) -> Sound<'a, Whole<'a>> {
     }
 }
 
-/// Value `i` of the subtable is this one, found by so many moves and one word.
+/// The block of value `i` of a subtable that passes its check, and the value in these bytes of a block.
+fn found(
+    rt: &impl Abort,
+    sub: &Sub,
+    size: u64,
+    i: u64,
+    block: &[u8],
+) -> (Option<u32>, Option<u16>) {
+    assert!(rt; i < size);
+    assert!(rt; shaped(sub, size));
+    match check(sub, size) {
+        Ok(()) => (
+            find_block(sub, size, i),
+            value_in_block(sub, size, i, block),
+        ),
+        Err(_) => panic!(rt; "it is not sound"),
+    }
+}
+
+/// After its check a subtable can be asked for the block of a value, and for a value in bytes.
+#[test]
+fn values_in_bytes_after_a_check(rt: HostRuntime) {
+    let sub = small(&rt, 2, &index(1, 1), &[3, 1], &[0xc0, 0x10]);
+    for (i, block, bytes, value) in [
+        (0, 0, [0xc0], Some(2)),
+        (3, 0, [0xc0], Some(4)),
+        (4, 1, [0x10], Some(2)),
+        (5, 1, [0x10], Some(4)),
+    ] {
+        assert!(rt;
+            found(&rt, &sub, 6, i, &bytes) == (Some(block), value),
+            "at {i}"
+        );
+        assert!(rt;
+            found(&rt, &sub, 6, i, &[]) == (Some(block), None),
+            "at {i}"
+        );
+    }
+    let constant = Sub::Constant {
+        flags: 0x80,
+        byte: 2,
+    };
+    assert!(rt; found(&rt, &constant, 3, 2, &[]) == (None, None));
+}
+
+/// Value `i` of the subtable is `value`, found by `moves` moves and one word.
 fn check_steps<'a>(
     rt: &impl Abort,
     sound: &mut Sound<'a, Whole<'a>>,
@@ -175,7 +220,7 @@ fn steps_of_a_small_subtable(rt: HostRuntime) {
     }
 }
 
-/// One entry for two blocks: the second of them, from its start.
+/// One entry for every two blocks, at the start of the second of them.
 fn entries_at_second_blocks(alloc: Global, count: u32) -> Result<Vec<Entry>, AllocError> {
     let mut sparse = Vec::new(alloc);
     for j in 0..count / 2 {
@@ -187,7 +232,7 @@ fn entries_at_second_blocks(alloc: Global, count: u32) -> Result<Vec<Entry>, All
     Ok(sparse)
 }
 
-/// So many blocks of one value each; adding lengths from the first block at each call would take hours.
+/// 2^20 blocks of one value each. Adding lengths from the first block on in each call would take hours.
 #[test]
 fn many_blocks(rt: HostRuntime) {
     let count: u32 = 1 << 20;
@@ -201,7 +246,7 @@ fn many_blocks(rt: HostRuntime) {
     }
 }
 
-/// The two blocks of a small subtable, as a source of them.
+/// A source of the two blocks of a small subtable.
 fn source_of(sub: &Sub) -> Image<'_>
     requires shaped { IsShaped sub.now 6 }
     requires small { IsSomeAnd (layout_of sub.now) (λ layout. (layout.blocks ≡ 2) × (layout.block_bits ≡ 0)) }
@@ -214,7 +259,7 @@ fn source_of(sub: &Sub) -> Image<'_>
     }
 }
 
-/// The values of a small subtable over a source of its blocks, which fails at the second call.
+/// The values of a small subtable over a source of its blocks. The source fails at its second call.
 fn paged<'a>(sub: &'a Sub, buffer: Vec<u8>) -> Sound<'a, Paged<Watch<Image<'a>>>>
     requires shaped { IsShaped sub.now 6 }
     requires small { IsSomeAnd (layout_of sub.now) (λ layout. (layout.blocks ≡ 2) × (layout.block_bits ≡ 0)) }
@@ -226,7 +271,7 @@ fn paged<'a>(sub: &'a Sub, buffer: Vec<u8>) -> Sound<'a, Paged<Watch<Image<'a>>>
     Sound::paged(sub, 6, 0, Paged::new(source, buffer, 0, 2))
 }
 
-/// A fault of the source is one of that call alone.
+/// A fault of the source affects only the call in which it occurs.
 #[test]
 fn values_over_a_source(rt: HostRuntime) {
     let sub = small(&rt, 2, &index(1, 1), &[3, 1], &[0xc0, 0x10]);

@@ -1,4 +1,4 @@
-//! Tables built of values, byte for byte, and what of a plan and its lists is refused.
+//! Tables built from values, byte for byte, and refusals of plans and lists.
 
 use crate::files::{changed, check_written, made, material, push};
 use crate::fixtures::{self, Fixture};
@@ -9,13 +9,13 @@ use szg_file::{Map, PartBytes, file_len, write};
 use szg_io::Std;
 use szg_values::{Kind, Material};
 
-/// How many values a side of king and a man against king has.
+/// The number of values of a side with king and one piece against king.
 const THREE_MEN: usize = 31332;
 
-/// How many values a part's side of king and pawn against king has.
+/// The number of values of a side of a part with king and pawn against king.
 const PAWN: usize = 23436;
 
-/// The lists of all subtables, one behind another, each as some values again and again.
+/// The lists of all subtables, one after another, each a pattern repeated a number of times.
 fn values(alloc: Global, lists: &[(&[u16], usize)]) -> Result<Vec<u16>, AllocError> {
     let mut all = Vec::new(alloc);
     for (pattern, times) in lists {
@@ -26,7 +26,7 @@ fn values(alloc: Global, lists: &[(&[u16], usize)]) -> Result<Vec<u16>, AllocErr
     Ok(all)
 }
 
-/// So many parts of the same men in the order of their groups.
+/// `count` parts with the same men, their groups in slot order.
 fn parts(alloc: Global, count: u8, men: &[u8]) -> Result<Vec<PartBytes>, AllocError> {
     let mut parts = Vec::new(alloc);
     for _ in 0..count {
@@ -60,7 +60,7 @@ fn outcomes(
     })
 }
 
-/// A plan of distances without pawns, flags and map.
+/// A plan of distances without pawns, flags and maps.
 fn distances(
     alloc: Global,
     material: Material,
@@ -75,7 +75,7 @@ fn distances(
     Ok(plan)
 }
 
-/// A plan of distances of king and queen against king, in blocks of 32 bytes.
+/// A plan of distances of king and queen against king, with blocks of 32 bytes.
 fn queen_distances(rt: &(impl Abort + Alloc<A = Global>), rounds: u32) -> Plan {
     let material = made(rt, Material::parse("KQvK"));
     made(
@@ -84,7 +84,7 @@ fn queen_distances(rt: &(impl Abort + Alloc<A = Global>), rounds: u32) -> Plan {
     )
 }
 
-/// The values as lists of so many each.
+/// The values, divided into lists of `size` values each.
 fn lists_of<'a>(
     alloc: Global,
     values: &'a [u16],
@@ -97,7 +97,7 @@ fn lists_of<'a>(
     Ok(lists)
 }
 
-/// The plan and these lists of so many values each make this file.
+/// The plan and these values, in lists of `size` each, build the file.
 fn check_built(
     rt: &(impl Abort + Alloc<A = Global>),
     plan: &Plan,
@@ -110,7 +110,7 @@ fn check_built(
     check_written(rt, &table, &file.bytes);
 }
 
-/// The plan and this one list make a file that begins with these bytes.
+/// The plan and this single list build a file that begins with these bytes.
 fn check_front(rt: &(impl Abort + Alloc<A = Global>), plan: &Plan, values: &[u16], front: &[u8]) {
     let table = made(rt, build(rt.alloc(), plan, &[values]));
     let mut output = Std::new(Vec::new(rt.alloc()));
@@ -118,7 +118,7 @@ fn check_front(rt: &(impl Abort + Alloc<A = Global>), plan: &Plan, values: &[u16
     assert!(rt; written && output.inner().as_slice().starts_with(front));
 }
 
-/// A plan with these men, bits and rounds and these lists for both sides make the file.
+/// A plan with these men, bits and rounds builds the file from these lists for both sides.
 fn check_outcomes(
     rt: &(impl Abort + Alloc<A = Global>),
     file: &Fixture,
@@ -147,7 +147,7 @@ fn outcomes_without_pairs(rt: HostRuntime) {
     check_outcomes(&rt, &file, QUEEN, (5, 16, 0), &[turns, turns]);
 }
 
-/// Of as many pairs as the plan allows eight are made where no ninth counts four.
+/// Eight pairs are made even if the plan allows more, because no ninth pair occurs four times or more.
 #[test]
 fn outcomes_with_pairs(rt: HostRuntime) {
     let file = made(&rt, fixtures::kqvk_wdl_paired(rt.alloc()));
@@ -157,7 +157,7 @@ fn outcomes_with_pairs(rt: HostRuntime) {
     }
 }
 
-/// Eight lists, each of one value.
+/// Eight lists, each with a single value.
 #[test]
 fn outcomes_of_parts_in_their_order(rt: HostRuntime) {
     let mut all = Vec::new(rt.alloc());
@@ -174,7 +174,7 @@ fn outcomes_of_parts_in_their_order(rt: HostRuntime) {
     check_built(&rt, &made(&rt, plan), &all, PAWN, &file);
 }
 
-/// A list of one value that isn't 0 has a dictionary and blocks.
+/// A list of a single value other than 0 has a dictionary and blocks.
 #[test]
 fn distances_of_one_value(rt: HostRuntime) {
     let plan = queen_distances(&rt, 0);
@@ -183,7 +183,7 @@ fn distances_of_one_value(rt: HostRuntime) {
     check_built(&rt, &plan, &values, THREE_MEN, &file);
 }
 
-/// The lists for the four classes, of which only the first has items.
+/// The lists for the four classes; only the first has items.
 fn lists_with<T>(alloc: Global, first: Vec<T>) -> [Vec<T>; 4] {
     [first, Vec::new(alloc), Vec::new(alloc), Vec::new(alloc)]
 }
@@ -207,7 +207,8 @@ fn distances_with_maps(rt: HostRuntime) {
     check_built(&rt, &plan, &values, PAWN, &file);
 }
 
-/// Symbols 0 0 0 1 0 1, again and again: 0 1 counts most; then 0 0, 0 2 and 2 2 count the same, and the least goes first.
+/// Symbols 0 0 0 1 0 1, repeated: the pair 0 1 is the most frequent. Then 0 0, 0 2 and 2 2 are equally frequent,
+/// and the least is made first.
 #[test]
 fn the_most_frequent_pair_goes_first(rt: HostRuntime) {
     let plan = queen_distances(&rt, 2);
@@ -220,7 +221,7 @@ fn the_most_frequent_pair_goes_first(rt: HostRuntime) {
     check_front(&rt, &plan, &values, &front);
 }
 
-/// The front of a file of 873,642 values in blocks of 65,536, which would have room for more bits.
+/// The first bytes of a file of 873,642 values in blocks of 65,536 values, whose bytes would have room for more.
 fn front_of_full_blocks(rt: &(impl Abort + Alloc<A = Global>)) -> Vec<u8> {
     let heads = [
         0xd7, 0x66, 0x0c, 0xa5, 0x01, 0x00, 0x06, 0x0e, 0x03, 0x03, 0x00, 0x07, 0x10, 0x01, 0x0e,
@@ -248,7 +249,7 @@ fn blocks_of_as_many_values_as_may_be(rt: HostRuntime) {
     check_front(&rt, &made(&rt, plan), &values, &front_of_full_blocks(&rt));
 }
 
-/// The plan and these values, in lists of so many each, are refused.
+/// The plan and these values, in lists of `size` each, are refused.
 fn check_refused(
     rt: &(impl Abort + Alloc<A = Global>),
     plan: &Plan,
@@ -263,7 +264,7 @@ fn check_refused(
     );
 }
 
-/// A plan with a fault of each kind, of which so many were made good.
+/// A plan with a fault of each kind, except the first `good` kinds.
 fn mended(rt: &(impl Abort + Alloc<A = Global>), good: u8) -> Plan {
     let men = if good < 1 { [6, 5, 5] } else { [6, 5, 14] };
     let block_bits = if good < 2 { 4 } else { 5 };
@@ -276,7 +277,7 @@ fn mended(rt: &(impl Abort + Alloc<A = Global>), good: u8) -> Plan {
     plan
 }
 
-/// So many values: so many different ones from 0 on, and then zeros.
+/// `size` values: the numbers below `count`, and then zeros.
 fn different(alloc: Global, count: u16, size: usize) -> Result<Vec<u16>, AllocError> {
     let mut list = Vec::new(alloc);
     for value in 0..count {
@@ -286,7 +287,7 @@ fn different(alloc: Global, count: u16, size: usize) -> Result<Vec<u16>, AllocEr
     Ok(list)
 }
 
-/// A plan with so many faults made good is refused with a list of so many different values.
+/// A plan with the first `good` faults corrected is refused with a list of `count` different values.
 fn check_mended(
     rt: &(impl Abort + Alloc<A = Global>),
     good: u8,
@@ -297,7 +298,7 @@ fn check_mended(
     check_refused(rt, &mended(rt, good), &list, size, want);
 }
 
-/// All is wrong at first, and is made good from the first fault on.
+/// At first everything is wrong; then the faults are corrected one after another.
 #[test]
 fn faults_in_their_order(rt: HostRuntime) {
     for (good, list, want) in [
@@ -326,7 +327,7 @@ fn faults_of_the_second_list(rt: HostRuntime) {
     check_refused(&rt, &plan, &list, THREE_MEN, BuildFault::Length(1));
 }
 
-/// A plan of pairs and of a map with one item.
+/// A plan with pairs and with a map of one item.
 fn pairs_and_a_map(alloc: Global, material: Material) -> Result<Plan, AllocError> {
     let mut plan = distances(alloc, material, &[6, 5, 14], (5, 10), 8)?;
     plan.flags = Vec::from_slice(alloc, &[2])?;
@@ -336,7 +337,7 @@ fn pairs_and_a_map(alloc: Global, material: Material) -> Result<Plan, AllocError
     Ok(plan)
 }
 
-/// The plan and this list make a file of so many bytes, or memory was refused.
+/// The plan and this list build a file of `length` bytes, or memory was refused.
 fn check_memory(rt: &(impl Abort + Alloc<A = Global>), plan: &Plan, list: &[u16], length: u64) {
     match build(rt.alloc(), plan, &[list]) {
         Ok(table) => assert!(rt; file_len(&table) == length),
@@ -344,7 +345,7 @@ fn check_memory(rt: &(impl Abort + Alloc<A = Global>), plan: &Plan, list: &[u16]
     }
 }
 
-/// To be run with each allocation refused in turn: nothing but want of memory is answered.
+/// For runs in which each allocation in turn is refused: the only error is `Memory`.
 #[test]
 fn refused_growths_are_want_of_memory(rt: HostRuntime) {
     let Ok(material) = Material::parse("KQvK") else {

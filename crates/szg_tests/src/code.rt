@@ -1,4 +1,4 @@
-//! Codes: words, refusals, reading and writing on small codes, and `next` beside a reader of single bits.
+//! Codes: words, refusals, reading and writing with small codes, and `next` compared with a reader of single bits.
 use crate::files::made;
 use std::alloc::Global;
 use std::process::Abort;
@@ -9,7 +9,7 @@ fn code(rt: &(impl Abort + Alloc<A = Global>), min: u8, max: u8, lowest: &[u16],
     made(rt, Code::new(min, max, lowest, n))
 }
 
-/// The symbol's word: its length and its number.
+/// The symbol's word has this length and number.
 fn check_word(rt: &impl Abort, code: &Code, symbol: u16, want: Option<(u8, u32)>) {
     let found = word(code, symbol).map(|word| (word.length, word.number));
     assert!(rt; found == want, "{symbol}");
@@ -107,7 +107,7 @@ fn symbols_of_the_largest_code(rt: HostRuntime) {
     check_symbols(&rt, &many, &[0xff, 0xff], &[], 0);
 }
 
-/// Putting a symbol answers this, and then the buffer has so many bits and these bytes.
+/// `put` of a symbol returns `want`, and then the buffer has `bits` bits, which are these bytes.
 fn check_put(
     rt: &impl Abort,
     code: &Code,
@@ -134,7 +134,7 @@ fn bytes_of_symbols(rt: HostRuntime) {
     check_put(&rt, &two, 0, &mut buffer, Err(PutFault::NoWord), 5, &[0x88]);
 }
 
-/// Puts words of 32 bits until there is no memory, which leaves the buffer as it was.
+/// Writes words of 32 bits until an allocation is refused, which leaves the buffer unchanged.
 #[test]
 fn refused_growth(rt: HostRuntime) {
     let Ok(lowest) = [7].to_vec(rt.alloc()) else {
@@ -157,7 +157,7 @@ fn refused_growth(rt: HostRuntime) {
     }
 }
 
-/// The word at a place of some bytes, taken bit by bit: its symbol and its length. No word: None.
+/// Decodes the word at offset `place`, bit by bit; returns its symbol and its length. None if there is no word.
 fn next_by_bits(code: &Code, bytes: &[u8], place: u64) -> Option<(u16, u64)> {
     let mut number = 0u64;
     for length in 1..=code.max() {
@@ -197,7 +197,7 @@ fn base_of(code: &Code, length: u8) -> u64 {
     base
 }
 
-/// Bytes of which about a quarter are not 0, from one state of a generator to the next.
+/// Bytes of which about a quarter are not 0, from a generator's state, which it advances.
 fn sparse_bytes(state: &mut u64) -> [u8; 48] {
     let mut bytes = [0u8; 48];
     for byte in bytes.iter_mut() {
@@ -209,7 +209,7 @@ fn sparse_bytes(state: &mut u64) -> [u8; 48] {
     bytes
 }
 
-/// Up to the first place where no word begins, `next` takes what single bits tell.
+/// Up to the first offset where no word begins, `next` decodes the words that the reader of single bits decodes.
 fn check_agrees(rt: &impl Abort, code: &Code, bytes: &[u8]) {
     assert!(rt; bytes.len() <= 48);
     let mut bits = Bits::new(bytes);

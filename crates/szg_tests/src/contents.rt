@@ -1,4 +1,4 @@
-//! What tables hold, and the look-ups in them.
+//! The contents of tables, and look-ups in them.
 
 use crate::files::{accepted, made, table_of};
 use crate::fixtures::{self, Fixture};
@@ -8,7 +8,7 @@ use szg_block::Sub;
 use szg_file::{Map, MapFault, PartBytes, Table};
 use szg_values::Kind;
 
-/// A value, where the table has it.
+/// A value, if the table has it.
 fn value(table: &Table, part: u8, side: u8, i: u64) -> Option<u16> {
     match table.size(part, side) {
         Some(size) if i < size => Some(table.get(part, side, i)),
@@ -16,7 +16,7 @@ fn value(table: &Table, part: u8, side: u8, i: u64) -> Option<u16> {
     }
 }
 
-/// The number of a value in a class, where the table is DTZ and has the part.
+/// The distance of a value in a class, if the table is DTZ and has the part.
 fn number(table: &Table, part: u8, class: i8, v: u16) -> Option<Result<u32, MapFault>> {
     if class < -2 || class > 2 {
         return None;
@@ -59,13 +59,13 @@ fn two_packed_sides(rt: HostRuntime) {
     }
 }
 
-/// The value of a part's side at this index is this one.
+/// The value of a part's side at index `i` is `want`.
 fn check_value(rt: &impl Abort, table: &Table, (part, side, i): (u8, u8, u64), want: Option<u16>) {
     let found = value(table, part, side, i);
     assert!(rt; found == want, "{part} {side} at {i}");
 }
 
-/// Side 0 has 2, 4, 2, 4 .., and side 1 is all 2.
+/// Side 0 has the values 2, 4, 2, 4 ..; each value of side 1 is 2.
 fn check_queen(rt: &impl Abort, table: &Table) {
     for k in 0..4476 {
         let i = 7 * k;
@@ -80,7 +80,7 @@ fn check_queen(rt: &impl Abort, table: &Table) {
     check_value(rt, table, (1, 0, 0), None);
 }
 
-/// The table has so many parts of two sides with so many positions each.
+/// The table has `parts` parts, with two sides of `size` positions each.
 fn check_sizes(
     rt: &(impl Abort + Alloc<A = Global>),
     file: Result<Fixture, AllocError>,
@@ -126,7 +126,7 @@ fn values_of_pairs(rt: HostRuntime) {
     check_queen(&rt, &table);
 }
 
-/// A last length that no value needs, extra lengths, and entries that lead into them.
+/// A last length that no value needs, extra lengths, and entries of the sparse index that locate them.
 #[test]
 fn values_under_other_lengths(rt: HostRuntime) {
     let file = made(&rt, fixtures::kqvk_wdl_unpaired(rt.alloc()));
@@ -138,7 +138,7 @@ fn values_under_other_lengths(rt: HostRuntime) {
     }
 }
 
-/// Whether the table tells what stands in its file's first bytes, in its fill and at its end.
+/// Whether the table has the name, kind, byte 4, padding bytes and last bytes of its file.
 fn has_ends(table: &Table, name: &str) -> bool {
     table.material().name().as_str() == name
         && table.kind() == Kind::Dtz
@@ -157,7 +157,7 @@ fn has_parts(parts: &[PartBytes], order: &[u8], men: &[u8]) -> bool {
     true
 }
 
-/// Whether a part's subtable has these flags, and the value 0 throughout.
+/// Whether a part's subtable is constant with these flags, and its value is 0.
 fn is_zero(table: &Table, part: u8, want: u8) -> bool {
     let Some(Sub::Constant { flags, byte: 0 }) = table.sub(part, 0) else {
         return false;
@@ -181,7 +181,7 @@ fn contents_of_a_file_of_distances(rt: HostRuntime) {
     }
 }
 
-/// The number of a value in a class is this one.
+/// The distance of a value in a class is `want`.
 fn check_number(
     rt: &impl Abort,
     table: &Table,

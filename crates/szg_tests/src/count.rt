@@ -1,4 +1,4 @@
-//! Binomials, groups, sizes and sets: the format's worked rows, by tables, and the order of sets.
+//! Binomial coefficients, groups, sizes and sets: the examples of the format, as tables, and the order of sets.
 
 use crate::files::made;
 use arrayvec::ArrayVec;
@@ -10,7 +10,7 @@ fn material(rt: &impl Abort, name: &str) -> Material {
     made(rt, Material::parse(name))
 }
 
-/// The groups of a part: with the lead group's place, that of the other pawns, and the used men.
+/// The groups of a part with these men, by the positions of the lead group and of the other pawns.
 fn groups(
     rt: &impl Abort,
     name: &str,
@@ -32,8 +32,7 @@ fn binomials(rt: HostRuntime) {
     assert!(rt; choose(48, 4) == 194580 && choose(64, 6) == 74974368 && choose(3, 5) == 0);
 }
 
-/// Where b1 and d1 are taken, c1 and e1 are the numbers 1 and 2 of the free squares, and g8 and h8 the
-/// last two of 62.
+/// With b1 and d1 occupied, c1 and e1 are free squares number 1 and 2, and g8 and h8 are the last two of 62.
 #[test]
 fn places_of_sets(rt: HostRuntime) {
     assert!(rt; rank_subset(&[]) == 0 && rank_subset(&[2, 1]) == 2);
@@ -43,7 +42,7 @@ fn places_of_sets(rt: HostRuntime) {
     assert!(rt; unrank_subset(62, 2, 1890).as_slice() == [61, 60].as_slice());
 }
 
-/// The members of a set as bits.
+/// The set as a bit mask.
 fn mask_of(set: &[u8]) -> u32 {
     let mut mask = 0;
     for number in set {
@@ -52,7 +51,7 @@ fn mask_of(set: &[u8]) -> u32 {
     mask
 }
 
-/// Sets of as many numbers stand in the order of their masks.
+/// Sets of equal size are ordered by their masks.
 #[test]
 fn sets_in_the_order_of_masks(rt: HostRuntime) {
     for size in 0..=6u8 {
@@ -69,7 +68,7 @@ fn sets_in_the_order_of_masks(rt: HostRuntime) {
     }
 }
 
-/// So many sets of lead pawns are in each part.
+/// These are the numbers of sets of lead pawns in the four parts.
 fn check_lead_ways(rt: &impl Abort, name: &str, want: [u64; 4]) {
     let material = material(rt, name);
     assert!(rt; material.has_pawns());
@@ -164,7 +163,7 @@ fn refusals(rt: HostRuntime) {
     );
 }
 
-/// A part has so many positions.
+/// A part has `want` positions.
 fn check_size(
     rt: &impl Abort,
     name: &str,

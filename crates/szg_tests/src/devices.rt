@@ -1,7 +1,8 @@
-//! Devices, in what the laws leave open: at which call a device for tests interrupts and fails, how many bytes go
-//! over at a call, and what std's errors mean.
-ghost use Rattle.std.specs.Prelude.{None, false};
+//! Devices, where the laws leave a choice: the calls in which a device for tests is interrupted or fails, the
+//! number of bytes moved in a call, and the meaning of std's errors.
+ghost use Rattle.std.specs.Prelude.{◌≤◌, None, false, IfOk};
 
+use std::alloc::Global;
 use std::io::{self, Error, ErrorKind, Read, Write};
 use std::process::Abort;
 use szg_io::{
@@ -10,7 +11,7 @@ use szg_io::{
 
 const TEXT: &[u8] = b"rattles";
 
-/// A reader and writer of std that answers `Interrupted`, then one byte, then a fault of another kind.
+/// A reader and writer of std. Its calls return `Interrupted`, then one byte, then an error of another kind.
 #[derive(Drop)]
 struct Uneasy(u8);
 
@@ -25,7 +26,7 @@ impl Uneasy {
     }
 }
 
-/// Taking a piece whole answers this.
+/// Reading a whole chunk returns `want`.
 fn check_take<R: Input>(
     rt: &impl Abort,
     input: &mut R,
@@ -35,12 +36,12 @@ fn check_take<R: Input>(
     assert_eq!(rt; take_whole(input, piece), want);
 }
 
-/// Giving a piece whole answers this.
+/// Writing a whole chunk returns `want`.
 fn check_give<W: Output>(rt: &impl Abort, output: &mut W, piece: &[u8], want: Result<(), usize>) {
     assert_eq!(rt; give_whole(output, piece), want);
 }
 
-/// One call that takes answers this.
+/// One call of `take` returns `want`.
 fn check_taken_once<R: Input>(
     rt: &impl Abort,
     input: &mut R,
@@ -50,7 +51,7 @@ fn check_taken_once<R: Input>(
     assert_eq!(rt; input.take(piece), want);
 }
 
-/// One call that gives answers this.
+/// One call of `give` returns `want`.
 fn check_given_once<W: Output>(
     rt: &impl Abort,
     output: &mut W,
@@ -156,8 +157,159 @@ impl Write for Uneasy {
     }
 }
 
-/// A device of a user's own: it gives one byte again and again, takes what it is given and keeps none of it. It tells
-/// no bytes.
+/// A reader and writer of std that fails at its first call with this error of the system, and works from then on. It
+/// counts its calls.
+#[derive(Drop)]
+struct Recovering {
+    code: i32,
+    calls: u64,
+}
+
+impl Recovering {
+    /// Fails at the first call.
+    fn fail_once(&mut self) -> io::Result<()> {
+        self.calls = self.calls.saturating_add(1);
+        if self.calls == 1 {
+            return Err(Error::from_raw_os_error(self.code));
+        }
+        Ok(())
+    }
+}
+
+impl Read for Recovering {
+    fn read(&mut self, buf: &mut [u8]) -> io::Result<usize> {
+        self.fail_once()?;
+        buf.fill(7);
+        Ok(buf.len())
+    }
+}
+
+impl Write for Recovering {
+    fn write(&mut self, buf: &[u8]) -> io::Result<usize> {
+        self.fail_once()?;
+        Ok(buf.len())
+    }
+
+    fn flush(&mut self) -> io::Result<()> {
+        Ok(())
+    }
+}
+
+fn fails_once(code: i32) -> Std<Recovering> {
+    Std::new(Recovering { code, calls: 0 })
+}
+
+/// The wrapped reader or writer was called `calls` times.
+fn check_calls(rt: &impl Abort, device: &Std<Recovering>, calls: u64) {
+    assert!(rt;
+        device.inner().calls == calls,
+        "error {}",
+        device.inner().code
+    );
+}
+
+/// Errors of Linux that are no interruption: EIO, EAGAIN, ENOMEM, ENOSPC, EPIPE, ETIMEDOUT, EDQUOT.
+const ERRORS: [i32; 7] = [5, 11, 12, 28, 32, 110, 122];
+
+/// EINTR.
+const INTERRUPTED: i32 = 4;
+
+/// An error is returned by the call that met it, even if the next call would succeed.
+#[test]
+fn an_error_is_returned_at_its_call(rt: HostRuntime) {
+    for code in ERRORS {
+        let mut input = fails_once(code);
+        let mut output = fails_once(code);
+        for (calls, answer) in [(1, Err(IoFault::Failed)), (2, Ok(3))] {
+            check_taken_once(&rt, &mut input, &mut [0; 3], answer);
+            check_calls(&rt, &input, calls);
+            check_given_once(&rt, &mut output, &[0; 3], answer);
+            check_calls(&rt, &output, calls);
+        }
+    }
+}
+
+/// A whole chunk is not continued after an error, and is after an interruption.
+#[test]
+fn a_chunk_ends_at_an_error(rt: HostRuntime) {
+    for code in ERRORS {
+        let mut input = fails_once(code);
+        check_take(&rt, &mut input, &mut [0; 3], Err(DeviceFault));
+        check_calls(&rt, &input, 1);
+        let mut output = fails_once(code);
+        check_give(&rt, &mut output, &[0; 3], Err(0));
+        check_calls(&rt, &output, 1);
+    }
+    let mut input = fails_once(INTERRUPTED);
+    check_take(&rt, &mut input, &mut [0; 3], Ok(3));
+    check_calls(&rt, &input, 2);
+    let mut output = fails_once(INTERRUPTED);
+    check_give(&rt, &mut output, &[0; 3], Ok(()));
+    check_calls(&rt, &output, 2);
+}
+
+/// A reader and writer of std that moves at most three bytes at a call. It keeps the lengths of the chunks.
+#[derive(Drop)]
+struct Sparing {
+    asked: Vec<usize>,
+}
+
+impl Sparing {
+    /// Keeps the length of a chunk, and returns the number of bytes to be moved.
+    fn ask(&mut self, size: usize) -> io::Result<usize>
+        ensures { IfOk result (λ n. n ≤ size) }
+    {
+        self.asked.push(size)?;
+        Ok(size.min(3))
+    }
+}
+
+impl Read for Sparing {
+    fn read(&mut self, buf: &mut [u8]) -> io::Result<usize> {
+        self.ask(buf.len())
+    }
+}
+
+impl Write for Sparing {
+    fn write(&mut self, buf: &[u8]) -> io::Result<usize> {
+        self.ask(buf.len())
+    }
+
+    fn flush(&mut self) -> io::Result<()> {
+        Ok(())
+    }
+}
+
+fn moves_three(alloc: Global) -> Std<Sparing> {
+    Std::new(Sparing {
+        asked: Vec::new(alloc),
+    })
+}
+
+/// Chunks of these lengths were asked of the wrapped reader or writer.
+fn check_asked(rt: &impl Abort, device: &Std<Sparing>, lengths: &[usize]) {
+    assert!(rt; device.inner().asked.as_slice() == lengths);
+}
+
+/// Each call asks for all that is left of the chunk, and a device for tests passes on as much as it may.
+#[test]
+fn all_of_a_chunk_is_asked_for(rt: HostRuntime) {
+    let mut input = moves_three(rt.alloc());
+    check_take(&rt, &mut input, &mut [0; 7], Ok(7));
+    check_asked(&rt, &input, &[7, 4, 1]);
+    let mut output = moves_three(rt.alloc());
+    check_give(&rt, &mut output, TEXT, Ok(()));
+    check_asked(&rt, &output, &[7, 4, 1]);
+    let mut cut = Cut::new(input, 5, 0, 0);
+    check_taken_once(&rt, &mut cut, &mut [0; 7], Ok(3));
+    check_asked(&rt, cut.inner(), &[7, 4, 1, 5]);
+    let mut cut = Cut::new(output, 5, 0, 0);
+    check_given_once(&rt, &mut cut, TEXT, Ok(3));
+    check_asked(&rt, cut.inner(), &[7, 4, 1, 5]);
+}
+
+/// A device as a user might define it: reading returns the same byte again and again, writing accepts all bytes and
+/// keeps none. It does not specify its bytes.
 #[derive(Drop)]
 struct Same {
     byte: u8,
@@ -228,7 +380,7 @@ fn bytes_in_memory_are_read(rt: HostRuntime) {
     check_take(&rt, &mut cut, &mut piece, Ok(0));
 }
 
-/// A device that fails at its second call gives seven bytes at once, and no more.
+/// A device that fails at its second call reads seven bytes in its first.
 fn check_one_call<R: Input + Drop>(rt: &impl Abort, device: R) {
     let mut input = Cut::new(device, 7, 0, 2);
     let mut lent = &mut input;
@@ -246,7 +398,7 @@ fn a_whole_piece_is_moved_at_once(rt: HostRuntime) {
     check_given_once(&rt, &mut lent, TEXT, Err(IoFault::Failed));
 }
 
-/// How many bytes go over at a call.
+/// The number of bytes moved in a call.
 #[test]
 fn pieces_are_as_long_as_they_may_be(rt: HostRuntime) {
     for size in [7, 9] {

@@ -1,4 +1,4 @@
-//! Dumps that are written, read back and built again, and texts that are no dumps.
+//! Dumps that are written, parsed and built, and texts that are not dumps.
 
 use crate::files::{answer, check_written, fixtures_of_all_sections, made};
 use crate::fixtures::{self, Fixture};
@@ -12,7 +12,7 @@ use szg_io::{Bytes, Std};
 const FRONT: &[u8] =
     b"szg-dump 2\nname KQvK\nkind wdl\nend 000102030405060708090a0b0c0d0e0f\npart a order 00 men 6655ee\nsub a 0\n";
 
-/// The text of a dump, in runs or with a line for each value.
+/// The text of a dump, in runs or with one line per value.
 fn text_of(rt: &(impl Abort + Alloc<A = Global>), dump: &Dump, in_runs: bool) -> Vec<u8> {
     let mut output = Std::new(Vec::new(rt.alloc()));
     let written = if in_runs {
@@ -24,7 +24,7 @@ fn text_of(rt: &(impl Abort + Alloc<A = Global>), dump: &Dump, in_runs: bool) ->
     made(rt, Vec::from_slice(rt.alloc(), output.inner().as_slice()))
 }
 
-/// The dump of a text, and nothing is left of it.
+/// The dump of a text, which is read to its end.
 fn dump_of(rt: &(impl Abort + Alloc<A = Global>), text: &[u8]) -> Dump {
     let mut input = Bytes::new(text);
     let dump = made(rt, read_dump(rt.alloc(), &mut input));
@@ -38,7 +38,7 @@ fn dump_of_file(rt: &(impl Abort + Alloc<A = Global>), file: &Fixture) -> Dump {
     made(rt, Dump::of(rt.alloc(), &table))
 }
 
-/// The text is read back, and its dump is written in the other form, runs or single values, as this one.
+/// The text is parsed, and its dump, written in the other form (runs or single values), is `want`.
 fn check_other_form(
     rt: &(impl Abort + Alloc<A = Global>),
     text: &[u8],
@@ -90,12 +90,12 @@ fn check_refused(rt: &(impl Abort + Alloc<A = Global>), text: &[u8], fault: Dump
     assert!(rt; read_dump(rt.alloc(), &mut input).err() == Some(fault));
 }
 
-/// This line of the text is refused.
+/// The text is refused at this line.
 fn check_line(rt: &(impl Abort + Alloc<A = Global>), text: &[u8], line: u64, fault: DumpFault) {
     check_refused(rt, text, DumpReadFault::Line { line, fault });
 }
 
-/// The first six lines of a dump, and these bytes.
+/// The first six lines of a dump, followed by these bytes.
 fn behind_front(rt: &(impl Abort + Alloc<A = Global>), rest: &[u8]) -> Vec<u8> {
     let mut text = made(rt, Vec::from_slice(rt.alloc(), FRONT));
     made(rt, text.extend_from_slice(rest));
@@ -116,7 +116,7 @@ fn first_lines_that_are_refused(rt: HostRuntime) {
     );
 }
 
-/// As many values as a dump may tell of, and none of them there.
+/// The greatest number of values that a dump may have, and none of them follows.
 #[test]
 fn a_cut_dump_of_many_values(rt: HostRuntime) {
     let text =
@@ -134,7 +134,7 @@ fn lines_of_values_that_are_refused(rt: HostRuntime) {
     check_refused(&rt, &length, DumpReadFault::Build(BuildFault::Length(0)));
 }
 
-/// The table's dump is taken, written and read back; any of it may be refused for want of memory.
+/// The table's dump is made, written and parsed; each of these may run out of memory.
 fn check_memory(rt: &(impl Abort + Alloc<A = Global>), table: &Table) {
     let Ok(dump) = Dump::of(rt.alloc(), table) else {
         return;
@@ -149,7 +149,7 @@ fn check_memory(rt: &(impl Abort + Alloc<A = Global>), table: &Table) {
     }
 }
 
-/// To be run with each allocation refused in turn: nothing but want of memory is answered.
+/// For runs in which each allocation in turn is refused: the only error is `Memory`.
 #[test]
 fn refused_growths_are_want_of_memory(rt: HostRuntime) {
     let Ok(files) = fixtures_of_all_sections(rt.alloc()) else {

@@ -1,4 +1,4 @@
-//! What tests of whole files share: a fixture read, changed, written back, or refused.
+//! Helpers for tests of whole files: a fixture is read, changed, written or refused.
 
 use crate::fixtures::{self, Fixture};
 use std::alloc::{AllocError, Global};
@@ -8,7 +8,7 @@ use szg_file::{ReadFault, Reason, Table, file_len, read, read_bytes, write};
 use szg_io::Std;
 use szg_values::Material;
 
-/// What a call made that is not to be refused.
+/// The value of a call that must succeed.
 pub fn made<T, E: Debug>(rt: &impl Abort, answer: Result<T, E>) -> T {
     match answer {
         Ok(made) => made,
@@ -16,7 +16,7 @@ pub fn made<T, E: Debug>(rt: &impl Abort, answer: Result<T, E>) -> T {
     }
 }
 
-/// Adds an item, for which there is to be memory.
+/// Appends an item; there must be memory for it.
 pub fn push<T: Drop>(rt: &impl Abort, list: &mut Vec<T>, item: T) {
     assert!(rt; list.push(item).is_ok());
 }
@@ -25,13 +25,13 @@ pub fn material(rt: &impl Abort, file: &Fixture) -> Material {
     made(rt, Material::parse(file.name))
 }
 
-/// What the file's bytes are read as, all at once.
+/// The result of reading the file's bytes, all at once.
 pub fn answer(rt: &(impl Abort + Alloc<A = Global>), file: &Fixture) -> Result<Table, ReadFault> {
     let mut input = Std::new(file.bytes.as_slice());
     read(rt.alloc(), material(rt, file), file.kind, &mut input)
 }
 
-/// The file with other bytes at some places.
+/// The file with some bytes changed.
 pub fn changed(
     rt: &(impl Abort + Alloc<A = Global>),
     file: &Fixture,
@@ -57,7 +57,7 @@ pub fn check_written(rt: &(impl Abort + Alloc<A = Global>), table: &Table, bytes
     assert!(rt; output.inner().as_slice() == bytes);
 }
 
-/// The table of a file, which is written back byte for byte, and is read of the file's bytes in memory too.
+/// The table of a file. It is written back byte for byte, and read from the bytes in memory, too.
 pub fn accepted(
     rt: &(impl Abort + Alloc<A = Global>),
     file: &Fixture,
@@ -70,12 +70,12 @@ pub fn accepted(
     table
 }
 
-/// The table of a file as it was made, which is accepted.
+/// The table of an unchanged fixture, which is accepted.
 pub fn table_of(rt: &(impl Abort + Alloc<A = Global>), file: Result<Fixture, AllocError>) -> Table {
     accepted(rt, &made(rt, file), &[])
 }
 
-/// The file with these changes is refused at this place, by a device and in memory.
+/// The file with these changes is refused at this offset, read from a device and from memory.
 pub fn check_refused(
     rt: &(impl Abort + Alloc<A = Global>),
     file: &Fixture,

@@ -1,9 +1,9 @@
-//! Files of tables, byte by byte.
+//! Table files, byte by byte.
 
 use std::alloc::{AllocError, Global};
 use szg_values::Kind;
 
-/// The bytes of a file, with the name and the kind that it is read by.
+/// The bytes of a file, with its table's name and kind.
 #[derive(Drop)]
 pub struct Fixture {
     pub name: &'static str,
@@ -11,22 +11,22 @@ pub struct Fixture {
     pub bytes: Vec<u8>,
 }
 
-/// Some bytes, and how often they stand one behind another.
+/// Some bytes, and how often they are repeated.
 type Row<'a> = (&'a [u8], usize);
 
-/// The sixteen bytes at each file's end.
+/// The last sixteen bytes of each file.
 const LAST: [u8; 16] = [0, 1, 2, 3, 4, 5, 6, 7, 8, 9, 10, 11, 12, 13, 14, 15];
 
-/// Magic, byte 4, the one part and a fill byte of both tables of values of king and queen against king.
+/// Magic, byte 4, the single part and a padding byte of the WDL tables of king and queen against king.
 const QUEEN: [u8; 10] = [0x71, 0xe8, 0x23, 0x5d, 0x01, 0x00, 0x66, 0x55, 0xee, 0x00];
 
-/// Magic, byte 4, the four parts and a fill byte of both tables of distances of king and pawn against king.
+/// Magic, byte 4, the four parts and a padding byte of the DTZ tables of king and pawn against king.
 const PAWN: [u8; 22] = [
     0xd7, 0x66, 0x0c, 0xa5, 0x03, 0x00, 0x01, 0x06, 0x0e, 0x00, 0x01, 0x06, 0x0e, 0x00, 0x01, 0x06,
     0x0e, 0x00, 0x01, 0x06, 0x0e, 0x00,
 ];
 
-/// The head of a side whose words of one bit are the values 2 and 4, in 123 blocks of 32 bytes.
+/// The header of a side whose words of one bit are the values 2 and 4, in 123 blocks of 32 bytes.
 const HEAD: [u8; 20] = [
     0x00, 0x05, 0x10, 0x01, 0x7b, 0x00, 0x00, 0x00, 0x01, 0x01, 0x00, 0x00, 0x02, 0x00, 0x02, 0xf0,
     0xff, 0x04, 0xf0, 0xff,
@@ -35,19 +35,19 @@ const HEAD: [u8; 20] = [
 /// The one sparse entry of such a side.
 const SPARSE: [u8; 6] = [0x7b, 0x00, 0x00, 0x00, 0x9c, 0x05];
 
-/// The length of each of 122 blocks of 256 values.
+/// The block length of each of 122 blocks of 256 values.
 const FULL: [u8; 2] = [0xff, 0x00];
 
-/// The lengths of a block of 100 values behind them, and of one that is not there.
+/// The lengths of one more block, of 100 values, and of one that does not exist.
 const REST: [u8; 4] = [0x63, 0x00, 0xff, 0xff];
 
-/// How many bytes of the words 0, 1, 0, 1 .. such blocks have; one byte of four more words stands behind them.
+/// The number of bytes with the words 0, 1, 0, 1 .. of such blocks. One byte with four more words follows.
 const WORDS: usize = 122 * 32 + 12;
 
-/// How many bytes of fill stand behind those of the last block.
+/// The number of unused bytes of the last block, plus the padding after it.
 const SPARE: usize = 19 + 32;
 
-/// A file of these rows, one behind another.
+/// A file of these rows, one after another.
 fn file(
     alloc: Global,
     name: &'static str,
@@ -63,7 +63,7 @@ fn file(
     Ok(Fixture { name, kind, bytes })
 }
 
-/// These bytes, so many zeros, and the sixteen bytes at the end.
+/// These bytes, `zeros` zeros, and the last sixteen bytes.
 fn with_zeros(
     alloc: Global,
     name: &'static str,
@@ -75,7 +75,7 @@ fn with_zeros(
     file(alloc, name, kind, &rows)
 }
 
-/// Both sides constant, of value 2.
+/// Both sides are constant, with the value 2.
 pub fn knvk_wdl_constant(alloc: Global) -> Result<Fixture, AllocError> {
     let front = [
         0x71, 0xe8, 0x23, 0x5d, 0x01, 0x00, 0x66, 0x22, 0xee, 0x00, 0x80, 0x02, 0x80, 0x02,
@@ -83,7 +83,8 @@ pub fn knvk_wdl_constant(alloc: Global) -> Result<Fixture, AllocError> {
     with_zeros(alloc, "KNvK", Kind::Wdl, &front, 50)
 }
 
-/// Side 0 has the values 2, 4, 2, 4 .. as words of one bit, in 123 blocks of 32 bytes; side 1 is constant, of value 2.
+/// Side 0 has the values 2, 4, 2, 4 .. as words of one bit, in 123 blocks of 32 bytes. Side 1 is constant, with the
+/// value 2.
 pub fn kqvk_wdl_unpaired(alloc: Global) -> Result<Fixture, AllocError> {
     file(
         alloc,
@@ -131,7 +132,7 @@ pub fn kqvk_wdl_both_sides(alloc: Global) -> Result<Fixture, AllocError> {
     )
 }
 
-/// All values are 3; the dictionary has one entry, and so a spare byte behind it.
+/// Each value is 3. The dictionary has one entry, so a padding byte follows it.
 pub fn kqvk_dtz_packed(alloc: Global) -> Result<Fixture, AllocError> {
     file(
         alloc,
@@ -155,7 +156,8 @@ pub fn kqvk_dtz_packed(alloc: Global) -> Result<Fixture, AllocError> {
     )
 }
 
-/// The front of a file whose last symbol would have 512 values: each symbol is the one before it, twice.
+/// The first bytes of a file whose last symbol would have 512 values: each symbol is the pair of the previous one
+/// with itself.
 pub fn kqvk_wdl_with_a_long_symbol(alloc: Global) -> Result<Fixture, AllocError> {
     file(
         alloc,
@@ -198,7 +200,7 @@ fn sparse_of_two_blocks(alloc: Global) -> Result<Vec<u8>, AllocError> {
     Ok(bytes)
 }
 
-/// The same values in two blocks, by symbols that are pairs of pairs: up to 256 values a word.
+/// The same values in two blocks, with symbols that are pairs of pairs: up to 256 values per word.
 pub fn kqvk_wdl_paired(alloc: Global) -> Result<Fixture, AllocError> {
     let sparse = sparse_of_two_blocks(alloc)?;
     file(
@@ -264,7 +266,7 @@ pub fn kqvk_wdl_one_block(alloc: Global) -> Result<Fixture, AllocError> {
     )
 }
 
-/// All parts constant; part a has a map of bytes, part b a wide one.
+/// All parts are constant. Part a has a map of bytes, part b a wide one.
 pub fn kpvk_dtz_mapped(alloc: Global) -> Result<Fixture, AllocError> {
     file(
         alloc,
@@ -284,7 +286,7 @@ pub fn kpvk_dtz_mapped(alloc: Global) -> Result<Fixture, AllocError> {
     )
 }
 
-/// All parts constant; part a, of these flags, has a map with the numbers 3 and 9 for losses.
+/// All parts are constant. Part a has these flags, and a map with the numbers 3 and 9 for losses.
 pub fn kpvk_dtz_losses(alloc: Global, flags: u8) -> Result<Fixture, AllocError> {
     file(
         alloc,
@@ -300,12 +302,12 @@ pub fn kpvk_dtz_losses(alloc: Global, flags: u8) -> Result<Fixture, AllocError> 
     )
 }
 
-/// Four parts of two constant sides each.
+/// Four parts with two constant sides each.
 pub fn kpvk_wdl_constant(alloc: Global) -> Result<Fixture, AllocError> {
     pawns_wdl_constant(alloc, "KPvK", &[0x00, 0x11, 0x66, 0xee], 26)
 }
 
-/// A pawn on each side and four parts of one constant side each.
+/// One pawn on each side, and four parts with one constant side each.
 pub fn kpvkp_wdl_constant(alloc: Global) -> Result<Fixture, AllocError> {
     file(
         alloc,
@@ -322,7 +324,7 @@ pub fn kpvkp_wdl_constant(alloc: Global) -> Result<Fixture, AllocError> {
     )
 }
 
-/// Six men, both sides constant.
+/// Six men; both sides are constant.
 pub fn kqrbvkn_wdl_constant(alloc: Global) -> Result<Fixture, AllocError> {
     let front = [
         0x71, 0xe8, 0x23, 0x5d, 0x01, 0x00, 0x66, 0x55, 0xee, 0x44, 0x33, 0xaa, 0x80, 0x02, 0x80,
@@ -331,7 +333,8 @@ pub fn kqrbvkn_wdl_constant(alloc: Global) -> Result<Fixture, AllocError> {
     with_zeros(alloc, "KQRBvKN", Kind::Wdl, &front, 48)
 }
 
-/// The front of a file whose code has 65,535 symbols, words of 15 and 16 bits, and one entry of its dictionary.
+/// The first bytes of a file whose code has 65,535 symbols and words of 15 and 16 bits, with one entry of its
+/// dictionary.
 pub fn kqvk_wdl_cut_in_its_dictionary(alloc: Global) -> Result<Fixture, AllocError> {
     file(
         alloc,
@@ -350,7 +353,7 @@ pub fn kqvk_wdl_cut_in_its_dictionary(alloc: Global) -> Result<Fixture, AllocErr
     )
 }
 
-/// King and two bishops against king: the kings lead, the bishops follow; both sides constant.
+/// King and two bishops against king: the kings lead, the bishops follow. Both sides are constant.
 pub fn kbbvk_wdl_kings_lead(alloc: Global) -> Result<Fixture, AllocError> {
     let front = [
         0x71, 0xe8, 0x23, 0x5d, 0x01, 0x00, 0x66, 0xee, 0x33, 0x33, 0x80, 0x02, 0x80, 0x02,
@@ -358,7 +361,7 @@ pub fn kbbvk_wdl_kings_lead(alloc: Global) -> Result<Fixture, AllocError> {
     with_zeros(alloc, "KBBvK", Kind::Wdl, &front, 50)
 }
 
-/// The same with a lead group of bishop, king and bishop.
+/// The same with the lead group bishop, king, bishop.
 pub fn kbbvk_wdl_bishop_leads(alloc: Global) -> Result<Fixture, AllocError> {
     let front = [
         0x71, 0xe8, 0x23, 0x5d, 0x01, 0x00, 0x33, 0x66, 0xee, 0x33, 0x80, 0x02, 0x80, 0x02,
@@ -366,7 +369,7 @@ pub fn kbbvk_wdl_bishop_leads(alloc: Global) -> Result<Fixture, AllocError> {
     with_zeros(alloc, "KBBvK", Kind::Wdl, &front, 50)
 }
 
-/// Four parts of these bytes, two constant sides each, and so many zeros.
+/// Four parts of these bytes, with two constant sides each, and `zeros` zeros.
 fn pawns_wdl_constant(
     alloc: Global,
     name: &'static str,
@@ -388,18 +391,18 @@ fn pawns_wdl_constant(
     )
 }
 
-/// Two pawns of one colour.
+/// Two pawns of one side.
 pub fn kppvk_wdl_constant(alloc: Global) -> Result<Fixture, AllocError> {
     pawns_wdl_constant(alloc, "KPPvK", &[0x00, 0x11, 0x11, 0x66, 0xee], 22)
 }
 
-/// Four pawns of one colour.
+/// Four pawns of one side.
 pub fn kppppvk_wdl_constant(alloc: Global) -> Result<Fixture, AllocError> {
     let part = [0x00, 0x11, 0x11, 0x11, 0x11, 0x66, 0xee];
     pawns_wdl_constant(alloc, "KPPPPvK", &part, 14)
 }
 
-/// Distances of a pawn on each side: four parts of one constant side each, part a with these flags.
+/// A DTZ table with one pawn on each side: four parts with one constant side each; part a has these flags.
 pub fn kpvkp_dtz_constant(alloc: Global, flags: u8) -> Result<Fixture, AllocError> {
     file(
         alloc,

@@ -1,14 +1,16 @@
-//! What strangers' bytes, sources and allocators do to a table that is opened: cuts of a file of many blocks, heads that
-//! tell of more than is there, a source that fails at each call, memory that is refused.
+//! Opening a table over hostile bytes, sources and allocators: truncated files of many blocks, headers with sizes
+//! past the end of the file, a source that fails at each call, and memory that is refused.
 
-use crate::files::{changed, fixtures_of_all_sections, made, material};
+use crate::files::{answer, changed, fixtures_of_all_sections, made, material};
 use crate::fixtures::{self, Fixture};
 use std::alloc::Global;
+use std::fs::{self, Files};
 use std::process::Abort;
 use szg_block::{Image, Watch};
 use szg_file::{OpenFault, Reason, open};
 
-/// The fault of the first so many bytes of a file, and how many calls of a source it took, which fails at one of them.
+/// The fault of the first `length` bytes of a file over a source that fails at call `fails_at`, and the number of
+/// its calls.
 fn fault_of(
     rt: &(impl Abort + Alloc<A = Global>),
     file: &Fixture,
@@ -36,7 +38,7 @@ fn a_cut_file_of_many_blocks_is_not_opened(rt: HostRuntime) {
     }
 }
 
-/// The file with these changes is refused at this place.
+/// The file with these changes is refused at this offset.
 fn check_refused(
     rt: &(impl Abort + Alloc<A = Global>),
     file: &Fixture,
@@ -49,7 +51,7 @@ fn check_refused(
     assert!(rt; fault == refused(place, reason), "at {place}");
 }
 
-/// More symbols, blocks, and longer blocks than the file has bytes, and entries that lead elsewhere.
+/// More symbols, more blocks and longer blocks than the file has bytes for, and sparse entries past the blocks.
 #[test]
 fn heads_of_more_than_is_there(rt: HostRuntime) {
     let file = made(&rt, fixtures::kqvk_wdl_unpaired(rt.alloc()));
@@ -68,7 +70,7 @@ fn heads_of_more_than_is_there(rt: HostRuntime) {
     check_refused(&rt, &file, &[(32, 0x7d)], 32, Reason::SparseEntry);
 }
 
-/// The source fails at each call in turn that opens the file, and is not called again.
+/// If the source fails at any call during opening, it is not called again.
 fn check_failing_calls(rt: &(impl Abort + Alloc<A = Global>), file: &Fixture) {
     let (none, calls) = fault_of(rt, file, file.bytes.len(), 0);
     assert!(rt; none == None && calls > 0);
@@ -89,7 +91,7 @@ fn sources_that_fail(rt: HostRuntime) {
     check_failing_calls(&rt, &made(&rt, fixtures::kqvk_wdl_one_block(rt.alloc())));
 }
 
-/// To be run with each allocation refused in turn: nothing but want of memory is answered.
+/// For runs in which each allocation in turn is refused: the only error is `Memory`.
 #[test]
 fn refused_growths_are_want_of_memory(rt: HostRuntime) {
     let Ok(files) = fixtures_of_all_sections(rt.alloc()) else {
@@ -99,4 +101,47 @@ fn refused_growths_are_want_of_memory(rt: HostRuntime) {
         let (fault, _) = fault_of(&rt, file, file.bytes.len(), 0);
         assert!(rt; fault == None || fault == Some(OpenFault::Memory));
     }
+}
+
+/// The decimal digits among these bytes as a number.
+fn number(text: &[u8]) -> u64 {
+    let mut number: u64 = 0;
+    for byte in text {
+        if byte.is_ascii_digit() {
+            number = number
+                .saturating_mul(10)
+                .saturating_add(u64::from(byte.wrapping_sub(b'0')));
+        }
+    }
+    number
+}
+
+/// The greatest size that this process has had in memory and out of it, in KiB, as Linux counts it.
+fn peak(rt: &(impl Abort + Alloc<A = Global> + Files)) -> u64 {
+    let status = made(rt, fs::read_to_string(rt, "/proc/self/status"));
+    for line in status.lines() {
+        if line.starts_with("VmPeak:") {
+            return number(line.as_bytes());
+        }
+    }
+    panic!(rt; "no peak is listed")
+}
+
+/// A header of four thousand million blocks, or of blocks of 256 KiB, requests no memory for bytes that aren't there: the
+/// lengths alone would be 8 GiB.
+#[test]
+fn no_memory_is_requested_ahead_of_the_bytes(rt: HostRuntime) {
+    let file = made(&rt, fixtures::kqvk_wdl_unpaired(rt.alloc()));
+    let many = [(14, 0xff), (15, 0xff), (16, 0xff), (17, 0xff)];
+    let large = [(11, 0x12), (14, 0xff), (15, 0xff), (16, 0xff), (17, 0xff)];
+    let symbols = [(22, 0xff), (23, 0xff)];
+    let before = peak(&rt);
+    for changes in [many.as_slice(), large.as_slice(), symbols.as_slice()] {
+        let hostile = changed(&rt, &file, changes);
+        let (fault, _) = fault_of(&rt, &hostile, hostile.bytes.len(), 0);
+        assert!(rt; fault == refused(4304, Reason::Truncated));
+        assert!(rt; answer(&rt, &hostile).is_err());
+    }
+    let grown = peak(&rt).saturating_sub(before);
+    assert!(rt; grown < 65536, "{grown} KiB");
 }

@@ -1,7 +1,7 @@
-//! Tests of the libraries, by their public items alone: worked rows of the format, texts, memory that is refused,
-//! devices that interrupt and fail. What a contract says is not tested again.
+//! Tests of the libraries, through their public items alone: examples of the format, texts, refused memory, and
+//! devices that are interrupted or fail. What a contract says is not tested again.
 //!
-//! They stand together here since a crate with tests is proved twice.
+//! They are one crate because a crate with tests is proved twice.
 #![tactic(auto)]
 
 #[cfg(test)]
@@ -14,6 +14,8 @@ mod building;
 mod code;
 #[cfg(test)]
 mod contents;
+#[cfg(test)]
+mod costs;
 #[cfg(test)]
 mod count;
 #[cfg(test)]

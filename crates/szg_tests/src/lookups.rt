@@ -1,4 +1,4 @@
-//! Look-ups: their steps by the sparse index, and tables whose blocks a source gives.
+//! Look-ups: their steps from the sparse index, and tables whose blocks are read from a source.
 
 use crate::files::{accepted, changed, fixtures_of_all_sections, made, material};
 use crate::fixtures::{self, Fixture};
@@ -23,7 +23,7 @@ fn value(rt: &impl Abort, table: &Table, side: u8, i: u64) -> u16 {
     }
 }
 
-/// Value `i` of a side, by the source.
+/// Value `i` of a side, read from the source.
 fn looked_up<S: Source + Drop>(
     rt: &impl Abort,
     opened: &mut Opened<S>,
@@ -36,7 +36,7 @@ fn looked_up<S: Source + Drop>(
     }
 }
 
-/// The table of a file, over a source that fails at this call.
+/// The table of a file, opened over a source that fails at call `fails_at`.
 pub fn opened<'a>(
     rt: &(impl Abort + Alloc<A = Global>),
     file: &'a Fixture,
@@ -49,7 +49,7 @@ pub fn opened<'a>(
     }
 }
 
-/// In the table with these changes, value `i` of side 0 is this one, found by so many moves, words and descents.
+/// In the table with these changes, value `i` of side 0 and the numbers of moves, words and descents are `want`.
 fn check_steps(
     rt: &(impl Abort + Alloc<A = Global>),
     file: &Fixture,
@@ -68,7 +68,7 @@ fn check_steps(
     assert!(rt; counted(rt, &table, 0, i) == (value, steps), "at {i}");
 }
 
-/// From an entry past the size and from one of the first block, and over a length that no block has.
+/// From an entry past the size and from one in the first block, and past a length that belongs to no block.
 #[test]
 fn steps_from_sparse_entries(rt: HostRuntime) {
     let file = made(&rt, fixtures::kqvk_wdl_unpaired(rt.alloc()));
@@ -95,8 +95,8 @@ fn files_of_all_sections_are_opened(rt: HostRuntime) {
     }
 }
 
-/// The values by the source are the table's. The file's 123 blocks were read together, and each value of side 0 asks for a
-/// block of 32 bytes; side 1 is constant, and asks for none.
+/// The values read from the source are those of the table. Opening read the 123 blocks of the file in larger
+/// chunks. Then each value of side 0 requests one block of 32 bytes; side 1 is constant and requests none.
 fn check_values(rt: &(impl Abort + Alloc<A = Global>), file: &Fixture) {
     let table = accepted(rt, file, &[]);
     let mut opened = opened(rt, file, 0);
@@ -124,7 +124,7 @@ fn values_by_a_source(rt: HostRuntime) {
     check_values(&rt, &made(&rt, fixtures::kqvk_wdl_paired(rt.alloc())));
 }
 
-/// The block that has value `i` stands at this place.
+/// The block of value `i` is at this offset.
 fn check_place<'a>(rt: &impl Abort, opened: &mut Opened<Watch<Image<'a>>>, i: u64, place: u64) {
     assert!(rt; looked_up(rt, opened, 0, i).is_ok(), "at {i}");
     assert!(rt; opened.source().last_place() == place, "at {i}");
@@ -140,7 +140,7 @@ fn places_of_blocks(rt: HostRuntime) {
     check_place(&rt, &mut opened, 256, 352);
 }
 
-/// A fault is told, and the next call is answered; a look-up asks for its one block at once.
+/// A fault is returned, and the next call succeeds. A look-up requests its block in one call.
 #[test]
 fn a_source_that_fails_once(rt: HostRuntime) {
     let file = made(&rt, fixtures::kqvk_wdl_one_block(rt.alloc()));
@@ -160,7 +160,7 @@ fn a_source_that_fails_once(rt: HostRuntime) {
     assert!(rt; source.calls() == calls + 2 && source.last_length() == 131072);
 }
 
-/// A source of bytes in memory that has no more than its first `told` bytes to tell: where it is asked for others, it fails.
+/// A source over bytes in memory that can read no more than the first `told` bytes: a request for others fails.
 #[derive(Drop)]
 struct Beginning<'a> {
     image: Image<'a>,
@@ -169,7 +169,7 @@ struct Beginning<'a> {
 }
 
 impl<'a> Beginning<'a> {
-    /// A source of these bytes that tells the first so many of them.
+    /// Creates a source over `bytes` that can read the first `told` of them.
     fn new(bytes: &'a [u8], told: u64) -> Beginning<'a> {
         Beginning {
             image: Image::new(bytes),
@@ -201,7 +201,7 @@ impl<'a> Source for Beginning<'a> {
     }
 }
 
-/// Over a source that fails to tell a byte behind the file its table is opened.
+/// A table is opened over a source that fails for every byte after the file.
 fn check_no_byte_behind(rt: &(impl Abort + Alloc<A = Global>), file: &Fixture) {
     let mut bytes = made(rt, file.bytes.clone());
     made(rt, bytes.extend_from_slice(&[0]));
@@ -216,7 +216,8 @@ fn no_byte_behind_a_table_is_asked_for(rt: HostRuntime) {
     }
 }
 
-/// Over a source of these bytes, which fails behind the first so many, a table of the file's name is refused at this place.
+/// Over a source of `bytes` that fails after the first `told` bytes, a table of the file's name is refused at this
+/// offset.
 fn check_not_opened(
     rt: &(impl Abort + Alloc<A = Global>),
     file: &Fixture,
@@ -232,7 +233,7 @@ fn check_not_opened(
     }
 }
 
-/// With this one change no byte is asked for behind the field whose check fails, which ends at `told`.
+/// With this single change no byte is requested after the field whose check fails, which ends at offset `told`.
 fn check_change(
     rt: &(impl Abort + Alloc<A = Global>),
     change: (usize, u8),
@@ -254,7 +255,7 @@ fn changed_files_are_not_opened(rt: HostRuntime) {
     check_change(&rt, (36, 0x9d), 286, 32, Reason::SparseEntry);
 }
 
-/// Each beginning of the file is refused at its end.
+/// Each proper prefix of the file is refused at its end.
 fn check_cuts(rt: &(impl Abort + Alloc<A = Global>), file: &Fixture) {
     for n in 0..file.bytes.len() {
         let place = n as u64;
@@ -269,7 +270,7 @@ fn cut_files_are_not_opened(rt: HostRuntime) {
     check_cuts(&rt, &made(&rt, fixtures::kpvk_dtz_mapped(rt.alloc())));
 }
 
-/// Value `i` of a side, out of these bytes.
+/// Value `i` of a side, decoded from these bytes.
 fn in_piece(heads: &Heads, side: u8, i: u64, piece: &[u8]) -> Option<u16> {
     if i < heads.size(0, side)? {
         heads.value_in(0, side, i, piece)
@@ -278,7 +279,7 @@ fn in_piece(heads: &Heads, side: u8, i: u64, piece: &[u8]) -> Option<u16> {
     }
 }
 
-/// Value `i` of a side, out of the bytes of the file that it wants.
+/// Value `i` of a side, decoded from the byte range of the file that it needs.
 fn brought(heads: &Heads, bytes: &[u8], side: u8, i: u64) -> Option<u16> {
     if i >= heads.size(0, side)? {
         return None;
@@ -292,7 +293,7 @@ fn brought(heads: &Heads, bytes: &[u8], side: u8, i: u64) -> Option<u16> {
     in_piece(heads, side, i, piece)
 }
 
-/// All values of both sides are found so; without bytes only those of the constant side.
+/// All values of both sides are found in this way. Without bytes only those of the constant side are.
 #[test]
 fn values_in_bytes_that_are_brought(rt: HostRuntime) {
     let file = made(&rt, fixtures::kqvk_wdl_unpaired(rt.alloc()));

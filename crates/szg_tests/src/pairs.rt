@@ -1,4 +1,4 @@
-//! Dictionaries: the format's worked examples, and dictionaries of full size.
+//! Dictionaries: the examples of the format, and dictionaries of full size.
 ghost use Rattle.std.specs.Prelude.{◌<◌};
 
 use crate::files::made;
@@ -8,7 +8,7 @@ use std::time::{Duration, Instant};
 use szg_pairs::entry::{is_leaf, left, right};
 use szg_pairs::{Descent, Dict, DictFault};
 
-/// A leaf of the value 5.
+/// A leaf with the value 5.
 const FIVE: [u8; 3] = [0x05, 0xf0, 0xff];
 
 fn pair_of(left: u16, right: u16) -> [u8; 3]
@@ -72,7 +72,7 @@ fn a_fault_names_the_least_symbol(rt: HostRuntime) {
     check_refused(&rt, &first, DictFault::Cycle(0));
 }
 
-/// So many leaves.
+/// `count` leaves.
 fn leaves(alloc: Global, count: u8) -> Result<Vec<[u8; 3]>, AllocError> {
     let mut entries = Vec::new(alloc);
     for value in 0..count {
@@ -81,7 +81,7 @@ fn leaves(alloc: Global, count: u8) -> Result<Vec<[u8; 3]>, AllocError> {
     Ok(entries)
 }
 
-/// The dictionary of these entries, for which there was memory.
+/// The dictionary of these entries; there must be memory for it.
 fn dict_with(
     rt: &(impl Abort + Alloc<A = Global>),
     entries: Result<Vec<[u8; 3]>, AllocError>,
@@ -89,7 +89,7 @@ fn dict_with(
     made(rt, dict_of(rt, &made(rt, entries)))
 }
 
-/// With ample memory a dictionary of any length is made.
+/// With enough memory a dictionary of any length is made.
 #[test]
 fn dictionaries_of_each_length(rt: HostRuntime) {
     for count in 1..=8u8 {
@@ -102,7 +102,7 @@ fn dictionaries_of_each_length(rt: HostRuntime) {
     }
 }
 
-/// With ample memory a symbol of any number of values is expanded.
+/// With enough memory a symbol of any number of values is expanded.
 #[test]
 fn expansions_of_each_length(rt: HostRuntime) {
     let dict = dict_with(&rt, chain(rt.alloc(), 255, false));
@@ -113,7 +113,8 @@ fn expansions_of_each_length(rt: HostRuntime) {
     }
 }
 
-/// A leaf, and then so many pairs of the symbol before each and another: the leaf, or the same symbol again.
+/// A leaf, and then `pairs` pairs, each of the previous symbol and another: the previous symbol again if `doubles`
+/// is set, else the leaf.
 fn chain(alloc: Global, pairs: u16, doubles: bool) -> Result<Vec<[u8; 3]>, AllocError>
     requires { pairs < 4096 }
 {
@@ -146,7 +147,8 @@ fn a_descent_passes_255_pairs(rt: HostRuntime) {
     check_refused(&rt, &longer, DictFault::LongSymbol(256));
 }
 
-/// Symbol `s` is the pair `s + 1`, `s + 1` below `last`, whose entry is given; 0, 0 from there on.
+/// Each symbol `s` below `last` is the pair of `s + 1` with itself. Symbol `last` has the entry `entry`; from there
+/// on each is the pair 0, 0.
 fn deep(
     alloc: Global,
     symbols: usize,
@@ -186,7 +188,7 @@ fn full_size_is_linear(rt: HostRuntime) {
     assert!(rt; made(&rt, start.elapsed(&rt)) < Duration::from_secs(10));
 }
 
-/// For runs in which an allocation fails: whichever it is, the answer is `Memory` or the allocator's own.
+/// For runs in which an allocation fails: whichever it is, the error is `Memory` or the allocator's own.
 #[test]
 fn a_failed_allocation_answers_memory(rt: HostRuntime) {
     match dict_of(&rt, &[FIVE, [0x00, 0x00, 0x00], [0x01, 0x00, 0x00]]) {

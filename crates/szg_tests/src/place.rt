@@ -1,4 +1,4 @@
-//! Placements and what tables tell of them: the format's worked rows.
+//! Placements and what tables return for them: the examples of the format.
 
 use crate::files::{accepted, made, table_of};
 use crate::fixtures::{self, Fixture};
@@ -10,7 +10,7 @@ use szg_place::{PlaceFault, ProbeFault, index_of, probe_dtz, probe_wdl};
 use szg_values::Color::{Black, White};
 use szg_values::{Color, Kind};
 
-/// The table tells of these men at this part, side and index.
+/// The table has these men at this part, side and index.
 fn check_spot(
     rt: &impl Abort,
     table: &Table,
@@ -23,7 +23,8 @@ fn check_spot(
     assert!(rt; spot == want, "{men}");
 }
 
-/// The table tells of these men at this index of side 0 and, for Black, of side 1.
+/// With White to move the table has these men at this index of side 0; with Black to move, at the same index of
+/// side 1.
 fn check_both(rt: &impl Abort, table: &Table, men: &str, index: u64) {
     check_spot(rt, table, White, men, Ok((0, 0, index)));
     check_spot(rt, table, Black, men, Ok((0, 1, index)));
@@ -71,7 +72,7 @@ fn a_lead_man_with_a_twin(rt: HostRuntime) {
     }
 }
 
-/// One row of a table: the men, who moves, and the part and the index of side 0.
+/// Each row: the side to move, the men, and their part and index of side 0.
 fn check_row(
     rt: &(impl Abort + Alloc<A = Global>),
     file: &Fixture,
@@ -130,7 +131,7 @@ fn outcomes_of_placements(rt: HostRuntime) {
     }
 }
 
-/// The table's number for these men and this class is this one.
+/// The distance that the table returns for these men and this class is `want`.
 fn check_distance(
     rt: &impl Abort,
     table: &Table,

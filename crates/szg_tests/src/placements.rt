@@ -1,5 +1,5 @@
-//! The placements of indexes: the format's worked rows, and each index of a table there and back. What a table by
-//! place tells of placements.
+//! The placements of indexes: the examples of the format, and indexes of a table converted to placements and back.
+//! What an opened table returns for placements.
 
 use crate::files::{accepted, made, material, table_of};
 use crate::fixtures;
@@ -29,7 +29,7 @@ fn found(
     }
 }
 
-/// The index tells these men, in the order of the table's slots.
+/// The placement of the index has these men, in the order of the table's slots.
 fn check_placement(
     rt: &impl Abort,
     table: &Table,
@@ -69,10 +69,10 @@ fn check_return(rt: &impl Abort, table: &Table, part: u8, side: u8, index: u64) 
     assert!(rt; spot == Ok((part, side, index)), "at {part} {side} {index}");
 }
 
-/// Of the samples one stands this far behind the other.
+/// The distance between two samples.
 const STRIDE: u64 = 9973;
 
-/// Samples of a part's side 0, spread over all its indexes, have the indexes that they were told by.
+/// Samples of a part's side 0, spread over all its indexes, have placements with the same indexes.
 fn check_samples(rt: &impl Abort, table: &Table, part: u8) {
     let Some(size) = table.size(part, 0) else {
         panic!(rt; "no part: {part}");
@@ -96,7 +96,7 @@ fn indexes_there_and_back(rt: HostRuntime) {
     check_samples(&rt, &both, 3);
 }
 
-/// Over a source the index is that of the table in memory, and in WDL the class is.
+/// Over a source the index and, in WDL, the class are those of the table in memory.
 fn check_wdl<S: Source + Drop>(
     rt: &impl Abort,
     table: &Table,
@@ -111,7 +111,7 @@ fn check_wdl<S: Source + Drop>(
     assert!(rt; probe_wdl_opened(opened, placement) == want);
 }
 
-/// Over a source the index is that of the table in memory, and in DTZ the number for a class is.
+/// Over a source the index and, in DTZ, the distance for a class are those of the table in memory.
 fn check_dtz<S: Source + Drop>(
     rt: &impl Abort,
     table: &Table,
@@ -162,7 +162,7 @@ fn distances_by_a_source(rt: HostRuntime) {
     }
 }
 
-/// The source fails at the first call behind those that open the file, and answers the one behind it.
+/// The source fails at the first call after those that open the file, and succeeds at the next.
 #[test]
 fn a_source_that_fails_once_under_a_placement(rt: HostRuntime) {
     let file = made(&rt, fixtures::kqvk_wdl_unpaired(rt.alloc()));
@@ -178,7 +178,7 @@ fn a_source_that_fails_once_under_a_placement(rt: HostRuntime) {
     assert!(rt; opened.source().calls() == calls + 2);
 }
 
-/// A table that was prepared once tells these men's spot, as it does without.
+/// A table prepared once returns the same spot for these men as without preparation.
 fn check_prepared_table(
     rt: &impl Abort,
     prepared: &PreparedTable,

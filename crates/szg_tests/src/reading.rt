@@ -1,4 +1,4 @@
-//! Files read whole, in pieces, cut, changed and from devices that fail.
+//! Files that are read whole, in chunks, truncated, changed, and from devices that fail.
 
 use crate::files::{
     accepted, answer, changed, check_refused, check_written, fixtures_of_all_sections, made,
@@ -10,14 +10,14 @@ use std::process::Abort;
 use szg_file::{ReadFault, Reason, Table, file_len, read, read_bytes, write};
 use szg_io::{Bytes, Cut, Input, IoFault, Std};
 
-/// The bytes of a file and one behind them.
+/// The bytes of a file, and one byte after them.
 fn with_a_byte_behind(rt: &(impl Abort + Alloc<A = Global>), file: &Fixture) -> Vec<u8> {
     let mut bytes = made(rt, Vec::from_slice(rt.alloc(), &file.bytes));
     made(rt, bytes.extend_from_slice(&[0xff]));
     bytes
 }
 
-/// The table of the file, read in pieces of so many bytes, which leave the byte behind it.
+/// The table of the file, read in chunks of at most `most` bytes. The byte after the file is not read.
 fn read_in_pieces(
     rt: &(impl Abort + Alloc<A = Global>),
     file: &Fixture,
@@ -31,7 +31,7 @@ fn read_in_pieces(
     made(rt, table)
 }
 
-/// The table is written in pieces of so many bytes.
+/// The table is written in chunks of at most `most` bytes.
 fn check_written_in_pieces(
     rt: &(impl Abort + Alloc<A = Global>),
     table: &Table,
@@ -43,7 +43,7 @@ fn check_written_in_pieces(
     assert!(rt; written && output.inner().inner().as_slice() == bytes);
 }
 
-/// The file is read and written in pieces of several lengths.
+/// The file is read and written in chunks of several lengths.
 fn check_pieces(rt: &(impl Abort + Alloc<A = Global>), file: &Fixture, bytes: &[u8]) {
     for most in [1, 3, 7] {
         let table = read_in_pieces(rt, file, bytes, most);
@@ -58,7 +58,7 @@ fn pieces_of_any_length_are_joined(rt: HostRuntime) {
     }
 }
 
-/// Of bytes in memory the table's are taken, and a byte behind them is left.
+/// From bytes in memory the table's bytes are read, and the byte after them is not.
 fn check_in_memory(rt: &(impl Abort + Alloc<A = Global>), file: &Fixture, bytes: &[u8]) {
     let material = material(rt, file);
     let mut input = Bytes::new(bytes);
@@ -74,7 +74,7 @@ fn bytes_in_memory_are_read(rt: HostRuntime) {
     }
 }
 
-/// Each shorter front of the file is cut off at its length.
+/// Each proper prefix of the file is truncated at its length.
 fn check_cuts(rt: &(impl Abort + Alloc<A = Global>), file: &Fixture) {
     for n in 0..file.bytes.len() {
         let answer = read_bytes(rt.alloc(), material(rt, file), file.kind, &file.bytes[..n]);
@@ -98,7 +98,7 @@ fn a_cut_file_of_many_blocks_is_truncated(rt: HostRuntime) {
     check_cuts(&rt, &made(&rt, fixtures::kqvk_wdl_unpaired(rt.alloc())));
 }
 
-/// To be run with each allocation refused in turn: nothing but want of memory is answered.
+/// For runs in which each allocation in turn is refused: the only error is `Memory`.
 #[test]
 fn refused_growths_are_want_of_memory(rt: HostRuntime) {
     let Ok(files) = fixtures_of_all_sections(rt.alloc()) else {
@@ -191,7 +191,8 @@ fn files_that_end_in_their_dictionary(rt: HostRuntime) {
     check_refused(&rt, &cut, &[], 29, Reason::Truncated);
 }
 
-/// Where the reader fails at a call, a byte each, `Device` is answered; a call behind the file's last byte isn't made.
+/// If the reader, which reads a byte per call, fails at a call, the error is `Device`; it is not called after the
+/// file's last byte.
 fn check_failing_call(rt: &(impl Abort + Alloc<A = Global>), file: &Fixture, call: u64) {
     let material = material(rt, file);
     let mut input = Cut::new(Std::new(file.bytes.as_slice()), 1, 0, call);

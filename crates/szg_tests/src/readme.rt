@@ -1,4 +1,4 @@
-//! The examples of the README, word for word, on sample tables.
+//! The examples of the README, word for word, with sample tables.
 
 use crate::files::{made, table_of};
 use crate::fixtures;
@@ -10,7 +10,8 @@ use szg_place::probe_dtz;
 use szg_values::Color::White;
 use szg_values::{Kind, Material, Placement};
 
-/// Value i of part a, side 0, of the WDL table of this name, where the bytes begin with its file.
+/// Returns value `i` of part a, side 0, of the WDL table of this name. None if `bytes` does not begin with its file,
+/// or if the side has no such value.
 pub fn value(alloc: Global, name: &str, bytes: &[u8], i: u64) -> Option<u16> {
     let material = Material::parse(name).ok()?;
     let table = read(alloc, material, Kind::Wdl, &mut Std::new(bytes)).ok()?;
@@ -21,7 +22,7 @@ pub fn value(alloc: Global, name: &str, bytes: &[u8], i: u64) -> Option<u16> {
     }
 }
 
-/// The number of a placement in a DTZ table, for the class that it has: 2 a win, -2 a loss.
+/// Returns the distance in plies of a placement in a DTZ table, for its class (2 win, -2 loss).
 pub fn number(table: &Table, placement: &Placement, class: i8) -> Option<u32> {
     if table.kind() != Kind::Dtz || class < -2 || 2 < class {
         return None;

@@ -1,10 +1,10 @@
-//! Placements, as tests write them: `Kb1 Na1 kc1`, White's men in capitals.
+//! Placements as tests write them: `Kb1 Na1 kc1`, with White's men in capitals.
 
 use arrayvec::ArrayVec;
 use std::process::Abort;
 use szg_values::{Color, MAX_MEN, Man, Placement, Square};
 
-/// The man that a word like `Kb1` tells.
+/// Parses a word like `Kb1`.
 fn man_of(word: &[u8]) -> Option<(Man, Color, Square)> {
     let [letter, file, rank] = word else {
         return None;
@@ -23,7 +23,7 @@ fn man_of(word: &[u8]) -> Option<(Man, Color, Square)> {
     Some((man, color, square))
 }
 
-/// The placement of some words, with a blank between them.
+/// The placement of some words, separated by spaces.
 pub fn placement(rt: &impl Abort, mover: Color, words: &str) -> Placement {
     let mut men: ArrayVec<_, MAX_MEN> = ArrayVec::new();
     for word in words.as_bytes().chunks(4) {

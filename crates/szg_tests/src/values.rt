@@ -1,4 +1,4 @@
-//! Names, men, squares and placements: rows of the format, and each public call once on its happy path.
+//! Names, men, squares and placements: examples of the format, and each public call once in its normal case.
 
 use crate::files::made;
 use std::process::Abort;
@@ -6,7 +6,7 @@ use szg_values::{
     Color, Kind, MAX_MEN, Man, Material, NameFault, Placement, PlacementFault, Square,
 };
 
-/// The text is no name.
+/// The text is not a name.
 fn check_fault(rt: &impl Abort, text: &str, fault: NameFault) {
     assert!(rt; Material::parse(text).err() == Some(fault), "{text}");
 }
@@ -64,7 +64,7 @@ fn squares_and_men(rt: HostRuntime) {
     assert!(rt; Kind::Wdl != Kind::Dtz);
 }
 
-/// A man on the square of this number, below 64.
+/// A man on the square with this number, below 64.
 fn standing(man: Man, color: Color, number: u8) -> (Man, Color, Square) {
     (man, color, Square::new(number).unwrap_or_default())
 }

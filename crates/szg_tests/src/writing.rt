@@ -1,4 +1,4 @@
-//! Files written to writers that take little, or fail.
+//! Files written to writers that accept few bytes, or fail.
 
 use crate::files::{answer, fixtures_of_all_sections, made};
 use std::alloc::Global;
@@ -7,7 +7,7 @@ use std::process::Abort;
 use szg_file::{Table, WriteFault, write};
 use szg_io::{Cut, Std};
 
-/// A writer that has room for so many bytes, and then fails.
+/// A writer that accepts `room` bytes, and then fails.
 #[derive(Drop)]
 struct Narrow {
     held: Vec<u8>,
@@ -30,7 +30,7 @@ impl Write for Narrow {
     }
 }
 
-/// A writer with room for so many bytes holds as many of the file's first, and the fault tells how many.
+/// A writer with room for `room` bytes has exactly the file's first `room` bytes, and the fault has their number.
 fn check_narrow(rt: &(impl Abort + Alloc<A = Global>), table: &Table, bytes: &[u8], room: usize) {
     let held = Vec::new(rt.alloc());
     let mut output = Std::new(Narrow { held, room });

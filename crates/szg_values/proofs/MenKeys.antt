@@ -1,4 +1,4 @@
--- A key tells how many kings of each colour there are.
+-- A key holds the number of kings of each colour.
 use Rattle.std.proofs.Common.{◌≡◌, ℕ, ◌+◌, ◌*◌, ◌/◌, ◌%◌, ◌^◌, ◌<◌, ◌≤◌, List, [], ◌∷◌, length, get_or, take, ◌++◌, refl, sym, ap, ◌∙◌, Bool, true, false, cond, arith}
 use Rattle.std.specs.Prelude.{◌==◌, ◌&&◌, count_by, slice_index}
 use Rattle.std.proofs.lemmas.Bool.{eqb-true, and_parts}

@@ -30,20 +30,30 @@ pub enum Kind {
 }
 
 /// A colour of the board.
-#[derive(Clone, Copy, Debug, Default, PartialEq, Eq)]
+#[derive(Clone, Copy, Debug, PartialEq, Eq)]
 pub enum Color {
     /// White, which moves first in a game.
-    #[default]
     White,
     /// Black.
     Black,
 }
 
+impl Default for Color {
+    ghost use Rattle.std.specs.Prelude.{◌≡◌};
+    ghost use Rattle.szg_values.specs.declared.Color.TheVariants.{White};
+
+    ghost is_default = { λ color. color ≡ White };
+
+    /// Returns White.
+    fn default() -> Color {
+        Color::White
+    }
+}
+
 /// A kind of man.
-#[derive(Clone, Copy, Debug, Default, PartialEq, Eq)]
+#[derive(Clone, Copy, Debug, PartialEq, Eq)]
 pub enum Man {
     /// P in a name, 1 in a file.
-    #[default]
     Pawn,
     /// N in a name, 2 in a file.
     Knight,
@@ -55,6 +65,18 @@ pub enum Man {
     Queen,
     /// K in a name, 6 in a file.
     King,
+}
+
+impl Default for Man {
+    ghost use Rattle.std.specs.Prelude.{◌≡◌};
+    ghost use Rattle.szg_values.specs.declared.Man.TheVariants.{Pawn};
+
+    ghost is_default = { λ man. man ≡ Pawn };
+
+    /// Returns the pawn.
+    fn default() -> Man {
+        Man::Pawn
+    }
 }
 
 /// A square of the board, by its number: a1 = 0, b1 = 1, .. h8 = 63.

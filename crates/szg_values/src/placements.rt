@@ -74,7 +74,7 @@ impl Placement {
         self.mover
     }
 
-    /// How many men of each kind and colour stand, as one number: each code has a digit of base 8.
+    /// The number of men of each kind and colour, as one number: each code has a digit of base 8.
     pub fn key(&self) -> u64
         ensures { result ≡ men_key self.now.placed_men }
     {
@@ -128,7 +128,7 @@ fn sound_key(men: &[(Man, Color, Square)]) -> Option<u64>
     if has_kings(key) { Some(key) } else { None }
 }
 
-/// Whether a key tells of one king of each colour.
+/// Whether a key has one king of each colour.
 fn has_kings(key: u64) -> bool
     ensures { result ≡ (key / 262144 % 8 == 1 && key / 4398046511104 == 1) }
 {

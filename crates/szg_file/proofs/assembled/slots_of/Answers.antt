@@ -13,7 +13,7 @@ use Rattle.szg_file.proofs.PartLaws.{slots-more, slots_few}
 use Rattle.szg_file.proofs.TableFinds.{side_lengths}
 use Rattle.szg_file.proofs.assembled.slots_of.Goals as goal
 
--- a part's bytes, lent as slices
+-- the bytes of a part, borrowed as slices
 lent_part : (order men : List ℕ) (part : PartBytes) → order ≡ part.order.items → men ≡ part.men.items → part_with order men ≡ part_of part
 lent_part order men part e e' = ap (λ (z : List ℕ). part_with z men) e ∙ ap (λ (z : List ℕ). part_with part.order.items z) e'
 

@@ -10,7 +10,7 @@ use Rattle.szg_file.specs.declared.fault.ReadFault.{ReadFault}
 use Rattle.szg_file.proofs.ReadAnswers.{follows_good, fault_follows, fault_took, whole_file}
 use Rattle.szg_file.proofs.checking.check.Goals as goal
 
--- the length that was counted is the file's
+-- the number of bytes read is the length of the file
 length_is : {E : Type 0} (place from : ℕ) (bytes all : List ℕ) → place ≡ from + length bytes → from ≡ 0 → bytes ≡ all →
     (let r : Result ℕ E = Ok place in r) ≡ Ok (length all)
 length_is place from bytes all there first same = ap (λ (n : ℕ). Ok n) (omega (arith, there, first, ap length same))

@@ -4,7 +4,7 @@ use Rattle.szg_file.specs.Loading.{TakesAs}
 use Rattle.szg_file.proofs.SubtableLoops.{Loading}
 use Rattle.szg_file.proofs.index.take_each.Given as goal
 
--- into the items that were handed out something was taken
+-- the items passed on so far are converted
 abbrev pub invariant-items : goal.invariant-items
 invariant-items g l = record {
   count : length l.taken.items ≡ length l.yielded;

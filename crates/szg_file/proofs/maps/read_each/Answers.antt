@@ -17,7 +17,7 @@ use Rattle.szg_file.proofs.maps.read_each.Goals as goal
 abbrev subtables : List Begun → List Subtable
 subtables heads = map (λ (b : Begun). b.subtable) heads
 
--- the subtable of item i of the heads is item i of their subtables
+-- subtable `i` of the list is the subtable of item `i`
 there : (heads : List Begun) (i : ℕ) → i < length heads → i < length (subtables heads)
 there heads i lt = omega (arith, lt, length-map heads (λ (b : Begun). b.subtable))
 

@@ -93,7 +93,7 @@ returns-clause-fits g c =
     let more : length behind ≡ length before + length bytes = ap (λ (z : List ℕ). length z) gone ∙ length-append before bytes in
     still_fit (length before) (length behind) _ _ c.in_ok-subs.subs.items (omega (arith, more)) (omega arith) c.in_ok-subs.ensures.fits
 
--- ---- where memory runs out, the file is not whole
+-- ---- with `Memory`, the file is not whole
 
 pub returns-in_err-byte4-clause-memory : goal.returns-in_err-byte4-clause-memory
 returns-in_err-byte4-clause-memory g c =

@@ -21,7 +21,7 @@ use Rattle.szg_file.specs.Lengths.{part_length}
 use Rattle.szg_file.proofs.Grown.{none_yet, one_more}
 use Rattle.szg_file.proofs.parts.read_parts.Goals as goal
 
--- all numbers below an end: those before one, that one, those behind it
+-- all numbers below `end`: those before `part`, `part`, those after it
 numbers_at : (numbers : List ℕ) (end part : ℕ) → numbers ≡ range_with_len 0 end → part < end →
     numbers ≡ range_with_len 0 part ++ part ∷ range_with_len (part + 1) (end - part - 1)
 numbers_at numbers end part e h =

@@ -9,7 +9,7 @@ use Rattle.szg_file.proofs.TableFinds.{side_lengths}
 use Rattle.szg_file.proofs.AssembledLaws.{never, side_next, side_here, side_shown, side_held}
 use Rattle.szg_file.proofs.passing.each_map_stands.Goals as goal
 
--- a map at its part's subtable
+-- a map passes the checks of its part's subtable
 abbrev Stands : Sub → Option Map → Type 0
 Stands sub item = IsMapOf (subtable_of sub) (option_map map_of item)
 

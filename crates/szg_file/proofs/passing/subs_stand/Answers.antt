@@ -8,7 +8,7 @@ use Rattle.szg_file.proofs.TableFinds.{side_lengths}
 use Rattle.szg_file.proofs.AssembledLaws.{never, side_next, side_here, side_shown_right, side_held_right}
 use Rattle.szg_file.proofs.passing.subs_stand.Goals as goal
 
--- a subtable at its slot
+-- a subtable passes the checks of its slot
 abbrev Stands : Slot → Sub → Type 0
 Stands slot sub = IsSubtable slot (subtable_of sub)
 

@@ -4,7 +4,7 @@ use Rattle.szg_file.specs.Placed.{whole_sub, Fits}
 use Rattle.szg_file.specs.Unread.{unread_subs, unread_end}
 use Rattle.szg_file.proofs.placing.place_subs.Given as goal
 
--- the subtables so far, and where the last one's blocks end
+-- the subtables so far, and the offset after the last block
 abbrev pub invariant-subtables : goal.invariant-subtables
 invariant-subtables l = record {
   subs : (content : List ℕ) → map (whole_sub content) l.subs.items ≡ unread_subs content l.fn.place (take (length l.yielded) l.fn.list.items);

@@ -76,7 +76,7 @@ returns-clause-accepted g c =
     let same = told_index (contents_of m k c.in_ok-byte4.field-0) c.deref.result.now _ c.index_of_subs-index.result c.deref.ensures.value c.index_of_subs-index.ensures refl in
     rw same (w.accepted)
 
--- what was counted is below the bound of the front at the file's end
+-- at the end of the file, the growth is within the bound of the reader state
 pub returns-clause-lists : goal.returns-clause-lists
 returns-clause-lists g c =
     let m : Sides = c.args.material in

@@ -66,7 +66,7 @@ returns-clause-pieces g c =
     (reads_made ending_field (with_last m k o (map subtable_of c.in_ok-subs.subs.items)) (λ last. last) (contents_of m k) c.in_ok-last.last _ refl
     c.in_ok-last.ensures.ending)))
 
--- ---- where memory runs out, the file is not whole
+-- ---- with `Memory`, the file is not whole
 
 pub returns-in_err-byte4-clause-memory : goal.returns-in_err-byte4-clause-memory
 returns-in_err-byte4-clause-memory g c =

@@ -19,12 +19,13 @@ rows-preserved c =
     let offset : c.read_u16-offset.result ≡ little_number 2 (drop 4 xs) =
     c.read_u16-offset.ensures ∙ ap (λ (z : List ℕ). little_number 2 (take (length z - 4) (drop 4 z))) whole ∙ ap (little_number 2) (take_rest xs 4) in
     let pushed : c.push.new.self.items ≡ c.rows.list.items ++ entry ∷ [] =
-    c.in_ok-push.ensures.items ∙ ap (λ (z : List Entry). z ++ entry ∷ []) c.in_ok-grow.ensures.items in
+    c.in_ok-push.ensures.items ∙ ap (λ (z : List Entry). z ++ entry ∷ []) c.in_ok-room.ensures.items in
     record {
       read = ap (map sparse_of) pushed ∙ map-append sparse_of c.rows.list.items (entry ∷ [])
           ∙ mapped-more entry_of_bytes 6 i bytes (map sparse_of c.rows.list.items) (sparse_of entry) c.rows.invariant.read (six_bytes xs _ _ there block offset);
       count = ap length pushed ∙ length-append c.rows.list.items (entry ∷ []) ∙ ap (λ n. n + 1) c.rows.invariant.count;
-      growth = omega (arith, c.rows.invariant.growth, c.in_ok-grow.ensures.growth);
-      place = c.in_ok-grow.ensures.place ∙ c.rows.invariant.place;
-      fill = c.in_ok-grow.ensures.fill ∙ c.rows.invariant.fill;
+      growth = omega (arith, c.rows.invariant.growth, c.in_ok-room.ensures.growth, c.in_ok-room.ensures.some);
+      room = omega (arith, c.in_ok-room.ensures.most, c.in_ok-room.ensures.some, c.rows.invariant.room);
+      place = c.in_ok-room.ensures.place ∙ c.rows.invariant.place;
+      fill = c.in_ok-room.ensures.fill ∙ c.rows.invariant.fill;
     }

@@ -4,7 +4,7 @@ use Rattle.szg_file.specs.Reading.{Reading}
 use Rattle.szg_file.specs.Grown.{HasCounted}
 use Rattle.szg_file.proofs.taking.take_more.Given as goal
 
--- the front of the field was taken, and stands at the end of the list
+-- the first bytes of the field were read, and are at the end of the list
 abbrev pub invariant-pieces : goal.invariant-pieces
 invariant-pieces g l =
     (l.left ≤ l.count)

@@ -23,4 +23,5 @@ pub returns : goal.returns
 returns c = record {
   inside = c.reached_index_from.ensures.inside;
   before = λ k less. let h = c.reached_index_from.ensures.before k less in omega (arith, h, c.from.ensures);
+  reached = let h = c.reached_index_from.ensures.reaches in omega (arith, h, c.from.ensures);
 }

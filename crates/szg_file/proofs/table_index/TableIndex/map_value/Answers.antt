@@ -18,7 +18,7 @@ bounds-flags-found c =
     let many = c.flags.ensures.many in
     omega (arith, lt, many)
 
--- the part has an item among the maps
+-- there is an item for the part among the maps
 pub index-requires : goal.index-requires
 index-requires c =
     let stands = subst (λ (x : Index). IsIndex x) c.self.view_is c.self.invariant.0 in
