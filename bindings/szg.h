@@ -1,13 +1,13 @@
 /* szg: Syzygy tables, read with proof.
  *
- * Threads: a szg_table or szg_heads serves one call at a time, szg_get, szg_find and szg_value too. Threads that ask one
- * table take one each, made by szg_share or szg_share_heads: the table or its heads stay in memory once, and no call
+ * Threads: a szg_table, szg_heads or szg_front serves one call at a time, the look-ups too. Threads that ask one table take
+ * one each, made by szg_share, szg_share_heads or szg_share_front: the table stays in memory once, and no call
  * waits for another. It may go from one thread to another by a lock or by a thread's start or join. The calls that hold
  * nothing (szg_check, szg_size, szg_values, szg_values_at) may run side by side.
  *
  * A call takes the name of a material, as "KQvKR" (its length is told beside it, and no zero byte is wanted), whether
  * the table is a DTZ table (else WDL), and the bytes of its file in memory. What follows the file is not looked at. Each
- * call but szg_close and szg_close_heads answers a status of enum szg_status.
+ * call but szg_close, szg_close_heads and szg_close_front answers a status of enum szg_status.
  *
  * What is behind a call is proved to give these answers for every name, all bytes and all men. What a caller owes is
  * checked by nobody: each pointer leads to as many items as the length behind it says, and is not NULL even where that
@@ -56,7 +56,9 @@ enum szg_status {
     SZG_DRAW = 15,       /* a draw has no number in a DTZ table */
     SZG_OUTSIDE_MAP = 16, /* the DTZ table's map hasn't the value */
 
-    SZG_CHANGED = 17 /* the bytes handed in can't be those of the file that szg_find told */
+    SZG_CHANGED = 17, /* the bytes handed in can't be those of the file that szg_find told or szg_open_front was given */
+
+    SZG_BAD_BLOCK = 18 /* the block that has the value doesn't decode: the file is damaged there */
 };
 
 enum szg_reason {
@@ -82,7 +84,8 @@ uint32_t szg_size(const char *name, size_t name_length, bool dtz, const uint8_t 
 uint32_t szg_values(const char *name, size_t name_length, bool dtz, const uint8_t *bytes, size_t length,
                     uint8_t part, uint8_t side, uint16_t *values, size_t count, szg_answer *answer);
 
-/* The values at these indexes, in their order: as many as the shorter of the two lists has. */
+/* The values at these indexes, in their order: as many as the shorter of the two lists has. With another status than
+ * SZG_DONE the list stays. */
 uint32_t szg_values_at(const char *name, size_t name_length, bool dtz, const uint8_t *bytes, size_t length,
                        uint8_t part, uint8_t side, const uint64_t *indexes, size_t index_count,
                        uint16_t *values, size_t value_count, szg_answer *answer);
@@ -92,7 +95,8 @@ uint32_t szg_values_at(const char *name, size_t name_length, bool dtz, const uin
 typedef struct szg_table { void *held; } szg_table;
 #define SZG_NO_TABLE {0}
 
-/* Opens a table. What it held before is let go, also where the call is refused. */
+/* Opens a table. What it held before is let go, also where the call is refused. Here and in the other calls that take an
+ * answer, but for szg_check, *answer stays with another status than SZG_REFUSED. */
 uint32_t szg_open(const char *name, size_t name_length, bool dtz, const uint8_t *bytes, size_t length,
                   szg_table *table, szg_answer *answer);
 
@@ -188,6 +192,60 @@ uint32_t szg_value(szg_heads *heads, uint8_t part, uint8_t side, uint64_t index,
 
 /* Lets the heads go. A second call does nothing. */
 void szg_close_heads(szg_heads *heads);
+
+/* ---- Opened fronts: opening costs what the front of the file costs.
+ *
+ * szg_open_front reads and checks the headers, the maps, the sparse indexes and the block lengths, and looks at no block.
+ * Each look-up takes the bytes of the file again (the caller's map, say), verifies the whole block that has the value, and
+ * returns the value or SZG_BAD_BLOCK. A damaged block spoils no look-up in another one. Bits that were flipped so that the
+ * block still decodes can't be seen. A look-up takes no memory and no lock.
+ *
+ * Threads that ask one front take a szg_front each, made by szg_share_front, as with the other handles: the front stays in
+ * memory once, and no call waits for another. All of them may read the same bytes at a time. */
+
+/* An opened front. It begins as SZG_NO_FRONT, is changed by the calls alone, is not copied, and is given to one call at a
+ * time. */
+typedef struct szg_front { void *held; } szg_front;
+#define SZG_NO_FRONT {0}
+
+/* A block that doesn't decode. */
+typedef struct szg_bad_block {
+    uint32_t block;  /* its number in its subtable */
+    uint64_t offset; /* its offset in the file */
+} szg_bad_block;
+
+/* Opens the front of the table whose file the bytes are. What `front` held before is let go, also where the call is
+ * refused. The statuses are those of szg_open: SZG_NAME, SZG_REFUSED (then *answer has the offset and the reason) and
+ * SZG_MEMORY. With another status than SZG_REFUSED *answer stays. */
+uint32_t szg_open_front(const char *name, size_t name_length, bool dtz, const uint8_t *bytes, size_t length,
+                        szg_front *front, szg_answer *answer);
+
+/* Makes `second`, another szg_front, hold what `front` holds, without a copy, as szg_share does. */
+uint32_t szg_share_front(szg_front *front, szg_front *second);
+
+/* The number of positions of a part's side. With another status than SZG_DONE *size stays. */
+uint32_t szg_front_size(szg_front *front, uint8_t part, uint8_t side, uint64_t *size);
+
+/* The value at an index of a part's side. `bytes` are those of the file that szg_open_front was given. SZG_BAD_BLOCK: the
+ * block that has the value doesn't decode, and *bad names it. SZG_CHANGED: there are fewer bytes than when the front was
+ * opened. With another status than SZG_DONE *value stays, with another than SZG_BAD_BLOCK *bad stays. */
+uint32_t szg_front_get(szg_front *front, const uint8_t *bytes, size_t length, uint8_t part, uint8_t side,
+                       uint64_t index, uint16_t *value, szg_bad_block *bad);
+
+/* The part, side and index of a placement, as szg_index. With another status than SZG_DONE *spot stays. */
+uint32_t szg_front_index(szg_front *front, const szg_man *men, size_t count, uint8_t mover, szg_spot *spot);
+
+/* The class or the number of a placement, as szg_probe, out of the bytes of the file. SZG_BAD_BLOCK and SZG_CHANGED as
+ * szg_front_get. With another status than SZG_DONE *outcome stays, with another than SZG_BAD_BLOCK *bad stays. */
+uint32_t szg_front_probe(szg_front *front, const uint8_t *bytes, size_t length, const szg_man *men, size_t count,
+                         uint8_t mover, int8_t class_of_position, int64_t *outcome, szg_bad_block *bad);
+
+/* The number of a DTZ value in a class, as szg_number. With another status than SZG_DONE *number stays. */
+uint32_t szg_front_number(szg_front *front, uint8_t part, int8_t class_of_position, uint16_t value,
+                          uint32_t *number);
+
+/* Lets the front go. A second call does nothing. */
+void szg_close_front(szg_front *front);
 
 #ifdef __cplusplus
 }

@@ -1,7 +1,8 @@
 /* Probes placements in a folder of WDL tables, by four threads: probe FOLDER < PLACEMENTS
  * Each line of standard input is a placement, as "w Ke8 Qa1 kh1": who moves, and the men. Printed is a line for each, in
  * their order: the class for the side to move (2, 1, 0, -1, -2), or "status N" with the status of the call, or "no table".
- * Each file is mapped and opened once. A handle serves one call at a time, so each thread has its own of each table.
+ * Each file is mapped, and its front opened once; a block is verified when a placement needs it. A handle serves one call
+ * at a time, so each thread has its own of each front; the threads share the maps.
  * The exit status is 0, or 64 for a bad command line, 66 if the folder or a file cannot be read or is refused. */
 #include "szg.h"
 #include <ctype.h>
@@ -18,7 +19,7 @@
 
 enum { THREADS = 4, TABLES = 1024, LINES = 1 << 16, MEN = 6, NAME = 8 };
 
-struct held { char name[NAME + 1]; szg_table table; };
+struct held { char name[NAME + 1]; szg_front front; const uint8_t *bytes; size_t length; };
 struct placement { szg_man men[MEN + 1]; size_t count; uint8_t mover; char name[NAME + 1]; char answer[24]; };
 
 static struct held tables[TABLES];
@@ -27,8 +28,8 @@ static struct placement placements[LINES];
 static pthread_mutex_t sharing = PTHREAD_MUTEX_INITIALIZER;
 static atomic_size_t next_line;
 
-/* Maps the file, opens its table and unmaps it: the table keeps what it needs. Returns szg_open's status. */
-static uint32_t open_file(const char *path, const char *name, szg_table *table) {
+/* Maps the file and opens its front. Returns szg_open_front's status. */
+static uint32_t open_file(const char *path, struct held *held) {
     szg_answer answer;
     uint32_t status = SZG_CLOSED;
     struct stat state;
@@ -38,8 +39,10 @@ static uint32_t open_file(const char *path, const char *name, szg_table *table) 
     void *bytes = length ? mmap(NULL, length, PROT_READ, MAP_PRIVATE, file, 0) : (void *)"";
     close(file);
     if (bytes == MAP_FAILED) return perror(path), status;
-    status = szg_open(name, strlen(name), false, bytes, length, table, &answer);
-    if (length) munmap(bytes, length);
+    held->bytes = bytes;
+    held->length = length;
+    status = szg_open_front(held->name, strlen(held->name), false, bytes, length, &held->front, &answer);
+    if (status != SZG_DONE && length) munmap(bytes, length);
     if (status == SZG_REFUSED)
         fprintf(stderr, "%s: refused at %llu, reason %u\n", path, (unsigned long long)answer.place, answer.reason);
     else if (status != SZG_DONE)
@@ -59,7 +62,7 @@ static bool open_folder(const char *path) {
         struct held *held = &tables[table_count];
         snprintf(file, sizeof file, "%s/%s", path, entry->d_name);
         memcpy(held->name, entry->d_name, (size_t)(end - entry->d_name));
-        if (open_file(file, held->name, &held->table) == SZG_DONE) table_count++; else all = false;
+        if (open_file(file, held) == SZG_DONE) table_count++; else all = false;
     }
     closedir(folder);
     return all;
@@ -103,7 +106,7 @@ static void parse(char *line, struct placement *placement) {
 /* Takes lines until none is left. */
 static void *probe_lines(void *unused) {
     (void)unused;
-    szg_table *own = calloc(table_count + 1, sizeof *own);
+    szg_front *own = calloc(table_count + 1, sizeof *own);
     if (!own) return NULL;
     for (size_t at; (at = atomic_fetch_add(&next_line, 1)) < line_count;) {
         struct placement *placement = &placements[at];
@@ -113,16 +116,19 @@ static void *probe_lines(void *unused) {
         if (i == table_count) continue;
         uint32_t status = SZG_DONE;
         int64_t outcome;
+        szg_bad_block bad;
         if (!own[i].held) {
             pthread_mutex_lock(&sharing);
-            status = szg_share(&tables[i].table, &own[i]);
+            status = szg_share_front(&tables[i].front, &own[i]);
             pthread_mutex_unlock(&sharing);
         }
-        if (status == SZG_DONE) status = szg_probe(&own[i], placement->men, placement->count, placement->mover, 0, &outcome);
+        if (status == SZG_DONE)
+            status = szg_front_probe(&own[i], tables[i].bytes, tables[i].length, placement->men, placement->count,
+                                     placement->mover, 0, &outcome, &bad);
         if (status == SZG_DONE) snprintf(placement->answer, sizeof placement->answer, "%lld", (long long)outcome);
         else snprintf(placement->answer, sizeof placement->answer, "status %u", status);
     }
-    for (size_t i = 0; i < table_count; i++) szg_close(&own[i]);
+    for (size_t i = 0; i < table_count; i++) szg_close_front(&own[i]);
     free(own);
     return NULL;
 }
@@ -137,6 +143,9 @@ int main(int count, char **words) {
     while (started < THREADS && pthread_create(&threads[started], NULL, probe_lines, NULL) == 0) started++;
     for (int i = 0; i < started; i++) pthread_join(threads[i], NULL);
     for (size_t i = 0; i < line_count; i++) puts(placements[i].answer);
-    for (size_t i = 0; i < table_count; i++) szg_close(&tables[i].table);
+    for (size_t i = 0; i < table_count; i++) {
+        szg_close_front(&tables[i].front);
+        munmap((void *)tables[i].bytes, tables[i].length);
+    }
     return all && started ? 0 : 66;
 }

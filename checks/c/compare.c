@@ -12,7 +12,7 @@ static const char *const REASON_NAMES[REASONS] = {
     "CodeLengths", "LowestOrder", "TooFull", "Child", "Cycle", "LongSymbol", "ShortTotal", "SparseEntry", "Word"};
 
 static struct {
-    uint64_t cases, ended[REASONS], differences, values, blocks, placements, indexes, numbers;
+    uint64_t cases, ended[REASONS], differences, values, blocks, fetched, bad, placements, indexes, numbers;
 } counts;
 
 /* The case that is compared now. */
@@ -279,6 +279,100 @@ static void compare_accepted(const reader_table *t) {
     szg_close_heads(&heads);
 }
 
+/* ---- Opened fronts */
+
+/* A look-up out of bytes of which `t` is the front: the value of its block, or the block that doesn't decode. */
+static void compare_fetch(const reader_table *t, szg_front *front, const reader_subtable *sub, uint64_t index) {
+    uint16_t value = 4321, due = 4321;
+    uint32_t block = 99;
+    szg_bad_block bad = {88, 888};
+    uint32_t status = szg_front_get(front, t->bytes, t->length, (uint8_t)sub->part, (uint8_t)sub->side, index, &value, &bad);
+    bool decodes = reader_fetch(sub, index, &due, &block);
+    same("szg_front_get", status, decodes ? SZG_DONE : SZG_BAD_BLOCK);
+    same("value of a front", value, decodes ? due : 4321);
+    same("bad block", bad.block, decodes ? 88 : block);
+    same("offset of a bad block", (int64_t)bad.offset, decodes ? 888 : sub->packed - t->bytes + ((int64_t)block << sub->block_bits));
+    (*(decodes ? &counts.fetched : &counts.bad))++;
+}
+
+static void compare_front_placement(const reader_table *t, szg_front *front) {
+    szg_man men[MEN_MOST];
+    szg_spot found = {7, 7, 7777}, due = found;
+    szg_bad_block bad = {88, 888};
+    int64_t outcome = 33333, due_outcome = outcome;
+    uint16_t value = 0;
+    uint32_t block = 88;
+    any_men(&t->material, men);
+    size_t count = (size_t)t->material.count;
+    uint8_t mover = (uint8_t)random_below(2);
+    int class_of_position = (int)random_below(5) - 2;
+    uint32_t status = reader_index(t, men, count, mover, &due);
+    same("szg_front_index", szg_front_index(front, men, count, mover, &found), status);
+    same("index of a front", (int64_t)found.index, (int64_t)due.index);
+    same("part and side of a front", found.part * 2 + found.side, due.part * 2 + due.side);
+    bool decodes = true;
+    if (status == SZG_DONE) {
+        decodes = reader_fetch(reader_subtable_of(t, due.part, due.side), due.index, &value, &block);
+        status = decodes ? reader_probe(t, &due, class_of_position, &due_outcome) : SZG_BAD_BLOCK;
+    }
+    same("szg_front_probe", szg_front_probe(front, t->bytes, t->length, men, count, mover, (int8_t)class_of_position, &outcome, &bad), status);
+    same("outcome of a front", outcome, due_outcome);
+    same("bad block of a probe", bad.block, decodes ? 88 : block);
+}
+
+/* What follows from the front alone: sizes and numbers. */
+static void compare_front_facts(const reader_table *t, szg_front *front) {
+    int part = (int)random_below(5), side = (int)random_below(3), class_of_position = (int)random_below(7) - 3;
+    const reader_subtable *sub = reader_subtable_of(t, part, side);
+    uint64_t size = 7;
+    uint32_t number = 55555, due = 55555, status = SZG_RANGE;
+    uint16_t value = (uint16_t)random_below(4);
+    szg_bad_block bad = {88, 888};
+    same("szg_front_size", szg_front_size(front, (uint8_t)part, (uint8_t)side, &size), sub ? SZG_DONE : SZG_RANGE);
+    same("positions of a front", (int64_t)size, sub ? (int64_t)sub->size : 7);
+    if (t->dtz && part < t->part_count && -2 <= class_of_position && class_of_position <= 2)
+        status = reader_number(t, part, class_of_position, value, &due);
+    same("szg_front_number", szg_front_number(front, (uint8_t)part, (int8_t)class_of_position, value, &number), status);
+    same("number of a front", number, due);
+    if (sub) same("szg_front_get past the size", szg_front_get(front, t->bytes, t->length, (uint8_t)part, (uint8_t)side, sub->size, &value, &bad), SZG_RANGE);
+}
+
+/* The look-ups of a front that was opened, in its bytes as they are and with some bytes of blocks changed. */
+static void compare_front_look_ups(reader_table *t, szg_front *front, uint8_t *bytes) {
+    for (int turn = 0; turn < 3; turn++) {
+        for (int i = 0; i < t->subtable_count; i++) {
+            const reader_subtable *sub = &t->subtables[i];
+            for (int look = 0; look < 3; look++) compare_fetch(t, front, sub, any_index(sub));
+            if (sub->constant) continue;
+            uint64_t length = (uint64_t)sub->blocks << sub->block_bits;
+            bytes[(uint64_t)(sub->packed - t->bytes) + random_below(length)] ^= (uint8_t)(1 + random_below(255));
+        }
+        compare_front_placement(t, front);
+    }
+}
+
+/* The front of a case, of which the blocks may be damaged already. */
+static void compare_front(const reader_material *material) {
+    static uint8_t bytes[MADE_MOST];
+    reader_table t;
+    szg_answer answer = NO_ANSWER;
+    szg_front front = SZG_NO_FRONT;
+    uint64_t size = 7;
+    if (now.length > sizeof bytes) return;
+    memcpy(bytes, now.bytes, now.length);
+    reader_read_front(&t, material, now.dtz, bytes, now.length);
+    same_answer("szg_open_front", &t, szg_open_front(now.name, strlen(now.name), now.dtz, bytes, now.length, &front, &answer), &answer);
+    if (t.reason) {
+        same("szg_front_size of no front", szg_front_size(&front, 0, 0, &size), SZG_CLOSED);
+        same("size of no front", (int64_t)size, 7);
+    } else if (!now.differs) {
+        compare_front_facts(&t, &front);
+        compare_front_look_ups(&t, &front, bytes);
+    }
+    szg_close_front(&front);
+    reader_free(&t);
+}
+
 /* ---- Cases */
 
 bool compare(const char *name, bool dtz, const uint8_t *bytes, size_t length) {
@@ -298,6 +392,7 @@ bool compare(const char *name, bool dtz, const uint8_t *bytes, size_t length) {
     else
         compare_accepted(&t);
     reader_free(&t);
+    if (random_one_in(2)) compare_front(&material);
     return !now.differs;
 }
 
@@ -315,9 +410,11 @@ int compare_report(bool all_reasons) {
         printf("%s %llu\n", REASON_NAMES[reason], (unsigned long long)counts.ended[reason]);
         missing += counts.ended[reason] == 0;
     }
+    printf("fetched %llu\nbad %llu\n", (unsigned long long)counts.fetched, (unsigned long long)counts.bad);
     printf("values %llu\nblocks %llu\nnumbers %llu\nplacements %llu\nindexes %llu\n", (unsigned long long)counts.values,
            (unsigned long long)counts.blocks, (unsigned long long)counts.numbers, (unsigned long long)counts.placements,
            (unsigned long long)counts.indexes);
     printf("cases %llu\ndifferences %llu\n", (unsigned long long)counts.cases, (unsigned long long)counts.differences);
+    missing += counts.bad == 0;
     return counts.differences || (all_reasons && missing);
 }

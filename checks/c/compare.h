@@ -1,5 +1,6 @@
 /* The comparison of the library with the reader of table_reader.h: a case is a file. Compared are its verdict, reason and
- * offset, and if it is accepted its sizes, values, byte ranges, numbers and indexes. */
+ * offset, and if it is accepted its sizes, values, byte ranges, numbers and indexes. Of half of the cases the front is
+ * opened too, and its look-ups are compared with blocks as they are and with changed bytes: the value, or the bad block. */
 #ifndef COMPARE_H
 #define COMPARE_H
 #include <stdbool.h>

@@ -142,6 +142,8 @@ static void other_statuses(const char *data) {
     uint64_t size;
     szg_wanted wanted = {7, 7};
     szg_heads heads = SZG_NO_HEADS;
+    szg_front front = SZG_NO_FRONT;
+    szg_bad_block bad = {7, 7};
     size_t n = load(data, "kqvk_wdl_paired.rtbw");
     want("name", hold("KvKQ", false, n), SZG_NAME);
     refuses = true;
@@ -158,6 +160,13 @@ static void other_statuses(const char *data) {
     want("second block", (int64_t)wanted.place, 288);
     want("bytes of a block", (int64_t)wanted.count, 32);
     want("changed", szg_value(&heads, 0, 0, 31331, bytes, 31, &value), SZG_CHANGED);
+    want("front", szg_open_front("KQvK", 4, false, bytes, n, &front, &answer), SZG_DONE);
+    memset(bytes + 256, 0, 32);
+    want("bad block", szg_front_get(&front, bytes, n, 0, 0, 0, &value, &bad), SZG_BAD_BLOCK);
+    want("its number", bad.block, 0);
+    want("its offset", (int64_t)bad.offset, 256);
+    want("second block", szg_front_get(&front, bytes, n, 0, 0, 31331, &value, &bad), SZG_DONE);
+    szg_close_front(&front);
     szg_close_heads(&heads);
     szg_close(&table);
 }

@@ -336,6 +336,7 @@ static uint64_t needed_of(const reader_subtable *sub, uint32_t block) {
 static bool read_blocks(reader_table *t, reader_subtable *sub) {
     if (!align(t, 64)) return false;
     sub->packed = t->bytes + t->at;
+    if (t->is_front) return take(t, (uint64_t)sub->blocks << sub->block_bits, NULL);
     for (uint32_t block = 0; block < sub->blocks; block++) {
         const uint8_t *field;
         uint16_t last;
@@ -375,8 +376,9 @@ static bool read_rest(reader_table *t) {
     return align(t, 64) && take(t, 16, NULL);
 }
 
-void reader_read(reader_table *t, const reader_material *material, bool dtz, const uint8_t *bytes, size_t length) {
+static void read_table(reader_table *t, const reader_material *material, bool dtz, const uint8_t *bytes, size_t length, bool is_front) {
     memset(t, 0, sizeof *t);
+    t->is_front = is_front;
     t->material = *material;
     t->dtz = dtz;
     t->bytes = bytes;
@@ -385,6 +387,14 @@ void reader_read(reader_table *t, const reader_material *material, bool dtz, con
     t->side_count = !dtz && !material->symmetric ? 2 : 1;
     t->orders = material->has_pawns && material->other_pawns ? 2 : 1;
     (void)(read_beginning(t) && read_heads(t) && read_rest(t));
+}
+
+void reader_read(reader_table *t, const reader_material *material, bool dtz, const uint8_t *bytes, size_t length) {
+    read_table(t, material, dtz, bytes, length, false);
+}
+
+void reader_read_front(reader_table *t, const reader_material *material, bool dtz, const uint8_t *bytes, size_t length) {
+    read_table(t, material, dtz, bytes, length, true);
 }
 
 void reader_free(reader_table *t) {
@@ -456,6 +466,18 @@ uint16_t reader_value(const reader_subtable *sub, uint64_t index) {
     uint32_t block = reader_block_of(sub, index, &within);
     reader_decode(sub, sub->packed + ((uint64_t)block << sub->block_bits), within, &value);
     return value;
+}
+
+bool reader_fetch(const reader_subtable *sub, uint64_t index, uint16_t *value, uint32_t *block) {
+    uint64_t within;
+    uint16_t last;
+    if (sub->constant) {
+        *value = sub->value;
+        return true;
+    }
+    *block = reader_block_of(sub, index, &within);
+    const uint8_t *bytes = sub->packed + ((uint64_t)*block << sub->block_bits);
+    return reader_decode(sub, bytes, needed_of(sub, *block) - 1, &last) && reader_decode(sub, bytes, within, value);
 }
 
 /* Appends the values of a symbol, at most `room` of them; returns how many. */

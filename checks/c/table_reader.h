@@ -48,6 +48,7 @@ typedef struct {
     bool dtz;
     const uint8_t *bytes;
     size_t length, at;
+    bool is_front; /* the blocks are not read */
     int part_count, side_count, orders, subtable_count;
     reader_subtable subtables[2 * PARTS_MOST];
     reader_map maps[PARTS_MOST];
@@ -62,6 +63,9 @@ bool reader_parse(const char *name, size_t length, reader_material *material);
 void reader_read(reader_table *table, const reader_material *material, bool dtz, const uint8_t *bytes, size_t length);
 void reader_free(reader_table *table);
 
+/* Reads all of a table but its blocks, and finds whether the bytes are long enough for these and what follows them. */
+void reader_read_front(reader_table *table, const reader_material *material, bool dtz, const uint8_t *bytes, size_t length);
+
 /* The subtable of a part's side, or NULL. */
 const reader_subtable *reader_subtable_of(const reader_table *table, int part, int side);
 
@@ -72,6 +76,10 @@ uint32_t reader_block_of(const reader_subtable *sub, uint64_t index, uint64_t *w
 bool reader_decode(const reader_subtable *sub, const uint8_t *block, uint64_t within, uint16_t *value);
 
 uint16_t reader_value(const reader_subtable *sub, uint64_t index);
+
+/* The value at an index, and its block, in bytes of which a front was read. Returns false if this block has too few values;
+ * then the value stays. In a constant subtable the block stays. */
+bool reader_fetch(const reader_subtable *sub, uint64_t index, uint16_t *value, uint32_t *block);
 
 /* Writes all values, `size` of them. */
 void reader_values(const reader_subtable *sub, uint16_t *values);

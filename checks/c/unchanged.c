@@ -37,6 +37,7 @@ static void whole(size_t n) {
     uint64_t size = 77, indexes[] = {0, 5, SIZE};
     szg_table table = SZG_NO_TABLE;
     szg_heads heads = SZG_NO_HEADS;
+    szg_front front = SZG_NO_FRONT;
     fill();
     stays("check, name", szg_check("KvKQ", 4, false, bytes, n, &answer), SZG_NAME);
     stays("size, name", szg_size("KvKQ", 4, false, bytes, n, 0, 0, &size, &answer), SZG_NAME);
@@ -46,12 +47,10 @@ static void whole(size_t n) {
     stays("values, short", szg_values("KQvK", 4, false, bytes, n, 0, 0, values, SIZE - 1, &answer), SZG_RANGE);
     stays("values at, name", szg_values_at("KvKQ", 4, false, bytes, n, 0, 0, indexes, 2, values, 2, &answer), SZG_NAME);
     stays("values at, part", szg_values_at("KQvK", 4, false, bytes, n, 1, 0, indexes, 2, values, 2, &answer), SZG_RANGE);
-    /* values before the refused index may be written */
-    want("values at, index", szg_values_at("KQvK", 4, false, bytes, n, 0, 0, indexes, 3, values, 3, &answer), SZG_RANGE);
-    want("values from the refused index on", memcmp(values + 2, before + 2, sizeof values - 4), 0);
-    memset(values, 0x5a, 4);
+    stays("values at, index", szg_values_at("KQvK", 4, false, bytes, n, 0, 0, indexes, 3, values, 3, &answer), SZG_RANGE);
     stays("open, name", szg_open("KvKQ", 4, false, bytes, n, &table, &answer), SZG_NAME);
     stays("open heads, name", szg_open_heads("KvKQ", 4, false, bytes, n, &heads, &answer), SZG_NAME);
+    stays("open front, name", szg_open_front("KvKQ", 4, false, bytes, n, &front, &answer), SZG_NAME);
     refuses = true;
     stays("check, memory", szg_check("KQvK", 4, false, bytes, n, &answer), SZG_MEMORY);
     stays("size, memory", szg_size("KQvK", 4, false, bytes, n, 0, 0, &size, &answer), SZG_MEMORY);
@@ -59,11 +58,13 @@ static void whole(size_t n) {
     stays("values at, memory", szg_values_at("KQvK", 4, false, bytes, n, 0, 0, indexes, 2, values, 2, &answer), SZG_MEMORY);
     stays("open, memory", szg_open("KQvK", 4, false, bytes, n, &table, &answer), SZG_MEMORY);
     stays("open heads, memory", szg_open_heads("KQvK", 4, false, bytes, n, &heads, &answer), SZG_MEMORY);
+    stays("open front, memory", szg_open_front("KQvK", 4, false, bytes, n, &front, &answer), SZG_MEMORY);
     refuses = false;
     want("size", (int64_t)size, 77);
     stays("size, done", szg_size("KQvK", 4, false, bytes, n, 0, 0, &size, &answer), SZG_DONE);
     stays("open, done", szg_open("KQvK", 4, false, bytes, n, &table, &answer), SZG_DONE);
     stays("open heads, done", szg_open_heads("KQvK", 4, false, bytes, n, &heads, &answer), SZG_DONE);
+    stays("open front, done", szg_open_front("KQvK", 4, false, bytes, n, &front, &answer), SZG_DONE);
     want("values at, done", szg_values_at("KQvK", 4, false, bytes, n, 0, 0, indexes, 2, values, 2, &answer), SZG_DONE);
     want("values after those at indexes", memcmp(values + 2, before + 2, sizeof values - 4), 0);
     fill();
@@ -74,6 +75,36 @@ static void whole(size_t n) {
     want("values of a refused table", memcmp(values, before, sizeof values), 0);
     szg_close(&table);
     szg_close_heads(&heads);
+    szg_close_front(&front);
+}
+
+/* Each call on an opened front, with what it refuses, and without a front. */
+static void front(size_t n) {
+    szg_front fronts[] = {SZG_NO_FRONT, SZG_NO_FRONT};
+    szg_bad_block bad = {7, 77};
+    szg_spot spot = {7, 7, 77};
+    uint64_t size = 77;
+    uint16_t value = 77;
+    uint32_t number = 77;
+    int64_t outcome = 77;
+    const szg_man men[] = {{SZG_KING, SZG_WHITE, 4}, {SZG_ROOK, SZG_WHITE, 0}, {SZG_KING, SZG_BLACK, 60}};
+    fill();
+    want("open front", szg_open_front("KQvK", 4, false, bytes, n, &fronts[0], &answer), SZG_DONE);
+    for (int open = 1; open >= 0; open--) {
+        szg_front *front = &fronts[1 - open];
+        uint32_t range = open ? SZG_RANGE : SZG_CLOSED;
+        stays("front size", szg_front_size(front, 0, 2, &size), range);
+        stays("front get", szg_front_get(front, bytes, n, 0, 0, SIZE, &value, &bad), range);
+        stays("front get, part", szg_front_get(front, bytes, n, 1, 0, 0, &value, &bad), range);
+        stays("front get, bytes", szg_front_get(front, bytes, 1, 0, 0, 0, &value, &bad), open ? SZG_CHANGED : SZG_CLOSED);
+        stays("front number", szg_front_number(front, 0, 2, 0, &number), range);
+        stays("front index", szg_front_index(front, men, 3, SZG_WHITE, &spot), open ? SZG_OTHER_MATERIAL : SZG_CLOSED);
+        stays("front probe", szg_front_probe(front, bytes, n, men, 3, SZG_WHITE, 0, &outcome, &bad),
+              open ? SZG_OTHER_MATERIAL : SZG_CLOSED);
+    }
+    want("results", (int64_t)(size + value + number) + outcome + (int64_t)bad.offset + bad.block, 5 * 77 + 7);
+    want("spot", (int64_t)(spot.part + spot.side + spot.index), 91);
+    szg_close_front(&fronts[0]);
 }
 
 /* Each call on a handle, with what it refuses, and without a table. */
@@ -118,6 +149,7 @@ int main(int count, char **words) {
     memcpy(original, bytes, sizeof bytes);
     whole(n);
     held(n);
+    front(n);
     if (!failed) puts("all as expected");
     return failed;
 }

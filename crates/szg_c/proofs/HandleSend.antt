@@ -1,4 +1,4 @@
--- A handle owns a share of its value, and nothing that is bound to a thread.
+-- A handle owns a share of its value, and nothing that belongs to one thread.
 use mir.Raw.{raw}
 use base.Shift.{Keyless}
 use denote.Memory.{lone}

@@ -1,4 +1,4 @@
--- The machine values of a handle, whatever it holds. Assumes `Logic`.
+-- The machine values of a handle, for any type of value. Assumes `Logic`.
 use Rattle.std.proofs.Common.{◌≡◌, ℕ, List, [], ◌∷◌, ◌++◌, refl, sym, subst}
 use seplogic.Ra.Ura.{Ura}
 use base.Stored.{Coded}
@@ -26,7 +26,7 @@ use Rattle.std.specs.declared.option.Option.TheVariants.{None, Some}
 use Rattle.szg_c.proofs.Values.{both}
 use Rattle.szg_c.proofs.HeldValues.{Z, al, tok, holds, holds_cases}
 
--- a struct of a pointer, the heap and, unseen by the machine, what the pointer owns
+-- a struct of a pointer, the heap and, without a machine value, what the pointer owns
 pub record Kind : Type 2 where
   pub name : Sym
   pub R : RattleType

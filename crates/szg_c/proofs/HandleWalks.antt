@@ -1,4 +1,4 @@
--- The walks of the functions of a handle, whatever it holds.
+-- The walks through the functions of a handle, for any type of value.
 use Rattle.std.proofs.Common.{◌≡◌, List, [], ◌∷◌, ◌++◌, refl, sym, subst, lit<}
 use mir.Val.{Val, vnull, vptr, vcons, vnil}
 use base.Logic.{SProp, ent, emp, id⊢}
@@ -41,14 +41,14 @@ use Rattle.std.proofs.alloc.Global.TheLaws as heap_laws
 use Rattle.std.specs.contracts.option.Option.{the_row as Option_row}
 
 module _ (N : Kind) where
-  -- a function of one argument that it uses up
+  -- a function of one argument, which it consumes
   abbrev one : RattleType → RattleType → Ended
   one X Y = record { signature = record { lifetimes = 0; outlives = []; params = plain (λ _. X) ∷ []; result = plain (λ _. Y) }; kept = (yes, tt) }
 
   abbrev Lr : RattleType
   Lr = Loose N.R Z heap_laws.the_row_laws ghosts
 
-  -- what the three functions do
+  -- the code of the three functions
   abbrev code : List Local → Body → Fn
   code locals body = record { lifetimes = 0; outlives = []; ty_params = []; givens = 0; params = 1; locals = locals; body = body }
 

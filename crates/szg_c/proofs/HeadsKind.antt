@@ -1,4 +1,4 @@
--- A handle on heads.
+-- A handle on a mapped table.
 use Rattle.std.proofs.Common.{refl}
 use Rattle.szg_file.specs.contracts.kept.Heads as value
 use Rattle.szg_c.specs.contracts.shared.Shared as shared

@@ -1,4 +1,4 @@
--- From a table that is opened over bytes in memory to what is told of its heads.
+-- From a table that is opened over bytes in memory to the result about its mapped table.
 use Rattle.std.proofs.Common.{◌≡◌, ℕ, Bool, List, Option, Some, Ok, inl, inr, refl, sym, subst}
 use Rattle.std.specs.Prelude.{◌⊎◌, IsSome, IsSomeAnd}
 use Rattle.szg_values.specs.Material.{Sides, parsed}
@@ -14,13 +14,13 @@ use Rattle.szg_file.specs.Opened.{table_of, table_in, IsOpenRefusal}
 use Rattle.szg_c.specs.ByPlace.{AreHeads, AreHeadsOf}
 use Rattle.szg_c.specs.Told.{kind_told, Finds, Refuses, Says}
 
--- a verdict with a table is good
+-- a verdict with a table is an acceptance
 found : (v : Verdict Contents) → IsSome (table_of v) → (t : Shown) × Finds v t × (table_of v ≡ Some t.contents)
 found (good t filled rest) h = (record { contents = t; filled = filled }, (rest, refl), refl)
 found (refused place reason rest) h = absurd (cc h)
 found (truncated count) h = absurd (cc h)
 
--- what is kept of the table that was opened are its heads
+-- what remains of the table that was opened is its mapped table
 pub are_heads : (name : List ℕ) (dtz : Bool) (bytes : List ℕ) (material : Sides) → parsed name ≡ Ok material → IsSome (table_in material (kind_told dtz) bytes) →
     (kept : Kept) → kept.material ≡ material → kept.kind ≡ kind_told dtz → IsKeptOf kept bytes → AreHeads name dtz bytes kept
 are_heads name dtz bytes material named there kept m k of =
@@ -29,13 +29,13 @@ are_heads name dtz bytes material named there kept m k of =
     subst (λ (s : Sides). table_in s kept.kind bytes ≡ Some f.0.contents) (sym m) (subst (λ (s : Kind). table_in material s bytes ≡ Some f.0.contents) (sym k) f.2) in
     (f.0, (material, named, f.1), (same, of))
 
--- a refusal to open is the verdict's
+-- a refusal to open is that of the verdict
 pub refuses : (v : Verdict Contents) (place : ℕ) (why : Reason) → IsOpenRefusal v (fault.Refused place why) → Refuses v place why
 refuses (good t filled rest) place why h = h
 refuses (refused at reason rest) place why h = h
 refuses (truncated count) place why h = h
 
--- where they are held, or there is no memory for it, the call says so
+-- the status of a call that stores it, or that has no memory for it
 pub heads_say : (name : List ℕ) (dtz : Bool) (bytes : List ℕ) (kept : Kept) (held : Option Kept) (status place reason : ℕ) → AreHeads name dtz bytes kept →
     (status ≡ 0 → held ≡ Some kept) → (status ≡ 0) ⊎ (status ≡ 3) → Says name dtz bytes (λ t. IsSomeAnd held (AreHeadsOf bytes t)) (λ t. ⊥) status place reason
 heads_say name dtz bytes kept held status place reason are done (inl e) =

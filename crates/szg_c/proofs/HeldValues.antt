@@ -1,4 +1,4 @@
--- What a handle's pointer owns: a box, or nothing at null. Assumes `Logic`.
+-- What a handle's pointer owns: a box, or nothing if it is null. Assumes `Logic`.
 use Rattle.std.proofs.Common.{◌≡◌, ℕ, List, [], ◌∷◌, refl, lit<}
 use mathlib.Core.Bool.{true, ◌&&◌}
 use lib.Dec.{T}

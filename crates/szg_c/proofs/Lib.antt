@@ -1,6 +1,8 @@
 pub mod HandleSend
 pub mod HandleValues
 pub mod HandleWalks
+pub mod FrontKind
+pub mod FrontsTold
 pub mod HeadsKind
 pub mod TableKind
 pub mod HeldValues

@@ -1,4 +1,4 @@
--- A subtable of an accepted table has as many values as positions.
+-- The number of values of a subtable of an accepted table is its number of positions.
 use Rattle.std.proofs.Common.{◌≡◌, ◌∙◌, ℕ, List, [], ◌∷◌, length, cond, Option, None, Some, IfSome, option_map, true, false, ap, sym}
 use Rattle.std.specs.Prelude.{nat_eq, ◌&&◌}
 use Rattle.std.proofs.lemmas.List.{length-replicate}
@@ -27,7 +27,7 @@ found_sized kind part side (x ∷ xs) (y ∷ ys) h =
 sized : (t : Contents) (filled : List ℕ) (part side : ℕ) → IsAccepted t filled → IfSome (subtable_at t part side) (λ found. length (values_of t.kind found) ≡ found.0.size)
 sized t filled part side h = found_sized t.kind part side (slots t.material t.kind t.parts) t.subtables h.subtables
 
--- a list of all its values is as long
+-- likewise the length of a list of all its values
 pub list_sized : (t : Contents) (filled : List ℕ) (part side : ℕ) → IsAccepted t filled → (size : ℕ) → Some size ≡ option_map (λ found. found.0.size) (subtable_at t part side) →
     (list : List ℕ) → IfSome (subtable_at t part side) (λ found. list ≡ values_of t.kind found) → length list ≡ size
 list_sized t filled part side h size there list are = of_found (subtable_at t part side) (sized t filled part side h) there are where

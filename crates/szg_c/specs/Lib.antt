@@ -5,6 +5,7 @@ pub mod Places
 pub mod Telling
 pub mod Owned
 pub mod ByPlace
+pub mod Fronts
 pub use Rattle.szg_file.specs.Held
 pub use Rattle.szg_file.specs.Values
 pub use Rattle.szg_file.specs.Heads

@@ -1,4 +1,4 @@
--- What a table tells C of a placement, and C's statuses where it tells nothing.
+-- The results for C of look-ups by placement, and the statuses for C if there is no result.
 use Rattle.std.specs.Prelude.{◌≡◌, ℕ, Bool, not, ◌&&◌, ◌||◌, ℤ, pos, neg_ℤ, int_lt, is_some, Option, Some, None, option_and_then, option_map, Result, Ok, Err, if◌then◌else◌}
 use Rattle.szg_values.specs.Placement.{Board}
 use Rattle.szg_values.specs.declared.Kind.{Kind}
@@ -15,7 +15,7 @@ use Rattle.szg_place.specs.declared.PlaceFault.TheVariants.{OtherMaterial, Irreg
 use Rattle.szg_place.specs.declared.Spot.{Spot}
 use Rattle.szg_c.specs.declared.places.FoundSpot.{FoundSpot}
 
--- ---- statuses: 4 outside the table, 10 to 13 no index, 14 no class, 15 and 16 no number
+-- ---- statuses: 4 outside the table; 10 to 13 no index; 14 no class; 15 and 16 no distance
 
 abbrev pub place_status : PlaceFault → ℕ
 place_status OtherMaterial = 10
@@ -29,23 +29,23 @@ map_status OutsideMap = 16
 
 -- ---- indexes
 
--- a spot, unless a fault refuses it
+-- a spot, unless a fault rules it out
 abbrev pub spot_unless : Option PlaceFault → Spot → Result Spot ℕ
 spot_unless None spot = Ok spot
 spot_unless (Some why) spot = Err (place_status why)
 
--- where a table tells of a placement, where there is a placement
+-- the spot of a placement in a table, if there is a placement
 abbrev pub spot_told : Contents → Result Board ℕ → Result Spot ℕ
 spot_told t (Err status) = Err status
 spot_told t (Ok board) = spot_unless (place_fault (numbering_of t) board) (spot_of (numbering_of t) board)
 
--- what C gets of it
+-- the spot that C gets
 abbrev pub IsSpot : FoundSpot → Spot → Type 0
 IsSpot found spot = (found.part ≡ spot.part) × (found.side ≡ spot.side) × (found.index ≡ spot.index)
 
--- ---- numbers
+-- ---- distances
 
--- a class is -2 to 2
+-- a class is a number from -2 to 2
 abbrev pub is_class : ℤ → Bool
 is_class class = not (int_lt class (neg_ℤ (pos 2)) || int_lt (pos 2) class)
 
@@ -53,27 +53,28 @@ abbrev pub number_or_status : Result ℕ MapFault → Result ℕ ℕ
 number_or_status (Err why) = Err (map_status why)
 number_or_status (Ok number) = Ok number
 
--- the number of a value of a part in a class
+-- the distance of a value of a part in a class
 abbrev pub number_told : Contents → ℕ → ℤ → ℕ → Result ℕ ℕ
 number_told t part class v =
     if is_dtz t.kind && is_class class && is_some (subtable_at t part 0) then number_or_status (mapped_number t part class v) else Err 4
 
 -- ---- outcomes
 
--- a class, unless a fault refuses the placement or the value is no class
+-- a class, unless a fault refuses the placement or the value is not a class
 abbrev pub class_unless : Option PlaceFault → Option ℤ → Result ℤ ℕ
 class_unless (Some why) class = Err (place_status why)
 class_unless None None = Err 14
 class_unless None (Some class) = Ok class
 
--- a number, unless a fault refuses the placement or the table's map has none; each placement that isn't refused has a value
+-- a distance, unless a fault refuses the placement or the table's map has none; each placement that is not refused
+-- has a value
 abbrev pub distance_unless : Option PlaceFault → Option (Result ℕ MapFault) → Result ℤ ℕ
 distance_unless (Some why) number = Err (place_status why)
 distance_unless None None = Err 4
 distance_unless None (Some (Err why)) = Err (map_status why)
 distance_unless None (Some (Ok number)) = Ok (pos number)
 
--- a WDL table tells a placement's class, a DTZ table its number in a class
+-- the result for a placement: its class in a WDL table, its distance in a class in a DTZ table
 abbrev pub outcome_of : Kind → Contents → ℤ → Board → Result ℤ ℕ
 outcome_of Wdl t class board = class_unless (place_fault (numbering_of t) board) (option_and_then class_of (value_at t (spot_of (numbering_of t) board)))
 outcome_of Dtz t class board = if is_class class then
@@ -81,7 +82,7 @@ outcome_of Dtz t class board = if is_class class then
     (option_map (λ v. mapped_number t (spot_of (numbering_of t) board).part class v) (value_at t (spot_of (numbering_of t) board)))
     else Err 4
 
--- what a table tells of a placement, where there is a placement
+-- the result for a placement, if there is a placement
 abbrev pub outcome_told : Contents → ℤ → Result Board ℕ → Result ℤ ℕ
 outcome_told t class (Err status) = Err status
 outcome_told t class (Ok board) = outcome_of t.kind t class board

@@ -1,4 +1,4 @@
--- The answers of the layers below, as answers to C.
+-- The results of the lower crates, converted for C.
 use Rattle.std.specs.Prelude.{ℕ, ℤ, pos, Option, Some, None, Result, Ok, Err}
 use Rattle.szg_place.specs.declared.PlaceFault.{PlaceFault}
 use Rattle.szg_place.specs.declared.ProbeFault.{ProbeFault}

@@ -1,4 +1,4 @@
--- What the calls tell C of a name, a kind and bytes.
+-- The results for C of calls with a name, a kind and bytes.
 use Rattle.std.specs.Prelude.{◌≡◌, ℕ, zero, suc, Bool, true, false, List, IsErr, Ok}
 use Rattle.std.specs.Str.{IsUtf8}
 use Rattle.szg_values.specs.declared.Kind.{Kind}
@@ -15,7 +15,7 @@ abbrev pub kind_told : Bool → Kind
 kind_told false = Wdl
 kind_told true = Dtz
 
--- the numbers of the reasons, in the order in which a file meets the checks
+-- the numbers of the reasons, in the order of the checks
 abbrev pub number_of : Reason → ℕ
 number_of reason.Truncated = 1
 number_of reason.Magic = 2
@@ -36,7 +36,7 @@ number_of reason.ShortTotal = 16
 number_of reason.SparseEntry = 17
 number_of reason.Word = 18
 
--- no text of these bytes is a material's name
+-- these bytes are not the text of a material's name
 abbrev pub IsNoName : List ℕ → Type 0
 IsNoName name = IsUtf8 name → IsErr (parsed name)
 
@@ -44,11 +44,11 @@ IsNoName name = IsUtf8 name → IsErr (parsed name)
 abbrev pub IsName : List ℕ → Type 0
 IsName name = (material : Sides) × (parsed name ≡ Ok material)
 
--- the verdict is good, and this is what it found
+-- the format accepts the bytes, with this result
 abbrev pub Finds : Verdict Contents → Shown → Type 0
 Finds v t = (rest : List ℕ) × (v ≡ good t.contents t.filled rest)
 
--- the verdict refuses, at this place and for this reason
+-- the format refuses the bytes, at this offset and for this reason
 abbrev pub Refuses : Verdict Contents → ℕ → Reason → Type 0
 Refuses (good t filled rest) place why = ⊥
 Refuses (refused at reason rest) place why = (place ≡ at) × (why ≡ reason)
@@ -58,20 +58,21 @@ Refuses (truncated count) place why = (place ≡ count) × (why ≡ reason.Trunc
 abbrev pub IsTable : List ℕ → Bool → List ℕ → Shown → Type 0
 IsTable name dtz bytes t = (material : Sides) × (parsed name ≡ Ok material) × Finds (verdict (file material (kind_told dtz)) 0 bytes) t
 
--- the name is a material's, and the bytes are refused: at this place, for this reason
+-- the name is a material's, and the bytes are refused at this offset for this reason
 abbrev pub IsRefused : List ℕ → Bool → List ℕ → ℕ → Reason → Type 0
 IsRefused name dtz bytes place why = (material : Sides) × (parsed name ≡ Ok material) × Refuses (verdict (file material (kind_told dtz)) 0 bytes) place why
 
--- ---- statuses: 0 done, 1 no name, 2 refused, 3 no memory for a table of this name, 4 outside the table
+-- ---- statuses: 0 done; 1 no name; 2 refused; 3 no memory for a table of this name; 4 outside the table
 
--- what a status other than 0 and 4 tells, beside the place and the reason
+-- the meaning of a status other than 0 and 4, with the offset and the reason
 abbrev pub Stops : List ℕ → Bool → List ℕ → ℕ → ℕ → ℕ → Type 0
 Stops name dtz bytes (suc zero) place reason = IsNoName name
 Stops name dtz bytes (suc (suc zero)) place reason = (why : Reason) × IsRefused name dtz bytes place why × (reason ≡ number_of why)
 Stops name dtz bytes (suc (suc (suc zero))) place reason = IsName name
 Stops name dtz bytes status place reason = ⊥
 
--- what a status tells of a call: that there is a table and `done` holds of it, or `outside` does, or why there is none
+-- the meaning of a call's status: there is a table that satisfies `done` or `outside`, or the status says why there
+-- is none
 abbrev pub Says : List ℕ → Bool → List ℕ → (Shown → Type 0) → (Shown → Type 0) → ℕ → ℕ → ℕ → Type 0
 Says name dtz bytes done outside zero place reason = (t : Shown) × IsTable name dtz bytes t × done t
 Says name dtz bytes done outside (suc zero) place reason = IsNoName name

@@ -1,4 +1,4 @@
-//! Calls on a table whose file C reads itself.
+//! Calls on a mapped table, whose file C reads itself.
 ghost use Rattle.std.specs.Prelude.{◌≡◌, ◌+◌, ◌≤◌, ◌<◌, ◌⊎◌, ℕ, List, is_some, IsTrue, IfSome, IsSomeAnd, MatchOption, IfOk, IfErr};
 ghost use Rattle.std.specs.declared.option.Option.TheVariants.{None, Some};
 ghost use Rattle.szg_file.specs.Heads.{IsKeptOf, slot_at, kept_at};
@@ -16,17 +16,18 @@ use std::alloc::Global;
 use szg_block::Image;
 use szg_file::{Heads, OpenFault, Wanted, open};
 
-/// Bytes of a file.
+/// A byte range of a file.
 #[repr(C)]
 #[derive(Drop)]
 pub struct WantedBytes {
-    /// The place of the first of them.
+    /// The offset of the first byte.
     pub place: u64,
-    /// How many they are.
+    /// The number of bytes.
     pub count: u64,
 }
 
-/// The heads of the table of this name and kind that the bytes begin with; else the status that tells why there is none.
+/// Opens the mapped table of this name and kind that the bytes begin with. Errors: the status that says why there
+/// is none.
 fn open_heads(
     alloc: Global,
     name: &[u8],
@@ -36,6 +37,8 @@ fn open_heads(
 ) -> Result<Heads, u32>
     ensures heads { IfOk result (AreHeads name.now dtz bytes.now) }
     ensures stops { IfErr result (λ status. Stops name.now dtz bytes.now status answer.new.place answer.new.reason) }
+    ensures kept { IfOk result (λ t. answer.new ≡ answer.old) }
+    ensures stays { IfErr result (λ status. (status ≡ 2 → ⊥) → answer.new ≡ answer.old) }
 {
     let Some(material) = material_of(name) else {
         return Err(NAME);
@@ -53,7 +56,7 @@ fn open_heads(
     }
 }
 
-/// Opens the heads of the table of this name and kind that the bytes begin with. What the handle held before is let go.
+/// Opens the mapped table of this name and kind that the bytes begin with. The handle's previous table is closed.
 #[unsafe(no_mangle)]
 pub extern "C" fn szg_open_heads(
     alloc: Global,
@@ -65,6 +68,7 @@ pub extern "C" fn szg_open_heads(
 ) -> u32
     ensures says { Says name.now dtz bytes.now (λ t. IsSomeAnd heads.new.value (AreHeadsOf bytes.now t)) (λ t. ⊥) result answer.new.place answer.new.reason }
     ensures shut { (result ≡ 0 → ⊥) → heads.new.value ≡ None }
+    ensures answer_stays { (result ≡ 2 → ⊥) → answer.new ≡ answer.old }
 {
     shut(heads, alloc);
     match open_heads(alloc, name, dtz, bytes, answer) {
@@ -78,10 +82,11 @@ pub extern "C" fn szg_open_heads(
     }
 }
 
-/// A second handle on the heads of a table: both hold them, and they go when the last is closed. What the second held
-/// before is let go.
+/// Creates a second handle on a mapped table. Both handles own it, and it is freed when the last one is closed. The
+/// second handle's previous table is closed.
 ///
-/// `CLOSED` where the first holds none, `MEMORY` where a growth was refused; then the second holds none.
+/// `CLOSED` if the first handle has no table, `MEMORY` if an allocation was refused. Then the second handle has
+/// none.
 #[unsafe(no_mangle)]
 pub extern "C" fn szg_share_heads(
     alloc: Global,
@@ -97,7 +102,7 @@ pub extern "C" fn szg_share_heads(
     share(alloc, heads, second)
 }
 
-/// Lets the heads go.
+/// Closes a mapped table.
 #[unsafe(no_mangle)]
 pub extern "C" fn szg_close_heads(alloc: Global, heads: &mut HeldHeads)
     ensures { heads.new.value ≡ None }
@@ -116,7 +121,7 @@ fn has_index(heads: &Heads, part: u8, side: u8, index: u64) -> bool
     }
 }
 
-/// What is found, in C's words.
+/// Converts a byte range for C; none becomes offset 0 and count 0.
 fn bytes_of(found: Option<Wanted>) -> WantedBytes
     ensures { MatchOption found ((result.place ≡ 0) × (result.count ≡ 0)) (λ wanted. (result.place ≡ wanted.place) × (result.count ≡ wanted.count)) }
 {
@@ -129,7 +134,7 @@ fn bytes_of(found: Option<Wanted>) -> WantedBytes
     }
 }
 
-/// The bytes that a value wants, where the table has its index.
+/// Finds the byte range that a value needs, if the table has its index.
 fn find_in(heads: &Heads, part: u8, side: u8, index: u64, wanted: &mut WantedBytes) -> u32
     ensures told { (content : List ℕ) → IsKeptOf heads.now content → MatchOption (with_index (kept_at heads.now content part side) index) (result ≡ 4) (λ found. (result ≡ 0) × AreWanted (wanted_block found.1 index) content wanted.new.place wanted.new.count) }
     ensures inside { (result ≡ 0) → wanted.new.place + wanted.new.count ≤ heads.now.length }
@@ -142,10 +147,11 @@ fn find_in(heads: &Heads, part: u8, side: u8, index: u64, wanted: &mut WantedByt
     DONE
 }
 
-/// Which bytes of the file the value at an index wants. In a constant subtable it wants none: then place and count are 0.
+/// Finds the byte range of the file that the value at an index needs. In a constant subtable it needs none: then
+/// offset and count are 0.
 ///
-/// `CLOSED` where the handle holds no heads, `RANGE` where the table has no such part, side or index. Then what is wanted
-/// stays.
+/// `CLOSED` if the handle has no table, `RANGE` if the table has no such part, side or index. Then `wanted` is
+/// unchanged.
 #[unsafe(no_mangle)]
 pub extern "C" fn szg_find(
     alloc: Global,
@@ -169,7 +175,7 @@ pub extern "C" fn szg_find(
     status
 }
 
-/// The value at an index, out of the bytes that it wants.
+/// Decodes the value at an index from the bytes that it needs.
 fn value_in(heads: &Heads, part: u8, side: u8, index: u64, piece: &[u8], value: &mut u16) -> u32
     ensures statuses { (content : List ℕ) → IsKeptOf heads.now content → MatchOption (with_index (kept_at heads.now content part side) index) (result ≡ 4) (λ found. (result ≡ 0) ⊎ (result ≡ 17)) }
     ensures done { (content : List ℕ) → IsKeptOf heads.now content → IfSome (with_index (kept_at heads.now content part side) index) (λ found. IfSome (wanted_block found.1 index) (λ block. block ≡ piece.now) → (result ≡ 0) × (item (values_of heads.now.kind found) index ≡ Some value.new)) }
@@ -187,11 +193,12 @@ fn value_in(heads: &Heads, part: u8, side: u8, index: u64, piece: &[u8], value: 
     }
 }
 
-/// The value at an index, out of the bytes of the file that `szg_find` tells; of a constant subtable out of any.
+/// Decodes the value at an index from `piece`, the bytes of the file at the range that `szg_find` returns. A
+/// constant subtable ignores them.
 ///
-/// `CLOSED` where the handle holds no heads, `RANGE` where the table has no such part, side or index, `CHANGED` where the
-/// bytes can't be the file's: they aren't as many as are wanted, or their words spell too few values. Then the value
-/// stays. Other bytes than the file's may have another value.
+/// `CLOSED` if the handle has no table, `RANGE` if the table has no such part, side or index, `CHANGED` if the
+/// bytes cannot be the file's: their number is wrong, or their words spell too few values. Then `value` is
+/// unchanged. Bytes that differ from the file's may decode to another value.
 #[unsafe(no_mangle)]
 pub extern "C" fn szg_value(
     alloc: Global,

@@ -1,4 +1,4 @@
-//! What C holds behind a pointer: a share of a value, or none.
+//! What C holds by a pointer: a share of a value, or nothing.
 ghost use Rattle.std.specs.Prelude.{◌≡◌, ◌⊎◌, IfSome, MatchOption};
 ghost use Rattle.std.specs.declared.option.Option.{Option};
 ghost use Rattle.std.specs.declared.option.Option.TheVariants.{None, Some};
@@ -9,28 +9,28 @@ use crate::status::{CLOSED, DONE, MEMORY};
 use std::alloc::Global;
 use std::mem::replace;
 
-/// A struct of C with a pointer to a share of a value, or to none.
+/// A C struct with a pointer to a share of a value, or with a null pointer.
 pub trait Handle: Drop {
     /// The value.
     type Value: Drop;
 
-    /// The value, where there is a share.
+    /// the value, if there is a share
     ghost held: { Self → Option Self.Value };
 
-    /// A handle that holds none.
+    /// Creates a handle without a share.
     fn none(alloc: Global) -> Self
         ensures { held result ≡ None };
 
-    /// A handle on a share.
+    /// Creates a handle on a share.
     fn of(shared: Loose<Shared<Self::Value>, Global>) -> Self
         ensures { held result ≡ Some shared.value };
 
-    /// The share, where there is one.
+    /// Returns the share. None if there is none.
     fn into_loose(self) -> Option<Loose<Shared<Self::Value>, Global>>
         ensures { MatchOption result (held self ≡ None) (λ shared. held self ≡ Some shared.value) };
 }
 
-/// Takes the share out, where there is one.
+/// Takes the share out of a handle. None if there is none.
 pub fn take<H: Handle>(handle: &mut H, alloc: Global) -> Option<Box<Shared<H::Value>>>
     ensures taken { MatchOption result (H.held handle.old ≡ None) (λ shared. H.held handle.old ≡ Some shared.value) }
     ensures empty { H.held handle.new ≡ None }
@@ -42,21 +42,21 @@ pub fn take<H: Handle>(handle: &mut H, alloc: Global) -> Option<Box<Shared<H::Va
     }
 }
 
-/// Holds this share, and no other.
+/// Stores this share in a handle, and drops the previous one.
 pub fn put<H: Handle>(handle: &mut H, shared: Box<Shared<H::Value>>)
     ensures { H.held handle.new ≡ Some shared.value }
 {
     *handle = H::of(Loose::of(shared));
 }
 
-/// Holds none.
+/// Drops the share of a handle.
 pub fn shut<H: Handle>(handle: &mut H, alloc: Global)
     ensures { H.held handle.new ≡ None }
 {
     *handle = H::none(alloc);
 }
 
-/// Holds a share, where there is memory for it, in a handle that holds none.
+/// Stores a share in a handle that has none, if there is memory for it.
 pub fn hold<H: Handle>(alloc: Global, handle: &mut H, shared: Shared<H::Value>) -> u32
     ensures done { (result ≡ 0) → H.held handle.new ≡ Some shared }
     ensures kept { (result ≡ 0 → ⊥) → H.held handle.new ≡ H.held handle.old }
@@ -69,7 +69,7 @@ pub fn hold<H: Handle>(alloc: Global, handle: &mut H, shared: Shared<H::Value>) 
     DONE
 }
 
-/// A second share of what a handle holds, in another handle. What that held before is let go.
+/// Stores a second share of a handle's value in another handle, whose previous share is dropped.
 pub fn share<H: Handle>(alloc: Global, handle: &mut H, second: &mut H) -> u32
     ensures kept { H.held handle.new ≡ H.held handle.old }
     ensures closed { H.held handle.old ≡ None → result ≡ 5 }

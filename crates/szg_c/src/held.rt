@@ -1,4 +1,4 @@
-//! Calls on a table that C holds.
+//! Calls on a table by its handle.
 ghost use Rattle.std.specs.Prelude.{◌≡◌, ◌≢◌, ◌<◌, ◌⊎◌, length, IfSome, IsNone, IsSomeAnd, MatchResult};
 ghost use Rattle.std.specs.declared.option.Option.TheVariants.{None, Some};
 ghost use Rattle.szg_file.specs.Values.{subtable_at, values_of, item};
@@ -16,7 +16,7 @@ use szg_file::Table;
 use szg_place::PreparedTable;
 use szg_values::Kind;
 
-/// Opens the table of this name and kind that the bytes begin with. What the handle held before is let go.
+/// Opens the table of this name and kind that the bytes begin with. The handle's previous table is closed.
 #[unsafe(no_mangle)]
 pub extern "C" fn szg_open(
     alloc: Global,
@@ -28,6 +28,7 @@ pub extern "C" fn szg_open(
 ) -> u32
     ensures says { Says name.now dtz bytes.now (λ t. table.new.value ≡ Some t) (λ t. ⊥) result answer.new.place answer.new.reason }
     ensures shut { (result ≡ 0 → ⊥) → table.new.value ≡ None }
+    ensures answer_stays { (result ≡ 2 → ⊥) → answer.new ≡ answer.old }
 {
     shut(table, alloc);
     match open(alloc, name, dtz, bytes, answer) {
@@ -41,9 +42,11 @@ pub extern "C" fn szg_open(
     }
 }
 
-/// A second handle on a table: both hold it, and it goes when the last is closed. What the second held before is let go.
+/// Creates a second handle on a table. Both handles own it, and it is freed when the last one is closed. The second
+/// handle's previous table is closed.
 ///
-/// `CLOSED` where the first holds none, `MEMORY` where a growth was refused; then the second holds none.
+/// `CLOSED` if the first handle has no table, `MEMORY` if an allocation was refused. Then the second handle has
+/// none.
 #[unsafe(no_mangle)]
 pub extern "C" fn szg_share(alloc: Global, table: &mut HeldTable, second: &mut HeldTable) -> u32
     ensures kept { table.new.value ≡ table.old.value }
@@ -55,7 +58,7 @@ pub extern "C" fn szg_share(alloc: Global, table: &mut HeldTable, second: &mut H
     share(alloc, table, second)
 }
 
-/// Lets the table go.
+/// Closes a table.
 #[unsafe(no_mangle)]
 pub extern "C" fn szg_close(alloc: Global, table: &mut HeldTable)
     ensures { table.new.value ≡ None }
@@ -63,7 +66,7 @@ pub extern "C" fn szg_close(alloc: Global, table: &mut HeldTable)
     shut(table, alloc);
 }
 
-/// The value at an index, where the table has it.
+/// Finds the value at an index, if the table has it.
 fn value_in(table: &Table, part: u8, side: u8, index: u64, value: &mut u16) -> u32
     ensures done { (result ≡ 0) → IsSomeAnd (subtable_at table.now.contents part side) (λ found. item (values_of table.now.contents.kind found) index ≡ Some value.new) }
     ensures there { IfSome (subtable_at table.now.contents part side) (λ found. index < found.0.size → result ≡ 0) }
@@ -80,10 +83,10 @@ fn value_in(table: &Table, part: u8, side: u8, index: u64, value: &mut u16) -> u
     DONE
 }
 
-/// The value at an index.
+/// Finds the value at an index.
 ///
-/// `CLOSED` where the handle holds no table, `RANGE` where the table has no such part, side or index. Then the value
-/// stays.
+/// `CLOSED` if the handle has no table, `RANGE` if the table has no such part, side or index. Then `value` is
+/// unchanged.
 #[unsafe(no_mangle)]
 pub extern "C" fn szg_get(
     alloc: Global,
@@ -108,7 +111,7 @@ pub extern "C" fn szg_get(
     status
 }
 
-/// The number of positions of a part's side, where there is one.
+/// Finds the number of positions of a part's side, if there is one.
 pub fn size_in(table: &Table, part: u8, side: u8, size: &mut u64) -> u32
     ensures done { (result ≡ 0) → IsSomeAnd (subtable_at table.now.contents part side) (λ found. size.new ≡ found.0.size) }
     ensures there { IfSome (subtable_at table.now.contents part side) (λ found. result ≡ 0) }
@@ -123,9 +126,9 @@ pub fn size_in(table: &Table, part: u8, side: u8, size: &mut u64) -> u32
     DONE
 }
 
-/// The number of positions of a part's side.
+/// Finds the number of positions of a part's side.
 ///
-/// `CLOSED` where the handle holds no table, `RANGE` where the table has no such part or side. Then the size stays.
+/// `CLOSED` if the handle has no table, `RANGE` if the table has no such part or side. Then `size` is unchanged.
 #[unsafe(no_mangle)]
 pub extern "C" fn szg_positions(
     alloc: Global,
@@ -149,7 +152,7 @@ pub extern "C" fn szg_positions(
     status
 }
 
-/// All values of a part's side, where the list has room for just them.
+/// Decodes all values of a part's side, if the length of `values` is their number.
 pub fn values_in(alloc: Global, table: &Table, part: u8, side: u8, values: &mut [u16]) -> u32
     ensures done { (result ≡ 0) → IsSomeAnd (subtable_at table.now.contents part side) (λ found. values.new ≡ values_of table.now.contents.kind found) }
     ensures there { IfSome (subtable_at table.now.contents part side) (λ found. length values.old ≡ found.0.size → (result ≡ 0) ⊎ (result ≡ 3)) }
@@ -157,7 +160,8 @@ pub fn values_in(alloc: Global, table: &Table, part: u8, side: u8, values: &mut 
     ensures other_length { IfSome (subtable_at table.now.contents part side) (λ found. length values.old ≢ found.0.size → result ≡ 4) }
     ensures stays { (result ≡ 0 → ⊥) → values.new ≡ values.old }
 {
-    // Its fill tells that this is a table, so that it has as many values as positions.
+    // For proofs: its padding shows that this is an accepted table, so the number of values is the number of
+    // positions.
     let _fill = table.fill();
     let Some(size) = table.size(part, side) else {
         return RANGE;
@@ -172,10 +176,10 @@ pub fn values_in(alloc: Global, table: &Table, part: u8, side: u8, values: &mut 
     DONE
 }
 
-/// All values of a part's side, into a list that has room for just them.
+/// Decodes all values of a part's side into a list of that length.
 ///
-/// `CLOSED` where the handle holds no table, `RANGE` where the table has no such part or side or the list another length,
-/// `MEMORY` where a growth was refused. Then the list stays.
+/// `CLOSED` if the handle has no table, `RANGE` if the table has no such part or side or the list has another
+/// length, `MEMORY` if an allocation was refused. Then `values` is unchanged.
 #[unsafe(no_mangle)]
 pub extern "C" fn szg_all(
     alloc: Global,
@@ -200,7 +204,7 @@ pub extern "C" fn szg_all(
     status
 }
 
-/// The number of a DTZ value in a class, else a status.
+/// Returns the distance of a DTZ value in a class. Errors: a status.
 fn number_in(table: &Table, part: u8, class: i8, value: u16) -> Result<u32, u32>
     ensures { result ≡ number_told table.now.contents part class value }
 {
@@ -210,10 +214,11 @@ fn number_in(table: &Table, part: u8, class: i8, value: u16) -> Result<u32, u32>
     number_or_status(table.map_value(part, class, value))
 }
 
-/// The number of a DTZ value in a class (2 win, 1 cursed win, -1 blessed loss, -2 loss).
+/// Finds the distance in plies of a DTZ value in a class (2 win, 1 cursed win, -1 blessed loss, -2 loss).
 ///
-/// Refused is by `RANGE` a WDL table, a class below -2 or above 2, or a part that isn't there; then by `DRAW` class 0, and
-/// by `OUTSIDE_MAP` a value that the table's map hasn't. Then the number stays.
+/// `CLOSED` if the handle has no table; `RANGE` for a WDL table, a class below -2 or above 2, or a part that does
+/// not exist; else `DRAW` for class 0; else `OUTSIDE_MAP` for a value that is not in the table's map. Then `number`
+/// is unchanged.
 #[unsafe(no_mangle)]
 pub extern "C" fn szg_number(
     alloc: Global,

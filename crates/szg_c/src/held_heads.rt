@@ -1,4 +1,4 @@
-//! The heads of a table behind a pointer.
+//! The handle of a mapped table.
 ghost use Rattle.std.specs.Prelude.{◌≡◌};
 ghost use Rattle.std.specs.Option.{MatchOption};
 ghost use Rattle.std.specs.declared.option.Option.{Option};
@@ -18,7 +18,7 @@ use std::marker::Model;
 use std::ptr::null_mut;
 use szg_file::Heads;
 
-/// The heads of a table that C holds, or none.
+/// A handle on a mapped table, or on none.
 #[repr(C)]
 pub struct HeldHeads {
     at: *mut u8,
@@ -69,7 +69,7 @@ impl Handle for HeldHeads {
     }
 }
 
-// It may go from thread to thread: heads have nothing that is bound to one.
+// It may be sent to another thread: nothing in a mapped table belongs to one thread.
 unsafe impl Send for HeldHeads {}
 
 impl Drop for HeldHeads {

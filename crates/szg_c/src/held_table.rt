@@ -1,4 +1,4 @@
-//! A table behind a pointer.
+//! The handle of a table.
 ghost use Rattle.std.specs.Prelude.{◌≡◌};
 ghost use Rattle.std.specs.Option.{MatchOption};
 ghost use Rattle.std.specs.declared.option.Option.{Option};
@@ -18,7 +18,7 @@ use std::marker::Model;
 use std::ptr::null_mut;
 use szg_place::PreparedTable;
 
-/// A table that C holds, or none.
+/// A handle on a table, or on none.
 #[repr(C)]
 pub struct HeldTable {
     at: *mut u8,
@@ -69,7 +69,7 @@ impl Handle for HeldTable {
     }
 }
 
-// It may go from thread to thread: a table has nothing that is bound to one.
+// It may be sent to another thread: nothing in a table belongs to one thread.
 unsafe impl Send for HeldTable {}
 
 impl Drop for HeldTable {

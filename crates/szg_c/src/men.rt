@@ -1,4 +1,4 @@
-//! Placements, as C hands them in.
+//! Placements as C passes them.
 ghost use Rattle.std.specs.Prelude.{◌≡◌, ◌<◌, ◌≤◌, ◌&&◌, IsTrue, IsFalse, IfSome, IsNone, length, map, nat_lt};
 ghost use Rattle.std.specs.declared.option.Option.TheVariants.{None, Some};
 ghost use Rattle.std.specs.List.{list_all};
@@ -8,7 +8,7 @@ use crate::status::{MAN, MEN, PAWN_RANK, SAME_SQUARE};
 use arrayvec::ArrayVec;
 use szg_values::{Color, MAX_MEN, Man, Placement, PlacementFault, Square};
 
-/// A man on a square, by three numbers.
+/// A man on a square, as three numbers.
 #[repr(C)]
 #[derive(Clone, Copy)]
 pub struct CodedMan {
@@ -20,8 +20,8 @@ pub struct CodedMan {
     pub square: u8,
 }
 
-/// The placement of these men with this mover (White 0, Black 1); else the status that tells why there is none, the
-/// first that stands: `MAN` for a number that tells nothing, `MEN`, `SAME_SQUARE`, `PAWN_RANK`.
+/// Returns the placement of these men with this side to move (White 0, Black 1). Errors: the first status that
+/// applies, of `MAN` for an invalid number, `MEN`, `SAME_SQUARE` and `PAWN_RANK`.
 #[tactic(auto, unfolding(crate::specs::Men::board_of))]
 pub fn placement_of(men: &[CodedMan], mover: u8) -> Result<Placement, u32>
     ensures { result ≡ board_of men.now mover }
@@ -41,7 +41,7 @@ pub fn placement_of(men: &[CodedMan], mover: u8) -> Result<Placement, u32>
     }
 }
 
-/// Whether each man's numbers tell a kind, a colour and a square.
+/// Whether each man's numbers encode a kind, a colour and a square.
 fn are_told(men: &[CodedMan]) -> bool
     ensures { result ≡ list_all is_told men.now }
 {
@@ -54,7 +54,7 @@ fn is_told(man: &CodedMan) -> bool
     0 < man.kind && man.kind < 7 && man.color < 2 && man.square < 64
 }
 
-/// The men that numbers tell, where each man's do.
+/// Decodes the men. None if a man's numbers are invalid.
 fn placed_men(men: &[CodedMan]) -> Option<ArrayVec<(Man, Color, Square), MAX_MEN>>
     requires { length men.now ≤ 6 }
     ensures told { IfSome result (λ placed_men. IsTrue (list_all is_told men.now) × (placed_men.items ≡ map standing_of men.now)) }
@@ -104,7 +104,7 @@ fn color_of(color: u8) -> Color
     }
 }
 
-/// The status of a fault of men.
+/// Returns the status for a fault of men.
 fn placement_status(fault: PlacementFault) -> u32
     ensures { result ≡ placement_status fault }
 {

@@ -1,4 +1,4 @@
-//! From a name and bytes to a table.
+//! Opening a table by its name and bytes.
 ghost use Rattle.std.specs.Prelude.{◌≡◌, Ok, MatchOption, IfOk, IfErr};
 ghost use Rattle.szg_values.specs.Material.{parsed};
 ghost use Rattle.szg_c.specs.Told.{kind_told, IsNoName, IsTable, Stops};
@@ -8,24 +8,24 @@ use std::alloc::Global;
 use szg_file::{ReadFault, Table, read_bytes};
 use szg_values::{Kind, Material};
 
-/// More than a status.
+/// What a call returns with its status.
 #[repr(C)]
 #[derive(Drop)]
 pub struct Answer {
-    /// The number of bytes of the table's file where a check accepts it; the place that is told where it is refused.
+    /// The number of bytes of the table's file if a check accepts it; the offset of the refusal if it is refused.
     pub place: u64,
-    /// The number of the reason where the file is refused.
+    /// The number of the reason if the file is refused.
     pub reason: u32,
 }
 
-/// The kind that a flag tells.
+/// Returns the kind for a flag.
 pub fn kind_of(dtz: bool) -> Kind
     ensures { result ≡ kind_told dtz }
 {
     if dtz { Kind::Dtz } else { Kind::Wdl }
 }
 
-/// The material of a name.
+/// Returns the material of a name. None if the bytes are not such a name.
 pub fn material_of(name: &[u8]) -> Option<Material>
     ensures { MatchOption result (IsNoName name.now) (λ material. parsed name.now ≡ Ok material) }
 {
@@ -35,7 +35,7 @@ pub fn material_of(name: &[u8]) -> Option<Material>
     Material::parse(text).ok()
 }
 
-/// The table of this name and kind that the bytes begin with; else the status that tells why there is none.
+/// Opens the table of this name and kind that the bytes begin with. Errors: the status that says why there is none.
 pub fn open(
     alloc: Global,
     name: &[u8],
@@ -45,6 +45,8 @@ pub fn open(
 ) -> Result<Table, u32>
     ensures table { IfOk result (λ t. IsTable name.now dtz bytes.now t) }
     ensures stops { IfErr result (λ status. Stops name.now dtz bytes.now status answer.new.place answer.new.reason) }
+    ensures kept { IfOk result (λ t. answer.new ≡ answer.old) }
+    ensures stays { IfErr result (λ status. (status ≡ 2 → ⊥) → answer.new ≡ answer.old) }
 {
     let Some(material) = material_of(name) else {
         return Err(NAME);

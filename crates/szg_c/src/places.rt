@@ -1,4 +1,4 @@
-//! Calls on the placements of a table that C holds.
+//! Calls on a handle by placement.
 ghost use Rattle.std.specs.Prelude.{◌≡◌, ℤ, pos, Result, Ok, Err, IfSome, MatchResult};
 ghost use Rattle.std.specs.declared.option.Option.TheVariants.{None, Some};
 ghost use Rattle.szg_c.specs.Men.{board_of};
@@ -17,7 +17,7 @@ use szg_file::MapFault;
 use szg_place::{PlaceFault, PreparedTable, ProbeFault, Spot};
 use szg_values::{Kind, Placement};
 
-/// Where a table tells of a placement.
+/// The location of a placement in a table.
 #[repr(C)]
 #[derive(Drop)]
 pub struct FoundSpot {
@@ -29,10 +29,11 @@ pub struct FoundSpot {
     pub index: u64,
 }
 
-/// Where the table tells of these men with this mover.
+/// Finds the location of these men, with this side to move, in the table.
 ///
-/// Refused are, the first that stands: what is no placement (`MAN`, `MEN`, `SAME_SQUARE`, `PAWN_RANK`), and a placement
-/// for which the table has no index (`OTHER_MATERIAL`, `IRREGULAR`, `KINGS_TOUCH`, `WRONG_SIDE`). Then the spot stays.
+/// `CLOSED` if the handle has no table; else the first that applies: no placement (`MAN`, `MEN`, `SAME_SQUARE`,
+/// `PAWN_RANK`), or a placement that has no index in the table (`OTHER_MATERIAL`, `IRREGULAR`, `KINGS_TOUCH`,
+/// `WRONG_SIDE`). Then `spot` is unchanged.
 #[unsafe(no_mangle)]
 pub extern "C" fn szg_index(
     alloc: Global,
@@ -61,7 +62,7 @@ pub extern "C" fn szg_index(
     }
 }
 
-/// Where a table tells of men, else a status.
+/// Returns the location of men in a table. Errors: a status.
 fn spot_in(table: &PreparedTable, men: &[CodedMan], mover: u8) -> Result<Spot, u32>
     ensures { result ≡ spot_told table.now.contents (board_of men.now mover) }
 {
@@ -77,7 +78,7 @@ fn spot_of(table: &PreparedTable, placement: &Placement) -> Result<Spot, u32>
     spot_or_status(table.index_of(placement))
 }
 
-fn spot_or_status(told: Result<Spot, PlaceFault>) -> Result<Spot, u32>
+pub fn spot_or_status(told: Result<Spot, PlaceFault>) -> Result<Spot, u32>
     ensures { result ≡ spot_or_status told }
 {
     match told {
@@ -86,13 +87,13 @@ fn spot_or_status(told: Result<Spot, PlaceFault>) -> Result<Spot, u32>
     }
 }
 
-/// What the table tells of these men with this mover: a WDL table the class (2, 1, 0, -1, -2), a DTZ table the number
-/// in a class (2 win, 1 cursed win, -1 blessed loss, -2 loss), of which a WDL table isn't asked.
+/// Probes the table for these men with this side to move: a WDL table has the class (2, 1, 0, -1, -2), a DTZ table
+/// the distance in a class (2 win, 1 cursed win, -1 blessed loss, -2 loss). A WDL table ignores `class`.
 ///
-/// Refused are, the first that stands: what is no placement, as `szg_index` refuses it; in a DTZ table a class below -2
-/// or above 2 (`RANGE`); a placement for which the table has no index, as `szg_index` refuses it; in a WDL table a value
-/// that is no class (`NO_CLASS`), in a DTZ table class 0 (`DRAW`) and a value that the map hasn't (`OUTSIDE_MAP`). Then
-/// the outcome stays.
+/// `CLOSED` if the handle has no table; else the first that applies: no placement, as in `szg_index`; in a DTZ
+/// table a class below -2 or above 2 (`RANGE`); a placement that has no index in the table, as in `szg_index`; in a
+/// WDL table a value that is not a class (`NO_CLASS`), in a DTZ table class 0 (`DRAW`) or a value that is not in
+/// the map (`OUTSIDE_MAP`). Then `outcome` is unchanged.
 #[unsafe(no_mangle)]
 pub extern "C" fn szg_probe(
     alloc: Global,
@@ -120,7 +121,7 @@ pub extern "C" fn szg_probe(
     }
 }
 
-/// What a table tells of men, else a status.
+/// Returns the class or the distance of men in a table. Errors: a status.
 fn outcome_in(table: &PreparedTable, men: &[CodedMan], mover: u8, class: i8) -> Result<i64, u32>
     ensures { result ≡ outcome_told table.now.contents class (board_of men.now mover) }
 {
@@ -139,7 +140,7 @@ fn outcome_of(table: &PreparedTable, placement: &Placement, class: i8) -> Result
     }
 }
 
-/// The class that a WDL table tells of a placement.
+/// Returns the class of a placement in a WDL table.
 fn class_of(table: &PreparedTable, placement: &Placement) -> Result<i64, u32>
     requires { table.now.contents.kind ≡ Kind.Wdl }
     ensures { result ≡ outcome_of Kind.Wdl table.now.contents (pos 0) placement.now }
@@ -157,7 +158,7 @@ fn class_or_status(told: Result<Option<i8>, PlaceFault>) -> Result<i64, u32>
     }
 }
 
-/// The number that a DTZ table tells of a placement in a class.
+/// Returns the distance of a placement in a class, in a DTZ table.
 fn distance_of(table: &PreparedTable, placement: &Placement, class: i8) -> Result<i64, u32>
     requires { table.now.contents.kind ≡ Kind.Dtz }
     ensures { result ≡ outcome_of Kind.Dtz table.now.contents class placement.now }
@@ -178,14 +179,14 @@ fn distance_or_status(told: Result<u32, ProbeFault>) -> Result<i64, u32>
     }
 }
 
-/// Whether this is a class, -2 to 2.
+/// Whether a number is a class, from -2 to 2.
 pub fn is_class(class: i8) -> bool
     ensures { result ≡ is_class class }
 {
     !(class < -2 || 2 < class)
 }
 
-/// A number of a DTZ value, else the status that refuses it.
+/// Returns the distance of a DTZ value. Errors: the status for its fault.
 pub fn number_or_status(told: Result<u32, MapFault>) -> Result<u32, u32>
     ensures { result ≡ number_or_status told }
 {
@@ -195,7 +196,7 @@ pub fn number_or_status(told: Result<u32, MapFault>) -> Result<u32, u32>
     }
 }
 
-fn place_status(fault: PlaceFault) -> u32
+pub fn place_status(fault: PlaceFault) -> u32
     ensures { result ≡ place_told fault }
 {
     match fault {
@@ -206,7 +207,7 @@ fn place_status(fault: PlaceFault) -> u32
     }
 }
 
-fn map_status(fault: MapFault) -> u32
+pub fn map_status(fault: MapFault) -> u32
     ensures { result ≡ map_told fault }
 {
     match fault {

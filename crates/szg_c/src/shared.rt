@@ -1,11 +1,11 @@
-//! What several handles hold.
+//! Values that several handles own.
 ghost use Rattle.std.specs.Prelude.{◌≡◌, IfOk};
 
 use std::alloc::{AllocError, Global};
 use std::marker::Model;
 use std::sync::Arc;
 
-/// One of the owners of a value in memory.
+/// One of the owners of a value.
 #[derive(Drop)]
 pub struct Shared<T: Drop> {
     value: Arc<T, Global>,
@@ -20,7 +20,7 @@ impl<T: Drop> Model for Shared<T> {
 }
 
 impl<T: Drop> Shared<T> {
-    /// The first owner of a value.
+    /// Creates the first owner of a value.
     pub fn new(alloc: Global, value: T) -> Result<Shared<T>, AllocError>
         ensures { IfOk result (λ shared. shared ≡ value) }
     {
@@ -30,14 +30,14 @@ impl<T: Drop> Shared<T> {
         }
     }
 
-    /// The value.
+    /// Returns the value.
     pub fn value(&self) -> &T
         ensures { result.now ≡ self.now }
     {
         &self.value
     }
 
-    /// One more owner.
+    /// Creates another owner.
     pub fn again(&self) -> Result<Shared<T>, AllocError>
         ensures { IfOk result (λ shared. shared ≡ self.now) }
     {

@@ -6,23 +6,24 @@ use szg_file::Reason;
 
 /// The call was carried out.
 pub const DONE: u32 = 0;
-/// The name is no material's.
+/// The name is not a material's.
 pub const NAME: u32 = 1;
-/// The bytes are no table's.
+/// The bytes are refused.
 pub const REFUSED: u32 = 2;
-/// A growth was refused.
+/// An allocation was refused.
 pub const MEMORY: u32 = 3;
-/// The table has no such part, side, index or class, or the list hasn't its length, or a number is asked of a WDL table.
+/// The table has no such part, side, index or class, the list has another length, or a distance is requested of a
+/// WDL table.
 pub const RANGE: u32 = 4;
-/// The handle holds no table.
+/// The handle has no table.
 pub const CLOSED: u32 = 5;
-/// A number tells no kind of man, colour or square.
+/// A number encodes no kind of man, no colour or no square.
 pub const MAN: u32 = 6;
-/// Not three to six men, or a colour hasn't exactly one king.
+/// There are not three to six men, or a colour does not have exactly one king.
 pub const MEN: u32 = 7;
-/// Two men stand on one square.
+/// Two men are on one square.
 pub const SAME_SQUARE: u32 = 8;
-/// A pawn stands on rank 1 or 8.
+/// A pawn is on rank 1 or 8.
 pub const PAWN_RANK: u32 = 9;
 /// The men are not the table's.
 pub const OTHER_MATERIAL: u32 = 10;
@@ -30,18 +31,20 @@ pub const OTHER_MATERIAL: u32 = 10;
 pub const IRREGULAR: u32 = 11;
 /// The two kings lead, and they touch.
 pub const KINGS_TOUCH: u32 = 12;
-/// A DTZ table tells of the other side to move.
+/// A DTZ table has only the other side to move.
 pub const WRONG_SIDE: u32 = 13;
-/// The value at the index of a WDL table is no class.
+/// The value at the index of a WDL table is not a class.
 pub const NO_CLASS: u32 = 14;
-/// A draw has no number.
+/// A draw has no distance.
 pub const DRAW: u32 = 15;
 /// The table's map has no such item.
 pub const OUTSIDE_MAP: u32 = 16;
-/// The bytes that are handed in can't be those of the file that are wanted.
+/// The bytes passed in cannot be those of the file at the range that the value needs.
 pub const CHANGED: u32 = 17;
+/// The block that has the value doesn't decode.
+pub const BAD_BLOCK: u32 = 18;
 
-/// A reason's number.
+/// Returns the number of a reason.
 pub fn number_of(reason: Reason) -> u32
     ensures { result ≡ reason_number reason }
 {

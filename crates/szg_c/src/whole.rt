@@ -1,5 +1,5 @@
 //! Calls on a whole file in memory.
-ghost use Rattle.std.specs.Prelude.{◌≡◌, ◌≢◌, min, drop, length, IsTrue, IsFalse, IfSome, IsSomeAnd, IsNone};
+ghost use Rattle.std.specs.Prelude.{◌≡◌, ◌≢◌, ◌<◌, ◌≤◌, ℕ, slice_index, min, drop, length, IsTrue, IsFalse, IfSome, IsSomeAnd, IsNone};
 ghost use Rattle.szg_file.specs.Held.{file_bytes};
 ghost use Rattle.szg_file.specs.Values.{subtable_at, values_of};
 ghost use Rattle.szg_c.specs.Told.{Says};
@@ -11,7 +11,7 @@ use crate::status::{DONE, RANGE};
 use std::alloc::Global;
 use szg_file::{Table, file_len};
 
-/// Whether the bytes begin with a table's file, and how long that is.
+/// Checks whether the bytes begin with a table's file, and finds the length of that file.
 #[unsafe(no_mangle)]
 pub extern "C" fn szg_check(
     alloc: Global,
@@ -31,7 +31,7 @@ pub extern "C" fn szg_check(
     }
 }
 
-/// How many positions a part's side has. With another status than `DONE` the size stays.
+/// Finds the number of positions of a part's side. With another status than `DONE`, `size` is unchanged.
 #[unsafe(no_mangle)]
 pub extern "C" fn szg_size(
     alloc: Global,
@@ -45,6 +45,7 @@ pub extern "C" fn szg_size(
 ) -> u32
     ensures says { Says name.now dtz bytes.now (λ t. IsSomeAnd (subtable_at t.contents part side) (λ found. size.new ≡ found.0.size)) (λ t. IsNone (subtable_at t.contents part side)) result answer.new.place answer.new.reason }
     ensures stays { (result ≡ 0 → ⊥) → size.new ≡ size.old }
+    ensures answer_stays { (result ≡ 2 → ⊥) → answer.new ≡ answer.old }
 {
     match open(alloc, name, dtz, bytes, answer) {
         Ok(table) => size_in(&table, part, side, size),
@@ -52,7 +53,8 @@ pub extern "C" fn szg_size(
     }
 }
 
-/// All values of a part's side, into a list that has room for just them. With another status than `DONE` the list stays.
+/// Decodes all values of a part's side into a list of that length. With another status than `DONE`, `values` is
+/// unchanged.
 #[unsafe(no_mangle)]
 pub extern "C" fn szg_values(
     alloc: Global,
@@ -66,6 +68,7 @@ pub extern "C" fn szg_values(
 ) -> u32
     ensures says { Says name.now dtz bytes.now (λ t. IsSomeAnd (subtable_at t.contents part side) (λ found. values.new ≡ values_of t.contents.kind found)) (λ t. IfSome (subtable_at t.contents part side) (λ found. length values.old ≢ found.0.size)) result answer.new.place answer.new.reason }
     ensures stays { (result ≡ 0 → ⊥) → values.new ≡ values.old }
+    ensures answer_stays { (result ≡ 2 → ⊥) → answer.new ≡ answer.old }
 {
     match open(alloc, name, dtz, bytes, answer) {
         Ok(table) => values_in(alloc, &table, part, side, values),
@@ -73,8 +76,8 @@ pub extern "C" fn szg_values(
     }
 }
 
-/// The values at many indexes of a part's side, in their order, as many as the shorter of the two lists has. The
-/// rest of the list of values stays. Before an index that isn't there (`RANGE`), values may have been written.
+/// Writes the values at many indexes of a part's side, in their order: the number of values is the length of the
+/// shorter list. The rest of the list of values stays. With another status than `DONE` all of it stays.
 #[unsafe(no_mangle)]
 pub extern "C" fn szg_values_at(
     alloc: Global,
@@ -89,6 +92,8 @@ pub extern "C" fn szg_values_at(
 ) -> u32
     ensures says { Says name.now dtz bytes.now (λ t. IsSomeAnd (subtable_at t.contents part side) (λ found. AreValuesAt (values_of t.contents.kind found) indexes.now values.new (min (length indexes.now) (length values.new)))) (λ t. IfSome (subtable_at t.contents part side) (λ found. HasIndexFrom found.0.size indexes.now (min (length indexes.now) (length values.old)))) result answer.new.place answer.new.reason }
     ensures rest { drop (min (length indexes.now) (length values.old)) values.new ≡ drop (min (length indexes.now) (length values.old)) values.old }
+    ensures stays { (result ≡ 0 → ⊥) → values.new ≡ values.old }
+    ensures answer_stays { (result ≡ 2 → ⊥) → answer.new ≡ answer.old }
 {
     match open(alloc, name, dtz, bytes, answer) {
         Ok(table) => {
@@ -102,22 +107,36 @@ pub extern "C" fn szg_values_at(
     }
 }
 
-/// The values at many indexes of a part's side, where the table has all of them.
+/// Finds the values at many indexes of a part's side, if the table has all of them.
 fn values_at(table: &Table, part: u8, side: u8, indexes: &[u64], values: &mut [u16]) -> bool
     ensures done { IsTrue result → IsSomeAnd (subtable_at table.now.contents part side) (λ found. AreValuesAt (values_of table.now.contents.kind found) indexes.now values.new (min (length indexes.now) (length values.new))) }
     ensures outside { IsFalse result → IfSome (subtable_at table.now.contents part side) (λ found. HasIndexFrom found.0.size indexes.now (min (length indexes.now) (length values.old))) }
     ensures rest { drop (min (length indexes.now) (length values.old)) values.new ≡ drop (min (length indexes.now) (length values.old)) values.old }
+    ensures stays { IsFalse result → values.new ≡ values.old }
 {
     let Some(size) = table.size(part, side) else {
         return false;
     };
     let count = indexes.len().min(values.len());
+    if !are_below(indexes, count, size) {
+        return false;
+    }
     for i in 0..count {
-        let index = indexes[i];
-        if index >= size {
+        values[i] = table.get(part, side, indexes[i]);
+    }
+    true
+}
+
+/// Whether the first `count` indexes are below the size.
+fn are_below(indexes: &[u64], count: usize, size: u64) -> bool
+    requires { count ≤ length indexes.now }
+    ensures below { IsTrue result → (k : ℕ) → k < count → slice_index indexes.now k < size }
+    ensures outside { IsFalse result → HasIndexFrom size indexes.now count }
+{
+    for i in 0..count {
+        if indexes[i] >= size {
             return false;
         }
-        values[i] = table.get(part, side, index);
     }
     true
 }

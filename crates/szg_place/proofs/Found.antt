@@ -55,7 +55,7 @@ two_sides m number (q ∷ parts) (y ∷ z ∷ ys) (suc i) part side e h p s =
     let f : nat_eq number part ≡ false = ne_eqb number part (λ k. omega (arith, k, p)) in
     rw f (two_sides m (number + 1) parts ys i part side (let k : suc (suc (length ys)) ≡ suc (suc (length (slots_from m (0 ∷ 1 ∷ []) (number + 1) parts))) = e in omega (arith, k)) (omega arith) (omega arith) s)
 
--- what of a table tells how its slots stand: parts that pass their checks, and as many subtables as slots
+-- what a table has to fulfil so that its slots can be found: parts that pass their checks, and one subtable a slot
 pub record HasSlots (t : Contents) : Type 0 where
   pub parts : SideBySide (λ _. IsPart t.material t.kind) (part_numbers t.material) t.parts
   pub many : length t.subtables ≡ length (slots t.material t.kind t.parts)
@@ -137,7 +137,7 @@ there_below t part side a e =
 
 -- ---- the same of an index
 
--- an index has as many subtables as slots
+-- an index has one subtable a slot
 fake : Index → Contents
 fake x = contents_with x 0 (map (λ _. constant 0 0) (slots_in x)) []
 

@@ -174,7 +174,7 @@ later_of sides n pieces i first m o p h f =
       room = squares_room sets i there;
     }
 
--- before the first later group stands the lead group
+-- the lead group comes before the first later group
 pub lead_squares-first : (sides : Sides) (men : List ℕ) (pieces : List Piece) → concat (take 1 (squares_by_group sides (groups_of sides men) pieces)) ≡ lead_squares sides (take (lead_length sides) men) pieces
 unfolding groups_of squares_by_group
 lead_squares-first sides men pieces = nothing (lead_squares sides (take (lead_length sides) men) pieces) where

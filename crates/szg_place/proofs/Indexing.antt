@@ -124,7 +124,7 @@ sets_long sides part before (group ∷ groups) (set ∷ sets) (suc i) h =
     let a = sets_long sides part (before ++ set ∷ []) groups sets i h.2 in
     let b = length-append set (concat (take i sets)) in let c = length-append group (concat (take i groups)) in let e = h.1 in omega (arith, a, b, c, e)
 
--- ---- the groups that are told
+-- ---- the groups of an index
 
 pub group_is : (c : Counted) (i : ℕ) (group : Group) → i < length c.groups → slice_get (groups_in_slot_order c) i ≡ Some group → group ≡ group_at c i
 unfolding groups_in_slot_order

@@ -1,4 +1,4 @@
--- Keys tell how many men of each kind and colour there are, and so whether men are a material's.
+-- Keys hold the number of men of each kind and colour, and so decide whether men are a material's.
 use Rattle.std.proofs.Common.{◌≡◌, ℕ, zero, suc, ◌+◌, ◌*◌, ◌/◌, ◌%◌, ◌^◌, ◌<◌, ◌≤◌, inl, inr, List, [], ◌∷◌, length, map, refl, sym, ap, ◌∙◌, subst, Bool, true, false, cond, pow-suc, arith}
 use Rattle.std.specs.Prelude.{◌==◌, nat_lt, count_by, None, IsNone, slice_index}
 use Rattle.std.specs.List.{list_all, sum_by, range_with_len}
@@ -75,7 +75,7 @@ mark-at (suc k) x a (suc n) e h =
     let d : ◌≡◌ {A = ℕ} (mark x a) 0 = ap (λ (b : Bool). cond b 1 0) (ne_eqb x a (λ f. absurd (omega (arith, e, f)))) in
     let m = mark-at k x (a + 1) n (omega (arith, e)) (omega (arith, h)) in let p = power-more k in omega (arith, d, m, p)
 
--- digits below 8 are told by their number
+-- digits below 8 are determined by their number
 digits-told : (f g : ℕ → ℕ) (a n k : ℕ) → ((c : ℕ) → f c < 8) → ((c : ℕ) → g c < 8) → digits f a n ≡ digits g a n → k < n → f (a + k) ≡ g (a + k)
 unfolding digits
 digits-told f g a zero k p q e h = absurd (omega (arith, h))
@@ -101,7 +101,7 @@ key-digits f (x ∷ xs) h =
     counted : (c : ℕ) → count_by (λ y. f y == c) (x ∷ xs) ≡ mark (f x) c + count_by (λ y. f y == c) xs
     counted c = count-cons (λ y. f y == c) x xs
 
--- what one key tells of lists with at most six men
+-- what equal keys say of lists with at most six men
 same_counts : {A B : Type 0} (f : A → ℕ) (g : B → ℕ) (xs : List A) (ys : List B) → ((x : A) → IsIn x xs → f x < 16) → ((y : B) → IsIn y ys → g y < 16) → length xs ≤ 6 → length ys ≤ 6 →
     sum_by (λ x. 8 ^ f x) xs ≡ sum_by (λ y. 8 ^ g y) ys → (c : ℕ) → c < 16 → count_by (λ x. f x == c) xs ≡ count_by (λ y. g y == c) ys
 same_counts f g xs ys p q a b e c h =
@@ -228,7 +228,7 @@ kind_second ex placed_men kind =
     (λ s i. black_code kind s.0 (exchanged_color ex s.1) ∙ ap (λ b. is_man kind s.0 && b) (black_exchanged ex s.1))
     ∙ sym (kind_count kind (exchanged_color ex Black) placed_men)
 
--- the key of a material's men tells the sides
+-- the key of a material's men determines the sides
 pub named_by_key : (sides : Sides) (ex : Bool) (placed_men : List PlacedMan) → IsMaterial sides → placement_fault placed_men ≡ None → length placed_men ≤ 6 →
     men_key ex placed_men ≡ key_of (man_codes sides) → IsNamed sides ex placed_men
 named_by_key sides ex placed_men h fine few e =

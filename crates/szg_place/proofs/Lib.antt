@@ -33,7 +33,9 @@ pub mod Grouped
 pub mod Indexed
 pub mod Probed
 pub mod OpenedProbes
+pub mod FrontProbes
 pub mod Placed
+pub mod IndexAgain
 pub mod Keys
 pub mod Binomials
 pub mod Turns

@@ -74,7 +74,7 @@ lefts_low s h = (ltb-true (file_of s) 4 (all-IsIn (λ x. nat_lt (file_of x) 4) l
 first_of_order : (f : ℕ → Bool) (q : ℕ) (rest : List ℕ) → filter f pawn_order ≡ q ∷ rest → (file_of q < 4) ⊎ IsLeft f pawn_order q
 first_of_order f q rest e = subst (λ (l : List ℕ). filter f l ≡ q ∷ rest → (file_of q < 4) ⊎ IsLeft f l q) (sym pawn_order-pairs) (first_pair f lefts lefts_low q rest) e
 
--- squares of a file, then those behind it
+-- squares of a file, then those after it
 in_file : (q : ℕ) → IsIn q pawn_order → IsIn q (map (square_at (file_of q)) (range_with_len 1 6))
 unfolding pawn_order
 in_file q h = contains-IsIn q (map (square_at (file_of q)) (range_with_len 1 6)) (all-IsIn (λ x. contains (map (square_at (file_of x)) (range_with_len 1 6)) x) pawn_order q refl h)
@@ -143,7 +143,7 @@ lead_code-pawn sides = either (first_leads sides) where
   either true = refl
   either false = refl
 
--- lead pawns are as many as they are on whatever squares
+-- the number of lead pawns does not depend on their squares
 pub lead_count : (sides : Sides) (men lead : List ℕ) (pieces : List Piece) → has_pawns sides ≡ true → IsStood sides men pieces →
     ((x : ℕ) → IsIn x lead ↔ (x ≡ lead_pawn_code sides)) → length (squares_with lead pieces pawn_order) ≡ count_of (lead_pawn_code sides) men
 lead_count sides men lead pieces e stood only =

@@ -16,7 +16,7 @@ use Rattle.szg_place.proofs.Ranking.{AllDiffer-squares_down}
 use Rattle.szg_place.proofs.Ways.{IsIn-squares_down}
 use Rattle.szg_place.proofs.Lists.{IsIn-map, IsIn-map_back, IsIn-filter_back, filter-same, filter-none, filter-one}
 
--- some man of these codes stands on the square
+-- some man of these codes is on the square
 abbrev pub stands : List ℕ → List Piece → ℕ → Bool
 stands codes pieces square = list_any (λ p. p.square == square && contains codes p.code) pieces
 
@@ -86,14 +86,14 @@ squares_count codes (p ∷ pieces) order d e h =
 
 -- ---- men on the board
 
--- as many men of each code as these, on different squares of the board, pawns on ranks 2 to 7
+-- the material's number of men of each code, on different squares of the board, pawns on ranks 2 to 7
 pub record IsStood (sides : Sides) (men : List ℕ) (pieces : List Piece) : Type 0 where
   pub differ : AllDiffer (map (λ p. p.square) pieces)
   pub inside : (p : Piece) → IsIn p pieces → p.square < 64
   pub counts : (code : ℕ) → count_by (λ (p : Piece). p.code == code) pieces ≡ count_of code men
   pub pawns : has_pawns sides ≡ true → (p : Piece) → IsIn p pieces → is_pawn_code p.code ≡ true → IsIn p.square pawn_squares
 
--- one man stands on a square
+-- at most one man is on a square
 pub same_piece : (pieces : List Piece) (p q : Piece) → AllDiffer (map (λ p. p.square) pieces) → IsIn p pieces → IsIn q pieces → p.square ≡ q.square → p ≡ q
 same_piece [] p q d h i e = absurd h
 same_piece (x ∷ pieces) p q d (inl a) (inl b) e = a ∙ sym b
@@ -113,7 +113,7 @@ just c x = none_more (x == c) where
   none_more true = refl
   none_more false = refl
 
--- as many squares as men of a code
+-- the number of squares with a man of a code is the number of these men
 pub code_count : (code : ℕ) (pieces : List Piece) → AllDiffer (map (λ (p : Piece). p.square) pieces) → ((p : Piece) → IsIn p pieces → p.square < 64) →
     length (squares_with (code ∷ []) pieces squares_down) ≡ count_by (λ (p : Piece). p.code == code) pieces
 code_count code pieces d h =

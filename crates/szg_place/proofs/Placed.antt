@@ -1,4 +1,4 @@
--- The men that an index tells, as the code finds them.
+-- The men of an index, as the code finds them.
 use Rattle.std.proofs.Common.{◌≡◌, ℕ, zero, suc, ◌<◌, ◌≤◌, List, [], ◌∷◌, ◌++◌, length, get_or, refl, sym, ap, ◌∙◌, subst, Bool, true, false, cond, arith, length-append}
 use Rattle.std.specs.Prelude.{◌==◌, Option, Some, None, Result, Ok, IsNone, IsSome, IfSome, IsSomeAnd}
 use Rattle.std.specs.List.{concat}
@@ -64,7 +64,7 @@ concat-sized (group ∷ groups) (set ∷ sets) h =
     let a = length-append set (concat sets) in let b = length-append group (concat groups) in
     let r = concat-sized groups sets h.1 in let e = h.0 in omega (arith, a, b, r, e)
 
--- the men of the groups that an index tells
+-- the men of the groups of an index
 abbrev pub men_told : Sides → ℕ → Nibbles → ℕ → List PlacedMan
 men_told sides part n index = standing_by_group (counted sides part n).groups (sets_told sides part n index)
 
@@ -205,6 +205,6 @@ pub none_holds : {A : Type 0} (o : Option A) → o ≡ None → IsNone o
 none_holds None e = refl
 none_holds (Some x) e = cc
 
--- one answer tells one placement
+-- one result has one placement
 pub told_same : (r : Result Board PlacementFault) (x y : Board) → r ≡ Ok x → r ≡ Ok y → x ≡ y
 told_same r x y e f = let k : ◌≡◌ {A = Result Board PlacementFault} (Ok x) (Ok y) = sym e ∙ f in cc

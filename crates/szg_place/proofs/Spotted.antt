@@ -1,4 +1,5 @@
--- What follows where each group's squares are in its ordered list: the index is below the size, and tells the squares.
+-- What follows if each group's squares are in its ordered list: the index is below the size, and decoding it
+-- returns the squares.
 use Rattle.std.proofs.Common.{◌≡◌, ℕ, zero, suc, ◌+◌, ◌-◌, ◌%◌, ◌<◌, inl, inr, List, [], ◌∷◌, length, refl, sym, ap, ◌∙◌, subst, Bool, true, false, cond, arith}
 use Rattle.std.specs.Prelude.{◌==◌, min, Option, Some, None, IsNone, slice_index}
 use Rattle.std.specs.List.{zip, range_with_len}
@@ -139,7 +140,7 @@ squares_back sides part n squares m p e h = let groups = groups_of sides n.men i
 
 -- ---- the laws, from the squares' places in their lists
 
--- in a placement that a table answers each group of the normal form has a place in its list
+-- in a placement that has an index, each group of the normal form has a rank in its list
 abbrev pub InLists : Type 0
 InLists = (l : Layout) (board : Board) → IsLayout l → IsAnswered l board →
     EachInList l.material (normal_of l board).part [] (groups_of l.material (nibbles_at l (normal_of l board).part (normal_of l board).side).men) (normal_of l board).squares
@@ -152,7 +153,7 @@ below_size_from lists l board h a =
     index_inside l.material normal.part (nibbles_at l normal.part normal.side) normal.squares h.material p
     (ordered l.material (nibbles_at l normal.part normal.side) (order_none l normal.part normal.side h p s)).places (lists l board h a)
 
--- what a spot tells
+-- the squares of a spot
 abbrev told_at : Layout → ℕ → ℕ → ℕ → List (List ℕ)
 told_at l part side index = squares_told l.material part [] (zip (counted_at l part side).groups (places_told (counted_at l part side) index))
 

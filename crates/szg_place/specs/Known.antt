@@ -51,7 +51,7 @@ pub record IsFound (l : Layout) (board : Board) (part side asked : ℕ) (n : Nib
   pub nibbles : n ≡ nibbles_at l (part_of l.material (pieces_of l.material board)) (subtable_side l board)
   pub at : n ≡ nibbles_at l part side
 
--- what is answered of a placement: the first reason that stands, or else its spot
+-- the result for a placement: the first fault that applies, or else its spot
 pub record IsLocated (l : Layout) (board : Board) (result : Result Spot PlaceFault) : Type 0 where
   pub refused : IfSome (place_fault l board) (λ fault. result ≡ Err fault)
   pub spot : IsNone (place_fault l board) → result ≡ Ok (spot_of l board)
@@ -69,7 +69,7 @@ pub record AreGrouped (sides : Sides) (part : ℕ) (n : Nibbles) (groups : List 
   pub ordered : order_fault sides n ≡ None
   pub groups_are : groups ≡ groups_in_slot_order (counted sides part n)
 
--- a group comes behind others, so many, that stand on the squares taken
+-- group `number` comes after `before`, whose men are on the squares `taken`
 pub record IsBehind (sides : Sides) (part number : ℕ) (taken : List ℕ) (before : List (List ℕ)) : Type 0 where
   pub has_part : IsPart sides part
   pub taken_are : taken ≡ concat before

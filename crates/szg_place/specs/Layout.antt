@@ -1,4 +1,4 @@
--- What a table tells of how its subtables number placements.
+-- How the subtables of a table number their placements.
 use Rattle.std.specs.Prelude.{◌≡◌, ℕ, ◌%◌, ◌<◌, Bool, true, false, List, [], length, slice_get, slice_index, unwrap_or, IsNone, if◌then◌else◌}
 use Rattle.szg_values.specs.Material.{Sides, has_pawns, is_symmetric, IsMaterial}
 use Rattle.szg_values.specs.declared.Kind.{Kind}

@@ -8,6 +8,7 @@ pub mod Numbers
 pub mod Slots
 pub mod Known
 pub mod Opened
+pub mod Front
 pub mod Prepared
 pub mod Traits
 pub mod Seats

@@ -46,7 +46,7 @@ pieces_of sides board = let exchanged = is_exchanged sides board in map (λ s. r
   square = if exchanged && has_pawns sides then flip_rank s.2 else s.2;
 }) board.placed_men
 
--- the squares of a list on which men of these codes stand
+-- the squares of a list that have a man of one of these codes
 abbrev pub squares_with : List ℕ → List Piece → List ℕ → List ℕ
 squares_with codes pieces order = filter (λ square. list_any (λ p. p.square == square && contains codes p.code) pieces) order
 

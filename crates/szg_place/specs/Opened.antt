@@ -1,4 +1,4 @@
--- What a probe of a table by place answers.
+-- The results of probes of an opened table.
 use Rattle.std.specs.Prelude.{◌≡◌, ℕ, ℤ, Option, Some, None, Result, Ok, Err, IsSomeAnd}
 use Rattle.szg_values.specs.Placement.{Board}
 use Rattle.szg_block.specs.BlocksTrait.{raised}
@@ -13,7 +13,7 @@ use Rattle.szg_place.specs.declared.ProbeFault.TheVariants.{Place, Map}
 use Rattle.szg_place.specs.declared.OpenedProbeFault.{OpenedProbeFault}
 use Rattle.szg_place.specs.declared.OpenedProbeFault.TheVariants.{Probe, Source}
 
--- a refused placement is told by its fault; any other one has an answer or what kept it away
+-- a refused placement gives its fault; any other one a result, or what prevented it
 abbrev pub IsProbed : {A : Type 0} → Option PlaceFault → (A → Type 0) → (OpenedProbeFault → Type 0) → Result A OpenedProbeFault → Type 0
 IsProbed (Some fault) told missed result = result ≡ Err (Probe (Place fault))
 IsProbed None told missed (Ok answer) = told answer
@@ -48,7 +48,7 @@ abbrev pub IsNumberIn : Contents → Board → ℤ → Result ℕ OpenedProbeFau
 IsNumberIn t board class = IsProbed (place_fault (numbering_of t) board)
     (λ number. IsSomeAnd (value_at t (spot_in t board)) (λ v. mapped_number t (spot_in t board).part class v ≡ Ok number)) (IsMissed t (spot_in t board) class)
 
--- the source's count of failures goes up by one exactly where it is told to have failed
+-- the source's count of failures grows by one exactly if the result says that it failed
 abbrev pub failed_by : {A : Type 0} → Result A OpenedProbeFault → ℕ → ℕ
 failed_by (Ok answer) failed = failed
 failed_by (Err Source) failed = raised failed 1

@@ -24,7 +24,7 @@ pub record IsPreparedFor (l : Layout) (p : Prepared) (part side : ℕ) : Type 0 
   pub part_is : p.part ≡ part
   pub side_is : p.side ≡ side
 
--- what is kept of a table: what its material tells, and numberings of its parts' sides
+-- what is stored with a table: facts about its material, and the numberings of its parts' sides
 pub record ArePrepared (t : Contents) (material : Sides) (sides : List (Option Prepared)) : Type 0 where
   pub material_is : material ≡ t.material
   pub sides_are : (p : Prepared) → IsIn (Some p) sides → IsPrepared (numbering_of t) p

@@ -1,11 +1,11 @@
--- What a material tells, kept for many placements.
+-- Facts about a material, computed once for many placements.
 use Rattle.std.specs.Prelude.{◌≡◌, ℕ, ◌+◌, ◌*◌, ◌/◌, ◌%◌, ◌^◌, Bool, List}
 use Rattle.std.specs.List.{sum_by}
 use Rattle.szg_values.specs.Material.{Sides, IsMaterial, is_symmetric, has_pawns, lead_pawns, other_pawns, lead_pawn_code, has_single_lead, man_codes}
 use Rattle.szg_values.specs.Placement.{PlacedMan}
 use Rattle.szg_place.specs.Normal.{colored_code, exchanged_color}
 
--- A key tells how many men of each code there are: each code has a digit of base 8, since there are at most six men.
+-- A key holds the number of men of each code: each code has a digit of base 8, since there are at most six men.
 abbrev pub key_of : List ℕ → ℕ
 key_of codes = sum_by (λ code. 8 ^ code) codes
 

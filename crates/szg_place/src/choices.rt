@@ -34,7 +34,7 @@ const CHOICES: [u32; 448] = [
     50063860, 55525372, 61474519, 67945521,
 ];
 
-/// The place of a set in the ordered list of sets of as many numbers, as `rank_subset` of `szg_count` tells it.
+/// The rank of a set in the ordered list of sets of its size, as `rank_subset` of `szg_count` computes it.
 pub fn place_of_set(set: &[u8]) -> u64
     requires few { length set.now ≤ 6 }
     requires falling { IsFallingBelow 64 set.now }

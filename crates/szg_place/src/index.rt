@@ -17,7 +17,7 @@ use arrayvec::ArrayVec;
 use szg_count::Groups;
 use szg_values::{MAX_MEN, Material};
 
-/// The same for a caller that knows what the material tells.
+/// The same for a caller that has the material's traits.
 #[inline(always)]
 pub(crate) fn index_by(material: &Traits, part: u8, groups: &Groups, squares: &[u8]) -> u64
     ghost given: { Nibbles × List (List ℕ) }
@@ -27,7 +27,7 @@ pub(crate) fn index_by(material: &Traits, part: u8, groups: &Groups, squares: &[
     requires listed { EachInList material.now part [] (groups_of material.now given.0.men) given.1 }
     ensures { result ≡ index_with (places_in_lists material.now part [] given.1) (counted material.now part given.0).factors }
 {
-    // It tells that it is a name's.
+    // ghost: the material is one that a name gives
     let _material = material.material();
     let mut index = 0;
     for i in 0..groups.count() {
@@ -39,7 +39,7 @@ pub(crate) fn index_by(material: &Traits, part: u8, groups: &Groups, squares: &[
     index
 }
 
-/// The squares that an index tells, group after group.
+/// Returns the squares of an index, group by group.
 pub fn squares_at(
     material: &Material,
     part: u8,
@@ -58,7 +58,7 @@ pub fn squares_at(
     squares_by(&Traits::of(material), part, groups, index)
 }
 
-/// The same for a caller that knows what the material tells.
+/// The same for a caller that has the material's traits.
 pub(crate) fn squares_by(
     material: &Traits,
     part: u8,
@@ -72,7 +72,7 @@ pub(crate) fn squares_by(
     requires few { length (concat given.1) ≤ 6 }
     ensures { result.items ≡ concat given.1 }
 {
-    // It tells that it is a name's.
+    // ghost: the material is one that a name gives
     let _material = material.material();
     let mut squares = ArrayVec::new();
     for i in 0..groups.count() {

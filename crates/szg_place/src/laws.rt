@@ -1,33 +1,37 @@
 //! Laws over the definitions: each is a function whose one clause is the law.
 
+ghost use Rattle.std.specs.Prelude.{◌≡◌, ◌<◌, IsNone, IsSome, IfSome};
+ghost use Rattle.szg_file.specs.Index.{slot_in};
+ghost use Rattle.szg_file.specs.Values.{subtable_at};
 ghost use Rattle.szg_place.specs.Ranks.{LawSquaresTold, LawPlacesTold};
 ghost use Rattle.szg_place.specs.Laws.{LawBelowSize, LawOneSpot, LawSpotOfPlacement, LawPlacementOfSpot};
 ghost use Rattle.szg_place.specs.Layout.{IsLayout};
-ghost use Rattle.szg_place.specs.Tables.{numbering_of};
+ghost use Rattle.szg_place.specs.Spots.{board_at, place_fault, placement_refusal, spot_of};
+ghost use Rattle.szg_place.specs.Tables.{numbering_of, numbering_in};
 
-use szg_file::Table;
+use szg_file::{Table, TableIndex};
 
-/// The places of squares in the ordered lists of their groups tell the squares.
+/// Unranking the ranks of squares in the ordered lists of their groups returns the squares.
 pub fn squares_told()
     ensures { LawSquaresTold }
 {}
 
-/// And the squares that places tell have these places.
+/// Ranking the squares of given ranks returns the ranks.
 pub fn places_told()
     ensures { LawPlacesTold }
 {}
 
-/// Where a table answers a placement, the index is below the size of its subtable.
+/// If a table has an index for a placement, the index is below the size of its subtable.
 pub fn below_size()
     ensures { LawBelowSize }
 {}
 
-/// Two placements that a table answers have one spot exactly where their normal forms agree.
+/// Two placements with an index in a table have the same spot exactly if their normal forms agree.
 pub fn one_spot()
     ensures { LawOneSpot }
 {}
 
-/// The placement of an index is one that the table answers, with that index.
+/// The placement of an index has an index in the table, and it is that index.
 pub fn spot_of_placement()
     ensures { LawSpotOfPlacement }
 {}
@@ -41,7 +45,34 @@ pub fn placement_of_spot()
 pub fn table_numbering(table: &Table)
     ensures { IsLayout (numbering_of table.now.contents) }
 {
-    // Its fill tells that this is a table, and its men that they are a material's.
+    // ghost: this is a table, and its men are a material's
     let _fill = table.fill();
+    let _men = table.material().men();
+}
+
+/// For the placement of an index of a table, unless it is refused, `index_of` returns the same part, side and index.
+pub fn index_of_placement(table: &Table, part: u8, side: u8, index: u64)
+    requires there { IsSome (subtable_at table.now.contents part side) }
+    requires below { IfSome (subtable_at table.now.contents part side) (λ found. index < found.0.size) }
+    ensures accepted { IsNone (placement_refusal (numbering_of table.now.contents) part side) →
+        IsNone (place_fault (numbering_of table.now.contents) (board_at (numbering_of table.now.contents) part side index)) }
+    ensures spot { IsNone (placement_refusal (numbering_of table.now.contents) part side) →
+        spot_of (numbering_of table.now.contents) (board_at (numbering_of table.now.contents) part side index) ≡ record { part = part; side = side; index = index } }
+{
+    index_in_placement(table.index(), part, side, index);
+}
+
+/// For the placement of an index, unless it is refused, `index_in` returns the same part, side and index: the same for each
+/// kind of table.
+pub fn index_in_placement(table: &TableIndex, part: u8, side: u8, index: u64)
+    requires there { IsSome (slot_in table.now part side) }
+    requires below { IfSome (slot_in table.now part side) (λ slot. index < slot.size) }
+    ensures accepted { IsNone (placement_refusal (numbering_in table.now) part side) →
+        IsNone (place_fault (numbering_in table.now) (board_at (numbering_in table.now) part side index)) }
+    ensures spot { IsNone (placement_refusal (numbering_in table.now) part side) →
+        spot_of (numbering_in table.now) (board_at (numbering_in table.now) part side index) ≡ record { part = part; side = side; index = index } }
+{
+    // ghost: it is a table's index, and its men are a material's
+    let _flags = table.flags();
     let _men = table.material().men();
 }

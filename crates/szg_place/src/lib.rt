@@ -1,12 +1,13 @@
-//! Placements and indexes of Syzygy tables: which index of which subtable tells of a placement, and
-//! which placement an index tells of. The rules are those of de Man's format and its probing code.
+//! Placements and indexes of Syzygy tables: the index of a placement in its subtable, and the placement of an
+//! index. The rules are those of de Man's format and its probing code.
 #![tactic(auto)]
 
-use szg_file::MapFault;
+use szg_file::{FetchFault, MapFault};
 use thiserror::Error;
 
 mod choices;
 pub mod free_squares;
+mod front;
 pub mod index;
 pub mod kings;
 pub mod laws;
@@ -25,6 +26,7 @@ mod spots;
 mod traits;
 pub mod triples;
 
+pub use front::{probe_dtz_front, probe_dtz_front_in, probe_wdl_front, probe_wdl_front_in};
 pub use numbering::SideGroups;
 pub use opened::{index_of_opened, probe_dtz_opened, probe_wdl_opened};
 pub use placement::{placement_in, placement_of};
@@ -32,7 +34,7 @@ pub use prepared::PreparedTable;
 pub use probes::{probe_dtz, probe_wdl};
 pub use spots::{index_in, index_of};
 
-/// Why a table has no index for a placement. The first check that refuses is told, in this order.
+/// Why a table has no index for a placement: the first check that fails, in this order.
 #[derive(Clone, Copy, Debug, PartialEq, Eq, Error)]
 pub enum PlaceFault {
     /// The placement's men are not the table's.
@@ -44,7 +46,7 @@ pub enum PlaceFault {
     /// The lead group is the two kings, and they touch.
     #[error("KingsTouch")]
     KingsTouch,
-    /// A DTZ table tells of the other side to move.
+    /// A DTZ table stores only the other side to move.
     #[error("WrongSide")]
     WrongSide,
 }
@@ -60,15 +62,26 @@ pub enum ProbeFault {
     Map(MapFault),
 }
 
-/// Why a table by place tells nothing of a placement.
+/// Why a probe of an opened table has no result.
 #[derive(Clone, Copy, Debug, PartialEq, Eq, Error)]
 pub enum OpenedProbeFault {
-    /// The table has nothing to tell.
+    /// The placement or its value has none.
     #[error("{0}")]
     Probe(ProbeFault),
     /// The source failed.
     #[error("Source")]
     Source,
+}
+
+/// Why an opened front returns nothing for a placement.
+#[derive(Clone, Copy, Debug, PartialEq, Eq, Error)]
+pub enum FrontProbeFault {
+    /// The table has no index for the placement, or no number for its value.
+    #[error("{0}")]
+    Probe(ProbeFault),
+    /// The value's block doesn't decode, or the source failed.
+    #[error("Fetch")]
+    Fetch(FetchFault),
 }
 
 /// Where a table tells of a placement.

@@ -1,4 +1,4 @@
-//! The men of a placement as a file codes them: which colour is the name's first side, and where its men stand.
+//! The men of a placement as a file codes them: which colour is the name's first side, and the squares of its men.
 
 ghost use Rattle.std.specs.Prelude.{◌≡◌, ◌≤◌, ◌<◌, ◌↔◌, ◌&&◌, IsTrue, true, false, IfNone, IfSome, [], length, map, if◌then◌else◌};
 ghost use Rattle.szg_values.specs.Men.{is_color};
@@ -31,7 +31,7 @@ pub fn exchange_of(material: &Traits, placement: &Placement) -> Option<bool>
     ensures men { IfSome result (λ exchanged. is_of_material material.now placement.now ≡ true) }
     ensures exchanged { IfSome result (λ exchanged. exchanged ≡ is_exchanged material.now placement.now) }
 {
-    // The men tell that they are a placement's, and the material that it is a name's.
+    // ghost: the men are a placement's, and the material is one that a name gives
     let _placed_men = placement.men();
     let _material = material.material();
     let key = placement.key();

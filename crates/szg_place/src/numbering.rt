@@ -48,7 +48,7 @@ pub fn order_at(index: &TableIndex, part: u8, side: u8) -> Order
     ensures part { IsPart index.now.material part }
     ensures ordered { order_fault index.now.material (nibbles_in result) ≡ None }
 {
-    // the men tell that they are a material's
+    // ghost: the men are a material's
     let _men = index.material().men();
     order_in(index.parts(), part, side)
 }
@@ -74,7 +74,7 @@ fn order_of(side: u8, order: &[u8], men: &[u8]) -> Order
     }
 }
 
-// A byte of a list; 0 behind its end.
+// Returns byte `i` of a list; 0 after its end.
 fn byte_at(bytes: &[u8], i: usize) -> u8
     ensures { result ≡ slice_index bytes.now i }
 {
@@ -134,7 +134,7 @@ pub fn grouped_by(material: &Material, part: u8, order: Order) -> SideGroups
     }
 }
 
-/// The same for a caller that knows what the material tells.
+/// The same for a caller that has the material's traits.
 pub fn grouped_of(material: &Traits, part: u8, order: Order) -> SideGroups
     requires part { IsPart material.now part }
     requires ordered { order_fault material.now (nibbles_in order) ≡ None }
@@ -175,7 +175,7 @@ fn are_later_whole(material: &Material, part: u8, order: &Order, groups: &Groups
     true
 }
 
-// Whether there are so many men of each code of a group.
+// Whether the material has all the men of each code of a group that the group has.
 fn is_group_counted(
     material: &Material,
     part: u8,

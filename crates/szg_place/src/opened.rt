@@ -1,4 +1,4 @@
-//! What a table by place tells of a placement: its blocks stand in a source, and one of them is read.
+//! Probes of an opened table: its blocks stay in a source, and one of them is read.
 
 ghost use Rattle.std.specs.Prelude.{◌≡◌, ◌<◌, ◌≤ℤ◌, pos, neg_ℤ, IsNone, IsSome, IfSome, IfOk, IsSomeAnd, MatchResult, Ok, Err};
 ghost use Rattle.szg_file.specs.Opened.{opened_at, opened_table};
@@ -13,7 +13,7 @@ use szg_block::Source;
 use szg_file::{MapFault, Opened};
 use szg_values::{Kind, Placement};
 
-/// Where a table by place tells of a placement. The source is asked for nothing.
+/// Returns where an opened table stores the value of a placement. No byte of the source is requested.
 ///
 /// Refused is what `index_of` refuses, and as it does.
 pub fn index_of_opened<S: Source + Drop>(
@@ -39,7 +39,7 @@ fn value_of<S: Source + Drop>(
     ensures failed { opened.new.failed ≡ failed_by result opened.old.failed }
     ensures same { IsSameTable opened.old opened.new }
 {
-    // The parts tell the table's kind.
+    // ghost: the parts are of the table's kind
     let _parts = opened.parts();
     let spot = match index_of_opened(opened, placement) {
         Ok(spot) => spot,
@@ -51,8 +51,8 @@ fn value_of<S: Source + Drop>(
     }
 }
 
-/// What a WDL table by place tells of a placement, as `probe_wdl` does of a table in memory. The source is
-/// asked for one block, for none where the placement is refused or the subtable constant.
+/// Returns the class of a placement from an opened WDL table, as `probe_wdl` does for a table in memory. One block
+/// of the source is requested; none if the placement is refused or the subtable is constant.
 ///
 /// Refused is `Probe` with `Place` for what `index_of` refuses, and `Source` exactly where the source failed;
 /// the next call is answered as if it had not.
@@ -74,8 +74,8 @@ pub fn probe_wdl_opened<S: Source + Drop>(
     }
 }
 
-/// What a DTZ table by place tells of a placement of this class, as `probe_dtz` does of a table in memory. The
-/// source is asked for one block, for none where the placement is refused or the subtable constant.
+/// Returns the number of a placement of this class from an opened DTZ table, as `probe_dtz` does for a table in
+/// memory. One block of the source is requested; none if the placement is refused or the subtable is constant.
 ///
 /// Refused is `Probe` with what `probe_dtz` refuses, and `Source` exactly where the source failed; the next
 /// call is answered as if it had not.
@@ -94,7 +94,7 @@ pub fn probe_dtz_opened<S: Source + Drop>(
     ensures kind { opened.new.kind ≡ opened.old.kind }
     ensures content { opened.new.content ≡ opened.old.content }
 {
-    // The parts tell the table's kind.
+    // ghost: the parts are of the table's kind
     let _parts = opened.parts();
     let (spot, value) = match value_of(opened, placement) {
         Ok(found) => found,

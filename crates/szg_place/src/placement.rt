@@ -21,17 +21,17 @@ use szg_count::{Groups, Order};
 use szg_file::{Table, TableIndex};
 use szg_values::{Color, Kind, MAX_MEN, Man, Material, Placement, Square};
 
-/// The placement that an index of a part's side tells of: what `index_of` answers there, taken back.
-/// The name's first side is White, the mover the subtable's side (in DTZ the stored one; White where
-/// both sides have the same men), the men slot by slot, those of a later group from the greatest square down,
-/// the lead pawns from the greatest by the value P down, other lead men as their ordered list has them. It takes no memory.
+/// Returns the placement of an index in a part's side: the inverse of `index_of`. The name's first side is White;
+/// the side to move is the subtable's side (in DTZ the stored one; White if both sides have the same men). The men
+/// come slot by slot: those of a later group from the greatest square down, the lead pawns from the greatest value
+/// P down, other lead men as in their ordered list. It takes no memory.
 ///
-/// Refused are, the first that stands: `Irregular`, and `WrongSide` for a DTZ subtable with pawns that
-/// stores Black where both sides have the same men.
+/// Errors, the first that applies: `Irregular`; `WrongSide` for a DTZ subtable with pawns that stores Black if both
+/// sides have the same men.
 pub fn placement_of(table: &Table, part: u8, side: u8, index: u64) -> Result<Placement, PlaceFault>
     requires there { IsSome (subtable_at table.now.contents part side) }
     requires below { IfSome (subtable_at table.now.contents part side) (λ found. index < found.0.size) }
-    // The first reason that stands is answered.
+    // The first fault that applies is returned.
     ensures refused { IfSome (placement_refusal (numbering_of table.now.contents) part side) (λ fault. result ≡ Err fault) }
     ensures placed { IsNone (placement_refusal (numbering_of table.now.contents) part side) → result ≡ Ok (board_at (numbering_of table.now.contents) part side index) }
 {
@@ -49,12 +49,12 @@ pub fn placement_in(
 ) -> Result<Placement, PlaceFault>
     requires there { IsSome (slot_in table.now part side) }
     requires below { IfSome (slot_in table.now part side) (λ slot. index < slot.size) }
-    // The first reason that stands is answered.
+    // The first fault that applies is returned.
     ensures refused { IfSome (placement_refusal (numbering_in table.now) part side) (λ fault. result ≡ Err fault) }
     ensures placed { IsNone (placement_refusal (numbering_in table.now) part side) → result ≡ Ok (board_at (numbering_in table.now) part side index) }
 {
     let (material, kind, flags) = (table.material(), table.kind(), table.flags());
-    // the men tell that they are a material's
+    // ghost: the men are a material's
     let _men = material.men();
     let order = order_at(table, part, side);
     let groups = groups_of(material, part, &order);
@@ -73,7 +73,7 @@ pub fn placement_in(
     Ok(placement)
 }
 
-// The men that an index tells, slot by slot.
+// Returns the men of an index, slot by slot.
 fn men_at(
     material: &Material,
     part: u8,
@@ -90,7 +90,7 @@ fn men_at(
     requires inside { (placed_men : PlacedMan) → IsIn placed_men (standing_by_group (counted material.now part given).groups (squares_told material.now part [] (zip (counted material.now part given).groups (places_told (counted material.now part given) index)))) → placed_men.2 < 64 }
     ensures { result.items ≡ standing_by_group (counted material.now part given).groups (squares_told material.now part [] (zip (counted material.now part given).groups (places_told (counted material.now part given) index))) }
 {
-    // Its men tell that this is a material.
+    // ghost: the men are a material's
     let _men = material.men();
     let squares = squares_at(material, part, groups, index);
     standing_on(order.men.as_slice(), squares.as_slice())
@@ -139,8 +139,8 @@ fn color_at(code: u8) -> Color
     if code < 8 { Color::White } else { Color::Black }
 }
 
-// Whether a DTZ subtable with pawns stores Black where both sides have the same men: with colours
-// exchanged it is the placement's twin that it tells of.
+// Whether a DTZ subtable with pawns stores Black although both sides have the same men: its index is that of the
+// color-flipped placement.
 fn is_untold(material: &Material, kind: Kind, stored: u8) -> bool
     ensures { result ≡ (is_dtz kind && is_symmetric material.now && has_pawns material.now && stored == 1) }
 {
@@ -161,7 +161,7 @@ fn mover_at(material: &Material, kind: Kind, stored: u8, side: u8) -> Color
     }
 }
 
-// The side that a subtable tells of: in DTZ the one that it stores.
+// The side to move of a subtable's placements: in DTZ the one that it stores.
 fn told_side(kind: Kind, stored: u8, side: u8) -> u8
     ensures { result ≡ (if is_dtz kind then stored else side) }
 {

@@ -1,6 +1,7 @@
 //! Tables that are prepared for many placements.
 
-ghost use Rattle.std.specs.Prelude.{Some, IfSome};
+ghost use Rattle.std.specs.Prelude.{◌≡◌, ◌↔◌, Some, IfSome, IsSome};
+ghost use Rattle.szg_file.specs.Values.{subtable_at};
 ghost use Rattle.szg_count.specs.Laws.{IsIn};
 ghost use Rattle.szg_place.specs.Prepared.{IsPrepared};
 ghost use Rattle.szg_place.specs.Tables.{numbering_of};
@@ -15,8 +16,8 @@ use std::marker::Model;
 use szg_file::Table;
 use szg_values::{Kind, Placement};
 
-/// A table with what depends on it alone and many placements ask for: what its material tells, and the groups of each
-/// part and side.
+/// A table with what depends on it alone and serves many placements: facts about its material, and the groups of
+/// each part and side.
 #[derive(Drop)]
 pub struct PreparedTable {
     table: Table,
@@ -61,14 +62,14 @@ impl PreparedTable {
         &self.table
     }
 
-    /// What `index_of` answers and refuses for the table. Nothing of the table is worked out again.
+    /// Returns what `index_of` returns for the table. Nothing that depends on the table alone is computed again.
     pub fn index_of(&self, placement: &Placement) -> Result<Spot, PlaceFault>
         ensures refused { IfSome (place_fault (numbering_of self.now.contents) placement.now) (λ fault. result ≡ Err fault) }
         ensures spot { IsNone (place_fault (numbering_of self.now.contents) placement.now) → result ≡ Ok (spot_of (numbering_of self.now.contents) placement.now) }
         // So the table has a value there.
         ensures below { IfOk result (λ spot. IsSomeAnd (subtable_at self.now.contents spot.part spot.side) (λ found. spot.index < found.0.size)) }
     {
-        // the material tells that it is a name's
+        // ghost: the material is one that a name gives
         let _material = self.material.material();
         let index = self.table.index();
         let (kind, parts, flags) = (index.kind(), index.parts(), index.flags());
@@ -82,7 +83,7 @@ impl PreparedTable {
         )
     }
 
-    /// What `probe_wdl` answers and refuses for the table.
+    /// Returns what `probe_wdl` returns for the table.
     pub fn probe_wdl(&self, placement: &Placement) -> Result<Option<i8>, PlaceFault>
         requires { self.now.contents.kind ≡ Kind.Wdl }
         ensures refused { IfSome (place_fault (numbering_of self.now.contents) placement.now) (λ fault. result ≡ Err fault) }
@@ -95,13 +96,13 @@ impl PreparedTable {
         }
     }
 
-    /// What `probe_dtz` answers and refuses for the table.
+    /// Returns what `probe_dtz` returns for the table.
     pub fn probe_dtz(&self, placement: &Placement, class: i8) -> Result<u32, ProbeFault>
         requires kind { self.now.contents.kind ≡ Kind.Dtz }
         requires lowest { neg_ℤ (pos 2) ≤ℤ class }
         requires highest { class ≤ℤ pos 2 }
         ensures refused { IfSome (place_fault (numbering_of self.now.contents) placement.now) (λ fault. result ≡ Err (ProbeFault.Place fault)) }
-        // The table's map is asked only for a placement that the table answers.
+        // The table's map is used only for a placement that has an index.
         ensures number { IsNone (place_fault (numbering_of self.now.contents) placement.now) →
             (let spot = spot_of (numbering_of self.now.contents) placement.now in
             IsSomeAnd (value_at self.now.contents spot) (λ v. MatchResult (mapped_number self.now.contents spot.part class v)
@@ -132,7 +133,9 @@ fn sides_of(table: &Table) -> ArrayVec<Option<Prepared>, 8>
 
 // The numbering of a part's side, where the table has it.
 fn side_of(table: &Table, part: u8, side: u8) -> Option<Prepared>
-    ensures { IfSome result (λ prepared. IsPrepared (numbering_of table.now.contents) prepared) }
+    ensures prepared { IfSome result (λ prepared. IsPrepared (numbering_of table.now.contents) prepared) }
+    ensures asked { IfSome result (λ prepared. (prepared.part ≡ part) × (prepared.side ≡ side)) }
+    ensures there { IsSome result ↔ IsSome (subtable_at table.now.contents part side) }
 {
     if table.size(part, side).is_none() {
         return None;

@@ -1,4 +1,4 @@
-//! What a table tells of a placement.
+//! Probes of a table: the class or the distance of a placement.
 
 ghost use Rattle.std.specs.Prelude.{◌≡◌, ◌≤ℤ◌, pos, neg_ℤ, IsNone, IfSome, IsSomeAnd, MatchResult, Ok, Err};
 ghost use Rattle.szg_place.specs.Spots.{place_fault, spot_of};
@@ -9,9 +9,9 @@ use crate::{PlaceFault, ProbeFault};
 use szg_file::Table;
 use szg_values::{Kind, Placement};
 
-/// What a WDL table tells of a placement: 2 a win, 1 a cursed win, 0 a draw, -1 a blessed loss, -2 a
-/// loss for the side to move; None for a value that is no class. Nothing is asked of captures or of
-/// en passant. (`probe_wdl_table` in the probing code.)
+/// Returns the class of a placement from a WDL table: 2 a win, 1 a cursed win, 0 a draw, -1 a blessed loss, -2 a
+/// loss for the side to move; None for a value that is no class. Captures and en passant are not considered.
+/// (`probe_wdl_table` in the probing code.)
 ///
 /// Refused is what `index_of` refuses, and as it does.
 pub fn probe_wdl(table: &Table, placement: &Placement) -> Result<Option<i8>, PlaceFault>
@@ -37,9 +37,8 @@ pub(crate) fn class_of(value: u16) -> Option<i8>
     }
 }
 
-/// What a DTZ table tells of a placement of this class (2 win, 1 cursed win, -1 blessed loss, -2 loss):
-/// a number of plies without sign, doubled where the table counts moves. (`probe_dtz_table` in the
-/// probing code.)
+/// Returns the number of a placement of this class (2 win, 1 cursed win, -1 blessed loss, -2 loss) from a DTZ
+/// table: plies without sign, doubled if the table counts moves. (`probe_dtz_table` in the probing code.)
 ///
 /// Refused is `Place` for what `index_of` refuses, then `Map` where the class has no list or the list
 /// no such item.
@@ -48,7 +47,7 @@ pub fn probe_dtz(table: &Table, placement: &Placement, class: i8) -> Result<u32,
     requires lowest { neg_ℤ (pos 2) ≤ℤ class }
     requires highest { class ≤ℤ pos 2 }
     ensures refused { IfSome (place_fault (numbering_of table.now.contents) placement.now) (λ fault. result ≡ Err (ProbeFault.Place fault)) }
-    // The table's map is asked only for a placement that the table answers.
+    // The table's map is used only for a placement that has an index.
     ensures number { IsNone (place_fault (numbering_of table.now.contents) placement.now) →
         (let spot = spot_of (numbering_of table.now.contents) placement.now in
         IsSomeAnd (value_at table.now.contents spot) (λ v. MatchResult (mapped_number table.now.contents spot.part class v)

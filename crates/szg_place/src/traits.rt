@@ -1,4 +1,4 @@
-//! What a material tells, kept for many placements.
+//! Facts about a material, computed once for many placements.
 
 ghost use Rattle.std.specs.Prelude.{◌≡◌, ◌<◌, ◌≤◌, ◌^◌, ◌==◌, ◌&&◌, ◌||◌, ℕ, true, false, nat_lt, nat_le, length, if◌then◌else◌};
 ghost use Rattle.szg_count.specs.Laws.{IsIn};
@@ -29,7 +29,7 @@ const KEYS: [u64; 16] = [
     35184372088832,
 ];
 
-/// A material, and what it tells.
+/// A material and facts about it.
 #[derive(Drop)]
 pub struct Traits {
     material: Material,
@@ -58,7 +58,7 @@ impl Traits {
     ghost use Rattle.szg_values.specs.Material.{IsMaterial, is_symmetric, has_pawns, lead_pawns, other_pawns, lead_pawn_code, has_single_lead, man_codes};
     ghost use Rattle.szg_place.specs.Traits.{key_of};
 
-    /// What this material tells.
+    /// Computes the facts about a material.
     pub fn of(material: &Material) -> Traits
         ensures same { result ≡ material.now }
         ensures named { IsMaterial material.now }
@@ -147,7 +147,7 @@ fn lead_pawn_code(codes: &[u8]) -> u8
     }
 }
 
-// Whether the first side's pawns lead: it has some, and the second side has none or as many or more.
+// Whether the first side's pawns lead: it has pawns, and the second side has none or at least the same number.
 fn is_first_leading(first: usize, second: usize) -> bool
     ensures { result ≡ (nat_lt 0 first && (second == 0 || nat_le first second)) }
 {

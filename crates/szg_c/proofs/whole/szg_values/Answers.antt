@@ -7,7 +7,8 @@ use Rattle.szg_file.specs.Values.{subtable_at}
 use Rattle.szg_c.specs.Told.{IsTable, Says}
 use Rattle.szg_c.proofs.whole.szg_values.Goals as goal
 
--- a list of the right length is filled or finds no memory; another one is refused, as one of no subtable
+-- a list of the right length is filled, or an allocation is refused; any other is refused like one for a subtable
+-- that does not exist
 outcomes : (o : Option (Slot × Subtable)) (count result : ℕ) → IfSome o (λ found. count ≡ found.0.size → (result ≡ 0) ⊎ (result ≡ 3)) → (IsNone o → result ≡ 4) →
     IfSome o (λ found. count ≢ found.0.size → result ≡ 4) → (result ≡ 0) ⊎ ((result ≡ 3) ⊎ (result ≡ 4))
 outcomes None count result there missing other = inr (inr (missing refl))

@@ -3,7 +3,7 @@ use Rattle.szg_count.specs.Groups.{counted}
 use Rattle.szg_place.proofs.Indexing.{index_behind}
 use Rattle.szg_place.proofs.index.index_by.Given as goal
 
--- the first groups, so many as come before
+-- the groups before this one
 abbrev pub ghost-set_place_by : goal.ghost-set_place_by
 ghost-set_place_by g a = take a.number g.given.1
 

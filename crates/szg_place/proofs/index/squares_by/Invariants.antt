@@ -2,7 +2,7 @@ use Rattle.std.proofs.Common.{◌≡◌, take}
 use Rattle.std.specs.List.{concat}
 use Rattle.szg_place.proofs.index.squares_by.Given as goal
 
--- the first groups, so many as come before
+-- the groups before this one
 abbrev pub ghost-set_at_by : goal.ghost-set_at_by
 ghost-set_at_by g a = take a.number g.given.1
 

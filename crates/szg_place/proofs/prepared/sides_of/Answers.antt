@@ -15,7 +15,7 @@ loop-place-preserved c =
       made = λ p i. elim (IsIn-append (Some p) old (more ∷ []) (subst (λ (l : List (Option Prepared)). IsIn (Some p) l) c.push.ensures.items i)) [
         | inl a ↦ c.loop-place.invariant.made p a
         | inr b ↦ elim b [
-          | inl e ↦ subst (λ (o : Option Prepared). IfSome o (λ prepared. IsPrepared (numbering_of c.args.table.now.contents) prepared)) (sym e) c.side_of.ensures
+          | inl e ↦ subst (λ (o : Option Prepared). IfSome o (λ prepared. IsPrepared (numbering_of c.args.table.now.contents) prepared)) (sym e) c.side_of.ensures.prepared
           | inr z ↦ absurd z
         ]
       ];

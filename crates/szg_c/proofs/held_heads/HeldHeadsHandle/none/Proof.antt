@@ -1,4 +1,4 @@
--- `none` holds nothing.
+-- `none` creates a handle without a value.
 use Rattle.szg_c.specs.contracts.held_heads.HeldHeadsHandle.none.Key.{name as #self}
 use Rattle.szg_c.proofs.held_heads.HeldHeadsHandle.none.Statement.{statement}
 use Rattle.szg_c.proofs.held_heads.HeldHeadsHandle.none.Code as code

@@ -1,4 +1,4 @@
--- `of` keeps the pointer.
+-- `of` stores the pointer.
 use Rattle.szg_c.specs.contracts.held_heads.HeldHeadsHandle.of.Key.{name as #self}
 use Rattle.szg_c.proofs.held_heads.HeldHeadsHandle.of.Statement.{statement}
 use Rattle.szg_c.proofs.held_heads.HeldHeadsHandle.of.Code as code

@@ -1,4 +1,4 @@
--- A handle may go from thread to thread.
+-- A handle may be sent to another thread.
 use denote.Param.Send.{IsSend}
 use Rattle.szg_c.specs.contracts.held_table.HeldTable.{the_row}
 use Rattle.szg_place.proofs.prepared.PreparedTable.TheSendSync as value

@@ -1,4 +1,4 @@
--- `none` holds nothing.
+-- `none` creates a handle without a value.
 use Rattle.szg_c.specs.contracts.held_table.HeldTableHandle.none.Key.{name as #self}
 use Rattle.szg_c.proofs.held_table.HeldTableHandle.none.Statement.{statement}
 use Rattle.szg_c.proofs.held_table.HeldTableHandle.none.Code as code

@@ -1,0 +1,115 @@
+-- What calls on an opened front return. Status 18 is a block that doesn't decode, 17 bytes that can't be the file's.
+use Rattle.std.specs.Prelude.{◌≡◌, ◌&&◌, ℕ, ℤ, pos, zero, suc, nat_lt, Bool, true, false, List, is_some, Option, Some, None, IfSome, IsNone, Result, Ok, Err, if◌then◌else◌}
+use Rattle.szg_values.specs.Material.{Sides, parsed}
+use Rattle.szg_values.specs.Placement.{Board}
+use Rattle.szg_values.specs.declared.Kind.{Kind}
+use Rattle.szg_values.specs.declared.Kind.TheVariants.{Wdl, Dtz}
+use Rattle.szg_file.specs.Contents.{Slot}
+use Rattle.szg_file.specs.Fetching.{NamesBadBlock}
+use Rattle.szg_file.specs.Format.{verdict}
+use Rattle.szg_file.specs.FrontTable.{FrontKept, IsFrontOf}
+use Rattle.szg_file.specs.Unread.{unread_file, front_at, IsDecoded}
+use Rattle.szg_file.specs.declared.fault.Reason.{Reason}
+use Rattle.szg_file.specs.declared.fetching.FetchFault.{FetchFault}
+use Rattle.szg_file.specs.declared.fetching.FetchFault.TheVariants.{Block, Source}
+use Rattle.szg_file.specs.Index.{Index, slot_in}
+use Rattle.szg_file.specs.declared.fault.MapFault.{MapFault}
+use Rattle.szg_place.specs.Front.{IsBadAt, IsMeant, IsValueAt, as_class, as_number, fault_in, spot_in}
+use Rattle.szg_place.specs.Layout.{is_dtz}
+use Rattle.szg_place.specs.Spots.{place_fault, spot_of}
+use Rattle.szg_place.specs.Tables.{numbering_in}
+use Rattle.szg_place.specs.declared.Spot.{Spot}
+use Rattle.szg_place.specs.declared.FrontProbeFault.{FrontProbeFault}
+use Rattle.szg_place.specs.declared.FrontProbeFault.TheVariants.{Probe, Fetch}
+use Rattle.szg_place.specs.declared.ProbeFault.TheVariants.{Place, Map}
+use Rattle.szg_c.specs.Places.{is_class, map_status, number_or_status, place_status, spot_unless}
+use Rattle.szg_c.specs.Told.{IsName, IsNoName, Refuses, kind_told, number_of}
+use Rattle.szg_c.specs.declared.fronts.BadBlock.{BadBlock}
+
+-- the name is a material's, and this is the front of the table that the bytes begin with, blocks unchecked
+abbrev pub IsFront : List ℕ → Bool → List ℕ → FrontKept → Type 0
+IsFront name dtz bytes kept = (parsed name ≡ Ok kept.index.material) × (kept.index.kind ≡ kind_told dtz) × IsFrontOf kept bytes
+
+-- the name is a material's, and a check of the front refuses the bytes: at this offset, for this reason
+abbrev pub IsFrontRefused : List ℕ → Bool → List ℕ → ℕ → Reason → Type 0
+IsFrontRefused name dtz bytes place why = (material : Sides) × (parsed name ≡ Ok material) × Refuses (verdict (unread_file material (kind_told dtz)) 0 bytes) place why
+
+-- what a status other than 0 says of the opening, beside the offset and the reason
+abbrev pub StopsFront : List ℕ → Bool → List ℕ → ℕ → ℕ → ℕ → Type 0
+StopsFront name dtz bytes (suc zero) place reason = IsNoName name
+StopsFront name dtz bytes (suc (suc zero)) place reason = (why : Reason) × IsFrontRefused name dtz bytes place why × (reason ≡ number_of why)
+StopsFront name dtz bytes (suc (suc (suc zero))) place reason = IsName name
+StopsFront name dtz bytes status place reason = ⊥
+
+abbrev pub SaysFront : List ℕ → Bool → List ℕ → Type 0 → ℕ → ℕ → ℕ → Type 0
+SaysFront name dtz bytes done zero place reason = done
+SaysFront name dtz bytes done (suc status) place reason = StopsFront name dtz bytes (suc status) place reason
+
+-- a slot, if it has this index
+abbrev pub with_slot : Option Slot → ℕ → Option Slot
+with_slot None i = None
+with_slot (Some slot) i = if nat_lt i slot.size then Some slot else None
+
+-- what is written of a fault of a fetch, and its status
+abbrev pub FetchTold : FetchFault → BadBlock → BadBlock → ℕ → Type 0
+FetchTold (Block number offset) before after status = (status ≡ 18) × (after.block ≡ number) × (after.offset ≡ offset)
+FetchTold Source before after status = (status ≡ 17) × (after ≡ before)
+
+-- status 0: the block decodes, and this is the value; else the fault names the block, which does not decode
+abbrev pub IsGot : FrontKept → List ℕ → ℕ → ℕ → ℕ → ℕ → ℕ → BadBlock → BadBlock → Type 0
+IsGot kept bytes part side index status value before after =
+    (status ≡ 0 → IfSome (front_at kept.index.material kept.index.kind bytes part side) (λ found. IsDecoded kept.index.kind found index value))
+    × ((status ≡ 0 → ⊥) → (fault : FetchFault) × FetchTold fault before after status × IfSome (front_at kept.index.material kept.index.kind bytes part side) (λ found. NamesBadBlock bytes found index fault))
+
+-- ---- placements and numbers
+
+-- where a front's table has a placement, if there is one
+abbrev pub front_spot : Index → Result Board ℕ → Result Spot ℕ
+front_spot x (Err status) = Err status
+front_spot x (Ok board) = spot_unless (place_fault (numbering_in x) board) (spot_of (numbering_in x) board)
+
+-- the number of a value of a part in a class
+abbrev pub front_number : Index → ℕ → ℤ → ℕ → Result ℕ ℕ
+front_number x part class v =
+    if is_dtz x.kind && is_class class && is_some (slot_in x part 0) then number_or_status (as_number x part class v) else Err 4
+
+-- ---- outcomes
+
+-- the status of a probe's fault, and the bad block if it is one
+abbrev pub IsFaultTold : FrontProbeFault → ℕ → BadBlock → Type 0
+IsFaultTold (Probe (Place why)) status bad = status ≡ place_status why
+IsFaultTold (Probe (Map why)) status bad = status ≡ map_status why
+IsFaultTold (Fetch (Block number offset)) status bad = (status ≡ 18) × (bad.block ≡ number) × (bad.offset ≡ offset)
+IsFaultTold (Fetch Source) status bad = status ≡ 17
+
+-- the status and outcome of a class and of a number, or of the fault
+abbrev pub IsClassTold : Result (Option ℤ) FrontProbeFault → ℕ → ℤ → BadBlock → Type 0
+IsClassTold (Ok (Some class)) status outcome bad = (status ≡ 0) × (outcome ≡ class)
+IsClassTold (Ok None) status outcome bad = status ≡ 14
+IsClassTold (Err fault) status outcome bad = IsFaultTold fault status bad
+
+abbrev pub IsNumberTold : Result ℕ FrontProbeFault → ℕ → ℤ → BadBlock → Type 0
+IsNumberTold (Ok number) status outcome bad = (status ≡ 0) × (outcome ≡ pos number)
+IsNumberTold (Err fault) status outcome bad = IsFaultTold fault status bad
+
+-- a probe's result: the fault of a refused placement; else what the value means out of a block that decodes, or the bad block
+pub record IsProbed {A : Type 0} (kept : FrontKept) (bytes : List ℕ) (board : Board) (meaning : ℕ → Result A MapFault) (r : Result A FrontProbeFault) : Type 0 where
+  pub refused : IfSome (fault_in kept board) (λ why. r ≡ Err (Probe (Place why)))
+  pub meant : IsFrontOf kept bytes → IsNone (fault_in kept board) → IsMeant (IsValueAt kept bytes (spot_in kept board)) (IsBadAt kept bytes (spot_in kept board)) meaning r
+
+-- a WDL table gives a placement's class, a DTZ table its number in a class
+abbrev pub IsClassOf : FrontKept → List ℕ → Board → ℕ → ℤ → BadBlock → Type 0
+IsClassOf kept bytes board status outcome bad = (r : Result (Option ℤ) FrontProbeFault) × IsProbed kept bytes board as_class r × IsClassTold r status outcome bad
+
+abbrev pub IsNumberOf : FrontKept → List ℕ → ℤ → Board → ℕ → ℤ → BadBlock → Type 0
+IsNumberOf kept bytes class board status outcome bad =
+    (r : Result ℕ FrontProbeFault) × IsProbed kept bytes board (as_number kept.index (spot_in kept board).part class) r × IsNumberTold r status outcome bad
+
+abbrev pub IsOutcome : Kind → FrontKept → List ℕ → ℤ → Board → ℕ → ℤ → BadBlock → Type 0
+IsOutcome Wdl kept bytes class board status outcome bad = IsClassOf kept bytes board status outcome bad
+IsOutcome Dtz kept bytes class board status outcome bad = (is_class class ≡ true → IsNumberOf kept bytes class board status outcome bad) × (is_class class ≡ false → status ≡ 4)
+
+-- the same, if the men are a placement
+abbrev pub IsOutcomeTold : FrontKept → List ℕ → ℤ → Result Board ℕ → ℕ → ℤ → BadBlock → Type 0
+IsOutcomeTold kept bytes class (Err why) status outcome bad = status ≡ why
+IsOutcomeTold kept bytes class (Ok board) status outcome bad = IsOutcome kept.index.kind kept bytes class board status outcome bad

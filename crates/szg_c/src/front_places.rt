@@ -1,0 +1,237 @@
+//! Calls on the placements of an opened front.
+ghost use Rattle.std.specs.Prelude.{◌≡◌, ◌≤ℤ◌, pos, neg_ℤ, Err, IfSome, MatchResult, Ok};
+ghost use Rattle.std.specs.declared.option.Option.TheVariants.{None, Some};
+ghost use Rattle.szg_c.specs.Fronts.{IsClassTold, IsFaultTold, IsNumberTold, IsOutcome, IsOutcomeTold, IsProbed, front_number, front_spot};
+ghost use Rattle.szg_place.specs.Front.{as_class, as_number, spot_in as spot_of_front};
+ghost use Rattle.szg_c.specs.Men.{board_of};
+ghost use Rattle.szg_c.specs.Places.{IsSpot};
+
+use crate::fronts::{BadBlock, fetch_status};
+use crate::handle::{put, take};
+use crate::held_front::HeldFront;
+use crate::men::{CodedMan, placement_of};
+use crate::places::{
+    FoundSpot, is_class, map_status, number_or_status, place_status, spot_or_status,
+};
+use crate::status::{CLOSED, DONE, NO_CLASS, RANGE};
+use std::alloc::Global;
+use szg_file::{FrontTable, TableIndex};
+use szg_place::{
+    FrontProbeFault, ProbeFault, Spot, index_in, probe_dtz_front_in, probe_wdl_front_in,
+};
+use szg_values::{Kind, Placement};
+
+/// The part, side and index of these men with this mover.
+///
+/// Errors, the first that holds: `CLOSED`; what is no placement (`MAN`, `MEN`, `SAME_SQUARE`, `PAWN_RANK`); a placement
+/// for which the table has no index (`OTHER_MATERIAL`, `IRREGULAR`, `KINGS_TOUCH`, `WRONG_SIDE`). Then the spot stays.
+#[unsafe(no_mangle)]
+pub extern "C" fn szg_front_index(
+    alloc: Global,
+    front: &mut HeldFront,
+    men: &[CodedMan],
+    mover: u8,
+    spot: &mut FoundSpot,
+) -> u32
+    ensures kept { front.new.value ≡ front.old.value }
+    ensures closed { front.old.value ≡ None → (result ≡ 5) × (spot.new ≡ spot.old) }
+    ensures told { IfSome front.old.value (λ f. MatchResult (front_spot f.index (board_of men.now mover)) (λ found. (result ≡ 0) × IsSpot spot.new found) (λ status. (result ≡ status) × (spot.new ≡ spot.old))) }
+{
+    let Some(held) = take(front, alloc) else {
+        return CLOSED;
+    };
+    let told = spot_in(held.value(), men, mover);
+    put(front, held);
+    match told {
+        Ok(found) => {
+            spot.part = found.part;
+            spot.side = found.side;
+            spot.index = found.index;
+            DONE
+        }
+        Err(status) => status,
+    }
+}
+
+fn spot_in(table: &FrontTable, men: &[CodedMan], mover: u8) -> Result<Spot, u32>
+    ensures { result ≡ front_spot table.now.index (board_of men.now mover) }
+{
+    match placement_of(men, mover) {
+        Ok(placement) => spot_of(table.index(), &placement),
+        Err(status) => Err(status),
+    }
+}
+
+fn spot_of(index: &TableIndex, placement: &Placement) -> Result<Spot, u32>
+    ensures { result ≡ front_spot index.now (Ok placement.now) }
+{
+    spot_or_status(index_in(index, placement))
+}
+
+/// The number of a DTZ value of a part in a class (2 win, 1 cursed win, -1 blessed loss, -2 loss).
+///
+/// Errors: `CLOSED`; `RANGE` for a WDL table, a class below -2 or above 2, or a part that isn't there; then `DRAW` for
+/// class 0, and `OUTSIDE_MAP` for a value that the table's map hasn't. Then the number stays.
+#[unsafe(no_mangle)]
+pub extern "C" fn szg_front_number(
+    alloc: Global,
+    front: &mut HeldFront,
+    part: u8,
+    class: i8,
+    value: u16,
+    number: &mut u32,
+) -> u32
+    ensures kept { front.new.value ≡ front.old.value }
+    ensures closed { front.old.value ≡ None → (result ≡ 5) × (number.new ≡ number.old) }
+    ensures told { IfSome front.old.value (λ f. MatchResult (front_number f.index part class value) (λ n. (result ≡ 0) × (number.new ≡ n)) (λ status. (result ≡ status) × (number.new ≡ number.old))) }
+{
+    let Some(held) = take(front, alloc) else {
+        return CLOSED;
+    };
+    let told = number_in(held.value().index(), part, class, value);
+    put(front, held);
+    match told {
+        Ok(found) => {
+            *number = found;
+            DONE
+        }
+        Err(status) => status,
+    }
+}
+
+fn number_in(index: &TableIndex, part: u8, class: i8, value: u16) -> Result<u32, u32>
+    ensures { result ≡ front_number index.now part class value }
+{
+    if index.kind() != Kind::Dtz || !is_class(class) || index.size(part, 0).is_none() {
+        return Err(RANGE);
+    }
+    number_or_status(index.map_value(part, class, value))
+}
+
+/// What the table has for these men with this mover, out of the file's bytes: a WDL table the class (2, 1, 0, -1, -2), a
+/// DTZ table the number in a class (2 win, 1 cursed win, -1 blessed loss, -2 loss), which a WDL table doesn't look at. The
+/// block that has the value is verified first.
+///
+/// Errors, the first that holds: `CLOSED`; what is no placement, as `szg_front_index`; in a DTZ table a class below -2 or
+/// above 2 (`RANGE`); a placement for which the table has no index, as `szg_front_index`; `BAD_BLOCK` and `CHANGED` as
+/// `szg_front_get`; in a WDL table a value that is no class (`NO_CLASS`), in a DTZ table class 0 (`DRAW`) and a value that
+/// the map hasn't (`OUTSIDE_MAP`).
+#[unsafe(no_mangle)]
+pub extern "C" fn szg_front_probe(
+    alloc: Global,
+    front: &mut HeldFront,
+    bytes: &[u8],
+    men: &[CodedMan],
+    mover: u8,
+    class: i8,
+    outcome: &mut i64,
+    bad: &mut BadBlock,
+) -> u32
+    ensures kept { front.new.value ≡ front.old.value }
+    ensures closed { front.old.value ≡ None → result ≡ 5 }
+    ensures told { IfSome front.old.value (λ f. IsOutcomeTold f bytes.now class (board_of men.now mover) result outcome.new bad.new) }
+    ensures outcome_stays { (result ≡ 0 → ⊥) → outcome.new ≡ outcome.old }
+    ensures bad_stays { (result ≡ 18 → ⊥) → bad.new ≡ bad.old }
+{
+    let Some(held) = take(front, alloc) else {
+        return CLOSED;
+    };
+    let status = outcome_in(held.value(), bytes, men, mover, class, outcome, bad);
+    put(front, held);
+    status
+}
+
+fn outcome_in(
+    table: &FrontTable,
+    bytes: &[u8],
+    men: &[CodedMan],
+    mover: u8,
+    class: i8,
+    outcome: &mut i64,
+    bad: &mut BadBlock,
+) -> u32
+    ensures told { IsOutcomeTold table.now bytes.now class (board_of men.now mover) result outcome.new bad.new }
+    ensures outcome_stays { (result ≡ 0 → ⊥) → outcome.new ≡ outcome.old }
+    ensures bad_stays { (result ≡ 18 → ⊥) → bad.new ≡ bad.old }
+{
+    match placement_of(men, mover) {
+        Ok(placement) => outcome_of(table, bytes, &placement, class, outcome, bad),
+        // a status of men is not 0 and not 18
+        Err(status) => status,
+    }
+}
+
+fn outcome_of(
+    table: &FrontTable,
+    bytes: &[u8],
+    placement: &Placement,
+    class: i8,
+    outcome: &mut i64,
+    bad: &mut BadBlock,
+) -> u32
+    ensures told { IsOutcome table.now.index.kind table.now bytes.now class placement.now result outcome.new bad.new }
+    ensures outcome_stays { (result ≡ 0 → ⊥) → outcome.new ≡ outcome.old }
+    ensures bad_stays { (result ≡ 18 → ⊥) → bad.new ≡ bad.old }
+{
+    match table.index().kind() {
+        Kind::Wdl => class_told(probe_wdl_front_in(table, bytes, placement), outcome, bad),
+        Kind::Dtz => {
+            if !is_class(class) {
+                return RANGE;
+            }
+            number_told(
+                probe_dtz_front_in(table, bytes, placement, class),
+                outcome,
+                bad,
+            )
+        }
+    }
+}
+
+/// Writes a class; returns the status.
+fn class_told(
+    told: Result<Option<i8>, FrontProbeFault>,
+    outcome: &mut i64,
+    bad: &mut BadBlock,
+) -> u32
+    ensures told { IsClassTold told result outcome.new bad.new }
+    ensures outcome_stays { (result ≡ 0 → ⊥) → outcome.new ≡ outcome.old }
+    ensures bad_stays { (result ≡ 18 → ⊥) → bad.new ≡ bad.old }
+{
+    match told {
+        Ok(Some(class)) => {
+            *outcome = i64::from(class);
+            DONE
+        }
+        Ok(None) => NO_CLASS,
+        Err(fault) => fault_told(fault, bad),
+    }
+}
+
+/// Writes a number; returns the status.
+fn number_told(told: Result<u32, FrontProbeFault>, outcome: &mut i64, bad: &mut BadBlock) -> u32
+    ensures told { IsNumberTold told result outcome.new bad.new }
+    ensures outcome_stays { (result ≡ 0 → ⊥) → outcome.new ≡ outcome.old }
+    ensures bad_stays { (result ≡ 18 → ⊥) → bad.new ≡ bad.old }
+{
+    match told {
+        Ok(number) => {
+            *outcome = i64::from(number);
+            DONE
+        }
+        Err(fault) => fault_told(fault, bad),
+    }
+}
+
+/// The status of a fault of a probe; a bad block is written to `bad`.
+fn fault_told(fault: FrontProbeFault, bad: &mut BadBlock) -> u32
+    ensures told { IsFaultTold fault result bad.new }
+    ensures stays { (result ≡ 18 → ⊥) → bad.new ≡ bad.old }
+    ensures not_done { result ≡ 0 → ⊥ }
+{
+    match fault {
+        FrontProbeFault::Probe(ProbeFault::Place(why)) => place_status(why),
+        FrontProbeFault::Probe(ProbeFault::Map(why)) => map_status(why),
+        FrontProbeFault::Fetch(why) => fetch_status(why, bad),
+    }
+}

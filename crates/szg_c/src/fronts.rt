@@ -1,0 +1,225 @@
+//! Calls on an opened front. The file's bytes are lent at each call.
+ghost use Rattle.std.specs.Prelude.{◌≡◌, ◌⊎◌, ℕ, List, IfErr, IfOk, IfSome, IsSomeAnd, MatchOption, is_some};
+ghost use Rattle.std.specs.declared.option.Option.TheVariants.{None, Some};
+ghost use Rattle.szg_file.specs.FrontTable.{IsFrontOf};
+ghost use Rattle.szg_file.specs.Index.{slot_in};
+ghost use Rattle.szg_c.specs.Fronts.{FetchTold, IsFront, IsGot, SaysFront, StopsFront, with_slot};
+
+use crate::handle::{hold, put, share, shut, take};
+use crate::held_front::HeldFront;
+use crate::opening::{Answer, kind_of, material_of};
+use crate::shared::Shared;
+use crate::status::{BAD_BLOCK, CHANGED, CLOSED, DONE, MEMORY, NAME, RANGE, REFUSED, number_of};
+use std::alloc::Global;
+use szg_block::Image;
+use szg_file::{FetchFault, FrontTable, OpenFault, open_front};
+
+/// A block that doesn't decode.
+#[repr(C)]
+#[derive(Drop)]
+pub struct BadBlock {
+    /// The block's number in its subtable.
+    pub block: u32,
+    /// The block's offset in the file.
+    pub offset: u64,
+}
+
+/// The front of this name and kind that the bytes begin with; else the status.
+fn front_in(
+    alloc: Global,
+    name: &[u8],
+    dtz: bool,
+    bytes: &[u8],
+    answer: &mut Answer,
+) -> Result<FrontTable, u32>
+    ensures front { IfOk result (IsFront name.now dtz bytes.now) }
+    ensures stops { IfErr result (λ status. StopsFront name.now dtz bytes.now status answer.new.place answer.new.reason) }
+    ensures kept { IfOk result (λ t. answer.new ≡ answer.old) }
+    ensures stays { IfErr result (λ status. (status ≡ 2 → ⊥) → answer.new ≡ answer.old) }
+{
+    let Some(material) = material_of(name) else {
+        return Err(NAME);
+    };
+    match open_front(alloc, material, kind_of(dtz), Image::new(bytes)) {
+        Ok((table, _)) => Ok(table),
+        Err((OpenFault::Refused { place, reason }, _)) => {
+            answer.place = place;
+            answer.reason = number_of(reason);
+            Err(REFUSED)
+        }
+        Err((OpenFault::Memory, _)) => Err(MEMORY),
+        // bytes in memory never fail
+        Err((OpenFault::Source, _)) => unreachable!(),
+    }
+}
+
+/// Opens the front of the table of this name and kind whose file the bytes are: reads and checks all but the blocks. What
+/// `front` held before is let go.
+///
+/// Errors: `NAME`, `REFUSED` (then `answer` has the offset and the reason), `MEMORY`; then `front` holds none.
+#[unsafe(no_mangle)]
+pub extern "C" fn szg_open_front(
+    alloc: Global,
+    name: &[u8],
+    dtz: bool,
+    bytes: &[u8],
+    front: &mut HeldFront,
+    answer: &mut Answer,
+) -> u32
+    ensures says { SaysFront name.now dtz bytes.now (IsSomeAnd front.new.value (IsFront name.now dtz bytes.now)) result answer.new.place answer.new.reason }
+    ensures shut { (result ≡ 0 → ⊥) → front.new.value ≡ None }
+    ensures stays { (result ≡ 2 → ⊥) → answer.new ≡ answer.old }
+{
+    shut(front, alloc);
+    match front_in(alloc, name, dtz, bytes, answer) {
+        Ok(table) => {
+            let Ok(shared) = Shared::new(alloc, table) else {
+                return MEMORY;
+            };
+            hold(alloc, front, shared)
+        }
+        Err(status) => status,
+    }
+}
+
+/// A second handle on a front: both hold it, and it goes when the last is closed. What the second held before is let go.
+///
+/// Errors: `CLOSED` if the first holds none, `MEMORY`; then the second holds none.
+#[unsafe(no_mangle)]
+pub extern "C" fn szg_share_front(
+    alloc: Global,
+    front: &mut HeldFront,
+    second: &mut HeldFront,
+) -> u32
+    ensures kept { front.new.value ≡ front.old.value }
+    ensures closed { front.old.value ≡ None → result ≡ 5 }
+    ensures statuses { IfSome front.old.value (λ f. (result ≡ 0) ⊎ (result ≡ 3)) }
+    ensures done { (result ≡ 0) → second.new.value ≡ front.old.value }
+    ensures shut { (result ≡ 0 → ⊥) → second.new.value ≡ None }
+{
+    share(alloc, front, second)
+}
+
+/// Lets the front go.
+#[unsafe(no_mangle)]
+pub extern "C" fn szg_close_front(alloc: Global, front: &mut HeldFront)
+    ensures { front.new.value ≡ None }
+{
+    shut(front, alloc);
+}
+
+/// The number of positions of a part's side.
+fn size_in(table: &FrontTable, part: u8, side: u8, size: &mut u64) -> u32
+    ensures { MatchOption (slot_in table.now.index part side) ((result ≡ 4) × (size.new ≡ size.old)) (λ slot. (result ≡ 0) × (size.new ≡ slot.size)) }
+{
+    let Some(count) = table.index().size(part, side) else {
+        return RANGE;
+    };
+    *size = count;
+    DONE
+}
+
+/// The number of positions of a part's side.
+///
+/// Errors: `CLOSED` if the handle holds no front, `RANGE` if the table has no such part or side. Then the size stays.
+#[unsafe(no_mangle)]
+pub extern "C" fn szg_front_size(
+    alloc: Global,
+    front: &mut HeldFront,
+    part: u8,
+    side: u8,
+    size: &mut u64,
+) -> u32
+    ensures kept { front.new.value ≡ front.old.value }
+    ensures closed { front.old.value ≡ None → (result ≡ 5) × (size.new ≡ size.old) }
+    ensures told { IfSome front.old.value (λ f. MatchOption (slot_in f.index part side) ((result ≡ 4) × (size.new ≡ size.old)) (λ slot. (result ≡ 0) × (size.new ≡ slot.size))) }
+{
+    let Some(held) = take(front, alloc) else {
+        return CLOSED;
+    };
+    let status = size_in(held.value(), part, side, size);
+    put(front, held);
+    status
+}
+
+/// Whether a table has this index.
+fn has_index(table: &FrontTable, part: u8, side: u8, index: u64) -> bool
+    ensures { result ≡ is_some (with_slot (slot_in table.now.index part side) index) }
+{
+    match table.index().size(part, side) {
+        Some(size) => index < size,
+        None => false,
+    }
+}
+
+/// The status of a fault of a fetch; a bad block is written to `bad`.
+pub fn fetch_status(fault: FetchFault, bad: &mut BadBlock) -> u32
+    ensures { FetchTold fault bad.old bad.new result }
+{
+    match fault {
+        FetchFault::Block { number, offset } => {
+            bad.block = number;
+            bad.offset = offset;
+            BAD_BLOCK
+        }
+        FetchFault::Source => CHANGED,
+    }
+}
+
+/// The value at an index of a part's side, out of the file's bytes.
+fn value_in(
+    table: &FrontTable,
+    bytes: &[u8],
+    part: u8,
+    side: u8,
+    index: u64,
+    value: &mut u16,
+    bad: &mut BadBlock,
+) -> u32
+    ensures statuses { MatchOption (with_slot (slot_in table.now.index part side) index) (result ≡ 4) (λ slot. (result ≡ 0) ⊎ (result ≡ 17) ⊎ (result ≡ 18)) }
+    ensures got { IsFrontOf table.now bytes.now → IfSome (with_slot (slot_in table.now.index part side) index) (λ slot. IsGot table.now bytes.now part side index result value.new bad.old bad.new) }
+    ensures value_stays { (result ≡ 0 → ⊥) → value.new ≡ value.old }
+    ensures bad_stays { (result ≡ 18 → ⊥) → bad.new ≡ bad.old }
+{
+    if !has_index(table, part, side, index) {
+        return RANGE;
+    }
+    match table.get_in(bytes, part, side, index) {
+        Ok(found) => {
+            *value = found;
+            DONE
+        }
+        Err(fault) => fetch_status(fault, bad),
+    }
+}
+
+/// The value at an index of a part's side, out of the file's bytes. The block that has it is verified first.
+///
+/// Errors: `CLOSED` if the handle holds no front, `RANGE` if the table has no such part, side or index, `BAD_BLOCK` if the
+/// block doesn't decode (then `bad` has its number and offset), `CHANGED` if there are fewer bytes than when the front was
+/// opened.
+#[unsafe(no_mangle)]
+pub extern "C" fn szg_front_get(
+    alloc: Global,
+    front: &mut HeldFront,
+    bytes: &[u8],
+    part: u8,
+    side: u8,
+    index: u64,
+    value: &mut u16,
+    bad: &mut BadBlock,
+) -> u32
+    ensures kept { front.new.value ≡ front.old.value }
+    ensures closed { front.old.value ≡ None → result ≡ 5 }
+    ensures statuses { IfSome front.old.value (λ f. MatchOption (with_slot (slot_in f.index part side) index) (result ≡ 4) (λ slot. (result ≡ 0) ⊎ (result ≡ 17) ⊎ (result ≡ 18))) }
+    ensures got { IfSome front.old.value (λ f. IsFrontOf f bytes.now → IfSome (with_slot (slot_in f.index part side) index) (λ slot. IsGot f bytes.now part side index result value.new bad.old bad.new)) }
+    ensures value_stays { (result ≡ 0 → ⊥) → value.new ≡ value.old }
+    ensures bad_stays { (result ≡ 18 → ⊥) → bad.new ≡ bad.old }
+{
+    let Some(held) = take(front, alloc) else {
+        return CLOSED;
+    };
+    let status = value_in(held.value(), bytes, part, side, index, value, bad);
+    put(front, held);
+    status
+}
