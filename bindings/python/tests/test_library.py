@@ -47,7 +47,7 @@ def test_the_examples_of_the_readme_run(folder: Path, monkeypatch: pytest.Monkey
 
 
 def test_errors_are_pickled() -> None:
-    for error in (szg.Refused(7, "Word"), szg.Untold("Man"), szg.Changed("it"), szg.MissingTableError("none")):
+    for error in (szg.Refused(7, "Word"), szg.Untold("Man"), szg.Changed("it"), szg.MissingTableError("none"), szg.BadBlock(3, 320)):
         again = pickle.loads(pickle.dumps(error))
         assert type(again) is type(error) and str(again) == str(error) and vars(again) == vars(error)
 
@@ -73,7 +73,7 @@ def test_statuses_and_reasons_are_the_headers() -> None:
     reasons = {spelled(name[4:]): number for name, number in enumerators("szg_reason").items()}
     assert reasons == {name: number for number, name in enumerate(_library.REASONS, 1)}
     statuses = {name[4:]: number for name, number in enumerators("szg_status").items()}
-    numbered = {name: getattr(_library, name) for name in ("DONE", "NAME", "REFUSED", "MEMORY", "RANGE", "CLOSED", "CHANGED")}
+    numbered = {name: getattr(_library, name) for name in ("DONE", "NAME", "REFUSED", "MEMORY", "RANGE", "CLOSED", "CHANGED", "BAD_BLOCK")}
     numbered.update({name: number for name in statuses for number, spelt in _library.UNTOLD.items() if spelled(name) == spelt})
     assert numbered == statuses
 
@@ -88,19 +88,23 @@ def test_statuses_and_reasons_are_the_headers() -> None:
     (13, szg.Untold, "the table has no entry: WrongSide"), (14, szg.Untold, "the table has no entry: NoClass"),
     (15, szg.Untold, "the table has no entry: Draw"), (16, szg.Untold, "the table has no entry: OutsideMap"),
     (17, szg.Changed, "the table's file was changed"), (18, RuntimeError, "the library returned the status 18"),
+    (19, RuntimeError, "the library returned the status 19"),
 ])
 def test_each_status_of_a_call_is_an_exception(status: int, fault: type, said: str) -> None:
     with szg.Table("KQvK", "wdl", UNPAIRED.data) as table:
-        handles = table._opened._whole
+        front = table._opened._front
         with pytest.raises(fault) as caught:
-            handles(lambda *_: status)
+            front(lambda *_: status)
         assert type(caught.value) is fault and str(caught.value) == said
-        handles(lambda *_: 0)
+        if status != _library.BAD_BLOCK:
+            with pytest.raises(fault, match=f"^{said}$"):
+                front.fetch(lambda *_: status, table._opened._bytes())
+        front(lambda *_: 0), front.fetch(lambda *_: 0, table._opened._bytes())
         assert table.get(11711) == 4
 
 
-@pytest.mark.parametrize("call", ["szg_open", "szg_open_heads", "szg_share", "szg_share_heads", "szg_check", "szg_all",
-                                  "szg_positions", "szg_get", "szg_value", "szg_find", "szg_probe", "szg_index"])
+@pytest.mark.parametrize("call", ["szg_open_front", "szg_share_front", "szg_check", "szg_values", "szg_front_size", "szg_front_get",
+                                  "szg_front_probe", "szg_front_index"])
 def test_no_call_loses_want_of_memory(call: str, tmp_path: Path, monkeypatch: pytest.MonkeyPatch) -> None:
     path = tmp_path / "KQvK.rtbw"
     path.write_bytes(UNPAIRED.data)
@@ -117,30 +121,40 @@ def test_no_call_loses_want_of_memory(call: str, tmp_path: Path, monkeypatch: py
         use()
 
 
+@pytest.mark.parametrize("call", [lambda path: szg.Table.open(path, verify=True), lambda _: szg.Table("KQvK", "wdl", UNPAIRED.data, verify=True)])
+def test_verifying_at_opening_loses_no_want_of_memory(call, tmp_path: Path, monkeypatch: pytest.MonkeyPatch) -> None:
+    path = tmp_path / "KQvK.rtbw"
+    path.write_bytes(UNPAIRED.data)
+    call(path).close()
+    monkeypatch.setattr(_library.library, "szg_check", lambda *_: 3)
+    with pytest.raises(MemoryError):
+        call(path)
+
+
 def test_closing_lets_the_librarys_handles_go(tmp_path: Path, monkeypatch: pytest.MonkeyPatch) -> None:
     """Each handle that is made is closed once, however the table goes."""
     path = tmp_path / "KQvK.rtbw"
     path.write_bytes(UNPAIRED.data)
     made, closed = [], []
-    for name in ("szg_open", "szg_open_heads", "szg_share", "szg_share_heads"):
+    for name in ("szg_open_front", "szg_share_front"):
         def make(*words, call=getattr(_library.library, name), at=-2 if "open" in name else -1):
             made.append(words[at]._obj)
             return call(*words)
         monkeypatch.setattr(_library.library, name, make)
-    for name in ("szg_close", "szg_close_heads"):
-        def close(word, call=getattr(_library.library, name)):
-            closed.append(word._obj)
-            call(word)
-        monkeypatch.setattr(_library.library, name, close)
-    for way in ("closed", "dropped", "closed while it serves"):
+
+    def close(word, call=_library.library.szg_close_front):
+        closed.append(word._obj)
+        call(word)
+    monkeypatch.setattr(_library.library, "szg_close_front", close)
+    for count, way in enumerate(("closed", "dropped", "closed while it serves"), 1):
         table = szg.Table.open(path)
         table.get(0), table.size()
         if way == "closed":
             table.close()
         if way == "closed while it serves":
-            table._opened._whole(lambda *_: table.close() or 0)
+            table._opened._front(lambda *_: table.close() or 0)
         del table
-        assert len(made) >= 4 and {id(one) for one in made} == {id(one) for one in closed}
+        assert len(made) == 2 * count and {id(one) for one in made} == {id(one) for one in closed}
         assert all(not one.held for one in made)
 
 

@@ -6,7 +6,7 @@ import struct
 
 import pytest
 import szg
-from conftest import DAMAGED, KNIGHT, PAIRED, PAWN, UNPAIRED, Board, Sample
+from conftest import DAMAGED, KNIGHT, PAIRED, PAWN, UNPAIRED, Board, Sample, block_values
 from damaged_files import Damaged
 from szg import BISHOP, BLACK, KING, QUEEN, ROOK, WHITE
 
@@ -99,14 +99,76 @@ def test_what_is_not_bytes_is_a_type_error(data: object) -> None:
 
 
 def test_each_reason_with_its_byte(each_damaged: Damaged, tmp_path) -> None:
-    path = tmp_path / f"{each_damaged.name}.{'rtbw' if each_damaged.kind == 'wdl' else 'rtbz'}"
-    path.write_bytes(each_damaged.data)
-    for call in (lambda: szg.Table(each_damaged.name, each_damaged.kind, each_damaged.data), lambda: szg.Table.open(path)):
+    """Opening finds each fault but one in a block, which `verify` finds."""
+    name, kind, data = each_damaged.name, each_damaged.kind, each_damaged.data
+    path = tmp_path / f"{name}.{'rtbw' if kind == 'wdl' else 'rtbz'}"
+    path.write_bytes(data)
+    opening = [lambda: szg.Table(name, kind, data), lambda: szg.Table.open(path)]
+    calls = [lambda: szg.Table(name, kind, data, verify=True), lambda: szg.Table.open(path, verify=True)]
+    if each_damaged.reason == "Word":
+        calls += [lambda: opening[0]().verify(), lambda: opening[1]().verify()]
+    else:
+        calls += opening
+    for call in calls:
         with pytest.raises(szg.Refused) as caught:
             call()
         assert (caught.value.place, caught.value.reason) == (each_damaged.place, each_damaged.reason)
         assert str(caught.value) == f"refused at {each_damaged.place}: {each_damaged.reason}"
         assert isinstance(caught.value, ValueError)
+
+
+def test_opening_looks_at_no_block(tmp_path) -> None:
+    """Whatever the blocks are, the table is opened, and refused with `verify`."""
+    sub = PAIRED.read.subs[0]
+    data = bytearray(PAIRED.data)
+    data[sub.first_block:sub.first_block + (sub.block_count << sub.block_bits)] = bytes(sub.block_count << sub.block_bits)
+    path = tmp_path / "KQvK.rtbw"
+    path.write_bytes(data)
+    for table in (szg.Table("KQvK", "wdl", data), szg.Table.open(path)):
+        assert table.size() == sub.size and table.index(QUEEN_MEN, WHITE).index == 11711
+        for call in (lambda: table.get(11711), lambda: table.probe_wdl(QUEEN_MEN, WHITE)):
+            with pytest.raises(szg.BadBlock) as caught:
+                call()
+            assert caught.value.offset == sub.first_block + (caught.value.block << sub.block_bits)
+        for call in (table.verify, table.values):
+            with pytest.raises(szg.Refused) as refused:
+                call()
+            assert (refused.value.place, refused.value.reason) == (sub.first_block, "Word")
+
+
+def test_each_changed_byte_of_a_block_is_a_value_or_a_fault(each_sample: Sample) -> None:
+    """A look-up returns what the second reader spells in the block as it is, or BadBlock; other blocks are as before."""
+    data = bytearray(each_sample.data)
+    faults = 0
+    with szg.Table(each_sample.name, each_sample.kind, data) as table:
+        for sub in each_sample.read.subs:
+            for number in range(sub.block_count if sub.constant is None else 0):
+                first, last = sub.starts[number], min(sub.starts[number + 1], sub.size) - 1
+                at = sub.first_block + (number << sub.block_bits)
+                end = at + (1 << sub.block_bits)
+                others = [index for index in (first - 1, last + 1) if 0 <= index < sub.size]
+                for byte in range(at, end):
+                    data[byte] ^= 1 + byte % 255
+                    values = block_values(sub, number, bytes(data[at:end]))
+                    for index in {first, (first + last) // 2, last}:
+                        if values is not None:
+                            assert table.get(index, sub.part, sub.side) == values[index - first]
+                            continue
+                        with pytest.raises(szg.BadBlock) as caught:
+                            table.get(index, sub.part, sub.side)
+                        assert (caught.value.block, caught.value.offset) == (number, at)
+                        faults += 1
+                    for index in others:
+                        assert table.get(index, sub.part, sub.side) == sub.value(index)
+                    data[byte] ^= 1 + byte % 255
+    # in the unpaired sample all bits are words
+    assert (faults > 0) == (each_sample is PAIRED)
+
+
+def test_a_bad_block_is_one_sentence() -> None:
+    error = szg.BadBlock(3, 320)
+    assert (error.block, error.offset, str(error)) == (3, 320, "block 3 at 320 does not decode")
+    assert isinstance(error, ValueError) and not isinstance(error, szg.Refused)
 
 
 def test_all_reasons_are_tried() -> None:
@@ -129,8 +191,9 @@ def test_verify_sees_the_bytes_as_they_are(tmp_path) -> None:
         with pytest.raises(szg.Refused) as caught:
             table.verify()
         assert (caught.value.place, caught.value.reason) == (256, "Word")
-        with pytest.raises(szg.Changed):
+        with pytest.raises(szg.BadBlock) as bad:
             table.get(15000)
+        assert (bad.value.block, bad.value.offset) == (0, 256)
         assert isinstance(szg.Changed(), ValueError)
         # the other block is as it was
         assert table.get(31331) == PAIRED.read.subs[0].value(31331)

@@ -97,6 +97,30 @@ def test_a_file_that_is_no_table_is_refused_when_it_is_probed(folder: Path) -> N
         pytest.raises(FileNotFoundError, tables.get_wdl, QUEEN_FEN)
 
 
+def test_a_bad_block_spoils_no_other_probe(folder: Path) -> None:
+    sub, data = PAIRED.read.subs[0], bytearray(PAIRED.data)
+    block = max(number for number in range(sub.block_count) if sub.starts[number] <= 11711)
+    at = sub.first_block + (block << sub.block_bits)
+    data[at:at + (1 << sub.block_bits)] = bytes(1 << sub.block_bits)
+    (folder / "KQvK.rtbw").write_bytes(data)
+    with szg.open_tablebase(folder) as tables:
+        for call in (tables.probe_wdl_table, tables.get_wdl):
+            caught = pytest.raises(szg.BadBlock, call, QUEEN_FEN).value
+            assert (caught.block, caught.offset) == (block, at)
+        assert tables.probe_wdl_table("4K3/8/8/8/8/8/8/Q6k b") == 0
+        assert tables.probe_dtz_table(PAWN_FEN, 2) == (600, 1)
+
+
+def test_a_link_serves_by_its_own_name(folder: Path, tmp_path: Path) -> None:
+    store = tmp_path / "store"
+    store.mkdir()
+    (store / "KRvK.rtbz").write_bytes(UNPAIRED.data)
+    (folder / "KQvK.rtbw").unlink()
+    (folder / "KQvK.rtbw").symlink_to(store / "KRvK.rtbz")
+    with szg.open_tablebase(folder) as tables:
+        assert tables.probe_wdl_table(QUEEN_FEN) == 2
+
+
 def test_relative_folders_stay(folder: Path) -> None:
     at = os.getcwd()
     try:

@@ -128,7 +128,7 @@ def test_a_tablebase_is_closed_while_threads_use_it(folder: Path) -> None:
 def test_a_handle_serves_one_call_at_a_time() -> None:
     """No two calls that run at once have one handle."""
     with szg.Table("KQvK", "wdl", UNPAIRED.data) as table:
-        handles, lock, busy, most = table._opened._whole, threading.Lock(), set(), [0]
+        handles, lock, busy, most = table._opened._front, threading.Lock(), set(), [0]
 
         def slow(handle, *_) -> int:
             address = id(handle._obj)

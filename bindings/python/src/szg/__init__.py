@@ -9,17 +9,18 @@
         table.probe_wdl([(szg.KING, szg.WHITE, 60), (szg.QUEEN, szg.WHITE, 0), (szg.KING, szg.BLACK, 7)], szg.WHITE)
         table.values()                                     # all values, as numpy.asarray takes them
 
-From any bytes you get either the table that they begin with, or Refused with the first check that fails and its byte.
+Opening a table checks all of it but its blocks, and these too with verify=True: you get the table, or Refused with the
+first check that fails and its byte. Each block is checked when a value is fetched from it: you get the value, or BadBlock.
 The checks are not made here: the C library makes them. It is that of SZG_LIBRARY, a path, where it is set, else the one
 in this package, else the system's.
 """
-from ._errors import Changed, MissingTableError, Refused, Untold
+from ._errors import BadBlock, Changed, MissingTableError, Refused, Untold
 from ._placement import BISHOP, BLACK, KING, KNIGHT, PAWN, QUEEN, ROOK, WHITE, Board, Placement
 from ._table import Spot, Table
 from ._tablebase import Tablebase, open_tablebase
 from ._version import __version__
 
 __all__ = [
-    "BISHOP", "BLACK", "Board", "Changed", "KING", "KNIGHT", "MissingTableError", "PAWN", "Placement", "QUEEN", "ROOK",
+    "BISHOP", "BLACK", "BadBlock", "Board", "Changed", "KING", "KNIGHT", "MissingTableError", "PAWN", "Placement", "QUEEN", "ROOK",
     "Refused", "Spot", "Table", "Tablebase", "Untold", "WHITE", "__version__", "open_tablebase",
 ]

@@ -32,8 +32,23 @@ class Untold(LookupError):
         return f"the table has no entry: {self.reason}"
 
 
+class BadBlock(ValueError):
+    """The block that has the value does not decode: the file is damaged there, or was changed after it was opened.
+
+    `block` is its number in its part and side, `offset` its byte offset in the file. Other blocks return their values as
+    before."""
+
+    def __init__(self, block: int, offset: int) -> None:
+        super().__init__(block, offset)
+        self.block = block
+        self.offset = offset
+
+    def __str__(self) -> str:
+        return f"block {self.block} at {self.offset} does not decode"
+
+
 class Changed(ValueError):
-    """The mapped file was changed after it was opened: the block does not decode to the value asked for."""
+    """The bytes are fewer than when the table was opened."""
 
 
 class MissingTableError(KeyError):

@@ -6,7 +6,7 @@ from ctypes import POINTER, byref, c_bool, c_char_p, c_int8, c_int64, c_size_t, 
 from pathlib import Path
 from typing import Any, Callable, List, NoReturn, Optional
 
-from ._errors import Changed, Refused, Untold
+from ._errors import BadBlock, Changed, Refused, Untold
 
 REASONS = (
     "Truncated", "Magic", "SplitBit", "PawnBit", "Pieces", "PawnsFirst", "OrderPlace", "BlockBits", "SpanBits",
@@ -17,7 +17,7 @@ UNTOLD = dict(enumerate((
     "Man", "Men", "SameSquare", "PawnRank", "OtherMaterial", "Irregular", "KingsTouch", "WrongSide", "NoClass", "Draw",
     "OutsideMap",
 ), 6))
-CHANGED = 17
+CHANGED, BAD_BLOCK = 17, 18
 
 
 class Answer(ctypes.Structure):
@@ -28,8 +28,8 @@ class Handle(ctypes.Structure):
     _fields_ = [("held", c_void_p)]
 
 
-class Wanted(ctypes.Structure):
-    _fields_ = [("place", c_uint64), ("count", c_uint64)]
+class NamedBlock(ctypes.Structure):
+    _fields_ = [("block", c_uint32), ("offset", c_uint64)]
 
 
 class CodedMan(ctypes.Structure):
@@ -45,20 +45,16 @@ def _signatures() -> "dict[str, list[Any]]":
     file = [c_char_p, c_size_t, c_bool, c_void_p, c_size_t]
     return {
         "szg_check": [*file, POINTER(Answer)],
-        "szg_open": [*file, handle, POINTER(Answer)],
-        "szg_share": [handle, handle],
-        "szg_positions": [handle, *subtable, POINTER(c_uint64)],
-        "szg_get": [handle, *subtable, c_uint64, POINTER(c_uint16)],
-        "szg_all": [handle, *subtable, POINTER(c_uint16), c_size_t],
-        "szg_number": [handle, c_uint8, c_int8, c_uint16, POINTER(c_uint32)],
-        "szg_index": [handle, POINTER(CodedMan), c_size_t, c_uint8, POINTER(FoundSpot)],
-        "szg_probe": [handle, POINTER(CodedMan), c_size_t, c_uint8, c_int8, POINTER(c_int64)],
-        "szg_close": [handle],
-        "szg_open_heads": [*file, handle, POINTER(Answer)],
-        "szg_share_heads": [handle, handle],
-        "szg_find": [handle, *subtable, c_uint64, POINTER(Wanted)],
-        "szg_value": [handle, *subtable, c_uint64, c_void_p, c_size_t, POINTER(c_uint16)],
-        "szg_close_heads": [handle],
+        "szg_values": [*file, *subtable, POINTER(c_uint16), c_size_t, POINTER(Answer)],
+        "szg_open_front": [*file, handle, POINTER(Answer)],
+        "szg_share_front": [handle, handle],
+        "szg_front_size": [handle, *subtable, POINTER(c_uint64)],
+        "szg_front_get": [handle, c_void_p, c_size_t, *subtable, c_uint64, POINTER(c_uint16), POINTER(NamedBlock)],
+        "szg_front_index": [handle, POINTER(CodedMan), c_size_t, c_uint8, POINTER(FoundSpot)],
+        "szg_front_probe": [
+            handle, c_void_p, c_size_t, POINTER(CodedMan), c_size_t, c_uint8, c_int8, POINTER(c_int64), POINTER(NamedBlock)],
+        "szg_front_number": [handle, c_uint8, c_int8, c_uint16, POINTER(c_uint32)],
+        "szg_close_front": [handle],
     }
 
 
@@ -112,8 +108,10 @@ class Lent:
             ctypes.pythonapi.PyBuffer_Release(byref(self._view))
 
 
-def judge(status: int) -> None:
-    """Raises what a status means; nothing for DONE."""
+def judge(status: int, bad: Optional[NamedBlock] = None) -> None:
+    """Raises what a status means; nothing for DONE. `bad` is the block that the call named."""
+    if status == BAD_BLOCK and bad is not None:
+        raise BadBlock(bad.block, bad.offset)
     if status != DONE:
         _raise(status)
 
@@ -132,47 +130,48 @@ def _raise(status: int) -> NoReturn:
     raise RuntimeError(f"the library returned the status {status}")
 
 
-def _judge_file(status: int, name: str, answer: Answer) -> None:
+def ask_file(call: Callable[..., int], name: str, kind: str, lent: Lent, *words: Any) -> int:
+    """Makes a call on a file's bytes, with these arguments after them. Returns the number that it answers with.
+
+    Errors: Refused; ValueError for a name; those of `judge`."""
+    text, answer = name.encode(errors="replace"), Answer()
+    status = call(text, len(text), kind == "dtz", lent.address, lent.length, *words, byref(answer))
     if status == REFUSED:
         raise Refused(answer.place, REASONS[answer.reason - 1])
     if status == NAME:
         raise ValueError(f"{name!r} is no material's name")
     judge(status)
-
-
-def check(name: str, kind: str, lent: Lent) -> int:
-    """The number of bytes of the table that the bytes begin with. Errors: Refused, ValueError, MemoryError."""
-    text, answer = name.encode(errors="replace"), Answer()
-    status = library.szg_check(text, len(text), kind == "dtz", lent.address, lent.length, byref(answer))
-    _judge_file(status, name, answer)
     return int(answer.place)
 
 
 class Handles:
-    """Handles on one opened table. A handle serves one call at a time, so each call takes one that is idle.
+    """Handles on one opened front. A handle serves one call at a time, so each call takes one that is idle.
 
     Any number of threads call; there are as many handles as calls at once. The first handle is shared only."""
 
-    def __init__(self, suffix: str, name: str, kind: str, lent: Lent) -> None:
-        self._share: Callable[..., int] = getattr(library, "szg_share" + suffix)
-        self._close: Callable[..., None] = getattr(library, "szg_close" + suffix)
+    def __init__(self, name: str, kind: str, lent: Lent) -> None:
         self._lock = threading.Lock()
         self._idle: List[Handle] = []
         self._first: Optional[Handle] = None
-        opened, answer, text = Handle(), Answer(), name.encode(errors="replace")
-        open_table = getattr(library, "szg_open" + suffix)
-        _judge_file(
-            open_table(text, len(text), kind == "dtz", lent.address, lent.length, byref(opened), byref(answer)), name, answer)
+        opened = Handle()
+        ask_file(library.szg_open_front, name, kind, lent, byref(opened))
         self._first = opened
 
     def __call__(self, call: Callable[..., int], *words: Any) -> None:
         """Calls the library with an idle handle and these arguments. Errors: those of the status."""
+        judge(self._status(call, *words))
+
+    def fetch(self, call: Callable[..., int], lent: Lent, *words: Any) -> None:
+        """The same for a call that fetches a value out of the bytes. Errors: BadBlock too."""
+        bad = NamedBlock()
+        judge(self._status(call, lent.address, lent.length, *words, byref(bad)), bad)
+
+    def _status(self, call: Callable[..., int], *words: Any) -> int:
         handle = self._take()
         try:
-            status = call(byref(handle), *words)
+            return call(byref(handle), *words)
         finally:
             self._put(handle)
-        judge(status)
 
     def _take(self) -> Handle:
         with self._lock:
@@ -181,7 +180,7 @@ class Handles:
             if self._idle:
                 return self._idle.pop()
             made = Handle()
-            judge(self._share(byref(self._first), byref(made)))
+            judge(library.szg_share_front(byref(self._first), byref(made)))
             return made
 
     def _put(self, handle: Handle) -> None:
@@ -189,7 +188,7 @@ class Handles:
             if self._first is not None:
                 self._idle.append(handle)
                 return
-        self._close(byref(handle))
+        library.szg_close_front(byref(handle))
 
     def close(self) -> None:
         """Closes all handles; one that serves a call is closed after it."""
@@ -197,7 +196,7 @@ class Handles:
             first, self._first = self._first, None
             idle, self._idle = self._idle, []
         for handle in idle + ([first] if first is not None else []):
-            self._close(byref(handle))
+            library.szg_close_front(byref(handle))
 
     def __del__(self) -> None:
         if getattr(self, "_first", None) is not None:

@@ -40,44 +40,44 @@ class Table:
     kind: str
     """`wdl` or `dtz`."""
 
-    def __init__(self, name: str, kind: str, data: Any) -> None:
-        """Opens the table that bytes begin with, and checks all of it.
+    def __init__(self, name: str, kind: str, data: Any, *, verify: bool = False) -> None:
+        """Opens the table that bytes begin with: checks all of it but its blocks, and these too with `verify`.
 
-        `data` is bytes-like and contiguous. The Table refers to it until it is closed; it must not change meanwhile.
+        A block is checked each time a value is fetched from it. `data` is bytes-like and contiguous. The Table refers to
+        it until it is closed; it must not change meanwhile.
 
         Errors: Refused if the bytes are not a table of this name and kind; ValueError for another name or kind; TypeError;
         MemoryError."""
-        self._open(name, kind, Lent(data), is_mapped=False)
+        self._open(name, kind, Lent(data), verify)
 
     @classmethod
-    def open(cls, path: Union[str, "os.PathLike[str]"]) -> "Table":
-        """Opens the table of a file and checks all of it. The file's name has its material and kind, as KQvKR.rtbw.
+    def open(cls, path: Union[str, "os.PathLike[str]"], *, verify: bool = False) -> "Table":
+        """Maps a file and opens its table: checks all of it but its blocks, and these too with `verify`.
 
-        The file is mapped and must stay as it is while the Table is open. If it is changed, a value may be another one or
-        raise Changed; if it is truncated, the system may end the program. `get` reads the mapped file; the first call of
-        another kind brings the table into memory.
+        The file's name has its material and kind, as KQvKR.rtbw. The file must stay as it is while the Table is open. If
+        it is changed, a value may be another one or raise BadBlock; if it is truncated, the system may end the program.
 
         Errors: Refused if the file is not such a table, an empty one too; ValueError for another file name; OSError;
         MemoryError."""
         name, kind = named(path)
-        table = cls.__new__(cls)
-        table._open(name, kind, mapped(path), is_mapped=True)
-        return table
+        return cls._mapped(name, kind, path, verify)
 
     @classmethod
-    def _in_memory(cls, name: str, kind: str, lent: Lent) -> "Table":
-        """A table that is to be probed: it is brought into memory, and checked, once."""
+    def _mapped(cls, name: str, kind: str, path: Union[str, "os.PathLike[str]"], verify: bool = False) -> "Table":
+        """The table of this name and kind in a file of any name."""
         table = cls.__new__(cls)
-        table._open(name, kind, lent, is_mapped=False)
+        table._open(name, kind, mapped(path), verify)
         return table
 
-    def _open(self, name: str, kind: str, lent: Lent, is_mapped: bool) -> None:
+    def _open(self, name: str, kind: str, lent: Lent, verify: bool) -> None:
         if not isinstance(name, str):
             raise TypeError(f"name must be a str, not {type(name).__name__}")
         if kind not in KINDS.values():
             raise ValueError(f"kind must be 'wdl' or 'dtz', not {kind!r}")
         self.name, self.kind = name, kind
-        self._opened = Opened(name, kind, lent, is_mapped)
+        self._opened = Opened(name, kind, lent)
+        if verify:
+            self.verify()
 
     def size(self, part: int = 0, side: int = 0) -> int:
         """The number of positions of a part's side. Errors: IndexError if the table has no such part or side."""
@@ -86,19 +86,19 @@ class Table:
     def get(self, index: int, part: int = 0, side: int = 0) -> int:
         """The stored value at an index: in WDL the class plus 2; in DTZ a value that `number` decodes.
 
-        Errors: IndexError if the table has no such part, side or index; Changed."""
+        Errors: IndexError if the table has no such part, side or index; BadBlock if its block does not decode."""
         index = integer(index, "index")
         if not 0 <= index < 1 << 64:
             raise IndexError(f"the table has no index {index}")
         return self._opened.get(_byte(part, "part"), _byte(side, "side"), index)
 
     def values(self, part: int = 0, side: int = 0) -> memoryview:
-        """All stored values of a part's side, in the order of their indexes.
+        """All stored values of a part's side, in the order of their indexes. All of the table is checked for it.
 
         The memoryview has one dimension, `size(part, side)` items and the format H (16 bits, unsigned);
         `numpy.asarray` takes it without a copy. It stays valid after `close`.
 
-        Errors: IndexError if the table has no such part or side; MemoryError."""
+        Errors: IndexError if the table has no such part or side; Refused; MemoryError."""
         return self._opened.values(_byte(part, "part"), _byte(side, "side"))
 
     def number(self, value: int, *, wdl: int, part: int = 0) -> int:
@@ -124,7 +124,7 @@ class Table:
         It is what python-chess's `probe_wdl_table` returns, not `probe_wdl`: where the best move is a capture, the stored
         class may be lower than the position's.
 
-        Errors: Untold if the table has no class for it; ValueError for a DTZ table or a bad FEN; TypeError."""
+        Errors: Untold if the table has no class for it; BadBlock; ValueError for a DTZ table or a bad FEN; TypeError."""
         self._require("wdl")
         return self._probe(men_of(board, turn), 0)
 
@@ -137,7 +137,7 @@ class Table:
         loss and -(n + 1) for a loss.
 
         Errors: Untold `WrongSide` if the table stores the other side to move only, `Draw` for the class 0, or another
-        reason; ValueError for a WDL table, another class or a bad FEN; TypeError."""
+        reason; BadBlock; ValueError for a WDL table, another class or a bad FEN; TypeError."""
         self._require("dtz")
         return self._probe(men_of(board, turn), _class(wdl))
 
@@ -145,7 +145,7 @@ class Table:
         return self._opened.probe(men, wdl)
 
     def verify(self) -> int:
-        """Checks all bytes of the table again, as they are now; returns its number of bytes.
+        """Checks all bytes of the table, as they are now; returns its number of bytes.
 
         No check of the format finds a changed bit that still decodes: keep sums of the files.
 

@@ -8,7 +8,7 @@ from typing import Dict, Optional, Tuple, Type, TypeVar, Union
 
 from ._errors import MissingTableError, Untold
 from ._placement import Men, Placement, men_of
-from ._table import Table, _class, mapped, named
+from ._table import Table, _class, named
 
 Directory = Union[str, "os.PathLike[str]"]
 Default = TypeVar("Default")
@@ -28,8 +28,9 @@ class _Entry:
 class Tablebase:
     """The tables of any number of folders, in python-chess's words. Any number of threads use one Tablebase at once.
 
-    Each table is opened, and checked whole, when it is first probed; then the error Refused may come, at each probe of a
-    file that is not a table. With `max_tables` at most this number stay open, those probed last.
+    Each table is mapped and opened by its front when it is first probed; then the error Refused may come, at each probe of
+    a file that is not a table. A block is checked when a value is fetched from it, and may raise BadBlock. With
+    `max_tables` at most this number stay open, those probed last.
 
     What is probed is what the tables store. `chess.syzygy.Tablebase` adds captures, en passant and moves: see
     `probe_wdl_table`.
@@ -73,7 +74,7 @@ class Tablebase:
         `probe_dtz_table` call these (bindings/examples/full_probing.py).
 
         Errors: MissingTableError, a KeyError, if no folder has the table; Untold if the table has no class for the
-        placement; Refused; TypeError; ValueError."""
+        placement; Refused; BadBlock; TypeError; ValueError."""
         men = men_of(board, turn)
         if _is_two_kings(men):
             return 0
@@ -86,7 +87,7 @@ class Tablebase:
         `Table.probe_dtz` says how python-chess's `probe_dtz` differs.
 
         Errors: MissingTableError, a KeyError, if no folder has the table; Untold if the table has no number, as for a
-        draw; Refused; TypeError; ValueError for another class than -2 to 2."""
+        draw; Refused; BadBlock; TypeError; ValueError for another class than -2 to 2."""
         men = men_of(board, turn)
         wdl = _class(wdl)
         try:
@@ -124,7 +125,7 @@ class Tablebase:
             raise MissingTableError(f"no {kind.upper()} table of {name or 'these men'} was added")
         with entry.lock:
             if entry.table is None:
-                entry.table = Table._in_memory(name, kind, mapped(entry.path))
+                entry.table = Table._mapped(name, kind, entry.path)
             table = entry.table
         self._touch((name, kind), entry)
         return table
