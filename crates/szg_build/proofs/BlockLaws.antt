@@ -19,7 +19,7 @@ use Rattle.szg_block.proofs.Values.{HasValues-block_values, start-step, start-ze
 use Rattle.szg_build.specs.Pairing.{values_of, IsShortest, AreShortest}
 use Rattle.szg_build.specs.Building.{AreFilled, end, next}
 
--- no symbol that bits spell stands for nothing
+-- every symbol that bits spell has at least one value
 some_values : (layout : Layout) → IsDictionary layout.entries → layout.code.symbols ≡ length layout.entries → (x : List Bool) (symbols : List ℕ) → Spells layout.code x symbols →
     (k : ℕ) → k < length symbols → 0 < length (values_of layout.entries (drop k symbols))
 some_values layout accepted same x symbols spelled k h =
@@ -31,7 +31,7 @@ some_values layout accepted same x symbols spelled k h =
     length-append (expansion_of layout.entries s) (values_of layout.entries (drop (suc k) symbols)) in
     rw head (omega (arith, joined, some))
 
--- A list whose words begin the block's bits is the shortest for as many values as it stands for.
+-- A list whose words begin the block's bits is the shortest one with its number of values.
 pub whole_is_shortest : (layout : Layout) → IsCode layout.code → IsDictionary layout.entries → layout.code.symbols ≡ length layout.entries → (block symbols : List ℕ) → Spells layout.code (bits block) symbols →
     IsShortest layout block (length (values_of layout.entries symbols)) symbols
 whole_is_shortest layout code_stands accepted same block symbols spelled = record {
@@ -53,7 +53,7 @@ whole_is_shortest layout code_stands accepted same block symbols spelled = recor
       ];
 }
 
--- what the lists from the j-th block on stand for
+-- the values of the lists from the j-th block on
 abbrev pub values_from : Layout → List (List ℕ) → List ℕ
 values_from layout lists = values_of layout.entries (concat lists)
 
@@ -96,7 +96,7 @@ filled_values layout packed size j symbols code_stands spelled need =
     let told = HasValues-block_values layout code_stands (block_at layout.block_bits packed j) (length all) all (record { symbols = symbols; spelled = spelled; enough = omega arith; first = whole }) in
     ap (λ (k : ℕ). take k (block_values layout (block_at layout.block_bits packed j))) need ∙ sym told.1
 
--- so many blocks from the j-th on
+-- `size` blocks from the j-th on
 filled_joined : (layout : Layout) (packed : List ℕ) (size count : ℕ) → IsCode layout.code → layout.blocks ≤ length layout.lengths →
     {j : ℕ} {lists : List (List ℕ)} → AreFilled layout packed j lists → j + count ≡ layout.blocks → start layout.lengths j + length (values_from layout lists) ≡ size →
     flat_map (needed_values layout packed size) (range_with_len j count) ≡ values_from layout lists
@@ -116,7 +116,7 @@ filled_joined layout packed size (suc count) code_stands long (next {j = j} {sym
     ∙ ap (λ (z : List ℕ). z ++ values_from layout lists) (filled_values layout packed size j symbols code_stands spelled need)
     ∙ sym (values-cons layout symbols lists)
 
--- The values of a subtable whose blocks are filled by lists are those that the lists, joined, stand for.
+-- The values of a subtable whose blocks are packed with lists are the values of the joined lists.
 pub filled_are_values : (layout : Layout) (packed : List ℕ) (lists : List (List ℕ)) → IsCode layout.code → layout.blocks ≤ length layout.lengths → AreFilled layout packed 0 lists →
     joined_values layout packed (length (values_of layout.entries (concat lists))) ≡ values_of layout.entries (concat lists)
 unfolding joined_values

@@ -32,7 +32,7 @@ block_spells code symbols b words block appended h =
     let all : bits block ≡ told.0 ++ h.rest = h.joined ∙ ap (λ (z : List Bool). z ++ h.rest) told.1 in
     subst (λ (z : List Bool). Spells code z symbols) (sym all) (told.2 h.rest)
 
--- whole blocks, and no symbol behind them
+-- whole blocks, and no symbol after them
 filled_so_far : (code : CanonicalCode) (entries : List (List ℕ)) (b : ℕ) (symbols lengths packed : List ℕ) (lists : List (List ℕ)) → concat lists ≡ symbols →
     AreFilled (blocks_layout b code entries (length lengths) lengths) packed 0 lists → length packed ≡ length lengths * 2 ^ b → 4 * length lengths ≤ length (concat lists) →
     IsFilling code entries b symbols lengths packed [] 0
@@ -83,7 +83,7 @@ filling_more code entries b symbols lengths packed words word values s n h w sho
       many = h.many;
     }
 
--- the blocks behind one more that is closed
+-- the blocks after one more is closed
 closed : (code : CanonicalCode) (entries : List (List ℕ)) (b : ℕ) (symbols lengths packed : List ℕ) (words : List Bool) (values : ℕ) (block : List ℕ) → (h : IsFilling code entries b symbols lengths packed words values) →
     IsBlockOf b words block → 0 < values → AreFilled (blocks_layout b code entries (length (lengths ++ (values - 1) ∷ [])) (lengths ++ (values - 1) ∷ [])) (packed ++ block) 0 (h.lists ++ h.current ∷ [])
 closed code entries b symbols lengths packed words values block h is some =
@@ -142,7 +142,7 @@ fails b h e p = let is : b ≡ true = h.1 p in cc
 pub block_large : (b : ℕ) → 5 ≤ b → 32 ≤ 2 ^ b
 block_large b h = pow-le-pow_right {n = 2} (omega arith) {i = 5} {j = b} h
 
--- bytes of words, with zeros behind them
+-- bytes of words, followed by zeros
 pub padded_block : (b : ℕ) (words fill : List Bool) (bytes : List ℕ) (n : ℕ) → bits bytes ≡ words ++ fill → length bytes + n ≡ 2 ^ b → IsBlockOf b words (bytes ++ replicate n 0)
 padded_block b words fill bytes n is whole = record {
   size = length-append bytes (replicate n 0) ∙ ap (λ (k : ℕ). length bytes + k) (length-replicate n 0) ∙ whole;

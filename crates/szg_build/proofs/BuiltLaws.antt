@@ -58,7 +58,7 @@ value_at_place plan lists t fill accepted built s part side i list place told =
     sym (item-map (values_of t.kind) (subtables_in t) s) ∙ ap (λ (z : List (List ℕ)). item z s) built.values ∙ told in
     same_values t.kind (item (subtables_in t) s) (subtable_at t part side) list i there values
 
--- Bytes that begin with the file of a built table have its verdict, and its values stand at their places.
+-- Bytes that begin with the file of a built table have its verdict, and its values are found at their indexes.
 pub built_is_found : BuiltIsFound
 built_is_found plan lists t fill rest accepted built = (
   ap (λ (m : Sides). verdict (file m plan.kind) 0 (file_of t fill ++ rest)) (sym built.material)

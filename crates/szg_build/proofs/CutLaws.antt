@@ -18,7 +18,7 @@ rest_in (whole text rest) = rest
 rest_in (long rest) = []
 rest_in unended = []
 
--- the first line stands before its 0A, and is the same whatever stands behind that
+-- the first line ends at its 0A, and is the same whatever follows
 abbrev pub IsSplit : ℕ → List ℕ → List ℕ → List ℕ → Type 0
 IsSplit room bytes text rest = (bytes ≡ text ++ 10 ∷ rest) × ((y : List ℕ) → first_line room (text ++ 10 ∷ y) ≡ whole text y)
 
@@ -78,7 +78,7 @@ bare (good a count rest) = good a count []
 bare (refused at why rest) = refused at why rest
 bare (ended at) = ended at
 
--- a text stands in front of the bytes behind it: whole lines, which mean the same alone
+-- bytes begin with a text: whole lines, which mean the same alone
 pub record Cut {A : Type 0} (f : Lines A) (count : ℕ) (bytes : List ℕ) (a : A) (n : ℕ) (rest : List ℕ) : Type 0 where
   pub front : List ℕ
   pub split : bytes ≡ front ++ rest
@@ -105,7 +105,7 @@ cut (means b) count bytes a n rest h = record { front = []; split = ap left_in h
 cut (refuses why) count bytes a n rest h = absurd cc
 cut (line next) count bytes a n rest h = cut_line next count bytes a n rest (λ words c r e. cut (next words) c r a n rest e) (first_line line_room bytes) refl h
 
--- no more bytes stand behind a text than there were
+-- no more bytes follow a text than there were
 pub no_more : {A : Type 0} (f : Lines A) (count : ℕ) (bytes : List ℕ) (a : A) (n : ℕ) (rest : List ℕ) → verdict f count bytes ≡ good a n rest → length rest ≤ length bytes
 no_more f count bytes a n rest h =
     let c = cut f count bytes a n rest h in

@@ -6,7 +6,7 @@ use Rattle.szg_block.specs.Layout.{Layout, SparseEntry}
 use Rattle.szg_block.specs.Block.{start}
 use Rattle.szg_block.specs.Sound.{middle_of_span, IsGoodEntry}
 
--- lengths behind those of the blocks don't move the blocks
+-- lengths after those of the blocks do not move the blocks
 pub start-front : (lengths extra : List ℕ) (j : ℕ) → j ≤ length lengths → start (lengths ++ extra) j ≡ start lengths j
 unfolding start
 start-front lengths extra j h = ap (sum_by (λ n. n + 1)) (take-append-le j lengths extra h)

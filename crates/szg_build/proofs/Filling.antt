@@ -15,7 +15,7 @@ use Rattle.szg_block.specs.Block.{block_at}
 use Rattle.szg_build.specs.Pairing.{values_of}
 use Rattle.szg_build.specs.Building.{AreFilled, end, next, blocks_layout}
 
--- Where words of these symbols were appended to an empty buffer, and its bytes with more bytes behind them are a block,
+-- If words of these symbols were appended to an empty buffer, and its bytes with more bytes after them are a block,
 -- the block's bits begin with the words.
 pub block_spells : (code : CanonicalCode) (symbols : List ℕ) (written fill : List Bool) (bytes more : List ℕ) → Appended code symbols [] written → bits bytes ≡ written ++ fill →
     Spells code (bits (bytes ++ more)) symbols
@@ -25,7 +25,7 @@ block_spells code symbols written fill bytes more appended whole =
     bits-append bytes more ∙ ap (λ (z : List Bool). z ++ bits more) (whole ∙ ap (λ (z : List Bool). z ++ fill) told.1) ∙ append_assoc told.0 fill (bits more) in
     subst (λ (z : List Bool). Spells code z symbols) (sym all) (told.2 (fill ++ bits more))
 
--- ---- a block behind others
+-- ---- a block after others
 
 block_before : (b n j : ℕ) (packed more : List ℕ) → length packed ≡ n * 2 ^ b → j < n → block_at b (packed ++ more) j ≡ block_at b packed j
 unfolding block_at
@@ -72,7 +72,7 @@ filled_more b n code entries lengths packed block symbols count as_many whole si
 pub filled_none : (b : ℕ) (code : CanonicalCode) (entries : List (List ℕ)) → AreFilled (blocks_layout b code entries 0 []) [] 0 []
 filled_none b code entries = end refl
 
--- Other parts of a layout don't matter, nor do lengths behind those of the blocks.
+-- Other parts of a layout don't matter, nor do lengths after those of the blocks.
 pub filled_with : (layout other : Layout) (packed extra : List ℕ) → layout.block_bits ≡ other.block_bits → layout.code ≡ other.code → layout.entries ≡ other.entries → layout.blocks ≡ other.blocks →
     layout.blocks ≡ length layout.lengths → other.lengths ≡ layout.lengths ++ extra → {j : ℕ} {lists : List (List ℕ)} → AreFilled layout packed j lists → AreFilled other packed j lists
 filled_with layout other packed extra b c e n whole lengths (end last) = end (last ∙ n)

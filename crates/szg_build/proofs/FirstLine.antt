@@ -1,4 +1,4 @@
--- The first line of some bytes, by the place of the first 0A; and what a reader of one line answers.
+-- The first line of some bytes, by the offset of the first 0A; and the results of a reader of one line.
 use Rattle.std.proofs.Common.{◌≡◌, ℕ, zero, suc, ◌<◌, ◌≤◌, false, List, [], ◌∷◌, length, take, drop, get_or, refl, ap, ◌∙◌, arith, inl, inr}
 use Rattle.std.specs.Prelude.{◌==◌}
 use Rattle.std.proofs.lemmas.Bool.{eqb-true, eq-eqb}

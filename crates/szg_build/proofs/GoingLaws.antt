@@ -18,8 +18,8 @@ use Rattle.szg_build.proofs.CutLaws.{cut, whole_joined}
 use Rattle.szg_build.proofs.LinesLaws.{continued, verdict-then, good-more}
 use Rattle.szg_build.proofs.ReadingLaws.{answer_on, behind_text, reads_stopped, reads_nothing}
 
--- In front of what is held stand whole lines, none of which was refused: whatever follows them, the verdict of f on all
--- is that of g on it.
+-- The buffered bytes follow whole lines, none of them refused: whatever comes next, the verdict of f on all is that
+-- of g on it.
 pub record Went {A : Type 0} (f g : Lines A) (count count' : ℕ) (bytes held : List ℕ) : Type 0 where
   pub lines : List ℕ
   pub split : bytes ≡ lines ++ held
@@ -197,7 +197,7 @@ items_ended lines items left view v none same a =
 
 -- ---- runs
 
--- what is left to be read of runs, behind these items
+-- the runs left to be read after these items
 abbrev pub runs_left : List ℕ → ℕ → ℕ → Lines (List ℕ)
 runs_left items most left = mapped (λ xs. items ++ xs) (run_values most left)
 
@@ -238,7 +238,7 @@ runs_ended items most left view v none same a =
 
 -- ---- a text for each number
 
--- what is left to be read, behind these items
+-- the texts left to be read after these items
 abbrev pub each_left : {P : Type 0} → (ℕ → Lines P) → List P → ℕ → ℕ → Lines (List P)
 each_left lines items from count = mapped (λ ys. items ++ ys) (each lines (range_with_len from count))
 

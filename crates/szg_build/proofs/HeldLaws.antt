@@ -19,7 +19,7 @@ split_held bytes from to size h =
     let e : (from + size) + 1 ≡ from + (size + 1) = omega arith in
     ap (λ (m : ℕ). take (to - m) (drop m bytes)) e ∙ drop_front bytes from to (size + 1) le
 
--- What is held back after it was moved to the front, and a piece was taken behind it.
+-- The buffered bytes after they were moved to the front of the buffer and a chunk was read after them.
 pub refill_held : (bytes room piece : List ℕ) (from to got k : ℕ) → room ≡ copy_within bytes from to 0 → to ≤ length bytes → got ≤ length piece →
     take (((to - from) + got) - 0) (drop 0 (put_mid (to - from) k room piece)) ≡ take (to - from) (drop from bytes) ++ take got piece
 refill_held bytes room piece from to got k e within fits =

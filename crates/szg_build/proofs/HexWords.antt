@@ -17,7 +17,7 @@ digit_back d l = eqb-true (digit_number (digit_of d)) d (digit_told d l)
 no_digit : (d : ℕ) → 16 ≤ d → digit_number (digit_of d) ≡ 0
 no_digit d l = ap digit_number (get_or_past lower_digits d 0 l)
 
--- a number that is told by its own two digits is a byte
+-- a number that equals the value of its own two digits is a byte
 told_byte : (b : ℕ) → b ≡ 16 * digit_number (digit_of (b / 16)) + digit_number (digit_of (b % 16)) → b < 256
 told_byte b e = elim (cases_lt (b / 16) 16) [
   | inl low ↦ omega (arith, low)

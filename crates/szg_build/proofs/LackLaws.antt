@@ -16,7 +16,7 @@ use Rattle.szg_build.proofs.GoingLaws.{GoesOn, mapped, each_left, goes_first, go
 
 -- ---- the least bytes of a text
 
--- each text of f has so many bytes at least
+-- each text of f has at least `least` bytes
 abbrev pub Uses : {A : Type 0} → ℕ → Lines A → Type 0
 Uses {A = A} least f = (count : ℕ) (bytes : List ℕ) (a : A) (n : ℕ) (rest : List ℕ) → verdict f count bytes ≡ good a n rest → least + length rest ≤ length bytes
 
@@ -72,7 +72,7 @@ asks_mapped F f k h = asks_fewer (mapped F f) (k + 0) k (omega arith) (asks_then
 
 -- ---- a growth is refused
 
--- behind lines that were read, where g is left
+-- after lines that were read, with g left
 pub lacks_here : {A R : Type 0} {f g : Lines A} (behind least : ℕ) {o m : Incoming} {dev : Ghosts R} {i j : R} → GoesOn f g o m dev i j → Asks least g → length (held_of m) ≤ behind + least → LacksLines f behind o dev i j
 lacks_here {f = f} {g = g} behind least {m = m} a asks few = record {
   bytes = a.bytes;
@@ -90,15 +90,15 @@ lacks_here {f = f} {g = g} behind least {m = m} a asks few = record {
       };
 }
 
--- behind a text that was read whole
+-- after a text that was read whole
 pub lacks_whole : {A X R : Type 0} (f : Lines A) (behind : ℕ) (view : X → A) (v : X) {o m : Incoming} {dev : Ghosts R} {i j : R} → ReadsLines f view o m dev i j (Ok v) → length (held_of m) ≤ behind → LacksLines f behind o dev i j
 lacks_whole f behind view v first few = lacks_here behind 0 (goes_whole f view v first) (asks_means (view v)) (omega (arith, few))
 
--- behind some items
+-- after some items
 pub lacks_left : {A B R : Type 0} {f : Lines B} (F : A → B) (lines : Lines A) (behind least : ℕ) {o m : Incoming} {dev : Ghosts R} {i j : R} → GoesOn f (mapped F lines) o m dev i j → Asks least lines → length (held_of m) ≤ behind + least → LacksLines f behind o dev i j
 lacks_left F lines behind least a asks few = lacks_here behind least a (asks_mapped F lines least asks) few
 
--- in what is left behind lines that were read
+-- in what is left after lines that were read
 pub lacks_behind : {A R : Type 0} {f g : Lines A} (behind : ℕ) {o m : Incoming} {dev : Ghosts R} {i j k : R} → GoesOn f g o m dev i j → LacksLines g behind m dev j k → LacksLines f behind o dev i k
 lacks_behind {f = f} {g = g} behind {o = o} {m = m} a lacks = record {
   bytes = a.bytes ++ lacks.bytes;

@@ -116,7 +116,8 @@ place_inside n l r lt below =
 
 -- ---- the table
 
--- For each pair of symbols below n the table has its count, up to a last value; and the state tells which tallies wait.
+-- For each pair of symbols below n the table has its count, capped at a last value; the state has the tallies that
+-- wait.
 pub record IsCounted (n most : ℕ) (counts symbols : List ℕ) (begun : Bool) (last : ℕ) (free : Bool) : Type 0 where
   pub table : (l r : ℕ) → l < n → r < n → get_or counts (l * n + r) 0 ≡ min (tally l r none_yet symbols).count most
   pub waiting : (l r : ℕ) → (tally l r none_yet symbols).waits ≡ waits_of begun last free l r
@@ -194,7 +195,7 @@ counted_pair n most counts symbols begun free last s h paired last_below s_below
   waiting = waiting_more n most counts symbols begun free last s h;
 }
 
--- behind all symbols the table has the counts of the pairs
+-- after all symbols the table has the counts of the pairs
 pub counted_all : (n most : ℕ) (counts symbols : List ℕ) (begun free : Bool) (last : ℕ) → IsCounted n most counts symbols begun last free → (l r : ℕ) → l < n → r < n →
     get_or counts (l * n + r) 0 ≡ min (pair_count l r symbols) most
 counted_all n most counts symbols begun free last h l r a b = h.table l r a b ∙ ap (λ (k : ℕ). min k most) (tally-pair_count l r symbols)

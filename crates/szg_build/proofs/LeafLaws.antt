@@ -39,7 +39,7 @@ values_below-there n values h = ap (λ (k : ℕ). values_below k values) (let e 
 pub values_below-missing : (n : ℕ) (values : List ℕ) → list_any (λ v. v == n) values ≡ false → values_below (n + 1) values ≡ values_below n values
 values_below-missing n values h = ap (λ (k : ℕ). values_below k values) (let e : n + 1 ≡ suc n = omega arith in e) ∙ values_below-suc n values ∙ rw h (append-nil (values_below n values))
 
--- as many as there are numbers below the bound, at most
+-- at most n values lie below the bound n
 pub values_below-few : (n : ℕ) (values : List ℕ) → length (values_below n values) ≤ n
 values_below-few zero values = rw values_below-none (omega arith)
 values_below-few (suc n) values =
@@ -94,9 +94,9 @@ are_leaves (suc n) values few =
       | inr h ↦ subst AreLeaves (sym (leaves-missing n values h)) old
     ])
 
--- ---- what symbols stand for
+-- ---- values of symbols
 
--- a value that the list has stands at the number of its symbol
+-- a value of the list has its leaf at the number of its symbol
 placed : (n v : ℕ) (values : List ℕ) → v < n → list_any (λ u. u == v) values ≡ true → slice_get (leaves_below n values) (length (values_below v values)) ≡ Some (entry_of v 4095)
 placed zero v values lt there = absurd (omega (arith, lt))
 placed (suc n) v values lt there =
@@ -185,7 +185,7 @@ first_round values small few =
       leaves = omega (arith, long);
     }
 
--- each leaf stands for one value
+-- each leaf has one value
 one_value : (entries : List (List ℕ)) (all : List (List ℕ)) → AllByRecursion (λ entry. is_leaf entry ≡ true) entries → (s : ℕ) (e : List ℕ) → slice_get entries s ≡ Some e → length (expansion_of entries s) ≡ 1
 one_value entries all leaves s e there = ap length (Expands-expansion_of entries s (left_of e ∷ []) (leaf there (leaf_at entries s e leaves there)) (omega arith))
 

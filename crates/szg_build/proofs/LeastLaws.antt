@@ -72,7 +72,7 @@ asks_behind_parts form material kind last parts =
     asks_mapped (λ subs. dump_of_subs material kind parts last subs) (subs_text form kind (sizes_told material kind parts) 0 (places_of material kind)) (2 * length (places_of material kind))
     (asks_subs form kind (sizes_told material kind parts) 0 (places_of material kind))
 
--- memory is refused behind subtable s - 1
+-- memory is refused after subtable s - 1
 pub asks_subs_left : (form : Form) (material : Sides) (kind : Kind) (last : List ℕ) (parts : List Part) (read : List SubDump) (s left : ℕ) → left ≤ 2 * (length (places_of material kind) - s) → Asks left (subs_left form material kind last parts read s)
 asks_subs_left form material kind last parts read s left few =
     let places = places_of material kind in

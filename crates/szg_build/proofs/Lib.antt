@@ -44,3 +44,4 @@ pub mod WholeLaws
 pub mod PlaceLaws
 pub mod RefusalLaws
 pub mod TableLaws
+pub mod WordBits

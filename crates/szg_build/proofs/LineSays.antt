@@ -28,7 +28,7 @@ pub reads_unread : {A X T R : Type 0} (next : List (List ℕ) → Lines A) (word
     ReadsLines words_line words o m dev i k (Err fault) → ReadsLines (line next) view o n dev i k (Err fault)
 reads_unread next words view fault first = reads_stopped words_line next words view fault first
 
--- a line that was told says what is told of its words
+-- a line that was parsed means what its words mean
 pub reads_told : {A T R : Type 0} (next : List (List ℕ) → Lines A) (view : T → A) {tells : List ℕ → Result T DumpFault → Type 0} {o n : Incoming} {dev : Ghosts R} {i k : R} {result : Result T DumpReadFault} →
     ((text : List ℕ) (told : Result T DumpFault) → tells text told → Says (next (words_of text)) view told) → TellsLine tells o n dev i k result → ReadsLines (line next) view o n dev i k result
 reads_told next view {result = result} says (inl (text, told, said, first, same)) = reads_said next view words_of text text told result refl first (says text told said) same
@@ -40,7 +40,7 @@ pub no_memory : {X : Type 0} (number : ℕ) (r : Result X DumpFault) (answer : R
 no_memory number (Ok x) answer same e = absurd cc
 no_memory number (Err fault) answer same e = absurd cc
 
--- what holds of a long line holds where the line was told
+-- what holds of a long line holds of the result for the line
 pub short_behind : {X : Type 0} {P Q : Type 0} (number : ℕ) (r : Result X DumpFault) (answer : Result X DumpReadFault) → answer ≡ in_line number r → IfOk r (λ _. P) → (P → Q) → OnOk answer Q
 short_behind {Q = Q} number (Ok x) answer same long after = subst (λ a. OnOk a Q) (sym same) (after long)
 short_behind {Q = Q} number (Err fault) answer same long after = subst (λ a. OnOk a Q) (sym same) tt

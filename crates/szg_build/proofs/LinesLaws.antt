@@ -1,4 +1,4 @@
--- Laws of texts of lines: each is a short induction that knows nothing of what a dump tells.
+-- Laws of texts of lines: each is a short induction that does not depend on the content of a dump.
 use Rattle.std.proofs.Common.{◌≡◌, ℕ, zero, suc, ◌+◌, Bool, true, false, List, [], ◌∷◌, ◌++◌, length, refl, sym, ap, subst, ◌∙◌, arith, inl, inr, length-append}
 use Rattle.std.specs.Prelude.{◌==◌, ◌⊎◌}
 use Rattle.szg_build.specs.declared.dump.DumpFault.TheVariants.{Field}
@@ -26,7 +26,7 @@ is_told (whole text rest) = true
 is_told (long rest) = true
 is_told unended = false
 
--- the same line with more bytes behind it
+-- the same line with more bytes after it
 abbrev pub with_more : List ℕ → FirstLine → FirstLine
 with_more more (whole text rest) = whole text (rest ++ more)
 with_more more (long rest) = long (rest ++ more)
@@ -77,7 +77,7 @@ line-unended next count bytes e = rw (e, verdict) refl
 
 -- ---- one text after another
 
--- what the verdict goes on with behind a whole first text
+-- how the verdict continues after a whole first text
 abbrev pub continued : {A B : Type 0} → (A → Lines B) → Verdict A → Verdict B
 continued g (good a count rest) = verdict (g a) count rest
 continued g (refused at why rest) = refused at why rest
@@ -95,7 +95,7 @@ line-then next g count bytes inner (long rest) e =
 line-then next g count bytes inner unended e =
     line-unended (λ words. next words >>= g) count bytes e ∙ sym (ap (continued g) (line-unended next count bytes e))
 
--- The verdict of two texts one after another: that of the first, and behind its lines that of the second.
+-- The verdict of two texts one after another: that of the first, and after its lines that of the second.
 pub verdict-then : {A B : Type 0} (f : Lines A) (g : A → Lines B) (count : ℕ) (bytes : List ℕ) →
     verdict (f >>= g) count bytes ≡ continued g (verdict f count bytes)
 verdict-then (means a) g count bytes = refl
@@ -109,7 +109,7 @@ stands (good a count rest) = true
 stands (refused at why rest) = true
 stands (ended at) = false
 
--- the same verdict with more bytes behind
+-- the same verdict with more bytes after it
 abbrev pub verdict_more : {A : Type 0} → List ℕ → Verdict A → Verdict A
 verdict_more more (good a count rest) = good a count (rest ++ more)
 verdict_more more (refused at why rest) = refused at why (rest ++ more)
@@ -225,7 +225,7 @@ ended_here next count bytes at inner unended e once h =
     let same : at ≡ suc count = sym (ap line_of h) ∙ ap line_of (line-unended next count bytes e) in
     omega (arith, same, once)
 
--- A text that ends too early ends in the line behind those that are whole.
+-- A text that ends too early ends in the line after the last whole line.
 pub ended_line : {A : Type 0} (f : Lines A) (count : ℕ) (bytes : List ℕ) (at : ℕ) → verdict f count bytes ≡ ended at → at ≡ suc (count + line_ends bytes)
 ended_line (means a) count bytes at h = absurd cc
 ended_line (refuses why) count bytes at h = absurd cc

@@ -24,12 +24,12 @@ use Rattle.szg_file.proofs.Standing.{sound_stands}
 
 -- ---- lists that fill blocks
 
--- as many as there are blocks
+-- the number of lists is the number of blocks
 filled_count : (layout : Layout) (packed : List ℕ) {j : ℕ} {lists : List (List ℕ)} → AreFilled layout packed j lists → j + length lists ≡ layout.blocks
 filled_count layout packed (end e) = omega (arith, e)
 filled_count layout packed (next {j = j} {lists = lists} lt spelled here more) = let later : suc j + length lists ≡ layout.blocks = filled_count layout packed more in omega (arith, later)
 
--- the blocks' lengths tell of all values
+-- the blocks' lengths sum to the number of all values
 filled_total : (layout : Layout) (packed : List ℕ) → layout.blocks ≤ length layout.lengths → {j : ℕ} {lists : List (List ℕ)} → AreFilled layout packed j lists →
     start layout.lengths j + length (values_from layout lists) ≡ start layout.lengths layout.blocks
 filled_total layout packed long (end {j = j} e) = let same : start layout.lengths j ≡ start layout.lengths layout.blocks = ap (start layout.lengths) e in omega (arith, same)
@@ -39,7 +39,7 @@ filled_total layout packed long (next {j = j} {symbols = symbols} {lists = lists
     let parts : length (values_from layout (symbols ∷ lists)) ≡ length (values_of layout.entries symbols) + length (values_from layout lists) = length-values layout symbols lists in
     omega (arith, later, step, parts, here)
 
--- blocks that symbols fill tell of as many values as the symbols stand for
+-- blocks that symbols fill have the number of values of these symbols
 pub cut_total : (code : CanonicalCode) (entries : List (List ℕ)) (b : ℕ) (values symbols : List ℕ) (n : ℕ) (lengths packed : List ℕ) → IsCut code entries b symbols n lengths packed → values_of entries symbols ≡ values →
     start lengths (length lengths) ≡ length values
 cut_total code entries b values symbols n lengths packed cut same =
@@ -112,7 +112,7 @@ module _ (values : List ℕ) (flags block_bits span_bits rounds : ℕ) (head : H
   filled : AreFilled layout packed 0 made.cut.lists
   filled = filled_with (blocks_layout block_bits head.code head.entries head.blocks made.own) layout packed made.extras (sym made.block_bits_kept) refl refl refl (sym made.cut.count) made.lengths_joined made.cut.filled
 
-  -- the lists stand for the values
+  -- the lists expand to the values
   values_are : values_from layout made.cut.lists ≡ values
   values_are = ap (values_of head.entries) made.cut.joined ∙ made.pairing.round.same
 

@@ -50,7 +50,7 @@ shifted : (new left right x : ℕ) (xs : List ℕ) → IsIn xs x ⊎ ((x ≡ lef
 shifted new left right x xs (inl h) = inl (inr h)
 shifted new left right x xs (inr h) = inr h
 
--- A symbol that stood in the list stands there still, or is one of the pair: so each pair stays in use.
+-- A symbol of the list is still in the list, or is one of the pair: so each pair stays in use.
 pub replaced-keeps : (left right new x : ℕ) (symbols : List ℕ) → IsIn symbols x → IsIn (replaced left right new symbols) x ⊎ ((x ≡ left) ⊎ (x ≡ right))
 replaced-keeps left right new x [] h = absurd h
 replaced-keeps left right new x (s ∷ []) h = inl h

@@ -132,7 +132,7 @@ flags_beside (x ∷ slots) (y ∷ subs) h = ap (λ z. (flags_of y % 32) ∷ z) (
 pub flags_in_order : (t : Contents) (fill : List ℕ) → IsAccepted t fill → map (λ (pair : Slot × Subtable). flags_of pair.1 % 32) (subtables_in t) ≡ map (λ subtable. flags_of subtable % 32) t.subtables
 flags_in_order t fill h = flags_beside (slots t.material t.kind t.parts) t.subtables (side_lengths IsSubtable (slots t.material t.kind t.parts) t.subtables h.subtables)
 
--- One more item of a list that is told pair by pair.
+-- One more item of a list that is made pair by pair.
 pub pairs_more : {B : Type 0} (f : Slot × Subtable → B) (pairs : List (Slot × Subtable)) (i : ℕ) (told : List B) (b : B) → i < length pairs → told ≡ map f (take i pairs) → b ≡ f (get_or pairs i no_pair) →
     told ++ b ∷ [] ≡ map f (take (i + 1) pairs)
 pairs_more f pairs i told b h e same =

@@ -1,9 +1,9 @@
 -- What the tests of a proposal show, each as far as its loop has come.
-use Rattle.std.proofs.Common.{ℕ, zero, suc, ◌≡◌, ◌+◌, ◌<◌, ◌≤◌, Bool, true, false, cond, List, [], ◌∷◌, ◌++◌, Some, length, take, drop, get_or, set, refl, sym, ap, subst, ◌∙◌, arith, inl, inr, length-append}
-use Rattle.std.specs.Prelude.{◌⊎◌, not}
+use Rattle.std.proofs.Common.{ℕ, zero, suc, ◌≡◌, ◌+◌, ◌<◌, ◌≤◌, Bool, true, false, cond, List, [], ◌∷◌, ◌++◌, Option, Some, None, length, take, drop, get_or, set, refl, sym, ap, subst, ◌∙◌, arith, inl, inr, length-append}
+use Rattle.std.specs.Prelude.{◌⊎◌, not, IfSome}
 use Rattle.std.specs.List.{slice_get, AllByRecursion}
 use Rattle.std.proofs.lemmas.Bool.{cases_order, cases_eq}
-use Rattle.std.proofs.lemmas.List.{get_or-set_other, take-append-drop, take-take, drop-take, take_more, flat_map_more}
+use Rattle.std.proofs.lemmas.List.{get_or-set_same, get_or-set_other, take-append-drop, take-take, drop-take, take_more, flat_map_more}
 use Rattle.std.proofs.lemmas.List.Elements.{filter-append}
 use Rattle.std.proofs.lemmas.Option.{get_or_from_slice_get}
 use Rattle.szg_code.specs.Canonical.{IsIn}
@@ -13,7 +13,7 @@ use Rattle.szg_pairs.specs.Dictionary.{IsDictionary}
 use Rattle.szg_file.specs.Accepted.{AreBytes, AreNumbers}
 use Rattle.szg_build.specs.Plan.{different_values}
 use Rattle.szg_build.specs.Pairing.{pair_count, pairs_in, values_of, IsInPair, IsUsed}
-use Rattle.szg_build.specs.Building.{IsRound, IsPairing}
+use Rattle.szg_build.specs.Building.{IsRound, IsPairing, IsSymbolAt}
 use Rattle.szg_build.proofs.LeafLaws.{all_push, get_or-last, get_or-front}
 
 -- ---- numbers below a bound
@@ -61,6 +61,23 @@ values_more entries symbols values i s start n inside read here old =
     ∙ ap (λ (z : List ℕ). z ++ expansion_of entries s) old
     ∙ ap (λ (z : List ℕ). take start values ++ z) (sym here)
     ∙ sym (take_join values start n)
+
+-- offsets of symbols, of which some are known
+abbrev pub AreKnown : List (List ℕ) → List ℕ → List (Option ℕ) → Type 0
+AreKnown entries values offsets = (s : ℕ) → IfSome (get_or offsets s None) (IsSymbolAt entries values s)
+
+pub known_none : (entries : List (List ℕ)) (values : List ℕ) (offsets : List (Option ℕ)) → ((s : ℕ) → get_or offsets s None ≡ None) → AreKnown entries values offsets
+known_none entries values offsets none s = subst (λ (z : Option ℕ). IfSome z (IsSymbolAt entries values s)) (sym (none s)) tt
+
+pub known_more : (entries : List (List ℕ)) (values : List ℕ) (offsets : List (Option ℕ)) (i start : ℕ) → i < length offsets → IsSymbolAt entries values i start → AreKnown entries values offsets →
+    AreKnown entries values (set offsets i (Some start))
+known_more entries values offsets i start there here old s =
+    elim (cases_eq s i) [
+      | inl same ↦
+          subst (λ (z : Option ℕ). IfSome z (IsSymbolAt entries values s)) (sym (ap (λ (k : ℕ). get_or (set offsets i (Some start)) k None) same ∙ get_or-set_same offsets i (Some start) None there))
+          (subst (λ (k : ℕ). IsSymbolAt entries values k start) (sym same) here)
+      | inr other ↦ subst (λ (z : Option ℕ). IfSome z (IsSymbolAt entries values s)) (sym (get_or-set_other offsets i s (Some start) None other)) (old s)
+    ]
 
 -- one value more is the symbol's
 pub same_more : (values expansion : List ℕ) (i x : ℕ) → ((k : ℕ) → k < i → get_or values k 0 ≡ get_or expansion k 0) → slice_get expansion i ≡ Some x → get_or values i 0 ≡ x → (k : ℕ) → k < i + 1 → get_or values k 0 ≡ get_or expansion k 0
@@ -145,6 +162,6 @@ passed values entries symbols pairs dictionary triples few below same used count
   leaves = leaves;
 }
 
--- as many rounds as there are pairs are finished
+-- a number of rounds equal to the number of pairs is finished
 pub as_made : (values : List ℕ) (entries : List (List ℕ)) (symbols : List ℕ) (pairs : ℕ) → pairs ≡ length (pairs_in entries) → IsRound values (length (pairs_in entries)) entries symbols → IsPairing values pairs entries symbols
 as_made values entries symbols pairs is round = record { done = length (pairs_in entries); round = round; finished = inl (sym is) }

@@ -20,7 +20,8 @@ use Rattle.szg_build.specs.Shown.{dump_seen, FollowsLines, TookLines}
 use Rattle.szg_build.specs.Reading.{IsLineFault, IsPlanFault, EndsWith, LinesAnswer, turns_of, ReadsLines}
 use Rattle.szg_build.proofs.LinesLaws.{continued, verdict-then, good-more, refused-more}
 
--- bytes x begin with a text of f, and h stands behind it: what follows x has the verdict of g on h and it
+-- bytes x begin with a text of f, followed by h: whatever follows x, the verdict of f is that of g on h and the
+-- bytes that follow
 pub behind_text : {A B : Type 0} (f : Lines A) (g : A → Lines B) (count count' : ℕ) (x y h : List ℕ) (a : A) →
     verdict f count x ≡ good a count' h → verdict (f >>= g) count (x ++ y) ≡ verdict (g a) count' (h ++ y)
 behind_text f g count count' x y h a e = verdict-then f g count (x ++ y) ∙ ap (continued g) (good-more f count x y a count' h e)
@@ -62,7 +63,7 @@ same_error {x = x} e = ap Err (ap (error_in x) e)
 pub passed_on : {X Y E P : Type 0} {x y : E} {s : Result Y E} → IsErrAnd s (λ z. z ≡ x) → (let r : Result X E = Err x in IsErrOf r y → ⊥) → IsErrOf s y → P
 passed_on {x = x} {s = s} same never e = let p = err_from_is_err_and s same in absurd (never (ap Err (sym p.2 ∙ ap (error_in x) (sym p.1 ∙ e))))
 
--- the same text, told otherwise
+-- the same text, in another form
 pub reads_as : {A X R : Type 0} {f g : Lines A} {view : X → A} {o n : Incoming} {dev : Ghosts R} {i k : R} {r : Result X DumpReadFault} → f ≡ g → ReadsLines g view o n dev i k r → ReadsLines f view o n dev i k r
 reads_as {view = view} {o = o} {n = n} {dev = dev} {i = i} {k = k} {r = r} e read = subst (λ z. ReadsLines z view o n dev i k r) (sym e) read
 
@@ -85,7 +86,7 @@ reads_then f g view view' {o = o} {m = m} {n = n} {dev = dev} {i = i} {j = j} {k
       (subst (λ (fs : ℕ). LinesAnswer (g (view v)) view' a.0 n ((held_of m) ++ second.bytes) (dev.coming k) fs (dev.failures k) (dev.interrupted k) (dev.may_fail j) r) a.3 (second.answer a.0 a.1)));
 }
 
--- A reader that answers a fault ends the whole.
+-- A reader's fault ends the whole.
 stopped : {A B X Y : Type 0} (f : Lines A) (g : A → Lines B) (view : X → A) (view' : Y → B) (count : ℕ) (new new' : Incoming) (x : List ℕ) (coming : Option (List ℕ)) (fs fs' row : ℕ) (may : Bool) (fault : DumpReadFault) →
     LinesAnswer f view count new x coming fs fs' row may (Err fault) → LinesAnswer (f >>= g) view' count new' x coming fs fs' row may (Err fault)
 stopped f g view view' count new new' x coming fs fs' row may (Line number fault) p = (
@@ -118,7 +119,7 @@ reads_nothing f view x {o = o} {dev = dev} {i = i} e = record {
   answer = λ count told. (count, told, ap (λ h. verdict h count ((held_of o) ++ [])) e ∙ ap (λ (z : List ℕ). good (view x) count z) (append-nil (held_of o)), refl);
 }
 
--- What is refused is told without a call.
+-- A refusal takes no call.
 pub reads_refused : {A X R : Type 0} (f : Lines A) (view : X → A) (fault : DumpFault) {o : Incoming}
     {dev : Ghosts R} {i : R} → f ≡ refuses (of_line fault) →
     ReadsLines f view o o dev i i (Err (Line o.line fault))
@@ -170,7 +171,7 @@ follows f new bytes rest fs fs' row may (Err (Build fault)) none h = plan_fault_
 follows f new bytes rest fs fs' row may (Err Device) none h = tt
 follows f new bytes rest fs fs' row may (Err Memory) none h = tt
 
--- Where the reader tells its bytes, the answer is their verdict.
+-- If the bytes to come are known, the result is their verdict.
 pub reads_told : {R : Type 0} (f : Lines Dump) {o n : Incoming} {dev : Ghosts R} {i k : R} {r : Result declared.Dump DumpReadFault} →
     ReadsLines f dump_seen o n dev i k r → o.line ≡ 0 → (held_of o) ≡ [] → (IsOk r → (held_of n) ≡ []) →
     (all : List ℕ) → dev.coming i ≡ Some all → FollowsLines (verdict f 0 all) r (dev.coming k)
@@ -196,7 +197,7 @@ taken_more : {X R : Type 0} {dev : Ghosts R} {i k : R} (x : List ℕ) (r : Resul
 taken_more x (Ok v) t = Takes-more x 1 t
 taken_more x (Err fault) t = t
 
--- Which bytes were taken, whatever the reader tells.
+-- The bytes that were read, for every reader.
 pub reads_taken : {R : Type 0} (f : Lines Dump) {o n : Incoming} {dev : Ghosts R} {i k : R} {r : Result declared.Dump DumpReadFault} →
     ReadsLines f dump_seen o n dev i k r → o.line ≡ 0 → (held_of o) ≡ [] → (IsOk r → (held_of n) ≡ []) →
     (bytes : List ℕ) × Takes dev i k bytes 1 × TookLines (verdict f 0 bytes) r (dev.coming k)

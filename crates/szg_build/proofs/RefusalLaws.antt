@@ -1,4 +1,4 @@
--- The refusals of a plan and its lists, in their order, and what stands where none of them does.
+-- The faults of a plan and its lists, in their order, and what holds if none of them applies.
 use Rattle.std.proofs.Common.{ℕ, ◌≡◌, ◌+◌, ◌<◌, ◌≤◌, ◌^◌, Bool, true, false, cond, List, [], ◌∷◌, length, map, get_or, refl, sym, ap, subst, ◌∙◌, arith, inl, inr, Option, Some, None}
 use Rattle.std.specs.Prelude.{◌==◌, ◌&&◌, not, nat_lt, nat_le, option_map}
 use Rattle.std.specs.Bool.{then_some}
@@ -82,7 +82,7 @@ pub below_4095 : (kind : Kind) (values : List ℕ) → AllByRecursion (λ v. v �
 below_4095 Wdl values h = all_as (λ v. v ≤ 4) (λ v. v ≤ 4095) values (λ v le. omega (arith, le)) h
 below_4095 Dtz values h = h
 
--- as many lists as sizes, and none that hasn't its size
+-- the number of lists is the number of sizes, and each list has its size
 pub sizes_are : (sizes : List ℕ) (lists : List (List ℕ)) → length lists ≡ length sizes → AllByRecursion (λ pair. not (length pair.1 == pair.0) ≡ false) (zip sizes lists) →
     sizes ≡ map length lists
 sizes_are [] [] e h = refl
@@ -118,14 +118,14 @@ at_bits b1 b2 b3 o4 o5 o6 b7 e1 = sym (ap (λ (b : Bool). chain b b2 b3 o4 o5 o6
 at_rounds : (b1 b2 b3 : Bool) (o4 o5 o6 : Option ℕ) (b7 : Bool) → b1 ≡ true → b2 ≡ false → Some fault.Rounds ≡ chain b1 b2 b3 o4 o5 o6 b7
 at_rounds b1 b2 b3 o4 o5 o6 b7 e1 e2 = sym (ap (λ (b : Bool). chain b b2 b3 o4 o5 o6 b7) e1 ∙ ap (λ (b : Bool). chain true b b3 o4 o5 o6 b7) e2)
 
--- behind the numbers
+-- after the checks of the numbers
 counted : (b1 b2 b3 : Bool) (o4 o5 o6 : Option ℕ) (b7 : Bool) → b1 ≡ true → b2 ≡ true → chain b1 b2 b3 o4 o5 o6 b7 ≡ chain true true b3 o4 o5 o6 b7
 counted b1 b2 b3 o4 o5 o6 b7 e1 e2 = ap (λ (b : Bool). chain b b2 b3 o4 o5 o6 b7) e1 ∙ ap (λ (b : Bool). chain true b b3 o4 o5 o6 b7) e2
 
 at_count : (b1 b2 b3 : Bool) (o4 o5 o6 : Option ℕ) (b7 : Bool) → b1 ≡ true → b2 ≡ true → b3 ≡ false → Some fault.Count ≡ chain b1 b2 b3 o4 o5 o6 b7
 at_count b1 b2 b3 o4 o5 o6 b7 e1 e2 e3 = sym (counted b1 b2 b3 o4 o5 o6 b7 e1 e2 ∙ ap (λ (b : Bool). chain true true b o4 o5 o6 b7) e3)
 
--- behind the number of lists
+-- after the check of the number of lists
 listed : (b1 b2 b3 : Bool) (o4 o5 o6 : Option ℕ) (b7 : Bool) → b1 ≡ true → b2 ≡ true → b3 ≡ true → chain b1 b2 b3 o4 o5 o6 b7 ≡ chain true true true o4 o5 o6 b7
 listed b1 b2 b3 o4 o5 o6 b7 e1 e2 e3 = counted b1 b2 b3 o4 o5 o6 b7 e1 e2 ∙ ap (λ (b : Bool). chain true true b o4 o5 o6 b7) e3
 
@@ -143,7 +143,7 @@ at_many b1 b2 b3 o4 o5 o6 b7 n e1 e2 e3 e4 e5 e6 =
     sym (listed b1 b2 b3 o4 o5 o6 b7 e1 e2 e3 ∙ ap (λ (o : Option ℕ). chain true true true o o5 o6 b7) e4 ∙ ap (λ (o : Option ℕ). chain true true true None o o6 b7) e5
     ∙ ap (λ (o : Option ℕ). chain true true true None None o b7) e6)
 
--- behind the lists
+-- after the checks of the lists
 valued : (b1 b2 b3 : Bool) (o4 o5 o6 : Option ℕ) (b7 : Bool) → b1 ≡ true → b2 ≡ true → b3 ≡ true → o4 ≡ None → o5 ≡ None → o6 ≡ None →
     chain b1 b2 b3 o4 o5 o6 b7 ≡ unless b7 fault.Map
 valued b1 b2 b3 o4 o5 o6 true e1 e2 e3 e4 e5 e6 =
@@ -269,7 +269,7 @@ lent_small now kind lists e =
     (λ list h. below_4095 kind (now list) (none_above (greatest_value kind) (now list) h))
     (none_pass (λ (list : _). list_any (λ v. nat_lt (greatest_value kind) v) (now list)) lists e))
 
--- four tests, one behind another
+-- four tests, one after another
 pub four_first : (a b c d : Bool) → a ≡ false → false ≡ (a && b && c && d)
 four_first a b c d e = sym (ap (λ (x : Bool). x && b && c && d) e)
 

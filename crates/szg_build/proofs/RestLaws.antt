@@ -1,4 +1,4 @@
--- A subtable's text behind its first lines, as it is read.
+-- A subtable's text after its first lines, as it is read.
 use Rattle.std.proofs.Common.{◌≡◌, ℕ, ◌+◌, arith, true, false, List, [], ◌∷◌, ap, Option, Ok, Err}
 use Rattle.std.specs.Prelude.{Result, codes}
 use Rattle.szg_values.specs.declared.Kind.{Kind}

@@ -13,12 +13,12 @@ use Rattle.szg_build.proofs.Triples.{entry-left, entry-right, entry-pair, entry_
 use Rattle.szg_build.proofs.LeafLaws.{all_push, get_or-last, get_or-front}
 use Rattle.szg_build.proofs.Growing.{IsNewPair, pair_grows, expansion-more, expansion-new, round_keeps_values, round_keeps_use, round_makes_one, round_keeps_names}
 
--- ---- pairs that stand somewhere
+-- ---- pairs that occur
 
 both : (left right s t : ℕ) → s ≡ left → t ≡ right → ((s == left) && (t == right)) ≡ true
 both left right s t p q = rw (eq-eqb s left p, eq-eqb t right q) refl
 
--- a pair that stands at some place counts
+-- a pair that occurs at some index counts
 pub pair_stands : (left right : ℕ) (symbols : List ℕ) (i : ℕ) → i + 1 < length symbols → get_or symbols i 0 ≡ left → get_or symbols (i + 1) 0 ≡ right → 0 < pair_count left right symbols
 pair_stands left right [] i inside p q = absurd (omega (arith, inside))
 pair_stands left right (s ∷ []) i inside p q = absurd (omega (arith, inside))

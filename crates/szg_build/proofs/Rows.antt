@@ -323,7 +323,7 @@ draws_lines : length (dump_lines runs knvk_draws) ≡ 11
 unfolding dump_lines digits encode_with
 draws_lines = refl
 
--- its sizes, which the parts tell (SizeRows)
+-- its sizes, by its parts (SizeRows)
 abbrev pub draw_sizes : Sides → Kind → List Part → Option (List ℕ)
 draw_sizes material kind parts = Some (31332 ∷ 31332 ∷ [])
 

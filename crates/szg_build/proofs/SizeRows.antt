@@ -1,4 +1,4 @@
--- Rows of sizes: which subtables the parts of a plan stand for, through the definitions of the layers below.
+-- Rows of sizes: the subtables that the parts of a plan give, through the definitions of the layers below.
 use Rattle.std.proofs.Common.{◌≡◌, ℕ, List, [], ◌∷◌, replicate, refl, ap, Some, None}
 use Rattle.std.specs.Prelude.{map}
 use Rattle.szg_values.specs.Material.{Sides}
@@ -67,7 +67,7 @@ no_parts = refl
 abbrev draws : List (List ℕ)
 draws = replicate 31332 2 ∷ replicate 31332 2 ∷ []
 
--- parts that don't stand are refused before anything else
+-- parts that are not valid are refused before anything else
 order_before_bits : build_fault (record knvk_plan { parts = []; block_bits = 4 }) draws ≡ Some fault.Order
 unfolding build_fault fault_for sizes_told
 order_before_bits = refl

@@ -18,7 +18,7 @@ pub middle-next : (span_bits j : ℕ) → middle_of_span span_bits j ≤ middle_
 unfolding middle_of_span
 middle-next span_bits j = let next : (j + 1) * 2 ^ span_bits ≡ j * 2 ^ span_bits + 2 ^ span_bits = omega arith in omega (arith, next)
 
--- the block behind the next one starts behind the index, or is the next one there
+-- the block after the next one starts after the index, or is the next one there
 pub next_start : (lengths : List ℕ) (block begun index : ℕ) → block < length lengths → begun ≡ start lengths block → index < start lengths (length lengths) → get_or lengths block 0 < index - begun →
     (block + 1 < length lengths) × (begun + (get_or lengths block 0 + 1) ≡ start lengths (block + 1)) × (begun + (get_or lengths block 0 + 1) ≤ index)
 next_start lengths block begun index there at inside far =

@@ -67,12 +67,12 @@ pub record IsLine (word : List ℕ) (words : List (List ℕ)) : Type 0 where
 
 -- ---- texts
 
--- how many lines there are behind these
+-- the number of lines up to the end of these
 abbrev pub lines_behind : List (List (List ℕ)) → ℕ → ℕ
 lines_behind [] count = count
 lines_behind (words ∷ lines) count = lines_behind lines (suc count)
 
--- these lines are read as a, whatever stands before them and behind
+-- these lines are read as a, whatever comes before and after them
 pub record IsReadAs {A : Type 0} (f : Lines A) (lines : List (List (List ℕ))) (a : A) : Type 0 where
   pub told : (count : ℕ) (rest : List ℕ) → verdict f count (lines_text lines ++ rest) ≡ good a (lines_behind lines count) rest
 

@@ -88,7 +88,7 @@ parts_told material kind parts bytes e =
     sides_of_all (IsPart material kind) (part_numbers material) parts (sym (eqb-true (length parts) (length (part_numbers material)) halves.0))
     (all_both IsOfBytes (λ part. is_part material kind part ≡ true) (IsPart material kind) parts (λ part h k. part_told material kind part h k) bytes each)
 
--- where the parts stand, their sizes are told
+-- valid parts give their sizes
 pub sizes_of_parts : (material : Sides) (kind : Kind) (parts : List Part) → SideBySide (λ _. IsPart material kind) (part_numbers material) parts →
     sizes_told material kind parts ≡ Some (map (λ slot. slot.size) (slots material kind parts))
 unfolding sizes_told
@@ -120,7 +120,7 @@ split_stands material Dtz byte e = refl
 
 -- ---- subtables
 
--- one more subtable behind the others
+-- one more subtable after the others
 pub built_more : (choice : Choice) (plan : Plan) (flags : List ℕ) (lists : List (List ℕ)) (subtables : List Subtable) (values : List ℕ) (subtable : Subtable) → AreBuilt choice plan flags lists subtables →
     IsBuiltSub plan.kind (get_or flags (length lists) 0) values choice subtable →
     AreBuilt choice plan flags (lists ++ values ∷ []) (subtables ++ subtable ∷ [])
@@ -458,7 +458,7 @@ pub passed_as : {A : Type 0} (r : Result A BuildFault) (o : Option BuildFault) �
 passed_as r None e h = h
 passed_as r (Some g) e h = absurd (some_of g (sym e))
 
--- no fault is told
+-- no fault is returned
 pub no_fault : (o : Option BuildFault) → ((f : BuildFault) → o ≡ Some f → ⊥) → o ≡ None
 no_fault None h = refl
 no_fault (Some f) h = absurd (h f refl)

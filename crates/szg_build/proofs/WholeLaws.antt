@@ -71,7 +71,7 @@ same_dump material kind parts last subs read h =
 
 -- ---- one after another
 
--- what is left to be read from subtable s on, behind these
+-- what is left to be read from subtable s on, after these
 abbrev pub subs_left : Form → Sides → Kind → List ℕ → List Part → List SubDump → ℕ → Lines Dump
 subs_left form material kind last parts read s =
     mapped (λ rest. dump_of_subs material kind parts last (read ++ rest)) (subs_text form kind (sizes_told material kind parts) s (drop s (places_of material kind)))

@@ -171,7 +171,7 @@ same_behind : (front xs ys : List ℕ) → front ++ xs ≡ front ++ ys → xs �
 same_behind [] xs ys e = e
 same_behind (x ∷ front) xs ys e = let inner : front ++ xs ≡ front ++ ys = cc e in same_behind front xs ys inner
 
--- what stands behind a front isn't one word
+-- what follows `front` is not one word
 pub no_word : (front text rest : List ℕ) → text ≡ front ++ rest → list_any (λ byte. byte == 32) rest ≡ true → (word : List ℕ) → IsWord word → text ≡ front ++ word → ⊥
 no_word front text rest e space word h e' =
     let same : rest ≡ word = same_behind front rest word (sym e ∙ e') in
@@ -201,14 +201,14 @@ same_split (c ∷ a) (d ∷ b) x y h h' e =
     let inner : a ++ 32 ∷ x ≡ b ++ 32 ∷ y = cc e in
     same_split a b x y (or_parts (c == 32) (list_any (λ k. k == 32) a) h).1 (or_parts (d == 32) (list_any (λ k. k == 32) b) h').1 inner
 
--- no second word behind the first one
+-- no second word after the first one
 pub no_second_word : (front middle text behind first last : List ℕ) → text ≡ front ++ behind → IsWord first → behind ≡ first ++ 32 ∷ last →
     ((word : List ℕ) → IsWord word → last ≡ middle ++ word → ⊥) → (a b : List ℕ) → IsWord a → IsWord b → text ≡ front ++ (a ++ 32 ∷ (middle ++ b)) → ⊥
 no_second_word front middle text behind first last e h e' never a b ha hb same =
     let rest : behind ≡ a ++ 32 ∷ (middle ++ b) = same_behind front behind (a ++ 32 ∷ (middle ++ b)) (sym e ∙ same) in
     never b hb (same_split first a last (middle ++ b) h ha (sym e' ∙ rest))
 
--- no space behind the front
+-- no space after `front`
 pub no_first_word : (front middle text behind : List ℕ) → text ≡ front ++ behind → ((word : List ℕ) → (rest : List ℕ) → behind ≡ word ++ 32 ∷ rest → ⊥) →
     (a b : List ℕ) → IsWord a → IsWord b → text ≡ front ++ (a ++ 32 ∷ (middle ++ b)) → ⊥
 no_first_word front middle text behind e never a b ha hb same = never a (middle ++ b) (same_behind front behind (a ++ 32 ∷ (middle ++ b)) (sym e ∙ same))

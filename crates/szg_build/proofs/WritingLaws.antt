@@ -79,7 +79,7 @@ writes_then s t {o = o} {m = m} {n = n} {dev = dev} {i = i} {j = j} {k = k} v {r
           (subst (λ (fs : ℕ). Answer t m n fs (dev.failures k) (dev.interrupted k) second.bytes r) same second.answer);
     }
 
--- A writer that answers a fault ends the whole.
+-- A writer's fault ends the whole.
 pub writes_stopped : {X Y W : Type 0} (s t : List ℕ) {o n n' : Outgoing}
     {dev : Ghosts W} {i k : W} (fault : WriteFault) →
     Writing {X = X} s o n dev i k (Err fault) →
@@ -132,7 +132,7 @@ writes_held_stopped o n {dev = dev} {i = i} {k = k} piece count fault held at ou
   );
 }
 
--- The same text, told otherwise.
+-- The same text, in another form.
 pub writes_as : {X W : Type 0} {s t : List ℕ} {o n : Outgoing}
     {dev : Ghosts W} {i k : W} {r : Result X WriteFault} → s ≡ t →
     Writing t o n dev i k r →
@@ -154,7 +154,7 @@ writes_next f xs at d y h first second =
     writes_as (ap (flat_map f) longer ∙ flat_map-append f (take at xs) (get_or xs at d ∷ []) ∙ ap (λ (w : List ℕ). flat_map f (take at xs) ++ w) (append-nil (f (get_or xs at d))))
     (record { bytes = joint.bytes; given = joint.given; answer = joint.answer })
 
--- An item that answers a fault, at its index.
+-- The fault of an item, at its index.
 pub writes_next_stopped : {A Y Z W : Type 0} (f : A → List ℕ) (xs : List A) (at : ℕ) (d : A) {o m n n' : Outgoing}
     {dev : Ghosts W} {i j k : W} (fault : WriteFault) → at < length xs →
     Writing {X = Unit {0}} (flat_map f (take at xs)) o m dev i j (Ok tt) →
@@ -184,7 +184,7 @@ writes_more f xs x y first second =
     writes_as (flat_map-append f xs (x ∷ []) ∙ ap (λ (w : List ℕ). flat_map f xs ++ w) (append-nil (f x)))
     (record { bytes = joint.bytes; given = joint.given; answer = joint.answer })
 
--- An item that answers a fault, whatever items are still to come.
+-- The fault of an item, whatever items are still to come.
 pub writes_more_stopped : {A Y Z W : Type 0} (f : A → List ℕ) (xs : List A) (x : A) (ys : List A) {o m n n' : Outgoing}
     {dev : Ghosts W} {i j k : W} (fault : WriteFault) →
     Writing {X = Unit {0}} (flat_map f xs) o m dev i j (Ok tt) →
@@ -282,7 +282,7 @@ writes_beside f xs ys at d e y h h' first second =
     writes_as (ap lines_text (beside_one f xs ys at d e h h') ∙ lines-append before here)
     (record { bytes = joint.bytes; given = joint.given; answer = joint.answer })
 
--- A pair that answers a fault.
+-- The fault of a pair.
 pub writes_beside_stopped : {A B Y Z W : Type 0} (f : A → B → List (List (List ℕ))) (xs : List A) (ys : List B) (at : ℕ) (d : A) (e : B) {o m n n' : Outgoing}
     {dev : Ghosts W} {i j k : W} (fault : WriteFault) → at < length xs → at < length ys →
     Writing {X = Unit {0}} (lines_text (flat_map_beside f (take at xs) (take at ys))) o m dev i j (Ok tt) →
@@ -376,7 +376,7 @@ seen_counted dump =
     ∙ ap (λ (z : ℕ). count_at dump.kind (length dump.flags.items) z (length (map (λ list. list.items) dump.lists.items))) (length-map dump.maps.items (option_map map_of))
     ∙ ap (λ (z : ℕ). count_at dump.kind (length dump.flags.items) (length dump.maps.items) z) (length-map dump.lists.items (λ list. list.items))
 
--- subtable s of a dump, as it is told at its place
+-- subtable s of a dump, as it is written for its part and side
 pub sub_told : (form : Form) (dump : declared.Dump) (places : List (ℕ × ℕ)) (s : ℕ) → places ≡ places_of dump.material dump.kind → s < length places → s < sub_count dump →
     (s < length (places_of dump.material dump.kind)) × (s < length (subs_seen dump))
     × (lines_text (sub_lines form dump.kind (get_or (places_of dump.material dump.kind) s (0, 0)) (get_or (subs_seen dump) s (sub_in dump s))) ≡ lines_text (sub_lines form dump.kind (get_or places s (0, 0)) (sub_in dump s)))
@@ -388,7 +388,7 @@ sub_told form dump places s same few there =
           ∙ ap (λ z. lines_text (sub_lines form dump.kind (get_or z s (0, 0)) (sub_in dump s))) (sym same),
     )
 
--- the n-th part, as it is told under its number
+-- the n-th part, as it is written under its number
 pub part_told : {A : Type 0} (part : A → held.Part) (parts : List A) (numbers : List ℕ) (count n : ℕ) (x : A) → numbers ≡ range_with_len 0 count → n < count → n < length parts → x ≡ get_or parts n x →
     (n < length numbers) × (n < length (map part parts)) × (lines_text (part_lines (get_or numbers n 0) (get_or (map part parts) n (part x))) ≡ lines_text (part_lines n (part x)))
 part_told part parts numbers count n x same few there is =
@@ -444,7 +444,7 @@ runs_at (w ∷ ws) v (suc (suc n)) some within same other =
     ∙ ap (with_value v) inner
     ∙ with_value-same v (suc n) v (runs_of (drop (suc n) ws)) (eq-eqb v v refl)
 
--- The first run of the values that are left, behind those that were told.
+-- The first run of the remaining values, after those that were written.
 pub runs_left : (values piece : List ℕ) (done : List (ℕ × ℕ)) (from n x : ℕ) → piece ≡ drop from values → runs_of piece ≡ (n, slice_index piece 0) ∷ runs_of (drop n piece) →
     x ≡ get_or values from 0 → done ++ runs_of (drop from values) ≡ runs_of values → done ++ ((n, x) ∷ runs_of (drop (from + n) values)) ≡ runs_of values
 runs_left values piece done from n x p q e h =

@@ -1,5 +1,5 @@
 -- What the steps of the builder hand on to one another.
-use Rattle.std.specs.Prelude.{ℕ, suc, ◌≡◌, ◌+◌, ◌*◌, ◌/◌, ◌%◌, ◌^◌, ◌<◌, ◌≤◌, ◌==◌, Bool, false, IfSome, List, [], ◌∷◌, ◌++◌, length, map, Some, slice_get, slice_index, slice_index_or}
+use Rattle.std.specs.Prelude.{ℕ, suc, ◌≡◌, ◌+◌, ◌*◌, ◌/◌, ◌%◌, ◌^◌, ◌<◌, ◌≤◌, ◌==◌, Bool, false, IfSome, List, [], ◌∷◌, ◌++◌, length, map, take, drop, Some, slice_get, slice_index, slice_index_or}
 use Rattle.std.specs.List.{AllByRecursion, concat, list_any}
 use Rattle.szg_pairs.specs.Dictionary.{IsDictionary}
 use Rattle.szg_pairs.specs.Expansion.{expansion_of}
@@ -28,12 +28,17 @@ use Rattle.szg_build.specs.Pairing.{pair_count, values_of, pairs_in, IsUsed, IsF
 abbrev pub entry_of : ℕ → ℕ → List ℕ
 entry_of left right = (left % 256) ∷ (left / 256 + 16 * (right % 16)) ∷ (right / 16) ∷ []
 
--- how many values each symbol stands for
+-- the number of values of each symbol
 pub record AreLens (entries : List (List ℕ)) (lens : List ℕ) : Type 0 where
   pub count : length lens ≡ length entries
   pub each : (s : ℕ) → s < length entries → slice_index lens s ≡ length (expansion_of entries s)
 
--- a pair of two symbols that are there, that together have at most 256 values, and that stand side by side somewhere
+-- the values of a list from an offset on begin with those of a symbol
+pub record IsSymbolAt (entries : List (List ℕ)) (values : List ℕ) (symbol offset : ℕ) : Type 0 where
+  pub inside : offset + length (expansion_of entries symbol) ≤ length values
+  pub same : take (length (expansion_of entries symbol)) (drop offset values) ≡ expansion_of entries symbol
+
+-- a pair of two symbols of the dictionary that together have at most 256 values and are neighbours somewhere
 pub record IsCandidate (lens symbols : List ℕ) (left right : ℕ) : Type 0 where
   pub left_there : left < length lens
   pub right_there : right < length lens
@@ -54,7 +59,8 @@ pub record AreNumbered (values numbers : List ℕ) : Type 0 where
 abbrev pub leaves_below : ℕ → List ℕ → List (List ℕ)
 leaves_below bound values = map (λ value. entry_of value 4095) (values_below bound values)
 
--- a dictionary with a leaf for each different value, and a list of symbols that stand for these values, behind so many rounds
+-- a dictionary with a leaf for each different value, and a list of symbols that expands to these values, after
+-- `done` rounds
 pub record IsRound (values : List ℕ) (done : ℕ) (entries : List (List ℕ)) (symbols : List ℕ) : Type 0 where
   pub dictionary : IsDictionary entries
   pub triples : AllByRecursion (AreBytes 3) entries
@@ -73,7 +79,7 @@ pub record IsPairing (values : List ℕ) (rounds : ℕ) (entries : List (List �
 
 -- ---- words
 
--- an accepted code of so many symbols, of which each has a word
+-- an accepted code of `count` symbols, each with a word
 pub record IsChosen (count : ℕ) (code : CanonicalCode) : Type 0 where
   pub accepted : IsCode code
   pub symbols : code.symbols ≡ count
@@ -83,8 +89,14 @@ pub record IsChosen (count : ℕ) (code : CanonicalCode) : Type 0 where
 
 -- ---- blocks
 
--- The blocks from the j-th on are filled by these lists: each block's bits begin with the words of its list, and its
--- length tells how many values the list stands for.
+-- whole bytes, four at a time, and fewer than 32 bits that wait
+pub record IsWaiting (bytes : List ℕ) (count waiting : ℕ) : Type 0 where
+  pub few : count < 32
+  pub small : waiting < 2 ^ count
+  pub fours : length bytes ≡ 4 * (length bytes / 4)
+
+-- The blocks from the j-th on are packed with these lists: each block's bits begin with the words of its list, and
+-- its length is the number of values of the list.
 pub data AreFilled (layout : Layout) (packed : List ℕ) : ℕ → List (List ℕ) → Type 0 where
   end : {j : ℕ} → j ≡ layout.blocks → AreFilled layout packed j []
   next : {j : ℕ} {symbols : List ℕ} {lists : List (List ℕ)} → j < layout.blocks → Spells layout.code (bits (block_at layout.block_bits packed j)) symbols →
@@ -109,8 +121,8 @@ pub record IsBlockOf (block_bits : ℕ) (words : List Bool) (block : List ℕ) :
   pub rest : List Bool
   pub joined : bits block ≡ words ++ rest
 
--- Symbols fill blocks that are closed, and begin another: its words so far, and how many values they stand for. In each
--- closed block stand four symbols or more.
+-- Symbols fill closed blocks and begin another: its words so far, and their number of values. Each closed block has
+-- at least four symbols.
 pub record IsFilling (code : CanonicalCode) (entries : List (List ℕ)) (block_bits : ℕ) (symbols lengths packed : List ℕ) (words : List Bool) (values : ℕ) : Type 0 where
   pub lists : List (List ℕ)
   pub current : List ℕ
@@ -126,8 +138,8 @@ pub record IsFilling (code : CanonicalCode) (entries : List (List ℕ)) (block_b
   pub some : length current ≤ values
   pub many : 4 * length lengths ≤ length (concat lists)
 
--- The symbols, cut into lists, fill so many blocks; each length is a length, each block is whole, and there are at most
--- as many blocks as 32 bits number.
+-- The symbols, divided into lists, fill `blocks` blocks; each length is valid, each block is whole, and the number
+-- of blocks fits 32 bits.
 pub record IsCut (code : CanonicalCode) (entries : List (List ℕ)) (block_bits : ℕ) (symbols : List ℕ) (blocks : ℕ) (lengths packed : List ℕ) : Type 0 where
   pub lists : List (List ℕ)
   pub joined : concat lists ≡ symbols
@@ -151,7 +163,8 @@ pub record IsIndexOf (lengths : List ℕ) (span_bits : ℕ) (sparse : List Spars
 
 -- ---- a subtable
 
--- A subtable's head and lists, made of values by the steps above; behind the lengths of the blocks stand at most 255 more.
+-- A subtable's header and lists, made of values by the steps above; after the lengths of the blocks follow at most
+-- 255 more.
 pub record IsMade (values : List ℕ) (flags block_bits span_bits rounds : ℕ) (head : Head) (sparse : List SparseEntry) (lengths packed : List ℕ) : Type 0 where
   pub symbols : List ℕ
   pub own : List ℕ

@@ -1,4 +1,4 @@
--- What a built table is: the plan's, with the values that were handed in. What a dump tells of a table.
+-- What a built table is: the plan's, with the values handed in. The dump of a table.
 use Rattle.std.specs.Prelude.{◌≡◌, ℕ, ◌+◌, ◌%◌, List, [], ◌∷◌, map, Option, Some, None, IfSome}
 use Rattle.std.specs.List.{AllByRecursion}
 use Rattle.szg_values.specs.declared.Kind.TheVariants.{Wdl, Dtz}
@@ -15,7 +15,7 @@ abbrev pub layout_in : Subtable → Option Layout
 layout_in (constant flags byte) = None
 layout_in (pairs head sparse lengths packed) = Some (layout_of head sparse lengths)
 
--- its blocks, one behind another
+-- its blocks, one after another
 abbrev pub packed_in : Subtable → List ℕ
 packed_in (constant flags byte) = []
 packed_in (pairs head sparse lengths packed) = packed
@@ -37,7 +37,8 @@ abbrev pub flags_byte : ℕ → Subtable → ℕ
 flags_byte flags (constant _ byte) = flags + 128
 flags_byte flags (pairs head sparse lengths packed) = flags
 
--- the flags bytes of subtables, one behind another; where the flags end, as in WDL from the first on, the flags are 0
+-- the flags bytes of subtables, one after another; where the flags end, as in WDL from the first on, the flags are
+-- 0
 abbrev pub flags_bytes : List ℕ → List Subtable → List ℕ
 flags_bytes flags [] = []
 flags_bytes [] (subtable ∷ subtables) = flags_byte 0 subtable ∷ flags_bytes [] subtables
@@ -76,7 +77,7 @@ pub record IsBuiltSmall (plan : Plan) (lists : List (List ℕ)) (t : Contents) :
   pub packed : AllByRecursion IsSmallPacked (subtables_in t)
   pub values : value_lists t ≡ lists
 
--- the dump tells this table
+-- the dump has the content of this table
 pub record IsDumpOf (dump : Dump) (t : Contents) : Type 0 where
   pub material : t.material ≡ dump.material
   pub kind : t.kind ≡ dump.kind

@@ -1,4 +1,4 @@
--- How the fixed words and the values of a line stand in its text.
+-- How the fixed words and the values of a line are written in its text.
 use Rattle.std.specs.Prelude.{◌≡◌, ◌⊎◌, ℕ, suc, ◌==◌, false, List, [], ◌∷◌, ◌++◌, codes, Result, Ok, Err}
 use Rattle.std.specs.Fmt.{decimal}
 use Rattle.std.specs.List.{list_any}
@@ -22,7 +22,7 @@ HasFixedWords [] = Unit {0}
 HasFixedWords (fixed text ∷ pattern) = IsWord text × HasFixedWords pattern
 HasFixedWords (value ∷ pattern) = HasFixedWords pattern
 
--- how many words of a pattern tell values
+-- the number of words of a pattern that are values
 abbrev pub value_count : List Word → ℕ
 value_count [] = 0
 value_count (fixed text ∷ pattern) = value_count pattern
@@ -58,7 +58,7 @@ abbrev pub in_line : {X : Type 0} → ℕ → Result X DumpFault → Result X Du
 in_line number (Ok x) = Ok x
 in_line number (Err fault) = Err (Line number fault)
 
--- A line was read, and the answer is what is told of it; or no line was read.
+-- A line was read, and the result is its parse; or no line was read.
 abbrev pub TellsLine : {T R : Type 0} → (List ℕ → Result T DumpFault → Type 0) → Incoming → Incoming → Ghosts R → R → R → Result T DumpReadFault → Type 0
 TellsLine {T = T} tells old new dev input input' result =
     ((text : List ℕ) × (told : Result T DumpFault) × tells text told × ReadsLines (line means) words_of old new dev input input' (Ok text) × (result ≡ in_line new.line told))

@@ -38,12 +38,12 @@ bytes_in word = if bytes_eq (encode_lower (digit_bytes word)) word then Some (di
 
 -- ---- lines
 
--- a word of a line: a fixed one, or one that tells a value
+-- a word of a line: a fixed one, or a value
 pub data Word : Type 0 where
   fixed : List ℕ → Word
   value : Word
 
--- the words that tell values, where the line has these words
+-- the words that are values, if the line has these words
 abbrev pub values_in : List Word → List (List ℕ) → Option (List (List ℕ))
 values_in [] [] = Some []
 values_in (fixed text ∷ pattern) (word ∷ words) = if bytes_eq word text then values_in pattern words else None
@@ -55,7 +55,7 @@ abbrev pub or_fault : {A : Type 0} → DumpFault → Option A → Lines A
 or_fault fault None = refuses (of_line fault)
 or_fault fault (Some a) = means a
 
--- a line of these words: what its values tell
+-- a line of these words: the values in it
 abbrev pub line_of : List Word → Lines (List (List ℕ))
 line_of pattern = line (λ words. or_fault Field (values_in pattern words))
 
@@ -72,7 +72,7 @@ number_line pattern limit = do
   values ← line_of pattern
   number_at values 0 limit
 
--- so many texts of one kind
+-- `n` texts of one kind
 abbrev pub repeated : {A : Type 0} → ℕ → Lines A → Lines (List A)
 repeated zero lines = means []
 repeated (suc count) lines = do
@@ -179,7 +179,7 @@ run_line left = do
   v ← number_at values 1 greatest_item
   or_fault Run (fitting_run left (count, v))
 
--- runs until so many values are there; each has a value or more, so there are at most so many runs
+-- runs until `left` values are read; each has at least one value, so there are at most `left` runs
 abbrev pub run_values : ℕ → ℕ → Lines (List ℕ)
 run_values zero left = means []
 run_values (suc most) zero = means []
@@ -192,7 +192,7 @@ abbrev pub values_lines : Form → ℕ → Lines (List ℕ)
 values_lines single count = repeated count (number_line (value ∷ []) greatest_item)
 values_lines runs count = run_values count count
 
--- with runs, parts that don't stand are refused behind the first line of a subtable
+-- with runs, parts that are not valid are refused after the first line of a subtable
 abbrev pub order_check : Form → Option (List ℕ) → Lines (Unit {0})
 order_check single sizes = means tt
 order_check runs None = refuses (of_plan plan.Order)
@@ -229,7 +229,7 @@ subs_text form kind sizes s (place ∷ places) = do
 
 -- ---- the whole text
 
--- the text of a dump, where `sizes` tells the sizes of the subtables that parts stand for
+-- the text of a dump, where `sizes` gives the sizes of the subtables of valid parts
 abbrev pub dump_with : (Sides → Kind → List Part → Option (List ℕ)) → Lines Dump
 dump_with sizes = do
   form ← version_line

@@ -11,14 +11,14 @@ use Rattle.szg_build.specs.Reading.{told_line}
 abbrev pub AreWhole : List ℕ → Type 0
 AreWhole lines = (lines ≡ []) ⊎ ((front : List ℕ) × (lines ≡ front ++ 10 ∷ []))
 
--- no line is refused, and nothing stands behind a text
+-- no line is refused, and nothing follows the text
 abbrev pub IsUnrefused : {A : Type 0} → Verdict A → Type 0
 IsUnrefused (good a count rest) = rest ≡ []
 IsUnrefused (refused at why rest) = ⊥
 IsUnrefused (ended at) = Unit {0}
 
--- These bytes are whole lines of which none is refused, and then bytes that were taken ahead: no more than stand behind
--- these lines in each text that begins with them, and `behind` more.
+-- These bytes are whole lines, none of them refused, and then bytes that were read ahead: no more than follow these
+-- lines in each text that begins with them, and `behind` more.
 pub record StopsShort {A : Type 0} (f : Lines A) (count behind : ℕ) (bytes : List ℕ) : Type 0 where
   pub lines : List ℕ
   pub ahead : List ℕ

@@ -36,7 +36,7 @@ abbrev pub AreFlagsTold : Kind → SubDump → Type 0
 AreFlagsTold Wdl sub = (sub.flags ≡ 0) × (sub.lists ≡ None)
 AreFlagsTold Dtz sub = (sub.flags ≤ 31) × IsMapTold sub.flags sub.lists
 
--- with runs, subtable s has as many values as its size
+-- with runs, the number of values of subtable s is its size
 abbrev pub IsSized : Form → Option (List ℕ) → ℕ → ℕ → Type 0
 IsSized single sizes s count = Unit {0}
 IsSized runs None s count = ⊥
@@ -59,7 +59,8 @@ pub record IsPartTold (number : ℕ) (part : Part) : Type 0 where
   pub men : AreNumbers 1 part.men
   pub short : length part.order + length part.men ≤ 31
 
--- the dump of a material that a name may have, with as many parts, flags, maps and lists as material and kind say
+-- the dump of a material that a name may have, with the numbers of parts, flags, maps and lists that material and
+-- kind require
 pub record IsTold (form : Form) (sizes : Sides → Kind → List Part → Option (List ℕ)) (dump : Dump) : Type 0 where
   pub material : IsMaterial dump.material
   pub last_bytes : AreNumbers 1 dump.last
@@ -73,7 +74,7 @@ abbrev pub TextIsRead : Type 0
 TextIsRead = (sizes : Sides → Kind → List Part → Option (List ℕ)) (form : Form) (dump : Dump) (rest : List ℕ) → IsTold form sizes dump →
     verdict (dump_with sizes) 0 (dump_text form dump ++ rest) ≡ good dump (length (dump_lines form dump)) rest
 
--- The text of a dump that is cut anywhere ends before the 0A of the line behind those that are whole.
+-- The text of a dump that is cut anywhere ends before the 0A of the line after the last whole line.
 abbrev pub CutTextIsEnded : Type 0
 CutTextIsEnded = (sizes : Sides → Kind → List Part → Option (List ℕ)) (form : Form) (dump : Dump) (front : List ℕ) (byte : ℕ) (back : List ℕ) → IsTold form sizes dump →
     dump_text form dump ≡ front ++ (byte ∷ back) → verdict (dump_with sizes) 0 front ≡ ended (1 + line_ends front)

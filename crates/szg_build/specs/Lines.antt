@@ -1,4 +1,4 @@
--- What a text of lines is, and the verdict on bytes. Nothing here knows what a dump tells.
+-- What a text of lines is, and the verdict on bytes. Nothing here depends on the content of a dump.
 use Rattle.std.specs.Prelude.{ℕ, zero, suc, ◌==◌, true, false, List, [], ◌∷◌}
 use Rattle.szg_build.specs.declared.dump.DumpFault.{DumpFault}
 use Rattle.szg_build.specs.declared.dump.DumpFault.TheVariants.{Field}
@@ -9,7 +9,7 @@ pub data Refusal : Type 0 where
   of_line : DumpFault → Refusal
   of_plan : BuildFault → Refusal
 
--- What stands from a line on, read from above.
+-- What follows from a line on, from top to bottom.
 pub data Lines (A : Type 0) : Type 0 where
   -- nothing more: what was read means this
   means : A → Lines A
@@ -20,9 +20,9 @@ pub data Lines (A : Type 0) : Type 0 where
 
 -- The first line of some bytes.
 pub data FirstLine : Type 0 where
-  -- its bytes before 0A, and those behind it
+  -- its bytes before 0A, and those after it
   whole : List ℕ → List ℕ → FirstLine
-  -- there is no 0A within the room: the bytes behind the first one that has none
+  -- there is no 0A within the room: the bytes after the first byte that does not fit
   long : List ℕ → FirstLine
   -- the bytes end before 0A
   unended : FirstLine
@@ -32,7 +32,7 @@ behind byte (whole text rest) = whole (byte ∷ text) rest
 behind byte (long rest) = long rest
 behind byte unended = unended
 
--- the first line, with room for so many bytes before 0A
+-- the first line, with room for `room` bytes before 0A
 abbrev pub first_line : ℕ → List ℕ → FirstLine
 first_line room [] = unended
 first_line zero (byte ∷ bytes) = elim (byte == 10) [ true ↦ whole [] bytes | false ↦ long bytes ]
@@ -58,14 +58,14 @@ line_ends (byte ∷ bytes) = elim (byte == 10) [ true ↦ suc (line_ends bytes) 
 
 -- What the bytes from a line on are.
 pub data Verdict (A : Type 0) : Type 0 where
-  -- a whole text: what it means, how many lines there were up to its end, and the bytes behind it
+  -- a whole text: its meaning, the number of lines up to its end, and the bytes after it
   good : A → ℕ → List ℕ → Verdict A
-  -- the first line that is refused, the reason, and the bytes behind it
+  -- the first refused line, the reason, and the bytes after it
   refused : ℕ → Refusal → List ℕ → Verdict A
   -- the text ends before the 0A of this line
   ended : ℕ → Verdict A
 
--- The verdict on the bytes behind `count` lines: line after line, each read whole. A line that is too long is refused.
+-- The verdict on the bytes after `count` lines: line by line, each read whole. A line that is too long is refused.
 abbrev pub verdict : {A : Type 0} → Lines A → ℕ → List ℕ → Verdict A
 verdict (means a) count bytes = good a count bytes
 verdict (refuses why) count bytes = refused count why bytes
@@ -83,7 +83,7 @@ abbrev pub ◌>>=◌ : {A B : Type 0} → Lines A → (A → Lines B) → Lines 
 (refuses why) >>= g = refuses why
 (line next) >>= g = line (λ words. next words >>= g)
 
--- a check or a line that tells nothing, and then the rest
+-- a check or a line without a meaning, and then the rest
 infixl 10 ◌>>◌
 abbrev pub ◌>>◌ : {A B : Type 0} → Lines A → Lines B → Lines B
 f >> g = f >>= λ _. g

@@ -11,7 +11,7 @@ use Rattle.szg_block.specs.Block.{needed, block_at}
 use Rattle.szg_block.specs.Expansion.{joined_values}
 use Rattle.szg_build.specs.Plan.{different_values}
 
--- how often the pair stands in the symbols, counted from left to right without overlap
+-- how often the pair occurs in the symbols, counted from left to right without overlap
 abbrev pub pair_count : ℕ → ℕ → List ℕ → ℕ
 pair_count left right [] = 0
 pair_count left right (s ∷ []) = 0
@@ -33,13 +33,13 @@ pairs_in entries = filter (λ entry. not (is_leaf entry)) entries
 abbrev pub values_of : List (List ℕ) → List ℕ → List ℕ
 values_of entries symbols = flat_map (expansion_of entries) symbols
 
--- a list of symbols that the block's own bits begin with, with so many values or more, and no shorter one has them
+-- a list of symbols that the block's own bits begin with, with at least m values, and no shorter one has them
 pub record IsShortest (layout : Layout) (block : List ℕ) (m : ℕ) (symbols : List ℕ) : Type 0 where
   pub spelled : Spells layout.code (bits block) symbols
   pub enough : m ≤ length (values_of layout.entries symbols)
   pub least : (others : List ℕ) → Spells layout.code (bits block) others → m ≤ length (values_of layout.entries others) → length symbols ≤ length others
 
--- for the blocks from the j-th on, so many of them, the shortest lists for their needed values
+-- for `size` blocks from the j-th on, the shortest lists for their needed values
 abbrev pub AreShortest : Layout → List ℕ → ℕ → ℕ → List (List ℕ) → Type 0
 AreShortest layout packed size j [] = Unit {0}
 AreShortest layout packed size j (symbols ∷ lists) =
@@ -54,7 +54,7 @@ IsShort entries left right = length (expansion_of entries left) + length (expans
 abbrev pub IsExhausted : List (List ℕ) → List ℕ → Type 0
 IsExhausted entries symbols = (left right : ℕ) → IsShort entries left right → pair_count left right symbols < 4
 
--- there are as many pairs as rounds, or fewer where there are 4,095 symbols or no pair is left to be made
+-- the number of pairs is the number of rounds, or fewer if there are 4,095 symbols or no pair is left to be made
 abbrev pub IsFinished : List (List ℕ) → List ℕ → ℕ → Type 0
 IsFinished entries symbols rounds =
     (length (pairs_in entries) ≡ rounds)
@@ -69,7 +69,7 @@ pub record IsInPair (entries : List (List ℕ)) (s : ℕ) : Type 0 where
   pub half : (left_of entry ≡ s) ⊎ (right_of entry ≡ s)
   pub another : ¬ (other ≡ s)
 
--- each pair stands in the symbols or in another's pair
+-- each pair occurs in the symbols or in another's pair
 abbrev pub IsUsed : List (List ℕ) → List ℕ → Type 0
 IsUsed entries symbols = (s : ℕ) (entry : List ℕ) → slice_get entries s ≡ Some entry → is_leaf entry ≡ false → IsIn symbols s ⊎ IsInPair entries s
 

@@ -35,7 +35,7 @@ has_parts material kind parts =
     (length parts == length (part_numbers material))
     && list_all (is_part material kind) parts
 
--- the sizes of the subtables, in their order, where the parts stand
+-- the sizes of the subtables, in their order, if the parts are valid
 unfoldable pub sizes_told : Sides → Kind → List Part → Option (List ℕ)
 sizes_told material kind parts =
     if has_parts material kind parts then Some (map (λ slot. slot.size) (slots material kind parts)) else None
@@ -96,7 +96,7 @@ first_fault [] = None
 first_fault (None ∷ others) = first_fault others
 first_fault (Some fault ∷ others) = Some fault
 
--- the first of the refusals that stands, where the parts tell these sizes
+-- the first fault that applies, where these are the sizes of the parts
 unfoldable pub fault_for : Option (List ℕ) → Plan → List (List ℕ) → Option BuildFault
 fault_for None plan lists = Some fault.Order
 fault_for (Some sizes) plan lists = first_fault (

@@ -13,7 +13,7 @@ use Rattle.szg_build.specs.declared.dump.DumpReadFault.{DumpReadFault}
 use Rattle.szg_build.specs.declared.dump.DumpReadFault.TheVariants.{Line, Build, Device, Memory}
 use Rattle.szg_build.specs.Lines.{Lines, means, refuses, Verdict, good, refused, ended, of_line, of_plan, verdict}
 
--- the number of a line as it is told: it stops at the last value of 64 bits
+-- the number of a line as it is returned: it stops at the last value of 64 bits
 abbrev pub told_line : ℕ → ℕ
 told_line number = min number (2 ^ 64 - 1)
 
@@ -35,9 +35,8 @@ EndsWith (good a lines rest) coming = Unit {0}
 EndsWith (refused at why rest) coming = Unit {0}
 EndsWith (ended at) coming = IsAtEnd coming
 
--- What the answer says of the bytes that were held back and those that were taken, behind `count` lines. Where a
--- value was read, the bytes behind its lines are held back for the next call. `Device` comes only where the reader
--- may fail.
+-- What the result says of the bytes that were read ahead and those that were read, after `count` lines. If a value
+-- was read, the bytes after its lines are kept for the next call. `Device` only if the reader may fail.
 abbrev pub LinesAnswer : {A X : Type 0} → Lines A → (X → A) → ℕ → Incoming → List ℕ → Option (List ℕ) → ℕ → ℕ → ℕ → Bool → Result X DumpReadFault → Type 0
 LinesAnswer f view count new bytes coming failures failures' row may_fail (Ok x) =
     (count' : ℕ) × (told_line count' ≡ new.line) × (verdict f count bytes ≡ good (view x) count' (held_of new)) × (failures' ≡ failures)
@@ -52,8 +51,8 @@ abbrev pub turns_of : {X : Type 0} → Result X DumpReadFault → ℕ
 turns_of (Ok x) = 0
 turns_of (Err fault) = 1
 
--- These bytes were taken, with few enough calls, and the answer is the verdict on the bytes held back before and on
--- them, whatever number of lines the line number tells.
+-- These bytes were read, with few enough calls, and the result is the verdict on the bytes read ahead and on them,
+-- whatever the line number is.
 pub record ReadsLines {A X R : Type 0} (f : Lines A) (view : X → A) (old new : Incoming)
     (dev : Ghosts R) (input input' : R) (result : Result X DumpReadFault) : Type 0 where
   pub bytes : List ℕ

@@ -1,4 +1,4 @@
--- What is left of a subtable's text behind its first lines, and what a subtable that was read tells.
+-- The rest of a subtable's text after its first lines, and the content of a subtable that was read.
 use Rattle.std.specs.Prelude.{ℕ, List, [], ◌∷◌, option_map, Option, codes}
 use Rattle.szg_values.specs.declared.Kind.{Kind}
 use Rattle.szg_file.specs.Contents.{Map, has_bit}
@@ -9,11 +9,11 @@ use Rattle.szg_build.specs.Text.{Form}
 use Rattle.szg_build.specs.Lines.{Lines, means, ◌>>=◌, ◌>>◌}
 use Rattle.szg_build.specs.Grammar.{fixed, value, number_line, greatest_count, length_check, values_lines, flags_line, map_of}
 
--- what a subtable tells
+-- the content of a subtable
 abbrev pub sub_told : SubText → SubDump
 sub_told sub = record { flags = sub.flags; lists = option_map held.map_of sub.map; values = sub.values.items }
 
--- from the line `values` on, behind flags and a map
+-- from the line `values` on, after flags and a map
 abbrev pub counted_text : Form → Option (List ℕ) → ℕ → ℕ → Option Map → Lines SubDump
 counted_text form sizes s flags lists = do
   count ← number_line (fixed (codes "values") ∷ value ∷ []) greatest_count
@@ -21,7 +21,7 @@ counted_text form sizes s flags lists = do
   values ← values_lines form count
   means (record { flags = flags; lists = lists; values = values })
 
--- behind the line that names a subtable
+-- after the line that names a subtable
 abbrev pub fields_text : Form → Kind → Option (List ℕ) → ℕ → Lines SubDump
 fields_text form kind sizes s = do
   flags ← flags_line kind

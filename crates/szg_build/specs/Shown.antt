@@ -1,4 +1,4 @@
--- What clauses see of plans and dumps, and what reading a dump answers.
+-- What clauses see of plans and dumps, and the results of reading a dump.
 use Rattle.std.specs.Prelude.{◌≡◌, ℕ, ◌==◌, List, [], map, min, length, get_or, option_map, Option, Some, None, Result, Ok, Err, if◌then◌else◌}
 use Rattle.szg_values.specs.declared.Kind.{Kind}
 use Rattle.szg_values.specs.declared.Kind.TheVariants.{Wdl, Dtz}
@@ -57,7 +57,7 @@ dump_seen dump = record {
 abbrev pub form_of : ℕ → Form
 form_of number = if number == 2 then runs else single
 
--- The answer is the verdict on the bytes that were to come; behind a dump that was read, the rest is still to come.
+-- The result is the verdict on the bytes to come; after a dump that was read, the rest is still to come.
 abbrev pub FollowsLines : Verdict told.Dump → Result Dump DumpReadFault → Option (List ℕ) → Type 0
 FollowsLines v (Ok dump) coming = (lines : ℕ) × (rest : List ℕ) × (v ≡ good (dump_seen dump) lines rest) × (coming ≡ Some rest)
 FollowsLines v (Err (Line number fault)) coming = IsLineFault v number fault
@@ -75,7 +75,7 @@ TookLines v (Err Memory) coming = Unit {0}
 
 -- ---- the subtables of a dump, by their place
 
--- what a dump tells, subtable by subtable
+-- the content of a dump, subtable by subtable
 abbrev pub subs_seen : Dump → List told.SubDump
 subs_seen dump = told.subs_of dump.kind dump.flags.items (map (option_map map_of) dump.maps.items) (map (λ list. list.items) dump.lists.items)
 

@@ -1,4 +1,4 @@
--- What is left of a dump's text behind its first lines, and the subtables that were read so far.
+-- The rest of a dump's text after its first lines, and the subtables that were read so far.
 use Rattle.std.specs.Prelude.{◌≡◌, ℕ, List, [], ◌∷◌, map, option_map}
 use Rattle.szg_values.specs.Material.{Sides}
 use Rattle.szg_values.specs.declared.Kind.{Kind}
@@ -12,13 +12,13 @@ use Rattle.szg_build.specs.Plan.{sizes_told}
 use Rattle.szg_build.specs.Lines.{Lines, means, ◌>>=◌}
 use Rattle.szg_build.specs.Grammar.{each, end_line, part_line, subs_text}
 
--- behind the parts
+-- after the parts
 abbrev pub dump_behind_parts : Form → Sides → Kind → List ℕ → List Part → Lines Dump
 dump_behind_parts form material kind last parts = do
   subs ← subs_text form kind (sizes_told material kind parts) 0 (places_of material kind)
   means (dump_of_subs material kind parts last subs)
 
--- behind the kind
+-- after the kind
 abbrev pub dump_behind_kind : Form → Sides → Kind → Lines Dump
 dump_behind_kind form material kind = do
   last ← end_line

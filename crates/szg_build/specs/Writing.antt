@@ -6,7 +6,7 @@ use Rattle.szg_io.specs.declared.device.Output.{Ghosts}
 use Rattle.szg_file.specs.declared.fault.WriteFault.{WriteFault}
 use Rattle.szg_build.specs.declared.outgoing.Outgoing.{Outgoing}
 
--- a number as it is told in 64 bits: it stops at the last one
+-- a number as it is returned in 64 bits: it stops at the last one
 abbrev pub told : ℕ → ℕ
 told number = min number (2 ^ 64 - 1)
 

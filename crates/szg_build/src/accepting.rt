@@ -1,12 +1,12 @@
-//! Tests of a proposed dictionary and text, behind which nothing has to be known of how they were made.
-ghost use Rattle.std.specs.Prelude.{ℕ, ◌≡◌, ◌<◌, ◌≤◌, ◌⊎◌, true, false, List, length, slice_get, slice_index_or, Some, IfOk, IfSome};
+//! Tests of a proposed dictionary and text. They assume nothing of how either was made.
+ghost use Rattle.std.specs.Prelude.{ℕ, ◌≡◌, ◌+◌, ◌<◌, ◌≤◌, ◌⊎◌, true, false, List, length, slice_get, slice_index_or, Some, None, IfOk, IfSome};
 ghost use Rattle.std.specs.List.{AllByRecursion};
 ghost use Rattle.szg_code.specs.Canonical.{IsIn};
 ghost use Rattle.szg_pairs.specs.Dictionary.{IsDictionary};
 ghost use Rattle.szg_pairs.specs.Entry.{is_leaf};
 ghost use Rattle.szg_pairs.specs.Expansion.{expansion_of};
 ghost use Rattle.szg_file.specs.Accepted.{AreBytes};
-ghost use Rattle.szg_build.specs.Building.{AreLens, IsRound};
+ghost use Rattle.szg_build.specs.Building.{AreLens, IsRound, IsSymbolAt};
 ghost use Rattle.szg_build.specs.Pairing.{IsInPair, IsUsed, pairs_in, values_of};
 
 use crate::blocks::fit_one_byte;
@@ -42,9 +42,26 @@ fn is_expansion(dict: &Dict, symbol: u16, values: &[u16]) -> bool
     true
 }
 
-/// Whether the values of symbols, joined, are these.
-fn expands_to(dict: &Dict, symbols: &[u16], values: &[u16]) -> bool
+/// Whether the values at `start` are those of a symbol. If `seen` is an offset at which they are, it compares with it.
+fn is_at(dict: &Dict, symbol: u16, values: &[u16], start: usize, seen: Option<usize>) -> bool
+    requires there { symbol < length dict.now }
+    requires inside { start + length (expansion_of dict.now symbol) ≤ length values.now }
+    requires seen { IfSome seen (IsSymbolAt dict.now values.now symbol) }
+    ensures { result ≡ true → IsSymbolAt dict.now values.now symbol start }
+{
+    let length = usize::from(dict.len(symbol));
+    let here = &values[start..start + length];
+    match seen {
+        Some(first) => here == &values[first..first + length],
+        None => is_expansion(dict, symbol, here),
+    }
+}
+
+/// Whether the values of symbols, joined, are these. For each symbol it keeps an offset of its values in `offsets`.
+fn expands_by(dict: &Dict, symbols: &[u16], values: &[u16], offsets: &mut [Option<usize>]) -> bool
     requires below { AllByRecursion (λ s. s < length dict.now) symbols.now }
+    requires count { length offsets.old ≡ length dict.now }
+    requires none { (s : ℕ) → slice_index_or offsets.old s None ≡ None }
     ensures { result ≡ true → values_of dict.now symbols.now ≡ values.now }
 {
     let mut start = 0;
@@ -53,12 +70,28 @@ fn expands_to(dict: &Dict, symbols: &[u16], values: &[u16]) -> bool
         if values.len() - start < length {
             return false;
         }
-        if !is_expansion(dict, *symbol, &values[start..start + length]) {
+        let place = usize::from(*symbol);
+        if !is_at(dict, *symbol, values, start, offsets[place]) {
             return false;
         }
+        offsets[place] = Some(start);
         start += length;
     }
     start == values.len()
+}
+
+/// Whether the values of symbols, joined, are these.
+fn expands_to(
+    alloc: Global,
+    dict: &Dict,
+    symbols: &[u16],
+    values: &[u16],
+) -> Result<bool, AllocError>
+    requires below { AllByRecursion (λ s. s < length dict.now) symbols.now }
+    ensures { IfOk result (λ same. same ≡ true → values_of dict.now symbols.now ≡ values.now) }
+{
+    let mut offsets = vec![in alloc; None; usize::from(dict.symbols())]?;
+    Ok(expands_by(dict, symbols, values, &mut offsets))
 }
 
 /// Marks the symbols that are in a text.
@@ -165,7 +198,7 @@ fn dictionary_of(alloc: Global, entries: &[[u8; 3]]) -> Result<Option<Dict>, All
     }
 }
 
-/// How many values each symbol of a dictionary stands for.
+/// Returns the number of values of each symbol of a dictionary.
 fn lengths_of(alloc: Global, dict: &Dict) -> Result<Vec<u16>, AllocError>
     ensures lens { IfOk result (λ lens. AreLens dict.now lens.items) }
     ensures dictionary { IfOk result (λ lens. IsDictionary dict.now) }
@@ -177,8 +210,8 @@ fn lengths_of(alloc: Global, dict: &Dict) -> Result<Vec<u16>, AllocError>
     Ok(lens)
 }
 
-/// Tests entries and a text of them, and returns how many values each symbol stands for. None where the text doesn't stand
-/// for the values, or where there is a leaf or a pair that they don't need.
+/// Tests a dictionary's entries and a text of symbols; returns the number of values of each symbol. None if the
+/// text does not expand to `values`, or if the dictionary has a leaf or a pair that the text does not use.
 fn tested(
     alloc: Global,
     values: &[u16],
@@ -202,7 +235,7 @@ fn tested(
     let Some(dict) = dictionary_of(alloc, entries)? else {
         return Ok(None);
     };
-    if !expands_to(&dict, symbols, values) {
+    if !expands_to(alloc, &dict, symbols, values)? {
         return Ok(None);
     }
     fit_three_bytes(entries);

@@ -2,13 +2,15 @@
 ghost use Rattle.std.specs.Prelude.{ℕ, ◌≡◌, ◌+◌, ◌-◌, ◌*◌, ◌<◌, ◌≤◌, ◌^◌, ◌↔◌, ◌⊎◌, Bool, List, [], ◌∷◌, ◌++◌, length, replicate, IfOk, OnOk, IsTrue};
 ghost use Rattle.std.specs.List.{AllByRecursion};
 ghost use Rattle.szg_code.specs.Acceptance.{IsCode};
+ghost use Rattle.szg_code.specs.Bits.{bits_of_number};
 ghost use Rattle.szg_code.specs.Canonical.{IsWord};
 ghost use Rattle.szg_pairs.specs.Expansion.{expansion_of};
 ghost use Rattle.szg_file.specs.Accepted.{AreNumbers};
 ghost use Rattle.szg_build.specs.Building.{IsBlockOf, IsChosen, IsCut, IsFilling};
 
+use crate::bitbuf::WordBits;
 use std::alloc::{AllocError, Global};
-use szg_code::{BitBuf, Code, PutFault, put, word};
+use szg_code::{Code, Word, word};
 use szg_pairs::Dict;
 
 /// The most values of a block.
@@ -28,8 +30,8 @@ struct Filling {
     lengths: Vec<u16>,
     packed: Vec<u8>,
     /// The words of the block that is being filled.
-    buffer: BitBuf,
-    /// How many values they stand for.
+    buffer: WordBits,
+    /// The number of values of these words.
     values: u32,
 }
 
@@ -41,32 +43,20 @@ fn block_size(block_bits: u8) -> usize
     1 << block_bits
 }
 
-/// How many bits the word of a symbol has.
-fn word_length(code: &Code, symbol: u16) -> u64
-    requires accepted { IsCode code.now }
+/// The word of a symbol that has one.
+fn word_of(code: &Code, symbol: u16) -> Word
     requires there { (bits : List Bool) × IsWord code.now bits symbol }
-    ensures { (bits : List Bool) → IsWord code.now bits symbol → length bits ≡ result }
+    ensures short { result.length ≤ 32 }
+    ensures spelled { result.number < 2 ^ result.length }
+    ensures word { IsWord code.now (bits_of_number result.length result.number) symbol }
 {
     match word(code, symbol) {
-        Some(word) => u64::from(word.length),
+        Some(word) => word,
         None => unreachable!(),
     }
 }
 
-/// Appends the word of a symbol that has one.
-fn append(code: &Code, symbol: u16, buffer: &mut BitBuf) -> Result<(), AllocError>
-    requires there { (bits : List Bool) × IsWord code.now bits symbol }
-    requires room { length buffer.old.written < 2 ^ 62 }
-    ensures { OnOk result ((bits : List Bool) × IsWord code.now bits symbol × (buffer.new.written ≡ buffer.old.written ++ bits)) }
-{
-    match put(code, symbol, buffer) {
-        Ok(()) => Ok(()),
-        Err(PutFault::Memory) => Err(AllocError),
-        Err(PutFault::NoWord) => unreachable!(),
-    }
-}
-
-/// Appends so many zeros.
+/// Appends `count` zero bytes.
 pub(crate) fn pad(bytes: &mut Vec<u8>, count: usize) -> Result<(), AllocError>
     ensures { OnOk result (bytes.new.items ≡ bytes.old.items ++ replicate count 0) }
 {
@@ -76,51 +66,51 @@ pub(crate) fn pad(bytes: &mut Vec<u8>, count: usize) -> Result<(), AllocError>
     Ok(())
 }
 
-/// Appends a block of these words, with zeros behind them.
-fn push_block(packed: &mut Vec<u8>, words: &BitBuf, block_bits: u8) -> Result<(), AllocError>
-    requires bits { block_bits ≤ 10 }
-    requires fits { length words.now.written ≤ 8 * 2 ^ block_bits }
-    ensures { OnOk result ((block : List ℕ) × IsBlockOf block_bits words.now.written block × (packed.new.items ≡ packed.old.items ++ block)) }
+/// Appends a block: the words, padded with zero bits. The words are dropped.
+fn push_block(packed: &mut Vec<u8>, words: &mut WordBits, block_bits: u8) -> Result<(), AllocError>
+    requires least_bits { 5 ≤ block_bits }
+    requires most_bits { block_bits ≤ 10 }
+    requires fits { length words.old ≤ 8 * 2 ^ block_bits }
+    ensures block { OnOk result ((block : List ℕ) × IsBlockOf block_bits words.old block × (packed.new.items ≡ packed.old.items ++ block)) }
+    ensures empty { OnOk result (words.new ≡ []) }
 {
-    let bytes = words.bytes();
-    packed.extend_from_slice(bytes)?;
-    pad(packed, block_size(block_bits) - bytes.len())?;
+    let bytes = words.move_to(packed)?;
+    pad(packed, block_size(block_bits) - bytes)?;
     Ok(())
 }
 
 /// Closes the block that is being filled.
-fn close(alloc: Global, filling: &mut Filling, block_bits: u8) -> Result<(), AllocError>
-    requires bits { block_bits ≤ 10 }
-    requires fits { length filling.old.buffer.written ≤ 8 * 2 ^ block_bits }
+fn close(filling: &mut Filling, block_bits: u8) -> Result<(), AllocError>
+    requires least_bits { 5 ≤ block_bits }
+    requires most_bits { block_bits ≤ 10 }
+    requires fits { length filling.old.buffer ≤ 8 * 2 ^ block_bits }
     requires some { 0 < filling.old.values }
     requires most { filling.old.values ≤ 65536 }
     ensures lengths { OnOk result (filling.new.lengths.items ≡ filling.old.lengths.items ++ (filling.old.values - 1) ∷ []) }
-    ensures block { OnOk result ((block : List ℕ) × IsBlockOf block_bits filling.old.buffer.written block × (filling.new.packed.items ≡ filling.old.packed.items ++ block)) }
-    ensures buffer { OnOk result (filling.new.buffer.written ≡ []) }
+    ensures block { OnOk result ((block : List ℕ) × IsBlockOf block_bits filling.old.buffer block × (filling.new.packed.items ≡ filling.old.packed.items ++ block)) }
+    ensures buffer { OnOk result (filling.new.buffer ≡ []) }
     ensures values { OnOk result (filling.new.values ≡ 0) }
 {
-    push_block(&mut filling.packed, &filling.buffer, block_bits)?;
+    push_block(&mut filling.packed, &mut filling.buffer, block_bits)?;
     filling.lengths.push((filling.values - 1) as u16)?;
-    filling.buffer = BitBuf::new(alloc);
     filling.values = 0;
     Ok(())
 }
 
-/// Whether a word of so many bits, which stands for so many values, begins a new block.
+/// Whether a word of `bits` bits and `values` values no longer fits into the current block.
 fn is_full(filling: &Filling, bits: u64, values: u16, block_bits: u8) -> bool
     requires bits { block_bits ≤ 10 }
-    requires fits { length filling.now.buffer.written ≤ 8 * 2 ^ block_bits }
+    requires fits { length filling.now.buffer ≤ 8 * 2 ^ block_bits }
     requires most { filling.now.values ≤ 65536 }
     requires short { bits ≤ 32 }
-    ensures { IsTrue result ↔ ((8 * 2 ^ block_bits < length filling.now.buffer.written + bits) ⊎ (65536 < filling.now.values + values)) }
+    ensures { IsTrue result ↔ ((8 * 2 ^ block_bits < length filling.now.buffer + bits) ⊎ (65536 < filling.now.values + values)) }
 {
-    filling.buffer.bits() + bits > 8 * block_size(block_bits) as u64
+    filling.buffer.len() + bits > 8 * block_size(block_bits) as u64
         || filling.values + u32::from(values) > MAX_VALUES
 }
 
 /// Puts the word of a symbol into the block that is being filled, or where it doesn't fit into the next one.
 fn add(
-    alloc: Global,
     filling: &mut Filling,
     code: &Code,
     dict: &Dict,
@@ -131,17 +121,18 @@ fn add(
     requires most_bits { block_bits ≤ 10 }
     requires chosen { IsChosen (length dict.now) code.now }
     requires there { symbol < length dict.now }
-    requires filling { (symbols : List ℕ) × IsFilling code.now dict.now block_bits symbols filling.old.lengths.items filling.old.packed.items filling.old.buffer.written filling.old.values }
-    ensures more { OnOk result ((symbols : List ℕ) → IsFilling code.now dict.now block_bits symbols filling.old.lengths.items filling.old.packed.items filling.old.buffer.written filling.old.values →
-        IsFilling code.now dict.now block_bits (symbols ++ symbol ∷ []) filling.new.lengths.items filling.new.packed.items filling.new.buffer.written filling.new.values) }
+    requires filling { (symbols : List ℕ) × IsFilling code.now dict.now block_bits symbols filling.old.lengths.items filling.old.packed.items filling.old.buffer filling.old.values }
+    ensures more { OnOk result ((symbols : List ℕ) → IsFilling code.now dict.now block_bits symbols filling.old.lengths.items filling.old.packed.items filling.old.buffer filling.old.values →
+        IsFilling code.now dict.now block_bits (symbols ++ symbol ∷ []) filling.new.lengths.items filling.new.packed.items filling.new.buffer filling.new.values) }
     ensures some { OnOk result (0 < filling.new.values) }
 {
-    let bits = word_length(code, symbol);
+    let word = word_of(code, symbol);
+    let bits = u64::from(word.length);
     let values = dict.len(symbol);
     if is_full(filling, bits, values, block_bits) {
-        close(alloc, filling, block_bits)?;
+        close(filling, block_bits)?;
     }
-    append(code, symbol, &mut filling.buffer)?;
+    filling.buffer.append(word)?;
     filling.values += u32::from(values);
     Ok(())
 }
@@ -175,13 +166,13 @@ pub(crate) fn fill_blocks(
     let mut filling = Filling {
         lengths: Vec::new(alloc),
         packed: Vec::new(alloc),
-        buffer: BitBuf::new(alloc),
+        buffer: WordBits::new(alloc),
         values: 0,
     };
     for symbol in symbols {
-        add(alloc, &mut filling, code, dict, *symbol, block_bits)?;
+        add(&mut filling, code, dict, *symbol, block_bits)?;
     }
-    close(alloc, &mut filling, block_bits)?;
+    close(&mut filling, block_bits)?;
     let Filling {
         lengths,
         packed,

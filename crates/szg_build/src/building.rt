@@ -52,7 +52,8 @@ fn dictionary(alloc: Global, entries: Vec<[u8; 3]>) -> Result<Dict, AllocError>
     }
 }
 
-/// Pushes a length of 65,536 values where the last entry leads behind the blocks, and tells how many it pushed.
+/// Pushes one more length (65,536 values) if the last sparse entry points past the blocks. Returns the number of
+/// lengths pushed.
 fn push_extra(lengths: &mut Vec<u16>, sparse: &[Entry]) -> Result<u8, AllocError>
     ensures { IfOk result (λ extra. (extras : List ℕ) × (extra ≡ length extras) × AreNumbers 2 extras × (lengths.new.items ≡ lengths.old.items ++ extras)) }
 {
@@ -147,8 +148,8 @@ pub(crate) fn build_pairs(
     build_paired(alloc, values, flags, paired, packing, false)
 }
 
-/// A subtable that isn't constant, of these values, with as many pairs as pay, words by use, and the block bits and span
-/// bits by which it takes the fewest bytes.
+/// Builds a subtable that is not constant in the small plan: pairs while they pay, words by frequency, and the
+/// block bits and span bits that give the fewest bytes.
 pub(crate) fn build_short_pairs(alloc: Global, values: &[u16], flags: u8) -> Result<Sub, AllocError>
     requires some { 0 < length values.now }
     requires few { length values.now < 2 ^ 33 }

@@ -6,7 +6,7 @@ use std::alloc::{AllocError, Global};
 /// The bits of an entry of a dictionary.
 const ENTRY_BITS: u64 = 24;
 
-/// Fractions have so many bits.
+/// The number of fractional bits of a logarithm.
 const FRACTION: u32 = 16;
 
 /// The logarithm of a number to the base of two, with its fraction's bits.
@@ -89,8 +89,8 @@ impl Costs {
         Ok(())
     }
 
-    /// The bits of the text and of its pairs' entries. A word has one bit at least: where a symbol is more than half of the
-    /// text, a bit tells each symbol from it, and the others' words come on top.
+    /// Estimates the bits of the text and of its dictionary entries. A word has at least one bit: if one symbol is
+    /// more than half of the text, a first bit separates it from all others, and the other words' bits are added.
     pub fn bits(&self) -> u64 {
         let most = self
             .counts

@@ -1,4 +1,4 @@
-//! What a dump tells, and why a text is no dump.
+//! The content of a dump, and why a text is no dump.
 ghost use Rattle.std.specs.Prelude.{◌≡◌};
 ghost use Rattle.szg_build.specs.declared.dump.DumpReadFault.TheVariants.{Memory};
 
@@ -9,7 +9,7 @@ use szg_file::{Map, PartBytes, Table};
 use szg_values::{Kind, Material};
 use thiserror::Error;
 
-/// What the text of a dump tells: a table without the way in which its values are packed.
+/// The content of a dump: a table without the packing of its values.
 #[derive(Drop)]
 pub struct Dump {
     pub material: Material,
@@ -28,7 +28,7 @@ impl Dump {
     ghost use Rattle.szg_build.specs.Built.{IsDumpOf};
     ghost use Rattle.szg_build.specs.Shown.{dump_seen};
 
-    /// What a table tells, with flags 1 to 16 alone. `AllocError` where memory was refused.
+    /// Returns the content of a table, with flags 1 to 16 alone. Errors: `AllocError` if memory was refused.
     pub fn of(alloc: Global, table: &Table) -> Result<Dump, AllocError>
         ensures { IfOk result (λ dump. IsDumpOf (dump_seen dump) table.now.contents) }
     {

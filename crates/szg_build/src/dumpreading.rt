@@ -26,7 +26,7 @@ use szg_file::{Map, PartBytes, subtable_sizes};
 use szg_io::Input;
 use szg_values::{Kind, Material};
 
-/// What stands before the subtables.
+/// The lines before the subtables.
 #[derive(Drop)]
 struct Front {
     material: Material,
@@ -43,7 +43,7 @@ struct Subs {
     lists: Vec<Vec<u16>>,
 }
 
-/// The sizes of the subtables, where the parts stand.
+/// Returns the sizes of the subtables. None if the parts are not valid.
 fn sizes_of(material: &Material, kind: Kind, parts: &[PartBytes]) -> Option<ArrayVec<u64, 8>>
     ensures { option_map (λ list. list.items) result ≡ sizes_told material.now kind (map part_of parts.now) }
 {
@@ -69,7 +69,7 @@ fn add_sub(kind: Kind, subs: &mut Subs, sub: SubText) -> Result<(), AllocError>
     Ok(())
 }
 
-/// The subtables, behind what stands before them.
+/// Reads the subtables after the header lines.
 fn read_subs<R: Input>(
     alloc: Global,
     form: u8,
@@ -151,21 +151,21 @@ fn read_text<R: Input>(
     read_behind_kind(alloc, form, material, kind, input, incoming)
 }
 
-/// Reads the text of a dump, in the form that its first line names, and nothing behind its last line.
+/// Reads the text of a dump, in the form that its first line names. No byte after its last line is read.
 ///
-/// `Line` tells the first line that is refused, from 1, and why; that number stops at the last value of 64 bits. A line
-/// is read whole, at most 80 bytes and its 0A; then its number of words and its fixed words are looked at, then its
-/// values from left to right. In form 2 alone `Build` tells that no table can be built of what was read so far: `Order`
-/// behind the first line `sub`, where the parts don't stand, `Length` behind a line `values` with another number than
-/// the subtable's size. `Device` where the reader failed, `Memory` where a growth was refused. Behind a refused line
-/// more bytes may have been taken, and where memory was refused no more than a dump with the lines so far still has;
-/// behind a dump that was read, none.
+/// Errors: `Line` has the first refused line, from 1, and the reason; its number stops at the last value of 64
+/// bits. A line is read whole, at most 80 bytes and its 0A; then the number of its words and its fixed words are
+/// checked, then its values from left to right. In form 2 alone, `Build` means that no table can be built of the
+/// lines so far: `Order` after the first line `sub` if the parts are not valid, `Length` after a line `values`
+/// whose number is not the subtable's size. `Device` if the reader failed; `Memory` if a growth was refused. After
+/// a refused line more bytes may have been read; if memory was refused, no more bytes than every dump with these
+/// lines still has; after a dump that was read, none.
 pub fn read_dump<R: Input>(alloc: Global, input: &mut R) -> Result<Dump, DumpReadFault>
-    // Where the reader tells its bytes, the answer is their verdict, however they come in pieces.
+    // If the bytes to come are known, the result is their verdict, however the reader splits them.
     ensures verdict { IfSome (R.coming input.old) (λ bytes. FollowsLines (verdict dump_format 0 bytes) result (R.coming input.new)) }
-    // Whatever the reader tells: which bytes were taken, and with how many calls.
+    // For every reader: the bytes that were read, and the number of calls.
     ensures taken { (bytes : List ℕ) × Takes R.Input input.old input.new bytes 1 × TookLines (verdict dump_format 0 bytes) result (R.coming input.new) }
-    // Where memory is refused: the lines that were read stand, and no more bytes were taken ahead of them than any dump
+    // If memory is refused: the lines that were read are valid, and no more bytes were read ahead than every dump
     // that begins with these lines still has.
     ensures memory { IsErrOf result DumpReadFault.Memory → (bytes : List ℕ) × Takes R.Input input.old input.new bytes 1 × StopsShort dump_format 0 0 bytes }
     ensures device { IsErrOf result DumpReadFault.Device → HasFailed (R.failures input.old) (R.failures input.new) (R.interrupted input.new) × IsTrue (R.may_fail input.old) }

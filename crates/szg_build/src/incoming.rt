@@ -12,7 +12,7 @@ const ROOM: usize = 4096;
 pub(crate) struct Incoming {
     /// The number of lines that were read; it stops at the last value of 64 bits.
     pub line: u64,
-    /// The bytes behind them that were taken already stand from here ..
+    /// The bytes that were read ahead begin at this index of `bytes` ..
     from: usize,
     /// .. to here in the room.
     to: usize,
@@ -48,7 +48,7 @@ impl Incoming {
         &self.bytes[self.from..self.to]
     }
 
-    /// Takes a line of so many bytes, and its 0A, from what is held back.
+    /// Takes a line of `size` bytes and its 0A from the bytes that were read ahead.
     pub fn split_line(&mut self, size: usize) -> ArrayVec<u8, 80>
         requires short { size ≤ 80 }
         requires there { size < length (held_of self.old) }
@@ -65,8 +65,8 @@ impl Incoming {
         text
     }
 
-    /// Takes bytes behind those that are held back, at most so many, with one call of the device that isn't interrupted,
-    /// and tells how many: 0 at the reader's end.
+    /// Reads at most `most` more bytes ahead, with one call of the device that is not interrupted; returns their
+    /// number: 0 at the end of the input.
     pub fn refill<R: Input>(&mut self, most: u64, input: &mut R) -> Result<usize, DeviceFault>
         requires some { 0 < most }
         requires room { length (held_of self.old) ≤ 80 }

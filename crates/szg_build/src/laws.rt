@@ -6,7 +6,7 @@ pub fn text_is_read()
     ensures { TextIsRead }
 {}
 
-/// The text of a dump that is cut anywhere ends before the end of the line behind those that are whole.
+/// The text of a dump that is cut anywhere ends before the end of the line after the last whole line.
 pub fn cut_text_is_ended()
     ensures { CutTextIsEnded }
 {}

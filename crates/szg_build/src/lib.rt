@@ -3,6 +3,7 @@
 #![tactic(auto)]
 
 mod accepting;
+mod bitbuf;
 mod blocks;
 mod building;
 mod cells;
@@ -89,7 +90,7 @@ pub enum BuildFault {
     /// Another number of lists than of subtables.
     #[error("Count")]
     Count,
-    /// The first list that hasn't as many values as its subtable has positions.
+    /// The first list whose length is not the size of its subtable.
     #[error("Length")]
     Length(usize),
     /// The first list with a value above 4, in DTZ above 4,095.

@@ -27,8 +27,8 @@ fn line_len(held: &[u8]) -> Option<usize>
     None
 }
 
-/// Reads a line of `least` bytes at least with its 0A, where `behind` more bytes at least are due after it. So many may
-/// be taken at once. Of a line that is long enough no byte behind those is taken.
+/// Reads a line of at least `least` bytes with its 0A, after which at least `behind` more bytes are due. That many
+/// bytes may be requested at once. Of a line that is long enough, no byte after those is read.
 ///
 /// `Field` where the line has more than 80 bytes before its 0A, `Ended` where the bytes end before it.
 pub(crate) fn next_line<R: Input>(

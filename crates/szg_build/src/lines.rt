@@ -33,7 +33,7 @@ fn with_line<T: Drop>(told: Result<T, DumpFault>, line: u64) -> Result<T, DumpRe
     }
 }
 
-/// Reads a line, and tells what it says.
+/// Reads a line and parses it.
 fn read_told<T: Drop, R: Input, F: FnOnce(&[u8]) -> Result<T, DumpFault> + Drop>(
     tell: F,
     behind: u64,
@@ -157,7 +157,7 @@ pub(crate) fn read_run<R: Input>(
     with_line(run_told(left, text.as_slice()), incoming.line)
 }
 
-/// A line of one number, told with what stands before it.
+/// Reads a line of one number after the fixed words `front`.
 pub(crate) fn read_number<R: Input>(
     front: &[u8],
     limit: u64,

@@ -13,7 +13,7 @@ use szg_io::{Output, give_whole};
 pub(crate) struct Outgoing {
     /// The number of bytes that went out; it stops at the last value of 64 bits.
     pub out: u64,
-    /// The bytes behind them that wait to be given.
+    /// The bytes after them that are buffered.
     pub held: ArrayVec<u8, 4096>,
 }
 
@@ -30,7 +30,7 @@ impl Outgoing {
     }
 }
 
-/// Gives a piece behind so many bytes, and tells how many bytes went out then.
+/// Writes `piece` after `out` bytes; returns the new number of bytes written.
 fn give<W: Output>(piece: &[u8], output: &mut W, out: u64) -> Result<u64, WriteFault>
     ensures ok { IfOk result (λ now. now ≡ min (out + length piece.now) (2 ^ 64 - 1)) }
     ensures given { OnOk result (Gives W.Output output.old output.new piece.now 0) }
@@ -68,7 +68,7 @@ fn hold(piece: &[u8], outgoing: &mut Outgoing)
     };
 }
 
-/// Puts a short piece behind what is held. Only where there is no room for it is what is held given first.
+/// Appends a short chunk to the buffer. The buffer is written first only if the chunk does not fit.
 pub(crate) fn put<W: Output>(
     piece: &[u8],
     output: &mut W,

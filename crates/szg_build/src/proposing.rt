@@ -20,7 +20,7 @@ fn width_for(leaves: usize, symbols: usize, rounds: u32) -> u16 {
     leaves.saturating_add(most).min(MAX_SYMBOLS) as u16
 }
 
-/// Makes pairs of the most frequent neighbours, at most so many, of which each counts four or more.
+/// Makes pairs of the most frequent neighbours, at most `rounds` pairs, each of which occurs at least four times.
 pub(crate) fn propose(alloc: Global, begun: Paired, rounds: u32) -> Result<Proposal, AllocError> {
     let Paired {
         mut entries,
@@ -44,7 +44,7 @@ pub(crate) fn propose(alloc: Global, begun: Paired, rounds: u32) -> Result<Propo
         }
         entries.push(entry(pair.left, pair.right))?;
         text.add_symbol(text.joined_length(pair))?;
-        occurrences.make(&mut text, picked, new as u16)?;
+        occurrences.make(alloc, &mut text, picked, new as u16)?;
     }
     Ok(Proposal {
         entries,
@@ -59,7 +59,7 @@ struct Best {
     bits: u64,
 }
 
-/// Pairs that are made while they pay: those up to the one behind which text and dictionary take the least bits.
+/// Makes pairs while they pay: keeps those up to the pair after which text and dictionary take the fewest bits.
 pub(crate) fn propose_short(alloc: Global, begun: Paired) -> Result<Proposal, AllocError> {
     let Paired {
         mut entries,
@@ -88,7 +88,7 @@ pub(crate) fn propose_short(alloc: Global, begun: Paired) -> Result<Proposal, Al
         }
         entries.push(entry(pair.left, pair.right))?;
         text.add_symbol(text.joined_length(pair))?;
-        occurrences.make(&mut text, picked, new as u16)?;
+        occurrences.make(alloc, &mut text, picked, new as u16)?;
         costs.add_pair(pair.left, pair.right, occurrences.made_last())?;
         let bits = costs.bits();
         if bits < best.bits {
@@ -103,7 +103,7 @@ pub(crate) fn propose_short(alloc: Global, begun: Paired) -> Result<Proposal, Al
     Ok(Proposal { entries, symbols })
 }
 
-/// The text as it was when there were so many symbols: each later one is its pair again.
+/// Returns the text as it was when there were `count` symbols: each later symbol is replaced by its pair.
 fn unpaired(
     alloc: Global,
     entries: &[[u8; 3]],

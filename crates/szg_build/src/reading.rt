@@ -69,7 +69,7 @@ fn add_run(list: &mut Vec<u16>, size: u64, value: u16) -> Result<(), AllocFailed
     Ok(())
 }
 
-/// Values in runs, a run a line, until so many are there.
+/// Reads runs, one a line, until the subtable has all its values.
 fn read_runs<R: Input>(
     alloc: Global,
     count: u64,
@@ -92,7 +92,7 @@ fn read_runs<R: Input>(
     Ok(list)
 }
 
-/// The values of a subtable, so many of them, in this form.
+/// Reads the `count` values of a subtable in this form.
 pub(crate) fn read_values<R: Input>(
     alloc: Global,
     form: u8,

@@ -1,4 +1,4 @@
-//! What of a plan and its lists is refused, behind the order of its parts.
+//! The checks of a plan and its lists that follow the check of the order of its parts.
 ghost use Rattle.std.specs.Prelude.{◌≡◌, ◌≤◌, ◌==◌, ◌&&◌, ◌^◌, not, nat_lt, nat_le, length, map, option_map, Some};
 ghost use Rattle.std.specs.List.{All, AllByRecursion, list_all, list_any, position, zip};
 ghost use Rattle.szg_file.specs.Contents.{has_bit, part_numbers};
@@ -179,7 +179,7 @@ fn maps_stand(plan: &Plan) -> bool
     }
 }
 
-/// The first refusal of a plan and its lists, where the plan's parts stand and tell these sizes. It takes no memory.
+/// Returns the first fault of a plan and its lists, whose parts are valid and give these sizes. It takes no memory.
 pub(crate) fn first_fault(plan: &Plan, sizes: &[u64], lists: &[&[u16]]) -> Option<BuildFault>
     ensures { result ≡ fault_for (Some sizes.now) (plan_seen plan.now) (map (λ list. list.now) lists.now) }
 {

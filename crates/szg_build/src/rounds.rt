@@ -1,5 +1,5 @@
 //! Pairs: those that are proposed, where they pass the tests, else one a round by a count anew.
-ghost use Rattle.std.specs.Prelude.{ℕ, ◌≡◌, ◌+◌, ◌*◌, ◌<◌, ◌≤◌, true, List, length, slice_index, IfOk, IfSome, IfNone, OnOk};
+ghost use Rattle.std.specs.Prelude.{ℕ, ◌≡◌, ◌+◌, ◌*◌, ◌<◌, ◌≤◌, ◌^◌, ◌↔◌, true, IsTrue, List, length, slice_index, IfOk, IfSome, IfNone, OnOk};
 ghost use Rattle.std.specs.List.{AllByRecursion};
 ghost use Rattle.szg_build.specs.Building.{AreLens, IsCandidate, IsPairing, IsRound};
 ghost use Rattle.szg_build.specs.Pairing.{IsFinished, pair_count, pairs_in};
@@ -139,6 +139,13 @@ fn is_finished(alloc: Global, paired: &Paired, rounds: u32) -> Result<bool, Allo
     Ok(false)
 }
 
+/// Whether four bytes hold each offset of a list, as the lists of a pair's offsets have them.
+fn has_short_offsets(values: &[u16]) -> bool
+    ensures { IsTrue result ↔ (length values.now < 2 ^ 32) }
+{
+    values.len() <= u32::MAX as usize
+}
+
 /// Pairs as they are proposed, where the proposal passes all tests. A list of 2^32 values or more gets none.
 fn pair_by_proposal(
     alloc: Global,
@@ -150,7 +157,7 @@ fn pair_by_proposal(
     ensures pairing { IfOk result (λ found. IfSome found (λ p. IsPairing values.now rounds p.entries.items p.symbols.items)) }
     ensures lens { IfOk result (λ found. IfSome found (λ p. AreLens p.entries.items p.lens.items)) }
 {
-    if values.len() > u32::MAX as usize {
+    if !has_short_offsets(values) {
         return Ok(None);
     }
     let proposal = propose(alloc, begin(alloc, values)?, rounds)?;
@@ -163,7 +170,7 @@ fn pair_by_proposal(
     Ok(Some(paired))
 }
 
-/// Makes pairs of the most frequent neighbours, at most so many.
+/// Makes pairs of the most frequent neighbours, at most `rounds` pairs.
 pub(crate) fn pair_up(alloc: Global, values: &[u16], rounds: u32) -> Result<Paired, AllocError>
     requires small { AllByRecursion (λ v. v ≤ 4095) values.now }
     requires different { length (different_values values.now) ≤ 4095 }
@@ -186,7 +193,7 @@ pub(crate) fn pair_shortly(alloc: Global, values: &[u16]) -> Result<Paired, Allo
     ensures lens { IfOk result (λ p. AreLens p.entries.items p.lens.items) }
 {
     let begun = begin(alloc, values)?;
-    if values.len() > u32::MAX as usize {
+    if !has_short_offsets(values) {
         return Ok(begun);
     }
     let proposal = numbered_by_count(alloc, propose_short(alloc, begun)?)?;

@@ -32,7 +32,7 @@ fn advance(lengths: &[u16], walk: &mut Walk, index: u64)
     }
 }
 
-/// The entry that leads to a value, or as far behind the last one.
+/// The sparse entry for a value, or for the same distance after the last value.
 fn entry_to(lengths: &[u16], walk: &mut Walk, index: u64, size: u64) -> Entry
     requires there { walk.old.block < length lengths.now }
     requires at { walk.old.start ≡ start lengths.now walk.old.block }

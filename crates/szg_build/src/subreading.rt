@@ -21,7 +21,7 @@ use szg_file::Map;
 use szg_io::Input;
 use szg_values::Kind;
 
-/// What the text tells of a subtable; in WDL the flags are 0 and there is no map.
+/// What the text says of a subtable; in WDL the flags are 0 and there is no map.
 #[derive(Drop)]
 pub(crate) struct SubText {
     pub flags: u8,
@@ -50,7 +50,7 @@ fn read_flags<R: Input>(
     }
 }
 
-/// Whether subtable `s` may have so many values: in form 2 as many as its size, where the sizes are told.
+/// Whether subtable `s` may have `count` values: in form 2 only its size, if the sizes are known.
 fn may_have(form: u8, sizes: &Option<ArrayVec<u64, 8>>, s: usize, count: u64) -> bool
     ensures { length_check (form_of form) (option_map (λ list. list.items) sizes.now) s count ≡ demand result (Length s) }
 {
@@ -66,7 +66,7 @@ fn may_have(form: u8, sizes: &Option<ArrayVec<u64, 8>>, s: usize, count: u64) ->
     }
 }
 
-/// Whether there may be subtables: in form 2 the parts have to stand, so that the sizes are told.
+/// Whether subtables may follow: in form 2 the parts have to be valid, so that the sizes are known.
 fn may_stand(form: u8, sizes: &Option<ArrayVec<u64, 8>>) -> bool
     ensures { order_check (form_of form) (option_map (λ list. list.items) sizes.now) ≡ demand result Order }
 {
@@ -99,7 +99,7 @@ fn read_counted<R: Input>(
     Ok(SubText { flags, map, values })
 }
 
-/// A subtable behind the line that names it.
+/// Reads a subtable after the line that names it.
 fn read_fields<R: Input>(
     alloc: Global,
     form: u8,

@@ -104,7 +104,7 @@ fn byte4_of(material: &Material) -> u8
     }
 }
 
-/// The flags at a place, 0 behind the last.
+/// The flags at index `n`, 0 after the last.
 fn flags_at(flags: &[u8], n: usize) -> u8
     requires { AllByRecursion (λ byte. byte < 32) flags.now }
     ensures flags { result ≡ slice_index flags.now n }
@@ -211,13 +211,16 @@ fn build_by(
 
 /// Builds the table of a plan and of its subtables' values, in their order.
 ///
-/// Refuses by the first of these that stands: `Order` (another number of parts, order bytes or men than the material
-/// has, or an order that no file may have), `Bits` (block bits not 5 to 10, span bits not 1 to 16), `Rounds` (above
-/// 4,000), `Count` (another number of lists than of subtables), `Length` (the first list that hasn't its subtable's
-/// size), `Value` (the first with a value above 4, in DTZ above 4,095), `TooManyValues` (the first with more than 4,095
-/// different values), `Map` (in DTZ another number of flags or of maps than of parts, flags above 31, flag 2 without a
-/// map or a map without flag 2, flag 16 on a map of bytes or a wide map without flag 16, or a list too long for its
-/// length field; in WDL any flags or maps at all). Else `Memory` where memory was refused.
+/// Errors, the first that applies: `Order` (another number of parts, order bytes or men than the material has, or
+/// an order that no file may have), `Bits` (block bits not 5 to 10, span bits not 1 to 16), `Rounds` (above 4,000),
+/// `Count` (the number of lists is not the number of subtables), `Length` (the first list whose length is not its
+/// subtable's size), `Value` (the first with a value above 4, in DTZ above 4,095), `TooManyValues` (the first with
+/// more than 4,095 different values), `Map` (in DTZ another number of flags or of maps than of parts, flags above
+/// 31, flag 2 without a map or a map without flag 2, flag 16 on a map of bytes or a wide map without flag 16, or a
+/// list too long for its length field; in WDL any flags or maps at all), `Memory` (memory was refused).
+///
+/// A list takes time in proportion to its values. One of 2^32 values or more takes as much for each pair: offsets of
+/// pairs have four bytes, so that all pairs of it are counted anew in each round.
 pub fn build(alloc: Global, plan: &Plan, lists: &[&[u16]]) -> Result<Table, BuildFault>
     ensures refused { MatchOption (build_fault (plan_seen plan.now) (map (λ list. list.now) lists.now))
         (IfErr result (λ fault. fault ≡ BuildFault.Memory))
@@ -236,7 +239,8 @@ pub fn build(alloc: Global, plan: &Plan, lists: &[&[u16]]) -> Result<Table, Buil
 /// Builds the table of a plan and of its subtables' values, in their order, as small as the builder can make it.
 ///
 /// Each subtable gets pairs while they pay, words by how often their symbols are used, and the block bits and span bits by
-/// which it takes the fewest bytes. Refuses as `build` does, but never by `Bits` or `Rounds`.
+/// which it takes the fewest bytes. Refuses as `build` does, but never by `Bits` or `Rounds`. A list of 2^32 values or more
+/// gets no pairs.
 pub fn build_small(alloc: Global, plan: SmallPlan, lists: &[&[u16]]) -> Result<Table, BuildFault>
     ensures refused { MatchOption (build_fault (small_seen plan) (map (λ list. list.now) lists.now))
         (IfErr result (λ fault. fault ≡ BuildFault.Memory))

@@ -10,14 +10,14 @@ use itoa::Buffer;
 
 // ---- cutting
 
-/// What stands behind these bytes at the beginning of a text.
+/// Returns what follows `front` if the text begins with it.
 pub(crate) fn strip_front<'a>(front: &[u8], text: &'a [u8]) -> Option<&'a [u8]>
     ensures { MatchOption result ((rest : List ℕ) → text.now ≡ front.now ++ rest → ⊥) (λ rest. text.now ≡ front.now ++ rest.now) }
 {
     text.strip_prefix(front)
 }
 
-/// The word that stands alone behind these bytes.
+/// Returns the single word after `front`.
 pub(crate) fn one_word<'a>(front: &[u8], text: &'a [u8]) -> Option<&'a [u8]>
     ensures { MatchOption result ((word : List ℕ) → IsWord word → text.now ≡ front.now ++ word → ⊥)
         (λ word. IsWord word.now × (text.now ≡ front.now ++ word.now)) }
@@ -30,7 +30,7 @@ pub(crate) fn one_word<'a>(front: &[u8], text: &'a [u8]) -> Option<&'a [u8]>
     }
 }
 
-/// The word before the first space, and what stands behind that.
+/// Splits a text at its first space into the word before it and the rest.
 pub(crate) fn split_word(text: &[u8]) -> Option<(&[u8], &[u8])>
     ensures { MatchOption result ((word : List ℕ) → (rest : List ℕ) → text.now ≡ word ++ 32 ∷ rest → ⊥)
         (λ parts. IsWord parts.0.now × (text.now ≡ parts.0.now ++ 32 ∷ parts.1.now)) }
@@ -43,7 +43,7 @@ pub(crate) fn split_word(text: &[u8]) -> Option<(&[u8], &[u8])>
     None
 }
 
-/// The two words of a text, told with what stands before each: the first one ends at the first space.
+/// Splits a text into two words, each after its fixed words; the first word ends at the first space.
 pub(crate) fn two_words<'a>(
     front: &[u8],
     middle: &[u8],

@@ -48,7 +48,7 @@ fn add_number(line: &mut Line, number: u64)
     add(line, text.as_bytes());
 }
 
-/// Puts a line of some words, told with the spaces behind them, and a decimal.
+/// Writes a line: fixed words with the space after them, and a decimal.
 fn put_number<W: Output>(
     front: &[u8],
     number: u64,
@@ -65,7 +65,7 @@ fn put_number<W: Output>(
     put(line.as_slice(), output, outgoing)
 }
 
-/// Puts a line of some words, told with the spaces behind them, and two decimals.
+/// Writes a line: fixed words with the space after them, and two decimals.
 fn put_pair<W: Output>(
     front: &[u8],
     first: u64,
@@ -85,7 +85,7 @@ fn put_pair<W: Output>(
     put(line.as_slice(), output, outgoing)
 }
 
-/// Puts a line of a word, told with the space behind it, and a word.
+/// Writes a line: a fixed word with the space after it, and a word.
 fn put_word<W: Output>(
     front: &[u8],
     word: &[u8],
@@ -299,7 +299,7 @@ fn put_sub<W: Output>(
     put_list(form, &dump.lists[s], output, outgoing)
 }
 
-/// How many subtables a dump tells of.
+/// The number of subtables of a dump.
 fn count_subs(dump: &Dump) -> usize
     ensures { result ≡ sub_count dump.now }
 {
@@ -410,9 +410,10 @@ fn put_dump<W: Output>(
     flush(output, outgoing)
 }
 
-/// Writes the text of a dump: in form 1 a line for each value, in form 2 a line for each longest run of equal values. Of
-/// a DTZ dump with fewer flags or maps than lists, the last subtables aren't written. It takes no memory. Where the
-/// writer fails, the fault tells how many bytes of the text went out; that number stops at the last value of 64 bits.
+/// Writes the text of a dump: in form 1 a line for each value, in form 2 a line for each longest run of equal
+/// values. If a DTZ dump has fewer flags or maps than lists, the last subtables are not written. It takes no
+/// memory. If the writer fails, the fault has the number of bytes of the text that were written; it stops at the
+/// last value of 64 bits.
 pub fn write_dump<W: Output>(dump: &Dump, form: u8, output: &mut W) -> Result<(), WriteFault>
     requires { (form ≡ 1) ⊎ (form ≡ 2) }
     ensures ok { OnOk result (Gives W.Output output.old output.new (dump_text (form_of form) (dump_seen dump.now)) 0) }

@@ -11,7 +11,7 @@ returns-clause-round c =
     let dict : c.in-Some.dict ≡ entries = rw c.in-Some.is at c.in_ok-dict.ensures in
     let accepted : IsDictionary entries = subst (λ (z : List (List ℕ)). IsDictionary z) dict c.in_ok-lengths_of.ensures.dictionary in
     let same : values_of entries c.args.symbols.now ≡ c.args.values.now =
-    subst (λ (z : List (List ℕ)). values_of z c.args.symbols.now ≡ c.args.values.now) dict (c.expands_to.ensures c.if-not-expands_to.false) in
+    subst (λ (z : List (List ℕ)). values_of z c.args.symbols.now ≡ c.args.values.now) dict (c.in_ok-expands_to.ensures c.if-not-branch-2.false) in
     let leaves : length entries ≡ length (different_values c.args.values.now) + length (pairs_in entries) =
     omega (arith, c.if-entries-pairs.false, c.count_different.ensures, c.count_pairs_in-pairs.ensures.pairs, c.count_pairs_in-pairs.ensures.few) in
     passed c.args.values.now entries c.args.symbols.now (length (pairs_in entries)) accepted c.fit_three_bytes.ensures c.if-entries-gt-MAX_SYMBOLS.false

@@ -3,8 +3,8 @@ use Rattle.szg_io.specs.Moved.{Takes}
 use Rattle.szg_build.specs.Held.{held_of}
 use Rattle.szg_build.proofs.line.next_line.Given as goal
 
--- Some bytes were taken, and are held behind the others; where a line that is long enough ends in them, no more than
--- are due stand behind it.
+-- Bytes were read and are buffered after the others; if a line that is long enough ends in them, no more bytes than
+-- are due follow it.
 abbrev pub invariant-pieces : goal.invariant-pieces
 invariant-pieces g l =
     (taken : List ℕ)

@@ -5,7 +5,7 @@ use Rattle.szg_build.proofs.LastCount.{IsCounted, counted_one, counted_pair, cou
 use Rattle.szg_build.proofs.pairing.count_pairs.Goals as goal
 use Rattle.szg_build.proofs.pairing.count_pairs.Goals.{then-paired, else-paired}
 
--- what is counted behind one more symbol, by the names that the body has for it
+-- the counts after one more symbol, by the names that the body has for it
 named : (n most i s last : ℕ) (counts symbols : List ℕ) (begun free free' : Bool) → i < length symbols → s ≡ get_or symbols i 0 → free' ≡ is_free begun last free s →
     IsCounted n most counts (take i symbols ++ s ∷ []) true s (is_free begun last free s) → IsCounted n most counts (take (i + 1) symbols) true s free'
 named n most i s last counts symbols begun free free' inside read is counted =

@@ -1,0 +1,140 @@
+/* Opens a large table once, as one way does it, and probes it once; prints the wall and processor time of both together and
+ * what stays on the heap: open FOLDER front|checked|fathom. The table is that of open_table.py. */
+#include "szg.h"
+#ifdef FATHOM
+#include "fathom.h"
+#endif
+#include <fcntl.h>
+#include <malloc.h>
+#include <stdio.h>
+#include <stdlib.h>
+#include <string.h>
+#include <sys/mman.h>
+#include <sys/stat.h>
+#include <time.h>
+#include <unistd.h>
+
+static const char NAME[] = "KQRBNvK";
+static const szg_man MEN[] = {{SZG_KING, SZG_WHITE, 4}, {SZG_QUEEN, SZG_WHITE, 3}, {SZG_ROOK, SZG_WHITE, 0},
+                              {SZG_BISHOP, SZG_WHITE, 2}, {SZG_KNIGHT, SZG_WHITE, 1}, {SZG_KING, SZG_BLACK, 60}};
+enum { MEN_COUNT = sizeof MEN / sizeof *MEN, LATER = 1 << 16 };
+static const uint64_t SIZE = 31332ull * 61 * 60 * 59;
+
+static void fail(const char *what)
+{
+    fprintf(stderr, "open: %s\n", what);
+    exit(1);
+}
+
+static double now(clockid_t clock)
+{
+    struct timespec t;
+    clock_gettime(clock, &t);
+    return (double)t.tv_sec + 1e-9 * (double)t.tv_nsec;
+}
+
+static size_t heap(void)
+{
+    struct mallinfo2 info = mallinfo2();
+    return info.uordblks + info.hblkhd;
+}
+
+static const uint8_t *mapped(const char *folder, size_t *length)
+{
+    char path[4096];
+    struct stat about;
+    snprintf(path, sizeof path, "%s/%s.rtbw", folder, NAME);
+    int file = open(path, O_RDONLY);
+    if (file < 0 || fstat(file, &about))
+        fail(path);
+    *length = (size_t)about.st_size;
+    const uint8_t *bytes = mmap(NULL, *length, PROT_READ, MAP_SHARED, file, 0);
+    if (bytes == MAP_FAILED)
+        fail("no map");
+    close(file);
+    return bytes;
+}
+
+static uint64_t any_index(void)
+{
+    static uint64_t state = 1;
+    state = state * 6364136223846793005u + 1442695040888963407u;
+    return (state >> 16) % SIZE;
+}
+
+#ifdef SZG_NO_FRONT
+static void open_by_front(const char *folder)
+{
+    size_t length;
+    szg_front front = SZG_NO_FRONT;
+    szg_answer answer;
+    szg_bad_block bad;
+    int64_t outcome = 9;
+    const uint8_t *bytes = mapped(folder, &length);
+    if (szg_open_front(NAME, strlen(NAME), false, bytes, length, &front, &answer) != SZG_DONE ||
+        szg_front_probe(&front, bytes, length, MEN, MEN_COUNT, SZG_WHITE, 0, &outcome, &bad) != SZG_DONE || outcome % 2)
+        fail("the table is refused");
+}
+#endif
+
+/* Every check is made, and the blocks stay in the file. */
+static void open_checked(const char *folder)
+{
+    size_t length;
+    szg_heads heads = SZG_NO_HEADS;
+    szg_answer answer;
+    szg_wanted wanted;
+    uint16_t value = 9;
+    const uint8_t *bytes = mapped(folder, &length);
+    if (szg_open_heads(NAME, strlen(NAME), false, bytes, length, &heads, &answer) != SZG_DONE)
+        fail("the table is refused");
+    for (int i = 0; i < LATER; i += LATER / 2) {
+        uint64_t index = any_index();
+        if (szg_find(&heads, 0, 0, index, &wanted) != SZG_DONE ||
+            szg_value(&heads, 0, 0, index, bytes + wanted.place, wanted.count, &value) != SZG_DONE || value != (index % 2 ? 2 : 4))
+            fail("the value is wrong");
+    }
+}
+
+#ifdef FATHOM
+static void open_by_fathom(const char *folder)
+{
+    int success = 1;
+    if (!tb_init(folder))
+        fail("Fathom reads no tables there");
+    fathom_position position = fathom_of(MEN, MEN_COUNT, SZG_WHITE);
+    int outcome = probe_table(&position, 0, &success, FATHOM_WDL);
+    if (success != 1 || outcome % 2)
+        fail("Fathom doesn't read the table");
+}
+#endif
+
+static const struct {
+    const char *word, *title;
+    void (*open)(const char *folder);
+} WAYS[] = {
+#ifdef SZG_NO_FRONT
+    {"front", "szg_open_front and a probe", open_by_front},
+#endif
+    {"checked", "szg_open_heads, every check, and two values", open_checked},
+#ifdef FATHOM
+    {"fathom", "tb_init of Fathom and a probe", open_by_fathom},
+#endif
+};
+
+int main(int count, char **words)
+{
+    for (size_t i = 0; i < sizeof WAYS / sizeof *WAYS && count == 3; i++) {
+        if (strcmp(words[2], WAYS[i].word))
+            continue;
+        size_t held = heap();
+        double wall = now(CLOCK_MONOTONIC), processor = now(CLOCK_PROCESS_CPUTIME_ID);
+        WAYS[i].open(words[1]);
+        wall = now(CLOCK_MONOTONIC) - wall;
+        processor = now(CLOCK_PROCESS_CPUTIME_ID) - processor;
+        printf("%s: %.1f ms, %.1f ms of processor time, %.0f KB kept on the heap\n", WAYS[i].title, 1e3 * wall, 1e3 * processor,
+               (double)(heap() - held) / 1024);
+        return 0;
+    }
+    return 3;
+}

@@ -1,0 +1,51 @@
+#!/usr/bin/env python3
+"""Writes a WDL file of KQRBNvK of about 1 GB: open_table.py FILE
+
+Side 0 has 6,765,832,080 values: 4 at even indexes, 2 at odd ones, in 16,747,110 blocks of 64 bytes; side 1 is constant.
+All bytes of the blocks are 0, so that the file is sparse: it takes 34 MB of the disk."""
+import array
+import struct
+import sys
+
+SIZE = 31332 * 61 * 60 * 59
+BLOCK_BITS, SPAN_BITS = 6, 16
+# a word is one bit, a symbol two values; the last block may have fewer
+HELD = 404
+LEAF = 0xFFF
+
+
+def entry(left, right):
+    return bytes([left & 255, left >> 8 | right % 16 << 4, right >> 4])
+
+
+def front(count):
+    """Magic, flags, order, men, and the headers of both subtables; symbol 0 is the values 4 and 2, and has the word 0."""
+    men = bytes.fromhex("71e8235d 01 00 66 55 44 33 22 ee")
+    shape = struct.pack("<4BI2B", 0, BLOCK_BITS, SPAN_BITS, 0, count, 1, 1)
+    dictionary = entry(1, 2) + entry(4, LEAF) + entry(2, LEAF)
+    return men + shape + struct.pack("<HH", 0, 3) + dictionary + bytes(3 % 2) + bytes([0x80, 2])
+
+
+def sparse_index(count):
+    span = 1 << SPAN_BITS
+    for middle in range(span // 2, SIZE + span // 2, span):
+        block = min(middle // HELD, count - 1)
+        yield struct.pack("<IH", block, middle - block * HELD)
+
+
+def main():
+    count = -(-SIZE // HELD)
+    lengths = array.array("H", [HELD - 1]) * count
+    lengths[-1] = SIZE - (count - 1) * HELD - 1
+    if sys.byteorder == "big":
+        lengths.byteswap()
+    with open(sys.argv[1], "wb") as file:
+        file.write(front(count))
+        file.write(b"".join(sparse_index(count)))
+        lengths.tofile(file)
+        blocks = (file.tell() + 63) // 64 * 64
+        file.seek(blocks + (count << BLOCK_BITS))
+        file.write(bytes(16))
+
+
+main()

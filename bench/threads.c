@@ -1,0 +1,197 @@
+/* Times look-ups by 1, 2 and 4 threads that share one table: threads TABLE. The times are processor time a look-up, the
+ * least of several rounds. Beside them stand as many processes with a table each: what the processor's cores and caches
+ * cost there, they cost in threads too, and the ratio of the two is the cost of sharing. */
+#include "szg.h"
+#include <pthread.h>
+#include <stdio.h>
+#include <stdlib.h>
+#include <string.h>
+#include <sys/mman.h>
+#include <sys/wait.h>
+#include <time.h>
+#include <unistd.h>
+
+enum { LOOK_UPS = 1 << 17, ROUNDS = 5, MOST = 4 };
+
+/* How a table is opened and shared by threads, and a thread's look-up. */
+struct way {
+    const char *title;
+    void (*open)(int thread);
+    void (*share)(int thread);
+    uint16_t (*look_up)(int thread, uint64_t index);
+};
+
+static szg_table handles[MOST] = {SZG_NO_TABLE, SZG_NO_TABLE, SZG_NO_TABLE, SZG_NO_TABLE};
+static uint8_t *file;
+static size_t length;
+static uint32_t *indexes;
+static uint64_t due;
+static double (*times)[MOST];
+static const struct way *way;
+static pthread_barrier_t start;
+
+static void fail(const char *what)
+{
+    fprintf(stderr, "threads: %s\n", what);
+    exit(1);
+}
+
+static void open_handle(int thread)
+{
+    szg_answer answer;
+    if (szg_open("KQRvK", 5, false, file, length, &handles[thread], &answer) != SZG_DONE)
+        fail("the table is refused");
+}
+
+static void share_handle(int thread)
+{
+    if (szg_share(&handles[0], &handles[thread]) != SZG_DONE)
+        fail("the table is not shared");
+}
+
+static uint16_t get_by_handle(int thread, uint64_t index)
+{
+    uint16_t value = 0;
+    szg_get(&handles[thread], 0, 0, index, &value);
+    return value;
+}
+
+static szg_front fronts[MOST] = {SZG_NO_FRONT, SZG_NO_FRONT, SZG_NO_FRONT, SZG_NO_FRONT};
+
+static void open_front(int thread)
+{
+    szg_answer answer;
+    if (szg_open_front("KQRvK", 5, false, file, length, &fronts[thread], &answer) != SZG_DONE)
+        fail("the front is refused");
+}
+
+static void share_front(int thread)
+{
+    if (szg_share_front(&fronts[0], &fronts[thread]) != SZG_DONE)
+        fail("the front is not shared");
+}
+
+static uint16_t get_by_front(int thread, uint64_t index)
+{
+    uint16_t value = 0;
+    szg_bad_block bad;
+    szg_front_get(&fronts[thread], file, length, 0, 0, index, &value, &bad);
+    return value;
+}
+
+static double now(void)
+{
+    struct timespec t;
+    clock_gettime(CLOCK_THREAD_CPUTIME_ID, &t);
+    return (double)t.tv_sec + 1e-9 * (double)t.tv_nsec;
+}
+
+/* One round of look-ups; returns its processor time a look-up in nanoseconds. */
+static double look_all_up(int thread)
+{
+    uint64_t mix = 0;
+    double t0 = now();
+    for (size_t k = 0; k < LOOK_UPS; k++)
+        mix = 31 * mix + way->look_up(thread, indexes[k]);
+    double time = now() - t0;
+    if (mix != due)
+        fail("the values differ");
+    return time / LOOK_UPS * 1e9;
+}
+
+static void *run(void *number)
+{
+    int thread = (int)(intptr_t)number;
+    pthread_barrier_wait(&start);
+    times[0][thread] = look_all_up(thread);
+    return NULL;
+}
+
+/* The mean time of `count` threads or processes in one round. */
+static double mean(int count)
+{
+    double sum = 0;
+    for (int i = 0; i < count; i++)
+        sum += times[0][i];
+    return sum / count;
+}
+
+static double time_threads(int count)
+{
+    pthread_t threads[MOST];
+    pthread_barrier_init(&start, NULL, (unsigned)count);
+    for (int i = 0; i < count; i++)
+        if (pthread_create(&threads[i], NULL, run, (void *)(intptr_t)i))
+            fail("no thread");
+    for (int i = 0; i < count; i++)
+        pthread_join(threads[i], NULL);
+    pthread_barrier_destroy(&start);
+    return mean(count);
+}
+
+static double time_processes(int count)
+{
+    pid_t children[MOST];
+    for (int i = 0; i < count; i++) {
+        children[i] = fork();
+        if (children[i] == 0) {
+            /* a copy of the table of its own */
+            way->open(0);
+            times[0][i] = look_all_up(0);
+            _exit(0);
+        }
+    }
+    for (int i = 0; i < count; i++) {
+        int status = 1;
+        if (children[i] < 0 || waitpid(children[i], &status, 0) < 0 || status != 0)
+            fail("no process");
+    }
+    return mean(count);
+}
+
+static void least(double *best, double time)
+{
+    if (*best == 0 || time < *best)
+        *best = time;
+}
+
+static void time_way(const struct way *timed)
+{
+    static const int counts[] = {1, 2, 4};
+    double threads[3] = {0}, processes[3] = {0};
+    way = timed;
+    way->open(0);
+    for (int i = 1; i < MOST; i++)
+        way->share(i);
+    for (int round = 0; round < ROUNDS; round++)
+        for (int i = 0; i < 3; i++) {
+            least(&threads[i], time_threads(counts[i]));
+            least(&processes[i], time_processes(counts[i]));
+        }
+    printf("%s: 1, 2, 4 threads %.1f, %.1f, %.1f ns a look-up, ratio of 4 to 1 %.2f; processes %.1f, %.1f, %.1f ns, ratio %.2f\n",
+           way->title, threads[0], threads[1], threads[2], threads[2] / threads[0], processes[0], processes[1], processes[2],
+           processes[2] / processes[0]);
+}
+
+int main(int count, char **words)
+{
+    FILE *f = count == 2 ? fopen(words[1], "rb") : NULL;
+    file = malloc(1 << 25);
+    indexes = malloc(LOOK_UPS * sizeof *indexes);
+    times = mmap(NULL, sizeof *times, PROT_READ | PROT_WRITE, MAP_SHARED | MAP_ANONYMOUS, -1, 0);
+    if (!f || !file || !indexes || times == MAP_FAILED)
+        return fprintf(stderr, "threads TABLE\n"), 2;
+    length = fread(file, 1, 1 << 25, f);
+    fclose(f);
+    uint64_t state = 1, size = 0;
+    open_handle(0);
+    szg_positions(&handles[0], 0, 0, &size);
+    for (size_t k = 0; k < LOOK_UPS; k++) {
+        state = state * 6364136223846793005u + 1442695040888963407u;
+        indexes[k] = (uint32_t)((state >> 16) % size);
+        due = 31 * due + get_by_handle(0, indexes[k]);
+    }
+    time_way(&(struct way){"szg_get, a handle each", open_handle, share_handle, get_by_handle});
+    time_way(&(struct way){"szg_front_get, a handle each", open_front, share_front, get_by_front});
+    return 0;
+}
