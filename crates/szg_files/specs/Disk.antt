@@ -1,4 +1,4 @@
--- How many paths of a disk couldn't be opened.
+-- The number of paths of a disk that could not be opened.
 use Rattle.std.specs.Prelude.{ℕ}
 use Rattle.szg_files.specs.declared.disk.Disk.{Disk}
 

@@ -10,7 +10,7 @@ use Rattle.szg_files.specs.declared.draft.Draft.{Draft}
 use Rattle.szg_files.specs.declared.draft.Sealed.{Sealed}
 use Rattle.szg_files.specs.declared.draft.Published.{Published}
 
--- what went out, and what waits in the buffer
+-- the bytes written and the buffered ones
 abbrev pub text_of : {F A : Type 0} → Std (BufWriter (Monitored F) A) → List ℕ
 text_of file = written_of (writer_inner (device_of file)) ++ writer_buffer (device_of file)
 

@@ -1,4 +1,4 @@
--- What a `Monitored` wraps, and the bytes that it took.
+-- What a `Monitored` wraps, and the bytes that it accepted.
 use Rattle.std.specs.Prelude.{ℕ, List}
 use Rattle.szg_files.specs.declared.monitored.Monitored.{Monitored}
 

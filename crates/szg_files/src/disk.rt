@@ -11,7 +11,7 @@ use std::io::{BufReader, Error, Read};
 use std::rt::Files;
 use szg_io::Std;
 
-/// How many bytes are read at once.
+/// The number of bytes that are read at once.
 const BUFFER: usize = 1 << 17;
 
 /// A file of the system, read through a buffer.
@@ -26,7 +26,7 @@ pub struct Disk<'a, R: Files> {
 }
 
 impl<'a, R: Files> Disk<'a, R> {
-    /// The files that a runtime reaches; none was opened.
+    /// The files that a runtime gives access to. None has been opened.
     pub fn new(alloc: Global, files: &'a R) -> Disk<'a, R>
         ensures { failures_of result ≡ 0 }
     {
@@ -37,7 +37,7 @@ impl<'a, R: Files> Disk<'a, R> {
         }
     }
 
-    /// Opens a regular file. The path is looked at first, since to open a pipe waits for its writer.
+    /// Opens a regular file. It checks the path before it opens it, because opening a pipe waits for a writer.
     fn open_regular(&self, path: &str) -> Result<DiskFile<R::File>, FileFault>
         ensures { IfOk result (λ file. (counts_of file).moved ≡ []) }
     {

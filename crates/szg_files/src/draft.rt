@@ -1,7 +1,8 @@
-//! A file that is written whole or not at all: under another name beside it, flushed to the disk, and renamed.
+//! Files that are written completely or not at all: under a temporary name in the same folder, flushed to the disk,
+//! then renamed.
 //!
 //! A draft and a sealed file can't be dropped: the one is sealed or discarded, the other is published. So no path through
-//! a program leaves a temporary file behind, and none renames what wasn't flushed whole. A process that is killed leaves
+//! a program leaves a temporary file, and none renames what wasn't flushed whole. A process that is killed leaves
 //! the temporary file, and the target as it was or whole.
 ghost use Rattle.std.specs.Prelude.{◌≡◌, [], IfOk};
 ghost use Rattle.szg_io.specs.Counts.{counts_of};
@@ -15,25 +16,25 @@ use std::io::{BufWriter, ErrorKind, Write};
 use std::rt::Files;
 use szg_io::{Past, Std};
 
-/// How many bytes are written at once.
+/// The number of bytes that are written at once.
 const BUFFER: usize = 1 << 17;
 
-/// How many names are tried for a temporary file.
+/// The number of names that are tried for a temporary file.
 const NAMES: u32 = 1000;
 
 /// A file that is written through a buffer.
 pub type DraftFile<F> = Std<BufWriter<Monitored<F>>>;
 
-/// A temporary file beside a target.
+/// A temporary file in the folder of its target.
 pub struct Draft<'a, R: Files> {
-    /// What is written goes here.
+    /// The writer.
     pub file: DraftFile<R::File>,
     files: &'a R,
     path: String,
     target: &'a str,
 }
 
-/// A temporary file that is whole and flushed to the disk.
+/// A temporary file that is complete and flushed to the disk.
 pub struct Sealed<'a, R: Files> {
     files: &'a R,
     path: String,
@@ -41,14 +42,14 @@ pub struct Sealed<'a, R: Files> {
     written: Past,
 }
 
-/// The target has these bytes: a sealed file was renamed over it.
+/// A sealed file was renamed to the target, which has these bytes.
 #[derive(Drop)]
 pub struct Published<'a> {
     target: &'a str,
     written: Past,
 }
 
-/// Makes a file under a name that isn't there yet, beside the target.
+/// Creates a file in the target's folder under a name that does not exist yet.
 fn create_beside<R: Files>(
     alloc: Global,
     files: &R,
@@ -72,8 +73,8 @@ fn create_beside<R: Files>(
 }
 
 impl<'a, R: Files> Draft<'a, R> {
-    /// Makes a temporary file beside a target that isn't there or is a regular file. Errors: `NotRegular` where it is another
-    /// thing, and the system's reason.
+    /// Creates a temporary file for a target that does not exist or is a regular file. Errors: `NotRegular` if it
+    /// is anything else, or the system's reason.
     pub fn create(alloc: Global, files: &'a R, target: &'a str) -> Result<Draft<'a, R>, FileFault>
         ensures empty { IfOk result (λ draft. text_of draft.file ≡ []) }
         ensures unmoved { IfOk result (λ draft. (counts_of draft.file).moved ≡ []) }
@@ -112,7 +113,7 @@ impl<'a, R: Files> Draft<'a, R> {
         let _ = files.remove_file(path.as_str());
     }
 
-    /// Removes the temporary file; returns why the last write failed. None if no write failed.
+    /// Removes the temporary file; returns the error of the last write that failed. None if no write failed.
     pub fn abandon(self) -> Option<FileFault> {
         let error = self.file.inner().get_ref().error();
         self.discard();
@@ -122,7 +123,7 @@ impl<'a, R: Files> Draft<'a, R> {
         }
     }
 
-    /// Flushes all bytes to the disk. Errors: the system's reason; then the temporary file was removed.
+    /// Flushes all bytes to the disk. Errors: the system's reason; then the temporary file has been removed.
     pub fn seal(self) -> Result<Sealed<'a, R>, FileFault>
         ensures text { IfOk result (λ sealed. sealed_text sealed ≡ text_of self.entry.file) }
         ensures target { IfOk result (λ sealed. sealed_target sealed ≡ draft_target self.entry) }
@@ -148,7 +149,7 @@ impl<'a, R: Files> Draft<'a, R> {
     }
 }
 
-/// Writes what waits in the buffer, and flushes the file to the disk: its bytes.
+/// Writes the buffered bytes and flushes the file to the disk; returns its bytes.
 fn flushed<F: Write + OpenFile + Drop>(file: DraftFile<F>) -> Result<Past, FileFault>
     ensures { IfOk result (λ written. written.bytes ≡ text_of file) }
 {
@@ -162,8 +163,8 @@ fn flushed<F: Write + OpenFile + Drop>(file: DraftFile<F>) -> Result<Past, FileF
 }
 
 impl<'a, R: Files> Sealed<'a, R> {
-    /// Renames the temporary file over the target. Errors: the system's reason; then the target is as it was, and the
-    /// temporary file was removed.
+    /// Renames the temporary file to the target's name, and so replaces an existing target. Errors: the system's
+    /// reason; then the target is unchanged, and the temporary file has been removed.
     pub fn publish(self) -> Result<Published<'a>, FileFault>
         ensures text { IfOk result (λ published. published_text published ≡ sealed_text self.entry) }
         ensures target { IfOk result (λ published. published_target published ≡ sealed_target self.entry) }

@@ -5,20 +5,20 @@ ghost use Rattle.szg_io.specs.Device.{raised};
 use std::io::Error;
 use szg_io::Input;
 
-/// Why a file isn't opened or written.
+/// Why a file is not opened or written.
 #[derive(Clone, Copy)]
 pub enum FileFault {
-    /// A folder, a pipe, a device: only regular files are opened.
+    /// It is a directory, a pipe or a device: only regular files are opened.
     NotRegular,
     /// The system's reason.
     System(Error),
-    /// A growth was refused.
+    /// An allocation was refused.
     Memory,
 }
 
-/// What may say why it failed last.
+/// A device that may return the reason of its last failure.
 pub trait Reasons {
-    /// The system's error behind the last failure, where there is one.
+    /// Returns the system's error of the last failure. None if there is none.
     fn reason(&self) -> Option<Error>;
 }
 
@@ -27,13 +27,13 @@ pub trait FileSystem {
     /// An opened file.
     type File: Input + Reasons + Drop;
 
-    /// The bytes of the file at a path, where the system knows them.
+    /// the bytes of the file at a path, if the system specifies them
     ghost content: { Self → List ℕ → Option (List ℕ) };
 
-    /// How many paths couldn't be opened so far.
+    /// the number of paths that could not be opened so far
     ghost failures: { Self → ℕ };
 
-    /// Opens the regular file at a path, before its first byte. Errors: `FileFault`, only where the system failed.
+    /// Opens the regular file at a path, at its first byte. Errors: `FileFault`, only if the system failed.
     fn open(&mut self, path: &str) -> Result<Self::File, FileFault>
         ensures unread { IfOk result (λ file. Self.File.moved file ≡ []) }
         ensures coming { IfOk result (λ file. IfSome (content self.old path.now) (λ bytes. Self.File.coming file ≡ Some bytes)) }

@@ -1,4 +1,4 @@
-//! Files by path: opened to be read through a buffer, and written whole or not at all.
+//! Files by path: read through a buffer, and written completely or not at all.
 #![tactic(auto)]
 
 mod disk;

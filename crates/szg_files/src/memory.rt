@@ -13,7 +13,7 @@ pub struct MemoryFile<'a> {
     pub bytes: &'a [u8],
 }
 
-/// Files in memory, each by its path. Of two with one path the first is found.
+/// Files in memory, by path. Of two files with the same path the first is found.
 #[derive(Drop)]
 pub struct MemoryFiles<'a> {
     pub files: &'a [MemoryFile<'a>],
@@ -26,7 +26,7 @@ impl Reasons for Bytes<'_> {
     }
 }
 
-/// The first file with a path.
+/// Returns the bytes of the first file with a path.
 fn first_of<'a>(files: &[MemoryFile<'a>], path: &str) -> Option<&'a [u8]>
     ensures { option_map (λ bytes. bytes.now) result ≡ found files.now path.now }
 {

@@ -1,11 +1,11 @@
-//! A reader or writer of std that remembers why it failed last, and which bytes were written through it.
+//! A reader or writer of std that keeps its last error and the bytes that were written through it.
 ghost use Rattle.std.specs.Prelude.{◌≡◌, [], None, Some};
 ghost use Rattle.szg_files.specs.Monitored.{inner_of, written_of};
 
 use std::io::{self, Error, Read, Write};
 use szg_io::Past;
 
-/// A reader or a writer of std, its last error, and, for proofs alone, the bytes that it took.
+/// A reader or writer of std, its last error, and, for proofs alone, the bytes that it accepted.
 #[derive(Drop)]
 pub struct Monitored<T> {
     inner: T,
@@ -14,7 +14,7 @@ pub struct Monitored<T> {
 }
 
 impl<T> Monitored<T> {
-    /// Wraps a reader or a writer before its first call.
+    /// Wraps a reader or writer before its first call.
     pub fn new(inner: T) -> Monitored<T>
         ensures inner { inner_of result ≡ inner }
         ensures written { written_of result ≡ [] }
@@ -26,19 +26,19 @@ impl<T> Monitored<T> {
         }
     }
 
-    /// The error of the last call that failed, if any did.
+    /// Returns the error of the last call that failed. None if no call failed.
     pub fn error(&self) -> Option<Error> {
         self.error
     }
 
-    /// What it wraps.
+    /// Returns the wrapped reader or writer.
     pub fn inner(&self) -> &T
         ensures { result.now ≡ inner_of self.now }
     {
         &self.inner
     }
 
-    /// The bytes that it took, for proofs alone.
+    /// Returns the bytes that it accepted, for proofs alone.
     pub fn into_written(self) -> Past
     where
         T: Drop,

@@ -1,4 +1,4 @@
--- The files that words ask for, by the words that the program is handed.
+-- The files that a command line checks, by its words.
 use Rattle.std.proofs.Common.{◌≡◌, ℕ, ◌<◌, ◌≤◌, Bool, true, false, ◌&&◌, nat_lt, List, length, map, drop, option_map, Option, Some, None, Bor, refl, sym, ap, subst, ◌∙◌, arith, if◌then◌else◌}
 use Rattle.std.specs.Prelude.{slice_get}
 use Rattle.std.proofs.lemmas.Bool.{le-ltb, lt-ltb}
@@ -9,7 +9,7 @@ use Rattle.szg_named.specs.Asked.{all_named, files_asked, is_check}
 abbrev pub texts : List (Bor (List ℕ)) → List (List ℕ)
 texts words = map (λ word. word.now) words
 
--- what the definition computes by, word for word
+-- the results by which the definition decides
 asked_by : (words : List (Bor (List ℕ))) (many check named : Bool) → nat_lt 2 (length (texts words)) ≡ many → is_check (option_map (λ word. word.now) (slice_get words 1)) ≡ check →
     all_named (texts (drop 2 words)) ≡ named → files_asked (texts words) ≡ (if many && (check && named) then Some (texts (drop 2 words)) else None)
 asked_by words many check named a b c =

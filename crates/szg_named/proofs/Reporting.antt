@@ -1,11 +1,11 @@
--- A report goes on by one file.
+-- A report, extended by one file.
 use Rattle.std.proofs.Common.{◌≡◌, ℕ, ◌+◌, ◌<◌, length, get_or, map, take, Bool, true, false, Bor, List, [], ◌∷◌, ◌++◌, Option, refl, sym, ap, subst, ◌∙◌, append_assoc, append-nil, arith}
 use Rattle.std.specs.List.{sum_by}
 use Rattle.std.proofs.lemmas.List.{map-append, take_more}
 use Rattle.std.proofs.lemmas.List.Sums.{sum_by-append}
 use Rattle.szg_io.specs.declared.device.Input as input
 use Rattle.szg_named.specs.Verdicts.{IsFileVerdict, Reports, Counts, good_of, refused_of, unread_of}
-use Rattle.szg_named.specs.Lines.{IsLine}
+use Rattle.szg_named.specs.Records.{IsReportLine}
 use Rattle.szg_named.specs.declared.file_verdict.FileVerdict.{FileVerdict}
 use Rattle.szg_named.specs.declared.file_verdict.FileVerdict.TheVariants.{Whole, Ending, Name, At, Trailing, Unopened, Unread}
 use Rattle.szg_named.specs.declared.many.CheckOptions.{CheckOptions}
@@ -13,7 +13,7 @@ use Rattle.szg_named.specs.declared.stop.Tally.{Tally}
 
 pub reports_more : {S F : Type 0} (content : S → List ℕ → Option (List ℕ)) (failures : S → ℕ) (device : input.Ghosts F) (options : CheckOptions)
     (paths : List (List ℕ)) (verdicts : List FileVerdict) (path : List ℕ) (verdict : FileVerdict) (first mid last : S) (text line : List ℕ) →
-    Reports content failures device options paths verdicts first mid text → IsFileVerdict content failures device options.naming path mid last verdict → IsLine options.allow_trailing path verdict line →
+    Reports content failures device options paths verdicts first mid text → IsFileVerdict content failures device options.naming path mid last verdict → IsReportLine options.format options.allow_trailing path verdict line →
     Reports content failures device options (paths ++ path ∷ []) (verdicts ++ verdict ∷ []) first last (text ++ line)
 reports_more content failures device options [] [] path verdict first mid last text line h one told =
     (last, subst (λ (s : _). IsFileVerdict content failures device options.naming path s last verdict) h.0 one, line, told, [], ap (λ (z : List ℕ). z ++ line) h.1 ∙ sym (append-nil line), (refl, refl))
@@ -29,7 +29,7 @@ reports_more content failures device options (p ∷ ps) (f ∷ fs) path verdict 
   reports_more content failures device options ps fs path verdict h.0 mid last h.4 line h.6 one told,
 )
 
--- each file counts once
+-- each file is counted once
 pub counts_once : (allow : Bool) (verdict : FileVerdict) → good_of allow verdict + refused_of allow verdict + unread_of verdict ≡ 1
 counts_once allow (Whole size) = refl
 counts_once allow Ending = refl
@@ -51,10 +51,10 @@ counts_more allow verdicts verdict old new h good refused unread = record {
   unread = let m = sum_more unread_of verdicts verdict in omega (arith, h.unread, m, unread);
 }
 
--- the report of the first paths goes on by the next
+-- the report of the first paths, extended by the next
 pub reports_next : {S F : Type 0} (content : S → List ℕ → Option (List ℕ)) (failures : S → ℕ) (device : input.Ghosts F) (options : CheckOptions)
     (paths : List (Bor (List ℕ))) (i : ℕ) (d : Bor (List ℕ)) (verdicts : List FileVerdict) (verdict : FileVerdict) (first mid last : S) (text line : List ℕ) → i < length paths →
-    Reports content failures device options (map (λ path. path.now) (take i paths)) verdicts first mid text → IsFileVerdict content failures device options.naming (get_or paths i d).now mid last verdict → IsLine options.allow_trailing (get_or paths i d).now verdict line →
+    Reports content failures device options (map (λ path. path.now) (take i paths)) verdicts first mid text → IsFileVerdict content failures device options.naming (get_or paths i d).now mid last verdict → IsReportLine options.format options.allow_trailing (get_or paths i d).now verdict line →
     Reports content failures device options (map (λ path. path.now) (take (i + 1) paths)) (verdicts ++ verdict ∷ []) first last (text ++ line)
 reports_next content failures device options paths i d verdicts verdict first mid last text line below h one told =
     let more : map (λ (path : Bor (List ℕ)). path.now) (take (i + 1) paths) ≡ map (λ path. path.now) (take i paths) ++ (get_or paths i d).now ∷ [] =

@@ -66,7 +66,7 @@ refused_text offset word = codes ": refused at " ++ (decimal offset ++ (codes ":
 abbrev pub IsReasonText : List ℕ → Type 0
 IsReasonText text = (reason : List ℕ) × (text ≡ codes ": " ++ (reason ++ 10 ∷ []))
 
--- What the check of a file says, up to the end of its line.
+-- The text of a verdict, up to the end of its line.
 abbrev pub IsVerdictText : Bool → FileVerdict → List ℕ → Type 0
 IsVerdictText allow_trailing (Whole size) text = text ≡ codes ": ok " ++ (decimal size ++ 10 ∷ [])
 IsVerdictText allow_trailing Ending text = text ≡ name_text (codes "Ending")
@@ -77,11 +77,11 @@ IsVerdictText false (Trailing size) text = text ≡ refused_text size (codes "Tr
 IsVerdictText allow_trailing (Unopened fault) text = IsReasonText text
 IsVerdictText allow_trailing (Unread error) text = IsReasonText text
 
--- The line of a path and what its check says.
+-- The line of a path and its verdict.
 abbrev pub IsLine : Bool → List ℕ → FileVerdict → List ℕ → Type 0
 IsLine allow_trailing path verdict line = (text : List ℕ) × IsVerdictText allow_trailing verdict text × (line ≡ escaped path ++ text)
 
--- the last line: how many files there are, and how many of these are good, refused and unread
+-- the last line: the number of files, and how many of them are good, refused and unread
 abbrev pub summary_text : ℕ → Tally → List ℕ
 summary_text count tally = codes "files " ++ (decimal count ++ (codes ": ok " ++ (decimal tally.good ++ (codes ", refused "
     ++ (decimal tally.refused ++ (codes ", unread " ++ (decimal tally.unread ++ 10 ∷ [])))))))

@@ -1,4 +1,4 @@
--- What the check of a file by its path says, and what it does to the system.
+-- The verdict on a file by its path, and the effect of the check on the system.
 use Rattle.std.specs.Prelude.{◌≡◌, ℕ, Bool, true, false, List, [], ◌∷◌, ◌++◌, length, Option, None, Some, Result, Ok, Err}
 use Rattle.std.specs.List.{sum_by}
 use Rattle.std.specs.Io.KnownBytes.{IsAtEnd}
@@ -12,15 +12,16 @@ use Rattle.szg_values.specs.declared.NameFault.{NameFault}
 use Rattle.szg_file.specs.Checked.{IsChecked}
 use Rattle.szg_file.specs.declared.fault.ReadFault.TheVariants.{Refused}
 use Rattle.szg_files.specs.FileSystem.{IsOpened}
-use Rattle.szg_named.specs.Lines.{IsLine, summary_text}
+use Rattle.szg_named.specs.Records.{IsReportLine, report_end}
 use Rattle.szg_named.specs.Named.{name_given, named_as}
 use Rattle.szg_named.specs.declared.file_verdict.FileVerdict.{FileVerdict}
 use Rattle.szg_named.specs.declared.file_verdict.FileVerdict.TheVariants.{Whole, Ending, Name, At, Trailing, Unopened, Unread}
 use Rattle.szg_named.specs.declared.many.CheckOptions.{CheckOptions}
 use Rattle.szg_named.specs.declared.named.Naming.{Naming}
+use Rattle.szg_named.specs.declared.report_format.ReportFormat.TheVariants as report_formats
 use Rattle.szg_named.specs.declared.stop.Tally.{Tally}
 
--- What the check of an opened file says: behind a table stands its end, or a byte, which was taken too.
+-- The verdict on an opened file. After a table there is the end of the file, or one more byte, which was read, too.
 abbrev pub IsVerdictOn : {F : Type 0} → input.Ghosts F → Sides → Kind → F → F → FileVerdict → Type 0
 IsVerdictOn {F = F} device material kind file file' (Whole size) =
     (table : F) × IsChecked device material kind file table (Ok size) × Takes device table file' [] 1 × IsAtEnd (device.coming file')
@@ -30,12 +31,13 @@ IsVerdictOn device material kind file file' (At offset reason) = IsChecked devic
 IsVerdictOn device material kind file file' (Unread error) = HasFailed (device.failures file) (device.failures file') (device.interrupted file')
 IsVerdictOn device material kind file file' verdict = ⊥
 
--- The system opened the path, and the check of that file says this.
+-- The system opened the path, and this is the verdict on that file.
 abbrev pub IsRead : {S F : Type 0} → (S → List ℕ → Option (List ℕ)) → (S → ℕ) → input.Ghosts F → List ℕ → Sides → Kind → S → S → FileVerdict → Type 0
 IsRead {F = F} content failures device path material kind system system' verdict =
     (file : F) × (file' : F) × IsOpened content failures device system system' path file × IsVerdictOn device material kind file file' verdict
 
--- The path's name and kind are these; where the name is a material's, the file was asked for.
+-- The verdict by a kind and a parsed name. If the name is not a material's, the system is unchanged; otherwise the
+-- file was opened, or could not be.
 abbrev pub IsNamedVerdict : {S F : Type 0} → (S → List ℕ → Option (List ℕ)) → (S → ℕ) → input.Ghosts F → List ℕ → Kind → Result Sides NameFault → S → S → FileVerdict → Type 0
 IsNamedVerdict content failures device path kind (Err fault) system system' (Name told) = (told ≡ fault) × (system' ≡ system)
 IsNamedVerdict content failures device path kind (Err fault) system system' verdict = ⊥
@@ -47,27 +49,27 @@ IsVerdictBy content failures device path None system system' Ending = system' �
 IsVerdictBy content failures device path None system system' verdict = ⊥
 IsVerdictBy content failures device path (Some named) system system' verdict = IsNamedVerdict content failures device path named.1 (parsed named.0) system system' verdict
 
--- What the check of the file at a path says, where this name and kind are given.
+-- The verdict on the file at a path, with this name and kind given.
 abbrev pub IsFileVerdict : {S F : Type 0} → (S → List ℕ → Option (List ℕ)) → (S → ℕ) → input.Ghosts F → Naming → List ℕ → S → S → FileVerdict → Type 0
 IsFileVerdict content failures device naming path system system' verdict =
     IsVerdictBy content failures device path (named_as (name_given naming) naming.kind path) system system' verdict
 
 -- ---- many files
 
--- each file by its own name, and no trailing bytes
+-- each file by its own name, no trailing bytes, and a report for a reader
 abbrev pub plain_options : CheckOptions
-plain_options = record { naming = record { name = None; kind = None }; allow_trailing = false }
+plain_options = record { naming = record { name = None; kind = None }; allow_trailing = false; format = report_formats.Text }
 
--- Each path was checked in its order, and has its line.
+-- Each path was checked in its order, and has its line or record.
 abbrev pub Reports : {S F : Type 0} → (S → List ℕ → Option (List ℕ)) → (S → ℕ) → input.Ghosts F → CheckOptions → List (List ℕ) → List FileVerdict → S → S → List ℕ → Type 0
 Reports content failures device options [] [] system system' text = (system' ≡ system) × (text ≡ [])
 Reports content failures device options [] (verdict ∷ verdicts) system system' text = ⊥
 Reports content failures device options (path ∷ paths) [] system system' text = ⊥
 Reports {S = S} content failures device options (path ∷ paths) (verdict ∷ verdicts) system system' text =
-    (next : S) × IsFileVerdict content failures device options.naming path system next verdict × (line : List ℕ) × IsLine options.allow_trailing path verdict line
+    (next : S) × IsFileVerdict content failures device options.naming path system next verdict × (line : List ℕ) × IsReportLine options.format options.allow_trailing path verdict line
     × (rest : List ℕ) × (text ≡ line ++ rest) × Reports content failures device options paths verdicts next system' rest
 
--- a table and nothing else, or a table where trailing bytes are allowed
+-- a table and nothing else, or a table with trailing bytes if these are allowed
 abbrev pub good_of : Bool → FileVerdict → ℕ
 good_of allow_trailing (Whole size) = 1
 good_of true (Trailing size) = 1
@@ -86,17 +88,17 @@ refused_of allow_trailing (At offset reason) = 1
 refused_of false (Trailing size) = 1
 refused_of allow_trailing verdict = 0
 
--- how many verdicts are good, refused or unread
+-- the numbers of good, refused and unread verdicts
 pub record Counts (allow_trailing : Bool) (verdicts : List FileVerdict) (tally : Tally) : Type 0 where
   pub good : tally.good ≡ sum_by (good_of allow_trailing) verdicts
   pub refused : tally.refused ≡ sum_by (refused_of allow_trailing) verdicts
   pub unread : tally.unread ≡ sum_by unread_of verdicts
 
--- All files were checked in their order, and just their lines and the summary were written.
+-- All files were checked in their order, and just their lines or records and what ends the report were written.
 pub record IsReport {S F W : Type 0} (content : S → List ℕ → Option (List ℕ)) (failures : S → ℕ) (device : input.Ghosts F) (writing : output.Ghosts W)
     (options : CheckOptions) (paths : List (List ℕ)) (system system' : S) (writer writer' : W) (tally : Tally) : Type 0 where
   pub verdicts : List FileVerdict
   pub text : List ℕ
   pub reports : Reports content failures device options paths verdicts system system' text
   pub counts : Counts options.allow_trailing verdicts tally
-  pub given : Gives writing writer writer' (text ++ summary_text (length paths) tally) 0
+  pub given : Gives writing writer writer' (text ++ report_end options.format (length paths) tally) 0

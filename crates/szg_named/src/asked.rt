@@ -1,10 +1,10 @@
-//! Which command lines ask for files.
+//! Command lines that check files.
 ghost use Rattle.std.specs.Prelude.{◌≡◌, map, slice_get, option_map};
 ghost use Rattle.szg_named.specs.Asked.{all_named, files_asked, is_check};
 
 use crate::named::named_by;
 
-/// Whether each path's ending names a kind of table.
+/// Whether each path has the extension of a kind of table.
 fn are_named(paths: &[&str]) -> bool
     ensures { result ≡ all_named (map (λ path. path.now) paths.now) }
 {
@@ -26,7 +26,7 @@ fn asks_to_check(words: &[&str]) -> bool
     }
 }
 
-/// The paths that a command line asks to check: those behind `szg check`, where each ends as a table's file does. None where
+/// The paths that a command line asks to check: those after `szg check`, where each ends as a table's file does. None where
 /// there is none, or one that doesn't.
 #[tactic(auto, using(crate::proofs::Asking::none_few, crate::proofs::Asking::none_other, crate::proofs::Asking::none_unnamed, crate::proofs::Asking::asked_is))]
 pub fn files_asked<'w, 'a>(words: &'w [&'a str]) -> Option<&'w [&'a str]>

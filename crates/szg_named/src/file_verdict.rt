@@ -1,24 +1,24 @@
-//! What a file's check says.
+//! The verdict on a file.
 use std::io::Error;
 use szg_file::Reason;
 use szg_files::FileFault;
 use szg_values::NameFault;
 
-/// What the check of a file by its path says.
+/// The verdict on a file, opened by its path.
 #[derive(Clone, Copy)]
 pub enum FileVerdict {
-    /// It is a table and nothing else: its length in bytes.
+    /// It is a table and nothing else. Carries its length in bytes.
     Whole(u64),
-    /// No kind is given, and its ending names none.
+    /// No kind is given, and its extension determines none.
     Ending,
-    /// Its name is no material's.
+    /// Its name is not a material's.
     Name(NameFault),
-    /// The first check that fails, and its offset.
+    /// The first check that fails, with its offset.
     At(u64, Reason),
     /// More bytes follow a table of this length.
     Trailing(u64),
-    /// It can't be opened.
+    /// It cannot be opened.
     Unopened(FileFault),
-    /// It can't be read, with the system's reason where there is one.
+    /// It cannot be read. Carries the system's reason if there is one.
     Unread(Option<Error>),
 }

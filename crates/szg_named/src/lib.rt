@@ -1,4 +1,4 @@
-//! Table files by path: the name and kind that a path says, and the check of one or many files.
+//! Table files by path: the name and kind in a path, and the check of one or many files.
 #![tactic(auto)]
 
 mod asked;
@@ -7,6 +7,8 @@ mod lines;
 mod many;
 mod named;
 mod one;
+mod records;
+mod report_format;
 mod stop;
 
 pub use asked::files_asked;
@@ -15,4 +17,6 @@ pub use lines::{error_text, fault_text, summary_line, verdict_line};
 pub use many::{CheckOptions, check_files};
 pub use named::{Naming, named_as, named_by};
 pub use one::check_path;
+pub use records::{json_record, tsv_record};
+pub use report_format::ReportFormat;
 pub use stop::{Stop, Tally};

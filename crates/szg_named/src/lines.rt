@@ -1,8 +1,10 @@
 //! The lines of a report.
-ghost use Rattle.std.specs.Prelude.{◌≡◌, ◌++◌, ◌<◌, IfOk, OnOk, string_bytes};
+ghost use Rattle.std.specs.Prelude.{◌≡◌, ◌++◌, ◌∷◌, [], ◌/◌, ◌%◌, ◌<◌, IfOk, OnOk, string_bytes};
+ghost use Rattle.szg_named.specs.Records.{escaped_byte_in, escaped_in, json_byte};
 ghost use Rattle.szg_named.specs.Lines.{IsLine, IsVerdictText, escaped, escaped_byte, hex_digit, is_escaped, name_text, name_word, reason_word, refused_text, summary_text};
 
 use crate::file_verdict::FileVerdict;
+use crate::report_format::ReportFormat;
 use crate::stop::Tally;
 use std::alloc::{AllocError, Global};
 use std::io::Error;
@@ -10,14 +12,14 @@ use szg_file::Reason;
 use szg_files::FileFault;
 use szg_values::NameFault;
 
-/// Whether a byte of a path is escaped: control characters and the backslash are.
+/// Whether a byte of a path is escaped: control characters and backslashes are.
 fn is_escaped(byte: u8) -> bool
     ensures { result ≡ is_escaped byte }
 {
     byte < 32 || byte == 127 || byte == b'\\'
 }
 
-/// The hexadecimal digit of a number below 16.
+/// Returns the hexadecimal digit of a number below 16.
 fn hex_digit(value: u8) -> u8
     requires { value < 16 }
     ensures { result ≡ hex_digit value }
@@ -29,28 +31,59 @@ fn hex_digit(value: u8) -> u8
 fn push_escaped(text: &mut Vec<u8>, byte: u8) -> Result<(), AllocError>
     ensures { OnOk result (text.new.items ≡ text.old.items ++ escaped_byte byte) }
 {
-    if is_escaped(byte) {
+    if !is_escaped(byte) {
+        return Ok(text.push(byte)?);
+    }
+    text.extend_from_slice(b"\\x")?;
+    push_hex(text, byte)
+}
+
+/// Appends a byte's two hexadecimal digits.
+fn push_hex(text: &mut Vec<u8>, byte: u8) -> Result<(), AllocError>
+    ensures { OnOk result (text.new.items ≡ text.old.items ++ (hex_digit (byte / 16) ∷ hex_digit (byte % 16) ∷ [])) }
+{
+    text.push(hex_digit(byte / 16))?;
+    Ok(text.push(hex_digit(byte % 16))?)
+}
+
+/// Appends a byte of a JSON string: quotes and backslashes after a backslash, control characters by their number.
+fn push_json(text: &mut Vec<u8>, byte: u8) -> Result<(), AllocError>
+    ensures { OnOk result (text.new.items ≡ text.old.items ++ json_byte byte) }
+{
+    if byte == b'"' || byte == b'\\' {
         text.push(b'\\')?;
-        text.push(b'x')?;
-        text.push(hex_digit(byte / 16))?;
-        Ok(text.push(hex_digit(byte % 16))?)
-    } else {
-        Ok(text.push(byte)?)
+        return Ok(text.push(byte)?);
+    }
+    if byte < 32 || byte == 127 {
+        text.extend_from_slice(b"\\u00")?;
+        return push_hex(text, byte);
+    }
+    Ok(text.push(byte)?)
+}
+
+/// Appends a byte of a text as a report in this format has it.
+fn push_escaped_in(text: &mut Vec<u8>, format: ReportFormat, byte: u8) -> Result<(), AllocError>
+    ensures { OnOk result (text.new.items ≡ text.old.items ++ escaped_byte_in format byte) }
+{
+    match format {
+        ReportFormat::Text | ReportFormat::Tsv => push_escaped(text, byte),
+        ReportFormat::Json => push_json(text, byte),
     }
 }
 
-/// A path with its control characters and backslashes escaped, so that it stays within one line.
-fn escaped(alloc: Global, path: &str) -> Result<Vec<u8>, AllocError>
-    ensures { IfOk result (λ text. text.items ≡ escaped path.now) }
+/// A text with its control characters and backslashes, in JSON also its quotes, escaped: it stays within one line and one
+/// field.
+pub fn escaped_in(alloc: Global, format: ReportFormat, source: &str) -> Result<Vec<u8>, AllocError>
+    ensures { IfOk result (λ text. text.items ≡ escaped_in format source.now) }
 {
     let mut text = Vec::new(alloc);
-    'bytes: for byte in path.as_bytes() {
-        push_escaped(&mut text, *byte)?;
+    'bytes: for byte in source.as_bytes() {
+        push_escaped_in(&mut text, format, *byte)?;
     }
     Ok(text)
 }
 
-/// The line of a file: its path, and what its check says.
+/// Returns the line of a file: its path and its verdict.
 pub fn verdict_line(
     alloc: Global,
     path: &str,
@@ -59,13 +92,13 @@ pub fn verdict_line(
 ) -> Result<Vec<u8>, AllocError>
     ensures { IfOk result (λ line. IsLine allow_trailing path.now verdict.now line.items) }
 {
-    let mut line = escaped(alloc, path)?;
+    let mut line = escaped_in(alloc, ReportFormat::Text, path)?;
     let rest = verdict_text(alloc, verdict, allow_trailing)?;
     line.extend_from_slice(rest.as_bytes())?;
     Ok(line)
 }
 
-/// What a file's check says, up to the end of its line.
+/// Returns the text of a verdict, up to the end of its line.
 fn verdict_text(
     alloc: Global,
     verdict: &FileVerdict,
@@ -93,21 +126,21 @@ fn verdict_text(
     }
 }
 
-/// A refusal of a name.
+/// Returns the text of a refused name.
 fn name_text(alloc: Global, word: &str) -> Result<String, AllocError>
     ensures { IfOk result (λ text. string_bytes text ≡ name_text word.now) }
 {
     format!(in alloc; ": refused name: {word}\n")
 }
 
-/// A refusal at an offset.
+/// Returns the text of a refusal at an offset.
 fn refused_text(alloc: Global, offset: u64, word: &str) -> Result<String, AllocError>
     ensures { IfOk result (λ text. string_bytes text ≡ refused_text offset word.now) }
 {
     format!(in alloc; ": refused at {offset}: {word}\n")
 }
 
-/// The summary of `count` files.
+/// Returns the summary of `count` files.
 pub fn summary_line(alloc: Global, count: usize, tally: &Tally) -> Result<String, AllocError>
     ensures { IfOk result (λ line. string_bytes line ≡ summary_text count tally.now) }
 {
@@ -119,7 +152,7 @@ pub fn summary_line(alloc: Global, count: usize, tally: &Tally) -> Result<String
     format!(in alloc; "files {count}: ok {good}, refused {refused}, unread {unread}\n")
 }
 
-/// Why a file isn't opened.
+/// Returns the reason why a file is not opened.
 pub fn fault_text(alloc: Global, fault: &FileFault) -> Result<String, AllocError> {
     match fault {
         FileFault::NotRegular => String::from_str(alloc, "not a regular file"),
@@ -128,7 +161,7 @@ pub fn fault_text(alloc: Global, fault: &FileFault) -> Result<String, AllocError
     }
 }
 
-/// The system's reason, without its number.
+/// Returns the system's reason, without its number.
 pub fn error_text(alloc: Global, error: &Option<Error>) -> Result<String, AllocError> {
     let Some(error) = error else {
         return String::from_str(alloc, "device fault");
@@ -140,8 +173,8 @@ pub fn error_text(alloc: Global, error: &Option<Error>) -> Result<String, AllocE
     }
 }
 
-/// Why a name is none.
-fn name_word(fault: NameFault) -> &'static str
+/// Returns the word for a fault of a name.
+pub fn name_word(fault: NameFault) -> &'static str
     ensures { result.now ≡ name_word fault }
 {
     match fault {
@@ -153,8 +186,8 @@ fn name_word(fault: NameFault) -> &'static str
     }
 }
 
-/// The check of a file that fails.
-fn reason_word(reason: Reason) -> &'static str
+/// Returns the word for a failing check of a file.
+pub fn reason_word(reason: Reason) -> &'static str
     ensures { result.now ≡ reason_word reason }
 {
     match reason {

@@ -1,18 +1,18 @@
-//! The table's name and kind that a path says.
+//! The table's name and kind in a path.
 ghost use Rattle.std.specs.Prelude.{◌≡◌, option_map};
 ghost use Rattle.szg_named.specs.Named.{kind_by, kind_of_ending, name_given, named_as, named_by};
 
 use std::path::Path;
 use szg_values::Kind;
 
-/// A name and a kind that are given beside a path: each takes the place of what the path says.
+/// A name and a kind that are given with a path: each replaces what the path says.
 #[derive(Clone, Copy)]
 pub struct Naming<'a> {
     pub name: Option<&'a str>,
     pub kind: Option<Kind>,
 }
 
-/// The kind of table that a file's ending names.
+/// Returns the kind of table of a file extension.
 fn kind_of(ending: &str) -> Option<Kind>
     ensures { result ≡ kind_of_ending ending.now }
 {
@@ -23,8 +23,8 @@ fn kind_of(ending: &str) -> Option<Kind>
     }
 }
 
-/// The table's name and kind that a path's file name says: `KQvK.rtbw` is the WDL table of `KQvK`. None if the ending
-/// is neither `rtbw` nor `rtbz`.
+/// Returns the table's name and kind from a path's file name: `KQvK.rtbw` is the WDL table of `KQvK`. None if the
+/// extension is neither `rtbw` nor `rtbz`.
 pub fn named_by(path: &str) -> Option<(&str, Kind)>
     ensures { option_map (λ named. (named.0.now, named.1)) result ≡ named_by path.now }
 {
@@ -38,7 +38,7 @@ pub fn named_by(path: &str) -> Option<(&str, Kind)>
     }
 }
 
-/// The kind that a path's ending names.
+/// Returns the kind of a path's extension.
 fn kind_by(path: &str) -> Option<Kind>
     ensures { result ≡ kind_by path.now }
 {
@@ -48,7 +48,7 @@ fn kind_by(path: &str) -> Option<Kind>
     }
 }
 
-/// The table's name and kind: those that are given, else those that the path says. None if one is missing.
+/// Returns the table's name and kind: those that are given, else those in the path. None if one is missing.
 pub fn named_as<'a>(naming: Naming<'a>, path: &'a str) -> Option<(&'a str, Kind)>
     ensures { option_map (λ named. (named.0.now, named.1)) result ≡ named_as (name_given naming.entry) naming.entry.kind path.now }
 {

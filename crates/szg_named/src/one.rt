@@ -36,7 +36,7 @@ fn check_opened<F: Input + Ahead + Reasons>(
     }
 }
 
-/// Checks the file at a path, as a table of the name and kind that are given or that the path says. Errors: `Memory`.
+/// Checks the file at a path, as a table of the name and kind that are given or in the path. Errors: `Memory`.
 pub fn check_path<S: FileSystem>(
     alloc: Global,
     system: &mut S,

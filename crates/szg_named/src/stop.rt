@@ -1,4 +1,4 @@
-//! How a command on files ends.
+//! The end of a command on files.
 use crate::file_verdict::FileVerdict;
 use std::alloc::{AllocError, AllocFailed};
 
@@ -7,11 +7,11 @@ use std::alloc::{AllocError, AllocFailed};
 pub enum Stop {
     /// The output failed.
     Device,
-    /// A growth was refused.
+    /// An allocation was refused.
     Memory,
 }
 
-/// How many files were good, refused, or not read.
+/// The numbers of files that were good, refused, or not read.
 #[derive(Clone, Copy)]
 pub struct Tally {
     pub good: u64,
@@ -23,7 +23,7 @@ impl Tally {
     ghost use Rattle.std.specs.Prelude.{◌≡◌, ◌+◌, ◌^◌, ◌<◌};
     ghost use Rattle.szg_named.specs.Verdicts.{good_of, refused_of, unread_of};
 
-    /// The tally with one file more.
+    /// Returns the tally with one more file.
     pub fn with(self, verdict: &FileVerdict, allow_trailing: bool) -> Tally
         requires good { self.good < 2 ^ 63 }
         requires refused { self.refused < 2 ^ 63 }

@@ -1,4 +1,4 @@
--- Decimal digits that tell a number, or none.
+-- Decimal digits of a number, or none.
 use Rattle.std.proofs.Common.{◌≡◌, ◌<◌, ◌≤◌, ◌+◌, ◌*◌, ◌-◌, ◌^◌, Bool, true, false, ℕ, List, length, take, suc, get_or, refl, arith}
 use Rattle.std.proofs.lemmas.Bool.{le-leb, lt-leb}
 use Rattle.std.proofs.lemmas.List.Folds.{list_all_at}

@@ -4,3 +4,5 @@ mod Builds
 mod Digits
 mod MenWords
 pub mod Endings
+pub mod Constants
+pub mod Words

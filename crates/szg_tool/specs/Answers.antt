@@ -53,7 +53,7 @@ abbrev pub number_of_form : Form → ℕ
 number_of_form forms.Values = 1
 number_of_form forms.Runs = 2
 
--- the text of the dump that tells the table
+-- the text of the table's dump
 abbrev pub IsDumpText : Form → Contents → List ℕ → Type 0
 IsDumpText form t text = (dump : told.Dump) × IsDumpOf dump t × (text ≡ dump_text (form_of (number_of_form form)) dump)
 
@@ -63,7 +63,7 @@ IsDumpText form t text = (dump : told.Dump) × IsDumpOf dump t × (text ≡ dump
 abbrev pub part_letter : ℕ → List ℕ
 part_letter part = if part == 0 then codes "a" else if part == 1 then codes "b" else if part == 2 then codes "c" else codes "d"
 
--- where a placement stands: the part, the side and the index
+-- the spot of a placement: the part, the side and the index
 abbrev pub spot_line : Spot → List ℕ
 spot_line spot = codes "part " ++ (part_letter spot.part ++ (codes " side " ++ (decimal spot.side ++ (codes " index " ++ number_line spot.index))))
 
@@ -81,12 +81,12 @@ abbrev pub class_line : Option ℤ → List ℕ
 class_line None = codes "none" ++ 10 ∷ []
 class_line (Some class) = signed_decimal class ++ 10 ∷ []
 
--- the class that a WDL table tells of a placement
+-- the class of a placement in a WDL table
 abbrev pub IsClassLine : Contents → Board → List ℕ → Type 0
 IsClassLine t board text = IsNone (place_fault (numbering_of t) board)
     × IsSomeAnd (value_at t (spot_of (numbering_of t) board)) (λ v. text ≡ class_line (class_of v))
 
--- the number that a DTZ table tells of a placement in a class
+-- the number of a placement in a class in a DTZ table
 abbrev pub IsNumberLine : Contents → Board → Class → List ℕ → Type 0
 IsNumberLine t board class text = IsNone (place_fault (numbering_of t) board)
     × IsSomeAnd (value_at t (spot_of (numbering_of t) board)) (λ v. (number : ℕ)
@@ -106,8 +106,8 @@ placement_line board = mover_word board.mover ++ (men_words board.placed_men ++ 
 
 -- ---- all actions
 
--- This text answers an action on a table's part and side. What `show` prints behind the first three lines is left to
--- tests. Words that tell no placement have no answer.
+-- This text is the answer to an action on a table's part and side. What `show` prints after the first three lines
+-- is left to tests. Words that make no placement have no answer.
 abbrev pub IsAnswer : Action → ℕ → ℕ → Shown → List ℕ → Type 0
 IsAnswer Check part side t text = text ≡ codes "ok " ++ number_line (length (file_bytes t))
 IsAnswer Show part side t text = (rest : List ℕ) × (text ≡ front_lines t ++ rest)

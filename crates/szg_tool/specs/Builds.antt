@@ -28,7 +28,7 @@ abbrev pub IsBuiltIn : Packing → Dump → Contents → Type 0
 IsBuiltIn (Fixed sizes) dump t = IsBuilt (plan_in (Fixed sizes) dump) dump.lists t
 IsBuiltIn Small dump t = IsBuiltSmall (plan_in Small dump) dump.lists t
 
--- Just a text that tells this dump was taken from the reader.
+-- Exactly the text of this dump was taken from the reader.
 pub record IsTextOf {R : Type 0} (reading : input.Ghosts R) (reader reader' : R) (dump : Dump) : Type 0 where
   pub bytes : List ℕ
   pub taken : Takes reading reader reader' bytes 1
@@ -52,7 +52,7 @@ IsTextRefusal v (why.Line number fault) coming = IsLineFault v number fault × E
 IsTextRefusal v (why.Build fault) coming = IsPlanFault v fault
 IsTextRefusal v refusal coming = ⊥
 
--- The bytes that were taken tell no dump, and the refusal is their verdict's.
+-- The bytes that were taken are no dump, and the refusal is their verdict's.
 pub record IsRefusedText {R : Type 0} (reading : input.Ghosts R) (reader reader' : R) (refusal : Refusal) : Type 0 where
   pub bytes : List ℕ
   pub taken : Takes reading reader reader' bytes 1
@@ -68,6 +68,6 @@ pub record IsRefusedDump {R : Type 0} (reading : input.Ghosts R) (packing : Pack
   pub text : IsTextOf reading reader reader' dump
   pub refused : IsRefusedPlan (plan_in packing dump) dump.lists refusal
 
--- No table was built: the text is refused, or what it tells.
+-- No table was built: the text is refused, or its dump.
 abbrev pub IsUnmade : {R : Type 0} → input.Ghosts R → Packing → R → R → Refusal → Type 0
 IsUnmade reading packing reader reader' refusal = IsRefusedText reading reader reader' refusal ⊎ IsRefusedDump reading packing reader reader' refusal

@@ -7,3 +7,5 @@ pub mod RefusalLines
 pub mod Requests
 pub mod Refusals
 pub mod OnFiles
+pub mod Asked
+pub mod Statuses

@@ -31,7 +31,7 @@ man_told word = None
 abbrev pub is_told : List ℕ → Bool
 is_told word = is_some (man_told word)
 
--- the man of a word that tells one
+-- the man of a word, if it is one
 abbrev pub standing_of : List ℕ → PlacedMan
 standing_of word = unwrap_or (man_told word) (King, White, 0)
 
@@ -40,7 +40,7 @@ abbrev pub board_unless : Option PlacementFault → Board → Result Board Refus
 board_unless None board = Ok board
 board_unless (Some fault) board = Err (why.Placement fault)
 
--- all men that words tell
+-- the men of all words
 abbrev pub standing_in : List (Bor (List ℕ)) → List PlacedMan
 standing_in words = map (λ word. standing_of word.now) words
 
@@ -57,15 +57,15 @@ abbrev pub letter_shown : Man → Color → ℕ
 letter_shown man White = letter_of man
 letter_shown man Black = to_ascii_lowercase (letter_of man)
 
--- whether this man stands on this square
+-- whether this man is on this square
 abbrev pub is_standing : Man → Color → ℕ → PlacedMan → Bool
 is_standing kind color square man = is_man man.0 kind && (is_color man.1 color && man.2 == square)
 
--- a man's word, behind a space: his letter, the letter of the file and the number of the rank
+-- a man's word, after a space: his letter, the letter of the file and the number of the rank
 abbrev pub man_word : Man → Color → ℕ → List ℕ
 man_word kind color square = codes " " ++ (encode_utf8 (letter_shown kind color) ++ (encode_utf8 (97 + square % 8) ++ decimal (1 + square / 8)))
 
--- the word of this man on a square, where he stands there
+-- the word of this man on a square, if he is there
 abbrev pub square_word : List PlacedMan → Man → Color → ℕ → List ℕ
 square_word placed_men kind color square = if list_any (is_standing kind color square) placed_men then man_word kind color square else []
 

@@ -1,4 +1,4 @@
--- What the outcomes of a run are told by.
+-- What clauses say of the outcomes of a run.
 use Rattle.std.specs.Prelude.{ℕ}
 use Rattle.szg_tool.specs.declared.outcome.Outcome.{Outcome}
 use Rattle.szg_tool.specs.declared.outcome.Outcome.TheVariants.{Done, Refused, Words, Device, Memory}

@@ -1,4 +1,4 @@
--- The line that tells a refusal.
+-- The line of a refusal.
 use Rattle.std.specs.Prelude.{ℕ, List, [], ◌∷◌, ◌++◌, codes, decimal}
 use Rattle.szg_values.specs.declared.NameFault.{NameFault}
 use Rattle.szg_values.specs.declared.NameFault.TheVariants as names

@@ -40,7 +40,7 @@ pub record IsAnswered {R W : Type 0} (reading : input.Ghosts R) (writing : outpu
   pub answers : IsAnswer request.action request.part request.side table text
   pub given : Gives writing writer writer' text 0
 
--- Why a request is refused before anything is read: its name is none, or its words tell no placement.
+-- Why a request is refused before anything is read: its name is none, or its words make no placement.
 abbrev pub unplaced_refusal : Action → Option Refusal
 unplaced_refusal (Unplaced refusal) = Some refusal
 unplaced_refusal action = None
@@ -49,8 +49,8 @@ abbrev pub first_check : Result Sides NameFault → Action → Option Refusal
 first_check (Err fault) action = Some (why.Name fault)
 first_check (Ok material) action = unplaced_refusal action
 
--- The words tell all that is asked, the bytes that were taken are no table of that name and kind, and the refusal is the
--- verdict's.
+-- The words are a whole request, the bytes that were taken are no table of that name and kind, and the refusal is
+-- the verdict's.
 pub record IsRefusedFile {R : Type 0} (reading : input.Ghosts R) (request : Request) (reader reader' : R) (refusal : Refusal) : Type 0 where
   pub placed : unplaced_refusal request.action ≡ None
   pub material : Sides
@@ -67,7 +67,7 @@ abbrev pub IsUnread : {R : Type 0} → input.Ghosts R → Request → R → R �
 IsUnread reading request reader reader' refusal =
     ((first_check (parsed request.name.now) request.action ≡ Some refusal) × (reader' ≡ reader)) ⊎ IsRefusedFile reading request reader reader' refusal
 
--- The words tell all that is asked, a table was read, and what is asked of it is refused.
+-- The words are a whole request, a table was read, and the request is refused for it.
 pub record IsRefusedOf {R : Type 0} (reading : input.Ghosts R) (request : Request) (reader reader' : R) (refusal : Refusal) : Type 0 where
   pub placed : unplaced_refusal request.action ≡ None
   pub table : Shown

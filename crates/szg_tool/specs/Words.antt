@@ -1,4 +1,4 @@
--- What the words of a command line tell.
+-- What the words of a command line mean.
 use Rattle.std.specs.Prelude.{ℕ, Bool, false, ◌&&◌, ◌||◌, ◌==◌, ◌^◌, nat_le, nat_lt, List, [], length, codes, Option, Some, None, option_and_then, unwrap_or, if◌then◌else◌}
 use Rattle.std.specs.Char.{is_ascii_digit}
 use Rattle.std.specs.List.{list_all}
@@ -22,7 +22,7 @@ word_of found argument = unwrap_or (first_value found argument) []
 
 -- ---- numbers
 
--- the number below 2^64 that decimal digits tell, leading zeros among them
+-- the number below 2^64 of decimal digits, leading zeros allowed
 unfoldable pub number_told : List ℕ → Option ℕ
 number_told text =
     if nat_lt 0 (length text) && (list_all is_ascii_digit text && nat_lt (digits_value 10 text) (2 ^ 64)) then Some (digits_value 10 text) else None

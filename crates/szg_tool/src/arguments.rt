@@ -119,6 +119,18 @@ pub const ALLOW_TRAILING: Argument = Argument {
     help: "Accepts files in which more bytes follow the table",
 };
 
+/// The form of a report on files.
+pub const REPORT: Argument = Argument {
+    id: "format",
+    form: Form::Option {
+        value: "FORMAT",
+        default: "text",
+    },
+    values: ValueParser::Names(&["text", "tsv", "json"]),
+    is_number: false,
+    help: "text: a line for each file and a summary; for programs tsv or json: a record for each{n}file, with path, verdict, bytes, reason, offset and seconds",
+};
+
 /// The table's kind.
 pub const KIND: Argument = Argument {
     id: "KIND",
@@ -251,7 +263,7 @@ pub const ROUNDS: Argument = Argument {
     help: "The most pairs that a dictionary gets, 0 to 4000",
 };
 
-/// Whether the steps to a value are told.
+/// Whether the steps to a value are printed.
 pub const STEPS: Argument = Argument {
     id: "steps",
     form: Form::Flag,

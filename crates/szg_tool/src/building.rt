@@ -14,7 +14,7 @@ use szg_build::{BuildFault, Dump, DumpReadFault, Plan, SmallPlan, build, build_s
 use szg_file::{Table, write};
 use szg_io::{Input, Output};
 
-/// Reads a dump, builds its table and writes the table's file, or tells why not; where it is refused nothing was
+/// Reads a dump, builds its table and writes the table's file, or returns why not; where it is refused nothing was
 /// written.
 pub fn build_told<R: Input, W: Output>(
     alloc: Global,

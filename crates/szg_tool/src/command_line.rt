@@ -2,7 +2,7 @@
 
 use crate::arguments::{
     ALLOW_TRAILING, Argument, BLOCK, CLASS, DUMP, FILE, FILES, FORM, INDEX, KIND, KIND_GIVEN, MEN,
-    MOVER, NAME, NAME_GIVEN, OUTPUT, PART, PLAN, ROUNDS, SIDE, SPAN, STEPS,
+    MOVER, NAME, NAME_GIVEN, OUTPUT, PART, PLAN, REPORT, ROUNDS, SIDE, SPAN, STEPS,
 };
 use clap::Command;
 use std::alloc::{AllocError, Global};
@@ -46,7 +46,7 @@ static OF_OUTCOME: [Argument; 5] = [NAME, KIND, MOVER, MEN, CLASS];
 static OF_BUILD: [Argument; 4] = [PLAN, BLOCK, SPAN, ROUNDS];
 
 /// Those of the check of files.
-static OF_FILES: [Argument; 4] = [FILES, ALLOW_TRAILING, NAME_GIVEN, KIND_GIVEN];
+static OF_FILES: [Argument; 5] = [FILES, REPORT, ALLOW_TRAILING, NAME_GIVEN, KIND_GIVEN];
 
 /// Those of the description of a file.
 static OF_FILE: [Argument; 3] = [FILE, NAME_GIVEN, KIND_GIVEN];
@@ -82,7 +82,7 @@ pub enum CommandForm {
     Files,
 }
 
-/// What stands below the program's help.
+/// The text below the program's help.
 const AFTER_HELP: &str =
     "Example: szg get KQvK wdl 31331 --side 1 < KQvK.rtbw{n}{n}A FILE that ends in .rtbw or .rtbz takes the place of NAME and KIND, as in szg get KQvK.rtbw 31331{n}and szg check *.rtbw; its options are in szg get KQvK.rtbw --help. szg build takes a dump's file.{n}{n}The status is 0 when done; 1 when refused, and a line on standard output says why; 2 for{n}wrong words and for help; 3 when standard input or output failed; 4 when out of memory.";
 

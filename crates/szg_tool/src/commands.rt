@@ -30,7 +30,7 @@ use szg_values::Material;
 /// Runs a command line: `words` begins with the program's name. The table's file, for `build` the dump, is read from
 /// `reader`, the answer is written to `writer`.
 ///
-/// `Refused` where the name, a man, the placement, the file, the dump, the part, the index, the place or the number is
+/// `Refused` where the name, a man, the placement, the file, the dump, the part, the index, the position or the number is
 /// refused, by a line of text. `Words` where the words make no command, or ask for help, and then nothing is read or
 /// written. `Device` only where the reader or the writer failed. `Memory` where a growth was refused.
 pub fn run<R: Input, W: Output>(
@@ -42,7 +42,7 @@ pub fn run<R: Input, W: Output>(
     // A request was answered: just the file of an accepted table was read, and just its answer was written. Or a table
     // was built: just the text of a dump was read, and just the file of an accepted table that is built of it was written.
     ensures told { OnDone result ((task : Task) × IsCarriedOut R.Input W.Output task reader.old reader.new writer.old writer.new) }
-    // It was refused: it meets a refusal, and just the line that tells this one was written.
+    // It was refused: it meets a refusal, and just this refusal's line was written.
     ensures refused { OnRefused result ((task : Task) × IsRefusedWith R.Input W.Output task reader.old reader.new writer.old writer.new) }
     ensures words { OnWords result ((reader.new ≡ reader.old) × (writer.new ≡ writer.old)) }
     // Whatever the outcome: bytes were taken with at most 1,001 calls for each of them and for one more.
@@ -90,7 +90,7 @@ pub fn refuse<W: Output>(alloc: Global, refusal: Refusal, writer: &mut W) -> Out
     }
 }
 
-/// Does what is asked for, or tells why not; where it is refused nothing was written.
+/// Carries a task out, or returns why not; where it is refused nothing was written.
 pub fn carry_out<R: Input, W: Output>(
     alloc: Global,
     task: &Task,
@@ -108,7 +108,7 @@ pub fn carry_out<R: Input, W: Output>(
     }
 }
 
-/// Reads the table and answers the request, or tells why not; where it is refused nothing was written.
+/// Reads the table and writes the request's answer, or returns why not; where it is refused nothing was written.
 fn answer<R: Input, W: Output>(
     alloc: Global,
     request: &Request,
@@ -152,7 +152,7 @@ fn read_asked<R: Input>(alloc: Global, request: &Request, reader: &mut R) -> Res
     }
 }
 
-/// Answers the request on a table.
+/// Writes the answer to the request on a table.
 fn tell<W: Output>(
     alloc: Global,
     table: &Table,

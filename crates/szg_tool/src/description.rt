@@ -39,7 +39,7 @@ fn kind_word(kind: Kind) -> &'static str
     }
 }
 
-/// The lines behind the file's length.
+/// The lines after the file's length.
 fn other_lines(alloc: Global, table: &Table) -> Result<String, AllocError> {
     let mut text = String::new(alloc);
     writeln!(text, "flags {}", table.byte4())?;
@@ -69,7 +69,7 @@ fn add_part(
     writeln!(text, "part {letter} order {order} men {men}")
 }
 
-/// A line for each subtable, and one for each map behind its part's.
+/// A line for each subtable, and one for each map after its part's.
 fn add_subtables(table: &Table, text: &mut String) -> Result<(), AllocError> {
     'slots: for slot in 0..8u8 {
         let part = slot / 2;

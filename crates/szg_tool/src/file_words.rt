@@ -1,4 +1,6 @@
 //! Command lines that name files.
+ghost use Rattle.std.specs.Prelude.{◌≡◌, option_map};
+ghost use Rattle.szg_tool.specs.Asked.{report_format_told};
 
 use crate::command_line::CommandForm;
 use crate::numbers::NumberFault;
@@ -9,7 +11,7 @@ use crate::request::{
 use clap::error::ErrorKind;
 use clap::{ArgMatches, Error};
 use std::alloc::{AllocError, Global};
-use szg_named::{CheckOptions, Naming, named_as, named_by};
+use szg_named::{CheckOptions, Naming, ReportFormat, named_as, named_by};
 
 /// What a command line that names files asks for.
 #[derive(Drop)]
@@ -56,6 +58,7 @@ fn is_file_option(word: &str) -> bool {
         || word.starts_with("--name")
         || word.starts_with("--kind")
         || word.starts_with("--allow-trailing")
+        || word.starts_with("--format")
 }
 
 /// Whether the option takes the next word as its value, in each form of `build`.
@@ -132,6 +135,17 @@ fn naming_in<'a>(chosen: &ArgMatches<'a>) -> Naming<'a> {
     }
 }
 
+/// The form of a report; for a reader if there is no word.
+fn report_format_of(word: Option<&str>) -> ReportFormat
+    ensures { result ≡ report_format_told (option_map (λ text. text.now) word.entry) }
+{
+    match word {
+        Some("tsv") => ReportFormat::Tsv,
+        Some("json") => ReportFormat::Json,
+        _ => ReportFormat::Text,
+    }
+}
+
 /// The job that a command and its words make.
 fn job_in<'a>(
     alloc: Global,
@@ -154,6 +168,7 @@ fn check_in<'a>(alloc: Global, chosen: &ArgMatches<'a>) -> Result<FileJob<'a>, W
     let options = CheckOptions {
         naming: naming_in(chosen),
         allow_trailing: chosen.get_flag("allow-trailing"),
+        format: report_format_of(chosen.get_str("format")),
     };
     let mut paths = Vec::new(alloc);
     'paths: for path in chosen.get_strs("FILE").unwrap_or(&[]) {

@@ -1,9 +1,9 @@
 //! The commands that look values up.
 
-ghost use Rattle.std.specs.Prelude.{◌≡◌, ℕ, ◌<◌, List, ◌++◌, flat_map, Some, None, IsSome, IfSome, IfErr, OnOk, OnErr, IfOk, Err, IsErrOf, string_bytes};
+ghost use Rattle.std.specs.Prelude.{◌≡◌, ℕ, ◌<◌, List, ◌++◌, flat_map, Some, None, IsSome, IsSomeAnd, IfSome, IfErr, OnOk, OnErr, IfOk, Err, IsErrOf, replicate, string_bytes};
 ghost use Rattle.szg_io.specs.Device.{HasFailed};
 ghost use Rattle.szg_io.specs.Moved.{Gives};
-ghost use Rattle.szg_file.specs.Values.{subtable_at};
+ghost use Rattle.szg_file.specs.Values.{subtable_at, values_of};
 ghost use Rattle.szg_tool.specs.Answers.{IsAnswer, counted_line, number_line};
 ghost use Rattle.szg_tool.specs.Refusals.{IsRefused, index_refusal, size_at};
 ghost use Rattle.szg_tool.specs.declared.refusal.Refusal.{Refusal};
@@ -13,9 +13,10 @@ use crate::request::{Action, Request};
 use crate::saying::say;
 use itoa::Buffer;
 use std::alloc::{AllocError, Global};
-use szg_block::Steps;
+use szg_block::{Steps, Sub};
 use szg_file::Table;
 use szg_io::Output;
+use szg_values::Kind;
 
 /// How many bytes of values are written at a time, or a little more.
 const PIECE: usize = 65536;
@@ -93,11 +94,41 @@ pub fn tell_values<W: Output>(
     ensures device { IsErrOf result Stop.Device → HasFailed (W.failures writer.old) (W.failures writer.new) (W.interrupted writer.new) }
     ensures refused { (refusal : Refusal) → IsErrOf result (Stop.Refused refusal) → (writer.new ≡ writer.old) × IsRefused Action.Values request.now.part request.now.side table.now.contents refusal }
 {
-    if table.size(request.part, request.side).is_none() {
+    let Some(size) = table.size(request.part, request.side) else {
         return Err(Stop::Refused(Refusal::Part));
+    };
+    if let Some(value) = constant_of(table, request.part, request.side) {
+        return say_same(alloc, size, value, writer);
     }
     let values = table.values(alloc, request.part, request.side)?;
     say_lines(alloc, &values, writer)
+}
+
+/// The value of a constant subtable. None for another subtable.
+fn constant_of(table: &Table, part: u8, side: u8) -> Option<u16>
+    ensures { IfSome result (λ value. IsSomeAnd (subtable_at table.now.contents part side) (λ found. values_of table.now.contents.kind found ≡ replicate found.0.size value)) }
+{
+    match table.sub(part, side) {
+        Some(Sub::Constant { byte, .. }) => match table.kind() {
+            Kind::Wdl => Some(u16::from(*byte)),
+            Kind::Dtz => Some(0),
+        },
+        _ => None,
+    }
+}
+
+/// Writes a value `count` times, each time on a line, in large pieces. It takes no memory for the values.
+fn say_same<W: Output>(alloc: Global, count: u64, value: u16, writer: &mut W) -> Result<(), Stop>
+    ensures given { OnOk result (Gives W.Output writer.old writer.new (flat_map number_line (replicate count value)) 0) }
+    ensures device { IsErrOf result Stop.Device → HasFailed (W.failures writer.old) (W.failures writer.new) (W.interrupted writer.new) }
+    ensures only { (refusal : Refusal) → IsErrOf result (Stop.Refused refusal) → ⊥ }
+{
+    let mut text = Vec::new(alloc);
+    'values: for _done in 0..count {
+        add_line(&mut text, value)?;
+        say_piece(writer, &mut text)?;
+    }
+    say(writer, &text)
 }
 
 /// Writes each value on a line, in large pieces.

@@ -1,9 +1,10 @@
 //! The program `szg`: checks, shows, copies, dumps and builds Syzygy table files, and looks values and placements up in them.
 #![tactic(auto)]
 
-ghost use Rattle.std.specs.Prelude.{◌≡◌, ◌⊎◌, IfOk, map, string_bytes};
+ghost use Rattle.std.specs.Prelude.{◌≡◌, ◌⊎◌, false, true, IfErr, IfOk, OnErr, OnOk, map, string_bytes};
 ghost use Rattle.std.specs.Process.{exit_status};
 ghost use Rattle.szg_tool.specs.Outcome.{OnDone, OnRefused, status_of};
+ghost use Rattle.szg_tool.specs.Statuses.{HasStatus, stop_status, tally_status};
 
 mod arguments;
 mod building;
@@ -38,7 +39,7 @@ use szg_named::{Stop, Tally, fault_text};
 /// Runs the words of the command line on the standard streams.
 ///
 /// The status is 0 where the command was carried out, 1 where it was refused (the refusal is printed), 2 for a fault
-/// of words and for help (both are told on standard error), 3 where a stream failed, and 4 for want of memory.
+/// of words and for help (both are printed on standard error), 3 where a stream failed, and 4 for want of memory.
 fn main(rt: HostRuntime) -> ExitCode {
     match words_given(&rt) {
         Ok(words) => run_given(&rt, &words),
@@ -88,7 +89,10 @@ fn texts_of<'a>(alloc: Global, words: &'a [String]) -> Result<Vec<&'a str>, Allo
 }
 
 /// The status of a check of files: 1 where one is refused, else 3 where one can't be read.
-fn files_status(rt: &HostRuntime, told: Result<Tally, Stop>) -> ExitCode {
+fn files_status(rt: &HostRuntime, told: Result<Tally, Stop>) -> ExitCode
+    ensures checked { IfOk told (λ tally. exit_status result ≡ tally_status tally) }
+    ensures stopped { IfErr told (λ stop. (exit_status result ≡ stop_status stop) ⊎ (exit_status result ≡ 3)) }
+{
     match told {
         Ok(tally) if tally.refused > 0 => ExitCode::from(1),
         Ok(tally) if tally.unread > 0 => ExitCode::from(3),
@@ -99,7 +103,9 @@ fn files_status(rt: &HostRuntime, told: Result<Tally, Stop>) -> ExitCode {
 }
 
 /// The status where a file failed: the file and the reason are printed on standard error.
-fn failure_status(rt: &HostRuntime, failure: FileFailure<'_>) -> ExitCode {
+fn failure_status(rt: &HostRuntime, failure: FileFailure<'_>) -> ExitCode
+    ensures { (exit_status result ≡ 3) ⊎ (exit_status result ≡ 4) }
+{
     let FileFailure { path, fault } = failure;
     let Ok(reason) = fault_text(rt.alloc(), &fault) else {
         return status_of(rt, &Outcome::Memory);
@@ -109,7 +115,10 @@ fn failure_status(rt: &HostRuntime, failure: FileFailure<'_>) -> ExitCode {
 }
 
 /// The status of a run. Nothing is printed if the reader of the output closed it.
-fn ending_status(rt: &HostRuntime, ending: Ending<'_>, is_closed: bool) -> ExitCode {
+fn ending_status(rt: &HostRuntime, ending: Ending<'_>, is_closed: bool) -> ExitCode
+    ensures closed { (is_closed ≡ true) → exit_status result ≡ 3 }
+    ensures open { (is_closed ≡ false) → HasStatus ending.entry (exit_status result) }
+{
     if is_closed {
         return ExitCode::from(Outcome::Device.status());
     }
@@ -121,6 +130,17 @@ fn ending_status(rt: &HostRuntime, ending: Ending<'_>, is_closed: bool) -> ExitC
         Ending::Failed(failure) => failure_status(rt, failure),
         Ending::Device => status_of(rt, &Outcome::Device),
         Ending::Memory => status_of(rt, &Outcome::Memory),
+    }
+}
+
+/// The ending of a run after the last flush of the output: a device's failure if the flush failed.
+fn finish<'a>(ending: Ending<'a>, flushed: io::Result<()>) -> Ending<'a>
+    ensures done { OnOk flushed (result ≡ ending.entry) }
+    ensures failed { OnErr flushed (result ≡ Ending.Device) }
+{
+    match flushed {
+        Ok(()) => ending,
+        Err(_) => Ending::Device,
     }
 }
 
@@ -170,8 +190,5 @@ fn run_on_streams<'a>(rt: &'a HostRuntime, texts: &'a [&'a str]) -> (Ending<'a>,
         Some(error) => error.kind() == io::ErrorKind::BrokenPipe,
         None => false,
     };
-    match flushed {
-        Ok(()) => (ending, is_closed),
-        Err(_) => (Ending::Device, is_closed),
-    }
+    (finish(ending, flushed), is_closed)
 }

@@ -22,7 +22,7 @@ static KINDS: [Man; 6] = [
     Man::Pawn,
 ];
 
-/// The placement that these words tell, with this mover.
+/// Parses the placement of these words, with this mover.
 ///
 /// `Man` where a word is no man's, else `Placement` where the men make none.
 #[tactic(auto, unfolding(crate::specs::Men::placement_told))]
@@ -42,21 +42,21 @@ pub fn placement_in(words: &[&str], mover: Color) -> Result<Placement, Refusal>
     }
 }
 
-/// Whether each word tells a man.
+/// Returns whether each word is a man's.
 fn are_told(words: &[&str]) -> bool
     ensures { result ≡ list_all (λ word. is_told word.now) words.now }
 {
     words.iter().all(|word| is_told(word))
 }
 
-/// Whether a word tells a man.
+/// Returns whether a word is a man's.
 fn is_told(word: &str) -> bool
     ensures { result ≡ is_told word.now }
 {
     man_in(word).is_some()
 }
 
-/// The men that words tell.
+/// Parses the men of words.
 fn men_in(words: &[&str]) -> ArrayVec<(Man, Color, Square), MAX_MEN>
     requires few { length words.now ≤ 6 }
     requires told { IsTrue (list_all (λ word. is_told word.now) words.now) }
@@ -69,7 +69,7 @@ fn men_in(words: &[&str]) -> ArrayVec<(Man, Color, Square), MAX_MEN>
     men
 }
 
-/// The man of a word that tells one.
+/// Parses the man of a word that is one.
 fn standing_of(word: &str) -> (Man, Color, Square)
     requires { IsTrue (is_told word.now) }
     ensures { result ≡ standing_of word.now }
@@ -150,14 +150,14 @@ fn add_kind(
     Ok(())
 }
 
-/// Whether a man of a kind and a colour stands on the square of a number.
+/// Returns whether a man of a kind and a colour is on the square of a number.
 fn stands(men: &[(Man, Color, Square)], kind: Man, color: Color, number: u8) -> bool
     ensures { result ≡ list_any (is_standing kind color number) men.now }
 {
     men.iter().any(|man| man.0 == kind && man.1 == color && man.2.number() == number)
 }
 
-/// Adds a man's word, behind a space.
+/// Appends a space and a man's word.
 fn add_man(kind: Man, color: Color, number: u8, text: &mut String) -> Result<(), AllocError>
     requires { number < 64 }
     ensures { OnOk result (string_bytes text.new ≡ string_bytes text.old ++ man_word kind color number) }

@@ -70,7 +70,7 @@ pub struct NumberFault<'a> {
     pub word: &'a str,
 }
 
-/// The number that the word of an argument tells.
+/// Parses the number of an argument's word. Errors: the word, if it isn't one of the argument's numbers.
 pub fn number_of<'a>(
     chosen: &ArgMatches<'a>,
     argument: NumberArgument,
@@ -87,7 +87,7 @@ pub fn number_of<'a>(
     }
 }
 
-/// The number that decimal digits tell, leading zeros among them; none for another text, and none from 2^64 on.
+/// Parses decimal digits (leading zeros allowed). None if any byte is no digit or the number is 2^64 or more.
 fn number(text: &str) -> Option<u64>
     ensures { result ≡ number_told text.now }
 {

@@ -17,6 +17,7 @@ use crate::refusal::{Refusal, Stop};
 use crate::request::Task;
 use std::alloc::Global;
 use std::rt::Files;
+use std::time::Clock;
 use szg_file::Ahead;
 use szg_files::{Draft, FileFault, FileSystem, Published, Reasons};
 use szg_io::{Input, Output};
@@ -261,13 +262,14 @@ fn run_task<'a, R: Input, W: Output, S: FileSystem, D: Files>(
     }
 }
 
-/// Runs a command line: on the files of a system where it names these, else on the reader.
+/// Runs a command line: on the files of a system where it names these, else on the reader. Of the machine it writes files,
+/// and reads the clock.
 #[tactic(auto, using(crate::proofs::Endings::ends_well))]
-pub fn run_words<'a, R: Input, W: Output, S: FileSystem, D: Files>(
+pub fn run_words<'a, R: Input, W: Output, S: FileSystem, D: Files + Clock>(
     alloc: Global,
     words: &'a [&'a str],
     system: &mut S,
-    files: &'a D,
+    machine: &'a D,
     reader: &mut R,
     writer: &mut W,
 ) -> Ending<'a>
@@ -281,14 +283,15 @@ where
     ensures ending { EndsWell S.content S.failures S.File.Input R.Input W.Output result system.old system.new reader.old reader.new writer.old writer.new }
 {
     if let Some(paths) = files_asked(words) {
-        return Ending::Checked(check_files(alloc, system, CheckOptions::plain(), paths, writer));
+        let options = CheckOptions::plain();
+        return Ending::Checked(check_files(alloc, system, machine, options, paths, writer));
     }
     if !names_files(words) {
         return Ending::Words(run(alloc, words, reader, writer));
     }
     match parse_files(alloc, words) {
         Ok(FileJob::Check { options, paths }) => {
-            Ending::Checked(check_files(alloc, system, options, &paths, writer))
+            Ending::Checked(check_files(alloc, system, machine, options, &paths, writer))
         }
         Ok(
             FileJob::Run {
@@ -296,7 +299,9 @@ where
                 source,
                 target,
             },
-        ) => run_task(alloc, &task, source, target, system, files, reader, writer),
+        ) => run_task(
+            alloc, &task, source, target, system, machine, reader, writer,
+        ),
         Err(error) => Ending::Words(words_outcome(error)),
     }
 }

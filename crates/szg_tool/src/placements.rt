@@ -1,4 +1,5 @@
-//! Answers on placements: where a table tells of one, what it tells of it, and the placement of an index.
+//! The lines for placements: the index of one, the class or number that a table has for it, and the placement of an
+//! index.
 
 ghost use Rattle.std.specs.Prelude.{◌≡◌, Some, IfOk, IsErrOf, string_bytes};
 ghost use Rattle.szg_tool.specs.Answers.{IsAnswer, IsClassLine, IsNumberLine, IsOutcomeLine, IsSpotLine, class_line, mover_word, part_letter, placement_line, spot_line};
@@ -14,7 +15,7 @@ use szg_file::Table;
 use szg_place::{ProbeFault, Spot, index_of, placement_of, probe_dtz, probe_wdl};
 use szg_values::{Color, Kind, Placement};
 
-/// The line that tells where a table has a placement.
+/// Returns the line of a placement's part, side and index.
 pub fn spot_answer(alloc: Global, table: &Table, placement: &Placement) -> Result<String, Stop>
     ensures told { IfOk result (λ line. IsSpotLine table.now.contents placement.now (string_bytes line)) }
     ensures refused { (refusal : Refusal) → IsErrOf result (Stop.Refused refusal) → spot_refusal table.now.contents placement.now ≡ Some refusal }
@@ -46,7 +47,7 @@ fn part_letter(part: u8) -> &'static str
     }
 }
 
-/// The line of what a table tells of a placement: a WDL table its class, a DTZ table its number in a class.
+/// Returns the line of a placement's value: of a WDL table its class, of a DTZ table its number in a class.
 pub fn outcome_answer(
     alloc: Global,
     table: &Table,
@@ -63,7 +64,7 @@ pub fn outcome_answer(
     }
 }
 
-/// The line of the class that a WDL table tells of a placement.
+/// Returns the line of a placement's class in a WDL table.
 fn class_answer(alloc: Global, table: &Table, placement: &Placement) -> Result<String, Stop>
     requires { table.now.contents.kind ≡ Kind.Wdl }
     ensures told { IfOk result (λ line. IsClassLine table.now.contents placement.now (string_bytes line)) }
@@ -86,7 +87,7 @@ fn class_line(alloc: Global, class: Option<i8>) -> Result<String, AllocError>
     }
 }
 
-/// The line of the number that a DTZ table tells of a placement in a class.
+/// Returns the line of a placement's number in a DTZ table, in a class.
 fn number_answer(
     alloc: Global,
     table: &Table,

@@ -13,11 +13,11 @@ pub enum Refusal {
     Man,
     /// The men make no placement.
     Placement(PlacementFault),
-    /// The bytes are no table's: the place and the reason.
+    /// The bytes are no table's: the offset and the reason.
     At(u64, Reason),
     /// A line, from 1, is none of a dump.
     Line(u64, DumpFault),
-    /// What the dump tells can't be built.
+    /// The dump is well-formed, and no table can be built of it.
     Build(BuildFault),
     /// The table has no such part or side.
     Part,

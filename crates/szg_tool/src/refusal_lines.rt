@@ -1,4 +1,4 @@
-//! The line that tells a refusal.
+//! The line of a refusal.
 ghost use Rattle.std.specs.Prelude.{◌≡◌, IfOk, string_bytes};
 ghost use Rattle.szg_tool.specs.RefusalLines.{build_word, dump_word, map_word, name_word, numbered_line, place_word, placement_word, reason_word, refusal_line, worded_line};
 
@@ -9,7 +9,7 @@ use szg_file::{MapFault, Reason};
 use szg_place::PlaceFault;
 use szg_values::{NameFault, PlacementFault};
 
-/// The line that tells a refusal.
+/// Returns the line of a refusal.
 pub fn refusal_line(alloc: Global, refusal: Refusal) -> Result<String, AllocError>
     ensures { IfOk result (λ line. string_bytes line ≡ refusal_line refusal) }
 {
@@ -123,7 +123,7 @@ fn build_word(fault: BuildFault) -> &'static str
     }
 }
 
-/// Why a table doesn't tell of a placement.
+/// Why a table has no index for a placement.
 fn place_word(fault: PlaceFault) -> &'static str
     ensures { result.now ≡ place_word fault }
 {

@@ -1,7 +1,9 @@
-ghost use Rattle.std.specs.Prelude.{◌≡◌, ◌⊎◌, IfOk, Some, codes, option_map};
+ghost use Rattle.std.specs.Prelude.{◌≡◌, ◌⊎◌, true, false, ℕ, List, IfOk, Some, codes, map, option_map};
 ghost use Rattle.clap.specs.Matches.{first_value, found_of};
+ghost use Rattle.clap.specs.declared.parser.matches.Found.{Found};
 ghost use Rattle.szg_tool.specs.Answers.{number_of_class, number_of_form};
-ghost use Rattle.szg_tool.specs.Words.{class_told, form_told, kind_told, mover_told, number_from, part_told, side_told, word_of};
+ghost use Rattle.szg_tool.specs.Asked.{IsActionOf, IsActionOnMen, IsPackingIn, IsRequestIn, IsRequestOn, IsTaskIn, action_of_men, action_told, look_up_told, names_men, words_of};
+ghost use Rattle.szg_tool.specs.Words.{is_word, class_told, form_told, kind_told, mover_told, number_from, part_told, side_told, word_of};
 
 use crate::command_line::{CommandForm, command_of, program};
 use crate::men::placement_in;
@@ -74,13 +76,13 @@ pub enum Action {
     Copy,
     /// The table as text.
     Dump(Form),
-    /// Where the table tells of a placement.
+    /// The index of a placement.
     Index(Placement),
-    /// What it tells of a placement, a DTZ table in a class.
+    /// The value of a placement, in a DTZ table in a class.
     Probe(Placement, Class),
     /// The placement of an index.
     Placement(u64),
-    /// The words tell no placement.
+    /// The words are no placement's.
     Unplaced(Refusal),
 }
 
@@ -132,8 +134,11 @@ const HINT: &str = "\n\nFor more information, try '--help'.\n";
 /// The letters of the parts.
 pub static PARTS: [&str; 4] = ["a", "b", "c", "d"];
 
-/// What a command line on the standard streams asks for.
-pub fn parse<'a>(alloc: Global, words: &'a [&'a str]) -> Result<Task<'a>, Error> {
+/// What a command line on the standard streams asks for. Which word is which argument's value, `clap` decides: the task is
+/// that of the command and the values that `clap` found.
+pub fn parse<'a>(alloc: Global, words: &'a [&'a str]) -> Result<Task<'a>, Error>
+    ensures { IfOk result (λ task. (command : List ℕ) × (found : Found) × IsTaskIn command found task) }
+{
     let words = if words.is_empty() { &ALONE[..] } else { words };
     let form = CommandForm::Streams;
     let matches = matches_of(alloc, words, form)?;
@@ -192,7 +197,7 @@ fn message_in(text: &str) -> Option<&str> {
     text.strip_prefix("error: ")?.strip_suffix(HINT)
 }
 
-/// What is told of a word that is none of its argument's numbers.
+/// Creates the error of a word that is none of its argument's numbers.
 pub fn number_error(
     alloc: Global,
     command: &str,
@@ -219,8 +224,20 @@ pub fn number_error(
 }
 
 /// Whether the words ask for a small plan.
-fn is_small(chosen: &ArgMatches<'_>) -> bool {
-    matches!(chosen.get_str("plan"), Some("small"))
+fn is_small(chosen: &ArgMatches<'_>) -> bool
+    ensures { result ≡ is_word (first_value (found_of chosen.now) (codes "plan")) (codes "small") }
+{
+    is_given(chosen.get_str("plan"), "small")
+}
+
+/// Whether there is this word.
+fn is_given(given: Option<&str>, word: &str) -> bool
+    ensures { result ≡ is_word (option_map (λ text. text.now) given.entry) word.now }
+{
+    match given {
+        Some(text) => text == word,
+        None => false,
+    }
 }
 
 /// Returns the first number of a fixed plan that is given with a small plan.
@@ -271,7 +288,9 @@ pub fn usage_error(
 }
 
 /// The task that a command and its words make.
-fn task_in<'a>(command: &str, chosen: &ArgMatches<'a>) -> Result<Task<'a>, NumberFault<'a>> {
+fn task_in<'a>(command: &str, chosen: &ArgMatches<'a>) -> Result<Task<'a>, NumberFault<'a>>
+    ensures { IfOk result (λ task. IsTaskIn command.now (found_of chosen.now) task) }
+{
     if command == "build" {
         return Ok(Task::Build(packing_in(chosen)?));
     }
@@ -279,14 +298,16 @@ fn task_in<'a>(command: &str, chosen: &ArgMatches<'a>) -> Result<Task<'a>, Numbe
 }
 
 /// Returns the packing that the words ask for.
-pub fn packing_in<'a>(chosen: &ArgMatches<'a>) -> Result<Packing, NumberFault<'a>> {
+pub fn packing_in<'a>(chosen: &ArgMatches<'a>) -> Result<Packing, NumberFault<'a>>
+    ensures { IfOk result (λ packing. IsPackingIn (found_of chosen.now) packing) }
+{
     if is_small(chosen) {
         return Ok(Packing::Small);
     }
     Ok(Packing::Fixed(sizes_in(chosen)?))
 }
 
-/// The sizes that the words tell.
+/// Parses the numbers of a fixed plan.
 pub fn sizes_in<'a>(chosen: &ArgMatches<'a>) -> Result<Sizes, NumberFault<'a>>
     ensures block { IfOk result (λ sizes. number_from 5 10 (word_of (found_of chosen.now) (codes "block")) ≡ Some sizes.block_bits) }
     ensures span { IfOk result (λ sizes. number_from 1 16 (word_of (found_of chosen.now) (codes "span")) ≡ Some sizes.span_bits) }
@@ -305,6 +326,7 @@ fn request_in<'a>(command: &str, chosen: &ArgMatches<'a>) -> Result<Request<'a>,
     ensures kind { IfOk result (λ request. request.kind ≡ kind_told (first_value (found_of chosen.now) (codes "KIND"))) }
     ensures part { IfOk result (λ request. request.part ≡ part_told (first_value (found_of chosen.now) (codes "part"))) }
     ensures side { IfOk result (λ request. side_told command.now (found_of chosen.now) ≡ Some request.side) }
+    ensures action { IfOk result (λ request. IsActionOf command.now (found_of chosen.now) request.action) }
 {
     let name = chosen.get_str("NAME").unwrap_or("");
     request_on(command, chosen, name, kind_of(chosen.get_str("KIND")))
@@ -321,6 +343,7 @@ pub fn request_on<'a>(
     ensures kind { IfOk result (λ request. request.kind ≡ kind) }
     ensures part { IfOk result (λ request. request.part ≡ part_told (first_value (found_of chosen.now) (codes "part"))) }
     ensures side { IfOk result (λ request. side_told command.now (found_of chosen.now) ≡ Some request.side) }
+    ensures action { IfOk result (λ request. IsActionOf command.now (found_of chosen.now) request.action) }
 {
     let action = action_in(command, chosen)?;
     let side = side_in(command, chosen)?;
@@ -344,35 +367,66 @@ fn side_in<'a>(command: &str, chosen: &ArgMatches<'a>) -> Result<u8, NumberFault
 }
 
 /// What a command asks of a table.
-fn action_in<'a>(command: &str, chosen: &ArgMatches<'a>) -> Result<Action, NumberFault<'a>> {
+fn action_in<'a>(command: &str, chosen: &ArgMatches<'a>) -> Result<Action, NumberFault<'a>>
+    ensures { IfOk result (λ action. IsActionOf command.now (found_of chosen.now) action) }
+{
+    if names_men(command) {
+        return Ok(action_on_men(command, chosen));
+    }
+    action_without_men(command, chosen)
+}
+
+/// Whether a command is asked of a placement's men.
+fn names_men(command: &str) -> bool
+    ensures { result ≡ names_men command.now }
+{
+    command == "index" || command == "probe"
+}
+
+/// What a command asks of a table, where it names no men.
+fn action_without_men<'a>(command: &str, chosen: &ArgMatches<'a>) -> Result<Action, NumberFault<'a>>
+    ensures { IfOk result (λ action. action_told command.now (found_of chosen.now) ≡ Some action) }
+{
     Ok(match command {
         "check" => Action::Check,
         "show" => Action::Show,
         "get" => look_up(number_of(chosen, INDEX)?, chosen),
         "values" => Action::Values,
         "placement" => Action::Placement(number_of(chosen, INDEX)?),
-        "index" | "probe" => action_on_men(command, chosen),
         "dump" => Action::Dump(form_of(number_of(chosen, FORM)?)),
         _ => Action::Copy,
     })
 }
 
 /// What is asked of an index: the value alone, or also the steps to it.
-fn look_up(index: u64, chosen: &ArgMatches<'_>) -> Action {
-    if chosen.get_flag("steps") {
+fn look_up(index: u64, chosen: &ArgMatches<'_>) -> Action
+    ensures { result ≡ look_up_told (found_of chosen.now) index }
+{
+    if is_given(chosen.get_str("steps"), "true") {
         Action::GetCounted(index)
     } else {
         Action::Get(index)
     }
 }
 
-/// What is asked of the placement that the words tell, or why they tell none.
-fn action_on_men(command: &str, chosen: &ArgMatches<'_>) -> Action {
+/// What is asked of the placement of the words, or why they are none.
+fn action_on_men(command: &str, chosen: &ArgMatches<'_>) -> Action
+    ensures { IsActionOnMen command.now (found_of chosen.now) result }
+{
     let mover = mover_of(chosen.get_str("MOVER"));
+    let class = class_of(chosen.get_str("class"));
     let men = chosen.get_strs("MAN").unwrap_or(&[]);
-    match placement_in(men, mover) {
-        Ok(placement) if command == "index" => Action::Index(placement),
-        Ok(placement) => Action::Probe(placement, class_of(chosen.get_str("class"))),
+    let placement = placement_in(men, mover);
+    action_of_men(command == "index", placement, class)
+}
+
+/// What is asked of a placement, or why there is none.
+fn action_of_men(is_index: bool, placement: Result<Placement, Refusal>, class: Class) -> Action
+    ensures { result ≡ action_of_men is_index placement class }
+{
+    match placement {
+        Ok(placement) if is_index => Action::Index(placement),
+        Ok(placement) => Action::Probe(placement, class),
         Err(refusal) => Action::Unplaced(refusal),
     }
 }

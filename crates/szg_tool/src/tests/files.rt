@@ -6,12 +6,13 @@ use std::alloc::Global;
 use std::process::Abort;
 use std::rt::Files;
 use std::test::Fail;
+use std::time::Clock;
 use szg_files::{MemoryFile, MemoryFiles};
 use szg_io::Std;
 
 /// The words of this line, on these files and with nothing on standard input, print this text.
 fn check_on_files(
-    rt: &(impl Abort + Alloc<A = Global> + Files),
+    rt: &(impl Abort + Alloc<A = Global> + Files + Clock),
     line: &str,
     files: &[MemoryFile<'_>],
     text: &str,

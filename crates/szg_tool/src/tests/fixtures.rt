@@ -4,7 +4,7 @@ use std::alloc::{AllocError, Global};
 /// The sixteen bytes at each file's end.
 const LAST: [u8; 16] = [0, 1, 2, 3, 4, 5, 6, 7, 8, 9, 10, 11, 12, 13, 14, 15];
 
-/// Adds so many equal bytes.
+/// Appends `count` equal bytes.
 fn add(bytes: &mut Vec<u8>, byte: u8, count: usize) -> Result<(), AllocError> {
     for _ in 0..count {
         bytes.push(byte)?;
@@ -12,7 +12,7 @@ fn add(bytes: &mut Vec<u8>, byte: u8, count: usize) -> Result<(), AllocError> {
     Ok(())
 }
 
-/// These bytes, so many zeros, and the sixteen bytes at the end.
+/// Returns these bytes, then `zeros` zeros, then the sixteen bytes at the end.
 fn with_zeros(alloc: Global, front: &[u8], zeros: usize) -> Result<Vec<u8>, AllocError> {
     let mut bytes = Vec::from_slice(alloc, front)?;
     add(&mut bytes, 0x00, zeros)?;
@@ -88,7 +88,7 @@ pub fn kpvk_dtz_shapes(alloc: Global) -> Result<Vec<u8>, AllocError> {
     Ok(bytes)
 }
 
-/// Tables of constants: so many parts of the same bytes, and two bytes for each subtable.
+/// Tables of constants: `parts` parts of the same bytes, and two bytes for each subtable.
 fn constants(
     alloc: Global,
     front: &[u8],

@@ -1,4 +1,4 @@
-//! What is told of wrong words, and help.
+//! What is printed for wrong words, and help.
 use super::words_of;
 use crate::commands::run;
 use crate::outcome::Outcome;

@@ -4,7 +4,7 @@ use Rattle.szg_named.specs.Verdicts.{Counts, Reports}
 use Rattle.szg_named.specs.declared.file_verdict.FileVerdict.{FileVerdict}
 use Rattle.szg_named.proofs.many.check_files.Given as goal
 
--- the files so far have their lines, and nothing has failed
+-- each file so far has its line, and nothing has failed
 abbrev pub invariant-paths : goal.invariant-paths
 invariant-paths g l = record {
   quiet : g.W.Output.failures l.writer ≡ g.W.Output.failures l.initial.writer;

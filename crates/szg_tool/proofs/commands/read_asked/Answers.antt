@@ -1,7 +1,7 @@
 use Rattle.std.proofs.Common.{rules, inr}
 use Rattle.szg_tool.proofs.commands.read_asked.Goals as goal
 
--- the words told all that is asked before anything was read
+-- the words were a whole request before anything was read
 pub returns-in-Err-Refused-clause-refused : goal.returns-in-Err-Refused-clause-refused
 returns-in-Err-Refused-clause-refused g c = λ refusal is.
     let took = c.in-Err-Refused.ensures.taken in

@@ -8,7 +8,7 @@ returns-in-Err-Refused-clause-device g c = λ told.
     let kept : c.carry_out.new.writer ≡ c.args.writer.now = (c.in-Err-Refused.ensures.refused c.in-Err-Refused.refusal (cc)).0 in
     inr (rw (← kept) (c.refuse.ensures.device told))
 
--- the line that is written then tells the refusal that was met
+-- the line that is written is that of the refusal
 pub returns-in-Err-Refused-clause-refused : goal.returns-in-Err-Refused-clause-refused
 returns-in-Err-Refused-clause-refused g c =
     let met = c.in-Err-Refused.ensures.refused c.in-Err-Refused.refusal (cc) in

@@ -1,0 +1,128 @@
+-- The records of a report for programs.
+use Rattle.std.specs.Prelude.{◌≡◌, ℕ, ◌/◌, ◌%◌, ◌==◌, ◌||◌, nat_lt, Bool, true, false, if◌then◌else◌, List, [], ◌∷◌, ◌++◌, flat_map, codes, decimal, Option, Some, None, IsSome}
+use Rattle.std.specs.List.{concat}
+use Rattle.szg_named.specs.Lines.{IsLine, escaped_byte, hex_digit, name_word, reason_word, summary_text}
+use Rattle.szg_named.specs.declared.file_verdict.FileVerdict.{FileVerdict}
+use Rattle.szg_named.specs.declared.file_verdict.FileVerdict.TheVariants.{Whole, Ending, Name, At, Trailing, Unopened, Unread}
+use Rattle.szg_named.specs.declared.report_format.ReportFormat.{ReportFormat}
+use Rattle.szg_named.specs.declared.report_format.ReportFormat.TheVariants.{Text, Tsv, Json}
+use Rattle.szg_named.specs.declared.stop.Tally.{Tally}
+
+-- ---- fields
+
+-- ok for a table and nothing else, or a table where trailing bytes are allowed
+abbrev pub verdict_word : Bool → FileVerdict → List ℕ
+verdict_word allow_trailing (Whole size) = codes "ok"
+verdict_word true (Trailing size) = codes "ok"
+verdict_word allow_trailing (Unopened fault) = codes "unread"
+verdict_word allow_trailing (Unread error) = codes "unread"
+verdict_word allow_trailing verdict = codes "refused"
+
+-- the table's length
+abbrev pub bytes_field : FileVerdict → Option ℕ
+bytes_field (Whole size) = Some size
+bytes_field (Trailing size) = Some size
+bytes_field verdict = None
+
+-- the offset of the first check that fails
+abbrev pub offset_field : FileVerdict → Option ℕ
+offset_field (At offset reason) = Some offset
+offset_field (Trailing size) = Some size
+offset_field verdict = None
+
+-- Why a file isn't just a table; what the system says is left open.
+abbrev pub IsReasonField : FileVerdict → Option (List ℕ) → Type 0
+IsReasonField (Whole size) field = field ≡ None
+IsReasonField Ending field = field ≡ Some (codes "Ending")
+IsReasonField (Name fault) field = field ≡ Some (name_word fault)
+IsReasonField (At offset reason) field = field ≡ Some (reason_word reason)
+IsReasonField (Trailing size) field = field ≡ Some (codes "Trailing")
+IsReasonField (Unopened fault) field = IsSome field
+IsReasonField (Unread error) field = IsSome field
+
+abbrev pub number_or : List ℕ → Option ℕ → List ℕ
+number_or absent None = absent
+number_or absent (Some number) = decimal number
+
+-- a number of nanoseconds in seconds, with six digits after the point
+abbrev pub seconds_text : ℕ → List ℕ
+seconds_text nanos =
+    let micros = nanos % 1_000_000_000 / 1_000 in
+    decimal (nanos / 1_000_000_000) ++ (codes "." ++ (decimal (micros / 100000 % 10) ++ (decimal (micros / 10000 % 10) ++ (decimal (micros / 1000 % 10)
+    ++ (decimal (micros / 100 % 10) ++ (decimal (micros / 10 % 10) ++ decimal (micros % 10)))))))
+
+abbrev pub seconds_or : List ℕ → Option ℕ → List ℕ
+seconds_or absent None = absent
+seconds_or absent (Some nanos) = seconds_text nanos
+
+-- ---- escapes
+
+-- a byte of a JSON string: quotes and backslashes behind a backslash, control characters by their number
+abbrev pub json_byte : ℕ → List ℕ
+json_byte byte =
+    if byte == 34 || byte == 92 then 92 ∷ byte ∷ [] else
+    if nat_lt byte 32 || byte == 127 then codes "\\u00" ++ (hex_digit (byte / 16) ∷ hex_digit (byte % 16) ∷ []) else byte ∷ []
+
+abbrev pub escaped_byte_in : ReportFormat → ℕ → List ℕ
+escaped_byte_in Text byte = escaped_byte byte
+escaped_byte_in Tsv byte = escaped_byte byte
+escaped_byte_in Json byte = json_byte byte
+
+abbrev pub escaped_in : ReportFormat → List ℕ → List ℕ
+escaped_in format text = flat_map (λ byte. escaped_byte_in format byte) text
+
+-- a JSON string
+abbrev pub quoted : List ℕ → List ℕ
+quoted text = concat (codes "\"" ∷ escaped_in Json text ∷ codes "\"" ∷ [])
+
+abbrev pub tsv_reason : Option (List ℕ) → List ℕ
+tsv_reason None = []
+tsv_reason (Some reason) = escaped_in Tsv reason
+
+abbrev pub json_reason : Option (List ℕ) → List ℕ
+json_reason None = concat (codes "null" ∷ [])
+json_reason (Some reason) = quoted reason
+
+-- ---- records
+
+abbrev pub tab : List ℕ
+tab = codes "\t"
+
+-- path, verdict, bytes, reason, offset and seconds, separated by tabs
+abbrev pub tsv_text : List ℕ → List ℕ → Option ℕ → Option (List ℕ) → Option ℕ → Option ℕ → List ℕ
+tsv_text path word bytes reason offset nanos =
+    concat (escaped_in Tsv path ∷ tab ∷ word ∷ tab ∷ number_or [] bytes ∷ tab ∷ tsv_reason reason
+    ∷ tab ∷ number_or [] offset ∷ tab ∷ seconds_or [] nanos ∷ codes "\n" ∷ [])
+
+abbrev pub null : List ℕ
+null = codes "null"
+
+-- the same as a JSON object
+abbrev pub json_text : List ℕ → List ℕ → Option ℕ → Option (List ℕ) → Option ℕ → Option ℕ → List ℕ
+json_text path word bytes reason offset nanos =
+    concat (codes "{\"path\":" ∷ quoted path ∷ codes ",\"verdict\":\"" ∷ word ∷ codes "\",\"bytes\":" ∷ number_or null bytes
+    ∷ codes ",\"reason\":" ∷ json_reason reason ∷ codes ",\"offset\":" ∷ number_or null offset
+    ∷ codes ",\"seconds\":" ∷ seconds_or null nanos ∷ codes "}\n" ∷ [])
+
+-- The record of a path and what its check says, of some time.
+abbrev pub IsTsvRecord : Bool → List ℕ → FileVerdict → List ℕ → Type 0
+IsTsvRecord allow_trailing path verdict line =
+    (reason : Option (List ℕ)) × IsReasonField verdict reason × (nanos : Option ℕ)
+    × (line ≡ tsv_text path (verdict_word allow_trailing verdict) (bytes_field verdict) reason (offset_field verdict) nanos)
+
+abbrev pub IsJsonRecord : Bool → List ℕ → FileVerdict → List ℕ → Type 0
+IsJsonRecord allow_trailing path verdict line =
+    (reason : Option (List ℕ)) × IsReasonField verdict reason × (nanos : Option ℕ)
+    × (line ≡ json_text path (verdict_word allow_trailing verdict) (bytes_field verdict) reason (offset_field verdict) nanos)
+
+-- What a report in a format has of a file.
+abbrev pub IsReportLine : ReportFormat → Bool → List ℕ → FileVerdict → List ℕ → Type 0
+IsReportLine Text allow_trailing path verdict line = IsLine allow_trailing path verdict line
+IsReportLine Tsv allow_trailing path verdict line = IsTsvRecord allow_trailing path verdict line
+IsReportLine Json allow_trailing path verdict line = IsJsonRecord allow_trailing path verdict line
+
+-- What follows the last file: a summary of `count` files for a reader, nothing for a program.
+abbrev pub report_end : ReportFormat → ℕ → Tally → List ℕ
+report_end Text count tally = summary_text count tally
+report_end Tsv count tally = []
+report_end Json count tally = []

@@ -1,0 +1,246 @@
+//! The records of a report for programs.
+ghost use Rattle.std.specs.Prelude.{◌≡◌, IfOk, flat_map, option_map, string_bytes};
+ghost use Rattle.std.specs.Duration.{as_nanos};
+ghost use Rattle.szg_named.specs.Records.{IsJsonRecord, IsReasonField, IsTsvRecord, bytes_field, json_reason, json_text, number_or, offset_field, quoted, seconds_or, tsv_reason, tsv_text, verdict_word};
+
+use crate::file_verdict::FileVerdict;
+use crate::lines::{error_text, escaped_in, fault_text, name_word, reason_word};
+use crate::report_format::ReportFormat;
+use std::alloc::{AllocError, Global};
+use std::time::Duration;
+
+/// The word for what a file's check says: `ok`, `refused` or `unread`.
+fn verdict_word(verdict: &FileVerdict, allow_trailing: bool) -> &'static str
+    ensures { result.now ≡ verdict_word allow_trailing verdict.now }
+{
+    match verdict {
+        FileVerdict::Whole(_) => "ok",
+        FileVerdict::Trailing(_) if allow_trailing => "ok",
+        FileVerdict::Unopened(_) | FileVerdict::Unread(_) => "unread",
+        FileVerdict::Ending
+        | FileVerdict::Name(_)
+        | FileVerdict::At(..)
+        | FileVerdict::Trailing(_) => "refused",
+    }
+}
+
+/// The table's length in bytes. None if there is no table.
+fn bytes_field(verdict: &FileVerdict) -> Option<u64>
+    ensures { result ≡ bytes_field verdict.now }
+{
+    match verdict {
+        FileVerdict::Whole(size) | FileVerdict::Trailing(size) => Some(*size),
+        _ => None,
+    }
+}
+
+/// The offset of the first check that fails. None if none fails, or no byte was read.
+fn offset_field(verdict: &FileVerdict) -> Option<u64>
+    ensures { result ≡ offset_field verdict.now }
+{
+    match verdict {
+        FileVerdict::At(offset, _) => Some(*offset),
+        FileVerdict::Trailing(size) => Some(*size),
+        _ => None,
+    }
+}
+
+/// Why a file isn't just a table. None if it is.
+fn reason_field(alloc: Global, verdict: &FileVerdict) -> Result<Option<String>, AllocError>
+    ensures { IfOk result (λ reason. IsReasonField verdict.now (option_map (λ text. string_bytes text) reason)) }
+{
+    let word = match verdict {
+        FileVerdict::Whole(_) => return Ok(None),
+        FileVerdict::Unopened(fault) => return Ok(Some(fault_text(alloc, fault)?)),
+        FileVerdict::Unread(error) => return Ok(Some(error_text(alloc, error)?)),
+        FileVerdict::Ending => "Ending",
+        FileVerdict::Name(fault) => name_word(*fault),
+        FileVerdict::At(_, reason) => reason_word(*reason),
+        FileVerdict::Trailing(_) => "Trailing",
+    };
+    Ok(Some(String::from_str(alloc, word)?))
+}
+
+/// A number's digits, or `absent` if there is none.
+fn number_or(alloc: Global, number: Option<u64>, absent: &str) -> Result<String, AllocError>
+    ensures { IfOk result (λ text. string_bytes text ≡ number_or absent.now number) }
+{
+    match number {
+        Some(number) => format!(in alloc; "{number}"),
+        None => String::from_str(alloc, absent),
+    }
+}
+
+/// A time in seconds with six digits after the point, or `absent` if it isn't known.
+fn seconds_or(alloc: Global, elapsed: &Option<Duration>, absent: &str) -> Result<String, AllocError>
+    ensures { IfOk result (λ text. string_bytes text ≡ seconds_or absent.now (option_map (λ d. as_nanos d) elapsed.now)) }
+{
+    let Some(elapsed) = elapsed else {
+        return String::from_str(alloc, absent);
+    };
+    let seconds = elapsed.as_secs();
+    let micros = elapsed.subsec_micros();
+    let [a, b, c] = [
+        micros / 100000 % 10,
+        micros / 10000 % 10,
+        micros / 1000 % 10,
+    ];
+    let [d, e, f] = [micros / 100 % 10, micros / 10 % 10, micros % 10];
+    format!(in alloc; "{seconds}.{a}{b}{c}{d}{e}{f}")
+}
+
+/// These parts, one after another.
+fn joined(alloc: Global, parts: &[&[u8]]) -> Result<Vec<u8>, AllocError>
+    ensures { IfOk result (λ text. text.items ≡ flat_map (λ part. part.now) parts.now) }
+{
+    let mut text = Vec::new(alloc);
+    'parts: for part in parts {
+        text.extend_from_slice(part)?;
+    }
+    Ok(text)
+}
+
+/// A text as a JSON string.
+fn quoted(alloc: Global, text: &str) -> Result<Vec<u8>, AllocError>
+    ensures { IfOk result (λ string. string.items ≡ quoted text.now) }
+{
+    let escaped = escaped_in(alloc, ReportFormat::Json, text)?;
+    joined(alloc, &["\"".as_bytes(), &escaped, "\"".as_bytes()])
+}
+
+/// A reason as a TSV field: nothing if there is none.
+fn tsv_reason(alloc: Global, reason: &Option<String>) -> Result<Vec<u8>, AllocError>
+    ensures { IfOk result (λ text. text.items ≡ tsv_reason (option_map (λ told. string_bytes told) reason.now)) }
+{
+    match reason {
+        Some(reason) => escaped_in(alloc, ReportFormat::Tsv, reason.as_str()),
+        None => Ok(Vec::new(alloc)),
+    }
+}
+
+/// A reason as a JSON value: `null` if there is none.
+fn json_reason(alloc: Global, reason: &Option<String>) -> Result<Vec<u8>, AllocError>
+    ensures { IfOk result (λ text. text.items ≡ json_reason (option_map (λ told. string_bytes told) reason.now)) }
+{
+    match reason {
+        Some(reason) => quoted(alloc, reason.as_str()),
+        None => joined(alloc, &["null".as_bytes()]),
+    }
+}
+
+/// A record's fields after the path.
+#[derive(Drop)]
+struct Fields {
+    word: &'static str,
+    bytes: Option<u64>,
+    reason: Option<String>,
+    offset: Option<u64>,
+    elapsed: Option<Duration>,
+}
+
+/// The fields of a TSV record in a line, separated by tabs.
+fn tsv_text(alloc: Global, path: &str, fields: &Fields) -> Result<Vec<u8>, AllocError>
+    ensures { IfOk result (λ line. line.items ≡ tsv_text path.now fields.now.word.now fields.now.bytes (option_map (λ told. string_bytes told) fields.now.reason) fields.now.offset (option_map (λ d. as_nanos d) fields.now.elapsed)) }
+{
+    let tab = "\t".as_bytes();
+    let path = escaped_in(alloc, ReportFormat::Tsv, path)?;
+    let bytes = number_or(alloc, fields.bytes, "")?;
+    let reason = tsv_reason(alloc, &fields.reason)?;
+    let offset = number_or(alloc, fields.offset, "")?;
+    let seconds = seconds_or(alloc, &fields.elapsed, "")?;
+    joined(
+        alloc,
+        &[
+            &path,
+            tab,
+            fields.word.as_bytes(),
+            tab,
+            bytes.as_bytes(),
+            tab,
+            &reason,
+            tab,
+            offset.as_bytes(),
+            tab,
+            seconds.as_bytes(),
+            "\n".as_bytes(),
+        ],
+    )
+}
+
+/// The fields of a record as a JSON object in a line.
+fn json_text(alloc: Global, path: &str, fields: &Fields) -> Result<Vec<u8>, AllocError>
+    ensures { IfOk result (λ line. line.items ≡ json_text path.now fields.now.word.now fields.now.bytes (option_map (λ told. string_bytes told) fields.now.reason) fields.now.offset (option_map (λ d. as_nanos d) fields.now.elapsed)) }
+{
+    let path = quoted(alloc, path)?;
+    let bytes = number_or(alloc, fields.bytes, "null")?;
+    let reason = json_reason(alloc, &fields.reason)?;
+    let offset = number_or(alloc, fields.offset, "null")?;
+    let seconds = seconds_or(alloc, &fields.elapsed, "null")?;
+    joined(
+        alloc,
+        &[
+            "{\"path\":".as_bytes(),
+            &path,
+            ",\"verdict\":\"".as_bytes(),
+            fields.word.as_bytes(),
+            "\",\"bytes\":".as_bytes(),
+            bytes.as_bytes(),
+            ",\"reason\":".as_bytes(),
+            &reason,
+            ",\"offset\":".as_bytes(),
+            offset.as_bytes(),
+            ",\"seconds\":".as_bytes(),
+            seconds.as_bytes(),
+            "}\n".as_bytes(),
+        ],
+    )
+}
+
+/// The fields of a file: what its check says, and the time that the check took.
+fn fields_of(
+    alloc: Global,
+    verdict: &FileVerdict,
+    allow_trailing: bool,
+    elapsed: Option<Duration>,
+) -> Result<Fields, AllocError>
+    ensures word { IfOk result (λ fields. fields.word.now ≡ verdict_word allow_trailing verdict.now) }
+    ensures bytes { IfOk result (λ fields. fields.bytes ≡ bytes_field verdict.now) }
+    ensures reason { IfOk result (λ fields. IsReasonField verdict.now (option_map (λ text. string_bytes text) fields.reason)) }
+    ensures offset { IfOk result (λ fields. fields.offset ≡ offset_field verdict.now) }
+{
+    Ok(Fields {
+        word: verdict_word(verdict, allow_trailing),
+        bytes: bytes_field(verdict),
+        reason: reason_field(alloc, verdict)?,
+        offset: offset_field(verdict),
+        elapsed,
+    })
+}
+
+/// The TSV record of a file: its path, what its check says, and the seconds that the check took.
+pub fn tsv_record(
+    alloc: Global,
+    path: &str,
+    verdict: &FileVerdict,
+    allow_trailing: bool,
+    elapsed: Option<Duration>,
+) -> Result<Vec<u8>, AllocError>
+    ensures { IfOk result (λ line. IsTsvRecord allow_trailing path.now verdict.now line.items) }
+{
+    let fields = fields_of(alloc, verdict, allow_trailing, elapsed)?;
+    tsv_text(alloc, path, &fields)
+}
+
+/// The JSON record of a file: the same as an object.
+pub fn json_record(
+    alloc: Global,
+    path: &str,
+    verdict: &FileVerdict,
+    allow_trailing: bool,
+    elapsed: Option<Duration>,
+) -> Result<Vec<u8>, AllocError>
+    ensures { IfOk result (λ line. IsJsonRecord allow_trailing path.now verdict.now line.items) }
+{
+    let fields = fields_of(alloc, verdict, allow_trailing, elapsed)?;
+    json_text(alloc, path, &fields)
+}
