@@ -4,7 +4,7 @@ use Rattle.std.proofs.Common.{IsSome}
 use Rattle.std.specs.Prelude.{ℤ, Result, Ok, Err, IfOk, IfErr, IfSome, IsSomeAnd, position, slice_get, option_and_then}
 use Rattle.std.specs.List.{AllByRecursion}
 use Rattle.std.proofs.Math.Nat.{mul-le-mul_right}
-use Rattle.std.proofs.lemmas.List.{length-map, take-take, drop-take}
+use Rattle.std.proofs.lemmas.List.{length-map, length-drop, length-take-le, take-take, drop-take}
 use Rattle.std.proofs.lemmas.Option.{slice_get-map}
 use Rattle.szg_values.specs.declared.Kind.{Kind}
 use Rattle.szg_values.specs.declared.Kind.TheVariants.{Dtz}
@@ -28,6 +28,7 @@ use Rattle.szg_file.specs.Lookup.{IsFound, byte_of}
 use Rattle.szg_file.specs.Opened.{asked_after}
 use Rattle.szg_file.specs.Placed.{whole_sub, blocks_size, Fits, IsSlotted}
 use Rattle.szg_file.specs.Unread.{front_at, IsDecoded, IsUnread}
+use Rattle.szg_file.specs.Wanted.{wanted_block}
 use Rattle.szg_file.specs.Values.{item, list_number, number_at, number_of_value, subtable_at, constant_value}
 use Rattle.szg_file.specs.declared.dropping.PlacedSub.{PlacedSub}
 use Rattle.szg_file.specs.declared.fetching.FetchFault.{FetchFault}
@@ -163,6 +164,32 @@ bad_named slot content (Pairs flags block_bits span_bits extra blocks code dict 
     subst (λ (z : List ℕ). IfSome (layout_of sub) (λ layout. ¬ SpellsNeeded layout slot.size spot.value.block z)) here
     (subst (λ (k : ℕ). IfSome (layout_of sub) (λ layout. ¬ SpellsNeeded layout slot.size k block)) (sym h.block) bad) in
     subst (λ (f : FetchFault). NamesBadBlock content (slot, whole_sub content (placed_at sub first)) i f) (sym e) ((h.block, not_spelled), at)
+
+-- ---- the bytes that a value needs
+
+pub wanted_none : (content : List ℕ) (sub : Sub) (first i : ℕ) → layout_of sub ≡ None → wanted_block (whole_sub content (placed_at sub first)) i ≡ None
+wanted_none content (Constant flags byte) first i none = refl
+wanted_none content (Pairs flags block_bits span_bits extra blocks code dict sparse lengths packed) first i none = absurd (cc none)
+
+pub wanted_spot : (content : List ℕ) (sub : Sub) (first i : ℕ) (spot : Spot) → IsSpot (placed_at sub first) i spot →
+    wanted_block (whole_sub content (placed_at sub first)) i ≡ Some (bytes_at content spot.offset spot.count)
+wanted_spot content (Constant flags byte) first i spot h = absurd h
+wanted_spot content (Pairs flags block_bits span_bits extra blocks code dict sparse lengths packed) first i spot h =
+    let bytes : List ℕ = bytes_at content first (blocks * 2 ^ block_bits) in
+    ap (λ (n : ℕ). Some (block_at block_bits bytes n)) (sym h.block)
+    ∙ ap (λ (z : List ℕ). Some z) (block_is_at block_bits blocks first spot.value.block content h.there)
+    ∙ ap (λ (k : ℕ). Some (bytes_at content k (2 ^ block_bits))) (sym h.offset)
+    ∙ ap (λ (k : ℕ). Some (bytes_at content spot.offset k)) (sym h.count)
+
+-- the block that the caller brings is the value's
+pub wanted_brought : (content : List ℕ) (sub : Sub) (first i : ℕ) (spot : Spot) (block : List ℕ) → IsSpot (placed_at sub first) i spot →
+    IfSome (wanted_block (whole_sub content (placed_at sub first)) i) (λ wanted. wanted ≡ block) → block ≡ bytes_at content spot.offset spot.count
+wanted_brought content sub first i spot block h is = sym (subst (λ (o : Option (List ℕ)). IfSome o (λ wanted. wanted ≡ block)) (wanted_spot content sub first i spot h) is)
+
+pub block_long : (content : List ℕ) (offset count : ℕ) (block : List ℕ) → block ≡ bytes_at content offset count → offset + count ≤ length content → length block ≡ count
+block_long content offset count block is inside =
+    let left : length (drop offset content) ≡ length content - offset = length-drop offset content in
+    ap (λ (z : List ℕ). length z) is ∙ length-take-le count (drop offset content) (omega (arith, left, inside))
 
 -- ---- the source
 

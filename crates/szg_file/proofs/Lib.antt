@@ -11,6 +11,7 @@ pub mod FileLengths
 pub mod FormatLaws
 pub mod ForwardLaws
 pub mod FrontFinds
+pub mod FrontInputs
 pub mod FrontLaws
 pub mod FrontStands
 pub mod FrontTables

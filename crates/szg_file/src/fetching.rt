@@ -11,6 +11,7 @@ ghost use Rattle.szg_file.specs.Placed.{blocks_size};
 use crate::blocks::block_bytes;
 use crate::front_table::FrontTable;
 use crate::lookup::{Slotted, constant_value, slotted_at};
+use crate::wanted::Wanted;
 use szg_block::{Source, ValueLocation, checked_value, locate_value};
 
 /// Why no value is returned.
@@ -110,8 +111,9 @@ fn read_block<S: Source>(source: &mut S, offset: u64, block: &mut [u8]) -> Resul
 }
 
 impl FrontTable {
-    ghost use Rattle.std.specs.Prelude.{◌≡◌, ◌<◌, ◌≤◌, Err, IfErr, IfOk, IfSome, IsSomeAnd, length};
-    ghost use Rattle.szg_block.specs.BlocksTrait.{Rose};
+    ghost use Rattle.std.specs.Prelude.{ℕ, List, ◌≡◌, ◌+◌, ◌<◌, ◌≤◌, Err, None, Some, IfErr, IfOk, IfSome, IsSomeAnd, MatchOption, length};
+    ghost use Rattle.szg_block.specs.BlocksTrait.{Rose, bytes_at};
+    ghost use Rattle.szg_file.specs.Wanted.{wanted_block};
     ghost use Rattle.szg_file.specs.Fetching.{NamesBadBlock};
     ghost use Rattle.szg_file.specs.FrontTable.{IsFrontOf};
     ghost use Rattle.szg_file.specs.Index.{slot_in};
@@ -137,6 +139,47 @@ impl FrontTable {
         let Some(block) = bytes_from(bytes, spot.offset, spot.count) else {
             return Err(FetchFault::Source);
         };
+        value_at(&found, i, spot, block)
+    }
+
+    /// Returns the byte range of the file that value `i` of a part's side needs: that of one block. None in a constant
+    /// subtable. It reads nothing.
+    pub fn find(&self, part: u8, side: u8, i: u64) -> Option<Wanted>
+        requires { IsSomeAnd (slot_in self.now.index part side) (λ slot. i < slot.size) }
+        ensures wanted { (content : List ℕ) → IsFrontOf self.now content → IfSome (front_at self.now.index.material self.now.index.kind content part side) (λ found. MatchOption result (wanted_block found.1 i ≡ None) (λ wanted. wanted_block found.1 i ≡ Some (bytes_at content wanted.place wanted.count))) }
+        ensures inside { IfSome result (λ wanted. wanted.place + wanted.count ≤ self.now.length) }
+    {
+        let Some(found) = slotted_at(self.index.slots(), &self.subs, part, side) else {
+            unreachable!()
+        };
+        let Some(spot) = spot_of(&found, i) else {
+            return None;
+        };
+        Some(Wanted {
+            place: spot.offset,
+            count: spot.count,
+        })
+    }
+
+    /// Returns value `i` of a part's side, decoded from `block`, the bytes at the range that `find` returns. It verifies
+    /// them; a constant subtable ignores them. It takes no memory.
+    ///
+    /// Errors: `Block` if the block does not decode, `Source` if the bytes do not have its length. An error has no
+    /// effect on later calls.
+    pub fn value_in(&self, part: u8, side: u8, i: u64, block: &[u8]) -> Result<u16, FetchFault>
+        requires { IsSomeAnd (slot_in self.now.index part side) (λ slot. i < slot.size) }
+        ensures value { IfOk result (λ value. (content : List ℕ) → IsFrontOf self.now content → IfSome (front_at self.now.index.material self.now.index.kind content part side) (λ found. IfSome (wanted_block found.1 i) (λ wanted. wanted ≡ block.now) → IsDecoded self.now.index.kind found i value)) }
+        ensures fault { IfErr result (λ fault. (content : List ℕ) → IsFrontOf self.now content → IfSome (front_at self.now.index.material self.now.index.kind content part side) (λ found. IfSome (wanted_block found.1 i) (λ wanted. wanted ≡ block.now) → NamesBadBlock content found i fault)) }
+    {
+        let Some(found) = slotted_at(self.index.slots(), &self.subs, part, side) else {
+            unreachable!()
+        };
+        let Some(spot) = spot_of(&found, i) else {
+            return Ok(constant_value(self.index.kind(), &found.placed.sub));
+        };
+        if block.len() as u64 != spot.count {
+            return Err(FetchFault::Source);
+        }
         value_at(&found, i, spot, block)
     }
 

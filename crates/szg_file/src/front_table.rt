@@ -70,7 +70,7 @@ fn has_ending(end: u64, length: u64) -> bool
 
 /// Returns the table of a front that was read from the first `place` bytes of a source of `size` bytes. Errors:
 /// `Truncated` at the source's length if it is too short for the blocks and what follows them; `Memory`.
-fn front_table(
+pub fn front_table(
     alloc: Global,
     material: Material,
     kind: Kind,

@@ -3,3 +3,4 @@ pub mod FileSystem
 pub mod Disk
 pub mod Draft
 pub mod Memory
+pub mod Ranges

@@ -7,15 +7,35 @@ use crate::file_system::{FileFault, FileSystem, Reasons};
 use crate::monitored::Monitored;
 use std::alloc::Global;
 use std::fs::{self, OpenFile};
-use std::io::{BufReader, Error, Read};
+use std::io::{self, BufReader, Error, ErrorKind, Read, Seek, SeekFrom};
 use std::rt::Files;
 use szg_io::Std;
 
 /// The number of bytes that are read at once.
 const BUFFER: usize = 1 << 17;
 
+/// A file of the system. Nothing is known of its bytes.
+#[derive(Drop)]
+pub struct SystemFile<F> {
+    file: F,
+}
+
+impl<F: Read> Read for SystemFile<F> {
+    ghost remaining = { λ _. None };
+
+    fn read(&mut self, buf: &mut [u8]) -> io::Result<usize> {
+        self.file.read(buf)
+    }
+}
+
+impl<F: Seek> Seek for SystemFile<F> {
+    fn seek(&mut self, to: SeekFrom) -> io::Result<u64> {
+        self.file.seek(to)
+    }
+}
+
 /// A file of the system, read through a buffer.
-pub type DiskFile<F> = Std<BufReader<Monitored<F>>>;
+pub type DiskFile<F> = Std<BufReader<Monitored<SystemFile<F>>>>;
 
 /// The files of a system.
 #[derive(Drop)]
@@ -48,7 +68,7 @@ impl<'a, R: Files> Disk<'a, R> {
         if !file.metadata()?.is_file() {
             return Err(FileFault::NotRegular);
         }
-        match BufReader::with_capacity(self.alloc, BUFFER, Monitored::new(file)) {
+        match BufReader::with_capacity(self.alloc, BUFFER, Monitored::new(SystemFile { file })) {
             Ok(reader) => Ok(Std::new(reader)),
             Err(_) => Err(FileFault::Memory),
         }
@@ -80,5 +100,18 @@ impl<R: Files> FileSystem for Disk<'_, R> {
             self.failures = self.failures.saturating_add(1);
         }
         opened
+    }
+
+    fn len(&self, file: &DiskFile<R::File>) -> Result<u64, FileFault> {
+        Ok(file.inner().get_ref().inner().file.metadata()?.len())
+    }
+
+    fn skip(&self, file: DiskFile<R::File>, count: u64) -> Result<DiskFile<R::File>, FileFault> {
+        let Ok(offset) = i64::try_from(count) else {
+            return Err(FileFault::System(ErrorKind::InvalidInput.into()));
+        };
+        let mut reader = file.into_inner();
+        reader.seek_relative(offset)?;
+        Ok(Std::new(reader))
     }
 }

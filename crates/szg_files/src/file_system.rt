@@ -1,5 +1,5 @@
 //! Files by path.
-ghost use Rattle.std.specs.Prelude.{◌≡◌, ℕ, List, Option, [], IfOk, IfSome, OnOk, OnErr};
+ghost use Rattle.std.specs.Prelude.{◌≡◌, ℕ, List, Option, Some, [], IfOk, IfSome, OnOk, OnErr, drop, length};
 ghost use Rattle.szg_io.specs.Device.{raised};
 
 use std::io::Error;
@@ -40,4 +40,15 @@ pub trait FileSystem {
         ensures content { content self.new ≡ content self.old }
         ensures quiet { OnOk result (failures self.new ≡ failures self.old) }
         ensures failed { OnErr result (failures self.new ≡ raised (failures self.old)) };
+
+    /// Returns the number of bytes of an opened file. Errors: the system's reason.
+    fn len(&self, file: &Self::File) -> Result<u64, FileFault>
+        requires unread { Self.File.moved file.now ≡ [] }
+        ensures { IfSome (Self.File.coming file.now) (λ bytes. IfOk result (λ count. count ≡ length bytes)) };
+
+    /// Skips the next `count` bytes of an opened file without reading them. Returns a device that has moved no byte,
+    /// at the byte after them. Errors: the system's reason.
+    fn skip(&self, file: Self::File, count: u64) -> Result<Self::File, FileFault>
+        ensures unread { IfOk result (λ rest. Self.File.moved rest ≡ []) }
+        ensures coming { IfOk result (λ rest. IfSome (Self.File.coming file) (λ bytes. Self.File.coming rest ≡ Some (drop count bytes))) };
 }

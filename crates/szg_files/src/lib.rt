@@ -6,9 +6,11 @@ mod draft;
 mod file_system;
 mod memory;
 mod monitored;
+mod ranges;
 
-pub use disk::{Disk, DiskFile};
+pub use disk::{Disk, DiskFile, SystemFile};
 pub use draft::{Draft, DraftFile, Published, Sealed};
 pub use file_system::{FileFault, FileSystem, Reasons};
 pub use memory::{MemoryFile, MemoryFiles};
 pub use monitored::Monitored;
+pub use ranges::{RangeFault, read_range};

@@ -54,4 +54,14 @@ impl<'a> FileSystem for MemoryFiles<'a> {
             }
         }
     }
+
+    fn len(&self, file: &Bytes<'a>) -> Result<u64, FileFault> {
+        Ok(file.left().len() as u64)
+    }
+
+    fn skip(&self, file: Bytes<'a>, count: u64) -> Result<Bytes<'a>, FileFault> {
+        let left = file.left();
+        let first = count.min(left.len() as u64) as usize;
+        Ok(Bytes::new(&left[first..]))
+    }
 }

@@ -2,7 +2,7 @@
 ghost use Rattle.std.specs.Prelude.{◌≡◌, [], None, Some};
 ghost use Rattle.szg_files.specs.Monitored.{inner_of, written_of};
 
-use std::io::{self, Error, Read, Write};
+use std::io::{self, Error, Read, Seek, SeekFrom, Write};
 use szg_io::Past;
 
 /// A reader or writer of std, its last error, and, for proofs alone, the bytes that it accepted.
@@ -53,6 +53,16 @@ impl<T: Read> Read for Monitored<T> {
 
     fn read(&mut self, buf: &mut [u8]) -> io::Result<usize> {
         let answer = self.inner.read(buf);
+        if let Err(error) = answer {
+            self.error = Some(error);
+        }
+        answer
+    }
+}
+
+impl<T: Seek> Seek for Monitored<T> {
+    fn seek(&mut self, to: SeekFrom) -> io::Result<u64> {
+        let answer = self.inner.seek(to);
         if let Err(error) = answer {
             self.error = Some(error);
         }
