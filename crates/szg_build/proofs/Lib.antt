@@ -44,4 +44,5 @@ pub mod WholeLaws
 pub mod PlaceLaws
 pub mod RefusalLaws
 pub mod TableLaws
+pub mod OwnDumps
 pub mod WordBits

@@ -1,5 +1,6 @@
--- Laws as types: the text of a dump is read back; a built table is found in its file.
-use Rattle.std.specs.Prelude.{◌≡◌, ℕ, suc, ◌+◌, ◌≤◌, false, true, List, [], ◌∷◌, ◌++◌, length, Option, Some, None, option_and_then, slice_index}
+-- Laws as types: the text of a dump is read back, that of each table's own dump among them; a built table is found in
+-- its file, and one that is built of a table's dump has its values.
+use Rattle.std.specs.Prelude.{◌≡◌, ℕ, suc, ◌+◌, ◌≤◌, false, true, List, [], ◌∷◌, ◌++◌, length, Option, Some, None, option_and_then, option_map, slice_index}
 use Rattle.std.specs.List.{AllByRecursion}
 use Rattle.szg_values.specs.Material.{Sides, IsMaterial}
 use Rattle.szg_values.specs.declared.Kind.{Kind}
@@ -10,12 +11,12 @@ use Rattle.szg_file.specs.File.{file}
 use Rattle.szg_file.specs.FileOf.{file_of}
 use Rattle.szg_file.specs.Values.{item, subtable_at, values_of}
 use Rattle.szg_file.specs.Accepted.{SideBySide, AreNumbers, IsAccepted}
-use Rattle.szg_build.specs.Plan.{Plan}
-use Rattle.szg_build.specs.Built.{IsBuilt, IsDumpOf, dump_plan}
+use Rattle.szg_build.specs.Plan.{Plan, sizes_told}
+use Rattle.szg_build.specs.Built.{IsBuilt, IsDumpOf, dump_plan, plan_flags, value_lists}
 use Rattle.szg_build.specs.Dump.{Dump, SubDump, parts_of, places_of, subs_of, dump_of_subs}
 use Rattle.szg_build.specs.Text.{Form, single, runs, dump_text, dump_lines}
 use Rattle.szg_build.specs.Lines.{line_ends, verdict, good, ended}
-use Rattle.szg_build.specs.Grammar.{greatest_count, greatest_item, list_numbers, dump_with}
+use Rattle.szg_build.specs.Grammar.{greatest_count, greatest_item, list_numbers, dump_with, dump_format}
 
 -- ---- which dumps have a text that is read back
 
@@ -50,7 +51,7 @@ pub record IsSubTold (form : Form) (kind : Kind) (sizes : Option (List ℕ)) (s 
 
 abbrev pub AreSubsTold : Form → Kind → Option (List ℕ) → ℕ → List (ℕ × ℕ) → List SubDump → Type 0
 AreSubsTold form kind sizes s [] [] = Unit {0}
-AreSubsTold form kind sizes s (place ∷ places) (sub ∷ subs) = IsSubTold form kind sizes s sub × AreSubsTold form kind sizes (suc s) places subs
+AreSubsTold form kind sizes s (place ∷ subtable_ids) (sub ∷ subs) = IsSubTold form kind sizes s sub × AreSubsTold form kind sizes (suc s) subtable_ids subs
 AreSubsTold form kind sizes s _ _ = ⊥
 
 -- a part's bytes fit one line
@@ -83,6 +84,30 @@ CutTextIsEnded = (sizes : Sides → Kind → List Part → Option (List ℕ)) (f
 abbrev pub OneTextOneDump : Type 0
 OneTextOneDump = (sizes : Sides → Kind → List Part → Option (List ℕ)) (form form' : Form) (dump dump' : Dump) → IsTold form sizes dump → IsTold form' sizes dump' →
     dump_text form dump ≡ dump_text form' dump' → dump ≡ dump'
+
+-- The dump of an accepted table has a text that is read back, in both forms.
+abbrev pub DumpIsWritable : Type 0
+DumpIsWritable = (form : Form) (dump : Dump) (t : Contents) (fill : List ℕ) → IsMaterial t.material → IsAccepted t fill → IsDumpOf dump t → IsTold form sizes_told dump
+
+-- So the text of a table's dump is read back as that dump, whatever follows it.
+abbrev pub OwnDumpIsRead : Type 0
+OwnDumpIsRead = (form : Form) (dump : Dump) (t : Contents) (fill rest : List ℕ) → IsMaterial t.material → IsAccepted t fill → IsDumpOf dump t →
+    verdict dump_format 0 (dump_text form dump ++ rest) ≡ good dump (length (dump_lines form dump)) rest
+
+-- two tables that differ in nothing but byte 4, the packing of their values and the second bytes of constant subtables
+pub record HasSameValues (t other : Contents) : Type 0 where
+  pub material : other.material ≡ t.material
+  pub kind : other.kind ≡ t.kind
+  pub parts : other.parts ≡ t.parts
+  pub flags : plan_flags other ≡ plan_flags t
+  pub maps : other.maps ≡ t.maps
+  pub last : other.last ≡ t.last
+  pub lists : value_lists other ≡ value_lists t
+  pub each : (part side : ℕ) → option_map (values_of other.kind) (subtable_at other part side) ≡ option_map (values_of t.kind) (subtable_at t part side)
+
+-- A table that is built of the dump of another has its values, for each part and side.
+abbrev pub RebuiltHasSameValues : Type 0
+RebuiltHasSameValues = (dump : Dump) (block_bits span_bits rounds : ℕ) (t rebuilt : Contents) → IsDumpOf dump t → IsBuilt (dump_plan dump block_bits span_bits rounds) dump.lists rebuilt → HasSameValues t rebuilt
 
 -- The table that a dump's plan builds has that dump.
 abbrev pub BuiltDumpStays : Type 0

@@ -1,5 +1,5 @@
 //! Laws over the definitions.
-ghost use Rattle.szg_build.specs.Laws.{TextIsRead, CutTextIsEnded, OneTextOneDump, BuiltDumpStays, BuiltIsFound};
+ghost use Rattle.szg_build.specs.Laws.{TextIsRead, CutTextIsEnded, OneTextOneDump, DumpIsWritable, OwnDumpIsRead, BuiltDumpStays, RebuiltHasSameValues, BuiltIsFound};
 
 /// The text of a dump is read back as that dump, whatever follows it.
 pub fn text_is_read()
@@ -16,9 +16,24 @@ pub fn one_text_one_dump()
     ensures { OneTextOneDump }
 {}
 
+/// The dump of an accepted table can be written as a text that is read back, in both forms.
+pub fn dump_is_writable()
+    ensures { DumpIsWritable }
+{}
+
+/// The text of a table's own dump is read back as that dump, whatever follows it.
+pub fn own_dump_is_read()
+    ensures { OwnDumpIsRead }
+{}
+
 /// The table that a dump's plan builds has that dump.
 pub fn built_dump_stays()
     ensures { BuiltDumpStays }
+{}
+
+/// A table that is built of the dump of another table has the same values, for each part and side.
+pub fn rebuilt_has_same_values()
+    ensures { RebuiltHasSameValues }
 {}
 
 /// Bytes that begin with the file of a built table, whatever follows, are read as that table; and for each part and

@@ -1,0 +1,5 @@
+use Rattle.szg_build.proofs.OwnDumps.{own_dump_is_read}
+use Rattle.szg_build.proofs.laws.own_dump_is_read.Goals as goal
+
+pub returns : goal.returns
+returns c = own_dump_is_read
