@@ -28,6 +28,7 @@ static void refused(const char *folder, const char *file, const char *name, bool
     size_t n = load(folder, file);
     szg_heads heads = SZG_NO_HEADS;
     uint32_t wanted = 0;
+    char text[SZG_TEXT_SIZE];
     for (int i = 0; i < REASONS; i++) if (!strcmp(reasons[i].name, reason)) wanted = reasons[i].reason;
     for (int call = 0; call < 3; call++) {
         answer = (szg_answer){7777, 7777};
@@ -36,6 +37,8 @@ static void refused(const char *folder, const char *file, const char *name, bool
                                     : szg_open_heads(name, strlen(name), dtz, bytes, n, &heads, &answer);
         want(file, status, SZG_REFUSED);
         want(file, answer.reason, wanted);
+        szg_reason_text(answer.reason, text, sizeof text);
+        want(file, strcmp(text, reason), 0);
         want(file, (int64_t)answer.place, (int64_t)place);
     }
 }

@@ -77,6 +77,58 @@ static bool serves(szg_table *table, size_t size, long n) {
     return done;
 }
 
+/* Makes one of the calls on a whole file, or opens a front and shares it, with growth n refused: SZG_MEMORY comes only where
+ * one was refused. Whether nothing was refused. */
+static bool asks(int call, const char *name, bool dtz, size_t length, size_t size, long n) {
+    szg_answer answer;
+    szg_front front = SZG_NO_FRONT, second = SZG_NO_FRONT;
+    uint64_t index = 0, count;
+    size_t letters = strlen(name);
+    allowed = n;
+    uint32_t status = call == 0 ? szg_check(name, letters, dtz, bytes, length, &answer)
+                    : call == 1 ? szg_size(name, letters, dtz, bytes, length, 0, 0, &count, &answer)
+                    : call == 2 ? szg_values(name, letters, dtz, bytes, length, 0, 0, values, size, &answer)
+                    : call == 3 ? szg_values_at(name, letters, dtz, bytes, length, 0, 0, &index, 1, values, 1, &answer)
+                                : szg_open_front(name, letters, dtz, bytes, length, &front, &answer);
+    if (call == 4 && status == SZG_DONE) status = szg_share_front(&front, &second);
+    bool done = allowed >= 0;
+    allowed = -1;
+    want("whole", status, done ? SZG_DONE : SZG_MEMORY);
+    szg_close_front(&front);
+    szg_close_front(&second);
+    want("blocks kept by a call on a whole file", held, 0);
+    return done;
+}
+
+/* Look-ups and texts take no memory. */
+static void takes_none(szg_table *table, szg_front *front, size_t length) {
+    char text[SZG_TEXT_SIZE];
+    szg_man men[SZG_MAX_MEN];
+    size_t count = 0;
+    uint8_t mover = 0;
+    uint16_t value;
+    uint64_t size;
+    int64_t outcome;
+    szg_spot spot;
+    szg_bad_block bad;
+    long before = allowed = 1 << 20;
+    szg_version(text, sizeof text);
+    szg_status_text(SZG_MEMORY, text, sizeof text);
+    szg_reason_text(SZG_WORD, text, sizeof text);
+    want("placement", szg_placement(table, 0, 0, 7, men, SZG_MAX_MEN, &count, &mover), SZG_DONE);
+    want("placement of a front", szg_front_placement(front, 0, 0, 7, men, SZG_MAX_MEN, &count, &mover), SZG_DONE);
+    want("index", szg_index(table, men, count, mover, &spot), SZG_DONE);
+    want("index of a front", szg_front_index(front, men, count, mover, &spot), SZG_DONE);
+    want("get", szg_get(table, 0, 0, 7, &value), SZG_DONE);
+    want("get of a front", szg_front_get(front, bytes, length, 0, 0, 7, &value, &bad), SZG_DONE);
+    want("size", szg_positions(table, 0, 0, &size), SZG_DONE);
+    want("size of a front", szg_front_size(front, 0, 0, &size), SZG_DONE);
+    szg_probe(table, men, count, mover, 2, &outcome);
+    szg_front_probe(front, bytes, length, men, count, mover, 2, &outcome, &bad);
+    want("growths of look-ups", before - allowed, 0);
+    allowed = -1;
+}
+
 static void table(const char *folder, const char *file, const char *name, bool dtz) {
     size_t length = load(folder, file);
     held = 0;
@@ -89,7 +141,16 @@ static void table(const char *folder, const char *file, const char *name, bool d
     want("open", szg_open(name, strlen(name), dtz, bytes, length, &table, &answer), SZG_DONE);
     want("size", szg_positions(&table, 0, 0, &size), SZG_DONE);
     while (!serves(&table, (size_t)size, serving) && !failed) serving++;
+    szg_front front = SZG_NO_FRONT;
+    want("front", szg_open_front(name, strlen(name), dtz, bytes, length, &front, &answer), SZG_DONE);
+    takes_none(&table, &front, length);
     szg_close(&table);
+    szg_close_front(&front);
+    want("blocks kept", held, 0);
+    for (int call = 0; call < 5; call++) {
+        long growth = 0;
+        while (!asks(call, name, dtz, length, (size_t)size, growth) && !failed) growth++;
+    }
     want("blocks kept", held, 0);
     printf("%s: refused in turn were %ld growths of szg_open, %ld of szg_open_heads and szg_share_heads, %ld of szg_all and szg_share\n",
            file, opening, heads, serving);

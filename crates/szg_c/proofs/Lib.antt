@@ -10,3 +10,4 @@ pub mod HeadsTold
 pub mod ByPlace
 pub mod Sizes
 pub mod Values
+mod Printing

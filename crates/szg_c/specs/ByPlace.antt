@@ -1,6 +1,6 @@
 -- Mapped tables, whose file C reads itself. Status 4: outside the table. Status 17: bytes that cannot be the
 -- file's.
-use Rattle.std.specs.Prelude.{◌≡◌, ℕ, nat_lt, Bool, List, Option, Some, None, if◌then◌else◌}
+use Rattle.std.specs.Prelude.{◌≡◌, ℕ, zero, suc, nat_lt, Bool, List, Option, Some, None, if◌then◌else◌}
 use Rattle.szg_block.specs.BlocksTrait.{bytes_at}
 use Rattle.szg_file.specs.Contents.{Slot, Subtable}
 use Rattle.szg_file.specs.Heads.{Kept, IsKeptOf}
@@ -25,3 +25,8 @@ with_index (Some found) i = if nat_lt i found.0.size then Some found else None
 abbrev pub AreWanted : Option (List ℕ) → List ℕ → ℕ → ℕ → Type 0
 AreWanted None content place count = count ≡ 0
 AreWanted (Some block) content place count = block ≡ bytes_at content place count
+
+-- the value that a call wrote, by its status: with another status than DONE it wrote none
+abbrev pub value_told : ℕ → ℕ → Option ℕ
+value_told zero value = Some value
+value_told (suc status) value = None

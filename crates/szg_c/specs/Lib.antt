@@ -6,6 +6,7 @@ pub mod Telling
 pub mod Owned
 pub mod ByPlace
 pub mod Fronts
+pub mod Texts
 pub use Rattle.szg_file.specs.Held
 pub use Rattle.szg_file.specs.Values
 pub use Rattle.szg_file.specs.Heads

@@ -1,6 +1,7 @@
 -- Placements as C passes them.
-use Rattle.std.specs.Prelude.{ℕ, Bool, not, ◌&&◌, ◌==◌, nat_lt, List, map, Option, Some, None, Result, Ok, Err, if◌then◌else◌}
+use Rattle.std.specs.Prelude.{◌≡◌, ℕ, Bool, not, ◌&&◌, ◌==◌, nat_lt, List, ◌++◌, length, drop, map, Option, Some, None, Result, Ok, Err, if◌then◌else◌}
 use Rattle.std.specs.List.{list_all}
+use Rattle.szg_values.specs.Men.{code_of}
 use Rattle.szg_values.specs.Placement.{PlacedMan, Board, placement_fault}
 use Rattle.szg_values.specs.declared.Man.{Man}
 use Rattle.szg_values.specs.declared.Man.TheVariants.{Pawn, Knight, Bishop, Rook, Queen, King}
@@ -9,6 +10,7 @@ use Rattle.szg_values.specs.declared.Color.TheVariants.{White, Black}
 use Rattle.szg_values.specs.declared.PlacementFault.{PlacementFault}
 use Rattle.szg_values.specs.declared.PlacementFault.TheVariants as fault
 use Rattle.szg_c.specs.declared.men.CodedMan.{CodedMan}
+use Rattle.szg_c.specs.declared.status.TheConstants.{RANGE}
 
 -- a man's numbers encode a kind, a colour and a square
 abbrev pub is_told : CodedMan → Bool
@@ -46,3 +48,24 @@ unfoldable pub board_of : List CodedMan → ℕ → Result Board ℕ
 board_of men mover =
     if not (nat_lt mover 2 && list_all is_told men) then Err 6 else
     board_unless (placement_fault (map standing_of men)) (record { placed_men = map standing_of men; mover = color_of mover })
+
+-- ---- placements that C gets
+
+abbrev pub color_code : Color → ℕ
+color_code White = 0
+color_code Black = 1
+
+-- a man on a square as its numbers
+abbrev pub coded_man : PlacedMan → CodedMan
+coded_man man = record { kind = code_of man.0; color = color_code man.1; square = man.2 }
+
+-- a placement, if a list of this length has room for its men
+abbrev pub with_room : ℕ → Result Board ℕ → Result Board ℕ
+with_room room (Err status) = Err status
+with_room room (Ok board) = if nat_lt room (length board.placed_men) then Err RANGE else Ok board
+
+-- the list begins with the men, and its rest is as before; their number and the side to move are written
+pub record IsWritten (board : Board) (before after : List CodedMan) (count mover : ℕ) : Type 0 where
+  pub men : after ≡ map coded_man board.placed_men ++ drop (length board.placed_men) before
+  pub number : count ≡ length board.placed_men
+  pub side : mover ≡ color_code board.mover

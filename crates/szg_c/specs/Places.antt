@@ -7,13 +7,14 @@ use Rattle.szg_file.specs.Contents.{Contents}
 use Rattle.szg_file.specs.Values.{subtable_at}
 use Rattle.szg_file.specs.declared.fault.MapFault.{MapFault}
 use Rattle.szg_file.specs.declared.fault.MapFault.TheVariants.{Draw, OutsideMap}
-use Rattle.szg_place.specs.Layout.{is_dtz}
-use Rattle.szg_place.specs.Spots.{place_fault, spot_of}
+use Rattle.szg_place.specs.Layout.{Layout, is_dtz}
+use Rattle.szg_place.specs.Spots.{board_at, place_fault, placement_refusal, spot_of}
 use Rattle.szg_place.specs.Tables.{numbering_of, value_at, class_of, mapped_number}
 use Rattle.szg_place.specs.declared.PlaceFault.{PlaceFault}
 use Rattle.szg_place.specs.declared.PlaceFault.TheVariants.{OtherMaterial, Irregular, KingsTouch, WrongSide}
 use Rattle.szg_place.specs.declared.Spot.{Spot}
 use Rattle.szg_c.specs.declared.places.FoundSpot.{FoundSpot}
+use Rattle.szg_c.specs.declared.status.TheConstants.{RANGE}
 
 -- ---- statuses: 4 outside the table; 10 to 13 no index; 14 no class; 15 and 16 no distance
 
@@ -42,6 +43,21 @@ spot_told t (Ok board) = spot_unless (place_fault (numbering_of t) board) (spot_
 -- the spot that C gets
 abbrev pub IsSpot : FoundSpot → Spot → Type 0
 IsSpot found spot = (found.part ≡ spot.part) × (found.side ≡ spot.side) × (found.index ≡ spot.index)
+
+-- ---- placements of indexes
+
+-- a placement, unless a fault rules it out
+abbrev pub placement_unless : Option PlaceFault → Board → Result Board ℕ
+placement_unless None board = Ok board
+placement_unless (Some why) board = Err (place_status why)
+
+abbrev pub board_or_status : Result Board PlaceFault → Result Board ℕ
+board_or_status (Ok board) = Ok board
+board_or_status (Err why) = Err (place_status why)
+
+-- the placement of an index of a part's side, if the table has this index
+abbrev pub placement_told : Bool → Layout → ℕ → ℕ → ℕ → Result Board ℕ
+placement_told is_there l part side index = if is_there then placement_unless (placement_refusal l part side) (board_at l part side index) else Err RANGE
 
 -- ---- distances
 

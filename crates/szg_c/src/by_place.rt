@@ -3,8 +3,8 @@ ghost use Rattle.std.specs.Prelude.{◌≡◌, ◌+◌, ◌≤◌, ◌<◌, ◌�
 ghost use Rattle.std.specs.declared.option.Option.TheVariants.{None, Some};
 ghost use Rattle.szg_file.specs.Heads.{IsKeptOf, slot_at, kept_at};
 ghost use Rattle.szg_file.specs.Values.{values_of, item};
-ghost use Rattle.szg_file.specs.Wanted.{wanted_block};
-ghost use Rattle.szg_c.specs.ByPlace.{AreHeads, AreHeadsOf, AreWanted, with_index};
+ghost use Rattle.szg_file.specs.Wanted.{IsSpelledBy, wanted_block};
+ghost use Rattle.szg_c.specs.ByPlace.{AreHeads, AreHeadsOf, AreWanted, value_told, with_index};
 ghost use Rattle.szg_c.specs.Told.{Says, Stops};
 
 use crate::handle::{hold, put, share, shut, take};
@@ -179,6 +179,7 @@ pub extern "C" fn szg_find(
 fn value_in(heads: &Heads, part: u8, side: u8, index: u64, piece: &[u8], value: &mut u16) -> u32
     ensures statuses { (content : List ℕ) → IsKeptOf heads.now content → MatchOption (with_index (kept_at heads.now content part side) index) (result ≡ 4) (λ found. (result ≡ 0) ⊎ (result ≡ 17)) }
     ensures done { (content : List ℕ) → IsKeptOf heads.now content → IfSome (with_index (kept_at heads.now content part side) index) (λ found. IfSome (wanted_block found.1 index) (λ block. block ≡ piece.now) → (result ≡ 0) × (item (values_of heads.now.kind found) index ≡ Some value.new)) }
+    ensures spelled { (content : List ℕ) → IsKeptOf heads.now content → IfSome (with_index (kept_at heads.now content part side) index) (λ found. IsSpelledBy piece.now found.1 index (value_told result value.new)) }
     ensures stays { (result ≡ 0 → ⊥) → value.new ≡ value.old }
 {
     if !has_index(heads, part, side, index) {
@@ -213,6 +214,7 @@ pub extern "C" fn szg_value(
     ensures closed { heads.old.value ≡ None → result ≡ 5 }
     ensures statuses { IfSome heads.old.value (λ h. (content : List ℕ) → IsKeptOf h content → MatchOption (with_index (kept_at h content part side) index) (result ≡ 4) (λ found. (result ≡ 0) ⊎ (result ≡ 17))) }
     ensures done { IfSome heads.old.value (λ h. (content : List ℕ) → IsKeptOf h content → IfSome (with_index (kept_at h content part side) index) (λ found. IfSome (wanted_block found.1 index) (λ block. block ≡ piece.now) → (result ≡ 0) × (item (values_of h.kind found) index ≡ Some value.new))) }
+    ensures spelled { IfSome heads.old.value (λ h. (content : List ℕ) → IsKeptOf h content → IfSome (with_index (kept_at h content part side) index) (λ found. IsSpelledBy piece.now found.1 index (value_told result value.new))) }
     ensures stays { (result ≡ 0 → ⊥) → value.new ≡ value.old }
 {
     let Some(held) = take(heads, alloc) else {

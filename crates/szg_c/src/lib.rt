@@ -2,7 +2,7 @@
 //!
 //! Calls on a whole file take the name of the material, the kind and the file's bytes. Calls on a handle look up
 //! values, distances and placements in its table, or decode values from bytes of a file that C reads itself. Each
-//! returns a status. `szg.h` is the interface for C.
+//! returns a status. Three calls write texts. `szg.h` is the interface for C.
 #![tactic(auto)]
 
 mod by_place;
@@ -13,12 +13,14 @@ mod held;
 mod held_front;
 mod held_heads;
 mod held_table;
+mod index_calls;
 mod loose;
 mod men;
 mod opening;
 mod places;
 mod shared;
 mod status;
+mod texts;
 mod whole;
 
 pub use by_place::{
@@ -32,7 +34,9 @@ pub use held::{szg_all, szg_close, szg_get, szg_number, szg_open, szg_positions,
 pub use held_front::HeldFront;
 pub use held_heads::HeldHeads;
 pub use held_table::HeldTable;
+pub use index_calls::{szg_front_placement, szg_placement};
 pub use men::CodedMan;
 pub use opening::Answer;
 pub use places::{FoundSpot, szg_index, szg_probe};
+pub use texts::{szg_reason_text, szg_status_text, szg_version};
 pub use whole::{szg_check, szg_size, szg_values, szg_values_at};

@@ -1,16 +1,16 @@
 //! Placements as C passes them.
-ghost use Rattle.std.specs.Prelude.{◌≡◌, ◌<◌, ◌≤◌, ◌&&◌, IsTrue, IsFalse, IfSome, IsNone, length, map, nat_lt};
+ghost use Rattle.std.specs.Prelude.{◌≡◌, ◌<◌, ◌≤◌, ◌&&◌, IsTrue, IsFalse, IfSome, IsNone, MatchResult, Ok, length, map, nat_lt};
 ghost use Rattle.std.specs.declared.option.Option.TheVariants.{None, Some};
 ghost use Rattle.std.specs.List.{list_all};
-ghost use Rattle.szg_c.specs.Men.{board_of, color_of as color_told, is_told, man_told, placement_status, standing_of};
+ghost use Rattle.szg_c.specs.Men.{IsWritten, board_of, coded_man, color_code as color_number, color_of as color_told, with_room, is_told, man_told, placement_status, standing_of};
 
-use crate::status::{MAN, MEN, PAWN_RANK, SAME_SQUARE};
+use crate::status::{DONE, MAN, MEN, PAWN_RANK, RANGE, SAME_SQUARE};
 use arrayvec::ArrayVec;
 use szg_values::{Color, MAX_MEN, Man, Placement, PlacementFault, Square};
 
 /// A man on a square, as three numbers.
 #[repr(C)]
-#[derive(Clone, Copy)]
+#[derive(Clone, Copy, Default)]
 pub struct CodedMan {
     /// Pawn 1, knight 2, bishop 3, rook 4, queen 5, king 6, as in a file and in python-chess.
     pub kind: u8,
@@ -112,5 +112,53 @@ fn placement_status(fault: PlacementFault) -> u32
         PlacementFault::Men => MEN,
         PlacementFault::SameSquare => SAME_SQUARE,
         PlacementFault::PawnRank => PAWN_RANK,
+    }
+}
+
+/// Writes the men of a placement to the beginning of a list, their number, and the side to move.
+///
+/// Errors: `RANGE` if there are more men than the list has items. Then all stays.
+pub fn write_placement(
+    placement: &Placement,
+    men: &mut [CodedMan],
+    count: &mut usize,
+    mover: &mut u8,
+) -> u32
+    ensures told { MatchResult (with_room (length men.old) (Ok placement.now)) (λ board. (result ≡ DONE) × IsWritten board men.old men.new count.new mover.new) (λ status. result ≡ status) }
+    ensures stays { (result ≡ DONE → ⊥) → (men.new ≡ men.old) × (count.new ≡ count.old) × (mover.new ≡ mover.old) }
+{
+    let placed = placement.men();
+    if men.len() < placed.len() {
+        return RANGE;
+    }
+    let coded = coded_men(placed);
+    men[..placed.len()].copy_from_slice(&coded);
+    *count = placed.len();
+    *mover = color_code(placement.mover());
+    DONE
+}
+
+/// Returns men as numbers.
+fn coded_men(placed: &[(Man, Color, Square)]) -> ArrayVec<CodedMan, MAX_MEN>
+    requires { length placed.now ≤ 6 }
+    ensures { result.items ≡ map coded_man placed.now }
+{
+    let mut coded = ArrayVec::new();
+    for (kind, color, square) in placed {
+        coded.push(CodedMan {
+            kind: kind.code(),
+            color: color_code(*color),
+            square: square.number(),
+        });
+    }
+    coded
+}
+
+fn color_code(color: Color) -> u8
+    ensures { result ≡ color_number color }
+{
+    match color {
+        Color::White => 0,
+        Color::Black => 1,
     }
 }

@@ -27,3 +27,15 @@ returns-in-None-clause-statuses c content kept =
 pub returns-in-None-clause-done : goal.returns-in-None-clause-done
 returns-in-None-clause-done c content kept =
     there_if _ _ (kept_at c.args.heads.now content c.args.part c.args.side) c.args.index (c.in-None.ensures.value content kept) (λ found value given. absurd (value given))
+
+pub returns-then-not-has_index-clause-spelled : goal.returns-then-not-has_index-clause-spelled
+returns-then-not-has_index-clause-spelled c content kept =
+    missing _ _ (with_index (kept_at c.args.heads.now content c.args.part c.args.side) c.args.index) (sym c.if-not-has_index.true ∙ c.has_index.ensures.told content kept) tt
+
+pub returns-in-Some-clause-spelled : goal.returns-in-Some-clause-spelled
+returns-in-Some-clause-spelled c content kept =
+    there_if _ _ (kept_at c.args.heads.now content c.args.part c.args.side) c.args.index (c.in-Some.ensures.spelled content kept) (λ found spelled. spelled)
+
+pub returns-in-None-clause-spelled : goal.returns-in-None-clause-spelled
+returns-in-None-clause-spelled c content kept =
+    there_if _ _ (kept_at c.args.heads.now content c.args.part c.args.side) c.args.index (c.in-None.ensures.spelled content kept) (λ found spelled. spelled)

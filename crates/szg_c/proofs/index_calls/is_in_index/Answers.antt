@@ -1,0 +1,10 @@
+use Rattle.std.proofs.Common.{None, Some}
+use Rattle.szg_file.specs.Index.{slot_in}
+use Rattle.szg_c.proofs.FrontsTold.{has}
+use Rattle.szg_c.proofs.index_calls.is_in_index.Goals as goal
+
+pub returns-in-Some : goal.returns-in-Some
+returns-in-Some c = has (Some c.in-Some.size) (slot_in c.args.table.now c.args.part c.args.side) c.args.index c.in-Some.ensures
+
+pub returns-in-None : goal.returns-in-None
+returns-in-None c = has None (slot_in c.args.table.now c.args.part c.args.side) c.args.index c.in-None.ensures

@@ -1,0 +1,144 @@
+//! Calls on the placement of an index.
+ghost use Rattle.std.specs.Prelude.{◌≡◌, ◌<◌, Err, IfSome, MatchResult, Ok, Result, is_some, length};
+ghost use Rattle.std.specs.declared.option.Option.TheVariants.{None, Some};
+ghost use Rattle.szg_file.specs.Index.{slot_in};
+ghost use Rattle.szg_file.specs.Values.{subtable_at};
+ghost use Rattle.szg_place.specs.Tables.{numbering_in, numbering_of};
+ghost use Rattle.szg_c.specs.ByPlace.{with_index};
+ghost use Rattle.szg_c.specs.Fronts.{with_slot};
+ghost use Rattle.szg_c.specs.Men.{IsWritten, with_room};
+ghost use Rattle.szg_c.specs.Places.{board_or_status, placement_told};
+
+use crate::handle::{put, take};
+use crate::held_front::HeldFront;
+use crate::held_table::HeldTable;
+use crate::men::{CodedMan, write_placement};
+use crate::places::place_status;
+use crate::status::{CLOSED, DONE, RANGE};
+use std::alloc::Global;
+use szg_file::{Table, TableIndex};
+use szg_place::{PlaceFault, placement_in, placement_of};
+use szg_values::Placement;
+
+/// Writes the placement of an index of a part's side: the men to the beginning of `men`, their number to `count`, the
+/// side to move (White 0, Black 1) to `mover`. The name's first side is White; the side to move is the subtable's (in DTZ
+/// the stored one; White if both sides have the same men). `szg_index` finds the index again.
+///
+/// Errors, the first that holds: `CLOSED` if the handle has no table; `RANGE` if the table has no such part, side or index;
+/// a subtable that has no placements (`IRREGULAR`, `WRONG_SIDE`); `RANGE` if `men` has fewer items than there are men. Then
+/// `men`, `count` and `mover` are unchanged.
+#[unsafe(no_mangle)]
+pub extern "C" fn szg_placement(
+    alloc: Global,
+    table: &mut HeldTable,
+    part: u8,
+    side: u8,
+    index: u64,
+    men: &mut [CodedMan],
+    count: &mut usize,
+    mover: &mut u8,
+) -> u32
+    ensures kept { table.new.value ≡ table.old.value }
+    ensures closed { table.old.value ≡ None → result ≡ CLOSED }
+    ensures told { IfSome table.old.value (λ t. MatchResult (with_room (length men.old) (placement_told (is_some (with_index (subtable_at t.contents part side) index)) (numbering_of t.contents) part side index)) (λ board. (result ≡ DONE) × IsWritten board men.old men.new count.new mover.new) (λ status. result ≡ status)) }
+    ensures stays { (result ≡ DONE → ⊥) → (men.new ≡ men.old) × (count.new ≡ count.old) × (mover.new ≡ mover.old) }
+{
+    let Some(held) = take(table, alloc) else {
+        return CLOSED;
+    };
+    let told = placement_at(held.value().table(), part, side, index);
+    put(table, held);
+    written(told, men, count, mover)
+}
+
+/// Writes the placement of an index of a part's side, as `szg_placement`.
+///
+/// Errors: `CLOSED` if the handle has no front; else as `szg_placement`.
+#[unsafe(no_mangle)]
+pub extern "C" fn szg_front_placement(
+    alloc: Global,
+    front: &mut HeldFront,
+    part: u8,
+    side: u8,
+    index: u64,
+    men: &mut [CodedMan],
+    count: &mut usize,
+    mover: &mut u8,
+) -> u32
+    ensures kept { front.new.value ≡ front.old.value }
+    ensures closed { front.old.value ≡ None → result ≡ CLOSED }
+    ensures told { IfSome front.old.value (λ f. MatchResult (with_room (length men.old) (placement_told (is_some (with_slot (slot_in f.index part side) index)) (numbering_in f.index) part side index)) (λ board. (result ≡ DONE) × IsWritten board men.old men.new count.new mover.new) (λ status. result ≡ status)) }
+    ensures stays { (result ≡ DONE → ⊥) → (men.new ≡ men.old) × (count.new ≡ count.old) × (mover.new ≡ mover.old) }
+{
+    let Some(held) = take(front, alloc) else {
+        return CLOSED;
+    };
+    let told = placement_by(held.value().index(), part, side, index);
+    put(front, held);
+    written(told, men, count, mover)
+}
+
+/// Returns the placement of an index of a table. Errors: a status.
+fn placement_at(table: &Table, part: u8, side: u8, index: u64) -> Result<Placement, u32>
+    ensures { result ≡ placement_told (is_some (with_index (subtable_at table.now.contents part side) index)) (numbering_of table.now.contents) part side index }
+{
+    if !is_in_table(table, part, side, index) {
+        return Err(RANGE);
+    }
+    placement_or_status(placement_of(table, part, side, index))
+}
+
+/// Whether a table has this index.
+fn is_in_table(table: &Table, part: u8, side: u8, index: u64) -> bool
+    ensures { result ≡ is_some (with_index (subtable_at table.now.contents part side) index) }
+{
+    match table.size(part, side) {
+        Some(size) => index < size,
+        None => false,
+    }
+}
+
+/// Returns the placement of an index by a table's index. Errors: a status.
+fn placement_by(table: &TableIndex, part: u8, side: u8, index: u64) -> Result<Placement, u32>
+    ensures { result ≡ placement_told (is_some (with_slot (slot_in table.now part side) index)) (numbering_in table.now) part side index }
+{
+    if !is_in_index(table, part, side, index) {
+        return Err(RANGE);
+    }
+    placement_or_status(placement_in(table, part, side, index))
+}
+
+/// Whether a table has this index, by the table's own index.
+fn is_in_index(table: &TableIndex, part: u8, side: u8, index: u64) -> bool
+    ensures { result ≡ is_some (with_slot (slot_in table.now part side) index) }
+{
+    match table.size(part, side) {
+        Some(size) => index < size,
+        None => false,
+    }
+}
+
+fn placement_or_status(told: Result<Placement, PlaceFault>) -> Result<Placement, u32>
+    ensures { result ≡ board_or_status told }
+{
+    match told {
+        Ok(placement) => Ok(placement),
+        Err(fault) => Err(place_status(fault)),
+    }
+}
+
+/// Writes a placement, if there is one; returns the status.
+fn written(
+    told: Result<Placement, u32>,
+    men: &mut [CodedMan],
+    count: &mut usize,
+    mover: &mut u8,
+) -> u32
+    ensures told { MatchResult (with_room (length men.old) told) (λ board. (result ≡ DONE) × IsWritten board men.old men.new count.new mover.new) (λ status. result ≡ status) }
+    ensures stays { (result ≡ DONE → ⊥) → (men.new ≡ men.old) × (count.new ≡ count.old) × (mover.new ≡ mover.old) }
+{
+    match told {
+        Ok(placement) => write_placement(&placement, men, count, mover),
+        Err(status) => status,
+    }
+}
