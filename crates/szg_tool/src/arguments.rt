@@ -44,7 +44,7 @@ pub const NAME: Argument = Argument {
     form: Form::Word,
     values: ValueParser::String,
     is_number: false,
-    help: "The table's material, as KQvKR: three to six men, the side with more men first",
+    help: "Material of the table, such as KQvKR: 3 to 6 men, the side with more men first",
 };
 
 /// A table's file.
@@ -53,7 +53,7 @@ pub const FILE: Argument = Argument {
     form: Form::Word,
     values: ValueParser::String,
     is_number: false,
-    help: "The table's file: KQvKR.rtbw is the WDL table of KQvKR, KQvKR.rtbz its DTZ table",
+    help: "Table file; its name gives material and kind: KQvKR.rtbw is WDL, KQvKR.rtbz is DTZ",
 };
 
 /// Tables' files.
@@ -62,7 +62,7 @@ pub const FILES: Argument = Argument {
     form: Form::Words,
     values: ValueParser::String,
     is_number: false,
-    help: "Tables' files: KQvKR.rtbw is the WDL table of KQvKR, KQvKR.rtbz its DTZ table",
+    help: "Table files; their names give material and kind: KQvKR.rtbw is WDL, KQvKR.rtbz is DTZ",
 };
 
 /// A dump's file.
@@ -71,7 +71,7 @@ pub const DUMP: Argument = Argument {
     form: Form::OptionalWord,
     values: ValueParser::String,
     is_number: false,
-    help: "The dump's file; standard input if there is none",
+    help: "Dump file [default: standard input]",
 };
 
 /// The table's name, in place of the file name's.
@@ -83,7 +83,7 @@ pub const NAME_GIVEN: Argument = Argument {
     },
     values: ValueParser::String,
     is_number: false,
-    help: "The table's material, in place of the one that the file's name says",
+    help: "Material of the table [default: from the file name]",
 };
 
 /// The table's kind, in place of the file name's.
@@ -95,7 +95,7 @@ pub const KIND_GIVEN: Argument = Argument {
     },
     values: ValueParser::Names(&["wdl", "dtz"]),
     is_number: false,
-    help: "The table's kind, in place of the one that the file's ending says",
+    help: "Kind of the table [default: from the file name]",
 };
 
 /// The file to be written.
@@ -107,7 +107,7 @@ pub const OUTPUT: Argument = Argument {
     },
     values: ValueParser::NonEmptyString,
     is_number: false,
-    help: "Writes to this file, whole or not at all, in place of standard output",
+    help: "Write to FILE, completely or not at all [default: standard output]",
 };
 
 /// Whether bytes may follow a table.
@@ -116,7 +116,7 @@ pub const ALLOW_TRAILING: Argument = Argument {
     form: Form::Flag,
     values: ValueParser::Bool,
     is_number: false,
-    help: "Accepts files in which more bytes follow the table",
+    help: "Accept files with more bytes after the table",
 };
 
 /// The form of a report on files.
@@ -128,7 +128,7 @@ pub const REPORT: Argument = Argument {
     },
     values: ValueParser::Names(&["text", "tsv", "json"]),
     is_number: false,
-    help: "text: a line for each file and a summary; for programs tsv or json: a record for each{n}file, with path, verdict, bytes, reason, offset and seconds",
+    help: "Format of the report: text is one line per file and a summary; tsv and json are one{n}record per file: path, verdict, bytes, reason, offset (bytes), time (seconds)",
 };
 
 /// The table's kind.
@@ -137,7 +137,7 @@ pub const KIND: Argument = Argument {
     form: Form::Word,
     values: ValueParser::Names(&["wdl", "dtz"]),
     is_number: false,
-    help: "What the table tells: outcomes (wdl) or distances (dtz)",
+    help: "Kind of the table: win, draw or loss (wdl), or distance to zeroing (dtz)",
 };
 
 /// The index of a value or of a placement.
@@ -146,7 +146,7 @@ pub const INDEX: Argument = Argument {
     form: Form::Word,
     values: ValueParser::String,
     is_number: true,
-    help: "The position's number: 0 or more, and below the size of the part and side",
+    help: "Index in the part and side, from 0 to its number of values minus 1",
 };
 
 /// Who moves.
@@ -155,7 +155,7 @@ pub const MOVER: Argument = Argument {
     form: Form::Word,
     values: ValueParser::Names(&["w", "b"]),
     is_number: false,
-    help: "Who moves: w for White, b for Black",
+    help: "Side to move: w for White, b for Black",
 };
 
 /// The men.
@@ -164,7 +164,7 @@ pub const MEN: Argument = Argument {
     form: Form::Words,
     values: ValueParser::String,
     is_number: false,
-    help: "Three to six men, each a letter (upper case for White) and a square, as Ke1 and kc8",
+    help: "3 to 6 men, each a letter (upper case for White) and a square, such as Ke1 kc8",
 };
 
 /// The part of a table.
@@ -176,7 +176,7 @@ pub const PART: Argument = Argument {
     },
     values: ValueParser::Names(&["a", "b", "c", "d"]),
     is_number: false,
-    help: "The part, by the file of the lead pawn: a for a and h, b for b and g, c for c and f,{n}d for d and e; a table without pawns has part a alone",
+    help: "Part, by the file of the lead pawn: a for a and h, b for b and g, c for c and f,{n}d for d and e; a table without pawns has part a only",
 };
 
 /// The side of a part.
@@ -188,7 +188,7 @@ pub const SIDE: Argument = Argument {
     },
     values: ValueParser::String,
     is_number: true,
-    help: "The side, 0 or 1: in a WDL table with two sides, 0 is where the name's first side{n}moves; every other table has side 0 alone",
+    help: "Side, 0 or 1: in a WDL table with two sides, 0 is where the first side of the name{n}moves; every other table has side 0 only",
 };
 
 /// The class in which a DTZ table is asked.
@@ -200,7 +200,7 @@ pub const CLASS: Argument = Argument {
     },
     values: ValueParser::Names(&["win", "cursed", "draw", "blessed", "loss"]),
     is_number: false,
-    help: "The placement's class, which a DTZ table has to be told; a WDL table{n}doesn't use it",
+    help: "Class of the placement for the side to move, which a DTZ table does not store;{n}ignored for a WDL table",
 };
 
 /// The form of a dump.
@@ -212,7 +212,7 @@ pub const FORM: Argument = Argument {
     },
     values: ValueParser::String,
     is_number: true,
-    help: "1: a line for each value; 2: a line for each run of equal values",
+    help: "Format of the dump: 1 writes a line per value, 2 a line per run of equal values",
 };
 
 /// The plan of a table.
@@ -224,7 +224,7 @@ pub const PLAN: Argument = Argument {
     },
     values: ValueParser::Names(&["fixed", "small"]),
     is_number: false,
-    help: "fixed: by --block, --span and --rounds; small: as small as it can, without these",
+    help: "fixed takes --block, --span and --rounds; small chooses for a small file, and takes{n}none of them",
 };
 
 /// The bits of a block.
@@ -236,7 +236,7 @@ pub const BLOCK: Argument = Argument {
     },
     values: ValueParser::String,
     is_number: true,
-    help: "A block has 2 to this power bytes, 5 to 10",
+    help: "Size of a block: 2^BITS bytes, with BITS from 5 to 10",
 };
 
 /// The bits of a span.
@@ -248,7 +248,7 @@ pub const SPAN: Argument = Argument {
     },
     values: ValueParser::String,
     is_number: true,
-    help: "An entry of the sparse index serves 2 to this power values, 1 to 16",
+    help: "Span of a sparse index entry: 2^BITS values, with BITS from 1 to 16",
 };
 
 /// The rounds of pairing.
@@ -260,7 +260,7 @@ pub const ROUNDS: Argument = Argument {
     },
     values: ValueParser::String,
     is_number: true,
-    help: "The most pairs that a dictionary gets, 0 to 4000",
+    help: "Maximum number of pairs in a dictionary, from 0 to 4000",
 };
 
 /// Whether the steps to a value are printed.
@@ -269,7 +269,7 @@ pub const STEPS: Argument = Argument {
     form: Form::Flag,
     values: ValueParser::Bool,
     is_number: false,
-    help: "Also prints how many moves, words, descents and fetches find the value",
+    help: "Also print how many moves, words, descents and fetches the look-up takes",
 };
 
 impl Argument {

@@ -84,7 +84,7 @@ pub enum CommandForm {
 
 /// The text below the program's help.
 const AFTER_HELP: &str =
-    "Example: szg get KQvK wdl 31331 --side 1 < KQvK.rtbw{n}{n}A FILE that ends in .rtbw or .rtbz takes the place of NAME and KIND, as in szg get KQvK.rtbw 31331{n}and szg check *.rtbw; its options are in szg get KQvK.rtbw --help. szg build takes a dump's file.{n}{n}The status is 0 when done; 1 when refused, and a line on standard output says why; 2 for{n}wrong words and for help; 3 when standard input or output failed; 4 when out of memory.";
+    "Examples:{n}  szg check *.rtbw *.rtbz{n}  szg get KQvK.rtbw 31331 --side 1{n}  szg get KQvK wdl 31331 --side 1 < KQvK.rtbw{n}{n}A FILE that ends in .rtbw or .rtbz replaces NAME and KIND; szg get KQvK.rtbw --help prints the{n}options for files. szg build takes the file of a dump.{n}{n}Exit status: 0 done; 1 refused, and a line on standard output gives the reason; 2 wrong words, or{n}help; 3 standard input or output failed; 4 out of memory.";
 
 /// The program with all its commands.
 pub fn program<'a>(alloc: Global, form: CommandForm) -> Result<Command<'a>, AllocError> {
@@ -100,7 +100,7 @@ fn described<'a>(alloc: Global) -> Result<Command<'a>, AllocError> {
     Command::new(alloc, "szg")
         .version("0.1.0")
         .about(
-            "Checks, shows, copies, dumps and builds Syzygy table files, and looks values and placements up in{n}them. Reads the file, for build the dump, from standard input or by its path.",
+            "Check, show, copy, dump and build Syzygy table files, and look up values and placements in them.{n}Reads the table file (for build: the dump) from standard input, or by its path.",
         )
         .after_help(AFTER_HELP)
         .subcommand_required(true)
@@ -122,7 +122,10 @@ pub fn command_of<'a>(
     'arguments: for argument in chosen {
         arguments.push(argument.to_clap(alloc))?;
     }
-    Command::new(alloc, name).about(about(name)).args(arguments)
+    Command::new(alloc, name)
+        .about(about(name))
+        .after_help(example_of(name, form))
+        .args(arguments)
 }
 
 /// The arguments of a command.
@@ -158,15 +161,63 @@ fn file_arguments_of(name: &str) -> &'static [Argument] {
 /// What a command does.
 fn about(name: &str) -> &'static str {
     match name {
-        "check" => "Checks a table file and prints ok and its length in bytes",
-        "show" => "Prints what a table file holds, without its values",
-        "get" => "Prints the value at an index",
-        "values" => "Prints the values of one part and side, each on a line",
-        "copy" => "Checks a table file and writes it again, without what follows it",
-        "dump" => "Prints a table as text, from which build makes a table again",
-        "build" => "Builds a table file from a dump",
-        "index" => "Prints the part, side and index where a table tells of a placement",
-        "probe" => "Prints what a table tells of a placement: in WDL its class, in DTZ a number",
-        _ => "Prints the placement of an index: who moves, and the men",
+        "check" => "Check a table file, and print ok and its length in bytes",
+        "show" => "Print the header of a table file: its parts, orders, flags and sizes",
+        "get" => "Print the value at an index",
+        "values" => "Print all values of one part and side, one per line",
+        "copy" => "Check a table file, and write it without any bytes that follow it",
+        "dump" => "Print a table as text, which build takes",
+        "build" => "Build a table file from a dump",
+        "index" => "Print the part, side and index of a placement",
+        "probe" => "Print the result of a placement: its class (WDL) or a number of plies (DTZ)",
+        _ => "Print the placement at an index: the side to move, and the men",
+    }
+}
+
+/// The text below a command's help.
+fn example_of(name: &str, form: CommandForm) -> &'static str {
+    match form {
+        CommandForm::Streams => example(name),
+        CommandForm::Files => file_example(name),
+    }
+}
+
+/// An example of a command on the standard streams, and where the help for files is.
+fn example(name: &str) -> &'static str {
+    match name {
+        "check" => "Example: szg check KQvK wdl < KQvK.rtbw{n}Files: szg check KQvK.rtbw --help",
+        "show" => "Example: szg show KQvK wdl < KQvK.rtbw{n}Files: szg show KQvK.rtbw --help",
+        "get" =>
+            "Example: szg get KQvK wdl 31331 --side 1 < KQvK.rtbw{n}Files: szg get KQvK.rtbw --help",
+        "values" =>
+            "Example: szg values KPvK wdl --part c < KPvK.rtbw{n}Files: szg values KPvK.rtbw --help",
+        "copy" =>
+            "Example: szg copy KQvK wdl < KQvK.rtbw > copy.rtbw{n}Files: szg copy KQvK.rtbw --help",
+        "dump" =>
+            "Example: szg dump KQvK wdl < KQvK.rtbw > KQvK.txt{n}Files: szg dump KQvK.rtbw --help",
+        "build" =>
+            "Example: szg build --block 8 < KQvK.txt > KQvK.rtbw{n}Files: szg build KQvK.txt --help",
+        "index" =>
+            "Example: szg index KQvK wdl w Ke1 Qd1 kc8 < KQvK.rtbw{n}Files: szg index KQvK.rtbw --help",
+        "probe" =>
+            "Example: szg probe KQvK wdl w Ke1 Qd1 kc8 < KQvK.rtbw{n}Files: szg probe KQvK.rtbw --help",
+        _ =>
+            "Example: szg placement KQvK wdl 11711 < KQvK.rtbw{n}Files: szg placement KQvK.rtbw --help",
+    }
+}
+
+/// An example of a command on files.
+fn file_example(name: &str) -> &'static str {
+    match name {
+        "check" => "Example: szg check *.rtbw *.rtbz",
+        "show" => "Example: szg show KQvK.rtbw",
+        "get" => "Example: szg get KQvK.rtbw 31331 --side 1",
+        "values" => "Example: szg values KPvK.rtbw --part c",
+        "copy" => "Example: szg copy KQvK.rtbw -o copy.rtbw",
+        "dump" => "Example: szg dump KQvK.rtbw -o KQvK.txt",
+        "build" => "Example: szg build KQvK.txt -o KQvK.rtbw",
+        "index" => "Example: szg index KQvK.rtbw w Ke1 Qd1 kc8",
+        "probe" => "Example: szg probe KQvK.rtbz w Ke1 Qd1 kc8 --class win",
+        _ => "Example: szg placement KQvK.rtbw 11711",
     }
 }

@@ -30,26 +30,22 @@ use meant::meant_name;
 use on_files::{Ending, FileFailure, run_words};
 use outcome::Outcome;
 use std::alloc::{AllocError, Global};
-use std::io::{self, BufWriter, Write};
+use std::io::{self, BufWriter, Read, Write};
 use std::process::ExitCode;
+use std::rt::Files;
+use std::time::Clock;
 use szg_files::{Disk, Monitored};
 use szg_io::Std;
 use szg_named::{Stop, Tally, fault_text};
 
-/// Runs the words of the command line on the standard streams.
+/// Runs the words of the command line on the system's files and the standard streams.
 ///
 /// The status is 0 where the command was carried out, 1 where it was refused (the refusal is printed), 2 for a fault
 /// of words and for help (both are printed on standard error), 3 where a stream failed, and 4 for want of memory.
 fn main(rt: HostRuntime) -> ExitCode {
     match words_given(&rt) {
-        Ok(words) => run_given(&rt, &words),
-        Err(error) if error.kind() == io::ErrorKind::OutOfMemory => {
-            status_of(&rt, &Outcome::Memory)
-        }
-        Err(_) => match eprintln!(&rt; "a word of the command line is no text") {
-            Ok(()) => ExitCode::from(2),
-            Err(_) => ExitCode::from(Outcome::Device.status()),
-        },
+        Ok(words) => run_given(&rt, &rt, &words, rt.reader(), io::writer(&rt)),
+        Err(error) => no_words_status(&rt, &error),
     }
 }
 
@@ -58,8 +54,21 @@ fn words_given(rt: &HostRuntime) -> io::Result<Vec<String>> {
     Ok(std::env::args(rt)?.collect(rt.alloc())?)
 }
 
+/// The status where the words of the command line can't be had: one is no text, or memory is short.
+fn no_words_status(rt: &impl Eprint, error: &io::Error) -> ExitCode
+    ensures { exit_status result ≡ 0 → ⊥ }
+{
+    if error.kind() == io::ErrorKind::OutOfMemory {
+        return status_of(rt, &Outcome::Memory);
+    }
+    match eprintln!(rt; "a word of the command line is no text") {
+        Ok(()) => ExitCode::from(2),
+        Err(_) => ExitCode::from(Outcome::Device.status()),
+    }
+}
+
 /// The status of an outcome, whose fault is printed on standard error; a device's where that fails.
-fn status_of(rt: &HostRuntime, outcome: &Outcome) -> ExitCode
+fn status_of(rt: &impl Eprint, outcome: &Outcome) -> ExitCode
     ensures status { (exit_status result ≡ status_of outcome.now) ⊎ (exit_status result ≡ 3) }
     // Where nothing is printed, nothing fails.
     ensures done { OnDone outcome.now (exit_status result ≡ 0) }
@@ -89,7 +98,7 @@ fn texts_of<'a>(alloc: Global, words: &'a [String]) -> Result<Vec<&'a str>, Allo
 }
 
 /// The status of a check of files: 1 where one is refused, else 3 where one can't be read.
-fn files_status(rt: &HostRuntime, told: Result<Tally, Stop>) -> ExitCode
+fn files_status(rt: &impl Eprint, told: Result<Tally, Stop>) -> ExitCode
     ensures checked { IfOk told (λ tally. exit_status result ≡ tally_status tally) }
     ensures stopped { IfErr told (λ stop. (exit_status result ≡ stop_status stop) ⊎ (exit_status result ≡ 3)) }
 {
@@ -103,7 +112,7 @@ fn files_status(rt: &HostRuntime, told: Result<Tally, Stop>) -> ExitCode
 }
 
 /// The status where a file failed: the file and the reason are printed on standard error.
-fn failure_status(rt: &HostRuntime, failure: FileFailure<'_>) -> ExitCode
+fn failure_status(rt: &(impl Eprint + AllocGlobal), failure: FileFailure<'_>) -> ExitCode
     ensures { (exit_status result ≡ 3) ⊎ (exit_status result ≡ 4) }
 {
     let FileFailure { path, fault } = failure;
@@ -115,7 +124,7 @@ fn failure_status(rt: &HostRuntime, failure: FileFailure<'_>) -> ExitCode
 }
 
 /// The status of a run. Nothing is printed if the reader of the output closed it.
-fn ending_status(rt: &HostRuntime, ending: Ending<'_>, is_closed: bool) -> ExitCode
+fn ending_status(rt: &(impl Eprint + AllocGlobal), ending: Ending<'_>, is_closed: bool) -> ExitCode
     ensures closed { (is_closed ≡ true) → exit_status result ≡ 3 }
     ensures open { (is_closed ≡ false) → HasStatus ending.entry (exit_status result) }
 {
@@ -154,7 +163,7 @@ fn is_refused(ending: &Ending<'_>) -> bool {
 }
 
 /// Prints on standard error, for each word with the sides exchanged, the name that is meant.
-fn print_meant(rt: &HostRuntime, texts: &[&str]) {
+fn print_meant(rt: &(impl Eprint + AllocGlobal), texts: &[&str]) {
     'texts: for text in texts {
         if let Ok(Some(meant)) = meant_name(rt.alloc(), text) {
             let _ = eprintln!(rt; "{text}: the side with more men comes first: {meant}");
@@ -162,29 +171,40 @@ fn print_meant(rt: &HostRuntime, texts: &[&str]) {
     }
 }
 
-/// Runs the words of a command line.
-fn run_given(rt: &HostRuntime, words: &[String]) -> ExitCode {
+/// Runs the words of a command line on a machine's files, on an input and an output; faults are printed on standard error.
+fn run_given(
+    rt: &(impl Eprint + AllocGlobal),
+    machine: &(impl Files + Clock),
+    words: &[String],
+    input: impl Read + Drop,
+    output: impl Write + Drop,
+) -> ExitCode {
     let Ok(texts) = texts_of(rt.alloc(), words) else {
         return status_of(rt, &Outcome::Memory);
     };
-    let (ending, is_closed) = run_on_streams(rt, texts.as_slice());
+    let (ending, is_closed) = run_on_streams(rt.alloc(), machine, texts.as_slice(), input, output);
     if is_refused(&ending) && !is_closed {
         print_meant(rt, texts.as_slice());
     }
     ending_status(rt, ending, is_closed)
 }
 
-/// Runs the words on the system's files and the standard streams; also whether the reader of the output closed it.
-/// Nothing that follows a table or a dump is taken from standard input, so it isn't read ahead.
-fn run_on_streams<'a>(rt: &'a HostRuntime, texts: &'a [&'a str]) -> (Ending<'a>, bool) {
-    let alloc = rt.alloc();
-    let Ok(mut writer) = BufWriter::new(alloc, Monitored::new(io::writer(rt))) else {
+/// Runs the words on a machine's files, on an input and an output; also whether the reader of the output closed it.
+/// Nothing that follows a table or a dump is taken from the input, so it isn't read ahead.
+fn run_on_streams<'a, D: Files + Clock>(
+    alloc: Global,
+    machine: &'a D,
+    texts: &'a [&'a str],
+    input: impl Read + Drop,
+    output: impl Write + Drop,
+) -> (Ending<'a>, bool) {
+    let Ok(mut writer) = BufWriter::new(alloc, Monitored::new(output)) else {
         return (Ending::Memory, false);
     };
-    let mut disk = Disk::new(alloc, rt);
-    let mut reader = Std::new(rt.reader());
+    let mut disk = Disk::new(alloc, machine);
+    let mut reader = Std::new(input);
     let mut output = Std::new(&mut writer);
-    let ending = run_words(alloc, texts, &mut disk, rt, &mut reader, &mut output);
+    let ending = run_words(alloc, texts, &mut disk, machine, &mut reader, &mut output);
     let flushed = writer.flush();
     let is_closed = match writer.get_ref().error() {
         Some(error) => error.kind() == io::ErrorKind::BrokenPipe,

@@ -3,7 +3,9 @@ mod dumps;
 mod files;
 mod fixtures;
 mod placements;
+mod program;
 mod shapes;
+mod texts;
 mod words;
 
 use crate::commands::run;

@@ -1,6 +1,6 @@
 //! The command that prints a table as text, and the one that builds a table of it.
 use super::fixtures::{knvk_wdl_constant, kpvk_dtz_mapped, kqvk_wdl_unpaired};
-use super::{check_line, check_printed, check_wrong_words};
+use super::{check_line, check_printed, check_wrong_words, words_of};
 use crate::commands::run;
 use std::alloc::{AllocError, Global};
 use std::test::Fail;
@@ -68,6 +68,67 @@ fn sizes_are_asked(rt: HostRuntime) -> Result<(), Fail> {
         "szg", "build", "--block", "5", "--span", "16", "--rounds", "0",
     ];
     check_printed(&rt, &build, text.inner().as_slice(), 0, &file);
+    Ok(())
+}
+
+/// The dump of a table of KQvK. Side 0 has five values without an order, side 1 is constant.
+fn disordered(alloc: Global) -> Result<Vec<u8>, AllocError> {
+    let mut text = Vec::from_slice(
+        alloc,
+        b"szg-dump 1\nname KQvK\nkind wdl\nend 000102030405060708090a0b0c0d0e0f\npart a order 00 men 6655ee\nsub a 0\nvalues 31332\n",
+    )?;
+    let mut state = 35u32;
+    for _ in 0..31332 {
+        state = state.wrapping_mul(1103515245).wrapping_add(12345);
+        text.push(b'0' + ((state >> 16) % 5) as u8)?;
+        text.push(b'\n')?;
+    }
+    text.extend_from_slice(b"sub a 1\nvalues 31332\n")?;
+    for _ in 0..31332 {
+        text.extend_from_slice(b"2\n")?;
+    }
+    Ok(text)
+}
+
+/// What `show` prints of the table that these words build of the dump.
+fn shown_when_built(alloc: Global, line: &str, dump: &[u8]) -> Result<String, Fail> {
+    let words = words_of(alloc, line)?;
+    let mut built = Std::new(Vec::new(alloc));
+    let _outcome = run(alloc, &words, &mut Std::new(dump), &mut built);
+    let mut shown = Std::new(Vec::new(alloc));
+    let show = ["szg", "show", "KQvK", "wdl"];
+    let _outcome = run(
+        alloc,
+        &show,
+        &mut Std::new(built.inner().as_slice()),
+        &mut shown,
+    );
+    Ok(String::from_str(alloc, str::from_utf8(shown.inner().as_slice())?)?)
+}
+
+/// The sizes that are given are taken, and else the defaults. A symbol for each value, and one for each round of pairs.
+#[test]
+fn sizes_are_taken(rt: HostRuntime) -> Result<(), Fail> {
+    let dump = disordered(rt.alloc())?;
+    for (line, sizes, symbols) in [
+        (
+            "szg build",
+            "sub a 0 flags 0 size 31332 block 6 span 12 ",
+            " symbols 261\n",
+        ),
+        (
+            "szg build --block 8 --span 5 --rounds 9",
+            "sub a 0 flags 0 size 31332 block 8 span 5 ",
+            " symbols 14\n",
+        ),
+    ] {
+        let shown = shown_when_built(rt.alloc(), line, &dump)?;
+        assert!(&rt; shown.as_str().contains(sizes), "sizes of {line}: {shown}");
+        assert!(&rt;
+            shown.as_str().contains(symbols),
+            "symbols of {line}: {shown}"
+        );
+    }
     Ok(())
 }
 

@@ -47,6 +47,8 @@ fn files_by_name(rt: HostRuntime) -> Result<(), Fail> {
     let knight = knvk_wdl_constant(rt.alloc())?;
     let mut cut = knvk_wdl_constant(rt.alloc())?;
     let _last = cut.pop();
+    let mut long = knvk_wdl_constant(rt.alloc())?;
+    long.push(0)?;
     let queen = kqvk_wdl_unpaired(rt.alloc())?;
     let files = [
         MemoryFile {
@@ -56,6 +58,10 @@ fn files_by_name(rt: HostRuntime) -> Result<(), Fail> {
         MemoryFile {
             path: "cut/KNvK.rtbw",
             bytes: &cut,
+        },
+        MemoryFile {
+            path: "long/KNvK.rtbw",
+            bytes: &long,
         },
         MemoryFile {
             path: "KQvK.rtbw",
@@ -71,7 +77,20 @@ fn files_by_name(rt: HostRuntime) -> Result<(), Fail> {
             "szg check --name KNvK --kind dtz KNvK.rtbw",
             "KNvK.rtbw: refused at 0: Magic\nfiles 1: ok 0, refused 1, unread 0\n",
         ),
+        (
+            "szg check long/KNvK.rtbw",
+            "long/KNvK.rtbw: refused at 80: Trailing\nfiles 1: ok 0, refused 1, unread 0\n",
+        ),
+        (
+            "szg check --allow-trailing long/KNvK.rtbw",
+            "long/KNvK.rtbw: ok 80, more bytes follow\nfiles 1: ok 1, refused 0, unread 0\n",
+        ),
         ("szg get KQvK.rtbw 31331", "4\n"),
+        ("szg get KQvK.rtbw 31331 --side 1", "2\n"),
+        (
+            "szg get cut/KNvK.rtbw 5 --part c",
+            "refused at 79: Truncated\n",
+        ),
         ("szg get KQvK.rtbw 31332", "refused index\n"),
         ("szg get KRvK.rtbw 5", ""),
     ] {

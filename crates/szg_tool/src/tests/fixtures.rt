@@ -140,3 +140,13 @@ pub fn kpvkp_dtz_constant(alloc: Global) -> Result<Vec<u8>, AllocError> {
     let subtables = [0x81, 0x00, 0x80, 0x00, 0x80, 0x00, 0x80, 0x00];
     constants(alloc, &front, 4, &part, &subtables)
 }
+
+/// King and pawn against king, WDL, all constant: part a has the values 0 and 1 for its sides, part b 2 and 3, and so on.
+pub fn kpvk_wdl_numbered(alloc: Global) -> Result<Vec<u8>, AllocError> {
+    let front = [0x71, 0xe8, 0x23, 0x5d, 0x03];
+    let subtables = [
+        0x80, 0x00, 0x80, 0x01, 0x80, 0x02, 0x80, 0x03, 0x80, 0x04, 0x80, 0x05, 0x80, 0x06, 0x80,
+        0x07,
+    ];
+    constants(alloc, &front, 4, &[0x00, 0x11, 0x66, 0xee], &subtables)
+}
