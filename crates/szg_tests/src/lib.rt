@@ -27,6 +27,8 @@ mod files;
 #[cfg(test)]
 mod fixtures;
 #[cfg(test)]
+mod fronts;
+#[cfg(test)]
 mod hostile;
 #[cfg(test)]
 mod lookups;

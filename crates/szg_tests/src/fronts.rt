@@ -1,0 +1,119 @@
+//! Tables opened by their front from a reader, and values in blocks that the caller brings.
+
+use crate::files::{accepted, changed, fixtures_of_all_sections, made, material};
+use crate::fixtures::{self, Fixture};
+use std::alloc::Global;
+use std::process::Abort;
+use szg_file::{FetchFault, FrontTable, ReadFault, Reason, Table, read_front_table};
+use szg_io::{Bytes, Cut};
+
+/// Opens a file of `size` bytes by its front, three bytes at a time; returns the number of bytes read, too.
+fn front_of(
+    rt: &(impl Abort + Alloc<A = Global>),
+    file: &Fixture,
+    size: u64,
+) -> Result<(FrontTable, u64), ReadFault> {
+    let mut input = Cut::new(Bytes::new(&file.bytes), 3, 1, 0);
+    read_front_table(rt.alloc(), material(rt, file), file.kind, size, &mut input)
+}
+
+/// The size of a file.
+fn size_of(file: &Fixture) -> u64 {
+    file.bytes.len() as u64
+}
+
+/// Value `i` of a side, decoded from the block of the file that it needs.
+fn value_in(front: &FrontTable, bytes: &[u8], side: u8, i: u64) -> Option<Result<u16, FetchFault>> {
+    let size = front.index().size(0, side)?;
+    if i >= size {
+        return None;
+    }
+    let block = match front.find(0, side, i) {
+        Some(wanted) => bytes
+            .get(wanted.place as usize..)?
+            .get(..wanted.count as usize)?,
+        None => &[],
+    };
+    Some(front.value_in(0, side, i, block))
+}
+
+/// Value `i` of a side of a table in memory.
+fn value_of(table: &Table, side: u8, i: u64) -> Option<u16> {
+    match table.size(0, side) {
+        Some(size) if i < size => Some(table.get(0, side, i)),
+        _ => None,
+    }
+}
+
+/// The values from `from` up to `to` of both sides are those of the table in memory.
+fn check_values(
+    rt: &impl Abort,
+    front: &FrontTable,
+    table: &Table,
+    bytes: &[u8],
+    from: u64,
+    to: u64,
+) {
+    for i in from..to {
+        for side in [0, 1] {
+            match (value_in(front, bytes, side, i), value_of(table, side, i)) {
+                (None, None) => {}
+                (Some(Ok(found)), Some(right)) => assert_eq!(rt; found, right, "at {i}"),
+                _ => panic!(rt; "value {i} is not found"),
+            }
+        }
+    }
+}
+
+/// Of each fixture the first thousand values and the last ones.
+#[test]
+fn values_by_a_front(rt: HostRuntime) {
+    for file in &made(&rt, fixtures_of_all_sections(rt.alloc())) {
+        let table = accepted(&rt, file, &[]);
+        let (front, read) = match front_of(&rt, file, size_of(file)) {
+            Ok(found) => found,
+            Err(_) => panic!(rt; "it is not opened"),
+        };
+        assert!(rt; read < size_of(file));
+        check_values(&rt, &front, &table, &file.bytes, 0, 1000);
+        check_values(&rt, &front, &table, &file.bytes, 31000, 31332);
+    }
+}
+
+/// The first block doesn't decode: its values are refused, and the last one is found.
+#[test]
+fn bad_block_by_a_front(rt: HostRuntime) {
+    let good = made(&rt, fixtures::kqvk_wdl_unpaired(rt.alloc()));
+    let file = changed(&rt, &good, &[(38, 0), (39, 1), (36, 0x9b)]);
+    let (front, _) = match front_of(&rt, &file, size_of(&file)) {
+        Ok(found) => found,
+        Err(_) => panic!(rt; "it is not opened"),
+    };
+    let bad = FetchFault::Block {
+        number: 0,
+        offset: 320,
+    };
+    assert!(rt; value_in(&front, &file.bytes, 0, 0) == Some(Err(bad)));
+    assert!(rt; matches!(value_in(&front, &file.bytes, 0, 31331), Some(Ok(_))));
+}
+
+/// A file that is too short for its front or its blocks is refused at its size, and a wrong first byte at that byte.
+#[test]
+fn short_files_by_a_front(rt: HostRuntime) {
+    let file = made(&rt, fixtures::kqvk_wdl_paired(rt.alloc()));
+    for size in [0, 64, size_of(&file).saturating_sub(1)] {
+        match front_of(&rt, &file, size) {
+            Err(ReadFault::Refused { place, reason }) => {
+                assert!(rt; place == size && reason == Reason::Truncated)
+            }
+            _ => panic!(rt; "it is not refused"),
+        }
+    }
+    let cut = changed(&rt, &file, &[(0, 0)]);
+    match front_of(&rt, &cut, size_of(&cut)) {
+        Err(ReadFault::Refused { place, reason }) => {
+            assert!(rt; place == 0 && reason == Reason::Magic)
+        }
+        _ => panic!(rt; "it is not refused"),
+    }
+}
