@@ -71,11 +71,39 @@ def spelled(name: str) -> str:
 
 def test_statuses_and_reasons_are_the_headers() -> None:
     reasons = {spelled(name[4:]): number for name, number in enumerators("szg_reason").items()}
-    assert reasons == {name: number for number, name in enumerate(_library.REASONS, 1)}
+    assert reasons == {_library.reason_text(number): number for number in range(1, 19)}
     statuses = {name[4:]: number for name, number in enumerators("szg_status").items()}
-    numbered = {name: getattr(_library, name) for name in ("DONE", "NAME", "REFUSED", "MEMORY", "RANGE", "CLOSED", "CHANGED", "BAD_BLOCK")}
-    numbered.update({name: number for name in statuses for number, spelt in _library.UNTOLD.items() if spelled(name) == spelt})
-    assert numbered == statuses
+    assert {spelled(name): number for name, number in statuses.items()} == {_library.status_text(number): number for number in range(19)}
+    for name in ("DONE", "NAME", "REFUSED", "MEMORY", "RANGE", "CLOSED", "MAN", "OUTSIDE_MAP", "CHANGED", "BAD_BLOCK"):
+        assert getattr(_library, name) == statuses[name]
+    sizes = dict(re.findall(r"#define SZG_(TEXT_SIZE|MAX_MEN) (\d+)", HEADER))
+    assert (_library.TEXT_SIZE, _library.MAX_MEN) == (int(sizes["TEXT_SIZE"]), int(sizes["MAX_MEN"]))
+    assert [_library.reason_text(number) for number in (0, 19, 1 << 31)] == [_library.status_text(number) for number in (19, 256, 1 << 31)] == [""] * 3
+
+
+def test_a_text_longer_than_the_buffer_is_whole() -> None:
+    said = "x" * (2 * _library.TEXT_SIZE)
+
+    def write(text, capacity: int) -> int:
+        text.value = said[:capacity - 1].encode()
+        return len(said)
+    assert _library._text(write) == said
+
+
+def test_the_version_is_the_librarys(monkeypatch: pytest.MonkeyPatch) -> None:
+    assert szg.version == szg.__version__ == _library._text(_library.library.szg_version)
+    for fine in ("0.1.0", "0.1.7"):
+        assert _library.require_version(fine) == fine
+    for other in ("0.2.0", "1.1.0", "0.10.0", ""):
+        with pytest.raises(ImportError, match=f"has the version {other}, and szg 0.1.0 needs its own$"):
+            _library.require_version(other)
+
+
+def test_a_library_that_lacks_a_call_is_an_import_error(monkeypatch: pytest.MonkeyPatch) -> None:
+    # the system's C library has none of the calls
+    monkeypatch.setenv("SZG_LIBRARY", "libc.so.6")
+    with pytest.raises(ImportError, match="^libc.so.6 has no szg_version: szg 0.1.0 needs another library$"):
+        _library._load()
 
 
 @pytest.mark.parametrize("status, fault, said", [
@@ -104,7 +132,7 @@ def test_each_status_of_a_call_is_an_exception(status: int, fault: type, said: s
 
 
 @pytest.mark.parametrize("call", ["szg_open_front", "szg_share_front", "szg_check", "szg_values", "szg_front_size", "szg_front_get",
-                                  "szg_front_probe", "szg_front_index"])
+                                  "szg_front_probe", "szg_front_index", "szg_front_placement"])
 def test_no_call_loses_want_of_memory(call: str, tmp_path: Path, monkeypatch: pytest.MonkeyPatch) -> None:
     path = tmp_path / "KQvK.rtbw"
     path.write_bytes(UNPAIRED.data)
@@ -113,7 +141,7 @@ def test_no_call_loses_want_of_memory(call: str, tmp_path: Path, monkeypatch: py
         with szg.Table.open(path) as mapped, szg.Table("KQvK", "wdl", UNPAIRED.data) as table:
             for one in (mapped, table):
                 one.get(0), one.size(), one.values(), one.verify()
-                one.index("4K3/8/8/8/8/8/8/Q6k w"), one.probe_wdl("4K3/8/8/8/8/8/8/Q6k w")
+                one.index("4K3/8/8/8/8/8/8/Q6k w"), one.probe_wdl("4K3/8/8/8/8/8/8/Q6k w"), one.placement(0, 0, 0)
 
     use()
     monkeypatch.setattr(_library.library, call, lambda *_: 3)

@@ -373,3 +373,49 @@ def test_groups_that_cannot_be_numbered() -> None:
             with pytest.raises(szg.Untold) as caught:
                 table.index(men, WHITE)
             assert caught.value.reason == reason
+
+
+def test_an_index_has_a_placement_that_has_the_index(each_sample: Sample) -> None:
+    with szg.Table(each_sample.name, each_sample.kind, each_sample.data) as table:
+        for sub in each_sample.read.subs:
+            for index in [*range(0, sub.size, SPOT_VALUES), sub.size - 1]:
+                men, turn = table.placement(sub.part, sub.side, index)
+                assert table.index(men, turn) == (sub.part, sub.side, index)
+                assert table.placement(*table.index(men, turn)) == (men, turn)
+                letters = {color: sorted(kind for kind, one, _ in men if one is color) for color in (WHITE, BLACK)}
+                first, second = (sorted(" PNBRQK".index(letter) for letter in side) for side in each_sample.name.split("v"))
+                assert letters == {WHITE: first, BLACK: second}
+                assert turn is (sub.side == 0)
+            for index in (sub.size, -1, 1 << 64, 1 << 70):
+                with pytest.raises(IndexError):
+                    table.placement(sub.part, sub.side, index)
+        for part, side in ((4, 0), (0, 2), (256, 0), (0, 256), (-1, 0), (0, -1)):
+            with pytest.raises(IndexError):
+                table.placement(part, side, 0)
+        with pytest.raises(TypeError, match="^index must be an integer, not str$"):
+            table.placement(0, 0, "0")  # type: ignore[arg-type]
+    with pytest.raises(ValueError, match="^the table is closed$"):
+        table.placement(0, 0, 0)
+
+
+def test_worked_placements() -> None:
+    """The first index of a table without pawns: the kings on b1 and c1, the other man on a1."""
+    with szg.Table("KNvK", "wdl", KNIGHT.data) as table:
+        men = ((KING, WHITE, 1), (szg.KNIGHT, WHITE, 0), (KING, BLACK, 2))
+        assert table.placement(0, 0, 0) == (men, WHITE)
+        assert table.placement(0, 1, 0) == (men, BLACK)
+    with szg.Table("KPvK", "dtz", PAWN.data) as table:
+        # e2 with the kings on e1 and e8, mirrored: the leading pawn of a placement is on the files a to d
+        men, turn = table.placement(3, 0, 21564)
+        assert sorted(men) == [(szg.PAWN, WHITE, 11), (KING, BLACK, 59), (KING, WHITE, 3)] and turn is WHITE
+        assert table.index(pawn_on(12), WHITE) == (3, 0, 21564)
+
+
+def test_a_side_without_placements() -> None:
+    """A table of one value in which equal bishops are in two groups."""
+    data = bytearray(80)
+    data[:14] = bytes.fromhex("71e8235d0100") + bytes.fromhex("3366ee33") + bytes.fromhex("80028002")
+    with szg.Table("KBBvK", "wdl", bytes(data)) as table:
+        with pytest.raises(szg.Untold) as caught:
+            table.placement(0, 0, 0)
+        assert caught.value.reason == "Irregular"

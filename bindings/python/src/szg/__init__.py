@@ -7,14 +7,17 @@
 
     with szg.Table.open("tables/KQvK.rtbw") as table:
         table.probe_wdl([(szg.KING, szg.WHITE, 60), (szg.QUEEN, szg.WHITE, 0), (szg.KING, szg.BLACK, 7)], szg.WHITE)
+        table.placement(0, 0, 11711)                       # the men of an index, and who moves
         table.values()                                     # all values, as numpy.asarray takes them
 
 Opening a table checks all of it but its blocks, and these too with verify=True: you get the table, or Refused with the
 first check that fails and its byte. Each block is checked when a value is fetched from it: you get the value, or BadBlock.
 The checks are not made here: the C library makes them. It is that of SZG_LIBRARY, a path, where it is set, else the one
-in this package, else the system's.
+in this package, else the system's. `version` is the library's own version, whose first two numbers are always those of
+`__version__`: another library is an ImportError.
 """
 from ._errors import BadBlock, Changed, MissingTableError, Refused, Untold
+from ._library import version
 from ._placement import BISHOP, BLACK, KING, KNIGHT, PAWN, QUEEN, ROOK, WHITE, Board, Placement
 from ._table import Spot, Table
 from ._tablebase import Tablebase, open_tablebase
@@ -22,5 +25,5 @@ from ._version import __version__
 
 __all__ = [
     "BISHOP", "BLACK", "BadBlock", "Board", "Changed", "KING", "KNIGHT", "MissingTableError", "PAWN", "Placement", "QUEEN", "ROOK",
-    "Refused", "Spot", "Table", "Tablebase", "Untold", "WHITE", "__version__", "open_tablebase",
+    "Refused", "Spot", "Table", "Tablebase", "Untold", "WHITE", "__version__", "open_tablebase", "version",
 ]

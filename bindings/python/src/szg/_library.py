@@ -7,17 +7,13 @@ from pathlib import Path
 from typing import Any, Callable, List, NoReturn, Optional
 
 from ._errors import BadBlock, Changed, Refused, Untold
+from ._version import __version__
 
-REASONS = (
-    "Truncated", "Magic", "SplitBit", "PawnBit", "Pieces", "PawnsFirst", "OrderPlace", "BlockBits", "SpanBits",
-    "CodeLengths", "LowestOrder", "TooFull", "Child", "Cycle", "LongSymbol", "ShortTotal", "SparseEntry", "Word",
-)
-DONE, NAME, REFUSED, MEMORY, RANGE, CLOSED = range(6)
-UNTOLD = dict(enumerate((
-    "Man", "Men", "SameSquare", "PawnRank", "OtherMaterial", "Irregular", "KingsTouch", "WrongSide", "NoClass", "Draw",
-    "OutsideMap",
-), 6))
-CHANGED, BAD_BLOCK = 17, 18
+# enum szg_status. MAN to OUTSIDE_MAP say why a table has no entry.
+DONE, NAME, REFUSED, MEMORY, RANGE, CLOSED, MAN = range(7)
+OUTSIDE_MAP, CHANGED, BAD_BLOCK = 16, 17, 18
+MAX_MEN = 6
+TEXT_SIZE = 32
 
 
 class Answer(ctypes.Structure):
@@ -43,7 +39,11 @@ class FoundSpot(ctypes.Structure):
 def _signatures() -> "dict[str, list[Any]]":
     handle, subtable = POINTER(Handle), [c_uint8, c_uint8]
     file = [c_char_p, c_size_t, c_bool, c_void_p, c_size_t]
+    text = [c_char_p, c_size_t]
     return {
+        "szg_version": text,
+        "szg_status_text": [c_uint32, *text],
+        "szg_reason_text": [c_uint32, *text],
         "szg_check": [*file, POINTER(Answer)],
         "szg_values": [*file, *subtable, POINTER(c_uint16), c_size_t, POINTER(Answer)],
         "szg_open_front": [*file, handle, POINTER(Answer)],
@@ -51,6 +51,8 @@ def _signatures() -> "dict[str, list[Any]]":
         "szg_front_size": [handle, *subtable, POINTER(c_uint64)],
         "szg_front_get": [handle, c_void_p, c_size_t, *subtable, c_uint64, POINTER(c_uint16), POINTER(NamedBlock)],
         "szg_front_index": [handle, POINTER(CodedMan), c_size_t, c_uint8, POINTER(FoundSpot)],
+        "szg_front_placement": [
+            handle, *subtable, c_uint64, POINTER(CodedMan), c_size_t, POINTER(c_size_t), POINTER(c_uint8)],
         "szg_front_probe": [
             handle, c_void_p, c_size_t, POINTER(CodedMan), c_size_t, c_uint8, c_int8, POINTER(c_int64), POINTER(NamedBlock)],
         "szg_front_number": [handle, c_uint8, c_int8, c_uint16, POINTER(c_uint32)],
@@ -59,16 +61,55 @@ def _signatures() -> "dict[str, list[Any]]":
 
 
 def _load() -> ctypes.CDLL:
-    """The library of SZG_LIBRARY where it is set, else the one beside this file, else the system's."""
+    """The library of SZG_LIBRARY where it is set, else the one beside this file, else the system's.
+
+    Errors: OSError if it cannot be loaded; ImportError if it lacks a call."""
     beside = Path(__file__).resolve().parent / "libszg.so"
     library = ctypes.CDLL(os.environ.get("SZG_LIBRARY") or (str(beside) if beside.exists() else "libszg.so.0"))
     for name, arguments in _signatures().items():
-        call = getattr(library, name)
-        call.argtypes, call.restype = arguments, None if name.startswith("szg_close") else c_uint32
+        try:
+            call = getattr(library, name)
+        except AttributeError:
+            raise ImportError(f"{library._name} has no {name}: szg {__version__} needs another library") from None
+        call.argtypes, call.restype = arguments, c_uint32
+        if name.startswith("szg_close"):
+            call.restype = None
+        if name == "szg_version" or name.endswith("_text"):
+            call.restype = c_size_t
     return library
 
 
 library = _load()
+
+
+def _text(call: Callable[..., int], *words: int) -> str:
+    """The text that a call of the library writes for these numbers."""
+    text = ctypes.create_string_buffer(TEXT_SIZE)
+    length = call(*words, text, len(text))
+    if length >= len(text):
+        text = ctypes.create_string_buffer(length + 1)
+        call(*words, text, len(text))
+    return text.value.decode("ascii")
+
+
+def status_text(status: int) -> str:
+    """The name of a status, as OtherMaterial; empty for a number that is no status."""
+    return _text(library.szg_status_text, status)
+
+
+def reason_text(reason: int) -> str:
+    """The name of a reason, as Truncated; empty for a number that is no reason."""
+    return _text(library.szg_reason_text, reason)
+
+
+def require_version(found: str) -> str:
+    """Returns the library's version. Errors: ImportError if this package needs another: major and minor number are its own."""
+    if found.split(".")[:2] != __version__.split(".")[:2]:
+        raise ImportError(f"{library._name} has the version {found}, and szg {__version__} needs its own")
+    return found
+
+
+version = require_version(_text(library.szg_version))
 
 
 class _PyBuffer(ctypes.Structure):
@@ -117,8 +158,8 @@ def judge(status: int, bad: Optional[NamedBlock] = None) -> None:
 
 
 def _raise(status: int) -> NoReturn:
-    if status in UNTOLD:
-        raise Untold(UNTOLD[status])
+    if MAN <= status <= OUTSIDE_MAP:
+        raise Untold(status_text(status))
     if status == RANGE:
         raise IndexError("the table has no such part, side or index")
     if status == CLOSED:
@@ -137,7 +178,7 @@ def ask_file(call: Callable[..., int], name: str, kind: str, lent: Lent, *words:
     text, answer = name.encode(errors="replace"), Answer()
     status = call(text, len(text), kind == "dtz", lent.address, lent.length, *words, byref(answer))
     if status == REFUSED:
-        raise Refused(answer.place, REASONS[answer.reason - 1])
+        raise Refused(answer.place, reason_text(answer.reason))
     if status == NAME:
         raise ValueError(f"{name!r} is no material's name")
     judge(status)

@@ -1,8 +1,8 @@
 """An opened table: which calls of the C library serve it is known here alone."""
-from ctypes import byref, c_int64, c_uint16, c_uint32, c_uint64
+from ctypes import byref, c_int64, c_size_t, c_uint8, c_uint16, c_uint32, c_uint64
 from typing import Optional, Tuple
 
-from ._library import FoundSpot, Handles, Lent, ask_file, library
+from ._library import MAX_MEN, CodedMan, FoundSpot, Handles, Lent, ask_file, library
 from ._placement import Men
 
 
@@ -48,6 +48,11 @@ class Opened:
         coded, spot = men.coded(), FoundSpot()
         self._front(library.szg_front_index, coded, len(coded), men.mover, byref(spot))
         return spot.part, spot.side, spot.index
+
+    def placement(self, part: int, side: int, index: int) -> Men:
+        coded, count, mover = (CodedMan * MAX_MEN)(), c_size_t(), c_uint8()
+        self._front(library.szg_front_placement, part, side, index, coded, len(coded), byref(count), byref(mover))
+        return Men(tuple((man.kind, man.color == 0, man.square) for man in coded[:count.value]), mover.value == 0)
 
     def probe(self, men: Men, wdl: int) -> int:
         coded, outcome = men.coded(), c_int64()

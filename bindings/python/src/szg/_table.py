@@ -3,11 +3,11 @@ import mmap
 import os
 from pathlib import Path
 from types import TracebackType
-from typing import Any, NamedTuple, Optional, Type, Union
+from typing import Any, NamedTuple, Optional, Tuple, Type, Union
 
 from ._library import Lent
 from ._opened import Opened
-from ._placement import Men, Placement, integer, men_of
+from ._placement import Man, Men, Placement, integer, men_of
 
 KINDS = {".rtbw": "wdl", ".rtbz": "dtz"}
 
@@ -87,10 +87,7 @@ class Table:
         """The stored value at an index: in WDL the class plus 2; in DTZ a value that `number` decodes.
 
         Errors: IndexError if the table has no such part, side or index; BadBlock if its block does not decode."""
-        index = integer(index, "index")
-        if not 0 <= index < 1 << 64:
-            raise IndexError(f"the table has no index {index}")
-        return self._opened.get(_byte(part, "part"), _byte(side, "side"), index)
+        return self._opened.get(_byte(part, "part"), _byte(side, "side"), _index(index))
 
     def values(self, part: int = 0, side: int = 0) -> memoryview:
         """All stored values of a part's side, in the order of their indexes. All of the table is checked for it.
@@ -117,6 +114,18 @@ class Table:
     def index(self, board: Placement, turn: Optional[bool] = None) -> Spot:
         """Where the table stores a placement. Errors: Untold if it has no index; TypeError; ValueError for a bad FEN."""
         return Spot(*self._opened.index(men_of(board, turn)))
+
+    def placement(self, part: int, side: int, index: int) -> Tuple[Tuple[Man, ...], bool]:
+        """The placement of an index: the men as tuples (kind, colour, square), and who moves (True if White).
+
+        It is the inverse of `index`: `table.index(*table.placement(part, side, i))` is `Spot(part, side, i)`, and
+        `table.placement(*table.index(board))` is an image of the board. The name's first side is White. The men come in the
+        table's own order. In a DTZ table the stored side moves.
+
+        Errors: IndexError if the table has no such part, side or index; Untold if the part's side has no placements:
+        `Irregular`, or `WrongSide` for a DTZ table with pawns that stores Black where both sides have the same men."""
+        men, turn = self._opened.placement(_byte(part, "part"), _byte(side, "side"), _index(index))
+        return men, turn
 
     def probe_wdl(self, board: Placement, turn: Optional[bool] = None) -> int:
         """The class of a placement for the side to move: 2 win, 1 cursed win, 0 draw, -1 blessed loss, -2 loss.
@@ -194,6 +203,14 @@ def _byte(number: int, what: str) -> int:
     if not 0 <= number < 256:
         raise IndexError(f"the table has no {what} {number}")
     return number
+
+
+def _index(index: int) -> int:
+    """An index that the library can be asked for. Errors: IndexError for another integer; TypeError."""
+    index = integer(index, "index")
+    if not 0 <= index < 1 << 64:
+        raise IndexError(f"the table has no index {index}")
+    return index
 
 
 def _class(wdl: int) -> int:
