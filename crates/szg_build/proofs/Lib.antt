@@ -15,6 +15,7 @@ pub mod Filling
 pub mod BlockSteps
 pub mod SparseLaws
 pub mod MadeLaws
+pub mod RuleLaws
 pub mod SubLaws
 pub mod Entries
 pub mod BuiltLaws

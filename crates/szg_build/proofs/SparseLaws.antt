@@ -50,11 +50,28 @@ index_none lengths span_bits sparse e =
     subst (λ (z : List SparseEntry). IsIndexOf lengths span_bits z) (sym e) (record { good = λ j entry there. absurd cc; fit = tt })
 
 pub index_more : (lengths : List ℕ) (span_bits j : ℕ) (sparse after : List SparseEntry) (entry : SparseEntry) → IsIndexOf lengths span_bits sparse → length sparse ≡ j → after ≡ sparse ++ entry ∷ [] →
-    entry.block ≤ length lengths → start lengths entry.block + entry.offset ≡ middle_of_span span_bits j → entry.block < 2 ^ 32 → entry.offset < 2 ^ 16 → IsIndexOf lengths span_bits after
-index_more lengths span_bits j sparse after entry h count made there place small short =
+    IsEntryOf lengths span_bits j entry → entry.block < 2 ^ 32 → entry.offset < 2 ^ 16 → IsIndexOf lengths span_bits after
+index_more lengths span_bits j sparse after entry h count made told small short =
     subst (λ (z : List SparseEntry). IsIndexOf lengths span_bits z) (sym made) (record {
       good = λ i e at. last_or_before sparse entry i e at (λ old. h.good i e old)
           (λ last same. subst (λ (x : SparseEntry). IsEntryOf lengths span_bits i x) same
-          (record { block = there; place = place ∙ ap (middle_of_span span_bits) (let k : j ≡ i = omega (arith, last, count) in k) }));
+          (subst (λ (k : ℕ). IsEntryOf lengths span_bits k entry) (let k : j ≡ i = omega (arith, last, count) in k) told));
       fit = all_push IsEntry sparse entry h.fit (small, short);
     })
+
+-- an entry to an index is one to the middle of its span
+pub entry_is : (lengths : List ℕ) (span_bits j index size : ℕ) (entry : SparseEntry) → index ≡ middle_of_span span_bits j → start lengths (length lengths) ≡ size → entry.block ≤ length lengths →
+    start lengths entry.block + entry.offset ≡ index → (index < size → (entry.block < length lengths) × (index < start lengths (entry.block + 1))) → (size ≤ index → entry.block ≡ length lengths) →
+    IsEntryOf lengths span_bits j entry
+entry_is lengths span_bits j index size entry at total there place inside beyond = record {
+  block = there;
+  place = place ∙ at;
+  inside = λ lt. let h = inside (omega (arith, lt, at, total)) in (h.0, omega (arith, h.1, at));
+  beyond = λ le. beyond (omega (arith, le, at, total));
+}
+
+-- an index of a block's start and more that is at most its length away from it is in that block
+pub held_by : (lengths : List ℕ) (block begun index : ℕ) → block < length lengths → begun ≡ start lengths block → index - begun ≤ get_or lengths block 0 → index < start lengths (block + 1)
+held_by lengths block begun index there at near =
+    let more : start lengths (block + 1) ≡ start lengths block + (get_or lengths block 0 + 1) = start-more lengths block there in
+    omega (arith, more, at, near)

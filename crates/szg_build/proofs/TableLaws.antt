@@ -23,7 +23,9 @@ use Rattle.szg_build.specs.declared.BuildFault.TheVariants as fault
 use Rattle.szg_build.specs.declared.building.Choice.{Choice}
 use Rattle.szg_build.specs.declared.building.Choice.TheVariants.{Fixed, Small}
 use Rattle.szg_build.specs.Plan.{Plan, has_parts, is_part, has_maps, is_map_of, sizes_told, build_fault, fault_for, wrong_length, wrong_value, too_many_values}
-use Rattle.szg_build.specs.Building.{IsBuiltSub, IsPackedBy}
+use Rattle.szg_build.specs.Building.{IsBuiltSub, IsByRule, IsPackedBy}
+use Rattle.szg_build.specs.Rule.{byte4_for, constant_for, constant_in, HasSpanIndex, HasTruncatedBinary}
+use Rattle.szg_build.specs.declared.building.Packing.{Packing}
 use Rattle.szg_build.specs.Built.{IsBuilt, IsBuiltSmall, layout_in, packed_in, flags_byte, flags_bytes}
 use Rattle.szg_build.specs.Tabling.{AreBuilt, IsBuiltBare, IsBuiltBy, IsOfBytes, IsOfItems, Stands}
 use Rattle.szg_build.proofs.RefusalLaws.{all_held, all_both, none_pass, sizes_are, lists_stand, fault_told, passed, bits_told, maps_pass}
@@ -202,6 +204,43 @@ packed_stand choice plan (p ∷ places) (v ∷ lists) (s ∷ subtables) e h = (
   packed_stand choice plan places lists subtables (ap rest_of e) h.1,
 )
 
+-- subtables that look as the rule says
+abbrev AreByRule : Kind → Choice → List (List ℕ) → List Subtable → Type 0
+AreByRule kind choice lists subtables = SideBySide (λ list subtable. IsByRule kind list choice subtable) lists subtables
+
+rules_stand : (choice : Choice) (plan : Plan) (lists : List (List ℕ)) (subtables : List Subtable) → SideBySide (IsOf choice plan) lists subtables → AreByRule plan.kind choice lists subtables
+rules_stand choice plan [] [] h = tt
+rules_stand choice plan [] (s ∷ subtables) h = absurd h
+rules_stand choice plan (v ∷ lists) [] h = absurd h
+rules_stand choice plan (v ∷ lists) (s ∷ subtables) h = (h.0.1.rule, rules_stand choice plan lists subtables h.1)
+
+index_stand : (choice : Choice) (plan : Plan) (places : List Slot) (lists : List (List ℕ)) (subtables : List Subtable) → AreSized places lists → SideBySide (IsOf choice plan) lists subtables →
+    AllByRecursion (λ pair. HasSpanIndex pair.0.size pair.1) (slotted places subtables)
+index_stand choice plan [] [] [] e h = tt
+index_stand choice plan [] [] (s ∷ subtables) e h = absurd h
+index_stand choice plan [] (v ∷ lists) subtables e h = absurd (omega (arith, ap length e))
+index_stand choice plan (p ∷ places) [] subtables e h = absurd (omega (arith, ap length e))
+index_stand choice plan (p ∷ places) (v ∷ lists) [] e h = absurd h
+index_stand choice plan (p ∷ places) (v ∷ lists) (s ∷ subtables) e h = (
+  subst (λ (n : ℕ). HasSpanIndex n s) (sym (ap first_or e)) h.0.1.rule.index,
+  index_stand choice plan places lists subtables (ap rest_of e) h.1,
+)
+
+pub constants_are : (kind : Kind) (choice : Choice) (lists : List (List ℕ)) (subtables : List Subtable) → SideBySide (λ list subtable. IsByRule kind list choice subtable) lists subtables →
+    map constant_in subtables ≡ map (constant_for kind) lists
+constants_are kind choice [] [] h = refl
+constants_are kind choice [] (s ∷ subtables) h = absurd h
+constants_are kind choice (v ∷ lists) [] h = absurd h
+constants_are kind choice (v ∷ lists) (s ∷ subtables) h =
+    ap (λ (o : Option ℕ). o ∷ map constant_in subtables) h.0.constants ∙ ap (λ (z : List (Option ℕ)). constant_for kind v ∷ z) (constants_are kind choice lists subtables h.1)
+
+pub codes_are : (kind : Kind) (packing : Packing) (lists : List (List ℕ)) (subtables : List Subtable) → SideBySide (λ list subtable. IsByRule kind list (Fixed packing) subtable) lists subtables →
+    AllByRecursion HasTruncatedBinary subtables
+codes_are kind packing [] [] h = tt
+codes_are kind packing [] (s ∷ subtables) h = absurd h
+codes_are kind packing (v ∷ lists) [] h = absurd h
+codes_are kind packing (v ∷ lists) (s ∷ subtables) h = (h.0.codes, codes_are kind packing lists subtables h.1)
+
 -- ---- flags and maps
 
 abbrev Kept : ℕ → ℕ → Type 0
@@ -330,8 +369,8 @@ table_with plan byte4 subtables = record {
 }
 
 pub table_stands : (choice : Choice) (plan : Plan) (byte4 : ℕ) (lists : List (List ℕ)) (subtables : List Subtable) → byte4 < 256 → has_bit 0 byte4 ≡ not (is_symmetric plan.material) → has_bit 1 byte4 ≡ has_pawns plan.material →
-    AreBytes 16 plan.last → AllByRecursion IsOfItems plan.maps → Stands plan lists → AreBuilt choice plan plan.flags lists subtables → IsBuiltBare choice plan lists (table_with plan byte4 subtables)
-table_stands choice plan byte4 lists subtables small split pawns last fit stands built =
+    byte4 ≡ byte4_for plan.material → AreBytes 16 plan.last → AllByRecursion IsOfItems plan.maps → Stands plan lists → AreBuilt choice plan plan.flags lists subtables → IsBuiltBare choice plan lists (table_with plan byte4 subtables)
+table_stands choice plan byte4 lists subtables small split pawns ruled last fit stands built =
     let parts = stands.parts in
     let sized = stands.sizes in
     let pass = stands.maps in
@@ -348,6 +387,9 @@ table_stands choice plan byte4 lists subtables small split pawns last fit stands
         last = refl;
         packed = packed_stand choice plan (slots plan.material plan.kind plan.parts) lists subtables sized each;
         values = values_stand choice plan (slots plan.material plan.kind plan.parts) lists subtables sized each;
+        byte4 = ruled;
+        rule = rules_stand choice plan lists subtables each;
+        index = index_stand choice plan (slots plan.material plan.kind plan.parts) lists subtables sized each;
       };
       accepted = λ fill asked. record {
         byte4 = small;
@@ -407,6 +449,13 @@ zeros (suc n) = let more = zeros n in (ap suc more.0, (omega arith, more.1))
 
 pub zeros_fit : (n : ℕ) (fill : List ℕ) → fill ≡ replicate n 0 → AreBytes n fill
 zeros_fit n fill e = subst (λ (z : List ℕ). AreBytes n z) (sym e) (zeros n)
+
+pub all_zero : (n : ℕ) (fill : List ℕ) → fill ≡ replicate n 0 → AllByRecursion (λ (byte : ℕ). byte ≡ 0) fill
+all_zero n fill e = subst (λ (z : List ℕ). AllByRecursion (λ (byte : ℕ). byte ≡ 0) z) (sym e) (zero_bytes n)
+  where
+    zero_bytes : (n : ℕ) → AllByRecursion (λ (byte : ℕ). byte ≡ 0) (replicate n 0)
+    zero_bytes zero = tt
+    zero_bytes (suc n) = (refl, zero_bytes n)
 
 -- ---- refusals
 

@@ -1,5 +1,5 @@
 -- What the steps of the builder hand on to one another.
-use Rattle.std.specs.Prelude.{ℕ, suc, ◌≡◌, ◌+◌, ◌*◌, ◌/◌, ◌%◌, ◌^◌, ◌<◌, ◌≤◌, ◌==◌, Bool, false, IfSome, List, [], ◌∷◌, ◌++◌, length, map, take, drop, Some, slice_get, slice_index, slice_index_or}
+use Rattle.std.specs.Prelude.{ℕ, suc, ◌≡◌, ◌+◌, ◌-◌, ◌*◌, ◌/◌, ◌%◌, ◌^◌, ◌<◌, ◌≤◌, ◌==◌, Bool, false, IfSome, List, [], ◌∷◌, ◌++◌, length, map, take, drop, nat_lt, if◌then◌else◌, Option, Some, None, slice_get, slice_index, slice_index_or}
 use Rattle.std.specs.List.{AllByRecursion, concat, list_any}
 use Rattle.szg_pairs.specs.Dictionary.{IsDictionary}
 use Rattle.szg_pairs.specs.Expansion.{expansion_of}
@@ -20,6 +20,7 @@ use Rattle.szg_build.specs.declared.building.Choice.{Choice}
 use Rattle.szg_build.specs.declared.building.Choice.TheVariants.{Fixed, Small}
 use Rattle.szg_build.specs.Plan.{values_below, different_values}
 use Rattle.szg_build.specs.Built.{layout_in, packed_in, flags_byte}
+use Rattle.szg_build.specs.Rule.{constant_for, constant_in, HasSpanIndex, HasTruncatedBinary}
 use Rattle.szg_build.specs.Pairing.{pair_count, values_of, pairs_in, IsUsed, IsFinished, IsPaired}
 
 -- ---- pairs
@@ -151,15 +152,28 @@ pub record IsCut (code : CanonicalCode) (entries : List (List ℕ)) (block_bits 
 
 -- ---- the sparse index
 
--- the entry leads to the middle of span j
+-- the entry leads to the middle of span j: to the block that holds it, or else past the last block
 pub record IsEntryOf (lengths : List ℕ) (span_bits j : ℕ) (entry : SparseEntry) : Type 0 where
   pub block : entry.block ≤ length lengths
   pub place : start lengths entry.block + entry.offset ≡ middle_of_span span_bits j
+  pub inside : middle_of_span span_bits j < start lengths (length lengths) → (entry.block < length lengths) × (middle_of_span span_bits j < start lengths (entry.block + 1))
+  pub beyond : start lengths (length lengths) ≤ middle_of_span span_bits j → entry.block ≡ length lengths
 
 -- entries of these lengths' spans, which fit their fields
 pub record IsIndexOf (lengths : List ℕ) (span_bits : ℕ) (sparse : List SparseEntry) : Type 0 where
   pub good : (j : ℕ) (entry : SparseEntry) → slice_get sparse j ≡ Some entry → IsEntryOf lengths span_bits j entry
   pub fit : AllByRecursion IsEntry sparse
+
+-- the extra lengths that a last entry needs
+abbrev pub extras_for : ℕ → Option SparseEntry → List ℕ
+extras_for blocks None = []
+extras_for blocks (Some entry) = if nat_lt entry.block blocks then [] else 65535 ∷ []
+
+-- after the lengths follow those that the last entry needs, `extra` in number
+abbrev pub IsExtended : List SparseEntry → List ℕ → List ℕ → ℕ → Type 0
+IsExtended sparse lengths after extra =
+    (extra ≡ length (extras_for (length lengths) (slice_get sparse (length sparse - 1))))
+    × (after ≡ lengths ++ extras_for (length lengths) (slice_get sparse (length sparse - 1)))
 
 -- ---- a subtable
 
@@ -208,10 +222,22 @@ IsPackedBy (Fixed packing) layout packed size =
     (layout.block_bits ≡ packing.block_bits) × (layout.span_bits ≡ packing.span_bits) × IsPaired layout packed size packing.rounds
 IsPackedBy Small layout packed size = (rounds : ℕ) × IsPaired layout packed size rounds
 
+-- the code is the rule's, if the block bits and the span bits are chosen by a plan
+abbrev pub IsCodedBy : Choice → Subtable → Type 0
+IsCodedBy (Fixed packing) subtable = HasTruncatedBinary subtable
+IsCodedBy Small subtable = Unit {0}
+
+-- a subtable that looks as the rule says
+pub record IsByRule (kind : Kind) (values : List ℕ) (choice : Choice) (subtable : Subtable) : Type 0 where
+  pub constants : constant_in subtable ≡ constant_for kind values
+  pub codes : IsCodedBy choice subtable
+  pub index : HasSpanIndex (length values) subtable
+
 -- A subtable of a list of values: it passes the checks of a file, and expands to the values; its flags byte has these
--- flags; and if it isn't constant it is packed as chosen.
+-- flags; if it isn't constant it is packed as chosen; and it looks as the rule says.
 pub record IsBuiltSub (kind : Kind) (flags : ℕ) (values : List ℕ) (choice : Choice) (subtable : Subtable) : Type 0 where
   pub stands : (slot : Slot) → slot.size ≡ length values → IsSubtable slot subtable
   pub expands : values_in kind (length values) subtable ≡ values
   pub flags_kept : flags_of subtable ≡ flags_byte flags subtable
   pub packed : IfSome (layout_in subtable) (λ layout. IsPackedBy choice layout (packed_in subtable) (length values))
+  pub rule : IsByRule kind values choice subtable

@@ -1,4 +1,5 @@
 pub mod Pairing
+pub mod Rule
 pub mod Counting
 pub mod Building
 pub mod Plan

@@ -9,7 +9,8 @@ use Rattle.szg_file.specs.FileOf.{fill_asked}
 use Rattle.szg_build.specs.declared.building.Choice.{Choice}
 use Rattle.szg_build.specs.declared.building.Choice.TheVariants.{Fixed, Small}
 use Rattle.szg_build.specs.Plan.{Plan, different_values, greatest_value, has_maps}
-use Rattle.szg_build.specs.Building.{IsBuiltSub, IsPackedBy}
+use Rattle.szg_build.specs.Building.{IsBuiltSub, IsByRule, IsPackedBy}
+use Rattle.szg_build.specs.Rule.{byte4_for, HasSpanIndex}
 use Rattle.szg_build.specs.Built.{layout_in, packed_in, subtables_in, value_lists, plan_flags, flags_bytes}
 
 -- a list of values of which a subtable can be built
@@ -63,6 +64,9 @@ pub record IsBuiltBy (choice : Choice) (plan : Plan) (lists : List (List ℕ)) (
   pub last : t.last ≡ plan.last
   pub packed : AllByRecursion (λ pair. IfSome (layout_in pair.1) (λ layout. IsPackedBy choice layout (packed_in pair.1) pair.0.size)) (subtables_in t)
   pub values : value_lists t ≡ lists
+  pub byte4 : t.byte4 ≡ byte4_for plan.material
+  pub rule : SideBySide (λ list subtable. IsByRule plan.kind list choice subtable) lists t.subtables
+  pub index : AllByRecursion (λ pair. HasSpanIndex pair.0.size pair.1) (subtables_in t)
 
 -- all of a built table but its fill
 pub record IsBuiltBare (choice : Choice) (plan : Plan) (lists : List (List ℕ)) (t : Contents) : Type 0 where

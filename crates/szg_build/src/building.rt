@@ -1,11 +1,12 @@
 //! A subtable of its values: pairs, words, blocks, the sparse index.
-ghost use Rattle.std.specs.Prelude.{ℕ, ◌≡◌, ◌<◌, ◌≤◌, ◌^◌, ◌++◌, List, [], length, IfOk, OnOk};
+ghost use Rattle.std.specs.Prelude.{ℕ, ◌≡◌, ◌<◌, ◌≤◌, ◌^◌, ◌++◌, false, List, [], length, map, IfOk, OnOk};
 ghost use Rattle.std.specs.List.{AllByRecursion};
 ghost use Rattle.szg_pairs.specs.Dictionary.{IsDictionary};
 ghost use Rattle.szg_file.specs.Accepted.{AreNumbers};
-ghost use Rattle.szg_file.specs.Held.{subtable_of};
-ghost use Rattle.szg_build.specs.Building.{IsChosen, IsMadeSmall, IsMadeSub, IsPairing};
+ghost use Rattle.szg_file.specs.Held.{sparse_of, subtable_of};
+ghost use Rattle.szg_build.specs.Building.{IsChosen, IsExtended, IsMadeSmall, IsMadeSub, IsPairing};
 ghost use Rattle.szg_build.specs.Plan.{different_values};
+ghost use Rattle.szg_build.specs.Rule.{HasSpanIndex, HasTruncatedBinary, IsTruncatedBinary};
 
 use crate::accepting::count_pairs_in;
 use crate::blocks::{Cut, fill_blocks};
@@ -55,7 +56,8 @@ fn dictionary(alloc: Global, entries: Vec<[u8; 3]>) -> Result<Dict, AllocError>
 /// Pushes one more length (65,536 values) if the last sparse entry points past the blocks. Returns the number of
 /// lengths pushed.
 fn push_extra(lengths: &mut Vec<u16>, sparse: &[Entry]) -> Result<u8, AllocError>
-    ensures { IfOk result (λ extra. (extras : List ℕ) × (extra ≡ length extras) × AreNumbers 2 extras × (lengths.new.items ≡ lengths.old.items ++ extras)) }
+    ensures rule { IfOk result (λ extra. IsExtended (map sparse_of sparse.now) lengths.old.items lengths.new.items extra) }
+    ensures fits { IfOk result (λ extra. (extras : List ℕ) × (extra ≡ length extras) × AreNumbers 2 extras × (lengths.new.items ≡ lengths.old.items ++ extras)) }
 {
     let Some(last) = sparse.last() else {
         return Ok(0);
@@ -71,7 +73,8 @@ fn push_extra(lengths: &mut Vec<u16>, sparse: &[Entry]) -> Result<u8, AllocError
 fn code_for(alloc: Global, dict: &Dict, symbols: &[u16], by_use: bool) -> Result<Code, AllocError>
     requires some { 1 ≤ length dict.now }
     requires few { length dict.now ≤ 4095 }
-    ensures { IfOk result (λ code. IsChosen (length dict.now) code) }
+    ensures chosen { IfOk result (λ code. IsChosen (length dict.now) code) }
+    ensures rule { by_use ≡ false → IfOk result (λ code. IsTruncatedBinary (length dict.now) code) }
 {
     if by_use {
         let counts = counts_of(alloc, usize::from(dict.symbols()), symbols)?;
@@ -96,7 +99,9 @@ fn build_paired(
     requires most_block { packing.block_bits ≤ 10 }
     requires least_span { 1 ≤ packing.span_bits }
     requires most_span { packing.span_bits ≤ 16 }
-    ensures { IfOk result (λ sub. IsMadeSub values.now flags packing.block_bits packing.span_bits packing.rounds (subtable_of sub)) }
+    ensures made { IfOk result (λ sub. IsMadeSub values.now flags packing.block_bits packing.span_bits packing.rounds (subtable_of sub)) }
+    ensures rule { by_use ≡ false → IfOk result (λ sub. HasTruncatedBinary (subtable_of sub)) }
+    ensures index { IfOk result (λ sub. HasSpanIndex (length values.now) (subtable_of sub)) }
 {
     let Paired {
         entries,
@@ -142,7 +147,9 @@ pub(crate) fn build_pairs(
     requires least_span { 1 ≤ packing.span_bits }
     requires most_span { packing.span_bits ≤ 16 }
     requires rounds { packing.rounds ≤ 4000 }
-    ensures { IfOk result (λ sub. IsMadeSub values.now flags packing.block_bits packing.span_bits packing.rounds (subtable_of sub)) }
+    ensures made { IfOk result (λ sub. IsMadeSub values.now flags packing.block_bits packing.span_bits packing.rounds (subtable_of sub)) }
+    ensures rule { IfOk result (λ sub. HasTruncatedBinary (subtable_of sub)) }
+    ensures index { IfOk result (λ sub. HasSpanIndex (length values.now) (subtable_of sub)) }
 {
     let paired = pair_up(alloc, values, packing.rounds)?;
     build_paired(alloc, values, flags, paired, packing, false)
@@ -155,7 +162,8 @@ pub(crate) fn build_short_pairs(alloc: Global, values: &[u16], flags: u8) -> Res
     requires few { length values.now < 2 ^ 33 }
     requires small { AllByRecursion (λ v. v ≤ 4095) values.now }
     requires different { length (different_values values.now) ≤ 4095 }
-    ensures { IfOk result (λ sub. IsMadeSmall values.now flags (subtable_of sub)) }
+    ensures made { IfOk result (λ sub. IsMadeSmall values.now flags (subtable_of sub)) }
+    ensures index { IfOk result (λ sub. HasSpanIndex (length values.now) (subtable_of sub)) }
 {
     let paired = pair_shortly(alloc, values)?;
     let pairs = count_pairs_in(&paired.entries);

@@ -25,6 +25,7 @@ fn advance(lengths: &[u16], walk: &mut Walk, index: u64)
     ensures at { walk.new.start ≡ start lengths.now walk.new.block }
     ensures from { walk.new.start ≤ index }
     ensures near { index < walk.new.start + 65536 }
+    ensures holds { index < start lengths.now (walk.new.block + 1) }
 {
     'ahead: while index - walk.start > u64::from(lengths[walk.block]) {
         walk.start += u64::from(lengths[walk.block]) + 1;
@@ -46,6 +47,8 @@ fn entry_to(lengths: &[u16], walk: &mut Walk, index: u64, size: u64) -> Entry
     ensures block { result.block ≤ length lengths.now }
     ensures place { start lengths.now result.block + result.offset ≡ index }
     ensures fits { result.offset < 2 ^ 16 }
+    ensures inside { index < size → (result.block < length lengths.now) × (index < start lengths.now (result.block + 1)) }
+    ensures beyond { size ≤ index → result.block ≡ length lengths.now }
 {
     if index >= size {
         return Entry {

@@ -1,10 +1,11 @@
 //! A subtable of its values: a constant one, or one of blocks.
-ghost use Rattle.std.specs.Prelude.{◌≡◌, ◌<◌, ◌≤◌, ◌^◌, length, replicate, false, true, IfNone, IfOk, IfSome};
-ghost use Rattle.std.specs.List.{AllByRecursion};
+ghost use Rattle.std.specs.Prelude.{◌≡◌, ◌==◌, ◌<◌, ◌≤◌, ◌^◌, length, replicate, false, true, IfNone, IfOk, IfSome};
+ghost use Rattle.std.specs.List.{AllByRecursion, list_all};
 ghost use Rattle.szg_file.specs.Held.{subtable_of};
 ghost use Rattle.szg_file.specs.Values.{constant_value};
 ghost use Rattle.szg_build.specs.Building.{IsBuiltSub, IsInBounds};
 ghost use Rattle.szg_build.specs.Plan.{different_values, greatest_value};
+ghost use Rattle.szg_build.specs.Rule.{constant_for};
 
 use crate::building::{Choice, build_pairs, build_short_pairs};
 use std::alloc::{AllocError, Global};
@@ -18,6 +19,7 @@ const CONSTANT: u8 = 128;
 fn are_all(values: &[u16], one: u16) -> bool
     ensures same { result ≡ true → values.now ≡ replicate (length values.now) one }
     ensures some { result ≡ false → 0 < length values.now }
+    ensures tested { result ≡ list_all (λ value. value == one) values.now }
 {
     for value in values {
         if *value != one {
@@ -33,6 +35,7 @@ fn constant_byte(kind: Kind, values: &[u16]) -> Option<u8>
     requires small { AllByRecursion (λ v. v ≤ greatest_value kind) values.now }
     ensures same { IfSome result (λ byte. values.now ≡ replicate (length values.now) (constant_value kind byte)) }
     ensures some { IfNone result (0 < length values.now) }
+    ensures rule { result ≡ constant_for kind values.now }
 {
     match kind {
         Kind::Wdl => {

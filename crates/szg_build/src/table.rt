@@ -6,8 +6,9 @@ ghost use Rattle.szg_file.specs.Accepted.{AreNumbers, AreBytes, IsAccepted};
 ghost use Rattle.szg_file.specs.Assembled.{fields_shown};
 ghost use Rattle.szg_file.specs.Contents.{has_bit};
 ghost use Rattle.szg_file.specs.Held.{map_of, part_of, subtable_of};
-ghost use Rattle.szg_build.specs.Built.{IsBuilt, IsBuiltSmall};
+ghost use Rattle.szg_build.specs.Built.{IsBuilt, IsBuiltSmall, subtables_in};
 ghost use Rattle.szg_build.specs.Plan.{build_fault};
+ghost use Rattle.szg_build.specs.Rule.{byte4_for, constant_for, constant_in, HasSpanIndex, HasTruncatedBinary};
 ghost use Rattle.szg_build.specs.Shown.{plan_seen, small_seen};
 ghost use Rattle.szg_build.specs.Tabling.{AreBuilt, IsBuildable, IsBuiltBare, IsBuiltBy, IsChoiceOf, IsInRange, IsOfBytes, IsOfItems, Stands};
 
@@ -95,6 +96,7 @@ fn maps_fit(maps: &[Option<Map>])
 fn byte4_of(material: &Material) -> u8
     ensures split { has_bit 0 result ≡ not (is_symmetric material.now) }
     ensures pawns { has_bit 1 result ≡ has_pawns material.now }
+    ensures rule { result ≡ byte4_for material.now }
 {
     match (material.symmetric(), material.has_pawns()) {
         (true, false) => 0,
@@ -173,6 +175,7 @@ fn build_table(
     requires choice { IsChoiceOf (plan_seen plan.now) choice }
     ensures built { IfOk result (λ t. IsBuiltBy choice (plan_seen plan.now) (map (λ list. list.now) lists.now) t.contents) }
     ensures accepted { IfOk result (λ t. IsAccepted t.contents t.filled) }
+    ensures padding { IfOk result (λ t. AllByRecursion (λ byte. byte ≡ 0) t.filled) }
 {
     let mut fields = build_fields(alloc, plan, choice, lists)?;
     let asked = fields.fill_asked() as usize;
@@ -195,6 +198,7 @@ fn build_by(
         (λ fault. result ≡ Err fault) }
     ensures built { IfOk result (λ t. IsBuiltBy choice (plan_seen plan.now) (map (λ list. list.now) lists.now) t.contents) }
     ensures accepted { IfOk result (λ t. IsAccepted t.contents t.filled) }
+    ensures padding { IfOk result (λ t. AllByRecursion (λ byte. byte ≡ 0) t.filled) }
 {
     parts_fit(&plan.parts);
     let Some(sizes) = subtable_sizes(&plan.material, plan.kind, &plan.parts) else {
@@ -227,6 +231,11 @@ pub fn build(alloc: Global, plan: &Plan, lists: &[&[u16]]) -> Result<Table, Buil
         (λ fault. result ≡ Err fault) }
     ensures built { IfOk result (λ t. IsBuilt (plan_seen plan.now) (map (λ list. list.now) lists.now) t.contents) }
     ensures accepted { IfOk result (λ t. IsAccepted t.contents t.filled) }
+    ensures byte4 { IfOk result (λ t. t.contents.byte4 ≡ byte4_for plan.now.material) }
+    ensures constants { IfOk result (λ t. map constant_in t.contents.subtables ≡ map (constant_for plan.now.kind) (map (λ list. list.now) lists.now)) }
+    ensures codes { IfOk result (λ t. AllByRecursion HasTruncatedBinary t.contents.subtables) }
+    ensures index { IfOk result (λ t. AllByRecursion (λ pair. HasSpanIndex pair.0.size pair.1) (subtables_in t.contents)) }
+    ensures padding { IfOk result (λ t. AllByRecursion (λ byte. byte ≡ 0) t.filled) }
 {
     let packing = Packing {
         block_bits: plan.block_bits,
@@ -247,6 +256,10 @@ pub fn build_small(alloc: Global, plan: SmallPlan, lists: &[&[u16]]) -> Result<T
         (λ fault. result ≡ Err fault) }
     ensures built { IfOk result (λ t. IsBuiltSmall (small_seen plan) (map (λ list. list.now) lists.now) t.contents) }
     ensures accepted { IfOk result (λ t. IsAccepted t.contents t.filled) }
+    ensures byte4 { IfOk result (λ t. t.contents.byte4 ≡ byte4_for plan.material) }
+    ensures constants { IfOk result (λ t. map constant_in t.contents.subtables ≡ map (constant_for plan.kind) (map (λ list. list.now) lists.now)) }
+    ensures index { IfOk result (λ t. AllByRecursion (λ pair. HasSpanIndex pair.0.size pair.1) (subtables_in t.contents)) }
+    ensures padding { IfOk result (λ t. AllByRecursion (λ byte. byte ≡ 0) t.filled) }
 {
     let last = plan.last;
     let numbered = Plan {

@@ -1,7 +1,13 @@
-use Rattle.std.proofs.Common.{ℕ, List, ◌≡◌, ◌<◌, length, ap, sym, subst, ◌∙◌, arith, rules}
+use Rattle.std.proofs.Common.{ℕ, List, ◌≡◌, ◌<◌, length, map, ap, sym, subst, ◌∙◌, arith, rules}
 use Rattle.szg_block.specs.Block.{start}
 use Rattle.szg_build.specs.Pairing.{values_of}
 use Rattle.szg_build.proofs.MadeLaws.{below_as, symbols_few, symbols_some, entries_some, cut_total, cut_some}
+use Rattle.szg_build.proofs.RuleLaws.{index_is}
+use Rattle.std.proofs.lemmas.List.{length-map}
+use Rattle.szg_block.specs.declared.Entry.{Entry}
+use Rattle.szg_file.specs.Contents.{Head}
+use Rattle.szg_file.specs.Held.{sparse_of}
+use Rattle.szg_build.specs.Building.{IsExtended, IsIndexOf}
 use Rattle.szg_build.proofs.building.build_paired.Goals as goal
 
 pub code_for-requires-clause-some : goal.code_for-requires-clause-some
@@ -41,3 +47,28 @@ sparse_index-requires-clause-total c =
 
 pub sparse_index-requires-clause-some : goal.sparse_index-requires-clause-some
 sparse_index-requires-clause-some c = cut_some c.deref-3.result.now (length c.args.values.now) (sparse_index-requires-clause-total c) c.requires.some
+
+pub returns-clause-index : goal.returns-clause-index
+returns-clause-index c =
+    let round = c.requires.pairing.round in
+    let ss : List ℕ = c.deref-2.result.now in
+    let own : List ℕ = c.in_ok-lengths.field-0.lengths.items in
+    let e1 : c.in_ok-dict.dict ≡ c.args.paired.entries.items = c.in_ok-dict.ensures in
+    let e2 : ss ≡ c.args.paired.symbols.items = c.deref-2.ensures.value in
+    let same : values_of c.in_ok-dict.dict ss ≡ c.args.values.now = ap (λ (z : List (List ℕ)). values_of z ss) e1 ∙ ap (values_of c.args.paired.entries.items) e2 ∙ round.same in
+    let total : start own (length own) ≡ length c.args.values.now =
+    cut_total c.in_ok-code.code c.in_ok-dict.dict c.args.packing.block_bits c.args.values.now ss (length own) own c.in_ok-lengths.field-0.packed.items c.in_ok-lengths.ensures same in
+    let head : Head = record {
+      flags = c.args.flags;
+      block_bits = c.args.packing.block_bits;
+      span_bits = c.args.packing.span_bits;
+      extra = c.in_ok-extra.extra;
+      blocks = c.len-blocks.result;
+      code = c.in_ok-code.code;
+      entries = c.in_ok-dict.dict;
+    } in
+    let blocks : c.len-blocks.result ≡ length own = first_of (omega (arith, c.len-blocks.ensures, c.deref-3.ensures.len, ap length c.deref-3.ensures.value), omega (arith, c.len-blocks.ensures, c.in_ok-lengths.field-0.lengths.ok), search rules) in
+    index_is head (map sparse_of c.in_ok-sparse.sparse.items) own c.push_extra.new.lengths.items (length c.args.values.now)
+    (subst (λ (z : List ℕ). IsIndexOf z c.args.packing.span_bits (map sparse_of c.in_ok-sparse.sparse.items)) c.deref-3.ensures.value c.in_ok-sparse.ensures.index)
+    (length-map c.in_ok-sparse.sparse.items sparse_of ∙ c.in_ok-sparse.ensures.count) total c.requires.some blocks
+    (subst (λ (z : List Entry). IsExtended (map sparse_of z) own c.push_extra.new.lengths.items c.in_ok-extra.extra) c.deref-4.ensures.value c.in_ok-extra.ensures.rule)

@@ -10,8 +10,8 @@ build_paired-requires-clause-pairing c =
     let pairs : c.count_pairs_in-pairs.result ≡ length (pairs_in p.entries.items) = c.count_pairs_in-pairs.ensures.pairs ∙ ap (λ (z : List (List ℕ)). length (pairs_in z)) c.deref.ensures.value in
     as_made c.args.values.now p.entries.items p.symbols.items c.count_pairs_in-pairs.result pairs c.in_ok-paired.ensures.round
 
-pub returns : goal.returns
-returns c =
+pub returns-clause-made : goal.returns-clause-made
+returns-clause-made c =
     if_ok c.build_paired.result
     (λ sub h. record {
       block_bits = c.in_ok-sizes.sizes.block_bits;
@@ -23,4 +23,4 @@ returns c =
       most_span = c.in_ok-sizes.ensures.most_span;
       made = h;
     })
-    c.build_paired.ensures
+    c.build_paired.ensures.made

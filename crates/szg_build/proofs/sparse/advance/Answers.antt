@@ -1,5 +1,5 @@
 use Rattle.std.proofs.Common.{ℕ, ◌+◌, ◌-◌, ◌<◌, get_or, ap, ◌∙◌, arith}
-use Rattle.szg_build.proofs.SparseLaws.{next_start}
+use Rattle.szg_build.proofs.SparseLaws.{held_by, next_start}
 use Rattle.szg_build.proofs.sparse.advance.Goals as goal
 
 pub ahead-preserved : goal.ahead-preserved
@@ -13,3 +13,9 @@ ahead-preserved c =
       at = ap (λ (k : ℕ). w.start + (k + 1)) c.from-in-ahead.ensures ∙ next.1;
       from = omega (arith, next.2, c.from-in-ahead.ensures);
     }
+
+pub returns-clause-holds : goal.returns-clause-holds
+returns-clause-holds c =
+    let w = c.ahead.walk in
+    let inv = c.ahead.invariant in
+    held_by c.args.lengths.now w.block w.start c.args.index inv.there inv.at (omega (arith, c.ahead-test.false, c.from.ensures))

@@ -6,7 +6,7 @@ use Rattle.szg_block.specs.Sound.{entry_count}
 use Rattle.szg_block.proofs.Powers.{shifted_one, rounded_up}
 use Rattle.szg_block.proofs.Values.{start-zero}
 use Rattle.szg_file.specs.Held.{sparse_of}
-use Rattle.szg_build.proofs.SparseLaws.{middle-is, middle-next, index_none, index_more}
+use Rattle.szg_build.proofs.SparseLaws.{middle-is, middle-next, index_none, index_more, entry_is}
 use Rattle.szg_build.proofs.sparse.sparse_index.Goals as goal
 
 pub loop-span_number-init : goal.loop-span_number-init
@@ -35,7 +35,8 @@ loop-span_number-preserved c =
       index = index_more c.args.lengths.now c.args.span_bits j (map sparse_of old.sparse.items) (map sparse_of c.push.new.self.items) (sparse_of c.entry_to.result) old.invariant.index
           (length-map old.sparse.items sparse_of ∙ old.invariant.count)
           (ap (map sparse_of) c.in_ok-push.ensures.items ∙ map-append sparse_of old.sparse.items (c.entry_to.result ∷ []))
-          c.entry_to.ensures.block (c.entry_to.ensures.place ∙ at) (omega (arith, c.entry_to.ensures.block, c.requires.few)) c.entry_to.ensures.fits;
+          (entry_is c.args.lengths.now c.args.span_bits j _ c.args.size (sparse_of c.entry_to.result) at c.requires.total c.entry_to.ensures.block c.entry_to.ensures.place c.entry_to.ensures.inside c.entry_to.ensures.beyond)
+          (omega (arith, c.entry_to.ensures.block, c.requires.few)) c.entry_to.ensures.fits;
       there = c.entry_to.ensures.there;
       at = c.entry_to.ensures.at;
       from = omega (arith, c.entry_to.ensures.from, at, middle-next c.args.span_bits j);
