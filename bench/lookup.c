@@ -348,9 +348,9 @@ static struct times time_work(plain_work *plain, struct work work, const struct 
 struct library {
     __typeof__(szg_open) *open;
     __typeof__(szg_get) *get;
-    __typeof__(szg_open_heads) *open_heads;
-    __typeof__(szg_find) *find;
-    __typeof__(szg_value) *value;
+    __typeof__(szg_open_front) *open_front;
+    __typeof__(szg_front_find) *find;
+    __typeof__(szg_front_value) *value;
 };
 
 static void *call(void *library, const char *name)
@@ -366,8 +366,8 @@ static void *call(void *library, const char *name)
 static struct library library_at(const char *path)
 {
     void *library = dlopen(path, RTLD_NOW | RTLD_LOCAL);
-    return (struct library){call(library, "szg_open"), call(library, "szg_get"), call(library, "szg_open_heads"),
-                            call(library, "szg_find"), call(library, "szg_value")};
+    return (struct library){call(library, "szg_open"), call(library, "szg_get"), call(library, "szg_open_front"),
+                            call(library, "szg_front_find"), call(library, "szg_front_value")};
 }
 
 /* the least time of the look-ups in a table that stays in a source over memory, its opening left out */
@@ -390,9 +390,9 @@ static double time_source(const struct table *t, const uint32_t *indexes, const 
     return whole - begun;
 }
 
-/* the least times of a look-up by szg_get, and by szg_find and szg_value out of the file in memory */
+/* the least times of a look-up by szg_get, and by szg_front_find and szg_front_value from the file in memory */
 struct called {
-    double get, by_place;
+    double get, by_range;
 };
 
 static struct called time_calls(const struct table *t, const uint32_t *indexes, struct library szg, const uint8_t *file,
@@ -400,15 +400,16 @@ static struct called time_calls(const struct table *t, const uint32_t *indexes, 
 {
     struct called best = {1e9, 1e9};
     szg_table table = SZG_NO_TABLE;
-    szg_heads heads = SZG_NO_HEADS;
+    szg_front front = SZG_NO_FRONT;
     szg_answer answer;
     if (szg.open("KQRvK", 5, false, file, length, &table, &answer) != SZG_DONE ||
-        szg.open_heads("KQRvK", 5, false, file, length, &heads, &answer) != SZG_DONE)
+        szg.open_front("KQRvK", 5, false, file, length, &front, &answer) != SZG_DONE)
         fail("the files");
     for (int round = 0; round < ROUNDS; round++) {
         uint64_t mix = look_all_up(t, indexes), held = 0, placed = 0;
         uint16_t value = 0;
-        szg_wanted wanted = {0, 0};
+        szg_byte_range range = {0, 0};
+        szg_bad_block bad;
         double t0 = now();
         for (size_t k = 0; k < LOOK_UPS; k++) {
             szg.get(&table, 0, 0, indexes[k], &value);
@@ -416,15 +417,15 @@ static struct called time_calls(const struct table *t, const uint32_t *indexes, 
         }
         double t1 = now();
         for (size_t k = 0; k < LOOK_UPS; k++) {
-            szg.find(&heads, 0, 0, indexes[k], &wanted);
-            szg.value(&heads, 0, 0, indexes[k], file + wanted.place, wanted.count, &value);
+            szg.find(&front, 0, 0, indexes[k], &range);
+            szg.value(&front, 0, 0, indexes[k], file + range.offset, range.count, &value, &bad);
             placed = 31 * placed + value;
         }
         double t2 = now();
         if (mix != held || mix != placed)
             fail("the look-ups of the C library");
         least(&best.get, t1 - t0);
-        least(&best.by_place, t2 - t1);
+        least(&best.by_range, t2 - t1);
     }
     return best;
 }
@@ -455,7 +456,7 @@ int main(int argc, char **argv)
     printf("%" PRIu64 " values, %u blocks, %u symbols\n", t.n.size, t.n.blocks, t.n.symbols);
     printf("look-up:             C %6.1f ns, szg_block %6.1f ns, ratio %.2f\n", memory.plain / LOOK_UPS * 1e9, memory.szg / LOOK_UPS * 1e9, memory.szg / memory.plain);
     printf("by a source:         Opened  %6.1f ns, ratio %.2f\n", source / LOOK_UPS * 1e9, source / memory.plain);
-    printf("by the C library:    szg_get %6.1f ns, ratio %.2f; szg_find and szg_value %6.1f ns, ratio %.2f\n", library.get / LOOK_UPS * 1e9, library.get / memory.plain, library.by_place / LOOK_UPS * 1e9, library.by_place / memory.plain);
+    printf("by the C library:    szg_get %6.1f ns, ratio %.2f; szg_front_find and szg_front_value %6.1f ns, ratio %.2f\n", library.get / LOOK_UPS * 1e9, library.get / memory.plain, library.by_range / LOOK_UPS * 1e9, library.by_range / memory.plain);
     printf("check of all blocks: C %6.0f million values a second, szg_block %6.0f, ratio of times %.2f\n", t.n.size / check.plain / 1e6, t.n.size / check.szg / 1e6, check.szg / check.plain);
     printf("list of all values:  C %6.0f million values a second, szg_block %6.0f, ratio of times %.2f\n", t.n.size / list.plain / 1e6, t.n.size / list.szg / 1e6, list.szg / list.plain);
     return 0;

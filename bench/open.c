@@ -81,17 +81,19 @@ static void open_by_front(const char *folder)
 static void open_checked(const char *folder)
 {
     size_t length;
-    szg_heads heads = SZG_NO_HEADS;
+    szg_front front = SZG_NO_FRONT;
     szg_answer answer;
-    szg_wanted wanted;
+    szg_byte_range range;
+    szg_bad_block bad;
     uint16_t value = 9;
     const uint8_t *bytes = mapped(folder, &length);
-    if (szg_open_heads(NAME, strlen(NAME), false, bytes, length, &heads, &answer) != SZG_DONE)
+    if (szg_check(NAME, strlen(NAME), false, bytes, length, &answer) != SZG_DONE ||
+        szg_open_front(NAME, strlen(NAME), false, bytes, length, &front, &answer) != SZG_DONE)
         fail("the table is refused");
     for (int i = 0; i < LATER; i += LATER / 2) {
         uint64_t index = any_index();
-        if (szg_find(&heads, 0, 0, index, &wanted) != SZG_DONE ||
-            szg_value(&heads, 0, 0, index, bytes + wanted.place, wanted.count, &value) != SZG_DONE || value != (index % 2 ? 2 : 4))
+        if (szg_front_find(&front, 0, 0, index, &range) != SZG_DONE ||
+            szg_front_value(&front, 0, 0, index, bytes + range.offset, range.count, &value, &bad) != SZG_DONE || value != (index % 2 ? 2 : 4))
             fail("the value is wrong");
     }
 }
@@ -116,7 +118,7 @@ static const struct {
 #ifdef SZG_NO_FRONT
     {"front", "szg_open_front and a probe", open_by_front},
 #endif
-    {"checked", "szg_open_heads, every check, and two values", open_checked},
+    {"checked", "szg_check, every check, szg_open_front and two values", open_checked},
 #ifdef FATHOM
     {"fathom", "tb_init of Fathom and a probe", open_by_fathom},
 #endif

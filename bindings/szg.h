@@ -1,13 +1,13 @@
 /* szg: Syzygy tables, read with proof.
  *
- * Threads: a szg_table, szg_heads or szg_front is a handle, and serves one call at a time, the look-ups too. Threads that
- * share a table use a handle each, made by szg_share, szg_share_heads or szg_share_front: the table stays in memory once,
- * and no call waits for another. A handle may pass from one thread to another by a lock or by a thread's start or join. The
- * calls without a handle (szg_check, szg_size, szg_values, szg_values_at) may run side by side.
+ * Threads: a szg_table or szg_front is a handle, and serves one call at a time, the look-ups too. Threads that share a table
+ * use a handle each, made by szg_share or szg_share_front: the table stays in memory once, and no call waits for another. A
+ * handle may pass from one thread to another by a lock or by a thread's start or join. The calls without a handle
+ * (szg_check, szg_size, szg_values, szg_values_at) may run side by side.
  *
  * A call takes the name of a material, as "KQvKR" (with its length; no zero byte is needed), whether the table is a DTZ
  * table (else WDL), and the bytes of its file in memory. Bytes after the file are ignored. Each call returns a status of
- * enum szg_status, except szg_close, szg_close_heads, szg_close_front and the three that write texts.
+ * enum szg_status, except szg_close, szg_close_front and the three that write texts.
  *
  * These results are proved for every name, all bytes and all men. What the caller must ensure is not checked: each pointer
  * points to as many items as the length after it says, and is not NULL even if that is 0; no length is 2^63 bytes or more;
@@ -55,7 +55,8 @@ enum szg_status {
     SZG_DRAW = 15,       /* a draw has no number in a DTZ table */
     SZG_OUTSIDE_MAP = 16, /* the value is not in the DTZ table's map */
 
-    SZG_CHANGED = 17, /* the bytes can't be those of the file at the range of szg_find, or those given to szg_open_front */
+    SZG_CHANGED = 17, /* the bytes can't be those of the file: szg_front_value got more or fewer of them than szg_front_find
+                         counts, or another call on a front fewer than szg_open_front */
 
     SZG_BAD_BLOCK = 18 /* the block that has the value does not decode: the file is damaged there */
 };
@@ -181,53 +182,13 @@ uint32_t szg_probe(szg_table *table, const szg_man *men, size_t count, uint8_t m
 /* Closes the table. A second call does nothing. */
 void szg_close(szg_table *table);
 
-/* ---- Mapped tables: the caller maps or reads the file, and no table is in memory whole.
- *
- * szg_open_heads makes every check of the file's bytes once, and keeps what look-ups need: the codes, the dictionaries, the
- * sparse indexes and the block lengths, and no block. Then a value takes three steps: szg_find returns which bytes of the
- * file it needs (one block, 1 byte to 256 KiB), the caller reads them (from a map, or by pread), and szg_value decodes the
- * value. If they are the file's, as szg_open_heads read them, the value is that of szg_get. Neither call allocates, or
- * looks at anything but its arguments. */
-
-/* A mapped table. Initialise it with SZG_NO_HEADS, let only the calls change it, do not copy it, and pass it to one call at
- * a time. */
-typedef struct szg_heads { void *held; } szg_heads;
-#define SZG_NO_HEADS {0}
-
-/* A byte range of a file: `count` bytes at the offset `place`, all within the bytes given to szg_open_heads. */
-typedef struct szg_wanted {
-    uint64_t place;
-    uint64_t count; /* 0 in a constant subtable: a value needs no bytes */
-} szg_wanted;
-
-/* Opens a mapped table from the bytes of its whole file, which may be freed afterwards. The handle's previous table is
- * closed, also if the call is refused, as szg_open refuses. */
-uint32_t szg_open_heads(const char *name, size_t name_length, bool dtz, const uint8_t *bytes, size_t length,
-                        szg_heads *heads, szg_answer *answer);
-
-/* Makes `second` a second handle of what `heads` holds, without a copy, as szg_share. */
-uint32_t szg_share_heads(szg_heads *heads, szg_heads *second);
-
-/* The byte range of the file that the value at an index of a part's side needs. With another status than SZG_DONE *wanted
- * stays. */
-uint32_t szg_find(szg_heads *heads, uint8_t part, uint8_t side, uint64_t index, szg_wanted *wanted);
-
-/* The value at an index of a part's side, decoded from the `count` bytes at the range that szg_find returned for this index;
- * with the count 0 no byte is read. SZG_CHANGED: they can't be the file's, since there are more or fewer of them, or their
- * words spell too few values. Other bytes of the same number may decode to another value, the one that their words spell,
- * and nothing worse. With another status than SZG_DONE *value stays. */
-uint32_t szg_value(szg_heads *heads, uint8_t part, uint8_t side, uint64_t index, const uint8_t *bytes, size_t count,
-                   uint16_t *value);
-
-/* Closes the mapped table. A second call does nothing. */
-void szg_close_heads(szg_heads *heads);
-
 /* ---- Opened fronts: opening costs what the front of the file costs.
  *
  * szg_open_front reads and checks the headers, the maps, the sparse indexes and the block lengths, and looks at no block.
  * Each look-up takes the bytes of the file again (the caller's map, say), verifies the whole block that has the value, and
  * returns the value or SZG_BAD_BLOCK. A damaged block spoils no look-up in another one. Bits that were flipped so that the
- * block still decodes can't be seen. A look-up takes no memory and no lock.
+ * block still decodes can't be seen. A look-up takes no memory and no lock. A caller without the whole file in memory takes
+ * three steps: szg_front_find returns which bytes the value needs, the caller reads them, szg_front_value decodes the value.
  *
  * Threads that share a front use a szg_front each, made by szg_share_front, as with the other handles: the front stays in
  * memory once, and no call waits for another. All of them may read the same bytes at a time. */
@@ -260,6 +221,24 @@ uint32_t szg_front_size(szg_front *front, uint8_t part, uint8_t side, uint64_t *
  * opened. With another status than SZG_DONE *value stays, with another than SZG_BAD_BLOCK *bad stays. */
 uint32_t szg_front_get(szg_front *front, const uint8_t *bytes, size_t length, uint8_t part, uint8_t side,
                        uint64_t index, uint16_t *value, szg_bad_block *bad);
+
+/* A byte range of a file: `count` bytes from `offset` on, all within the bytes given to szg_open_front. */
+typedef struct szg_byte_range {
+    uint64_t offset;
+    uint64_t count; /* a block's, 1 byte to 256 KiB; in a constant subtable a value needs no bytes: then both are 0 */
+} szg_byte_range;
+
+/* The byte range of the file that the value at an index of a part's side needs, for a caller that reads the file in pieces,
+ * as by pread. With another status than SZG_DONE *range stays. */
+uint32_t szg_front_find(szg_front *front, uint8_t part, uint8_t side, uint64_t index, szg_byte_range *range);
+
+/* The value at an index of a part's side, decoded from `block`, the `count` bytes of the file at the range that
+ * szg_front_find returned for this index. In a constant subtable no byte is read. If they are the file's, the status and the
+ * value are those of szg_front_get. SZG_BAD_BLOCK: the block doesn't decode, and *bad names it. SZG_CHANGED: there are more
+ * or fewer bytes. Other bytes of the same number may decode to another value, the one that their words spell. With another
+ * status than SZG_DONE *value stays, with another than SZG_BAD_BLOCK *bad stays. */
+uint32_t szg_front_value(szg_front *front, uint8_t part, uint8_t side, uint64_t index, const uint8_t *block,
+                         size_t count, uint16_t *value, szg_bad_block *bad);
 
 /* The part, side and index of a placement, as szg_index. With another status than SZG_DONE *spot stays. */
 uint32_t szg_front_index(szg_front *front, const szg_man *men, size_t count, uint8_t mover, szg_spot *spot);

@@ -74,25 +74,18 @@ static void compare_verdict(const reader_table *t) {
 static void compare_refused(const reader_table *t) {
     szg_answer answer = NO_ANSWER;
     szg_table table = SZG_NO_TABLE;
-    szg_heads heads = SZG_NO_HEADS;
     uint64_t size = 12345, index = 0;
     uint16_t value = 4321;
-    szg_wanted wanted = {1, 2};
-    switch (random_below(4)) {
+    switch (random_below(3)) {
     case 0:
         same_answer("szg_open", t, szg_open(TABLE_WORDS, &table, &answer), &answer);
         same("szg_get of no table", szg_get(&table, 0, 0, 0, &value), SZG_CLOSED);
         break;
-    case 1:
-        same_answer("szg_open_heads", t, szg_open_heads(TABLE_WORDS, &heads, &answer), &answer);
-        same("szg_find of no heads", szg_find(&heads, 0, 0, 0, &wanted), SZG_CLOSED);
-        break;
-    case 2: same_answer("szg_size", t, szg_size(TABLE_WORDS, 0, 0, &size, &answer), &answer); break;
+    case 1: same_answer("szg_size", t, szg_size(TABLE_WORDS, 0, 0, &size, &answer), &answer); break;
     default: same_answer("szg_values_at", t, szg_values_at(TABLE_WORDS, 0, 0, &index, 1, &value, 1, &answer), &answer); break;
     }
-    same("kept", size + value + wanted.place + wanted.count, 12345 + 4321 + 3);
+    same("kept", size + value, 12345 + 4321);
     szg_close(&table);
-    szg_close_heads(&heads);
 }
 
 /* ---- Calls on an accepted table */
@@ -120,37 +113,6 @@ static void compare_value(const reader_subtable *sub, szg_table *table, uint64_t
     same("szg_get", szg_get(table, (uint8_t)sub->part, (uint8_t)sub->side, index, &value), SZG_DONE);
     same("value", value, reader_value(sub, index));
     counts.values++;
-}
-
-static void compare_bytes_of_value(const reader_table *t, const reader_subtable *sub, szg_heads *heads, uint64_t index) {
-    szg_wanted wanted = {77, 77};
-    uint16_t value = 4321, due = sub->value;
-    uint64_t within;
-    const uint8_t *block = now.bytes;
-    uint8_t part = (uint8_t)sub->part, side = (uint8_t)sub->side;
-    same("szg_find", szg_find(heads, part, side, index, &wanted), SZG_DONE);
-    counts.blocks++;
-    if (sub->constant) {
-        same("bytes of a constant", (int64_t)wanted.count, 0);
-        same("szg_value", szg_value(heads, part, side, index, block, 0, &value), SZG_DONE);
-        same("value of no bytes", value, due);
-        return;
-    }
-    block = sub->packed + ((uint64_t)reader_block_of(sub, index, &within) << sub->block_bits);
-    same("offset of a value", (int64_t)wanted.place, block - t->bytes);
-    same("bytes of a value", (int64_t)wanted.count, (int64_t)1 << sub->block_bits);
-    same("szg_value", szg_value(heads, part, side, index, block, wanted.count, &value), SZG_DONE);
-    reader_decode(sub, block, within, &due);
-    same("value of its bytes", value, due);
-    same("szg_value of too few", szg_value(heads, part, side, index, block, wanted.count - 1, &value), SZG_CHANGED);
-    uint8_t other[1 << 12];
-    if (wanted.count > sizeof other) return;
-    memcpy(other, block, wanted.count);
-    other[random_below(wanted.count)] ^= (uint8_t)(1 << random_below(8));
-    value = due = 4321;
-    bool spelled = reader_decode(sub, other, within, &due);
-    same("szg_value of other bytes", szg_value(heads, part, side, index, other, wanted.count, &value), spelled ? SZG_DONE : SZG_CHANGED);
-    same("value of other bytes", value, due);
 }
 
 static void compare_lists(const reader_subtable *sub, szg_table *table) {
@@ -257,26 +219,19 @@ static void compare_placement(const reader_table *t, szg_table *table) {
 
 static void compare_accepted(const reader_table *t) {
     szg_table table = SZG_NO_TABLE;
-    szg_heads heads = SZG_NO_HEADS;
     szg_answer answer = NO_ANSWER;
     same("szg_open", szg_open(TABLE_WORDS, &table, &answer), SZG_DONE);
-    bool by_place = random_one_in(2);
-    if (by_place) same("szg_open_heads", szg_open_heads(TABLE_WORDS, &heads, &answer), SZG_DONE);
     if (random_one_in(4)) compare_sizes(t, &table);
     for (int i = 0; i < t->subtable_count; i++) {
         const reader_subtable *sub = &t->subtables[i];
         uint16_t value = 9;
-        for (int turn = 0; turn < 4; turn++) {
-            compare_value(sub, &table, any_index(sub));
-            if (by_place) compare_bytes_of_value(t, sub, &heads, any_index(sub));
-        }
+        for (int turn = 0; turn < 4; turn++) compare_value(sub, &table, any_index(sub));
         same("szg_get past the size", szg_get(&table, (uint8_t)sub->part, (uint8_t)sub->side, sub->size, &value), SZG_RANGE);
         compare_lists(sub, &table);
     }
     compare_numbers(t, &table, (int)random_below(5), (uint16_t)random_below(random_one_in(2) ? 4 : 65536));
     for (int i = 0; i < 8; i++) compare_placement(t, &table);
     szg_close(&table);
-    szg_close_heads(&heads);
 }
 
 /* ---- Opened fronts */
@@ -293,6 +248,31 @@ static void compare_fetch(const reader_table *t, szg_front *front, const reader_
     same("bad block", bad.block, decodes ? 88 : block);
     same("offset of a bad block", (int64_t)bad.offset, decodes ? 888 : sub->packed - t->bytes + ((int64_t)block << sub->block_bits));
     (*(decodes ? &counts.fetched : &counts.bad))++;
+}
+
+/* The same look-up from the block alone, by its byte range, and from more or fewer bytes. */
+static void compare_block_fetch(const reader_table *t, szg_front *front, const reader_subtable *sub, uint64_t index) {
+    szg_byte_range range = {77, 77};
+    szg_bad_block bad = {88, 888};
+    uint16_t value = 4321, due = 4321;
+    uint32_t block = 99;
+    uint8_t part = (uint8_t)sub->part, side = (uint8_t)sub->side;
+    same("szg_front_find", szg_front_find(front, part, side, index, &range), SZG_DONE);
+    counts.blocks++;
+    bool decodes = reader_fetch(sub, index, &due, &block);
+    uint64_t offset = sub->constant ? 0 : (uint64_t)(sub->packed - t->bytes) + ((uint64_t)block << sub->block_bits);
+    same("offset of a value", (int64_t)range.offset, (int64_t)offset);
+    same("bytes of a value", (int64_t)range.count, sub->constant ? 0 : (int64_t)1 << sub->block_bits);
+    if (!sub->constant) {
+        uint64_t others = random_one_in(2) || offset + range.count == t->length ? range.count - 1 : range.count + 1;
+        same("szg_front_value of another length", szg_front_value(front, part, side, index, t->bytes + offset, others, &value, &bad), SZG_CHANGED);
+        same("value of another length", value, 4321);
+        same("bad block of another length", bad.block + (int64_t)bad.offset, 88 + 888);
+    }
+    same("szg_front_value", szg_front_value(front, part, side, index, t->bytes + offset, range.count, &value, &bad), decodes ? SZG_DONE : SZG_BAD_BLOCK);
+    same("value of its bytes", value, decodes ? due : 4321);
+    same("bad block of its bytes", bad.block, decodes ? 88 : block);
+    same("offset of its bad block", (int64_t)bad.offset, decodes ? 888 : (int64_t)offset);
 }
 
 static void compare_front_placement(const reader_table *t, szg_front *front) {
@@ -334,7 +314,12 @@ static void compare_front_facts(const reader_table *t, szg_front *front) {
         status = reader_number(t, part, class_of_position, value, &due);
     same("szg_front_number", szg_front_number(front, (uint8_t)part, (int8_t)class_of_position, value, &number), status);
     same("number of a front", number, due);
-    if (sub) same("szg_front_get past the size", szg_front_get(front, t->bytes, t->length, (uint8_t)part, (uint8_t)side, sub->size, &value, &bad), SZG_RANGE);
+    szg_byte_range range = {77, 77};
+    uint64_t past = sub ? sub->size : 0;
+    same("szg_front_get past the size", szg_front_get(front, t->bytes, t->length, (uint8_t)part, (uint8_t)side, past, &value, &bad), SZG_RANGE);
+    same("szg_front_find past the size", szg_front_find(front, (uint8_t)part, (uint8_t)side, past, &range), SZG_RANGE);
+    same("szg_front_value past the size", szg_front_value(front, (uint8_t)part, (uint8_t)side, past, t->bytes, t->length, &value, &bad), SZG_RANGE);
+    same("byte range past the size", (int64_t)(range.offset + range.count), 154);
 }
 
 /* The look-ups of a front that was opened, in its bytes as they are and with some bytes of blocks changed. */
@@ -342,7 +327,10 @@ static void compare_front_look_ups(reader_table *t, szg_front *front, uint8_t *b
     for (int turn = 0; turn < 3; turn++) {
         for (int i = 0; i < t->subtable_count; i++) {
             const reader_subtable *sub = &t->subtables[i];
-            for (int look = 0; look < 3; look++) compare_fetch(t, front, sub, any_index(sub));
+            for (int look = 0; look < 3; look++) {
+                compare_fetch(t, front, sub, any_index(sub));
+                compare_block_fetch(t, front, sub, any_index(sub));
+            }
             if (sub->constant) continue;
             uint64_t length = (uint64_t)sub->blocks << sub->block_bits;
             bytes[(uint64_t)(sub->packed - t->bytes) + random_below(length)] ^= (uint8_t)(1 + random_below(255));

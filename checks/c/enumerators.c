@@ -23,18 +23,16 @@ static const struct { const char *name; uint32_t reason; } reasons[] = {
 };
 enum { REASONS = sizeof reasons / sizeof *reasons };
 
-/* Opens a damaged file by each call that opens: the reason and the byte are the list's. */
+/* Opens a damaged file by each call that makes every check: the reason and the byte are the list's. */
 static void refused(const char *folder, const char *file, const char *name, bool dtz, const char *reason, uint64_t place) {
     size_t n = load(folder, file);
-    szg_heads heads = SZG_NO_HEADS;
     uint32_t wanted = 0;
     char text[SZG_TEXT_SIZE];
     for (int i = 0; i < REASONS; i++) if (!strcmp(reasons[i].name, reason)) wanted = reasons[i].reason;
-    for (int call = 0; call < 3; call++) {
+    for (int call = 0; call < 2; call++) {
         answer = (szg_answer){7777, 7777};
         uint32_t status = call == 0 ? szg_check(name, strlen(name), dtz, bytes, n, &answer)
-                        : call == 1 ? szg_open(name, strlen(name), dtz, bytes, n, &table, &answer)
-                                    : szg_open_heads(name, strlen(name), dtz, bytes, n, &heads, &answer);
+                                    : szg_open(name, strlen(name), dtz, bytes, n, &table, &answer);
         want(file, status, SZG_REFUSED);
         want(file, answer.reason, wanted);
         szg_reason_text(answer.reason, text, sizeof text);
@@ -143,8 +141,7 @@ static void refused_men(const char *data) {
 static void other_statuses(const char *data) {
     uint16_t value;
     uint64_t size;
-    szg_wanted wanted = {7, 7};
-    szg_heads heads = SZG_NO_HEADS;
+    szg_byte_range range = {7, 7};
     szg_front front = SZG_NO_FRONT;
     szg_bad_block bad = {7, 7};
     size_t n = load(data, "kqvk_wdl_paired.rtbw");
@@ -158,19 +155,17 @@ static void other_statuses(const char *data) {
     want("index", szg_get(&table, 0, 0, 31332, &value), SZG_RANGE);
     want("check", szg_check("KQvK", 4, false, bytes, n, &answer), SZG_DONE);
     want("bytes of the table", (int64_t)answer.place, (int64_t)n);
-    want("heads", szg_open_heads("KQvK", 4, false, bytes, n, &heads, &answer), SZG_DONE);
-    want("find", szg_find(&heads, 0, 0, 31331, &wanted), SZG_DONE);
-    want("second block", (int64_t)wanted.place, 288);
-    want("bytes of a block", (int64_t)wanted.count, 32);
-    want("changed", szg_value(&heads, 0, 0, 31331, bytes, 31, &value), SZG_CHANGED);
     want("front", szg_open_front("KQvK", 4, false, bytes, n, &front, &answer), SZG_DONE);
+    want("find", szg_front_find(&front, 0, 0, 31331, &range), SZG_DONE);
+    want("second block", (int64_t)range.offset, 288);
+    want("bytes of a block", (int64_t)range.count, 32);
+    want("changed", szg_front_value(&front, 0, 0, 31331, bytes, 31, &value, &bad), SZG_CHANGED);
     memset(bytes + 256, 0, 32);
     want("bad block", szg_front_get(&front, bytes, n, 0, 0, 0, &value, &bad), SZG_BAD_BLOCK);
     want("its number", bad.block, 0);
     want("its offset", (int64_t)bad.offset, 256);
     want("second block", szg_front_get(&front, bytes, n, 0, 0, 31331, &value, &bad), SZG_DONE);
     szg_close_front(&front);
-    szg_close_heads(&heads);
     szg_close(&table);
 }
 

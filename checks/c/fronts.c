@@ -18,17 +18,17 @@ static void wrong(const char *what, uint64_t i) {
     failed = 1;
 }
 
-/* The blocks of a part's side, from what szg_find says. */
-static void find_blocks(szg_heads *heads, uint8_t part, uint8_t side, uint64_t size) {
+/* The blocks of a part's side, from what szg_front_find says. */
+static void find_blocks(szg_front *front, uint8_t part, uint8_t side, uint64_t size) {
     block_count = 0;
     for (uint64_t i = 0; i < size; i++) {
-        szg_wanted wanted;
-        if (szg_find(heads, part, side, i, &wanted) != SZG_DONE) wrong("no block", i);
-        if (wanted.count == 0) return;
-        if (block_count && blocks[block_count - 1].place == wanted.place)
+        szg_byte_range range;
+        if (szg_front_find(front, part, side, i, &range) != SZG_DONE) wrong("no block", i);
+        if (range.count == 0) return;
+        if (block_count && blocks[block_count - 1].place == range.offset)
             blocks[block_count - 1].last = i;
         else if (block_count < MOST)
-            blocks[block_count++] = (struct block){wanted.place, wanted.count, i, i};
+            blocks[block_count++] = (struct block){range.offset, range.count, i, i};
     }
 }
 
@@ -76,8 +76,8 @@ static void change_blocks(const char *name, bool dtz, szg_front *front, szg_tabl
         }
 }
 
-static void attempt_side(const char *name, bool dtz, szg_front *front, szg_table *table, szg_heads *heads, size_t length,
-                         uint8_t part, uint8_t side) {
+static void attempt_side(const char *name, bool dtz, szg_front *front, szg_table *table, size_t length, uint8_t part,
+                         uint8_t side) {
     uint64_t size = 0, other = 0;
     uint32_t status = szg_positions(table, part, side, &size);
     want("the status of a size", szg_front_size(front, part, side, &other), status);
@@ -87,7 +87,7 @@ static void attempt_side(const char *name, bool dtz, szg_front *front, szg_table
     want("past the end", szg_front_get(front, bytes, length, part, side, size, &value, &bad), SZG_RANGE);
     if (status != SZG_DONE) return;
     for (uint64_t i = 0; i < size; i++) want_value(front, table, length, part, side, i);
-    find_blocks(heads, part, side, size);
+    find_blocks(front, part, side, size);
     change_blocks(name, dtz, front, table, length, part, side);
     if (block_count)
         want("too few bytes", szg_front_get(front, bytes, blocks[0].place, part, side, 0, &value, &bad), SZG_CHANGED);
@@ -134,7 +134,6 @@ static void attempt(const char *folder, const char *sample, const char *name, bo
     size_t length = load(folder, sample);
     szg_front front = SZG_NO_FRONT;
     szg_table table = SZG_NO_TABLE;
-    szg_heads heads = SZG_NO_HEADS;
     szg_answer answer = {7, 8};
     uint64_t size = 5;
     want("a closed front", szg_front_size(&front, 0, 0, &size), SZG_CLOSED);
@@ -149,15 +148,13 @@ static void attempt(const char *folder, const char *sample, const char *name, bo
     want("the offset", (int64_t)answer.place, (int64_t)length - 1);
     want("a front", szg_open_front(name, strlen(name), dtz, bytes, length, &front, &answer), SZG_DONE);
     want("a table", szg_open(name, strlen(name), dtz, bytes, length, &table, &answer), SZG_DONE);
-    want("heads", szg_open_heads(name, strlen(name), dtz, bytes, length, &heads, &answer), SZG_DONE);
     for (uint8_t part = 0; part < 5; part++)
-        for (uint8_t side = 0; side < 3; side++) attempt_side(name, dtz, &front, &table, &heads, length, part, side);
+        for (uint8_t side = 0; side < 3; side++) attempt_side(name, dtz, &front, &table, length, part, side);
     attempt_numbers(&front, &table);
     attempt_placements(&front, &table, length);
     szg_close_front(&front);
     szg_close_front(&front);
     szg_close(&table);
-    szg_close_heads(&heads);
 }
 
 int main(int count, char **words) {

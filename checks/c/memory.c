@@ -45,21 +45,21 @@ static bool opens(const char *name, bool dtz, size_t length, long n) {
     return done;
 }
 
-/* Opens the heads and shares them, with growth n refused, and closes both. Whether nothing was refused. */
-static bool opens_heads(const char *name, bool dtz, size_t length, long n) {
-    szg_heads heads = SZG_NO_HEADS, second = SZG_NO_HEADS;
+/* Opens a front and shares it, with growth n refused, and closes both. Whether nothing was refused. */
+static bool opens_front(const char *name, bool dtz, size_t length, long n) {
+    szg_front front = SZG_NO_FRONT, second = SZG_NO_FRONT;
     szg_answer answer;
     allowed = n;
-    uint32_t opened = szg_open_heads(name, strlen(name), dtz, bytes, length, &heads, &answer);
-    uint32_t shared = opened == SZG_DONE ? szg_share_heads(&heads, &second) : SZG_CLOSED;
+    uint32_t opened = szg_open_front(name, strlen(name), dtz, bytes, length, &front, &answer);
+    uint32_t shared = opened == SZG_DONE ? szg_share_front(&front, &second) : SZG_CLOSED;
     bool done = allowed >= 0;
     allowed = -1;
-    want("open heads", opened == SZG_DONE ? shared : opened, done ? SZG_DONE : SZG_MEMORY);
-    want("heads", heads.held != NULL, opened == SZG_DONE);
-    want("second heads", second.held != NULL, shared == SZG_DONE);
-    szg_close_heads(&heads);
-    szg_close_heads(&second);
-    want("blocks kept by open_heads", held, 0);
+    want("open front", opened == SZG_DONE ? shared : opened, done ? SZG_DONE : SZG_MEMORY);
+    want("front", front.held != NULL, opened == SZG_DONE);
+    want("second front", second.held != NULL, shared == SZG_DONE);
+    szg_close_front(&front);
+    szg_close_front(&second);
+    want("blocks kept by open_front", held, 0);
     return done;
 }
 
@@ -77,25 +77,20 @@ static bool serves(szg_table *table, size_t size, long n) {
     return done;
 }
 
-/* Makes one of the calls on a whole file, or opens a front and shares it, with growth n refused: SZG_MEMORY comes only where
- * one was refused. Whether nothing was refused. */
+/* Makes one of the calls on a whole file, with growth n refused: SZG_MEMORY comes only where one was refused. Whether nothing
+ * was refused. */
 static bool asks(int call, const char *name, bool dtz, size_t length, size_t size, long n) {
     szg_answer answer;
-    szg_front front = SZG_NO_FRONT, second = SZG_NO_FRONT;
     uint64_t index = 0, count;
     size_t letters = strlen(name);
     allowed = n;
     uint32_t status = call == 0 ? szg_check(name, letters, dtz, bytes, length, &answer)
                     : call == 1 ? szg_size(name, letters, dtz, bytes, length, 0, 0, &count, &answer)
                     : call == 2 ? szg_values(name, letters, dtz, bytes, length, 0, 0, values, size, &answer)
-                    : call == 3 ? szg_values_at(name, letters, dtz, bytes, length, 0, 0, &index, 1, values, 1, &answer)
-                                : szg_open_front(name, letters, dtz, bytes, length, &front, &answer);
-    if (call == 4 && status == SZG_DONE) status = szg_share_front(&front, &second);
+                                : szg_values_at(name, letters, dtz, bytes, length, 0, 0, &index, 1, values, 1, &answer);
     bool done = allowed >= 0;
     allowed = -1;
     want("whole", status, done ? SZG_DONE : SZG_MEMORY);
-    szg_close_front(&front);
-    szg_close_front(&second);
     want("blocks kept by a call on a whole file", held, 0);
     return done;
 }
@@ -110,6 +105,7 @@ static void takes_none(szg_table *table, szg_front *front, size_t length) {
     uint64_t size;
     int64_t outcome;
     szg_spot spot;
+    szg_byte_range range;
     szg_bad_block bad;
     long before = allowed = 1 << 20;
     szg_version(text, sizeof text);
@@ -121,6 +117,8 @@ static void takes_none(szg_table *table, szg_front *front, size_t length) {
     want("index of a front", szg_front_index(front, men, count, mover, &spot), SZG_DONE);
     want("get", szg_get(table, 0, 0, 7, &value), SZG_DONE);
     want("get of a front", szg_front_get(front, bytes, length, 0, 0, 7, &value, &bad), SZG_DONE);
+    want("find of a front", szg_front_find(front, 0, 0, 7, &range), SZG_DONE);
+    want("value of a front", szg_front_value(front, 0, 0, 7, bytes + range.offset, range.count, &value, &bad), SZG_DONE);
     want("size", szg_positions(table, 0, 0, &size), SZG_DONE);
     want("size of a front", szg_front_size(front, 0, 0, &size), SZG_DONE);
     szg_probe(table, men, count, mover, 2, &outcome);
@@ -132,9 +130,9 @@ static void takes_none(szg_table *table, szg_front *front, size_t length) {
 static void table(const char *folder, const char *file, const char *name, bool dtz) {
     size_t length = load(folder, file);
     held = 0;
-    long opening = 0, heads = 0, serving = 0;
+    long opening = 0, fronts = 0, serving = 0;
     while (!opens(name, dtz, length, opening) && !failed) opening++;
-    while (!opens_heads(name, dtz, length, heads) && !failed) heads++;
+    while (!opens_front(name, dtz, length, fronts) && !failed) fronts++;
     szg_table table = SZG_NO_TABLE;
     szg_answer answer;
     uint64_t size = 0;
@@ -147,13 +145,13 @@ static void table(const char *folder, const char *file, const char *name, bool d
     szg_close(&table);
     szg_close_front(&front);
     want("blocks kept", held, 0);
-    for (int call = 0; call < 5; call++) {
+    for (int call = 0; call < 4; call++) {
         long growth = 0;
         while (!asks(call, name, dtz, length, (size_t)size, growth) && !failed) growth++;
     }
     want("blocks kept", held, 0);
-    printf("%s: refused in turn were %ld growths of szg_open, %ld of szg_open_heads and szg_share_heads, %ld of szg_all and szg_share\n",
-           file, opening, heads, serving);
+    printf("%s: refused in turn were %ld growths of szg_open, %ld of szg_open_front and szg_share_front, %ld of szg_all and szg_share\n",
+           file, opening, fronts, serving);
 }
 
 int main(int count, char **words) {

@@ -36,7 +36,6 @@ static void fill(void) {
 static void whole(size_t n) {
     uint64_t size = 77, indexes[] = {0, 5, SIZE};
     szg_table table = SZG_NO_TABLE;
-    szg_heads heads = SZG_NO_HEADS;
     szg_front front = SZG_NO_FRONT;
     fill();
     stays("check, name", szg_check("KvKQ", 4, false, bytes, n, &answer), SZG_NAME);
@@ -49,7 +48,6 @@ static void whole(size_t n) {
     stays("values at, part", szg_values_at("KQvK", 4, false, bytes, n, 1, 0, indexes, 2, values, 2, &answer), SZG_RANGE);
     stays("values at, index", szg_values_at("KQvK", 4, false, bytes, n, 0, 0, indexes, 3, values, 3, &answer), SZG_RANGE);
     stays("open, name", szg_open("KvKQ", 4, false, bytes, n, &table, &answer), SZG_NAME);
-    stays("open heads, name", szg_open_heads("KvKQ", 4, false, bytes, n, &heads, &answer), SZG_NAME);
     stays("open front, name", szg_open_front("KvKQ", 4, false, bytes, n, &front, &answer), SZG_NAME);
     refuses = true;
     stays("check, memory", szg_check("KQvK", 4, false, bytes, n, &answer), SZG_MEMORY);
@@ -57,13 +55,11 @@ static void whole(size_t n) {
     stays("values, memory", szg_values("KQvK", 4, false, bytes, n, 0, 0, values, SIZE, &answer), SZG_MEMORY);
     stays("values at, memory", szg_values_at("KQvK", 4, false, bytes, n, 0, 0, indexes, 2, values, 2, &answer), SZG_MEMORY);
     stays("open, memory", szg_open("KQvK", 4, false, bytes, n, &table, &answer), SZG_MEMORY);
-    stays("open heads, memory", szg_open_heads("KQvK", 4, false, bytes, n, &heads, &answer), SZG_MEMORY);
     stays("open front, memory", szg_open_front("KQvK", 4, false, bytes, n, &front, &answer), SZG_MEMORY);
     refuses = false;
     want("size", (int64_t)size, 77);
     stays("size, done", szg_size("KQvK", 4, false, bytes, n, 0, 0, &size, &answer), SZG_DONE);
     stays("open, done", szg_open("KQvK", 4, false, bytes, n, &table, &answer), SZG_DONE);
-    stays("open heads, done", szg_open_heads("KQvK", 4, false, bytes, n, &heads, &answer), SZG_DONE);
     stays("open front, done", szg_open_front("KQvK", 4, false, bytes, n, &front, &answer), SZG_DONE);
     want("values at, done", szg_values_at("KQvK", 4, false, bytes, n, 0, 0, indexes, 2, values, 2, &answer), SZG_DONE);
     want("values after those at indexes", memcmp(values + 2, before + 2, sizeof values - 4), 0);
@@ -74,7 +70,6 @@ static void whole(size_t n) {
     bytes[0] ^= 1;
     want("values of a refused table", memcmp(values, before, sizeof values), 0);
     szg_close(&table);
-    szg_close_heads(&heads);
     szg_close_front(&front);
 }
 
@@ -82,6 +77,7 @@ static void whole(size_t n) {
 static void front(size_t n) {
     szg_front fronts[] = {SZG_NO_FRONT, SZG_NO_FRONT};
     szg_bad_block bad = {7, 77};
+    szg_byte_range byte_range = {77, 77};
     szg_spot spot = {7, 7, 77};
     uint64_t size = 77;
     uint16_t value = 77;
@@ -97,12 +93,18 @@ static void front(size_t n) {
         stays("front get", szg_front_get(front, bytes, n, 0, 0, SIZE, &value, &bad), range);
         stays("front get, part", szg_front_get(front, bytes, n, 1, 0, 0, &value, &bad), range);
         stays("front get, bytes", szg_front_get(front, bytes, 1, 0, 0, 0, &value, &bad), open ? SZG_CHANGED : SZG_CLOSED);
+        stays("front find", szg_front_find(front, 0, 0, SIZE, &byte_range), range);
+        stays("front find, part", szg_front_find(front, 1, 0, 0, &byte_range), range);
+        stays("front value", szg_front_value(front, 0, 0, SIZE, bytes, 1, &value, &bad), range);
+        stays("front value, part", szg_front_value(front, 1, 0, 0, bytes, 1, &value, &bad), range);
+        stays("front value, bytes", szg_front_value(front, 0, 0, 0, bytes, 1, &value, &bad), open ? SZG_CHANGED : SZG_CLOSED);
         stays("front number", szg_front_number(front, 0, 2, 0, &number), range);
         stays("front index", szg_front_index(front, men, 3, SZG_WHITE, &spot), open ? SZG_OTHER_MATERIAL : SZG_CLOSED);
         stays("front probe", szg_front_probe(front, bytes, n, men, 3, SZG_WHITE, 0, &outcome, &bad),
               open ? SZG_OTHER_MATERIAL : SZG_CLOSED);
     }
     want("results", (int64_t)(size + value + number) + outcome + (int64_t)bad.offset + bad.block, 5 * 77 + 7);
+    want("byte range", (int64_t)(byte_range.offset + byte_range.count), 2 * 77);
     want("spot", (int64_t)(spot.part + spot.side + spot.index), 91);
     szg_close_front(&fronts[0]);
 }
@@ -110,8 +112,6 @@ static void front(size_t n) {
 /* Each call on a handle, with what it refuses, and without a table. */
 static void held(size_t n) {
     szg_table tables[] = {SZG_NO_TABLE, SZG_NO_TABLE};
-    szg_heads heads = SZG_NO_HEADS;
-    szg_wanted wanted = {77, 77};
     szg_spot spot = {7, 7, 77};
     uint64_t size = 77;
     uint16_t value = 77;
@@ -132,16 +132,9 @@ static void held(size_t n) {
         stays("index", szg_index(table, men, 3, SZG_WHITE, &spot), open ? SZG_OTHER_MATERIAL : SZG_CLOSED);
         stays("probe", szg_probe(table, men, 3, SZG_WHITE, 0, &outcome), open ? SZG_OTHER_MATERIAL : SZG_CLOSED);
     }
-    stays("find", szg_find(&heads, 0, 0, 0, &wanted), SZG_CLOSED);
-    stays("value", szg_value(&heads, 0, 0, 0, bytes, 1, &value), SZG_CLOSED);
-    want("open heads", szg_open_heads("KQvK", 4, false, bytes, n, &heads, &answer), SZG_DONE);
-    stays("find", szg_find(&heads, 0, 0, SIZE, &wanted), SZG_RANGE);
-    stays("value", szg_value(&heads, 0, 0, SIZE, bytes, 1, &value), SZG_RANGE);
-    stays("value", szg_value(&heads, 0, 0, 0, bytes, 1, &value), SZG_CHANGED);
-    want("results", (int64_t)(size + value + number) + outcome + (int64_t)(wanted.place + wanted.count), 6 * 77);
+    want("results", (int64_t)(size + value + number) + outcome, 4 * 77);
     want("spot", (int64_t)(spot.part + spot.side + spot.index), 91);
     szg_close(&tables[0]);
-    szg_close_heads(&heads);
 }
 
 int main(int count, char **words) {

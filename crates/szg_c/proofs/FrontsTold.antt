@@ -1,10 +1,14 @@
 -- What calls on an opened front return.
-use Rattle.std.proofs.Common.{◌≡◌, ◌<◌, ◌∙◌, ℕ, Bool, true, false, List, Option, None, Some, IfSome, Ok, option_map, cond, inl, inr, refl, sym, ap, subst}
+use Rattle.std.proofs.Common.{◌≡◌, ◌<◌, ◌∙◌, ℕ, Bool, true, false, List, Option, None, Some, Ok, option_map, cond, inl, inr, refl, sym, subst}
 use Rattle.std.proofs.lemmas.Bool.{ltb-true}
 use Rattle.std.specs.Prelude.{◌⊎◌, nat_lt, is_some, IsSomeAnd, MatchOption}
 use Rattle.szg_values.specs.Material.{Sides, parsed}
-use Rattle.szg_file.specs.Contents.{Slot}
+use Rattle.szg_file.specs.Contents.{Contents, Slot}
+use Rattle.szg_file.specs.Format.{Verdict, good, refused, truncated}
 use Rattle.szg_file.specs.FrontTable.{FrontKept, IsFrontOf}
+use Rattle.szg_file.specs.Opened.{IsOpenRefusal}
+use Rattle.szg_file.specs.declared.fault.Reason.{Reason}
+use Rattle.szg_file.specs.declared.opened.OpenFault.TheVariants as fault
 use Rattle.szg_file.specs.declared.fetching.FetchFault.{FetchFault}
 use Rattle.szg_file.specs.declared.fetching.FetchFault.TheVariants.{Block, Source}
 use Rattle.szg_file.specs.declared.fault.MapFault.{MapFault}
@@ -14,7 +18,7 @@ use Rattle.szg_place.specs.declared.PlaceFault.TheVariants.{OtherMaterial, Irreg
 use Rattle.szg_place.specs.declared.FrontProbeFault.TheVariants.{Fetch}
 use Rattle.szg_c.specs.Fronts.{FetchTold, IsFaultTold, IsFront, SaysFront, with_slot}
 use Rattle.szg_c.specs.Places.{map_status, place_status}
-use Rattle.szg_c.specs.Told.{IsName, kind_told}
+use Rattle.szg_c.specs.Told.{IsName, Refuses, kind_told}
 use Rattle.szg_c.specs.declared.fronts.BadBlock.{BadBlock}
 
 abbrev is_below : Option ℕ → ℕ → Bool
@@ -78,6 +82,12 @@ map_not_done OutsideMap e = cc e
 pub is_front : (name : List ℕ) (dtz : Bool) (bytes : List ℕ) (material : Sides) (kept : FrontKept) → parsed name ≡ Ok material → kept.index.material ≡ material → kept.index.kind ≡ kind_told dtz → IsFrontOf kept bytes →
     IsFront name dtz bytes kept
 is_front name dtz bytes material kept named m k of = (subst (λ (s : Sides). parsed name ≡ Ok s) (sym m) named, k, of)
+
+-- a refusal to open is that of the verdict
+pub refuses : (v : Verdict Contents) (place : ℕ) (why : Reason) → IsOpenRefusal v (fault.Refused place why) → Refuses v place why
+refuses (good t filled rest) place why h = h
+refuses (refused at reason rest) place why h = h
+refuses (truncated count) place why h = h
 
 -- where it is held, or there is no memory for it, the call says so
 pub front_says : (name : List ℕ) (dtz : Bool) (bytes : List ℕ) (kept : FrontKept) (held : Option FrontKept) (status place reason : ℕ) → IsFront name dtz bytes kept →

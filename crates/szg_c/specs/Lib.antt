@@ -4,11 +4,10 @@ pub mod Men
 pub mod Places
 pub mod Telling
 pub mod Owned
-pub mod ByPlace
 pub mod Fronts
+pub mod FrontBlocks
 pub mod Texts
 pub use Rattle.szg_file.specs.Held
 pub use Rattle.szg_file.specs.Values
-pub use Rattle.szg_file.specs.Heads
 pub use Rattle.szg_file.specs.Opened
 pub use Rattle.szg_file.specs.Wanted

@@ -1,9 +1,9 @@
 -- The results for C of look-ups by placement, and the statuses for C if there is no result.
-use Rattle.std.specs.Prelude.{◌≡◌, ℕ, Bool, not, ◌&&◌, ◌||◌, ℤ, pos, neg_ℤ, int_lt, is_some, Option, Some, None, option_and_then, option_map, Result, Ok, Err, if◌then◌else◌}
+use Rattle.std.specs.Prelude.{◌≡◌, ℕ, Bool, not, ◌&&◌, ◌||◌, ℤ, pos, neg_ℤ, int_lt, nat_lt, is_some, Option, Some, None, option_and_then, option_map, Result, Ok, Err, if◌then◌else◌}
 use Rattle.szg_values.specs.Placement.{Board}
 use Rattle.szg_values.specs.declared.Kind.{Kind}
 use Rattle.szg_values.specs.declared.Kind.TheVariants.{Wdl, Dtz}
-use Rattle.szg_file.specs.Contents.{Contents}
+use Rattle.szg_file.specs.Contents.{Contents, Slot, Subtable}
 use Rattle.szg_file.specs.Values.{subtable_at}
 use Rattle.szg_file.specs.declared.fault.MapFault.{MapFault}
 use Rattle.szg_file.specs.declared.fault.MapFault.TheVariants.{Draw, OutsideMap}
@@ -45,6 +45,11 @@ abbrev pub IsSpot : FoundSpot → Spot → Type 0
 IsSpot found spot = (found.part ≡ spot.part) × (found.side ≡ spot.side) × (found.index ≡ spot.index)
 
 -- ---- placements of indexes
+
+-- a subtable, if it has this index
+abbrev pub with_index : Option (Slot × Subtable) → ℕ → Option (Slot × Subtable)
+with_index None i = None
+with_index (Some found) i = if nat_lt i found.0.size then Some found else None
 
 -- a placement, unless a fault rules it out
 abbrev pub placement_unless : Option PlaceFault → Board → Result Board ℕ

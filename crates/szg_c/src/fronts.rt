@@ -143,7 +143,7 @@ pub extern "C" fn szg_front_size(
 }
 
 /// Whether a table has this index.
-fn has_index(table: &FrontTable, part: u8, side: u8, index: u64) -> bool
+pub fn has_index(table: &FrontTable, part: u8, side: u8, index: u64) -> bool
     ensures { result ≡ is_some (with_slot (slot_in table.now.index part side) index) }
 {
     match table.index().size(part, side) {

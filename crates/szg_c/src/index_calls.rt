@@ -4,10 +4,9 @@ ghost use Rattle.std.specs.declared.option.Option.TheVariants.{None, Some};
 ghost use Rattle.szg_file.specs.Index.{slot_in};
 ghost use Rattle.szg_file.specs.Values.{subtable_at};
 ghost use Rattle.szg_place.specs.Tables.{numbering_in, numbering_of};
-ghost use Rattle.szg_c.specs.ByPlace.{with_index};
 ghost use Rattle.szg_c.specs.Fronts.{with_slot};
 ghost use Rattle.szg_c.specs.Men.{IsWritten, with_room};
-ghost use Rattle.szg_c.specs.Places.{board_or_status, placement_told};
+ghost use Rattle.szg_c.specs.Places.{board_or_status, placement_told, with_index};
 
 use crate::handle::{put, take};
 use crate::held_front::HeldFront;

@@ -1,17 +1,16 @@
 //! Tables with a C interface.
 //!
 //! Calls on a whole file take the name of the material, the kind and the file's bytes. Calls on a handle look up
-//! values, distances and placements in its table, or decode values from bytes of a file that C reads itself. Each
-//! returns a status. Three calls write texts. `szg.h` is the interface for C.
+//! values, distances and placements in its table. A front's file may stay in memory or on a disk that C reads itself:
+//! then a call returns the byte range that a value needs, and another decodes the value. Each returns a status. Three calls write texts. `szg.h` is the interface for C.
 #![tactic(auto)]
 
-mod by_place;
+mod front_blocks;
 mod front_places;
 mod fronts;
 mod handle;
 mod held;
 mod held_front;
-mod held_heads;
 mod held_table;
 mod index_calls;
 mod loose;
@@ -23,16 +22,13 @@ mod status;
 mod texts;
 mod whole;
 
-pub use by_place::{
-    WantedBytes, szg_close_heads, szg_find, szg_open_heads, szg_share_heads, szg_value,
-};
+pub use front_blocks::{RawByteRange, szg_front_find, szg_front_value};
 pub use front_places::{szg_front_index, szg_front_number, szg_front_probe};
 pub use fronts::{
     BadBlock, szg_close_front, szg_front_get, szg_front_size, szg_open_front, szg_share_front,
 };
 pub use held::{szg_all, szg_close, szg_get, szg_number, szg_open, szg_positions, szg_share};
 pub use held_front::HeldFront;
-pub use held_heads::HeldHeads;
 pub use held_table::HeldTable;
 pub use index_calls::{szg_front_placement, szg_placement};
 pub use men::CodedMan;

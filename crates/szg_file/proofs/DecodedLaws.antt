@@ -1,13 +1,10 @@
 -- A value that decodes in an accepted table is the value of its expansion.
-use Rattle.std.proofs.Common.{◌≡◌, ℕ, zero, suc, ◌*◌, ◌^◌, ◌<◌, Bool, true, false, List, [], ◌∷◌, length, replicate, refl, sym, ap, subst, ◌∙◌, arith, Option, Some, None}
-use Rattle.std.specs.Prelude.{option_and_then, slice_get, cond, ◌&&◌, nat_eq}
+use Rattle.std.proofs.Common.{◌≡◌, ℕ, zero, suc, ◌<◌, Bool, true, false, List, [], ◌∷◌, replicate, refl, sym, ap, subst, ◌∙◌, arith, Option, Some, None}
+use Rattle.std.specs.Prelude.{option_and_then, cond, ◌&&◌, nat_eq}
 use Rattle.szg_values.specs.declared.Kind.{Kind}
-use Rattle.szg_block.specs.Block.{block_at, block_values}
 use Rattle.szg_block.specs.Expansion.{joined_values}
-use Rattle.szg_block.specs.Sound.{SpellsNeeded}
-use Rattle.szg_block.specs.Steps.{block_location}
 use Rattle.szg_block.proofs.Values.{joined_values-block_location, IsLocationOfValue-block_location}
-use Rattle.szg_file.specs.Accepted.{IsAccepted, IsSubtable, SideBySide}
+use Rattle.szg_file.specs.Accepted.{IsSubtable, SideBySide}
 use Rattle.szg_file.specs.Contents.{Contents, Slot, slots, Subtable, constant, pairs, layout_of}
 use Rattle.szg_file.specs.File.{file}
 use Rattle.szg_file.specs.Format.{Verdict, good, refused, truncated, verdict}

@@ -1,16 +1,13 @@
 -- Look-ups in a table that was opened by its front: the subtable, the bytes of the value's block, and the value.
 use Rattle.std.proofs.Common.{◌≡◌, ℕ, ◌+◌, ◌-◌, ◌*◌, ◌^◌, ◌<◌, ◌≤◌, List, length, map, take, drop, refl, sym, ap, subst, ◌∙◌, arith, drop-drop, Option, Some, None, option_map}
 use Rattle.std.proofs.Common.{IsSome}
-use Rattle.std.specs.Prelude.{ℤ, Result, Ok, Err, IfOk, IfErr, IfSome, IsSomeAnd, position, slice_get, option_and_then}
+use Rattle.std.specs.Prelude.{ℤ, Result, Ok, Err, ◌≢◌, ◌↔◌, IfOk, IfErr, IfSome, IsSomeAnd, MatchOption, position, slice_get, option_and_then}
 use Rattle.std.specs.List.{AllByRecursion}
 use Rattle.std.proofs.Math.Nat.{mul-le-mul_right}
 use Rattle.std.proofs.lemmas.List.{length-map, length-drop, length-take-le, take-take, drop-take}
 use Rattle.std.proofs.lemmas.Option.{slice_get-map}
 use Rattle.szg_values.specs.declared.Kind.{Kind}
-use Rattle.szg_values.specs.declared.Kind.TheVariants.{Dtz}
-use Rattle.szg_values.specs.Material.{Sides}
 use Rattle.szg_block.specs.Block.{block_at, block_values}
-use Rattle.szg_block.specs.Layout.{Layout}
 use Rattle.szg_block.specs.BlocksTrait.{bytes_at, raised}
 use Rattle.szg_block.specs.Sound.{SpellsNeeded}
 use Rattle.szg_block.specs.Steps.{block_location}
@@ -18,26 +15,23 @@ use Rattle.szg_block.specs.Subtable.{layout_of, IsShapedHead, HasSoundIndex}
 use Rattle.szg_block.specs.declared.Sub.{Sub}
 use Rattle.szg_block.specs.declared.Sub.TheVariants.{Constant, Pairs}
 use Rattle.szg_block.proofs.Deciding.{has_total-true, first_bad_entry-None}
-use Rattle.szg_file.specs.Contents.{Contents, Map, Slot, slots, Subtable}
+use Rattle.szg_file.specs.Contents.{Contents, Slot, slots, Subtable}
 use Rattle.szg_file.specs.Fetching.{IsSpot, NamesBadBlock}
 use Rattle.szg_file.specs.FrontTable.{FrontKept, IsFrontOf}
 use Rattle.szg_file.specs.Index.{Index, slots_in, slot_in}
-use Rattle.szg_file.specs.File.{flags_of}
-use Rattle.szg_file.specs.Held.{subtable_of}
-use Rattle.szg_file.specs.Lookup.{IsFound, byte_of}
+use Rattle.szg_file.specs.Lookup.{byte_of}
 use Rattle.szg_file.specs.Opened.{asked_after}
 use Rattle.szg_file.specs.Placed.{whole_sub, blocks_size, Fits, IsSlotted}
 use Rattle.szg_file.specs.Unread.{front_at, IsDecoded, IsUnread}
-use Rattle.szg_file.specs.Wanted.{wanted_block}
+use Rattle.szg_file.specs.Wanted.{IsSpelledBy, wanted_block}
 use Rattle.szg_file.specs.Values.{item, list_number, number_at, number_of_value, subtable_at, constant_value}
 use Rattle.szg_file.specs.declared.dropping.PlacedSub.{PlacedSub}
 use Rattle.szg_file.specs.declared.fetching.FetchFault.{FetchFault}
-use Rattle.szg_file.specs.declared.fetching.FetchFault.TheVariants.{Block}
+use Rattle.szg_file.specs.declared.fetching.FetchFault.TheVariants.{Block, Source}
 use Rattle.szg_file.specs.declared.fetching.Spot.{Spot}
 use Rattle.szg_file.proofs.OpenedLaws.{all_at}
-use Rattle.szg_file.proofs.OutlinedLaws.{flags_with}
 use Rattle.szg_file.proofs.PlacedSubs.{placed_at}
-use Rattle.szg_file.proofs.TableFinds.{is_at, side_lengths, side_at, found_there, mapped_side, number_told}
+use Rattle.szg_file.proofs.TableFinds.{is_at, side_lengths, side_at, found_there}
 
 -- ---- the subtable
 
@@ -190,6 +184,36 @@ pub block_long : (content : List ℕ) (offset count : ℕ) (block : List ℕ) �
 block_long content offset count block is inside =
     let left : length (drop offset content) ≡ length content - offset = length-drop offset content in
     ap (λ (z : List ℕ). length z) is ∙ length-take-le count (drop offset content) (omega (arith, left, inside))
+
+-- a subtable without a block has the first case, one with a block the second
+pub unwanted : (content : List ℕ) (sub : Sub) (first i : ℕ) (A : Type 0) (B : List ℕ → Type 0) → layout_of sub ≡ None → A → MatchOption (wanted_block (whole_sub content (placed_at sub first)) i) A B
+unwanted content sub first i A B none a = subst (λ (o : Option (List ℕ)). MatchOption o A B) (sym (wanted_none content sub first i none)) a
+
+pub wanted_long : (content : List ℕ) (sub : Sub) (first i : ℕ) (spot : Spot) (A : Type 0) (B : ℕ → Type 0) → IsSpot (placed_at sub first) i spot → first + blocks_size sub ≤ length content → B spot.count →
+    MatchOption (wanted_block (whole_sub content (placed_at sub first)) i) A (λ wanted. B (length wanted))
+wanted_long content sub first i spot A B h inside b =
+    let bytes : List ℕ = bytes_at content spot.offset spot.count in
+    let long : length bytes ≡ spot.count = block_long content spot.offset spot.count bytes refl (spot_inside sub first i (length content) spot h inside) in
+    subst (λ (o : Option (List ℕ)). MatchOption o A (λ wanted. B (length wanted))) (sym (wanted_spot content sub first i spot h)) (subst B (sym long) b)
+
+-- a block's fault is not that of a wrong length
+pub no_source : (r : Result ℕ FetchFault) (number offset : ℕ) → IfErr r (λ fault. fault ≡ Block number offset) → r ≡ Err Source → ⊥
+no_source (Ok value) number offset h e = cc e
+no_source (Err fault) number offset h e =
+    let source : fault ≡ Source = cc e in
+    let no : ◌≡◌ {A = FetchFault} Source (Block number offset) = sym source ∙ h in
+    cc no
+
+-- ---- the value that any bytes spell
+
+pub constant_spelled : (content : List ℕ) (sub : Sub) (first i : ℕ) (block : List ℕ) (told : Option ℕ) → layout_of sub ≡ None → IsSpelledBy block (whole_sub content (placed_at sub first)) i told
+constant_spelled content (Constant flags byte) first i block told none = tt
+constant_spelled content (Pairs flags block_bits span_bits extra blocks code dict sparse lengths packed) first i block told none = absurd (cc none)
+
+pub block_spelled : (content : List ℕ) (sub : Sub) (first i value : ℕ) (spot : Spot) (block : List ℕ) → IsSpot (placed_at sub first) i spot → length block ≡ spot.count →
+    IfSome (layout_of sub) (λ layout. slice_get (block_values layout block) (block_location layout i).item ≡ Some value) → IsSpelledBy block (whole_sub content (placed_at sub first)) i (Some value)
+block_spelled content (Constant flags byte) first i value spot block h long told = absurd h
+block_spelled content (Pairs flags block_bits span_bits extra blocks code dict sparse lengths packed) first i value spot block h long told = (λ e. sym told, λ no. absurd (no (long ∙ h.count)))
 
 -- ---- the source
 

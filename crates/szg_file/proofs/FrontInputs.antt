@@ -1,11 +1,11 @@
 -- A front that was read from a device: it begins each file that begins with the bytes that were read.
-use Rattle.std.proofs.Common.{◌≡◌, ℕ, ◌+◌, ◌-◌, ◌≤◌, ◌<◌, List, [], ◌++◌, length, take, replicate, refl, sym, subst, ◌∙◌, arith, inl, inr, Option, Bool, Result, Ok, Err}
+use Rattle.std.proofs.Common.{◌≡◌, ℕ, ◌+◌, ◌-◌, ◌≤◌, List, [], ◌++◌, length, take, replicate, refl, sym, subst, arith, inl, inr, Option, Bool, Err}
 use Rattle.std.proofs.lemmas.List.{length-append, length-replicate}
 use Rattle.szg_io.specs.declared.device.Input.{Ghosts}
 use Rattle.szg_values.specs.Material.{Sides}
 use Rattle.szg_values.specs.declared.Kind.{Kind}
 use Rattle.szg_file.specs.Contents.{Contents}
-use Rattle.szg_file.specs.Format.{Format, verdict, ◌>>=◌}
+use Rattle.szg_file.specs.Format.{verdict, ◌>>=◌}
 use Rattle.szg_file.specs.FrontInput.{BeginsWith, FrontOutcome, IsFrontRead}
 use Rattle.szg_file.specs.FrontRead.{front_read}
 use Rattle.szg_file.specs.Opened.{IsOpenRefusal, opened_fault}
@@ -58,8 +58,8 @@ module _ (material : Sides) (kind : Kind) where
       record { bytes = stopped.bytes; taken = stopped.taken; told = stopped_told view fault size begun ended _ _ _ _ _ stopped.bytes start stopped.answer }
 
   -- a whole front, and no room for what follows it
-  pub short_told : (bytes : List ℕ) (size : ℕ) (coming : Option (List ℕ)) (e : OpenFault) (fault : ReadFault) → opened_fault fault ≡ e →
+  pub short_told : (bytes : List ℕ) (size : ℕ) (coming : Option (List ℕ)) (e : OpenFault) (fault : ReadFault) → opened_fault fault ≡ e → length bytes ≤ size →
       ((content : List ℕ) → BeginsWith bytes size content → IsOpenRefusal (verdict (unread_file material kind) 0 content) e) → FrontOutcome material kind bytes size coming (Err fault)
-  short_told bytes size coming e (Refused place reason) same h = inr (inl (λ content begins. subst (λ (o : OpenFault). IsOpenRefusal (verdict (unread_file material kind) 0 content) o) (sym same) (h content begins)))
-  short_told bytes size coming e Device same h = tt
-  short_told bytes size coming e Memory same h = tt
+  short_told bytes size coming e (Refused place reason) same enough h = inr (inl (enough, λ content begins. subst (λ (o : OpenFault). IsOpenRefusal (verdict (unread_file material kind) 0 content) o) (sym same) (h content begins)))
+  short_told bytes size coming e Device same enough h = tt
+  short_told bytes size coming e Memory same enough h = tt

@@ -1,19 +1,19 @@
 -- A front and what follows it: arithmetic alone decides whether the file is accepted or truncated.
-use Rattle.std.proofs.Common.{◌≡◌, ℕ, ◌+◌, ◌-◌, ◌*◌, ◌^◌, ◌<◌, ◌≤◌, List, [], ◌∷◌, ◌++◌, length, take, drop, refl, sym, ap, subst, ◌∙◌, arith, inl, inr, drop-drop, append-nil}
+use Rattle.std.proofs.Common.{◌≡◌, ℕ, ◌+◌, ◌-◌, ◌*◌, ◌^◌, ◌<◌, ◌≤◌, List, [], ◌∷◌, ◌++◌, length, take, drop, refl, sym, ap, ◌∙◌, arith, inl, inr, drop-drop}
 use Rattle.std.proofs.lemmas.Bool.{cases_lt}
 use Rattle.std.proofs.lemmas.List.{length-drop}
 use Rattle.szg_values.specs.declared.Kind.{Kind}
 use Rattle.szg_values.specs.Material.{Sides}
 use Rattle.szg_block.specs.BlocksTrait.{bytes_at}
 use Rattle.szg_file.specs.Blocks.{with_blocks}
-use Rattle.szg_file.specs.Contents.{Contents, Subtable, constant, pairs, Head, gap, Slot, slots}
+use Rattle.szg_file.specs.Contents.{Contents, Subtable, constant, pairs, gap, slots}
 use Rattle.szg_file.specs.File.{Begun, begun, each, filled_to, sparse_field, lengths_field}
 use Rattle.szg_file.specs.FilePieces.{Opened, opening_field, ending_field}
-use Rattle.szg_file.specs.Format.{Format, means, field, fill, placed, ◌>>=◌, ◌>>◌, Verdict, good, refused, truncated, after_fill, verdict}
+use Rattle.szg_file.specs.Format.{Format, means, field, ◌>>=◌, good, truncated, after_fill, verdict}
 use Rattle.szg_file.specs.Unread.{FrontRead, front_field, behind_front, unread_table, unread_of, unread_field, unread_file, unread_subs, unread_end, blocks_first, blocks_count, blocks_end}
 use Rattle.szg_file.proofs.EachLaws.{then-then}
 use Rattle.szg_file.proofs.FormatLaws.{verdict-then, continued, field-whole, field-short, fill-whole, fill-short}
-use Rattle.szg_file.proofs.WholeReads.{packed_by, behind_packed, behind_opening_by, pieces_are_file_by}
+use Rattle.szg_file.proofs.WholeReads.{behind_packed, behind_opening_by, pieces_are_file_by}
 
 -- ---- the front followed by the rest is the file
 

@@ -1,5 +1,5 @@
 -- What the checks of a front accept.
-use Rattle.std.proofs.Common.{◌≡◌, ℕ, ◌+◌, List, [], ◌∷◌, ◌++◌, length, map, drop, refl, sym, ap, subst, ◌∙◌, Option}
+use Rattle.std.proofs.Common.{◌≡◌, ℕ, ◌+◌, List, [], ◌∷◌, length, map, sym, ap, subst, Option}
 use Rattle.szg_values.specs.declared.Kind.{Kind}
 use Rattle.szg_values.specs.declared.Kind.TheVariants.{Wdl, Dtz}
 use Rattle.szg_values.specs.Material.{Sides}
@@ -7,11 +7,11 @@ use Rattle.szg_block.specs.BlocksTrait.{bytes_at}
 use Rattle.szg_block.specs.Layout.{SparseEntry}
 use Rattle.szg_file.specs.Accepted.{IsPart, AreNumbers, IsMapOf, AreMaps, SideBySide}
 use Rattle.szg_file.specs.Blocks.{with_blocks}
-use Rattle.szg_file.specs.Contents.{Part, Subtable, constant, pairs, Map, Slot, slots, part_numbers}
+use Rattle.szg_file.specs.Contents.{Subtable, constant, pairs, Map, Slot, slots, part_numbers}
 use Rattle.szg_file.specs.File.{Begun, begun, each, magic_field, byte4_field, part_field, filled_to, head_field, maps_field, sparse_field, lengths_field, flags_of}
 use Rattle.szg_file.specs.FileOf.{Section}
 use Rattle.szg_file.specs.FilePieces.{Opened, opening_field}
-use Rattle.szg_file.specs.Format.{Format, means, ◌>>=◌, ◌>>◌, good, verdict}
+use Rattle.szg_file.specs.Format.{Format, means, ◌>>=◌, good, verdict}
 use Rattle.szg_file.specs.Reading.{start_field}
 use Rattle.szg_file.specs.Unread.{FrontRead, front_field, IsUnread, unread_subs, blocks_first, blocks_count, blocks_end}
 use Rattle.szg_file.proofs.FileLaws.{Sound, Any, AreNumbers-split, parts, sound_magic, sound_byte4, IsByte4, sound_parts, sound_filled_to, sound_each}

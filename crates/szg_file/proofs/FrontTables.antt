@@ -9,17 +9,16 @@ use Rattle.szg_values.specs.Material.{Sides}
 use Rattle.szg_file.specs.Accepted.{AreNumbers, AreMaps, IsMapOf, SideBySide}
 use Rattle.szg_file.specs.Contents.{Contents, Subtable, slots}
 use Rattle.szg_file.specs.File.{flags_of}
-use Rattle.szg_file.specs.Format.{good, truncated, verdict, Verdict}
+use Rattle.szg_file.specs.Format.{good, verdict, Verdict}
 use Rattle.szg_file.specs.FrontTable.{FrontKept, IsFrontOf}
 use Rattle.szg_file.specs.Held.{subtable_of}
 use Rattle.szg_file.specs.Index.{Index, IsIndex, index_with}
 use Rattle.szg_file.specs.Opened.{table_of, IsOpenRefusal}
 use Rattle.szg_file.specs.Placed.{whole_sub, Fits}
 use Rattle.szg_file.specs.Reading.{Advances}
-use Rattle.szg_file.specs.Unread.{FrontRead, BeginsWithFront, front_field, unread_file, unread_table, unread_subs, unread_end, IsUnread}
+use Rattle.szg_file.specs.Unread.{FrontRead, BeginsWithFront, front_field, unread_file, unread_table, unread_subs, IsUnread}
 use Rattle.szg_file.specs.declared.dropping.PlacedSub.{PlacedSub}
 use Rattle.szg_file.specs.declared.fault.Reason.TheVariants.{Truncated}
-use Rattle.szg_file.specs.declared.opened.OpenFault.{OpenFault}
 use Rattle.szg_file.specs.declared.opened.OpenFault.TheVariants.{Refused}
 use Rattle.szg_file.specs.declared.front.Front.{Front}
 use Rattle.szg_file.proofs.FormatLaws.{good-more, take_front}

@@ -1,18 +1,17 @@
 -- How the index of a table relates to the table.
-use Rattle.std.proofs.Common.{◌≡◌, ℕ, ◌<◌, List, [], ◌∷◌, length, map, get_or, refl, sym, ap, subst, ◌∙◌, arith, Some, None, Option, option_map, IsSome}
+use Rattle.std.proofs.Common.{◌≡◌, ℕ, ◌<◌, List, length, map, get_or, refl, sym, ap, subst, ◌∙◌, arith, Some, None, Option, option_map, IsSome}
 use Rattle.std.specs.Prelude.{slice_get, position, ℤ, option_and_then}
 use Rattle.std.proofs.lemmas.List.{length-map}
 use Rattle.std.proofs.lemmas.List.Quantifiers.{position-Some}
 use Rattle.std.proofs.lemmas.Option.{slice_get-map, slice_get-get_or}
 use Rattle.szg_values.specs.declared.Kind.{Kind}
 use Rattle.szg_values.specs.declared.Kind.TheVariants.{Dtz}
-use Rattle.szg_values.specs.Material.{Sides}
 use Rattle.szg_block.specs.declared.Sub.{Sub}
 use Rattle.szg_file.specs.Accepted.{SideBySide, IsSubtable, IsAccepted, IsMapOf, AreMaps}
-use Rattle.szg_file.specs.Contents.{Contents, Part, Map, Slot, slots, Subtable, constant}
+use Rattle.szg_file.specs.Contents.{Contents, Map, Slot, slots, Subtable, constant}
 use Rattle.szg_file.specs.File.{flags_of}
 use Rattle.szg_file.specs.Held.{subtable_of}
-use Rattle.szg_file.specs.Index.{Index, IsIndex, index_of, index_with, contents_with, slots_in, slot_number, slot_in, flags_in, number_in}
+use Rattle.szg_file.specs.Index.{Index, IsIndex, index_of, index_with, contents_with, slot_number, slot_in, flags_in, number_in}
 use Rattle.szg_file.specs.Values.{item, found, slotted, subtable_at, list_number, number_at, number_of_value}
 use Rattle.szg_file.proofs.TableFinds.{is_at, item-slice_get, side_lengths, not_found, found_there, part_below, slot_count}
 

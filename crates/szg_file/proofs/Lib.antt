@@ -24,7 +24,6 @@ pub mod HeadReads
 pub mod IndexChecks
 pub mod IndexLaws
 pub mod ItemsRead
-pub mod KeptLaws
 pub mod LackingReads
 pub mod LoopReads
 pub mod MapReads

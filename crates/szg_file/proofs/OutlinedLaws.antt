@@ -1,5 +1,5 @@
 -- What an opened table returns without its blocks is that of the table that was opened.
-use Rattle.std.proofs.Common.{◌≡◌, ℕ, ◌<◌, List, [], ◌∷◌, ◌++◌, length, map, take, drop, refl, sym, ap, subst, ◌∙◌, Option, Some, option_map, IsSome}
+use Rattle.std.proofs.Common.{◌≡◌, ℕ, List, [], ◌∷◌, ◌++◌, map, take, drop, refl, sym, ap, subst, ◌∙◌, Option, Some, option_map, IsSome}
 use Rattle.std.specs.Prelude.{IfSome, IsSomeAnd, ℤ, option_and_then}
 use Rattle.std.proofs.lemmas.List.{take-append-drop}
 use Rattle.szg_values.specs.declared.Kind.{Kind}

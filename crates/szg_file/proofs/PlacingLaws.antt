@@ -1,5 +1,5 @@
 -- The offsets of blocks, for one more subtable.
-use Rattle.std.proofs.Common.{◌≡◌, ℕ, ◌+◌, ◌*◌, ◌^◌, ◌≤◌, List, [], ◌∷◌, ◌++◌, length, map, refl, sym, ap, subst, ◌∙◌, arith}
+use Rattle.std.proofs.Common.{◌≡◌, ℕ, ◌^◌, ◌≤◌, List, [], ◌∷◌, ◌++◌, map, refl, sym, ap, ◌∙◌, arith}
 use Rattle.std.specs.Prelude.{IfSome}
 use Rattle.std.specs.List.{AllByRecursion}
 use Rattle.std.proofs.lemmas.List.{map-append}
@@ -11,11 +11,10 @@ use Rattle.szg_file.specs.Blocks.{with_blocks}
 use Rattle.szg_file.specs.Contents.{Subtable}
 use Rattle.szg_file.specs.File.{Begun}
 use Rattle.szg_file.specs.Held.{subtable_of}
-use Rattle.szg_file.specs.Placed.{whole_sub, blocks_size, Fits}
+use Rattle.szg_file.specs.Placed.{whole_sub, Fits}
 use Rattle.szg_file.specs.Unread.{blocks_first, blocks_count, blocks_end, unread_subs, unread_end}
 use Rattle.szg_file.specs.declared.dropping.PlacedSub.{PlacedSub}
 use Rattle.szg_file.proofs.PlacedSubs.{placed_at, still_fit, all_fit}
-use Rattle.szg_file.proofs.FrontLaws.{ends_after}
 
 pub end_more : (place : ℕ) (list : List Begun) (b : Begun) → unread_end place (list ++ b ∷ []) ≡ blocks_end (unread_end place list) b.subtable
 end_more place [] b = refl

@@ -1,19 +1,16 @@
 -- The format without the checks of blocks agrees with the format of the file, except for refusals of a block's
 -- words.
-use Rattle.std.proofs.Common.{◌≡◌, ℕ, zero, suc, ◌+◌, ◌-◌, ◌*◌, ◌^◌, ◌<◌, ◌≤◌, Bool, true, false, List, [], ◌∷◌, ◌++◌, length, take, drop, refl, sym, ap, subst, ◌∙◌, arith, inl, inr}
-use Rattle.std.proofs.Math.Seq.{take-add}
+use Rattle.std.proofs.Common.{◌≡◌, ℕ, zero, suc, ◌+◌, ◌-◌, ◌*◌, ◌^◌, Bool, true, false, List, [], ◌∷◌, ◌++◌, length, take, drop, refl, sym, ap, subst, arith, inl, inr}
 use Rattle.std.proofs.lemmas.Bool.{cases_lt}
-use Rattle.std.proofs.Common.{drop-drop, Option}
-use Rattle.std.proofs.lemmas.List.{length-drop}
+use Rattle.std.proofs.Common.{Option}
 use Rattle.szg_values.specs.declared.Kind.{Kind}
 use Rattle.szg_values.specs.Material.{Sides}
 use Rattle.szg_block.specs.Layout.{Layout}
 use Rattle.szg_block.specs.FirstFault.{spells_needed}
-use Rattle.szg_file.specs.declared.fault.Reason.{Reason}
 use Rattle.szg_file.specs.declared.fault.Reason.TheVariants as reason
-use Rattle.szg_file.specs.Contents.{Contents, Part, Subtable, constant, pairs, Head, Map, layout_of, gap, Slot, slots, part_numbers}
+use Rattle.szg_file.specs.Contents.{Contents, Part, Subtable, constant, pairs, Map, layout_of, gap, Slot, slots, part_numbers}
 use Rattle.szg_file.specs.File.{Begun, begun, file, each, demand, magic_field, byte4_field, part_field, filled_to, head_field, maps_field, sparse_field, lengths_field, block_field, blocks_from, blocks_of, blocks_field}
-use Rattle.szg_file.specs.Format.{Format, means, field, fill, placed, ◌>>=◌, ◌>>◌, Verdict, good, refused, truncated, after_fill, verdict}
+use Rattle.szg_file.specs.Format.{Format, means, field, ◌>>=◌, Verdict, good, refused, truncated, after_fill, verdict}
 use Rattle.szg_file.specs.Unread.{unread_of, unread_field, unread_file, NotRefused, AgreesButForWords, FrontAgrees}
 use Rattle.szg_file.proofs.FormatLaws.{verdict-then, continued, field-whole, field-short, fill-whole, fill-short}
 use Rattle.szg_file.proofs.Taken.{two_fields-one}

@@ -1,5 +1,5 @@
 -- The result of checking a file.
-use Rattle.std.specs.Prelude.{◌≡◌, ℕ, List, length, Option, Result, Ok, Err, IfSome, IfOk}
+use Rattle.std.specs.Prelude.{◌≡◌, ℕ, List, length, Result, Ok, Err, IfSome, IfOk}
 use Rattle.szg_io.specs.Moved.{Takes}
 use Rattle.szg_io.specs.declared.device.Input.{Ghosts}
 use Rattle.szg_values.specs.Material.{Sides}

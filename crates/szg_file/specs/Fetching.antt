@@ -1,5 +1,5 @@
 -- The location of a value's block, and the block that a fault names.
-use Rattle.std.specs.Prelude.{ℕ, ◌≡◌, ◌+◌, ◌*◌, ◌^◌, ◌<◌, ◌≤◌, List, IfNone, IsSomeAnd}
+use Rattle.std.specs.Prelude.{ℕ, ◌≡◌, ◌+◌, ◌*◌, ◌^◌, ◌<◌, List, IsSomeAnd}
 use Rattle.szg_block.specs.Block.{block_at}
 use Rattle.szg_block.specs.BlocksTrait.{bytes_at}
 use Rattle.szg_block.specs.Layout.{Layout}

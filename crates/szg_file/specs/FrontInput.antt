@@ -1,5 +1,5 @@
 -- What is known of a table whose front was read from a device.
-use Rattle.std.specs.Prelude.{◌≡◌, ◌⊎◌, ℕ, ◌<◌, List, length, take, Option, Result, Ok, Err}
+use Rattle.std.specs.Prelude.{◌≡◌, ◌⊎◌, ℕ, ◌<◌, ◌≤◌, List, length, take, Option, Result, Ok, Err}
 use Rattle.szg_io.specs.Moved.{Takes}
 use Rattle.szg_io.specs.declared.device.Input.{Ghosts}
 use Rattle.szg_values.specs.Material.{Sides}
@@ -20,18 +20,20 @@ pub record BeginsWith (front : List ℕ) (size : ℕ) (content : List ℕ) : Typ
   pub long : length content ≡ size
   pub begins : take (length front) content ≡ front
 
--- The first check that fails refuses these bytes, or they end within a field. Or they are a whole front, and a file
--- of `size` bytes that begins with it is too short for its blocks. Or the file had fewer bytes than were read.
+-- The first check that fails refuses these bytes, or they end within a field. Or they are a whole front, which fits
+-- into `size` bytes, and a file of `size` bytes that begins with it is too short for its blocks. Or `size` is less
+-- than the number of bytes that were read.
 abbrev pub IsFrontRefusal : Sides → Kind → List ℕ → ℕ → Option (List ℕ) → ℕ → Reason → Type 0
 IsFrontRefusal material kind bytes size coming place reason =
     IsRefusal (verdict (unread_file material kind) 0 bytes) place reason coming
-    ⊎ ((content : List ℕ) → BeginsWith bytes size content → IsOpenRefusal (verdict (unread_file material kind) 0 content) (Refused place reason))
+    ⊎ ((length bytes ≤ size) × ((content : List ℕ) → BeginsWith bytes size content → IsOpenRefusal (verdict (unread_file material kind) 0 content) (Refused place reason)))
     ⊎ ((size < length bytes) × (place ≡ size) × (reason ≡ Truncated))
 
--- The table is of each file of `size` bytes that begins with the bytes that were read; their number is returned, too.
+-- The table is of each file of `size` bytes that begins with the bytes that were read, which are no more than
+-- `size`; their number is returned, too.
 abbrev pub FrontOutcome : Sides → Kind → List ℕ → ℕ → Option (List ℕ) → Result (FrontKept × ℕ) ReadFault → Type 0
 FrontOutcome material kind bytes size coming (Ok found) =
-    (found.0.index.material ≡ material) × (found.0.index.kind ≡ kind) × (found.1 ≡ length bytes) × ((content : List ℕ) → BeginsWith bytes size content → IsFrontOf found.0 content)
+    (found.0.index.material ≡ material) × (found.0.index.kind ≡ kind) × (found.1 ≡ length bytes) × (length bytes ≤ size) × ((content : List ℕ) → BeginsWith bytes size content → IsFrontOf found.0 content)
 FrontOutcome material kind bytes size coming (Err (fault.Refused place reason)) = IsFrontRefusal material kind bytes size coming place reason
 FrontOutcome material kind bytes size coming (Err fault.Device) = Unit {0}
 FrontOutcome material kind bytes size coming (Err fault.Memory) = Unit {0}

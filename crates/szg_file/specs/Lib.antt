@@ -29,7 +29,6 @@ pub mod Unread
 pub mod FrontRead
 pub mod FrontTable
 pub mod Fetching
-pub mod Heads
 pub mod Index
 pub mod Checked
 pub mod FrontInput

@@ -111,9 +111,9 @@ fn read_block<S: Source>(source: &mut S, offset: u64, block: &mut [u8]) -> Resul
 }
 
 impl FrontTable {
-    ghost use Rattle.std.specs.Prelude.{ℕ, List, ◌≡◌, ◌+◌, ◌<◌, ◌≤◌, Err, None, Some, IfErr, IfOk, IfSome, IsSomeAnd, MatchOption, length};
+    ghost use Rattle.std.specs.Prelude.{ℕ, List, ◌≡◌, ◌≢◌, ◌↔◌, ◌+◌, ◌<◌, ◌≤◌, Err, None, Some, IfErr, IfOk, IfSome, IsOk, IsSomeAnd, MatchOption, length};
     ghost use Rattle.szg_block.specs.BlocksTrait.{Rose, bytes_at};
-    ghost use Rattle.szg_file.specs.Wanted.{wanted_block};
+    ghost use Rattle.szg_file.specs.Wanted.{IsSpelledBy, wanted_block};
     ghost use Rattle.szg_file.specs.Fetching.{NamesBadBlock};
     ghost use Rattle.szg_file.specs.FrontTable.{IsFrontOf};
     ghost use Rattle.szg_file.specs.Index.{slot_in};
@@ -170,6 +170,9 @@ impl FrontTable {
         requires { IsSomeAnd (slot_in self.now.index part side) (λ slot. i < slot.size) }
         ensures value { IfOk result (λ value. (content : List ℕ) → IsFrontOf self.now content → IfSome (front_at self.now.index.material self.now.index.kind content part side) (λ found. IfSome (wanted_block found.1 i) (λ wanted. wanted ≡ block.now) → IsDecoded self.now.index.kind found i value)) }
         ensures fault { IfErr result (λ fault. (content : List ℕ) → IsFrontOf self.now content → IfSome (front_at self.now.index.material self.now.index.kind content part side) (λ found. IfSome (wanted_block found.1 i) (λ wanted. wanted ≡ block.now) → NamesBadBlock content found i fault)) }
+        ensures length { (content : List ℕ) → IsFrontOf self.now content → IfSome (front_at self.now.index.material self.now.index.kind content part side) (λ found. MatchOption (wanted_block found.1 i) (IsOk result) (λ wanted. (result ≡ Err FetchFault.Source) ↔ (length block.now ≢ length wanted))) }
+        // of bytes that are not the file's too
+        ensures spelled { IfOk result (λ value. (content : List ℕ) → IsFrontOf self.now content → IfSome (front_at self.now.index.material self.now.index.kind content part side) (λ found. IsSpelledBy block.now found.1 i (Some value))) }
     {
         let Some(found) = slotted_at(self.index.slots(), &self.subs, part, side) else {
             unreachable!()

@@ -1,18 +1,12 @@
 //! Finding a subtable of a table.
 ghost use Rattle.std.specs.Prelude.{ℕ, List, ◌≡◌, ◌+◌, ◌^◌, ◌<◌, ◌≤◌, ◌&&◌, nat_eq, position, slice_get, length, MatchOption, IfSome, IsSomeAnd, Some, None};
-ghost use Rattle.szg_block.specs.BlocksTrait.{bytes_at};
 ghost use Rattle.szg_file.specs.Values.{constant_value as constant_of};
-ghost use Rattle.szg_file.specs.Held.{subtable_of};
 ghost use Rattle.szg_file.specs.Lookup.{byte_of};
-ghost use Rattle.szg_file.specs.Placed.{whole_sub, IsSlotted, StandsIn};
-ghost use Rattle.szg_file.specs.Values.{values_of, item};
-ghost use Rattle.szg_file.specs.Wanted.{wanted_block, IsSpelledBy};
+ghost use Rattle.szg_file.specs.Placed.{IsSlotted};
 
 use crate::begun::Slot;
-use crate::blocks::{block_bytes, is_constant};
 use crate::dropping::PlacedSub;
-use crate::wanted::Wanted;
-use szg_block::{Sub, find_block, value_in_block};
+use szg_block::Sub;
 use szg_values::Kind;
 
 /// A subtable with its number of positions.
@@ -63,35 +57,4 @@ pub fn slotted_at<'a>(
         slot: slots[n],
         placed: &subs[n],
     })
-}
-
-/// Returns the byte range that value `i` of a subtable needs. None in a constant subtable.
-pub fn wanted_of(found: &Slotted, i: u64) -> Option<Wanted>
-    requires known { (content : List ℕ) × StandsIn content found.now.slot found.now.placed.now × (length content < 2 ^ 64) }
-    requires below { i < found.now.slot.size }
-    ensures wanted { (content : List ℕ) → StandsIn content found.now.slot found.now.placed.now → MatchOption result (wanted_block (whole_sub content found.now.placed.now) i ≡ None) (λ wanted. wanted_block (whole_sub content found.now.placed.now) i ≡ Some (bytes_at content wanted.place wanted.count)) }
-    ensures inside { (content : List ℕ) → StandsIn content found.now.slot found.now.placed.now → IfSome result (λ wanted. wanted.place + wanted.count ≤ length content) }
-{
-    let Slotted { slot, placed } = *found;
-    let block = find_block(&placed.sub, slot.size, i)?;
-    let count = block_bytes(&placed.sub);
-    Some(Wanted {
-        place: placed.first + u64::from(block) * count,
-        count,
-    })
-}
-
-/// Returns value `i` of a subtable, decoded from the bytes of its block. For other bytes it returns the value that
-/// they spell at the same index, or None if they spell too few.
-pub fn value_of(kind: Kind, found: &Slotted, i: u64, piece: &[u8]) -> Option<u16>
-    requires known { (content : List ℕ) × StandsIn content found.now.slot found.now.placed.now }
-    requires below { i < found.now.slot.size }
-    ensures value { (content : List ℕ) → StandsIn content found.now.slot found.now.placed.now → IfSome (wanted_block (whole_sub content found.now.placed.now) i) (λ block. block ≡ piece.now) → IsSomeAnd result (λ value. item (values_of kind (found.now.slot, whole_sub content found.now.placed.now)) i ≡ Some value) }
-    ensures spelled { (content : List ℕ) → IsSpelledBy piece.now (whole_sub content found.now.placed.now) i result }
-{
-    let Slotted { slot, placed } = *found;
-    if is_constant(&placed.sub) {
-        return Some(constant_value(kind, &placed.sub));
-    }
-    value_in_block(&placed.sub, slot.size, i, piece)
 }

@@ -32,7 +32,6 @@ pub mod SeatedMen
 pub mod Grouped
 pub mod Indexed
 pub mod Probed
-pub mod OpenedProbes
 pub mod FrontProbes
 pub mod Placed
 pub mod IndexAgain

@@ -7,7 +7,6 @@ pub mod Tables
 pub mod Numbers
 pub mod Slots
 pub mod Known
-pub mod Opened
 pub mod Front
 pub mod Prepared
 pub mod Traits

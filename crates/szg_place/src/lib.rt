@@ -15,7 +15,6 @@ pub mod lead_pawns;
 mod men;
 mod normal;
 mod numbering;
-mod opened;
 mod placement;
 mod places;
 mod prepared;
@@ -28,7 +27,6 @@ pub mod triples;
 
 pub use front::{probe_dtz_front, probe_dtz_front_in, probe_wdl_front, probe_wdl_front_in};
 pub use numbering::SideGroups;
-pub use opened::{index_of_opened, probe_dtz_opened, probe_wdl_opened};
 pub use placement::{placement_in, placement_of};
 pub use prepared::PreparedTable;
 pub use probes::{probe_dtz, probe_wdl};
@@ -60,17 +58,6 @@ pub enum ProbeFault {
     /// The table has no number for the value in this class.
     #[error("{0}")]
     Map(MapFault),
-}
-
-/// Why a probe of an opened table has no result.
-#[derive(Clone, Copy, Debug, PartialEq, Eq, Error)]
-pub enum OpenedProbeFault {
-    /// The placement or its value has none.
-    #[error("{0}")]
-    Probe(ProbeFault),
-    /// The source failed.
-    #[error("Source")]
-    Source,
 }
 
 /// Why an opened front returns nothing for a placement.

@@ -5,7 +5,7 @@ use crate::fixtures::{self, Fixture};
 use std::alloc::Global;
 use std::process::Abort;
 use szg_block::{Image, Source, SourceFault, Steps, Watch};
-use szg_file::{Heads, OpenFault, Opened, Reason, Table, open};
+use szg_file::{OpenFault, Opened, Reason, Table, open};
 
 /// Value `i` of a side, and the steps to it.
 fn counted(rt: &impl Abort, table: &Table, side: u8, i: u64) -> (u16, Steps) {
@@ -268,43 +268,4 @@ fn cut_files_are_not_opened(rt: HostRuntime) {
     check_cuts(&rt, &made(&rt, fixtures::knvk_wdl_constant(rt.alloc())));
     check_cuts(&rt, &made(&rt, fixtures::kqvk_wdl_paired(rt.alloc())));
     check_cuts(&rt, &made(&rt, fixtures::kpvk_dtz_mapped(rt.alloc())));
-}
-
-/// Value `i` of a side, decoded from these bytes.
-fn in_piece(heads: &Heads, side: u8, i: u64, piece: &[u8]) -> Option<u16> {
-    if i < heads.size(0, side)? {
-        heads.value_in(0, side, i, piece)
-    } else {
-        None
-    }
-}
-
-/// Value `i` of a side, decoded from the byte range of the file that it needs.
-fn brought(heads: &Heads, bytes: &[u8], side: u8, i: u64) -> Option<u16> {
-    if i >= heads.size(0, side)? {
-        return None;
-    }
-    let piece = match heads.find(0, side, i) {
-        Some(wanted) => bytes
-            .get(wanted.place as usize..)?
-            .get(..wanted.count as usize)?,
-        None => &[],
-    };
-    in_piece(heads, side, i, piece)
-}
-
-/// All values of both sides are found in this way. Without bytes only those of the constant side are.
-#[test]
-fn values_in_bytes_that_are_brought(rt: HostRuntime) {
-    let file = made(&rt, fixtures::kqvk_wdl_unpaired(rt.alloc()));
-    let table = accepted(&rt, &file, &[]);
-    let heads = opened(&rt, &file, 0).into_heads();
-    for i in 0..31332 {
-        for side in [0, 1] {
-            let found = brought(&heads, &file.bytes, side, i);
-            assert!(rt; found == Some(value(&rt, &table, side, i)), "at {i}");
-        }
-    }
-    assert!(rt; in_piece(&heads, 0, 31331, &[]).is_none());
-    assert!(rt; in_piece(&heads, 1, 31331, &[]) == Some(2));
 }

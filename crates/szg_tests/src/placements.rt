@@ -1,16 +1,16 @@
 //! The placements of indexes: the examples of the format, and indexes of a table converted to placements and back.
-//! What an opened table returns for placements.
+//! What a table opened by its front returns for placements.
 
 use crate::files::{accepted, made, material, table_of};
-use crate::fixtures;
-use crate::lookups::opened;
+use crate::fixtures::{self, Fixture};
 use crate::standing::placement;
+use std::alloc::Global;
 use std::process::Abort;
-use szg_block::{Image, Source};
-use szg_file::{Opened, Table, open};
+use szg_block::{Image, Watch};
+use szg_file::{FetchFault, FrontTable, Table, open_front};
 use szg_place::{
-    OpenedProbeFault, PlaceFault, PreparedTable, ProbeFault, index_of, index_of_opened,
-    placement_of, probe_dtz, probe_dtz_opened, probe_wdl, probe_wdl_opened,
+    FrontProbeFault, PlaceFault, PreparedTable, ProbeFault, index_in, index_of, placement_of,
+    probe_dtz, probe_dtz_front, probe_wdl, probe_wdl_front,
 };
 use szg_values::Color::{Black, White};
 use szg_values::{Color, Kind, Placement};
@@ -96,44 +96,81 @@ fn indexes_there_and_back(rt: HostRuntime) {
     check_samples(&rt, &both, 3);
 }
 
-/// Over a source the index and, in WDL, the class are those of the table in memory.
-fn check_wdl<S: Source + Drop>(
-    rt: &impl Abort,
-    table: &Table,
-    opened: &mut Opened<S>,
-    placement: &Placement,
-) {
-    assert!(rt; index_of_opened(opened, placement) == index_of(table, placement));
-    assert!(rt; table.kind() == Kind::Wdl && opened.kind() == Kind::Wdl);
-    let want = probe_wdl(table, placement).map_err(|fault| OpenedProbeFault::Probe(
-        ProbeFault::Place(fault),
-    ));
-    assert!(rt; probe_wdl_opened(opened, placement) == want);
+/// A table opened by its front over a source that fails at call `fails_at`, and room for a block.
+#[derive(Drop)]
+struct ByFront<'a> {
+    front: FrontTable,
+    source: Watch<Image<'a>>,
+    room: [u8; 64],
 }
 
-/// Over a source the index and, in DTZ, the distance for a class are those of the table in memory.
-fn check_dtz<S: Source + Drop>(
+/// Opens a file by its front; none of its blocks is longer than 64 bytes.
+fn by_front<'a>(
+    rt: &(impl Abort + Alloc<A = Global>),
+    file: &'a Fixture,
+    fails_at: u64,
+) -> ByFront<'a> {
+    let source = Watch::new(Image::new(&file.bytes), fails_at);
+    match open_front(rt.alloc(), material(rt, file), file.kind, source) {
+        Ok((front, source)) => ByFront {
+            front,
+            source,
+            room: [0; 64],
+        },
+        Err(_) => panic!(rt; "it is not opened"),
+    }
+}
+
+/// The class of a placement in a table opened by its front.
+fn class_of(
+    rt: &impl Abort,
+    opened: &mut ByFront,
+    placement: &Placement,
+) -> Result<Option<i8>, FrontProbeFault> {
+    let ByFront {
+        front,
+        source,
+        room,
+    } = opened;
+    assert!(rt; front.index().kind() == Kind::Wdl && front.longest_block() <= 64);
+    probe_wdl_front(front, source, room, placement)
+}
+
+/// By the front the index and, in WDL, the class are those of the table in memory.
+fn check_wdl(rt: &impl Abort, table: &Table, opened: &mut ByFront, placement: &Placement) {
+    assert!(rt; index_in(opened.front.index(), placement) == index_of(table, placement));
+    assert!(rt; table.kind() == Kind::Wdl);
+    let want = probe_wdl(table, placement).map_err(|fault| FrontProbeFault::Probe(ProbeFault::Place(
+        fault,
+    )));
+    assert!(rt; class_of(rt, opened, placement) == want);
+}
+
+/// By the front the index and, in DTZ, the distance for a class are those of the table in memory.
+fn check_dtz(
     rt: &impl Abort,
     table: &Table,
-    opened: &mut Opened<S>,
+    opened: &mut ByFront,
     placement: &Placement,
     class: i8,
 ) {
-    assert!(rt; index_of_opened(opened, placement) == index_of(table, placement));
-    assert!(rt; table.kind() == Kind::Dtz && opened.kind() == Kind::Dtz);
-    assert!(rt; -2 <= class && class <= 2);
-    let want = probe_dtz(table, placement, class).map_err(OpenedProbeFault::Probe);
-    assert!(rt; probe_dtz_opened(opened, placement, class) == want);
+    let ByFront {
+        front,
+        source,
+        room,
+    } = opened;
+    assert!(rt; index_in(front.index(), placement) == index_of(table, placement));
+    assert!(rt; table.kind() == Kind::Dtz && front.index().kind() == Kind::Dtz);
+    assert!(rt; -2 <= class && class <= 2 && front.longest_block() <= 64);
+    let want = probe_dtz(table, placement, class).map_err(FrontProbeFault::Probe);
+    assert!(rt; probe_dtz_front(front, source, room, placement, class) == want);
 }
 
 #[test]
 fn outcomes_by_a_source(rt: HostRuntime) {
     let file = made(&rt, fixtures::kqvk_wdl_unpaired(rt.alloc()));
     let table = accepted(&rt, &file, &[]);
-    let source = Image::new(&file.bytes);
-    let Ok(mut opened) = open(rt.alloc(), material(&rt, &file), file.kind, source) else {
-        panic!(rt; "it is not opened");
-    };
+    let mut opened = by_front(&rt, &file, 0);
     for (mover, men) in [
         (White, "Ke8 Qa1 kh1"),
         (Black, "Ke8 Qa1 kh1"),
@@ -148,10 +185,7 @@ fn outcomes_by_a_source(rt: HostRuntime) {
 fn distances_by_a_source(rt: HostRuntime) {
     let file = made(&rt, fixtures::kpvk_dtz_mapped(rt.alloc()));
     let table = accepted(&rt, &file, &[]);
-    let source = Image::new(&file.bytes);
-    let Ok(mut opened) = open(rt.alloc(), material(&rt, &file), file.kind, source) else {
-        panic!(rt; "it is not opened");
-    };
+    let mut opened = by_front(&rt, &file, 0);
     for (mover, men, class) in [
         (White, "Ke1 Pa2 ke8", 2),
         (White, "Ke1 Pb2 ke8", 2),
@@ -166,16 +200,16 @@ fn distances_by_a_source(rt: HostRuntime) {
 #[test]
 fn a_source_that_fails_once_under_a_placement(rt: HostRuntime) {
     let file = made(&rt, fixtures::kqvk_wdl_unpaired(rt.alloc()));
-    let calls = opened(&rt, &file, 0).source().calls();
+    let calls = by_front(&rt, &file, 0).source.calls();
     assert!(rt; calls < 32);
-    let mut opened = opened(&rt, &file, calls + 1);
+    let mut opened = by_front(&rt, &file, calls + 1);
     let placement = placement(&rt, White, "Ke8 Qa1 kh1");
-    assert!(rt; index_of_opened(&opened, &placement).is_ok() && opened.source().calls() == calls);
-    assert!(rt; opened.kind() == Kind::Wdl);
-    assert!(rt; probe_wdl_opened(&mut opened, &placement) == Err(OpenedProbeFault::Source));
-    assert!(rt; opened.kind() == Kind::Wdl);
-    assert!(rt; probe_wdl_opened(&mut opened, &placement) == Ok(Some(2)));
-    assert!(rt; opened.source().calls() == calls + 2);
+    assert!(rt; index_in(opened.front.index(), &placement).is_ok());
+    assert!(rt; opened.source.calls() == calls);
+    let failed = Err(FrontProbeFault::Fetch(FetchFault::Source));
+    assert!(rt; class_of(&rt, &mut opened, &placement) == failed);
+    assert!(rt; class_of(&rt, &mut opened, &placement) == Ok(Some(2)));
+    assert!(rt; opened.source.calls() == calls + 2);
 }
 
 /// A table prepared once returns the same spot for these men as without preparation.

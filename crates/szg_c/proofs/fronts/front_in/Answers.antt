@@ -8,8 +8,7 @@ use Rattle.szg_file.specs.Format.{verdict}
 use Rattle.szg_file.specs.Opened.{IsOpenRefusal}
 use Rattle.szg_file.specs.Unread.{unread_file}
 use Rattle.szg_c.specs.Told.{kind_told}
-use Rattle.szg_c.proofs.FrontsTold.{is_front}
-use Rattle.szg_c.proofs.HeadsTold.{refuses}
+use Rattle.szg_c.proofs.FrontsTold.{is_front, refuses}
 use Rattle.szg_c.proofs.fronts.front_in.Goals as goal
 
 pub returns-in-Ok-clause-front : goal.returns-in-Ok-clause-front

@@ -1,6 +1,6 @@
 use Rattle.std.proofs.Common.{None, Some}
 use Rattle.szg_file.specs.Values.{subtable_at}
-use Rattle.szg_c.proofs.ByPlace.{has}
+use Rattle.szg_c.proofs.Indexes.{has}
 use Rattle.szg_c.proofs.index_calls.is_in_table.Goals as goal
 
 pub returns-in-Some : goal.returns-in-Some

@@ -1,4 +1,4 @@
-use Rattle.std.proofs.Common.{◌≡◌, ◌≤◌, length, Option, None, Some, refl}
+use Rattle.std.proofs.Common.{◌≡◌, Option, None, Some, refl}
 use Rattle.std.specs.Prelude.{IsNone}
 use Rattle.szg_values.proofs.SideOf.{placed_few}
 use Rattle.szg_values.specs.Placement.{placement_fault}

@@ -1,4 +1,4 @@
-use Rattle.std.proofs.Common.{◌≡◌, ◌∙◌, ℕ, ◌-◌, List, length, take, ap, sym}
+use Rattle.std.proofs.Common.{◌∙◌, ℕ, ◌-◌, List, length, take, ap, sym}
 use Rattle.std.specs.Prelude.{min}
 use Rattle.szg_c.proofs.Printing.{written}
 use Rattle.szg_c.proofs.texts.print.Goals as goal

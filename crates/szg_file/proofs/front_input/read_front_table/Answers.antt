@@ -1,4 +1,4 @@
-use Rattle.std.proofs.Common.{◌≡◌, ◌≤◌, ◌<◌, refl, arith, inr, List, ℕ}
+use Rattle.std.proofs.Common.{◌≤◌, arith}
 use Rattle.std.proofs.lemmas.Result.{err_from_is_err_and}
 use Rattle.szg_io.proofs.DeviceLaws.{Takes-more}
 use Rattle.szg_file.specs.FrontRead.{front_read}
@@ -18,13 +18,16 @@ front_table-requires-clause-known g c =
 pub returns-in-Ok-clause-read : goal.returns-in-Ok-clause-read
 returns-in-Ok-clause-read g c =
     let h = c.in_ok-read.ensures.front in
+    let at = front_place c.args.material c.args.kind (front_read c.in_ok-read.read) c.new-front.result c.read_front.new.front h.bytes c.new-front.ensures.place h.answer.0 in
+    let enough : c.read_front.new.front.place ≤ c.args.size = search in
     record {
       bytes = h.bytes;
       taken = Takes-more h.bytes 1 h.taken;
       told = (
         c.in-Ok.ensures.material,
         c.in-Ok.ensures.kind,
-        front_place c.args.material c.args.kind (front_read c.in_ok-read.read) c.new-front.result c.read_front.new.front h.bytes c.new-front.ensures.place h.answer.0,
+        at,
+        omega (arith, at, enough),
         λ content begins. c.in-Ok.ensures.table content begins.long
             (front_begins c.args.material c.args.kind (front_read c.in_ok-read.read) c.new-front.result c.read_front.new.front h.bytes content c.new-front.ensures.place h.answer.0 begins.begins),
       );
@@ -33,10 +36,12 @@ returns-in-Ok-clause-read g c =
 pub returns-clause-read : goal.returns-clause-read
 returns-clause-read g c =
     let h = c.in_ok-read.ensures.front in
+    let at = front_place c.args.material c.args.kind (front_read c.in_ok-read.read) c.new-front.result c.read_front.new.front h.bytes c.new-front.ensures.place h.answer.0 in
+    let enough : c.read_front.new.front.place ≤ c.args.size = search in
     record {
       bytes = h.bytes;
       taken = Takes-more h.bytes 1 h.taken;
-      told = short_told c.args.material c.args.kind h.bytes c.args.size _ c.in-Err.fault c.read_fault.result c.read_fault.ensures
+      told = short_told c.args.material c.args.kind h.bytes c.args.size _ c.in-Err.fault c.read_fault.result c.read_fault.ensures (omega (arith, at, enough))
           (λ content begins. c.in-Err.ensures.refused content begins.long
           (front_begins c.args.material c.args.kind (front_read c.in_ok-read.read) c.new-front.result c.read_front.new.front h.bytes content c.new-front.ensures.place h.answer.0 begins.begins));
     }

@@ -1,4 +1,4 @@
-use Rattle.std.proofs.Common.{◌*◌, ◌≤◌, ◌<◌, ◌%◌, ◌^◌, arith, rules}
+use Rattle.std.proofs.Common.{◌*◌, ◌≤◌, ◌%◌, ◌^◌, arith, rules}
 use Rattle.std.proofs.Math.Nat.{mod-le, mul-le-mul}
 use Rattle.std.proofs.Math.Pow.{pow_mono}
 use Rattle.szg_file.proofs.placing.place_blocks.Goals as goal

@@ -1,4 +1,4 @@
-use Rattle.std.proofs.Common.{◌≡◌, List, map, refl, sym, subst}
+use Rattle.std.proofs.Common.{List, map, refl, sym, subst}
 use Rattle.std.proofs.lemmas.Result.{err_from_is_err_and}
 use Rattle.szg_io.proofs.DeviceLaws.{Takes-more}
 use Rattle.szg_values.specs.declared.Kind.{Kind}

@@ -1,9 +1,6 @@
-use Rattle.std.proofs.Common.{◌≡◌, ◌+◌, ◌≤◌, ◌<◌, ◌∙◌, ap, sym, subst, arith, Option}
+use Rattle.std.proofs.Common.{◌<◌, ◌∙◌, ap, subst, arith, Option}
 use Rattle.std.specs.Prelude.{IsSomeAnd}
-use Rattle.szg_values.specs.declared.Kind.{Kind}
 use Rattle.szg_file.specs.Contents.{Slot}
-use Rattle.szg_file.specs.Lookup.{byte_of}
-use Rattle.szg_file.specs.Values.{constant_value}
 use Rattle.szg_file.specs.FrontTable.{FrontKept, IsFrontOf}
 use Rattle.szg_file.specs.Index.{slots_in}
 use Rattle.szg_file.proofs.FrontFinds.{many_slots, no_front_slot, one_front_found, unread_known, spot_inside, wanted_none, wanted_spot}

@@ -1,4 +1,4 @@
-use Rattle.std.proofs.Common.{◌≡◌, ◌+◌, ◌≤◌, ◌<◌, ◌∙◌, ap, sym, subst, arith, Option}
+use Rattle.std.proofs.Common.{◌<◌, ◌∙◌, ap, subst, arith, Option}
 use Rattle.std.specs.Prelude.{IsSomeAnd}
 use Rattle.szg_values.specs.declared.Kind.{Kind}
 use Rattle.szg_file.specs.Contents.{Slot}

@@ -1,12 +1,14 @@
-use Rattle.std.proofs.Common.{◌≡◌, length, ◌+◌, ◌≤◌, ◌<◌, ◌∙◌, ap, sym, subst, arith, Option}
-use Rattle.std.specs.Prelude.{IsSomeAnd}
+use Rattle.std.proofs.Common.{◌≡◌, length, ◌+◌, ◌≤◌, ◌<◌, ◌∙◌, ap, refl, sym, subst, arith, Option}
+use Rattle.std.specs.Prelude.{◌≢◌, ◌↔◌, ℕ, Result, Err, IsSomeAnd}
 use Rattle.szg_values.specs.declared.Kind.{Kind}
 use Rattle.szg_file.specs.Contents.{Slot}
 use Rattle.szg_file.specs.Lookup.{byte_of}
 use Rattle.szg_file.specs.Values.{constant_value}
 use Rattle.szg_file.specs.FrontTable.{FrontKept, IsFrontOf}
+use Rattle.szg_file.specs.declared.fetching.FetchFault.{FetchFault}
+use Rattle.szg_file.specs.declared.fetching.FetchFault.TheVariants.{Source}
 use Rattle.szg_file.specs.Index.{slots_in}
-use Rattle.szg_file.proofs.FrontFinds.{many_slots, no_front_slot, one_front_found, unread_known, spot_inside, block_long, constant_decoded, value_decoded, bad_named, wanted_brought, ok_both, err_both}
+use Rattle.szg_file.proofs.FrontFinds.{many_slots, no_front_slot, one_front_found, unread_known, spot_inside, block_long, constant_decoded, value_decoded, bad_named, wanted_brought, unwanted, wanted_long, no_source, constant_spelled, block_spelled, ok_both, err_both}
 use Rattle.szg_file.proofs.front_table.FrontTable.value_in.Goals as goal
 
 pub slotted_at-requires : goal.slotted_at-requires
@@ -101,3 +103,43 @@ returns-clause-fault c =
     rw found.is
     (λ brought. bad_named c.in-Some.found.slot content c.in-Some.found.placed.now.sub c.in-Some.found.placed.now.first c.args.i c.in-Some-spot_of.spot c.args.block.now fault
     c.in-Some-spot_of.ensures.spot (wanted_brought content c.in-Some.found.placed.now.sub c.in-Some.found.placed.now.first c.args.i c.in-Some-spot_of.spot c.args.block.now c.in-Some-spot_of.ensures.spot brought) is bad))
+
+pub returns-in_default-spot_of-clause-length : goal.returns-in_default-spot_of-clause-length
+returns-in_default-spot_of-clause-length c = λ content h.
+    let placed = c.slots.ensures.slots ∙ ap (λ (k : FrontKept). slots_in k.index) c.self.view_is in
+    let subs = c.deref.ensures.value ∙ ap (λ (k : FrontKept). k.subs) c.self.view_is in
+    let found = one_front_found c.args.self.now c.slots.result.now c.deref.result.now c.args.part c.args.side placed subs content h c.in-Some.found.slot c.in-Some.found.placed.now c.in-Some.ensures in
+    rw found.is (unwanted content c.in-Some.found.placed.now.sub c.in-Some.found.placed.now.first c.args.i _ _ c.in_default-spot_of.ensures.none refl)
+
+pub returns-then-block-spot-clause-length : goal.returns-then-block-spot-clause-length
+returns-then-block-spot-clause-length c = λ content h.
+    let placed = c.slots.ensures.slots ∙ ap (λ (k : FrontKept). slots_in k.index) c.self.view_is in
+    let subs = c.deref.ensures.value ∙ ap (λ (k : FrontKept). k.subs) c.self.view_is in
+    let found = one_front_found c.args.self.now c.slots.result.now c.deref.result.now c.args.part c.args.side placed subs content h c.in-Some.found.slot c.in-Some.found.placed.now c.in-Some.ensures in
+    rw found.is
+    (wanted_long content c.in-Some.found.placed.now.sub c.in-Some.found.placed.now.first c.args.i c.in-Some-spot_of.spot _ (λ n. (◌≡◌ {A = Result ℕ FetchFault} (Err Source) (Err Source)) ↔ (length c.args.block.now ≢ n)) c.in-Some-spot_of.ensures.spot found.fits.inside
+    (λ e. c.if-block-spot.true, λ other. refl))
+
+pub returns-clause-length : goal.returns-clause-length
+returns-clause-length c = λ content h.
+    let placed = c.slots.ensures.slots ∙ ap (λ (k : FrontKept). slots_in k.index) c.self.view_is in
+    let subs = c.deref.ensures.value ∙ ap (λ (k : FrontKept). k.subs) c.self.view_is in
+    let found = one_front_found c.args.self.now c.slots.result.now c.deref.result.now c.args.part c.args.side placed subs content h c.in-Some.found.slot c.in-Some.found.placed.now c.in-Some.ensures in
+    rw found.is
+    (wanted_long content c.in-Some.found.placed.now.sub c.in-Some.found.placed.now.first c.args.i c.in-Some-spot_of.spot _ (λ n. (c.value_at.result ≡ Err Source) ↔ (length c.args.block.now ≢ n)) c.in-Some-spot_of.ensures.spot found.fits.inside
+    (λ e. absurd (no_source c.value_at.result _ _ c.value_at.ensures.fault e), λ other. absurd (other c.if-block-spot.false)))
+
+pub returns-in_default-spot_of-clause-spelled : goal.returns-in_default-spot_of-clause-spelled
+returns-in_default-spot_of-clause-spelled c = λ content h.
+    let placed = c.slots.ensures.slots ∙ ap (λ (k : FrontKept). slots_in k.index) c.self.view_is in
+    let subs = c.deref.ensures.value ∙ ap (λ (k : FrontKept). k.subs) c.self.view_is in
+    let found = one_front_found c.args.self.now c.slots.result.now c.deref.result.now c.args.part c.args.side placed subs content h c.in-Some.found.slot c.in-Some.found.placed.now c.in-Some.ensures in
+    rw found.is (constant_spelled content c.in-Some.found.placed.now.sub c.in-Some.found.placed.now.first c.args.i c.args.block.now _ c.in_default-spot_of.ensures.none)
+
+pub returns-clause-spelled : goal.returns-clause-spelled
+returns-clause-spelled c =
+    ok_both c.value_at.result _ _ _ c.value_at.ensures.value c.value_at.ensures.value (λ value told again content h.
+    let placed = c.slots.ensures.slots ∙ ap (λ (k : FrontKept). slots_in k.index) c.self.view_is in
+    let subs = c.deref.ensures.value ∙ ap (λ (k : FrontKept). k.subs) c.self.view_is in
+    let found = one_front_found c.args.self.now c.slots.result.now c.deref.result.now c.args.part c.args.side placed subs content h c.in-Some.found.slot c.in-Some.found.placed.now c.in-Some.ensures in
+    rw found.is (block_spelled content c.in-Some.found.placed.now.sub c.in-Some.found.placed.now.first c.args.i value c.in-Some-spot_of.spot c.args.block.now c.in-Some-spot_of.ensures.spot c.if-block-spot.false told))

@@ -1,11 +1,11 @@
-use Rattle.std.proofs.Common.{◌≡◌, ◌∙◌, List, map, refl, ap, sym, subst}
+use Rattle.std.proofs.Common.{List, map, sym, subst}
 use Rattle.szg_block.specs.declared.Sub.{Sub}
 use Rattle.szg_file.specs.Assembled.{fields_shown}
 use Rattle.szg_file.specs.Contents.{Contents}
 use Rattle.szg_file.specs.File.{flags_of}
 use Rattle.szg_file.specs.Held.{subtable_of}
 use Rattle.szg_file.specs.Index.{IsIndex, index_with}
-use Rattle.szg_file.proofs.IndexLaws.{accepted_index, owned, told_index}
+use Rattle.szg_file.proofs.IndexLaws.{accepted_index}
 use Rattle.szg_file.proofs.table.Table.assemble.Goals as goal
 
 pub index_of_subs-index-requires-clause-stands : goal.index_of_subs-index-requires-clause-stands

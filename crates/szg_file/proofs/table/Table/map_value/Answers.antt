@@ -1,8 +1,6 @@
-use Rattle.std.proofs.Common.{◌≡◌, ◌≢◌, ◌∙◌, ap, sym, subst, Option, IsSome, w8}
+use Rattle.std.proofs.Common.{◌≡◌, ◌≢◌, ◌∙◌, ap, sym, subst, IsSome, w8}
 use Rattle.std.specs.Prelude.{ℤ, pos, MatchOption, Ok, Err}
 use Rattle.std.proofs.lemmas.Int.{to_z-of_z}
-use Rattle.szg_values.specs.declared.Kind.TheVariants.{Dtz}
-use Rattle.szg_file.specs.Contents.{Slot}
 use Rattle.szg_file.specs.Held.{Shown}
 use Rattle.szg_file.specs.Index.{Index, slot_in, number_in}
 use Rattle.szg_file.specs.Values.{subtable_at, number_of_value}

@@ -1,9 +1,0 @@
--- `none` creates a handle without a value.
-use Rattle.szg_c.specs.contracts.held_heads.HeldHeadsHandle.none.Key.{name as #self}
-use Rattle.szg_c.proofs.held_heads.HeldHeadsHandle.none.Statement.{statement}
-use Rattle.szg_c.proofs.held_heads.HeldHeadsHandle.none.Code as code
-use Rattle.szg_c.proofs.HandleWalks.{none_meets}
-use Rattle.szg_c.proofs.HeadsKind.{kind}
-
-pub none_spec : {M : Type 1} → statement M
-none_spec 𝓤 𝓛 𝓜 𝓡 wired = none_meets kind 𝓤 𝓛 𝓜 𝓡 #self (code.unfolded 𝓤 𝓛.H 𝓜 𝓡 wired)

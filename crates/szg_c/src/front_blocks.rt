@@ -1,0 +1,146 @@
+//! Calls on an opened front whose file C reads itself: the byte range of a value's block, and the value in its bytes.
+ghost use Rattle.std.specs.Prelude.{◌≡◌, ◌+◌, ◌≤◌, ◌⊎◌, ℕ, List, IfSome, MatchOption};
+ghost use Rattle.std.specs.declared.option.Option.TheVariants.{None, Some};
+ghost use Rattle.szg_file.specs.FrontTable.{IsFrontOf};
+ghost use Rattle.szg_file.specs.Index.{slot_in};
+ghost use Rattle.szg_c.specs.FrontBlocks.{IsBlockOf, IsFoundRange, IsLengthTold, IsSpelledIn};
+ghost use Rattle.szg_c.specs.Fronts.{IsGot, with_slot};
+
+use crate::fronts::{BadBlock, fetch_status, has_index};
+use crate::handle::{put, take};
+use crate::held_front::HeldFront;
+use crate::status::{BAD_BLOCK, CHANGED, CLOSED, DONE, RANGE};
+use std::alloc::Global;
+use szg_file::{FrontTable, Wanted};
+
+/// A byte range of a file.
+#[repr(C)]
+#[derive(Drop)]
+pub struct RawByteRange {
+    /// The offset of the first byte.
+    pub offset: u64,
+    /// The number of bytes.
+    pub count: u64,
+}
+
+/// Converts a byte range for C; none becomes offset 0 and count 0.
+fn raw_range(found: Option<Wanted>) -> RawByteRange
+    ensures { MatchOption found ((result.offset ≡ 0) × (result.count ≡ 0)) (λ wanted. (result.offset ≡ wanted.place) × (result.count ≡ wanted.count)) }
+{
+    match found {
+        Some(wanted) => RawByteRange {
+            offset: wanted.place,
+            count: wanted.count,
+        },
+        None => RawByteRange {
+            offset: 0,
+            count: 0,
+        },
+    }
+}
+
+/// Finds the byte range that a value needs, if the table has its index.
+fn find_in(table: &FrontTable, part: u8, side: u8, index: u64, range: &mut RawByteRange) -> u32
+    ensures statuses { MatchOption (with_slot (slot_in table.now.index part side) index) (result ≡ RANGE) (λ slot. result ≡ DONE) }
+    ensures found { (content : List ℕ) → IsFrontOf table.now content → IfSome (with_slot (slot_in table.now.index part side) index) (λ slot. IsFoundRange table.now content part side index range.new) }
+    ensures inside { (result ≡ DONE) → range.new.offset + range.new.count ≤ table.now.length }
+    ensures stays { (result ≡ DONE → ⊥) → range.new ≡ range.old }
+{
+    if !has_index(table, part, side, index) {
+        return RANGE;
+    }
+    *range = raw_range(table.find(part, side, index));
+    DONE
+}
+
+/// Finds the byte range of the file that the value at an index needs: that of one block. In a constant subtable the
+/// value needs none: then offset and count are 0.
+///
+/// Errors: `CLOSED` if the handle has no front, `RANGE` if the table has no such part, side or index. Then `range` is
+/// unchanged.
+#[unsafe(no_mangle)]
+pub extern "C" fn szg_front_find(
+    alloc: Global,
+    front: &mut HeldFront,
+    part: u8,
+    side: u8,
+    index: u64,
+    range: &mut RawByteRange,
+) -> u32
+    ensures kept { front.new.value ≡ front.old.value }
+    ensures closed { front.old.value ≡ None → result ≡ CLOSED }
+    ensures statuses { IfSome front.old.value (λ f. MatchOption (with_slot (slot_in f.index part side) index) (result ≡ RANGE) (λ slot. result ≡ DONE)) }
+    ensures found { IfSome front.old.value (λ f. (content : List ℕ) → IsFrontOf f content → IfSome (with_slot (slot_in f.index part side) index) (λ slot. IsFoundRange f content part side index range.new)) }
+    ensures inside { IfSome front.old.value (λ f. (result ≡ DONE) → range.new.offset + range.new.count ≤ f.length) }
+    ensures stays { (result ≡ DONE → ⊥) → range.new ≡ range.old }
+{
+    let Some(held) = take(front, alloc) else {
+        return CLOSED;
+    };
+    let status = find_in(held.value(), part, side, index, range);
+    put(front, held);
+    status
+}
+
+/// Decodes a value from `block`, the bytes that it needs, which are verified first.
+fn value_of(
+    table: &FrontTable,
+    part: u8,
+    side: u8,
+    index: u64,
+    block: &[u8],
+    value: &mut u16,
+    bad: &mut BadBlock,
+) -> u32
+    ensures statuses { MatchOption (with_slot (slot_in table.now.index part side) index) (result ≡ RANGE) (λ slot. (result ≡ DONE) ⊎ (result ≡ CHANGED) ⊎ (result ≡ BAD_BLOCK)) }
+    ensures length { (content : List ℕ) → IsFrontOf table.now content → IfSome (with_slot (slot_in table.now.index part side) index) (λ slot. IsLengthTold table.now content part side index block.now result) }
+    ensures got { (content : List ℕ) → IsFrontOf table.now content → IfSome (with_slot (slot_in table.now.index part side) index) (λ slot. IsBlockOf table.now content part side index block.now → IsGot table.now content part side index result value.new bad.old bad.new) }
+    ensures spelled { (content : List ℕ) → IsFrontOf table.now content → IfSome (with_slot (slot_in table.now.index part side) index) (λ slot. (result ≡ DONE) → IsSpelledIn table.now content part side index block.now value.new) }
+    ensures value_stays { (result ≡ DONE → ⊥) → value.new ≡ value.old }
+    ensures bad_stays { (result ≡ BAD_BLOCK → ⊥) → bad.new ≡ bad.old }
+{
+    if !has_index(table, part, side, index) {
+        return RANGE;
+    }
+    match table.value_in(part, side, index, block) {
+        Ok(found) => {
+            *value = found;
+            DONE
+        }
+        Err(fault) => fetch_status(fault, bad),
+    }
+}
+
+/// Decodes the value at an index from `block`, the bytes of the file at the range that `szg_front_find` returns. The
+/// block is verified first. A constant subtable ignores the bytes.
+///
+/// Errors: `CLOSED` if the handle has no front, `RANGE` if the table has no such part, side or index, `BAD_BLOCK` if the
+/// block does not decode (then `bad` has its number and offset), `CHANGED` if `block` has another number of bytes. Then
+/// `value` is unchanged. Bytes that differ from the file's may decode to another value.
+#[unsafe(no_mangle)]
+pub extern "C" fn szg_front_value(
+    alloc: Global,
+    front: &mut HeldFront,
+    part: u8,
+    side: u8,
+    index: u64,
+    block: &[u8],
+    value: &mut u16,
+    bad: &mut BadBlock,
+) -> u32
+    ensures kept { front.new.value ≡ front.old.value }
+    ensures closed { front.old.value ≡ None → result ≡ CLOSED }
+    ensures statuses { IfSome front.old.value (λ f. MatchOption (with_slot (slot_in f.index part side) index) (result ≡ RANGE) (λ slot. (result ≡ DONE) ⊎ (result ≡ CHANGED) ⊎ (result ≡ BAD_BLOCK))) }
+    ensures length { IfSome front.old.value (λ f. (content : List ℕ) → IsFrontOf f content → IfSome (with_slot (slot_in f.index part side) index) (λ slot. IsLengthTold f content part side index block.now result)) }
+    ensures got { IfSome front.old.value (λ f. (content : List ℕ) → IsFrontOf f content → IfSome (with_slot (slot_in f.index part side) index) (λ slot. IsBlockOf f content part side index block.now → IsGot f content part side index result value.new bad.old bad.new)) }
+    ensures spelled { IfSome front.old.value (λ f. (content : List ℕ) → IsFrontOf f content → IfSome (with_slot (slot_in f.index part side) index) (λ slot. (result ≡ DONE) → IsSpelledIn f content part side index block.now value.new)) }
+    ensures value_stays { (result ≡ DONE → ⊥) → value.new ≡ value.old }
+    ensures bad_stays { (result ≡ BAD_BLOCK → ⊥) → bad.new ≡ bad.old }
+{
+    let Some(held) = take(front, alloc) else {
+        return CLOSED;
+    };
+    let status = value_of(held.value(), part, side, index, block, value, bad);
+    put(front, held);
+    status
+}
