@@ -3,6 +3,7 @@ mod Outcomes
 mod Builds
 mod Digits
 mod MenWords
+pub mod FrontFacts
 pub mod Endings
 pub mod Constants
 pub mod Words

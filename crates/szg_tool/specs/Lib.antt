@@ -6,6 +6,8 @@ pub mod Builds
 pub mod RefusalLines
 pub mod Requests
 pub mod Refusals
+pub mod Fronts
+pub mod Jobs
 pub mod OnFiles
 pub mod Asked
 pub mod Statuses

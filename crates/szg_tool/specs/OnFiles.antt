@@ -17,6 +17,7 @@ use Rattle.szg_named.specs.declared.stop.Stop.TheVariants as check_stops
 use Rattle.szg_named.specs.declared.stop.Tally.{Tally}
 use Rattle.szg_tool.specs.Answers.{IsAnswer}
 use Rattle.szg_tool.specs.Builds.{IsBuiltIn, IsTextOf}
+use Rattle.szg_tool.specs.Fronts.{AnswersIn, IsLookUp, MeetsIn}
 use Rattle.szg_tool.specs.Outcome.{OnDone, OnRefused, OnWords}
 use Rattle.szg_tool.specs.RefusalLines.{refusal_line}
 use Rattle.szg_tool.specs.Requests.{IsCarriedOut, IsRefusedWith, IsTableOf, Meets}
@@ -25,6 +26,7 @@ use Rattle.szg_tool.specs.declared.on_files.Ending.{Ending}
 use Rattle.szg_tool.specs.declared.on_files.Ending.TheVariants as endings
 use Rattle.szg_tool.specs.declared.outcome.Outcome.{Outcome}
 use Rattle.szg_tool.specs.declared.outcome.Outcome.TheVariants as outcomes
+use Rattle.szg_tool.specs.declared.request.Request.{Request}
 use Rattle.szg_tool.specs.declared.request.Task.{Task}
 use Rattle.szg_tool.specs.declared.request.Task.TheVariants.{OnTable, Build}
 
@@ -89,20 +91,46 @@ pub record HasRun {R W : Type 0} (reading : input.Ghosts R) (writing : output.Gh
   pub device : (outcome ≡ outcomes.Device) → HasFailed (reading.failures reader) (reading.failures reader') (reading.interrupted reader')
       ⊎ HasFailed (writing.failures writer) (writing.failures writer') (writing.interrupted writer')
 
+-- A look-up was answered by the front of the file at a path: just its line was given to the writer.
+abbrev pub HasLookedUp : {S F W : Type 0} → (S → List ℕ → Option (List ℕ)) → (S → ℕ) → input.Ghosts F → output.Ghosts W → Request → List ℕ → S → S → W → W → Type 0
+HasLookedUp {F = F} content failures filing writing request source system system' writer writer' =
+    (file : F) × IsOpened content failures filing system system' source file
+    × (text : List ℕ) × AnswersIn filing request file text × Gives writing writer writer' text 0
+
+-- It met a refusal, and just its line was given to the writer.
+abbrev pub HasRefusedLookUp : {S F W : Type 0} → (S → List ℕ → Option (List ℕ)) → (S → ℕ) → input.Ghosts F → output.Ghosts W → Request → List ℕ → S → S → W → W → Type 0
+HasRefusedLookUp {F = F} content failures filing writing request source system system' writer writer' =
+    (file : F) × IsOpened content failures filing system system' source file
+    × (refusal : Refusal) × MeetsIn filing request file refusal × Gives writing writer writer' (refusal_line refusal) 0
+
 -- A task was carried out on the file at a path, and the reader stays; or on the reader, and the system stays.
-abbrev pub HasDone : {S F R W : Type 0} → (S → List ℕ → Option (List ℕ)) → (S → ℕ) → input.Ghosts F → input.Ghosts R → output.Ghosts W → S → S → R → R → W → W → Option Published → Type 0
-HasDone content failures filing reading writing system system' reader reader' writer writer' published =
+abbrev pub HasDoneTask : {S F R W : Type 0} → (S → List ℕ → Option (List ℕ)) → (S → ℕ) → input.Ghosts F → input.Ghosts R → output.Ghosts W → S → S → R → R → W → W → Option Published → Type 0
+HasDoneTask content failures filing reading writing system system' reader reader' writer writer' published =
     (task : Task) × (target : Option (List ℕ))
     × (((source : List ℕ) × (reader' ≡ reader) × IsCarriedFrom content failures filing writing task source target system system' writer writer' published)
     ⊎ ((system' ≡ system) × IsCarriedTo reading writing task target reader reader' writer writer' published))
 
 -- A task met a refusal so, and just its line was given to the writer.
-abbrev pub HasRefused : {S F R W : Type 0} → (S → List ℕ → Option (List ℕ)) → (S → ℕ) → input.Ghosts F → input.Ghosts R → output.Ghosts W → S → S → R → R → W → W → Type 0
-HasRefused content failures filing reading writing system system' reader reader' writer writer' =
+abbrev pub HasRefusedTask : {S F R W : Type 0} → (S → List ℕ → Option (List ℕ)) → (S → ℕ) → input.Ghosts F → input.Ghosts R → output.Ghosts W → S → S → R → R → W → W → Type 0
+HasRefusedTask content failures filing reading writing system system' reader reader' writer writer' =
     (task : Task) × (refusal : Refusal)
     × (((source : List ℕ) × (reader' ≡ reader) × MeetsFrom content failures filing task source system system' refusal)
     ⊎ ((system' ≡ system) × Meets reading task reader reader' refusal))
     × Gives writing writer writer' (refusal_line refusal) 0
+
+-- A task was carried out; or a look-up was answered by a front, no file was written, and the reader stays.
+abbrev pub HasDone : {S F R W : Type 0} → (S → List ℕ → Option (List ℕ)) → (S → ℕ) → input.Ghosts F → input.Ghosts R → output.Ghosts W → S → S → R → R → W → W → Option Published → Type 0
+HasDone content failures filing reading writing system system' reader reader' writer writer' published =
+    HasDoneTask content failures filing reading writing system system' reader reader' writer writer' published
+    ⊎ ((request : Request) × (source : List ℕ) × IsLookUp request.action × (published ≡ None) × (reader' ≡ reader)
+    × HasLookedUp content failures filing writing request source system system' writer writer')
+
+-- A task met a refusal; or a look-up by a front did, and the reader stays.
+abbrev pub HasRefused : {S F R W : Type 0} → (S → List ℕ → Option (List ℕ)) → (S → ℕ) → input.Ghosts F → input.Ghosts R → output.Ghosts W → S → S → R → R → W → W → Type 0
+HasRefused content failures filing reading writing system system' reader reader' writer writer' =
+    HasRefusedTask content failures filing reading writing system system' reader reader' writer writer'
+    ⊎ ((request : Request) × (source : List ℕ) × IsLookUp request.action × (reader' ≡ reader)
+    × HasRefusedLookUp content failures filing writing request source system system' writer writer')
 
 -- What was done, by the ending.
 abbrev pub EndsWell : {S F R W : Type 0} → (S → List ℕ → Option (List ℕ)) → (S → ℕ) → input.Ghosts F → input.Ghosts R → output.Ghosts W → Ending → S → S → R → R → W → W → Type 0

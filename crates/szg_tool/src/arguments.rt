@@ -272,6 +272,15 @@ pub const STEPS: Argument = Argument {
     help: "Also print how many moves, words, descents and fetches the look-up takes",
 };
 
+/// Whether the whole file is checked before a look-up.
+pub const VERIFY: Argument = Argument {
+    id: "verify",
+    form: Form::Flag,
+    values: ValueParser::Bool,
+    is_number: false,
+    help: "Check the whole file first, and not only what the look-up reads",
+};
+
 impl Argument {
     /// The argument as `clap` has it.
     pub fn to_clap<'a>(&self, alloc: Global) -> Arg<'a> {

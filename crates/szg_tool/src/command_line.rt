@@ -2,7 +2,7 @@
 
 use crate::arguments::{
     ALLOW_TRAILING, Argument, BLOCK, CLASS, DUMP, FILE, FILES, FORM, INDEX, KIND, KIND_GIVEN, MEN,
-    MOVER, NAME, NAME_GIVEN, OUTPUT, PART, PLAN, REPORT, ROUNDS, SIDE, SPAN, STEPS,
+    MOVER, NAME, NAME_GIVEN, OUTPUT, PART, PLAN, REPORT, ROUNDS, SIDE, SPAN, STEPS, VERIFY,
 };
 use clap::Command;
 use std::alloc::{AllocError, Global};
@@ -64,13 +64,15 @@ static OF_FILE_SUBTABLE: [Argument; 5] = [FILE, PART, SIDE, NAME_GIVEN, KIND_GIV
 static OF_FILE_INDEX: [Argument; 6] = [FILE, PART, SIDE, INDEX, NAME_GIVEN, KIND_GIVEN];
 
 /// Those of an index's value in a file.
-static OF_FILE_VALUE: [Argument; 7] = [FILE, PART, SIDE, INDEX, STEPS, NAME_GIVEN, KIND_GIVEN];
+static OF_FILE_VALUE: [Argument; 8] = [
+    FILE, PART, SIDE, INDEX, STEPS, VERIFY, NAME_GIVEN, KIND_GIVEN,
+];
 
 /// Those of a placement in a file.
-static OF_FILE_PLACEMENT: [Argument; 5] = [FILE, MOVER, MEN, NAME_GIVEN, KIND_GIVEN];
+static OF_FILE_PLACEMENT: [Argument; 6] = [FILE, MOVER, MEN, VERIFY, NAME_GIVEN, KIND_GIVEN];
 
 /// Those of a placement's outcome in a file.
-static OF_FILE_OUTCOME: [Argument; 6] = [FILE, MOVER, MEN, CLASS, NAME_GIVEN, KIND_GIVEN];
+static OF_FILE_OUTCOME: [Argument; 7] = [FILE, MOVER, MEN, CLASS, VERIFY, NAME_GIVEN, KIND_GIVEN];
 
 /// Those of a build from or to a file.
 static OF_FILE_BUILD: [Argument; 6] = [DUMP, PLAN, BLOCK, SPAN, ROUNDS, OUTPUT];

@@ -1,12 +1,16 @@
 //! Command lines that name files.
-ghost use Rattle.std.specs.Prelude.{◌≡◌, option_map};
+ghost use Rattle.std.specs.Prelude.{◌≡◌, IfOk, option_map};
+ghost use Rattle.clap.specs.Matches.{found_of};
+ghost use Rattle.clap.specs.declared.parser.matches.Found.{Found};
 ghost use Rattle.szg_tool.specs.Asked.{report_format_told};
+ghost use Rattle.szg_tool.specs.Jobs.{IsJobIn};
 
 use crate::command_line::CommandForm;
+use crate::fronts::is_look_up;
 use crate::numbers::NumberFault;
 use crate::request::{
-    Task, conflict_error, kind_of, matches_of, missing_command, number_error, packing_in,
-    request_on, unused_by_plan, usage_error,
+    Request, Task, conflict_error, is_given, kind_of, matches_of, missing_command, number_error,
+    packing_in, request_on, unused_by_plan, usage_error,
 };
 use clap::error::ErrorKind;
 use clap::{ArgMatches, Error};
@@ -27,6 +31,11 @@ pub enum FileJob<'a> {
         task: Task<'a>,
         source: Option<&'a str>,
         target: Option<&'a str>,
+    },
+    /// A look-up in the file at `source`, by its front.
+    LookUp {
+        request: Request<'a>,
+        source: &'a str,
     },
 }
 
@@ -100,7 +109,9 @@ pub fn names_files(words: &[&str]) -> bool {
 }
 
 /// What the words of a command that names files ask for.
-pub fn parse_files<'a>(alloc: Global, words: &'a [&'a str]) -> Result<FileJob<'a>, Error> {
+pub fn parse_files<'a>(alloc: Global, words: &'a [&'a str]) -> Result<FileJob<'a>, Error>
+    ensures { IfOk result (λ job. (found : Found) × IsJobIn found job) }
+{
     let form = CommandForm::Files;
     let matches = matches_of(alloc, words, form)?;
     let Some((command, chosen)) = matches.subcommand() else {
@@ -151,7 +162,9 @@ fn job_in<'a>(
     alloc: Global,
     command: &str,
     chosen: &ArgMatches<'a>,
-) -> Result<FileJob<'a>, WordsFault<'a>> {
+) -> Result<FileJob<'a>, WordsFault<'a>>
+    ensures { IfOk result (λ job. IsJobIn (found_of chosen.now) job) }
+{
     match command {
         "check" => check_in(alloc, chosen),
         "build" => Ok(FileJob::Run {
@@ -164,7 +177,9 @@ fn job_in<'a>(
 }
 
 /// The files that are to be checked.
-fn check_in<'a>(alloc: Global, chosen: &ArgMatches<'a>) -> Result<FileJob<'a>, WordsFault<'a>> {
+fn check_in<'a>(alloc: Global, chosen: &ArgMatches<'a>) -> Result<FileJob<'a>, WordsFault<'a>>
+    ensures { IfOk result (λ job. IsJobIn (found_of chosen.now) job) }
+{
     let options = CheckOptions {
         naming: naming_in(chosen),
         allow_trailing: chosen.get_flag("allow-trailing"),
@@ -180,13 +195,22 @@ fn check_in<'a>(alloc: Global, chosen: &ArgMatches<'a>) -> Result<FileJob<'a>, W
 }
 
 /// The request on the table at a path.
-fn table_job_in<'a>(command: &str, chosen: &ArgMatches<'a>) -> Result<FileJob<'a>, WordsFault<'a>> {
+fn table_job_in<'a>(command: &str, chosen: &ArgMatches<'a>) -> Result<FileJob<'a>, WordsFault<'a>>
+    ensures { IfOk result (λ job. IsJobIn (found_of chosen.now) job) }
+{
     let path = chosen.get_str("FILE").unwrap_or("");
     let Some((name, kind)) = named_as(naming_in(chosen), path) else {
         return Err(WordsFault::Kind);
     };
+    let request = request_on(command, chosen, name, kind)?;
+    if is_look_up(&request.action) && !is_given(chosen.get_str("verify"), "true") {
+        return Ok(FileJob::LookUp {
+            request,
+            source: path,
+        });
+    }
     Ok(FileJob::Run {
-        task: Task::OnTable(request_on(command, chosen, name, kind)?),
+        task: Task::OnTable(request),
         source: Some(path),
         target: chosen.get_str("output"),
     })

@@ -12,6 +12,7 @@ mod command_line;
 mod commands;
 mod description;
 mod file_words;
+mod fronts;
 mod lookups;
 mod meant;
 mod men;

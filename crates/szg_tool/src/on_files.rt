@@ -1,20 +1,23 @@
 //! Commands on files by their paths.
-ghost use Rattle.std.specs.Prelude.{◌≡◌, IfOk, IsErrOf, IfSome, map, option_map};
+ghost use Rattle.std.specs.Prelude.{◌≡◌, None, IfOk, IsErrOf, IfSome, map, option_map};
 ghost use Rattle.szg_files.specs.Draft.{draft_target, published_target, published_text, text_of};
 ghost use Rattle.szg_io.specs.Device.{HasFailed};
 ghost use Rattle.szg_io.specs.Moved.{Gives};
 ghost use Rattle.szg_named.specs.Asked.{files_asked};
 ghost use Rattle.szg_named.specs.Verdicts.{IsReport, plain_options};
-ghost use Rattle.szg_tool.specs.OnFiles.{AreChecked, EndsTask, EndsWell, HasDone, HasRefused, IsCarriedFrom, IsCarriedTo, IsPublishedBy, MeetsFrom};
+ghost use Rattle.szg_tool.specs.Fronts.{IsLookUp};
+ghost use Rattle.szg_tool.specs.OnFiles.{AreChecked, EndsTask, EndsWell, HasDone, HasLookedUp, HasRefused, HasRefusedLookUp, IsCarriedFrom, IsCarriedTo, IsPublishedBy, MeetsFrom};
 ghost use Rattle.szg_tool.specs.RefusalLines.{refusal_line};
 ghost use Rattle.szg_tool.specs.Requests.{Meets};
 ghost use Rattle.szg_tool.specs.declared.refusal.Refusal.{Refusal};
 
 use crate::commands::{carry_out, refuse, run, words_outcome};
 use crate::file_words::{FileJob, names_files, parse_files};
+use crate::fronts::{LookUpStop, answer_in};
 use crate::outcome::Outcome;
 use crate::refusal::{Refusal, Stop};
-use crate::request::Task;
+use crate::request::{Request, Task};
+use crate::saying::say;
 use std::alloc::Global;
 use std::rt::Files;
 use std::time::Clock;
@@ -262,6 +265,59 @@ fn run_task<'a, R: Input, W: Output, S: FileSystem, D: Files>(
     }
 }
 
+/// How a look-up ends where its file fails.
+fn failed_ending(path: &str, fault: FileFault) -> Ending<'_>
+    ensures { EndsTask result (λ published. ⊥) ⊥ }
+{
+    match fault {
+        FileFault::Memory => Ending::Memory,
+        fault => Ending::Failed(FileFailure { path, fault }),
+    }
+}
+
+/// Looks a value or a placement up in the file at `source`, by the file's front.
+fn run_look_up<'a, S: FileSystem, W: Output>(
+    alloc: Global,
+    request: &Request,
+    source: &'a str,
+    system: &mut S,
+    writer: &mut W,
+) -> Ending<'a>
+    requires { IsLookUp request.now.action }
+    ensures { EndsTask result (λ published. (published ≡ None) × HasLookedUp S.content S.failures S.File.Input W.Output request.now source.now system.old system.new writer.old writer.new)
+        (HasRefusedLookUp S.content S.failures S.File.Input W.Output request.now source.now system.old system.new writer.old writer.new) }
+{
+    let file = match system.open(source) {
+        Ok(file) => file,
+        Err(fault) => return failed_ending(source, fault),
+    };
+    match answer_in(alloc, system, file, request) {
+        Ok(line) => match say(writer, line.as_bytes()) {
+            Ok(()) => Ending::Done(None),
+            Err(_) => Ending::Device,
+        },
+        Err(LookUpStop::Refused(refusal)) => refused(alloc, refusal, writer),
+        Err(LookUpStop::Failed(fault)) => failed_ending(source, fault),
+    }
+}
+
+/// Runs a look-up of a command line in the file at `source`. The reader stays.
+fn run_by_front<'a, R: Input, S: FileSystem, W: Output>(
+    alloc: Global,
+    request: &Request,
+    source: &'a str,
+    system: &mut S,
+    reader: &mut R,
+    writer: &mut W,
+) -> Ending<'a>
+    requires { IsLookUp request.now.action }
+    ensures stays { reader.new ≡ reader.old }
+    ensures ending { EndsTask result (HasDone S.content S.failures S.File.Input R.Input W.Output system.old system.new reader.old reader.new writer.old writer.new)
+        (HasRefused S.content S.failures S.File.Input R.Input W.Output system.old system.new reader.old reader.new writer.old writer.new) }
+{
+    run_look_up(alloc, request, source, system, writer)
+}
+
 /// Runs a command line: on the files of a system where it names these, else on the reader. Of the machine it writes files,
 /// and reads the clock.
 #[tactic(auto, using(crate::proofs::Endings::ends_well))]
@@ -302,6 +358,9 @@ where
         ) => run_task(
             alloc, &task, source, target, system, machine, reader, writer,
         ),
+        Ok(FileJob::LookUp { request, source }) => {
+            run_by_front(alloc, &request, source, system, reader, writer)
+        }
         Err(error) => Ending::Words(words_outcome(error)),
     }
 }

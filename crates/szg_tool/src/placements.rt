@@ -28,7 +28,7 @@ pub fn spot_answer(alloc: Global, table: &Table, placement: &Placement) -> Resul
 }
 
 /// A spot's line.
-fn spot_line(alloc: Global, spot: Spot) -> Result<String, AllocError>
+pub fn spot_line(alloc: Global, spot: Spot) -> Result<String, AllocError>
     ensures { IfOk result (λ line. string_bytes line ≡ spot_line spot) }
 {
     let letter = part_letter(spot.part);
@@ -78,7 +78,7 @@ fn class_answer(alloc: Global, table: &Table, placement: &Placement) -> Result<S
 }
 
 /// A class's line.
-fn class_line(alloc: Global, class: Option<i8>) -> Result<String, AllocError>
+pub fn class_line(alloc: Global, class: Option<i8>) -> Result<String, AllocError>
     ensures { IfOk result (λ line. string_bytes line ≡ class_line class) }
 {
     match class {

@@ -23,6 +23,8 @@ pub enum Refusal {
     Part,
     /// The subtable has no such index.
     Index,
+    /// The value's block doesn't decode: its number in its part and side, and its offset in the file.
+    Block(u32, u64),
     /// The table has no index for the placement, or no placement for the index.
     Place(PlaceFault),
     /// The table has no number for the placement in the class.

@@ -1,6 +1,6 @@
 //! The line of a refusal.
 ghost use Rattle.std.specs.Prelude.{◌≡◌, IfOk, string_bytes};
-ghost use Rattle.szg_tool.specs.RefusalLines.{build_word, dump_word, map_word, name_word, numbered_line, place_word, placement_word, reason_word, refusal_line, worded_line};
+ghost use Rattle.szg_tool.specs.RefusalLines.{block_line, build_word, dump_word, map_word, name_word, numbered_line, place_word, placement_word, reason_word, refusal_line, worded_line};
 
 use crate::refusal::Refusal;
 use std::alloc::{AllocError, Global};
@@ -22,6 +22,7 @@ pub fn refusal_line(alloc: Global, refusal: Refusal) -> Result<String, AllocErro
         Refusal::Build(fault) => worded_line(alloc, "build", build_word(fault)),
         Refusal::Part => String::from_str(alloc, "refused part\n"),
         Refusal::Index => String::from_str(alloc, "refused index\n"),
+        Refusal::Block(number, offset) => block_line(alloc, number, offset),
         Refusal::Place(fault) => worded_line(alloc, "place", place_word(fault)),
         Refusal::Map(fault) => worded_line(alloc, "map", map_word(fault)),
     }
@@ -39,6 +40,13 @@ fn numbered_line(alloc: Global, what: &str, number: u64, word: &str) -> Result<S
     ensures { IfOk result (λ line. string_bytes line ≡ numbered_line what.now number word.now) }
 {
     format!(in alloc; "refused {what} {number}: {word}\n")
+}
+
+/// A block's line: its number and its offset in the file.
+fn block_line(alloc: Global, number: u32, offset: u64) -> Result<String, AllocError>
+    ensures { IfOk result (λ line. string_bytes line ≡ block_line number offset) }
+{
+    format!(in alloc; "refused block {number} at {offset}\n")
 }
 
 /// Why a name is none.

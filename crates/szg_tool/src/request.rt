@@ -231,7 +231,7 @@ fn is_small(chosen: &ArgMatches<'_>) -> bool
 }
 
 /// Whether there is this word.
-fn is_given(given: Option<&str>, word: &str) -> bool
+pub fn is_given(given: Option<&str>, word: &str) -> bool
     ensures { result ≡ is_word (option_map (λ text. text.now) given.entry) word.now }
 {
     match given {

@@ -1,5 +1,5 @@
 //! Command lines on files in memory.
-use super::fixtures::{knvk_wdl_constant, kqvk_wdl_unpaired};
+use super::fixtures::{knvk_wdl_constant, kqvk_wdl_lone_word, kqvk_wdl_unpaired};
 use super::words_of;
 use crate::on_files::{Ending, run_words};
 use std::alloc::Global;
@@ -93,6 +93,134 @@ fn files_by_name(rt: HostRuntime) -> Result<(), Fail> {
         ),
         ("szg get KQvK.rtbw 31332", "refused index\n"),
         ("szg get KRvK.rtbw 5", ""),
+    ] {
+        check_on_files(&rt, line, &files, text)?;
+    }
+    Ok(())
+}
+
+#[test]
+fn look_ups_by_the_front(rt: HostRuntime) -> Result<(), Fail> {
+    let good = kqvk_wdl_lone_word(rt.alloc())?;
+    let mut block = kqvk_wdl_lone_word(rt.alloc())?;
+    // block 45 has the values from 11520 to 11775
+    block[320 + 45 * 32] = 0x80;
+    let mut head = kqvk_wdl_lone_word(rt.alloc())?;
+    head[0] = 0;
+    let mut long = kqvk_wdl_lone_word(rt.alloc())?;
+    long.push(0)?;
+    let short = Vec::from_slice(rt.alloc(), &good[..4303])?;
+    let cut = Vec::from_slice(rt.alloc(), &good[..300])?;
+    let files = [
+        MemoryFile {
+            path: "KQvK.rtbw",
+            bytes: &good,
+        },
+        MemoryFile {
+            path: "block/KQvK.rtbw",
+            bytes: &block,
+        },
+        MemoryFile {
+            path: "head/KQvK.rtbw",
+            bytes: &head,
+        },
+        MemoryFile {
+            path: "long/KQvK.rtbw",
+            bytes: &long,
+        },
+        MemoryFile {
+            path: "short/KQvK.rtbw",
+            bytes: &short,
+        },
+        MemoryFile {
+            path: "cut/KQvK.rtbw",
+            bytes: &cut,
+        },
+    ];
+    for (line, text) in [
+        ("szg get KQvK.rtbw 11711", "4\n"),
+        ("szg get KQvK.rtbw 11711 --verify", "4\n"),
+        ("szg get KQvK.rtbw 5 --side 1", "2\n"),
+        ("szg get KQvK.rtbw 31332", "refused index\n"),
+        ("szg get KQvK.rtbw 5 --part b", "refused part\n"),
+        ("szg get table --name KQvK --kind wdl 5", ""),
+        ("szg get KQvK.rtbw 5 --name KvKQ", "refused name: Sides\n"),
+        (
+            "szg index KQvK.rtbw w Ke8 Qa1 kh1",
+            "part a side 0 index 11711\n",
+        ),
+        (
+            "szg index KQvK.rtbw w Ke8 Na1 kh1",
+            "refused place: OtherMaterial\n",
+        ),
+        ("szg index KQvK.rtbw w Xe8", "refused man\n"),
+        ("szg probe KQvK.rtbw w Ke8 Qa1 kh1", "2\n"),
+        ("szg probe KQvK.rtbw b Ke8 Qa1 kh1", "0\n"),
+        (
+            "szg probe KQvK.rtbw w Ke8 Na1 kh1",
+            "refused place: OtherMaterial\n",
+        ),
+        // the block under the value is damaged
+        (
+            "szg get block/KQvK.rtbw 11711",
+            "refused block 45 at 1760\n",
+        ),
+        (
+            "szg probe block/KQvK.rtbw w Ke8 Qa1 kh1",
+            "refused block 45 at 1760\n",
+        ),
+        (
+            "szg get block/KQvK.rtbw 11711 --verify",
+            "refused at 1760: Word\n",
+        ),
+        (
+            "szg probe block/KQvK.rtbw w Ke8 Qa1 kh1 --verify",
+            "refused at 1760: Word\n",
+        ),
+        // another block is damaged, or none is read
+        ("szg get block/KQvK.rtbw 11519", "4\n"),
+        ("szg get block/KQvK.rtbw 11776", "4\n"),
+        (
+            "szg get block/KQvK.rtbw 11519 --verify",
+            "refused at 1760: Word\n",
+        ),
+        (
+            "szg get block/KQvK.rtbw 11519 --steps",
+            "refused at 1760: Word\n",
+        ),
+        (
+            "szg index block/KQvK.rtbw w Ke8 Qa1 kh1",
+            "part a side 0 index 11711\n",
+        ),
+        (
+            "szg index block/KQvK.rtbw w Ke8 Qa1 kh1 --verify",
+            "refused at 1760: Word\n",
+        ),
+        ("szg probe block/KQvK.rtbw b Ke8 Qa1 kh1", "0\n"),
+        // the front is damaged, or the file ends too early
+        ("szg get head/KQvK.rtbw 5", "refused at 0: Magic\n"),
+        (
+            "szg index head/KQvK.rtbw w Ke8 Qa1 kh1",
+            "refused at 0: Magic\n",
+        ),
+        (
+            "szg probe head/KQvK.rtbw w Ke8 Qa1 kh1",
+            "refused at 0: Magic\n",
+        ),
+        ("szg get short/KQvK.rtbw 5", "refused at 4303: Truncated\n"),
+        (
+            "szg probe short/KQvK.rtbw w Ke8 Qa1 kh1",
+            "refused at 4303: Truncated\n",
+        ),
+        (
+            "szg index cut/KQvK.rtbw w Ke8 Qa1 kh1",
+            "refused at 300: Truncated\n",
+        ),
+        ("szg get long/KQvK.rtbw 5", "4\n"),
+        // a missing file
+        ("szg get none/KQvK.rtbw 5", ""),
+        ("szg index none/KQvK.rtbw w Ke8 Qa1 kh1", ""),
+        ("szg probe none/KQvK.rtbw w Ke8 Qa1 kh1", ""),
     ] {
         check_on_files(&rt, line, &files, text)?;
     }

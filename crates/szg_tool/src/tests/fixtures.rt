@@ -54,6 +54,17 @@ pub fn kqvk_wdl_unpaired(alloc: Global) -> Result<Vec<u8>, AllocError> {
     Ok(bytes)
 }
 
+/// King and queen against king, WDL. Side 0 has the value 4 everywhere: the bit 0 is its word, and the bit 1 is no word's.
+/// Its 123 blocks of 32 bytes begin at offset 320. Side 1 is constant, of value 2.
+pub fn kqvk_wdl_lone_word(alloc: Global) -> Result<Vec<u8>, AllocError> {
+    let mut bytes = kqvk_wdl_unpaired(alloc)?;
+    bytes[20] = 1;
+    for byte in &mut bytes[320..4256] {
+        *byte = 0;
+    }
+    Ok(bytes)
+}
+
 /// King and pawn against king, DTZ, all constant: part a has a map of bytes, part b one of two bytes an item.
 pub fn kpvk_dtz_mapped(alloc: Global) -> Result<Vec<u8>, AllocError> {
     let front = [

@@ -36,6 +36,8 @@ const SIDE: &str =
 const STEPS: &str =
     "--steps Also print how many moves, words, descents and fetches the look-up takes";
 
+const VERIFY: &str = "--verify Check the whole file first, and not only what the look-up reads";
+
 const CLASS: &str =
     "--class <CLASS> Class of the placement for the side to move, which a DTZ table does not store; ignored for a WDL table [default: win] [possible values: win, cursed, draw, blessed, loss]";
 
@@ -130,7 +132,7 @@ static COMMANDS: [Command<'_>; 10] = [
         files: Text {
             usage: "[OPTIONS] <FILE> <INDEX>",
             arguments: &[TABLE, INDEX],
-            options: &[PART, SIDE, STEPS, NAMED, KINDED, HELP],
+            options: &[PART, SIDE, STEPS, VERIFY, NAMED, KINDED, HELP],
             end: "Example: szg get KQvK.rtbw 31331 --side 1",
         },
     },
@@ -210,7 +212,7 @@ static COMMANDS: [Command<'_>; 10] = [
         files: Text {
             usage: "[OPTIONS] <FILE> <MOVER> <MAN>...",
             arguments: &[TABLE, MOVER, MEN],
-            options: &[NAMED, KINDED, HELP],
+            options: &[VERIFY, NAMED, KINDED, HELP],
             end: "Example: szg index KQvK.rtbw w Ke1 Qd1 kc8",
         },
     },
@@ -226,7 +228,7 @@ static COMMANDS: [Command<'_>; 10] = [
         files: Text {
             usage: "[OPTIONS] <FILE> <MOVER> <MAN>...",
             arguments: &[TABLE, MOVER, MEN],
-            options: &[CLASS, NAMED, KINDED, HELP],
+            options: &[CLASS, VERIFY, NAMED, KINDED, HELP],
             end: "Example: szg probe KQvK.rtbz w Ke1 Qd1 kc8 --class win",
         },
     },

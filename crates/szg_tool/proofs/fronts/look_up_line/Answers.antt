@@ -1,0 +1,42 @@
+use Rattle.std.proofs.Common.{◌≡◌}
+use Rattle.std.specs.Prelude.{string_bytes}
+use Rattle.szg_tool.specs.Fronts.{IsFetchedIn, IsLookUpAnswer, IsLookUpRefused}
+use Rattle.szg_tool.specs.declared.request.Action.TheVariants.{Index, Probe}
+use Rattle.szg_tool.specs.declared.request.Class.TheVariants.{Win}
+use Rattle.szg_tool.proofs.FrontFacts.{ok_then, spot_refused, spot_told, unfetched}
+use Rattle.szg_tool.proofs.fronts.look_up_line.Goals as goal
+
+pub returns-in-Get-clause-told : goal.returns-in-Get-clause-told
+returns-in-Get-clause-told g c = rw (c.in-Get.is) (c.get_line.ensures.told)
+
+pub returns-in-Get-clause-refused : goal.returns-in-Get-clause-refused
+returns-in-Get-clause-refused g c = λ refusal is. rw (c.in-Get.is) (c.get_line.ensures.refused refusal is)
+
+pub returns-in-Index-clause-told : goal.returns-in-Index-clause-told
+returns-in-Index-clause-told g c =
+    let kept = c.args.opened.now.front in let board = c.in-Index.placement in
+    rw (c.in-Index.is)
+    (
+    ok_then c.index_line.result _ _
+    (λ line told. unfetched g.S.File.Input c.args.file kept c.args.opened.now.read c.args.opened.now.size
+    (λ content t. IsLookUpAnswer (Index board) c.args.request.now.part c.args.request.now.side t (string_bytes line)) c.requires.room
+    (λ content h. spot_told kept.index board Win h.table h.index_is (string_bytes line) told))
+    c.index_line.ensures.told
+    )
+
+pub returns-in-Index-clause-refused : goal.returns-in-Index-clause-refused
+returns-in-Index-clause-refused g c = λ refusal is.
+    let kept = c.args.opened.now.front in let board = c.in-Index.placement in
+    rw (c.in-Index.is)
+    (
+    unfetched g.S.File.Input c.args.file kept c.args.opened.now.read c.args.opened.now.size
+    (λ content t. IsLookUpRefused (Index board) c.args.request.now.part c.args.request.now.side content t refusal) c.requires.room
+    (λ content h. spot_refused kept.index board Win h.table h.index_is refusal (c.index_line.ensures.refused refusal is))
+    )
+
+pub returns-in-Probe-clause-told : goal.returns-in-Probe-clause-told
+returns-in-Probe-clause-told g c =
+    rw (c.in-Probe.is) (ok_then c.probe_line.result _ _ (λ line told. told c.args.request.now.part c.args.request.now.side) c.probe_line.ensures.told)
+
+pub returns-in-Probe-clause-refused : goal.returns-in-Probe-clause-refused
+returns-in-Probe-clause-refused g c = λ refusal is. rw (c.in-Probe.is) (c.probe_line.ensures.refused refusal is c.args.request.now.part c.args.request.now.side)
