@@ -57,10 +57,16 @@ pub fn kqvk_wdl_unpaired(alloc: Global) -> Result<Vec<u8>, AllocError> {
 /// King and queen against king, WDL. Side 0 has the value 4 everywhere: the bit 0 is its word, and the bit 1 is no word's.
 /// Its 123 blocks of 32 bytes begin at offset 320. Side 1 is constant, of value 2.
 pub fn kqvk_wdl_lone_word(alloc: Global) -> Result<Vec<u8>, AllocError> {
-    let mut bytes = kqvk_wdl_unpaired(alloc)?;
-    bytes[20] = 1;
-    for byte in &mut bytes[320..4256] {
-        *byte = 0;
+    let unpaired = kqvk_wdl_unpaired(alloc)?;
+    let mut bytes = Vec::new(alloc);
+    for (at, byte) in unpaired.iter().enumerate() {
+        bytes.push(if at == 20 {
+            1
+        } else if 320 <= at && at < 4256 {
+            0
+        } else {
+            *byte
+        })?;
     }
     Ok(bytes)
 }
