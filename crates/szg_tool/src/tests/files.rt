@@ -1,5 +1,7 @@
 //! Command lines on files in memory.
-use super::fixtures::{knvk_wdl_constant, kqvk_wdl_lone_word, kqvk_wdl_unpaired};
+use super::fixtures::{
+    first_bytes, knvk_wdl_constant, kqvk_wdl_lone_word, kqvk_wdl_unpaired, with_byte,
+};
 use super::words_of;
 use crate::on_files::{Ending, run_words};
 use std::alloc::Global;
@@ -102,15 +104,13 @@ fn files_by_name(rt: HostRuntime) -> Result<(), Fail> {
 #[test]
 fn look_ups_by_the_front(rt: HostRuntime) -> Result<(), Fail> {
     let good = kqvk_wdl_lone_word(rt.alloc())?;
-    let mut block = kqvk_wdl_lone_word(rt.alloc())?;
     // block 45 has the values from 11520 to 11775
-    block[320 + 45 * 32] = 0x80;
-    let mut head = kqvk_wdl_lone_word(rt.alloc())?;
-    head[0] = 0;
+    let block = with_byte(kqvk_wdl_lone_word(rt.alloc())?, 320 + 45 * 32, 0x80);
+    let head = with_byte(kqvk_wdl_lone_word(rt.alloc())?, 0, 0);
     let mut long = kqvk_wdl_lone_word(rt.alloc())?;
     long.push(0)?;
-    let short = Vec::from_slice(rt.alloc(), &good[..4303])?;
-    let cut = Vec::from_slice(rt.alloc(), &good[..300])?;
+    let short = first_bytes(rt.alloc(), &good, 4303)?;
+    let cut = first_bytes(rt.alloc(), &good, 300)?;
     let files = [
         MemoryFile {
             path: "KQvK.rtbw",

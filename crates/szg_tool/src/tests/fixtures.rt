@@ -71,6 +71,20 @@ pub fn kqvk_wdl_lone_word(alloc: Global) -> Result<Vec<u8>, AllocError> {
     Ok(bytes)
 }
 
+/// These bytes with another byte at an offset, if they have that one.
+pub fn with_byte(bytes: Vec<u8>, at: usize, byte: u8) -> Vec<u8> {
+    let mut bytes = bytes;
+    if at < bytes.len() {
+        bytes[at] = byte;
+    }
+    bytes
+}
+
+/// The first `count` bytes, or all if there are fewer.
+pub fn first_bytes(alloc: Global, bytes: &[u8], count: usize) -> Result<Vec<u8>, AllocError> {
+    Vec::from_slice(alloc, &bytes[..count.min(bytes.len())])
+}
+
 /// King and pawn against king, DTZ, all constant: part a has a map of bytes, part b one of two bytes an item.
 pub fn kpvk_dtz_mapped(alloc: Global) -> Result<Vec<u8>, AllocError> {
     let front = [
