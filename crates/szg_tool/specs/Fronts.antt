@@ -113,7 +113,7 @@ IsBlockRead device file read (Some wanted) block =
     (skipped : ℕ) × (wanted.place ≡ read + skipped) × (length block ≡ wanted.count) × IsRangeOf device file skipped block
 
 -- After the front of `read` bytes at most a block was read, and of each file of `size` bytes with this front and with these
--- bytes in the block's place this is told.
+-- bytes in the block's place `Told` holds.
 pub record IsFetched {F : Type 0} (device : input.Ghosts F) (file : F) (kept : FrontKept) (read size : ℕ) (Told : List ℕ → Type 0) : Type 0 where
   pub skipped : ℕ
   pub block : List ℕ
@@ -148,7 +148,7 @@ pub record AreRead {F : Type 0} (device : input.Ghosts F) (file : F) (pieces : P
   pub block_taken : (pieces.block ≡ []) ⊎ IsRangeOf device behind pieces.skipped pieces.block
   pub room : length pieces.front + (pieces.skipped + length pieces.block) ≤ pieces.size
 
--- The front of the file and at most a block were read, and of the table of each file with these pieces this is told.
+-- The front of the file and at most a block were read, and `Told` holds of the table of each file with these pieces.
 pub record IsLookedUp {F : Type 0} (device : input.Ghosts F) (request : Request) (file : F) (Told : List ℕ → Contents → Type 0) : Type 0 where
   pub material : Sides
   pub named : parsed request.name.now ≡ Ok material
