@@ -25,7 +25,7 @@ use Rattle.szg_block.proofs.Values.{block_location-IsLocationOfValue, start-mono
 use Rattle.szg_block.proofs.Walking.{one_block}
 use Rattle.szg_block.proofs.WordAt.{word_count-at, descent_count-at}
 
--- each value has a span
+-- the span of each value has an entry
 span_there : (span_bits size i : ℕ) → i < size → i / 2 ^ span_bits < entry_count span_bits size
 unfolding entry_count
 span_there span_bits size i h =
@@ -93,7 +93,7 @@ module _ (block_bits span_bits extra blocks : ℕ) (code : CanonicalCode) (dict 
           moves = rw (entry_block_is, b) refl;
         }
 
--- the steps to value i, from the result of a walk and the words of its block
+-- the steps of a look-up of value i, from the result of a walk and the words of the value's block
 module _ (layout : Layout) (size count : ℕ) (bytes : ℕ → List ℕ) (shaped : IsShapedLayout layout size) (accepted : IsCode layout.code) (all : count ≡ layout.blocks)
     (whole : (k : ℕ) → k < layout.blocks → length (bytes k) ≡ 2 ^ layout.block_bits) (sound : IsSoundLayout layout (packed_blocks bytes count) size) where
   pub steps_are : (i j p moves words pairs : ℕ) → j < layout.blocks → j ≡ (block_location layout i).list → p ≡ (block_location layout i).item → moves ≡ move_count layout i
@@ -103,7 +103,7 @@ module _ (layout : Layout) (size count : ℕ) (bytes : ℕ → List ℕ) (shaped
       let b : block_at layout.block_bits (packed_blocks bytes count) j ≡ bytes j = block_is layout size count bytes shaped accepted all whole sound j there in
       rw (← block, ← item, b, word_count-at layout (bytes j) p, descent_count-at layout (bytes j) p, em, ew, ep) refl
 
--- the same for a subtable that is not constant
+-- the location, value and steps of value i in a subtable that is not constant
 module _ (sub : Sub) (layout : Layout) (is : layout_of sub ≡ Some layout) (size count : ℕ) (bytes : ℕ → List ℕ) (head : IsShapedHead sub size) (accepted : IsCode layout.code)
     (all : IfSome (layout_of sub) (λ layout. count ≡ layout.blocks)) (whole : IfSome (layout_of sub) (λ layout. (k : ℕ) → k < layout.blocks → length (bytes k) ≡ 2 ^ layout.block_bits))
     (sound : IsSoundOver sub (packed_blocks bytes count) size) (i : ℕ) (below : i < size) (j p : ℕ)

@@ -25,7 +25,7 @@ drop-chunks f w a (suc n) (suc j) h e =
     let c : suc n - suc j ≡ n - j = omega arith in
     rw (s, d, i, b, c)
 
--- block j of blocks that follow one another is block j
+-- block j of the joined blocks is block j
 pub block_at-packed_blocks : (f : ℕ → List ℕ) (bits count j : ℕ) → j < count → ((k : ℕ) → k < count → length (f k) ≡ 2 ^ bits) → block_at bits (packed_blocks f count) j ≡ f j
 unfolding block_at
 block_at-packed_blocks f bits count j h e =

@@ -28,7 +28,7 @@ module _ (entries : List (List ℕ)) (accepted : IsDictionary entries) (s : ℕ)
       take-append_both items (expansion_of entries (left_of entry)) (expansion_of entries (right_of entry)) count n (omega (arith, is, more))
       ∙ ap (λ u. items ++ take count u) (sym p.joined)
 
-  -- the left symbol of a pair, as the code computes it
+  -- the left symbol of a pair exists, and has fewer values than the pair
   pub left_falls : is_leaf entry ≡ false → (left : ℕ) → left ≡ left_of entry → (left < length entries) × (length (expansion_of entries left) < length (expansion_of entries s))
   left_falls paired left is =
       let p : IsPairAt entries s entry = pair_at entries accepted s entry there at paired in

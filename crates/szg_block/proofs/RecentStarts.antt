@@ -40,7 +40,7 @@ recent_more lengths steps first recent h l e = record {
       ];
 }
 
--- the start of a block from the last stored start before it
+-- the start of a block, from the last stored start at or before it
 pub recent_start : (lengths : List ℕ) (steps : ℕ) (recent : List ℕ) (k first block : ℕ) → AreRecentStarts lengths steps recent → k ≤ steps → steps < k + 257 → first ≡ 256 * k → first ≤ block → slice_index recent (k % 257) + sum_by (λ n. n + 1) (slice_range lengths first block) ≡ start lengths block
 recent_start lengths steps recent k first block h le lt e b =
     let s = h.starts k le lt in
@@ -54,7 +54,7 @@ unfolding middle_of_span
 middle-sum span_bits k = refl
 
 module _ (lengths : List ℕ) (old new block k span_bits : ℕ) (step : new ≡ max old (block / 256)) (near : start lengths (256 * old) ≤ k * 2 ^ span_bits) where
-  -- what was reached stays before the entry
+  -- the last stored start is before the end of span k, also after the step to this block
   pub near_more : block ≤ length lengths → start lengths block ≤ middle_of_span span_bits k → start lengths (256 * new) ≤ (k + 1) * 2 ^ span_bits
   near_more h l =
       let m : middle_of_span span_bits k ≡ k * 2 ^ span_bits + 2 ^ span_bits / 2 = middle-sum span_bits k in
@@ -71,7 +71,8 @@ module _ (lengths : List ℕ) (old new block k span_bits : ℕ) (step : new ≡ 
             omega arith
       ]
 
-  -- from a block this far before, no offset leads to the middle
+  -- if the block is more than 65,536 blocks before the last stored start, no 16-bit offset leads from it to the
+  -- middle
   pub too_far : (offset : ℕ) → block + 65536 < 256 * new → 256 * new ≤ length lengths → offset < 65536 → ¬ (start lengths block + offset ≡ middle_of_span span_bits k)
   too_far offset h l f e =
       let m : middle_of_span span_bits k ≡ k * 2 ^ span_bits + 2 ^ span_bits / 2 = middle-sum span_bits k in

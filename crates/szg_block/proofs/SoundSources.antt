@@ -12,7 +12,7 @@ use Rattle.szg_block.specs.declared.Sub.TheVariants.{Constant, Pairs}
 use Rattle.szg_block.proofs.Chunks.{packed_blocks-chunks}
 use Rattle.szg_block.proofs.Reading.{flat_map-same}
 
--- the same blocks, joined
+-- equal blocks, joined, are equal
 pub packed_recent : (bytes bytes' : ℕ → List ℕ) (count count' : ℕ) → count' ≡ count → ((k : ℕ) → bytes' k ≡ bytes k) → packed_blocks bytes' count' ≡ packed_blocks bytes count
 packed_recent bytes bytes' count count' e h = ap (λ n. packed_blocks bytes' n) e ∙ flat_map-same bytes' bytes h (range_with_len 0 count)
 

@@ -5,7 +5,7 @@ use Rattle.std.proofs.lemmas.Bool.{cases_lt, cases_order}
 use Rattle.szg_block.specs.Block.{start}
 use Rattle.szg_block.proofs.Values.{start-zero, start-step, start-monotone}
 
--- an index before the end of all values is in a block
+-- a value before the end of all values is in a block that exists
 pub block_there : (lengths : List ℕ) (block item : ℕ) → block ≤ length lengths → start lengths block + item < start lengths (length lengths) → block < length lengths
 block_there lengths block item h l =
     elim (cases_lt block (length lengths)) [

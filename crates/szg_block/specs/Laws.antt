@@ -21,7 +21,7 @@ use Rattle.szg_block.specs.declared.SubFault.TheVariants.{ShortTotal, SparseEntr
 abbrev pub OneListOfValues : Type 0
 OneListOfValues = (layout : Layout) → IsCode layout.code → (block : List ℕ) (m : ℕ) (xs ys : List ℕ) → HasValues layout block m xs → HasValues layout block m ys → xs ≡ ys
 
--- if a block's own bits spell m values, they are the first m that the function returns
+-- if a block's own bits spell m values, they are the first m of block_values
 abbrev pub BlockValuesAreSpelled : Type 0
 BlockValuesAreSpelled = (layout : Layout) → IsCode layout.code → (block : List ℕ) (m : ℕ) (xs : List ℕ) → HasValues layout block m xs →
     (m ≤ length (block_values layout block)) × (xs ≡ take m (block_values layout block))
@@ -30,13 +30,13 @@ BlockValuesAreSpelled = (layout : Layout) → IsCode layout.code → (block : Li
 abbrev pub SoundHasSize : Type 0
 SoundHasSize = (layout : Layout) (packed : List ℕ) (size : ℕ) → IsCode layout.code → IsShapedLayout layout size → IsSoundLayout layout packed size → length (joined_values layout packed size) ≡ size
 
--- value i of a sound subtable is decided by one block
+-- value i of a sound subtable depends on one block only
 abbrev pub OneBlockDecides : Type 0
 OneBlockDecides = (layout : Layout) (packed : List ℕ) (size : ℕ) → IsCode layout.code → IsShapedLayout layout size → IsSoundLayout layout packed size → (i : ℕ) → i < size →
     slice_get (joined_values layout packed size) i ≡ slice_get (block_values layout (block_at layout.block_bits packed (block_location layout i).list)) (block_location layout i).item
 
--- The entry, the lengths, the dictionary, the code and the one block of value i determine it and the steps to it:
--- two subtables that agree in these have the same value and steps, whatever the other blocks contain.
+-- Value i and the steps to it depend only on its sparse entry, the lengths, the dictionary, the code and its one
+-- block: two subtables that agree in these have the same value and steps, whatever the other blocks contain.
 abbrev pub SameBlockSameAnswer : Type 0
 SameBlockSameAnswer = (one other : Layout) (packed other_packed : List ℕ) (size other_size : ℕ) →
     IsCode one.code → IsShapedLayout one size → IsSoundLayout one packed size → IsShapedLayout other other_size → IsSoundLayout other other_packed other_size →
@@ -47,30 +47,30 @@ SameBlockSameAnswer = (one other : Layout) (packed other_packed : List ℕ) (siz
     (slice_get (joined_values other other_packed other_size) i ≡ slice_get (joined_values one packed size) i)
     × (steps_from (Some other) other_packed i ≡ steps_from (Some one) packed i)
 
--- the moves to a value are at most half a span plus the offset of its entry
+-- the moves to value i are at most half a span plus the offset of its sparse entry
 abbrev pub MovesAreBounded : Type 0
 MovesAreBounded = (layout : Layout) (packed : List ℕ) (size : ℕ) → IsShapedLayout layout size → IsCode layout.code → IsSoundLayout layout packed size → (i : ℕ) → i < size →
     (entry : SparseEntry) → slice_get layout.sparse (i / 2 ^ layout.span_bits) ≡ Some entry → move_count layout i ≤ 2 ^ layout.span_bits / 2 + entry.offset
 
--- and at most half a span if the offset lies within the entry's block, or if that block is past all lengths
+-- the moves to value i are at most half a span if the entry's offset lies within its block, or if that block is past
+-- all lengths
 abbrev pub MovesAreFewer : Type 0
 MovesAreFewer = (layout : Layout) (packed : List ℕ) (size : ℕ) → IsShapedLayout layout size → IsCode layout.code → IsSoundLayout layout packed size → (i : ℕ) → i < size →
     (entry : SparseEntry) → slice_get layout.sparse (i / 2 ^ layout.span_bits) ≡ Some entry →
     (entry.block < length layout.lengths → entry.offset < slice_index layout.lengths entry.block + 1) → move_count layout i ≤ 2 ^ layout.span_bits / 2
 
--- the words to a value of a block are the least number of words that together have more values than its index in
--- the block
+-- the number of words read for value p of a block is the least number of words that together have more than p values
 abbrev pub WordsAreLeast : Type 0
 WordsAreLeast = (layout : Layout) (block : List ℕ) (p : ℕ) → p < length (block_values layout block) →
     (p < length (flat_map (expansion_of layout.entries) (take (word_count layout block p) (symbols_spelled layout.code (bits block)))))
     × ((k : ℕ) → p < length (flat_map (expansion_of layout.entries) (take k (symbols_spelled layout.code (bits block)))) → word_count layout block p ≤ k)
 
--- they are at most its index in the block plus one, and the pairs above it are at most 255
+-- at most p + 1 words are read for value p of a block, and at most 255 pairs are above the value in its symbol
 abbrev pub WordsAreBounded : Type 0
 WordsAreBounded = (layout : Layout) → IsDictionary layout.entries → layout.code.symbols ≡ length layout.entries → (block : List ℕ) (p : ℕ) → p < length (block_values layout block) →
     (word_count layout block p ≤ p + 1) × (descent_count layout block p ≤ 255)
 
--- has_total decides whether the lengths of the blocks sum to at least the size
+-- has_total decides whether the blocks, without the extra lengths, have at least `size` values
 abbrev pub HasTotalDecides : Type 0
 HasTotalDecides = (layout : Layout) (size : ℕ) → IsTrue (has_total layout size) ↔ HasTotal layout size
 
@@ -82,12 +82,12 @@ FirstBadEntryFinds = (layout : Layout) → FindsFirst (HasGoodEntry layout) (fir
 abbrev pub SpellsNeededDecides : Type 0
 SpellsNeededDecides = (layout : Layout) → IsCode layout.code → (size j : ℕ) (block : List ℕ) → IsTrue (spells_needed layout size j block) ↔ SpellsNeeded layout size j block
 
--- spells_needed accepts block j, if it exists
+-- block j, if it exists, passes spells_needed
 abbrev pub PassesBlock : Layout → List ℕ → ℕ → ℕ → Type 0
 PassesBlock layout packed size j = j < layout.blocks → IsTrue (spells_needed layout size j (block_at layout.block_bits packed j))
 
--- if the code is accepted, a subtable is sound exactly if it passes all three; else the first that it fails
--- determines the fault
+-- if the code is accepted, a subtable is sound exactly if it passes has_total, first_bad_entry and spells_needed;
+-- else the first of these that it fails determines the fault
 abbrev pub FoundIsFault : Type 0
 FoundIsFault = (layout : Layout) → IsCode layout.code → (packed : List ℕ) (size : ℕ) →
     (IsSoundLayout layout packed size ↔ (IsTrue (has_total layout size) × (first_bad_entry layout ≡ None) × ((j : ℕ) → PassesBlock layout packed size j)))

@@ -5,7 +5,7 @@ use Rattle.szg_block.specs.declared.paged.Paged.{Paged}
 abbrev pub source_of : {S : Type 0} → Paged S → S
 source_of paged = paged.source
 
--- the length of its buffer
+-- the length of the buffer that blocks are read into
 abbrev pub buffer_len_of : {S : Type 0} → Paged S → ℕ
 buffer_len_of paged = length paged.buffer.items
 

@@ -1,5 +1,5 @@
--- Public view of a sound subtable: the subtable, its size, the value of a constant subtable, the blocks that it
--- reads, one after another, the failures of their source, the bytes requested of it, and the bytes that one block
+-- Public view of a sound subtable: the subtable, its size, the value that it has if it is constant, its blocks, one
+-- after another, the number of failures of their source, of bytes requested from it, and of bytes that one block
 -- requests.
 use Rattle.std.specs.Prelude.{ℕ, ◌≡◌, ◌<◌, ◌^◌, List, length, IfSome}
 use Rattle.szg_code.specs.Acceptance.{IsCode}
@@ -17,7 +17,7 @@ pub record Shown : Type 0 where
   pub requested : ℕ
   pub cost : ℕ
 
--- a sound subtable over the blocks that it reads: `count` blocks of full length
+-- a sound subtable with `count` blocks of full length
 pub record IsReady (sub : Sub) (size : ℕ) (count : ℕ) (bytes : ℕ → List ℕ) : Type 0 where
   pub head : IsShapedHead sub size
   pub code : IfSome (layout_of sub) (λ layout. IsCode layout.code)
@@ -25,14 +25,14 @@ pub record IsReady (sub : Sub) (size : ℕ) (count : ℕ) (bytes : ℕ → List 
   pub whole : IfSome (layout_of sub) (λ layout. (k : ℕ) → k < layout.blocks → length (bytes k) ≡ 2 ^ layout.block_bits)
   pub sound : IsSoundOver sub (packed_blocks bytes count) size
 
--- it is sound over some blocks
+-- a subtable is sound with some blocks
 abbrev pub IsSound : Sub → ℕ → Type 0
 IsSound sub size = (count : ℕ) × (bytes : ℕ → List ℕ) × IsReady sub size count bytes
 
--- its values
+-- the values of a sound subtable
 abbrev pub values_shown : Shown → List ℕ
 values_shown shown = values_over shown.sub shown.packed shown.size shown.constant
 
--- the steps to value i
+-- the steps of a look-up of value i
 abbrev pub steps_shown : Shown → ℕ → Steps
 steps_shown shown i = steps_over shown.sub shown.packed i

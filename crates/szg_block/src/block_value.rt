@@ -1,4 +1,4 @@
-//! The block of a value, and the value in the bytes of a block that the caller provides.
+//! The block that contains a value, and the value, decoded from block bytes that the caller provides.
 
 ghost use Rattle.std.specs.Prelude.{◌≡◌, ◌<◌, ◌^◌, IfErr, IfNone, IfOk, IfSome, IsSomeAnd, None, OnOk, Some, length, slice_get};
 ghost use Rattle.szg_block.specs.Block.{block_values};
@@ -29,9 +29,8 @@ pub fn find_block(sub: &Sub, size: u64, i: u64) -> Option<u32>
 
 /// Decodes value `i` of a sound subtable with `size` values from the bytes of its block.
 ///
-/// The bytes need not be the subtable's own: whatever they are, the value is the one that their words spell at the
-/// value's index in its block. None if they spell too few values, if they do not have the length of a block, and in
-/// a constant subtable.
+/// `block` may hold any bytes: the result is the value that its words spell at value `i`'s index in its block. None
+/// if they spell too few values, if `block` does not have the length of a block, and in a constant subtable.
 pub fn value_in_block(sub: &Sub, size: u64, i: u64, block: &[u8]) -> Option<u16>
     requires sound { IsSound sub.now size }
     requires below { i < size }
@@ -60,11 +59,11 @@ pub fn value_in_block(sub: &Sub, size: u64, i: u64, block: &[u8]) -> Option<u16>
     }
 }
 
-/// Returns value `i` of a subtable of `size` values, decoded from `block`, the bytes of the block at `location`; the whole
-/// block is verified first, as `check_block` does. `location` is what `locate_value` returns for `i`.
+/// Returns value `i` of a subtable with `size` values, decoded from `block`, the bytes of the block at `location`.
+/// Like `check_block`, it verifies the whole block. `location` is what `locate_value` returns for `i`.
 ///
-/// Only the lengths and the sparse index need be sound; the block may hold anything. Errors: `Word`, with the block's
-/// number, if its bits don't spell the values that it needs.
+/// Only the lengths and the sparse index must be sound; `block` may hold any bytes. Errors: `Word(location.block)`
+/// if the block's bits do not spell the values that the block needs.
 pub fn checked_value(
     sub: &Sub,
     size: u64,

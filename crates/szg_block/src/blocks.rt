@@ -20,19 +20,19 @@ pub trait Blocks {
     ghost count: { Self → ℕ };
 
     ghost bytes: { Self → ℕ → List ℕ };
-    // all bytes of their source, and the length of the buffer for a block
+    // all bytes of the source that the blocks are in, and the length of the buffer that one block is read into
     ghost content: { Self → List ℕ };
 
     ghost buffer_len: { Self → ℕ };
-    // the failures of the source, the bytes requested of it, and the bytes that one block requests
+    // the number of failures of the source, of bytes requested from it, and of bytes that one block requests
     ghost failures: { Self → ℕ };
 
     ghost requested: { Self → ℕ };
 
     ghost cost: { Self → ℕ };
 
-    /// Returns block `n`, which exists. The failure count increases by one exactly at a fault. The blocks stay
-    /// unchanged.
+    /// Returns block `n`, which must exist. The failure count increases by one exactly at a fault. The blocks do not
+    /// change.
     fn block(&mut self, n: u32) -> Result<&[u8], SourceFault>
         requires { n < count self.old }
         ensures block { IfOk result (λ block. block.now ≡ bytes self.old n) }

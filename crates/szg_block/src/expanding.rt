@@ -17,7 +17,7 @@ use crate::words::push_values;
 use std::alloc::{AllocError, Global};
 use std::marker::Model;
 
-/// A subtable that passed `check`, with the value that gives access to its blocks.
+/// A subtable that passed `check`, with access to its blocks.
 #[derive(Drop)]
 pub struct Sound<'a, B: Blocks> {
     sub: &'a Sub,
@@ -55,7 +55,7 @@ impl<'a, B: Blocks> Sound<'a, B> {
 }
 
 impl<'a> Sound<'a, Whole<'a>> {
-    /// Creates the view of a subtable in memory with `size` values that passed `check`. `constant` is the value
+    /// Creates the view of a subtable in memory that has `size` values and passed `check`. `constant` is the value
     /// that a constant subtable has at each index.
     ///
     /// It borrows the subtable and copies nothing of it.
@@ -72,7 +72,7 @@ impl<'a> Sound<'a, Whole<'a>> {
         }
     }
 
-    /// Returns value `i`, found by the sparse index. It takes no memory.
+    /// Returns value `i`, found by the sparse index. Allocates nothing.
     pub fn get(&self, i: u64) -> u16
         requires { i < self.now.size }
         ensures { slice_get (values_shown self.now) i ≡ Some result }
@@ -95,7 +95,7 @@ impl<'a> Sound<'a, Whole<'a>> {
         look_up(self.sub, self.size, self.constant, i, &mut blocks)
     }
 
-    /// Decodes all values in order, block by block. Errors: refused memory.
+    /// Decodes all values in order, block by block. Errors: memory is refused.
     pub fn values(&self, alloc: Global) -> Result<Vec<u16>, AllocError>
         ensures { IfOk result (λ values. values.items ≡ values_shown self.now) }
     {
@@ -129,8 +129,9 @@ impl<'a> Sound<'a, Whole<'a>> {
 }
 
 impl<'a, S: Source + Drop> Sound<'a, Paged<S>> {
-    /// Creates the view of a subtable with `size` values over the blocks of a source; with these blocks as its own
-    /// it passes `check`. `constant` is the value that a constant subtable has at each index. It takes no memory.
+    /// Creates the view of a subtable with `size` values whose blocks are read from a source. The subtable must be
+    /// sound over these blocks. `constant` is the value that a constant subtable has at each index. Allocates
+    /// nothing.
     pub fn paged(sub: &'a Sub, size: u64, constant: u16, blocks: Paged<S>) -> Sound<'a, Paged<S>>
         requires head { IsShapedHead sub.now size }
         requires count { IfSome (layout_of sub.now) (λ layout. count_of blocks ≡ layout.blocks) }
@@ -155,8 +156,8 @@ impl<'a, S: Source + Drop> Sound<'a, Paged<S>> {
         }
     }
 
-    /// Returns value `i`, found by the sparse index. It takes no memory. Errors: the source failed. The next call
-    /// returns as if there had been no fault.
+    /// Returns value `i`, found by the sparse index. Allocates nothing. Errors: the source failed. A fault does not
+    /// change what later calls return.
     pub fn get(&mut self, i: u64) -> Result<u16, SourceFault>
         requires { i < self.old.size }
         ensures value { IfOk result (λ value. slice_get (values_shown self.old) i ≡ Some value) }

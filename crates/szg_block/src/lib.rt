@@ -12,6 +12,7 @@ ghost use Rattle.szg_block.specs.Views.{IsSound};
 
 pub use block_value::{checked_value, find_block, value_in_block};
 pub use blocks::{Blocks, SourceFault, Whole};
+pub use decoding::decode_block;
 pub use expanding::Sound;
 use lengths::{needed_from, total};
 use packed::first_bad_block;
@@ -26,6 +27,7 @@ use words::spells;
 
 mod block_value;
 mod blocks;
+mod decoding;
 mod expanding;
 pub mod laws;
 mod lengths;
@@ -40,7 +42,7 @@ mod words;
 /// An entry of the sparse index.
 #[derive(Clone, Copy)]
 pub struct Entry {
-    /// The number of a block. The number of all lengths means the end after the last block.
+    /// The number of a block or an extra length; the number of all lengths means the end after the last length.
     pub block: u32,
     /// A number of values, counted from the start of that block.
     pub offset: u16,
@@ -56,7 +58,7 @@ pub enum Sub {
         /// The byte after it.
         byte: u8,
     },
-    /// Blocks of words. Each word is the code of a symbol, which expands to values.
+    /// Blocks of words. Each word encodes a symbol, which expands to values.
     Pairs {
         /// The flags byte; its highest bit is not set.
         flags: u8,
@@ -70,9 +72,9 @@ pub enum Sub {
         blocks: u32,
         /// The words of the symbols.
         code: Code,
-        /// The values of the symbols.
+        /// The dictionary: the values that each symbol expands to.
         dict: Dict,
-        /// For each span that has a value, the location of its middle.
+        /// For each span that has a value, the location of the middle of the span.
         sparse: Vec<Entry>,
         /// For each block and each extra length, the number of values less one.
         lengths: Vec<u16>,
@@ -116,7 +118,7 @@ fn bits_fit(block_bits: u8, span_bits: u8) -> bool
 }
 
 /// Returns the number of entries of the sparse index of a subtable with `size` values: one for each span of
-/// `2^span_bits` values that has a value. So there are no more entries than values. `span_bits` is at most 31.
+/// `2^span_bits` values that begins below `size`. There are no more entries than values. `span_bits` is at most 31.
 pub fn entry_count(size: u64, span_bits: u8) -> u64
     requires { span_bits ≤ 31 }
     ensures count { result ≡ entry_count_of span_bits size }
@@ -128,7 +130,7 @@ pub fn entry_count(size: u64, span_bits: u8) -> u64
 /// Returns whether the flag, the numbers and the lists of a subtable with `size` values fit together, apart from
 /// the blocks.
 ///
-/// This is `shaped` without the bytes of the blocks.
+/// It is `shaped` without the test that `packed` has the bytes of all blocks.
 pub fn shaped_head(sub: &Sub, size: u64) -> bool
     ensures { IsTrue result ↔ IsShapedHead sub.now size }
 {
@@ -207,10 +209,11 @@ pub fn check_index(sub: &Sub, size: u64) -> Result<(), SubFault>
     }
 }
 
-/// Checks that the words of block `n`, whose bytes are `block`, spell the values that it needs. The subtable has
-/// `size` values and is not constant, `n` is one of its blocks, and `block` has the length of its blocks.
+/// Checks that the words of block `n`, whose bytes are `block`, spell the values that the block needs. The subtable
+/// has `size` values and is not constant, `n` is one of its blocks, and `block` has the length of its blocks.
 ///
-/// Errors: `Word(n)` if the block's own bits do not spell these values. It adds the lengths before the block.
+/// Errors: `Word(n)` if the block's own bits do not spell these values. Each call adds the lengths of all blocks
+/// before `n`.
 pub fn check_block(sub: &Sub, size: u64, n: u32, block: &[u8]) -> Result<(), SubFault>
     requires head { IsShapedHead sub.now size }
     requires there { IsSomeAnd (layout_of sub.now) (λ layout. n < layout.blocks) }
@@ -225,8 +228,8 @@ pub fn check_block(sub: &Sub, size: u64, n: u32, block: &[u8]) -> Result<(), Sub
     check_block_from(sub, size, n, before, block)
 }
 
-/// The same as `check_block`, for a caller that carries the sum of lengths from block to block: `before` values
-/// come before block `n`.
+/// Checks block `n` as `check_block` does, for a caller that carries the sum of lengths from block to block:
+/// `before` is the number of values before block `n`.
 pub fn check_block_from(
     sub: &Sub,
     size: u64,
@@ -259,8 +262,8 @@ pub fn check_block_from(
     }
 }
 
-/// Checks a subtable with `size` values. It accepts exactly the sound ones, of which `find_block` and `value_in_block`
-/// can be asked.
+/// Checks a subtable with `size` values. It accepts exactly the sound ones, which `find_block` and `value_in_block`
+/// require.
 ///
 /// Errors: those of `check_index`, then those of `check_block` for each block in order.
 pub fn check(sub: &Sub, size: u64) -> Result<(), SubFault>

@@ -5,10 +5,11 @@ ghost use Rattle.szg_code.specs.Acceptance.{IsCode};
 ghost use Rattle.szg_code.specs.Bits.{bits};
 ghost use Rattle.szg_pairs.specs.Dictionary.{IsDictionary};
 ghost use Rattle.szg_pairs.specs.Expansion.{expansion_of};
-ghost use Rattle.szg_block.specs.Spelled.{values_spelled, word_at, pairs_above};
+ghost use Rattle.szg_code.specs.NextWords.{symbols_of};
+ghost use Rattle.szg_block.specs.Spelled.{AreSymbols, values_of, values_spelled, word_at, pairs_above};
 
 use std::alloc::AllocError;
-use szg_code::{Bits, Code, next};
+use szg_code::{Bits, Code, NextWords, next, next_words};
 use szg_pairs::Dict;
 use szg_pairs::entry::{is_leaf, left, right};
 
@@ -22,25 +23,59 @@ pub fn spells(code: &Code, dict: &Dict, block: &[u8], needed: u64) -> bool
     spells_on(code, dict, Bits::new(block), needed)
 }
 
-/// Whether the bits left spell `needed` values or more.
+/// Returns the number of values of one or two words.
+#[inline(always)]
+fn count_of(dict: &Dict, words: NextWords) -> u64
+    requires { AreSymbols dict.now (symbols_of words) }
+    ensures number { result ≡ length (values_of dict.now (symbols_of words)) }
+    ensures some { 1 ≤ result }
+    ensures few { result ≤ 512 }
+{
+    match words {
+        NextWords::One(symbol) => u64::from(dict.len(symbol)),
+        NextWords::Two(first, second) => u64::from(dict.len(first) + dict.len(second)),
+    }
+}
+
+/// Returns the value at `index` in one or two words.
+#[inline(always)]
+fn value_in(dict: &Dict, words: NextWords, index: u16) -> u16
+    requires there { AreSymbols dict.now (symbols_of words) }
+    requires within { index < length (values_of dict.now (symbols_of words)) }
+    ensures { slice_get (values_of dict.now (symbols_of words)) index ≡ Some result }
+{
+    match words {
+        NextWords::One(symbol) => dict.value_at(symbol, index),
+        NextWords::Two(first, second) => {
+            let count = dict.len(first);
+            if index < count {
+                dict.value_at(first, index)
+            } else {
+                dict.value_at(second, index - count)
+            }
+        }
+    }
+}
+
+/// Returns whether the bits left spell `needed` values or more.
 fn spells_on(code: &Code, dict: &Dict, left: Bits, needed: u64) -> bool
     requires accepted { IsCode code.now }
     requires symbols { code.now.symbols ≡ length dict.now }
     ensures { IsTrue result ↔ (needed ≤ length (values_spelled code.now dict.now left.entry.left)) }
 {
-    let mut words = left;
+    let mut bits = left;
     let mut missing = needed;
     while missing > 0 {
-        let Some(symbol) = next(code, &mut words) else {
+        let Some(words) = next_words(code, &mut bits) else {
             return false;
         };
-        missing = missing.saturating_sub(u64::from(dict.len(symbol)));
+        missing = missing.saturating_sub(count_of(dict, words));
     }
     true
 }
 
-/// Returns the value at `index` in a block, by one pass over the words that its `needed` values take. None if the
-/// block's bits spell fewer than `needed` values.
+/// Returns the value at `index` in a block, in one pass over the words of the block's first `needed` values. None if
+/// the block's bits spell fewer than `needed` values.
 pub fn find_verified(code: &Code, dict: &Dict, block: &[u8], index: u64, needed: u64) -> Option<u16>
     requires accepted { IsCode code.now }
     requires symbols { code.now.symbols ≡ length dict.now }
@@ -50,17 +85,17 @@ pub fn find_verified(code: &Code, dict: &Dict, block: &[u8], index: u64, needed:
     ensures enough { IfSome result (λ _. needed ≤ length (values_spelled code.now dict.now (bits block.now))) }
     ensures few { IfNone result (¬ (needed ≤ length (values_spelled code.now dict.now (bits block.now)))) }
 {
-    let mut words = Bits::new(block);
+    let mut bits = Bits::new(block);
     let mut ahead = index;
     let mut missing = needed;
-    while let Some(symbol) = next(code, &mut words) {
-        let count = u64::from(dict.len(symbol));
+    while let Some(words) = next_words(code, &mut bits) {
+        let count = count_of(dict, words);
         missing = missing.saturating_sub(count);
         if ahead < count {
-            if !spells_on(code, dict, words, missing) {
+            if !spells_on(code, dict, bits, missing) {
                 return None;
             }
-            return Some(dict.descend(symbol, ahead as u16).value);
+            return Some(value_in(dict, words, ahead as u16));
         }
         ahead -= count;
     }
@@ -77,8 +112,8 @@ pub struct Found {
     pub pairs: u16,
 }
 
-/// Decodes the value at an index in a block, word by word from the block's start. The block's own bits spell more
-/// values than that.
+/// Decodes the value at `index` in a block, word by word from the block's start. The block's own bits must spell
+/// more than `index` values.
 pub fn find_in_block(code: &Code, dict: &Dict, block: &[u8], index: u64) -> Found
     requires accepted { IsCode code.now }
     requires symbols { code.now.symbols ≡ length dict.now }
@@ -108,10 +143,11 @@ pub fn find_in_block(code: &Code, dict: &Dict, block: &[u8], index: u64) -> Foun
     unreachable!()
 }
 
-/// Appends the first `count` values of a symbol: for a pair first those of its left symbol, then those of its right
-/// symbol.
+/// Appends the first `count` values of a symbol. The values of a pair are those of its left symbol, then those of
+/// its right symbol.
 ///
-/// It enters each pair once. The recursion is as deep as the pairs, below 256.
+/// It makes one call for each pair and each leaf that it expands. The recursion is as deep as pairs are nested,
+/// below 256.
 fn push_symbol(
     dict: &Dict,
     symbol: u16,
@@ -138,7 +174,7 @@ fn push_symbol(
     push_symbol(dict, right(entry), count - length, values)
 }
 
-/// Appends the first `needed` values of a block whose own bits spell that many.
+/// Appends the first `needed` values of a block whose own bits spell at least that many.
 pub fn push_values(
     code: &Code,
     dict: &Dict,

@@ -1,4 +1,5 @@
--- Blocks that the builder fills: a block's list is the shortest for its values, and the blocks' values joined are the list.
+-- Blocks that the builder fills: the list of a block is the shortest for its values, and the values of the blocks,
+-- joined, are the values of the joined lists.
 use Rattle.std.proofs.Common.{ℕ, zero, suc, ◌≡◌, ◌+◌, ◌<◌, ◌≤◌, Bool, List, ◌∷◌, ◌++◌, length, take, drop, refl, sym, ap, subst, ◌∙◌, arith, inl, inr, length-append, get_or}
 use Rattle.std.specs.List.{flat_map, concat, range_with_len, slice_index}
 use Rattle.std.proofs.Math.Seq.{drop-cons, take-length}
@@ -63,12 +64,12 @@ values-cons layout symbols lists = flat_map-append (expansion_of layout.entries)
 pub length-values : (layout : Layout) (symbols : List ℕ) (lists : List (List ℕ)) → length (values_from layout (symbols ∷ lists)) ≡ length (values_of layout.entries symbols) + length (values_from layout lists)
 length-values layout symbols lists = ap length (values-cons layout symbols lists) ∙ length-append (values_of layout.entries symbols) (values_from layout lists)
 
--- where the blocks before and those from j on have all values, a block needs all of its own
+-- if the blocks before block j and those from it on have all values, block j needs as its values all that it has
 all_needed : (layout : Layout) (size j n rest : ℕ) → slice_index layout.lengths j + 1 ≡ n → start layout.lengths j + (n + rest) ≡ size → needed layout.lengths size j ≡ n
 unfolding needed
 all_needed layout size j n rest here all = omega (arith, here, all)
 
--- the start of the next block
+-- the values after block j are those from the start of the next block on
 next_start : (layout : Layout) (size j n rest : ℕ) → j < length layout.lengths → slice_index layout.lengths j + 1 ≡ n → start layout.lengths j + (n + rest) ≡ size → start layout.lengths (suc j) + rest ≡ size
 next_start layout size j n rest inside here all = let s : start layout.lengths (suc j) ≡ start layout.lengths j + (slice_index layout.lengths j + 1) = start-step layout.lengths j inside in omega (arith, s, here, all)
 
@@ -96,7 +97,7 @@ filled_values layout packed size j symbols code_stands spelled need =
     let told = HasValues-block_values layout code_stands (block_at layout.block_bits packed j) (length all) all (record { symbols = symbols; spelled = spelled; enough = omega arith; first = whole }) in
     ap (λ (k : ℕ). take k (block_values layout (block_at layout.block_bits packed j))) need ∙ sym told.1
 
--- `size` blocks from the j-th on
+-- the needed values of the blocks from the j-th on, joined, are the values of the lists
 filled_joined : (layout : Layout) (packed : List ℕ) (size count : ℕ) → IsCode layout.code → layout.blocks ≤ length layout.lengths →
     {j : ℕ} {lists : List (List ℕ)} → AreFilled layout packed j lists → j + count ≡ layout.blocks → start layout.lengths j + length (values_from layout lists) ≡ size →
     flat_map (needed_values layout packed size) (range_with_len j count) ≡ values_from layout lists

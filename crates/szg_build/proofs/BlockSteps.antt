@@ -1,4 +1,4 @@
--- The steps of filling blocks: a word more, a block closed, all blocks.
+-- The steps of filling blocks: one more word, one more whole block, all blocks.
 use Rattle.std.proofs.Common.{ℕ, suc, ◌≡◌, ◌+◌, ◌-◌, ◌*◌, ◌^◌, ◌<◌, ◌≤◌, Bool, List, [], ◌∷◌, ◌++◌, true, false, length, replicate, get_or, refl, sym, ap, subst, ◌∙◌, arith, inl, inr, length-append, append_assoc, append-nil}
 use Rattle.std.specs.Prelude.{◌⊎◌, ◌↔◌, IsTrue}
 use Rattle.std.specs.List.{concat, AllByRecursion}
@@ -17,7 +17,7 @@ use Rattle.szg_build.specs.Pairing.{values_of}
 use Rattle.szg_build.specs.Building.{AreFilled, IsBlockOf, IsFilling, IsCut, blocks_layout}
 use Rattle.szg_build.proofs.Filling.{filled_none, filled_more}
 
--- one word more was appended
+-- appending one word more to words that were appended
 Appended-last : (code : CanonicalCode) (symbols : List ℕ) (old new word : List Bool) (s : ℕ) → Appended code symbols old new → IsWord code word s → Appended code (symbols ++ s ∷ []) old (new ++ word)
 Appended-last code [] old new word s h w = (word, w, ap (λ (z : List Bool). z ++ word) h)
 Appended-last code (x ∷ symbols) old new word s h w = (h.0, h.1, Appended-last code symbols (old ++ h.0) new word s h.2 w)
@@ -83,7 +83,7 @@ filling_more code entries b symbols lengths packed words word values s n h w sho
       many = h.many;
     }
 
--- the blocks after one more is closed
+-- the blocks after one more is whole
 closed : (code : CanonicalCode) (entries : List (List ℕ)) (b : ℕ) (symbols lengths packed : List ℕ) (words : List Bool) (values : ℕ) (block : List ℕ) → (h : IsFilling code entries b symbols lengths packed words values) →
     IsBlockOf b words block → 0 < values → AreFilled (blocks_layout b code entries (length (lengths ++ (values - 1) ∷ [])) (lengths ++ (values - 1) ∷ [])) (packed ++ block) 0 (h.lists ++ h.current ∷ [])
 closed code entries b symbols lengths packed words values block h is some =
@@ -98,7 +98,7 @@ closed_whole b lengths packed block n whole size =
     let one : (length lengths + 1) * 2 ^ b ≡ length lengths * 2 ^ b + 2 ^ b = omega arith in
     length-append packed block ∙ ap (λ (k : ℕ). k + length block) whole ∙ ap (λ (k : ℕ). length lengths * 2 ^ b + k) size ∙ sym one ∙ ap (λ (k : ℕ). k * 2 ^ b) (sym count)
 
--- A block that a word of twelve bits or less, or one of 256 values or less, doesn't fit any more is closed.
+-- A block is whole if a word of 32 bits, or one of 256 values, does not fit any more.
 pub filling_closed : (code : CanonicalCode) (entries : List (List ℕ)) (b : ℕ) (symbols lengths packed : List ℕ) (words : List Bool) (values : ℕ) (block : List ℕ) → IsFilling code entries b symbols lengths packed words values →
     IsBlockOf b words block → 32 ≤ 2 ^ b → (8 * 2 ^ b < length words + 32) ⊎ (65536 < values + 256) → IsFilling code entries b symbols (lengths ++ (values - 1) ∷ []) (packed ++ block) [] 0
 filling_closed code entries b symbols lengths packed words values block h is large full =
@@ -112,7 +112,7 @@ filling_closed code entries b symbols lengths packed words values block h is lar
     (closed code entries b symbols lengths packed words values block h is (omega (arith, four, h.some))) (closed_whole b lengths packed block (values - 1) h.whole is.size)
     (omega (arith, count, all, four, h.many))
 
--- The last block is closed, however many words it has.
+-- The last block is whole, however many words it has.
 pub filling_done : (code : CanonicalCode) (entries : List (List ℕ)) (b : ℕ) (symbols lengths packed : List ℕ) (words : List Bool) (values : ℕ) (block after blocks : List ℕ) → IsFilling code entries b symbols lengths packed words values →
     IsBlockOf b words block → 0 < values → length symbols < 2 ^ 33 → after ≡ lengths ++ (values - 1) ∷ [] → blocks ≡ packed ++ block → AreNumbers 1 blocks → AreNumbers 2 after →
     IsCut code entries b symbols (length after) after blocks
@@ -142,7 +142,7 @@ fails b h e p = let is : b ≡ true = h.1 p in cc
 pub block_large : (b : ℕ) → 5 ≤ b → 32 ≤ 2 ^ b
 block_large b h = pow-le-pow_right {n = 2} (omega arith) {i = 5} {j = b} h
 
--- bytes of words, followed by zeros
+-- bytes that begin with the words, followed by zeros, are a block
 pub padded_block : (b : ℕ) (words fill : List Bool) (bytes : List ℕ) (n : ℕ) → bits bytes ≡ words ++ fill → length bytes + n ≡ 2 ^ b → IsBlockOf b words (bytes ++ replicate n 0)
 padded_block b words fill bytes n is whole = record {
   size = length-append bytes (replicate n 0) ∙ ap (λ (k : ℕ). length bytes + k) (length-replicate n 0) ∙ whole;
@@ -150,13 +150,13 @@ padded_block b words fill bytes n is whole = record {
   joined = bits-append bytes (replicate n 0) ∙ ap (λ (z : List Bool). z ++ bits (replicate n 0)) is ∙ append_assoc words fill (bits (replicate n 0));
 }
 
--- a block that a symbol doesn't fit any more isn't empty
+-- a block into which a symbol does not fit any more is not empty
 pub full_some : (code : CanonicalCode) (entries : List (List ℕ)) (b : ℕ) (symbols lengths packed : List ℕ) (words : List Bool) (values k n : ℕ) → IsFilling code entries b symbols lengths packed words values → 32 ≤ 2 ^ b →
     k ≤ 32 → n ≤ 256 → (8 * 2 ^ b < length words + k) ⊎ (65536 < values + n) → 0 < values
 full_some code entries b symbols lengths packed words values k n h large short few (inl full) = omega (arith, full, large, short, h.short_words, h.some)
 full_some code entries b symbols lengths packed words values k n h large short few (inr full) = omega (arith, full, few)
 
--- the same by other names
+-- IsFilling for equal lists, words and values
 pub filling_is : (code : CanonicalCode) (entries : List (List ℕ)) (b : ℕ) (symbols lengths lengths' packed packed' : List ℕ) (words words' : List Bool) (values values' : ℕ) →
     IsFilling code entries b symbols lengths packed words values → lengths' ≡ lengths → packed' ≡ packed → words' ≡ words → values' ≡ values → IsFilling code entries b symbols lengths' packed' words' values'
 filling_is code entries b symbols lengths lengths' packed packed' words words' values values' h e1 e2 e3 e4 =
@@ -165,7 +165,7 @@ filling_is code entries b symbols lengths lengths' packed packed' words words' v
     (subst (λ (z : List Bool). IsFilling code entries b symbols lengths packed z values') (sym e3)
     (subst (λ (z : ℕ). IsFilling code entries b symbols lengths packed words z) (sym e4) h)))
 
--- items that fit, one by one
+-- if each item is below a bound, all items are
 pub all_fit : (bound : ℕ) (xs : List ℕ) → ((k : ℕ) → get_or xs k 0 < bound) → AllByRecursion (λ n. n < bound) xs
 all_fit bound [] h = tt
 all_fit bound (x ∷ xs) h = (h 0, all_fit bound xs (λ k. h (suc k)))

@@ -1,4 +1,5 @@
--- What follows of a built table: its dump stays, and its file is found with the values that were handed in.
+-- What follows for a built table: it has the dump that it is built from, and it is found in its file with the values
+-- that were passed.
 use Rattle.std.proofs.Common.{ℕ, zero, suc, ◌≡◌, List, [], ◌∷◌, ◌++◌, map, Option, Some, None, option_map, refl, sym, ap, ◌∙◌}
 use Rattle.std.specs.Prelude.{option_and_then}
 use Rattle.szg_values.specs.declared.Kind.{Kind}
@@ -16,7 +17,7 @@ use Rattle.szg_build.specs.Built.{IsBuilt, subtables_in}
 use Rattle.szg_build.specs.Laws.{BuiltDumpStays, BuiltIsFound}
 use Rattle.szg_build.proofs.PlaceLaws.{places_stand}
 
--- The table that a dump's plan builds has that dump.
+-- A table that is built from a dump has this dump.
 pub built_dump_stays : BuiltDumpStays
 built_dump_stays dump block_bits span_bits rounds t built = record {
   material = built.material;
@@ -28,14 +29,14 @@ built_dump_stays dump block_bits span_bits rounds t built = record {
   values = built.values;
 }
 
--- ---- the subtable of a place
+-- ---- the subtable of a part and side
 
 item-map : {A B : Type 0} (f : A → B) (xs : List A) (i : ℕ) → item (map f xs) i ≡ option_map f (item xs i)
 item-map f [] i = refl
 item-map f (x ∷ xs) zero = refl
 item-map f (x ∷ xs) (suc i) = item-map f xs i
 
--- the same subtable by its number and by its place
+-- the values of a subtable found by its number and by its part and side are the same
 same_values : (kind : Kind) (by_number by_place : Option (Slot × Subtable)) (list : List ℕ) (i : ℕ) → option_map Some by_number ≡ Some by_place → option_map (values_of kind) by_number ≡ Some list →
     option_and_then (λ found. item (values_of kind found) i) by_place ≡ item list i
 same_values kind None by_place list i there told = absurd cc

@@ -105,7 +105,7 @@ cut (means b) count bytes a n rest h = record { front = []; split = ap left_in h
 cut (refuses why) count bytes a n rest h = absurd cc
 cut (line next) count bytes a n rest h = cut_line next count bytes a n rest (λ words c r e. cut (next words) c r a n rest e) (first_line line_room bytes) refl h
 
--- no more bytes follow a text than there were
+-- the bytes after a text are no more than all bytes
 pub no_more : {A : Type 0} (f : Lines A) (count : ℕ) (bytes : List ℕ) (a : A) (n : ℕ) (rest : List ℕ) → verdict f count bytes ≡ good a n rest → length rest ≤ length bytes
 no_more f count bytes a n rest h =
     let c = cut f count bytes a n rest h in

@@ -11,7 +11,7 @@ pub start-front : (lengths extra : List ℕ) (j : ℕ) → j ≤ length lengths 
 unfolding start
 start-front lengths extra j h = ap (sum_by (λ n. n + 1)) (take-append-le j lengths extra h)
 
--- an entry whose offset is counted from its block's start
+-- an entry is good if its offset is counted from its block's start to the middle of span j
 pub entry_is_good : (layout : Layout) (j block offset : ℕ) → block ≤ layout.blocks + layout.extra → start layout.lengths block ≤ middle_of_span layout.span_bits j →
     offset ≡ middle_of_span layout.span_bits j - start layout.lengths block → IsGoodEntry layout j (record { block = block; offset = offset })
 entry_is_good layout j block offset there before e = record { there = there; location = omega (arith, before, e) }

@@ -1,4 +1,4 @@
--- One more block: the words that a buffer got are spelled by the block's bits, and the blocks before stay filled.
+-- One more block: the block's bits spell the words that a buffer got, and the blocks before it stay filled.
 use Rattle.std.proofs.Common.{ℕ, zero, suc, ◌≡◌, ◌+◌, ◌-◌, ◌*◌, ◌^◌, ◌<◌, ◌≤◌, Bool, List, [], ◌∷◌, ◌++◌, length, take, drop, refl, sym, ap, subst, ◌∙◌, arith, get_or, append_assoc, length-drop}
 use Rattle.std.specs.List.{slice_index}
 use Rattle.std.proofs.Math.Nat.{mul-le-mul_right}
@@ -51,7 +51,7 @@ get_or_before (x ∷ xs) ys (suc i) h = get_or_before xs ys i (omega arith)
 length_behind : (lengths : List ℕ) (n count : ℕ) → length lengths ≡ n → slice_index (lengths ++ count ∷ []) n ≡ count
 length_behind lengths n count e = ap (λ (k : ℕ). get_or (lengths ++ count ∷ []) k 0) (let z : n ≡ length lengths + 0 = omega (arith, e) in z) ∙ get_or-append-add lengths (count ∷ []) 0 0
 
--- One block more, filled by one list more.
+-- One more block, filled with one more list.
 pub filled_more : (b n : ℕ) (code : CanonicalCode) (entries : List (List ℕ)) (lengths packed block symbols : List ℕ) (count : ℕ) → length lengths ≡ n → length packed ≡ n * 2 ^ b → length block ≡ 2 ^ b →
     Spells code (bits block) symbols → count + 1 ≡ length (values_of entries symbols) →
     {j : ℕ} {lists : List (List ℕ)} → AreFilled (blocks_layout b code entries n lengths) packed j lists →
@@ -72,7 +72,8 @@ filled_more b n code entries lengths packed block symbols count as_many whole si
 pub filled_none : (b : ℕ) (code : CanonicalCode) (entries : List (List ℕ)) → AreFilled (blocks_layout b code entries 0 []) [] 0 []
 filled_none b code entries = end refl
 
--- Other parts of a layout don't matter, nor do lengths after those of the blocks.
+-- Whether blocks are filled does not depend on the other fields of a layout, nor on lengths after those of the
+-- blocks.
 pub filled_with : (layout other : Layout) (packed extra : List ℕ) → layout.block_bits ≡ other.block_bits → layout.code ≡ other.code → layout.entries ≡ other.entries → layout.blocks ≡ other.blocks →
     layout.blocks ≡ length layout.lengths → other.lengths ≡ layout.lengths ++ extra → {j : ℕ} {lists : List (List ℕ)} → AreFilled layout packed j lists → AreFilled other packed j lists
 filled_with layout other packed extra b c e n whole lengths (end last) = end (last ∙ n)

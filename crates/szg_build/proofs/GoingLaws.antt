@@ -1,4 +1,4 @@
--- Readers of many lines: how far the reading of a text has come, and what is left of it.
+-- Readers of many lines: how much of a text was read, and what is left of it.
 use Rattle.std.proofs.Common.{◌≡◌, ℕ, zero, suc, ◌+◌, ◌-◌, ◌<◌, ◌≤◌, Bool, List, [], ◌∷◌, ◌++◌, refl, sym, ap, subst, ◌∙◌, append_assoc, append-nil, arith, inl, Ok, Err}
 use Rattle.std.specs.Prelude.{Result, replicate}
 use Rattle.std.specs.List.{range_with_len}
@@ -18,8 +18,8 @@ use Rattle.szg_build.proofs.CutLaws.{cut, whole_joined}
 use Rattle.szg_build.proofs.LinesLaws.{continued, verdict-then, good-more}
 use Rattle.szg_build.proofs.ReadingLaws.{answer_on, behind_text, reads_stopped, reads_nothing}
 
--- The buffered bytes follow whole lines, none of them refused: whatever comes next, the verdict of f on all is that
--- of g on it.
+-- The bytes read ahead come after whole lines, none of them refused. Whatever follows, the verdict of f on all is
+-- that of g on the bytes read ahead and what follows.
 pub record Went {A : Type 0} (f g : Lines A) (count count' : ℕ) (bytes held : List ℕ) : Type 0 where
   pub lines : List ℕ
   pub split : bytes ≡ lines ++ held
@@ -30,14 +30,14 @@ pub went_on : {A : Type 0} {f g : Lines A} {count count' : ℕ} {bytes held : Li
 went_on {f = f} {count = count} {held = held} w y =
     ap (λ (z : List ℕ). verdict f count (z ++ y)) w.split ∙ ap (λ (z : List ℕ). verdict f count z) (append_assoc w.lines held y) ∙ w.on (held ++ y)
 
--- These bytes were taken, and no line was refused: what is left is g.
+-- These bytes were read, and no line was refused; of the text f the text g is left.
 pub record GoesOn {A R : Type 0} (f g : Lines A) (old new : Incoming) (dev : Ghosts R) (input input' : R) : Type 0 where
   pub bytes : List ℕ
   pub taken : Takes dev input input' bytes 0
   pub goes : (count : ℕ) → told_line count ≡ old.line → (count' : ℕ) × (told_line count' ≡ new.line) × (dev.failures input' ≡ dev.failures input)
       × Went f g count count' (held_of old ++ bytes) (held_of new)
 
--- a text of which the value is taken further
+-- a text with a function applied to its meaning
 abbrev pub mapped : {A B : Type 0} → (A → B) → Lines A → Lines B
 mapped F lines = lines >>= λ a. means (F a)
 
@@ -70,7 +70,7 @@ goes_then {f = f} {g = g} {h = h} {o = o} {m = m} {n = n} {dev = dev} {i = i} {j
       );
 }
 
--- a text of which the first part was read goes on with the rest
+-- after the first part of a text was read, the rest is left
 pub goes_first : {A B X R : Type 0} (f : Lines A) (g : A → Lines B) (view : X → A) (v : X) {o n : Incoming} {dev : Ghosts R} {i k : R} → ReadsLines f view o n dev i k (Ok v) → GoesOn (f >>= g) (g (view v)) o n dev i k
 goes_first f g view v {o = o} {n = n} {dev = dev} {i = i} {k = k} first = record {
   bytes = first.bytes;
@@ -81,7 +81,7 @@ goes_first f g view v {o = o} {n = n} {dev = dev} {i = i} {k = k} first = record
       (a.0, a.1, a.3, record { lines = c.front; split = c.split; whole = c.whole; on = λ y. behind_text f g count a.0 c.front y [] (view v) c.alone });
 }
 
--- a text that was read whole
+-- after a whole text was read, nothing is left
 pub goes_whole : {A X R : Type 0} (f : Lines A) (view : X → A) (v : X) {o n : Incoming} {dev : Ghosts R} {i k : R} → ReadsLines f view o n dev i k (Ok v) → GoesOn f (means (view v)) o n dev i k
 goes_whole f view v {o = o} {n = n} first = record {
   bytes = first.bytes;
@@ -92,7 +92,7 @@ goes_whole f view v {o = o} {n = n} first = record {
       (a.0, a.1, a.3, record { lines = c.front; split = c.split; whole = c.whole; on = λ y. good-more f count c.front y (view v) a.0 [] c.alone });
 }
 
--- the last reader's answer is that of all
+-- the result of reading what is left is the result of reading all
 pub goes_ends : {A Y R : Type 0} {f g : Lines A} (view : Y → A) {o m n : Incoming} {dev : Ghosts R} {i j k : R} {r : Result Y DumpReadFault} → GoesOn f g o m dev i j → ReadsLines g view m n dev j k r → ReadsLines f view o n dev i k r
 goes_ends {f = f} {g = g} view {o = o} {m = m} {n = n} {dev = dev} {i = i} {j = j} {k = k} {r = r} a second = record {
   bytes = a.bytes ++ second.bytes;
@@ -106,7 +106,7 @@ goes_ends {f = f} {g = g} view {o = o} {m = m} {n = n} {dev = dev} {i = i} {j = 
       (subst (λ (fs : ℕ). LinesAnswer g view x.0 n (held_of m ++ second.bytes) (dev.coming k) fs (dev.failures k) (dev.interrupted k) (dev.may_fail j) r) x.2 (second.answer x.0 x.1)));
 }
 
--- a growth that is refused
+-- if memory is refused
 pub goes_unheld : {A Y R : Type 0} {f g : Lines A} (view : Y → A) {o m n : Incoming} {dev : Ghosts R} {i k : R} → GoesOn f g o m dev i k → ReadsLines f view o n dev i k (Err Memory)
 goes_unheld view a = record {
   bytes = a.bytes;
@@ -135,7 +135,7 @@ pub goes_as : {A B R : Type 0} (f : Lines B) (F G : A → B) (lines : Lines A) {
 goes_as f F G lines same a =
     goes_then a (goes_here (λ count bytes. verdict-then lines (λ z. means (F z)) count bytes ∙ alike F G (verdict lines count bytes) same ∙ sym (verdict-then lines (λ z. means (G z)) count bytes)))
 
--- one part more was read, and is joined to the rest by g
+-- after one more part was read, g joins it to the rest
 pub goes_step : {P Q S A X R : Type 0} (lines : Lines P) (rest : P → Lines Q) (g : P → Q → S) (F : S → A) (view : X → P) (v : X) {o n : Incoming} {dev : Ghosts R} {i k : R} →
     ReadsLines lines view o n dev i k (Ok v) → GoesOn (mapped F (lines >>= λ x. rest x >>= λ xs. means (g x xs))) (mapped (λ xs. F (g (view v) xs)) (rest (view v))) o n dev i k
 goes_step lines rest g F view v {o = o} {n = n} first = record {
@@ -160,7 +160,7 @@ goes_step lines rest g F view v {o = o} {n = n} first = record {
       );
 }
 
--- a part that isn't read ends the whole
+-- the fault of one part is the fault of all
 pub goes_stopped : {P S A X Y R : Type 0} {f : Lines A} (lines : Lines P) (k : P → Lines S) (F : S → A) (view : X → P) (view' : Y → A) (fault : DumpReadFault) {o m n n' : Incoming} {dev : Ghosts R} {i j l : R} →
     GoesOn f (mapped F (lines >>= k)) o m dev i j → ReadsLines lines view m n dev j l (Err fault) → ReadsLines f view' o n' dev i l (Err fault)
 goes_stopped {S = S} lines k F view view' fault {n = n} a read =
@@ -197,7 +197,7 @@ items_ended lines items left view v none same a =
 
 -- ---- runs
 
--- the runs left to be read after these items
+-- the runs left to read after these values
 abbrev pub runs_left : List ℕ → ℕ → ℕ → Lines (List ℕ)
 runs_left items most left = mapped (λ xs. items ++ xs) (run_values most left)
 
@@ -238,7 +238,7 @@ runs_ended items most left view v none same a =
 
 -- ---- a text for each number
 
--- the texts left to be read after these items
+-- the texts left to read after these items
 abbrev pub each_left : {P : Type 0} → (ℕ → Lines P) → List P → ℕ → ℕ → Lines (List P)
 each_left lines items from count = mapped (λ ys. items ++ ys) (each lines (range_with_len from count))
 
@@ -269,7 +269,7 @@ each_ended lines items from left view v none same a =
     goes_ends view a (reads_nothing (each_left lines items from left) view v
     (ap (λ (z : ℕ). each_left lines items from z) none ∙ ap means (append-nil items ∙ sym same)))
 
--- ---- the same value, seen otherwise
+-- ---- equal values under two views
 
 pub reads_seen : {A X Y R : Type 0} {f : Lines A} {view : X → A} {view' : Y → A} {v : X} {w : Y} {o n : Incoming} {dev : Ghosts R} {i k : R} →
     ReadsLines f view o n dev i k (Ok v) → view v ≡ view' w → ReadsLines f view' o n dev i k (Ok w)

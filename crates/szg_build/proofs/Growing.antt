@@ -1,4 +1,5 @@
--- A dictionary that grows by an entry: the symbols before it keep their values, and a pair has those of its two symbols.
+-- A dictionary that grows by an entry: the symbols before keep their values, and a pair has the values of its two
+-- symbols.
 use Rattle.std.proofs.Common.{ℕ, zero, suc, ◌≡◌, ◌+◌, ◌<◌, ◌≤◌, Bool, true, false, List, [], ◌∷◌, ◌++◌, Some, length, refl, sym, ap, subst, ◌∙◌, arith, inl, inr, length-append}
 use Rattle.std.specs.Prelude.{◌⊎◌, ◌==◌, ◌&&◌}
 use Rattle.std.specs.List.{slice_get, AllByRecursion}
@@ -22,7 +23,7 @@ pub there_last : (entries : List (List ℕ)) (e : List ℕ) → slice_get (entri
 there_last [] e = refl
 there_last (x ∷ entries) e = there_last entries e
 
--- what is there in the longer dictionary was there before, or is the new entry
+-- an entry of the longer dictionary is an entry of the shorter one, or the new one
 there_before : (entries : List (List ℕ)) (e : List ℕ) (s : ℕ) (f : List ℕ) → s < length entries → slice_get (entries ++ e ∷ []) s ≡ Some f → slice_get entries s ≡ Some f
 there_before [] e s f lt h = absurd (omega arith)
 there_before (x ∷ entries) e zero f lt h = h
@@ -42,7 +43,7 @@ expansion-more entries more accepted s h =
 pub new_leaf : (entries : List (List ℕ)) (e : List ℕ) → is_leaf e ≡ true → Expands (entries ++ e ∷ []) (length entries) (left_of e ∷ [])
 new_leaf entries e p = leaf (there_last entries e) p
 
--- an entry that is the pair of two symbols that are there
+-- an entry that is a pair of two symbols of the dictionary
 pub record IsNewPair (entries : List (List ℕ)) (e : List ℕ) (left right : ℕ) : Type 0 where
   pub dictionary : IsDictionary entries
   pub no_leaf : is_leaf e ≡ false
@@ -70,7 +71,7 @@ pub expansion-new : (entries : List (List ℕ)) (e : List ℕ) (left right : ℕ
 expansion-new entries e left right h =
     Expands-expansion_of (entries ++ e ∷ []) (length entries) (expansion_of entries left ++ expansion_of entries right) (new_pair entries e left right h) (new_pair_few entries e left right h)
 
--- ---- the longer dictionary is one
+-- ---- the longer dictionary is accepted
 
 grown : (entries : List (List ℕ)) (e : List ℕ) (xs : List ℕ) → IsDictionary entries → Expands (entries ++ e ∷ []) (length entries) xs → length xs ≤ 256 → IsDictionary (entries ++ e ∷ [])
 grown entries e xs accepted new few s there =
@@ -159,7 +160,7 @@ by_pair : (left right n s t : ℕ) (symbols : List ℕ) (b : Bool) → ((s == le
 by_pair left right n s t symbols true h lt both one = rw (h, replaced) (omega arith, both)
 by_pair left right n s t symbols false h lt both one = rw (h, replaced) (lt, one)
 
--- the symbols of the next list are there
+-- the symbols after a round are symbols of the longer dictionary
 pub round_keeps_names : (left right n : ℕ) (symbols : List ℕ) → AllByRecursion (λ s. s < n) symbols → AllByRecursion (λ s. s < n + 1) (replaced left right n symbols)
 round_keeps_names left right n [] below = tt
 round_keeps_names left right n (s ∷ []) below = (omega (arith, below.0), tt)

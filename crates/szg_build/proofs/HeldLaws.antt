@@ -1,4 +1,4 @@
--- What is held back, when a line is split off it.
+-- The bytes read ahead after a line was taken from them.
 use Rattle.std.proofs.Common.{◌≡◌, ℕ, ◌+◌, ◌-◌, ◌<◌, ◌≤◌, List, ◌++◌, length, take, drop, sym, ap, ◌∙◌, arith}
 use Rattle.std.specs.List.{copy_within}
 use Rattle.std.proofs.lemmas.List.{length-take, length-drop, drop-take, drop-drop}

@@ -28,7 +28,7 @@ byte_more : (b : ℕ) (bytes : List ℕ) → b < 256 → IsBytes bytes → IsByt
 byte_more b bytes l h zero = l
 byte_more b bytes l h (suc i) = h i
 
--- text that is spelled as it is read has bytes
+-- if the bytes decoded from a word have the word as their hexadecimal text, they are bytes
 spelled_bytes : (word : List ℕ) → encode_lower (digit_bytes word) ≡ word → IsBytes (digit_bytes word)
 unfolding encode_with
 spelled_bytes [] e = λ i. omega arith
@@ -44,7 +44,7 @@ unless_spelled : {A : Type 0} (b : Bool) (x : A) → (b ≡ true → ⊥) → (i
 unless_spelled true x never = absurd (never refl)
 unless_spelled false x never = refl
 
--- a word that is spelled as it is read is decoded
+-- if the bytes decoded from a word have the word as their hexadecimal text, the word is decoded to them
 pub spelled_decodes : (word : List ℕ) → encode_lower (digit_bytes word) ≡ word → decode_sized word (length word / 2) ≡ Ok (digit_bytes word)
 spelled_decodes word e =
     let bytes = digit_bytes word in

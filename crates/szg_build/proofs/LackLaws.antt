@@ -1,4 +1,4 @@
--- Where memory is refused, how far the reading has come, and how many bytes may have been taken ahead.
+-- If memory is refused: how much was read, and how many bytes may have been read ahead.
 use Rattle.std.proofs.Common.{◌≡◌, ℕ, suc, ◌+◌, ◌≤◌, List, [], ◌∷◌, ◌++◌, length, refl, sym, ap, subst, ◌∙◌, append_assoc, append-nil, arith, length-append, Ok}
 use Rattle.std.specs.List.{range_with_len}
 use Rattle.std.proofs.lemmas.List.FromFn.{length-range_with_len}
@@ -14,13 +14,13 @@ use Rattle.szg_build.proofs.CutLaws.{line_split, no_more, whole_joined}
 use Rattle.szg_build.proofs.LinesLaws.{continued, verdict-then, line-whole, line-long, line-unended}
 use Rattle.szg_build.proofs.GoingLaws.{GoesOn, mapped, each_left, goes_first, goes_whole}
 
--- ---- the least bytes of a text
+-- ---- the least number of bytes of a text
 
 -- each text of f has at least `least` bytes
 abbrev pub Uses : {A : Type 0} → ℕ → Lines A → Type 0
 Uses {A = A} least f = (count : ℕ) (bytes : List ℕ) (a : A) (n : ℕ) (rest : List ℕ) → verdict f count bytes ≡ good a n rest → least + length rest ≤ length bytes
 
--- and f refuses nothing before a line
+-- f refuses nothing before a line, and each text of f has at least `least` bytes
 pub record Asks {A : Type 0} (least : ℕ) (f : Lines A) : Type 0 where
   pub stands : (count : ℕ) → IsUnrefused (verdict f count [])
   pub uses : Uses least f
@@ -70,9 +70,9 @@ asks_fewer f k m le h = record { stands = h.stands; uses = λ count bytes a n re
 pub asks_mapped : {A B : Type 0} (F : A → B) (f : Lines A) (k : ℕ) → Asks k f → Asks k (mapped F f)
 asks_mapped F f k h = asks_fewer (mapped F f) (k + 0) k (omega arith) (asks_then f (λ a. means (F a)) k 0 h (λ a. asks_means (F a)))
 
--- ---- a growth is refused
+-- ---- memory is refused
 
--- after lines that were read, with g left
+-- after lines that were read, if g is left
 pub lacks_here : {A R : Type 0} {f g : Lines A} (behind least : ℕ) {o m : Incoming} {dev : Ghosts R} {i j : R} → GoesOn f g o m dev i j → Asks least g → length (held_of m) ≤ behind + least → LacksLines f behind o dev i j
 lacks_here {f = f} {g = g} behind least {m = m} a asks few = record {
   bytes = a.bytes;
@@ -94,7 +94,7 @@ lacks_here {f = f} {g = g} behind least {m = m} a asks few = record {
 pub lacks_whole : {A X R : Type 0} (f : Lines A) (behind : ℕ) (view : X → A) (v : X) {o m : Incoming} {dev : Ghosts R} {i j : R} → ReadsLines f view o m dev i j (Ok v) → length (held_of m) ≤ behind → LacksLines f behind o dev i j
 lacks_whole f behind view v first few = lacks_here behind 0 (goes_whole f view v first) (asks_means (view v)) (omega (arith, few))
 
--- after some items
+-- after some items were read
 pub lacks_left : {A B R : Type 0} {f : Lines B} (F : A → B) (lines : Lines A) (behind least : ℕ) {o m : Incoming} {dev : Ghosts R} {i j : R} → GoesOn f (mapped F lines) o m dev i j → Asks least lines → length (held_of m) ≤ behind + least → LacksLines f behind o dev i j
 lacks_left F lines behind least a asks few = lacks_here behind least a (asks_mapped F lines least asks) few
 
@@ -145,7 +145,7 @@ lacks_first f g wide behind least le asks lacks = record {
       };
 }
 
--- in the second
+-- in the second of two texts
 pub lacks_then : {A B X R : Type 0} (f : Lines A) (g : A → Lines B) (behind : ℕ) (view : X → A) (v : X) {o m : Incoming} {dev : Ghosts R} {i j k : R} →
     ReadsLines f view o m dev i j (Ok v) → LacksLines (g (view v)) behind m dev j k → LacksLines (f >>= g) behind o dev i k
 lacks_then f g behind view v first lacks = lacks_behind behind (goes_first f g view v first) lacks
@@ -156,7 +156,7 @@ pub lacks_item : {P S A R : Type 0} {f : Lines A} (lines : Lines P) (k : P → L
 lacks_item lines k F wide behind least le asks a lacks =
     lacks_behind behind a (lacks_first (lines >>= k) (λ s. means (F s)) behind behind 0 (omega arith) (λ s. asks_means (F s)) (lacks_first lines k wide behind least le asks lacks))
 
--- a text that is another one
+-- LacksLines for an equal text
 pub lacks_as : {A R : Type 0} {f g : Lines A} {behind : ℕ} {o : Incoming} {dev : Ghosts R} {i k : R} → f ≡ g → LacksLines g behind o dev i k → LacksLines f behind o dev i k
 lacks_as {behind = behind} {o = o} {dev = dev} {i = i} {k = k} e lacks = subst (λ z. LacksLines z behind o dev i k) (sym e) lacks
 

@@ -1,5 +1,6 @@
--- The last count: one pass over the symbols keeps, for all pairs at once, what a tally of each pair would be. Its state is
--- whether a symbol was read, the symbol read last, and whether a pair of two of it may still take it.
+-- Counting all pairs: one pass over the symbols computes, for all pairs at once, what a tally of each pair computes.
+-- Its state is whether a symbol was read, the symbol read last, and whether that symbol is free for a pair with an
+-- equal one.
 use Rattle.std.proofs.Common.{ℕ, suc, ◌≡◌, ◌≢◌, ◌+◌, ◌*◌, ◌<◌, ◌≤◌, min, Bool, true, false, not, cond, List, [], ◌∷◌, ◌++◌, length, get_or, set, refl, sym, ap, subst, ◌∙◌, arith, inl, inr, get_or-set_other, get_or-set_same}
 use Rattle.std.specs.Prelude.{◌==◌, ◌&&◌, ◌||◌, ◌⊎◌}
 use Rattle.std.proofs.Math.Nat.{mul-le-mul_right}
@@ -9,7 +10,7 @@ use Rattle.szg_build.specs.Pairing.{pair_count}
 use Rattle.szg_build.specs.Counting.{is_pair, is_free}
 use Rattle.szg_build.proofs.Tallying.{Tally, tallied, tally, tally-last, none_yet, tally-pair_count}
 
--- whether the tally of the pair waits
+-- whether the tally of the pair waits for the right symbol
 abbrev pub waits_of : Bool → ℕ → Bool → ℕ → ℕ → Bool
 waits_of begun last free left right = begun && (last == left) && (not (left == right) || free)
 
@@ -71,7 +72,7 @@ pub step_waits : (left right s last : ℕ) (begun free : Bool) (t : Tally) → t
 step_waits left right s last begun free t h =
     waits_cond left right t s (t.waits && (s == right)) refl ∙ waits_by left right s last begun free t h (s == left) (left == right) refl refl
 
--- the pair of the last symbol and this one is counted where it is one
+-- the count of the last symbol and this one rises if they make a pair
 pub step_here : (s last : ℕ) (begun free : Bool) (t : Tally) → t.waits ≡ waits_of begun last free last s →
     (tallied last s t s).count ≡ cond (is_pair begun last free s) (t.count + 1) t.count
 step_here s last begun free t h =
@@ -80,7 +81,7 @@ step_here s last begun free t h =
     let w : (t.waits && (s == s)) ≡ is_pair begun last free s = rw (r, and-true t.waits, h, l, and-true begun) refl in
     count_cond last s t s (is_pair begun last free s) w
 
--- no other pair is
+-- the counts of all other pairs stay
 pub step_elsewhere : (left right s last : ℕ) (begun free : Bool) (t : Tally) → t.waits ≡ waits_of begun last free left right → (last ≢ left) ⊎ (s ≢ right) →
     (tallied left right t s).count ≡ t.count
 step_elsewhere left right s last begun free t h (inl other) =
@@ -91,9 +92,9 @@ step_elsewhere left right s last begun free t h (inr other) =
     let r : (s == right) ≡ false = ne_eqb s right other in
     count_cond left right t s false (rw (r, and-false t.waits) refl)
 
--- ---- places in the table
+-- ---- indexes in the table
 
--- pairs of numbers below n have places of their own
+-- different pairs of numbers below n have different indexes
 pub one_place : (n l r m s : ℕ) → r < n → s < n → l * n + r ≡ m * n + s → (l ≡ m) × (r ≡ s)
 one_place n l r m s r_below s_below e =
     elim (cases_order l m) [
@@ -116,7 +117,7 @@ place_inside n l r lt below =
 
 -- ---- the table
 
--- For each pair of symbols below n the table has its count, capped at a last value; the state has the tallies that
+-- For each pair of symbols below n the table has its count, up to the greatest value; the state says which tallies
 -- wait.
 pub record IsCounted (n most : ℕ) (counts symbols : List ℕ) (begun : Bool) (last : ℕ) (free : Bool) : Type 0 where
   pub table : (l r : ℕ) → l < n → r < n → get_or counts (l * n + r) 0 ≡ min (tally l r none_yet symbols).count most
@@ -127,7 +128,7 @@ waiting_more : (n most : ℕ) (counts symbols : List ℕ) (begun free : Bool) (l
 waiting_more n most counts symbols begun free last s h l r =
     ap (λ (t : Tally). t.waits) (tally-last l r none_yet symbols s) ∙ step_waits l r s last begun free (tally l r none_yet symbols) (h.waiting l r)
 
--- the tally of a pair, with one more symbol: of the pair that this one makes with the last, and of the others
+-- the tally of the pair that a symbol makes with the last one, and of the others, after this symbol
 tally_here : (n most : ℕ) (counts symbols : List ℕ) (begun free : Bool) (last s : ℕ) → IsCounted n most counts symbols begun last free → (b : Bool) → is_pair begun last free s ≡ b →
     (tally last s none_yet (symbols ++ s ∷ [])).count ≡ cond b ((tally last s none_yet symbols).count + 1) (tally last s none_yet symbols).count
 tally_here n most counts symbols begun free last s h b e =
@@ -139,7 +140,7 @@ tally_elsewhere : (n most : ℕ) (counts symbols : List ℕ) (begun free : Bool)
 tally_elsewhere n most counts symbols begun free last s h l r other =
     ap (λ (t : Tally). t.count) (tally-last l r none_yet symbols s) ∙ step_elsewhere l r s last begun free (tally l r none_yet symbols) (h.waiting l r) other
 
--- a pair is the one that s makes with the last symbol, or another
+-- a pair is the one of the last symbol and s, or another
 which_pair : (last s l r : ℕ) → ((last ≡ l) × (s ≡ r)) ⊎ ((last ≢ l) ⊎ (s ≢ r))
 which_pair last s l r =
     elim (cases_order last l) [

@@ -39,7 +39,7 @@ values_below-there n values h = ap (λ (k : ℕ). values_below k values) (let e 
 pub values_below-missing : (n : ℕ) (values : List ℕ) → list_any (λ v. v == n) values ≡ false → values_below (n + 1) values ≡ values_below n values
 values_below-missing n values h = ap (λ (k : ℕ). values_below k values) (let e : n + 1 ≡ suc n = omega arith in e) ∙ values_below-suc n values ∙ rw h (append-nil (values_below n values))
 
--- at most n values lie below the bound n
+-- at most n values are below n
 pub values_below-few : (n : ℕ) (values : List ℕ) → length (values_below n values) ≤ n
 values_below-few zero values = rw values_below-none (omega arith)
 values_below-few (suc n) values =
@@ -169,7 +169,7 @@ leaf_at (x ∷ entries) (suc s) e all h = leaf_at entries s e all.1 h
 no_use : (entries : List (List ℕ)) (symbols : List ℕ) → AllByRecursion (λ entry. is_leaf entry ≡ true) entries → IsUsed entries symbols
 no_use entries symbols all s e there paired = absurd (let one : is_leaf e ≡ true = leaf_at entries s e all there in cc)
 
--- no pair is made yet
+-- the leaves alone are a round: no pair is made yet
 pub first_round : (values : List ℕ) → AllByRecursion (λ v. v ≤ 4095) values → length (values_below 4096 values) ≤ 4095 → IsRound values 0 (leaves_below 4096 values) (map (number_in values) values)
 first_round values small few =
     let leaves = are_leaves 4096 values (omega arith) in
@@ -204,13 +204,13 @@ first_lens values lens long ones = record {
 
 -- ---- steps of the loops
 
--- marks before any is set
+-- at first no mark is set
 pub no_marks : (n value : ℕ) → get_or (replicate n false) value false ≡ false
 no_marks zero value = refl
 no_marks (suc n) zero = refl
 no_marks (suc n) (suc value) = no_marks n value
 
--- one more mark is counted
+-- the count of values after one more mark
 pub counted_more : (values : List ℕ) (marks : List Bool) (i count : ℕ) (b : Bool) → AreMarks values marks → i < 4096 → get_or marks i false ≡ b → count ≡ length (values_below i values) →
     cond b (count + 1) count ≡ length (values_below (i + 1) values)
 counted_more values marks i count true are inside read old =
@@ -242,7 +242,7 @@ get_or-front [] x k h = absurd (omega (arith, h))
 get_or-front (y ∷ xs) x zero h = refl
 get_or-front (y ∷ xs) x (suc k) h = get_or-front xs x k (omega (arith, h))
 
--- one number more
+-- the numbers of values after one more
 pub numbered_more : (values numbers after : List ℕ) (i x : ℕ) → length numbers ≡ i → ((v : ℕ) → v < i → get_or numbers v 0 ≡ length (values_below v values)) →
     after ≡ numbers ++ x ∷ [] → x ≡ length (values_below i values) → (v : ℕ) → v < i + 1 → get_or after v 0 ≡ length (values_below v values)
 numbered_more values numbers after i x count old made is v lt =

@@ -1,4 +1,4 @@
--- How many lines the texts of a dump's grammar have at least.
+-- The least number of bytes of each text of a dump's grammar: one byte for each line.
 use Rattle.std.proofs.Common.{◌≡◌, ℕ, zero, suc, ◌+◌, ◌-◌, ◌*◌, ◌<◌, ◌≤◌, List, [], ◌∷◌, ◌++◌, length, drop, length-drop, ap, subst, arith, Option}
 use Rattle.std.specs.Prelude.{get_or}
 use Rattle.szg_values.specs.Material.{Sides}
@@ -72,14 +72,14 @@ asks_behind_parts form material kind last parts =
     asks_mapped (λ subs. dump_of_subs material kind parts last subs) (subs_text form kind (sizes_told material kind parts) 0 (places_of material kind)) (2 * length (places_of material kind))
     (asks_subs form kind (sizes_told material kind parts) 0 (places_of material kind))
 
--- memory is refused after subtable s - 1
+-- the text that is left has at least two bytes for each subtable from s on
 pub asks_subs_left : (form : Form) (material : Sides) (kind : Kind) (last : List ℕ) (parts : List Part) (read : List SubDump) (s left : ℕ) → left ≤ 2 * (length (places_of material kind) - s) → Asks left (subs_left form material kind last parts read s)
 asks_subs_left form material kind last parts read s left few =
     let places = places_of material kind in
     asks_fewer (subs_left form material kind last parts read s) (2 * length (drop s places)) left (omega (arith, few, length-drop s places))
     (asks_mapped (λ rest. dump_of_subs material kind parts last (read ++ rest)) (subs_text form kind (sizes_told material kind parts) s (drop s places)) (2 * length (drop s places)) (asks_subs form kind (sizes_told material kind parts) s (drop s places)))
 
--- or in it
+-- memory is refused in subtable s
 pub lacks_subs : {R : Type 0} {f : Lines Dump} (form : Form) (material : Sides) (kind : Kind) (last : List ℕ) (parts : List Part) (read : List SubDump) (s : ℕ) (due : List (ℕ × ℕ)) (sizes : Option (List ℕ)) (wide behind : ℕ)
     {o m : Incoming} {dev : Ghosts R} {i j k : R} → s < length due → due ≡ places_of material kind → sizes ≡ sizes_told material kind parts → wide ≤ behind + 2 * (length due - suc s) →
     GoesOn f (subs_left form material kind last parts read s) o m dev i j → LacksLines (sub_text form kind sizes s (get_or due s (0, 0))) wide m dev j k → LacksLines f behind o dev i k

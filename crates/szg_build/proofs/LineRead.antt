@@ -21,7 +21,7 @@ words_line = line means
 next_told : (count old new : ℕ) → told_line count ≡ old → new ≡ min (old + 1) (2 ^ 64 - 1) → told_line (suc count) ≡ new
 next_told count old new told e = omega (arith, told, e)
 
--- A line that ends within what was taken.
+-- The line ends within the bytes that were read.
 pub reads_whole : {X R : Type 0} (view : X → List (List ℕ)) (x : X) {o n : Incoming} {dev : Ghosts R} {i k : R} (held taken : List ℕ) (size : ℕ) →
     view x ≡ words_of (take size held) → held ≡ held_of o ++ taken → held_of n ≡ drop (suc size) held → n.line ≡ min (o.line + 1) (2 ^ 64 - 1) →
     size ≤ 80 → size < length held → get_or held size 0 ≡ 10 → ((k : ℕ) → k < size → get_or held k 0 ≡ 10 → ⊥) →
@@ -40,7 +40,7 @@ reads_whole view x {o = o} {n = n} held taken size text whole rest number fits t
   );
 }
 
--- A line that is too long.
+-- The line is too long.
 pub reads_long : {X R : Type 0} (view : X → List (List ℕ)) {o n : Incoming} {dev : Ghosts R} {i k : R} (held taken : List ℕ) (number : ℕ) →
     held ≡ held_of o ++ taken → number ≡ min (o.line + 1) (2 ^ 64 - 1) → 80 < length held → ((k : ℕ) → k < 81 → k < length held → get_or held k 0 ≡ 10 → ⊥) →
     Takes dev i k taken 0 → dev.failures k ≡ dev.failures i → ReadsLines words_line view o n dev i k (Err (Line number Field))
@@ -56,7 +56,7 @@ reads_long view {o = o} {dev = dev} {k = k} held taken number whole e more befor
 nothing_more : {R : Type 0} {dev : Ghosts R} {i j k : R} (taken : List ℕ) → Takes dev i j taken 0 → Takes dev j k [] 1 → Takes dev i k taken 1
 nothing_more {dev = dev} {i = i} {k = k} taken first last = subst (λ (z : List ℕ). Takes dev i k z 1) (append-nil taken) (Takes-on taken [] 1 first last)
 
--- The bytes end before a line does.
+-- The bytes end before the line does.
 pub reads_ended : {X R : Type 0} (view : X → List (List ℕ)) {o n : Incoming} {dev : Ghosts R} {i j k : R} (held taken : List ℕ) (number : ℕ) →
     held ≡ held_of o ++ taken → number ≡ min (o.line + 1) (2 ^ 64 - 1) → length held ≤ 80 → ((k : ℕ) → k < 81 → k < length held → get_or held k 0 ≡ 10 → ⊥) →
     Takes dev i j taken 0 → dev.failures j ≡ dev.failures i → Takes dev j k [] 1 → IsAtEnd (dev.coming k) → dev.failures k ≡ dev.failures j →

@@ -1,4 +1,4 @@
--- A line that was read says what its words say.
+-- The result for a line that was read is the meaning of its words.
 use Rattle.std.proofs.Common.{◌≡◌, ℕ, List, refl, sym, subst, inl, inr, Ok, Err}
 use Rattle.std.specs.Prelude.{Result, IfOk, OnOk, IsErrOf}
 use Rattle.szg_io.specs.declared.device.Input.{Ghosts}
@@ -28,19 +28,19 @@ pub reads_unread : {A X T R : Type 0} (next : List (List ℕ) → Lines A) (word
     ReadsLines words_line words o m dev i k (Err fault) → ReadsLines (line next) view o n dev i k (Err fault)
 reads_unread next words view fault first = reads_stopped words_line next words view fault first
 
--- a line that was parsed means what its words mean
+-- the result of parsing a line is the meaning of its words
 pub reads_told : {A T R : Type 0} (next : List (List ℕ) → Lines A) (view : T → A) {tells : List ℕ → Result T DumpFault → Type 0} {o n : Incoming} {dev : Ghosts R} {i k : R} {result : Result T DumpReadFault} →
     ((text : List ℕ) (told : Result T DumpFault) → tells text told → Says (next (words_of text)) view told) → TellsLine tells o n dev i k result → ReadsLines (line next) view o n dev i k result
 reads_told next view {result = result} says (inl (text, told, said, first, same)) = reads_said next view words_of text text told result refl first (says text told said) same
 reads_told next view {o = o} {n = n} {dev = dev} {i = i} {k = k} says (inr (fault, first, same)) =
     subst (λ r. ReadsLines (line next) view o n dev i k r) (sym same) (reads_unread next words_of view fault first)
 
--- a line takes no memory
+-- parsing a line never returns Memory
 pub no_memory : {X : Type 0} (number : ℕ) (r : Result X DumpFault) (answer : Result X DumpReadFault) → answer ≡ in_line number r → IsErrOf answer Memory → ⊥
 no_memory number (Ok x) answer same e = absurd cc
 no_memory number (Err fault) answer same e = absurd cc
 
--- what holds of a long line holds of the result for the line
+-- what follows from a parsed value follows from the result for the line
 pub short_behind : {X : Type 0} {P Q : Type 0} (number : ℕ) (r : Result X DumpFault) (answer : Result X DumpReadFault) → answer ≡ in_line number r → IfOk r (λ _. P) → (P → Q) → OnOk answer Q
 short_behind {Q = Q} number (Ok x) answer same long after = subst (λ a. OnOk a Q) (sym same) (after long)
 short_behind {Q = Q} number (Err fault) answer same long after = subst (λ a. OnOk a Q) (sym same) tt

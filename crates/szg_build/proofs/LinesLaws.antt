@@ -26,7 +26,7 @@ is_told (whole text rest) = true
 is_told (long rest) = true
 is_told unended = false
 
--- the same line with more bytes after it
+-- a first line, with more bytes after it
 abbrev pub with_more : List ℕ → FirstLine → FirstLine
 with_more more (whole text rest) = whole text (rest ++ more)
 with_more more (long rest) = long (rest ++ more)
@@ -102,14 +102,14 @@ verdict-then (means a) g count bytes = refl
 verdict-then (refuses why) g count bytes = refl
 verdict-then (line next) g count bytes = line-then next g count bytes (λ words n rest. verdict-then (next words) g n rest) (first_line line_room bytes) refl
 
--- ---- what follows
+-- ---- verdicts with more bytes
 
 abbrev pub stands : {A : Type 0} → Verdict A → Bool
 stands (good a count rest) = true
 stands (refused at why rest) = true
 stands (ended at) = false
 
--- the same verdict with more bytes after it
+-- a verdict, with more bytes after it
 abbrev pub verdict_more : {A : Type 0} → List ℕ → Verdict A → Verdict A
 verdict_more more (good a count rest) = good a count (rest ++ more)
 verdict_more more (refused at why rest) = refused at why (rest ++ more)
@@ -132,7 +132,8 @@ line-more next count bytes more inner unended e h =
     let no : stands (verdict (line next) count bytes) ≡ false = ap stands (line-unended next count bytes e) in
     absurd cc
 
--- A verdict stays, whatever follows the text or the line that is refused; only a text that ends too early may go on.
+-- The verdict on a whole text or on a refused line does not depend on what follows; only for a text that ends too
+-- early it may change.
 pub verdict-more : {A : Type 0} (f : Lines A) (count : ℕ) (bytes more : List ℕ) → stands (verdict f count bytes) ≡ true →
     verdict f count (bytes ++ more) ≡ verdict_more more (verdict f count bytes)
 verdict-more (means a) count bytes more h = refl
@@ -181,7 +182,7 @@ line_ends-here byte bytes e = rw (e, line_ends) refl
 line_ends-later : (byte : ℕ) (bytes : List ℕ) → (byte == 10) ≡ false → line_ends (byte ∷ bytes) ≡ line_ends bytes
 line_ends-later byte bytes e = rw (e, line_ends) refl
 
--- a whole first line ends once, and where it doesn't end there is no end
+-- after a whole first line there is one line end less; bytes that end before their first line does have none
 abbrev EndsOnce : List ℕ → FirstLine → Type 0
 EndsOnce bytes (whole text rest) = line_ends bytes ≡ suc (line_ends rest)
 EndsOnce bytes (long rest) = Unit {0}

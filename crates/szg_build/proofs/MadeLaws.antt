@@ -1,5 +1,5 @@
--- A subtable that is made of values passes the checks of a file, and expands to the values; its pairs are used, and no more
--- could be made.
+-- A subtable that is made from values passes the checks of a file, and expands to the values; its pairs are used,
+-- and no more are to be made.
 use Rattle.std.proofs.Common.{ℕ, zero, suc, ◌≡◌, ◌+◌, ◌*◌, ◌^◌, ◌<◌, ◌≤◌, List, [], ◌∷◌, ◌++◌, length, take, refl, sym, ap, subst, ◌∙◌, arith, length-append, Some, None, Option}
 use Rattle.std.specs.Prelude.{IfSome}
 use Rattle.std.specs.List.{slice_get, slice_index, AllByRecursion}
@@ -50,12 +50,12 @@ cut_total code entries b values symbols n lengths packed cut same =
     let last : start lengths (length lengths) ≡ start lengths n = ap (start lengths) cut.count in
     omega (arith, total, all, none, last)
 
--- there is a block where there are values
+-- if there are values, there is a block
 pub cut_some : (lengths : List ℕ) (size : ℕ) → start lengths (length lengths) ≡ size → 0 < size → 0 < length lengths
 cut_some [] size e some = let none : start [] 0 ≡ 0 = start-zero [] in absurd (omega (arith, none, e, some))
 cut_some (x ∷ lengths) size e some = omega arith
 
--- the list of a block
+-- each block has a shortest list
 shortest_at : (layout : Layout) (packed : List ℕ) (size j : ℕ) (lists : List (List ℕ)) → AreShortest layout packed size j lists → (k : ℕ) → k < length lists →
     (symbols : List ℕ) × IsShortest layout (block_at layout.block_bits packed (j + k)) (needed layout.lengths size (j + k)) symbols
 shortest_at layout packed size j [] all k lt = absurd (omega (arith, lt))
@@ -69,7 +69,7 @@ shortest_at layout packed size j (symbols ∷ lists) all (suc k) lt =
 
 -- ---- symbols and values
 
--- a symbol or more for values, and no more symbols than values
+-- there are no more symbols than values, and if there are values there is a symbol
 pub symbols_few : (entries : List (List ℕ)) → IsDictionary entries → (symbols : List ℕ) → AllByRecursion (λ s. s < length entries) symbols → length symbols ≤ length (values_of entries symbols)
 symbols_few entries accepted [] below = omega arith
 symbols_few entries accepted (s ∷ symbols) below =
@@ -90,7 +90,7 @@ all_append : {A : Type 0} (P : A → Type 0) (xs ys : List A) → AllByRecursion
 all_append P [] ys a b = b
 all_append P (x ∷ xs) ys a b = (a.0, all_append P xs ys a.1 b)
 
--- the same by other names
+-- the same for equal lists
 pub below_as : (entries dict : List (List ℕ)) (symbols some : List ℕ) → dict ≡ entries → some ≡ symbols → AllByRecursion (λ s. s < length entries) symbols → AllByRecursion (λ s. s < length dict) some
 below_as entries dict symbols some e1 e2 h =
     subst (λ (z : List (List ℕ)). AllByRecursion (λ s. s < length z) some) (sym e1) (subst (λ (z : List ℕ). AllByRecursion (λ s. s < length entries) z) (sym e2) h)

@@ -1,4 +1,4 @@
--- The map that flags ask for, as it is read.
+-- Reading the map that flags require.
 use Rattle.std.proofs.Common.{◌≡◌, ℕ, Bool, true, false, List, refl, sym, ap, arith, Option, Some, None, Ok, Err}
 use Rattle.szg_file.specs.Contents.{Map, narrow, wide}
 use Rattle.szg_io.specs.declared.device.Input.{Ghosts}

@@ -18,7 +18,7 @@ unless_both : {A : Type 0} (b : Bool) (x : A) → (b ≡ true → ⊥) → (if b
 unless_both true x never = absurd (never refl)
 unless_both false x never = refl
 
--- a word that is the text of never number up to the limit
+-- a word that is the decimal text of no number up to the limit
 pub number_none : (limit : ℕ) (word : List ℕ) → ((n : ℕ) → n ≤ limit → word ≡ decimal n → ⊥) → number_in limit word ≡ None
 number_none limit word never =
     let n = digits_value 10 word in

@@ -1,4 +1,5 @@
--- The dump of an accepted table can be written as a text and read back, and what is built of it has the table's values.
+-- The dump of an accepted table can be written as a text and read back, and a table built from it has the table's
+-- values.
 use Rattle.std.proofs.Common.{◌≡◌, ℕ, zero, suc, ◌+◌, ◌*◌, ◌/◌, ◌%◌, ◌^◌, ◌<◌, ◌≤◌, Bool, true, false, List, [], ◌∷◌, ◌++◌, length, map, take, get_or, replicate, refl, sym, ap, subst, ◌∙◌, arith, inl, inr, Option, Some, None}
 use Rattle.std.specs.Prelude.{◌==◌, ◌&&◌, ◌⊎◌, IfSome, IsTrue, option_map, nat_eq, slice_get, slice_index, if◌then◌else◌}
 use Rattle.std.specs.List.{AllByRecursion, flat_map, range_with_len}
@@ -119,7 +120,7 @@ values_fit : (kind : Kind) (slot : Slot) (subtable : Subtable) → IsSubtable sl
 values_fit kind slot (constant flags byte) h = byte_fits kind slot.size flags byte h.2
 values_fit kind slot (pairs head sparse lengths packed) h = joined_fit (layout_of head sparse lengths) packed slot.size h.head_stands.entries
 
--- ---- an accepted subtable has a value for each position
+-- ---- an accepted subtable has a value at each index
 
 values_count : (kind : Kind) (slot : Slot) (subtable : Subtable) → IsSubtable slot subtable → length (values_in kind slot.size subtable) ≡ slot.size
 values_count kind slot (constant flags byte) h = length-replicate slot.size _
@@ -159,7 +160,7 @@ slots_small material kind parts named h =
     parts_small material kind 0 parts named (λ n lt. numbers_valid (has_pawns material) n (let below : n < length (part_numbers material) = omega (arith, lt, count) in below))
     (all_of_sides (IsPart material kind) (part_numbers material) parts h)
 
--- ---- the sizes at their numbers
+-- ---- the size of each subtable, by its number
 
 abbrev AreSizesFrom : List ℕ → ℕ → List Slot → Type 0
 AreSizesFrom sizes s [] = Unit {0}
@@ -371,7 +372,7 @@ pub own_dump_is_read : OwnDumpIsRead
 unfolding dump_format
 own_dump_is_read form dump t fill rest named accepted h = text_is_read sizes_told form dump rest (dump_is_writable form dump t fill named accepted h)
 
--- ---- a table that is built of the dump of another
+-- ---- a table that is built from the dump of another
 
 found_cases : (here : Bool) (f : Slot × Subtable → List ℕ) (p q : Slot × Subtable) (o o' : Option (Slot × Subtable)) → f p ≡ f q → option_map f o ≡ option_map f o' →
     option_map f (if here then Some p else o) ≡ option_map f (if here then Some q else o')
@@ -405,7 +406,7 @@ same_values_with part side m m' k k' p p' xs ys em ek ep =
     (subst (λ (z : List Part). lists_with m' k' z xs ≡ lists_with m' k' p' ys → values_with part side m' k' z xs ≡ values_with part side m' k' p' ys) (sym ep)
     (same_found k' part side (slots m' k' p') xs ys)))
 
--- What is built of a table's dump has the table's values.
+-- A table built from a table's dump has that table's values.
 pub rebuilt_has_same_values : RebuiltHasSameValues
 rebuilt_has_same_values dump block_bits span_bits rounds t rebuilt h built =
     let material : rebuilt.material ≡ t.material = built.material ∙ sym h.material in

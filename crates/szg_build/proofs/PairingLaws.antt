@@ -1,4 +1,4 @@
--- A pair that is replaced keeps the values; each replacement makes the list one symbol shorter; no symbol gets lost.
+-- Replacing a pair keeps the values, makes the list shorter by one symbol each time, and loses no symbol.
 use Rattle.std.proofs.Common.{◌≡◌, ℕ, suc, ◌<◌, true, false, List, [], ◌∷◌, ◌++◌, refl, sym, ap, subst, ◌∙◌, append_assoc, arith, inl, inr}
 use Rattle.std.specs.Prelude.{◌==◌, ◌&&◌, ◌⊎◌}
 use Rattle.std.specs.List.{flat_map}
@@ -25,7 +25,7 @@ pair_count-here left right s t symbols e = rw (e, pair_count) refl
 pub pair_count-later : (left right s t : ℕ) (symbols : List ℕ) → ((s == left) && (t == right)) ≡ false → pair_count left right (s ∷ t ∷ symbols) ≡ pair_count left right (t ∷ symbols)
 pair_count-later left right s t symbols e = rw (e, pair_count) refl
 
--- Where the new symbol has the values of the pair, the values stay.
+-- If the new symbol has the values of the pair, the values stay.
 pub values-replaced : (values : ℕ → List ℕ) (left right new : ℕ) → values new ≡ values left ++ values right → (symbols : List ℕ) →
     flat_map values (replaced left right new symbols) ≡ flat_map values symbols
 values-replaced values left right new e [] = refl
@@ -50,7 +50,7 @@ shifted : (new left right x : ℕ) (xs : List ℕ) → IsIn xs x ⊎ ((x ≡ lef
 shifted new left right x xs (inl h) = inl (inr h)
 shifted new left right x xs (inr h) = inr h
 
--- A symbol of the list is still in the list, or is one of the pair: so each pair stays in use.
+-- A symbol of the list is still in the list, or is a symbol of the replaced pair. So each pair stays in use.
 pub replaced-keeps : (left right new x : ℕ) (symbols : List ℕ) → IsIn symbols x → IsIn (replaced left right new symbols) x ⊎ ((x ≡ left) ⊎ (x ≡ right))
 replaced-keeps left right new x [] h = absurd h
 replaced-keeps left right new x (s ∷ []) h = inl h
@@ -73,7 +73,7 @@ replaced-keeps left right new x (s ∷ t ∷ symbols) h =
           ])
     ]
 
--- A pair that is there leaves its symbol in the list.
+-- If a pair occurs, its symbol is in the list after it is replaced.
 pub replaced-has : (left right new : ℕ) (symbols : List ℕ) → 0 < pair_count left right symbols → IsIn (replaced left right new symbols) new
 replaced-has left right new [] h = absurd (omega (arith, h))
 replaced-has left right new (s ∷ []) h = absurd (omega (arith, h))

@@ -16,7 +16,7 @@ use Rattle.szg_build.specs.Dump.{places_of}
 use Rattle.szg_build.specs.Built.{subtables_in}
 use Rattle.szg_build.proofs.LinesLaws.{bool_cases}
 
--- with these sides and part numbers, each of them has the subtable of its place
+-- for these sides and part numbers: each part and side has its subtable
 abbrev Stand : Sides → List Part → List Subtable → List ℕ → List ℕ → Type 0
 Stand material parts subs sides numbers = length numbers ≡ length parts → length (slots_from material sides 0 parts) ≡ length subs →
     map Some (slotted (slots_from material sides 0 parts) subs)
@@ -106,7 +106,7 @@ mapped_at f (x ∷ xs) (suc i) d e h = mapped_at f xs i d e (omega (arith, h))
 abbrev pub no_pair : Slot × Subtable
 no_pair = (record { part = 0; side = 0; size = 0 }, constant 0 0)
 
--- these places have the subtables of a table
+-- these parts and sides are those of a table's subtables, in order
 abbrev pub PlacesStand : Contents → List (ℕ × ℕ) → Type 0
 PlacesStand t places = map Some (subtables_in t) ≡ map (λ (place : ℕ × ℕ). subtable_at t place.0 place.1) places
 
@@ -114,7 +114,7 @@ pub place_count : (t : Contents) (places : List (ℕ × ℕ)) → PlacesStand t 
 place_count t places stand =
     sym (length-map (subtables_in t) Some) ∙ ap length stand ∙ length-map places (λ (place : ℕ × ℕ). subtable_at t place.0 place.1)
 
--- The subtable of the i-th place.
+-- The subtable of the i-th part and side.
 pub place_at : (t : Contents) (places : List (ℕ × ℕ)) (i : ℕ) (d : ℕ × ℕ) → PlacesStand t places → i < length places →
     subtable_at t (get_or places i d).0 (get_or places i d).1 ≡ Some (get_or (subtables_in t) i no_pair)
 place_at t places i d stand below =
@@ -132,7 +132,7 @@ flags_beside (x ∷ slots) (y ∷ subs) h = ap (λ z. (flags_of y % 32) ∷ z) (
 pub flags_in_order : (t : Contents) (fill : List ℕ) → IsAccepted t fill → map (λ (pair : Slot × Subtable). flags_of pair.1 % 32) (subtables_in t) ≡ map (λ subtable. flags_of subtable % 32) t.subtables
 flags_in_order t fill h = flags_beside (slots t.material t.kind t.parts) t.subtables (side_lengths IsSubtable (slots t.material t.kind t.parts) t.subtables h.subtables)
 
--- One more item of a list that is made pair by pair.
+-- One more item of a list that is made from pairs of slots and subtables.
 pub pairs_more : {B : Type 0} (f : Slot × Subtable → B) (pairs : List (Slot × Subtable)) (i : ℕ) (told : List B) (b : B) → i < length pairs → told ≡ map f (take i pairs) → b ≡ f (get_or pairs i no_pair) →
     told ++ b ∷ [] ≡ map f (take (i + 1) pairs)
 pairs_more f pairs i told b h e same =

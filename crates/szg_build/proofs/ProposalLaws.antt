@@ -1,4 +1,4 @@
--- What the tests of a proposal show, each as far as its loop has come.
+-- What the tests of a proposal show, for each loop up to the item reached.
 use Rattle.std.proofs.Common.{ℕ, zero, suc, ◌≡◌, ◌+◌, ◌<◌, ◌≤◌, Bool, true, false, cond, List, [], ◌∷◌, ◌++◌, Option, Some, None, length, take, drop, get_or, set, refl, sym, ap, subst, ◌∙◌, arith, inl, inr, length-append}
 use Rattle.std.specs.Prelude.{◌⊎◌, not, IfSome}
 use Rattle.std.specs.List.{slice_get, AllByRecursion}
@@ -23,7 +23,7 @@ below_push n xs i x inside read small all =
     let more : take (i + 1) xs ≡ take i xs ++ x ∷ [] = take_more xs i 0 inside ∙ ap (λ (k : ℕ). take i xs ++ k ∷ []) (sym read) in
     subst (λ (z : List ℕ). AllByRecursion (λ s. s < n) z) (sym more) (all_push (λ s. s < n) (take i xs) x all small)
 
--- the same lists under other names
+-- the same for equal lists
 pub below_as : (lens lens' symbols symbols' : List ℕ) → lens' ≡ lens → symbols' ≡ symbols → AllByRecursion (λ s. s < length lens) symbols → AllByRecursion (λ s. s < length lens') symbols'
 below_as lens lens' symbols symbols' a b all =
     subst (λ (z : List ℕ). AllByRecursion (λ s. s < length z) symbols') (sym a) (subst (λ (z : List ℕ). AllByRecursion (λ s. s < length lens) z) (sym b) all)
@@ -52,7 +52,7 @@ take_join xs a n =
     sym (take-append-drop a (take (a + n) xs)) ∙ ap (λ (z : List ℕ). z ++ drop a (take (a + n) xs)) (take-take a (a + n) xs short)
     ∙ ap (λ (z : List ℕ). take a xs ++ z) (drop-take a n xs)
 
--- the values of one more symbol are the next ones
+-- the next values are those of the next symbol
 pub values_more : (entries : List (List ℕ)) (symbols values : List ℕ) (i s start n : ℕ) → i < length symbols → s ≡ get_or symbols i 0 → take n (drop start values) ≡ expansion_of entries s →
     values_of entries (take i symbols) ≡ take start values → values_of entries (take (i + 1) symbols) ≡ take (start + n) values
 values_more entries symbols values i s start n inside read here old =
@@ -62,7 +62,7 @@ values_more entries symbols values i s start n inside read here old =
     ∙ ap (λ (z : List ℕ). take start values ++ z) (sym here)
     ∙ sym (take_join values start n)
 
--- offsets of symbols, of which some are known
+-- where the values of some symbols are known to be
 abbrev pub AreKnown : List (List ℕ) → List ℕ → List (Option ℕ) → Type 0
 AreKnown entries values offsets = (s : ℕ) → IfSome (get_or offsets s None) (IsSymbolAt entries values s)
 
@@ -79,7 +79,7 @@ known_more entries values offsets i start there here old s =
       | inr other ↦ subst (λ (z : Option ℕ). IfSome z (IsSymbolAt entries values s)) (sym (get_or-set_other offsets i s (Some start) None other)) (old s)
     ]
 
--- one value more is the symbol's
+-- the next value is the symbol's next value
 pub same_more : (values expansion : List ℕ) (i x : ℕ) → ((k : ℕ) → k < i → get_or values k 0 ≡ get_or expansion k 0) → slice_get expansion i ≡ Some x → get_or values i 0 ≡ x → (k : ℕ) → k < i + 1 → get_or values k 0 ≡ get_or expansion k 0
 same_more values expansion i x old there read k lt =
     elim (cases_order k i) [
@@ -90,7 +90,7 @@ same_more values expansion i x old there read k lt =
 
 -- ---- marks
 
--- one mark more, of an item that has what the marked ones have
+-- if P holds for the marked numbers and for i, it holds after i is marked
 pub marked_more : (P : ℕ → Type 0) (marks : List Bool) (i : ℕ) → P i → ((s : ℕ) → get_or marks s false ≡ true → P s) → (s : ℕ) → get_or (set marks i true) s false ≡ true → P s
 marked_more P marks i here old s marked =
     elim (cases_eq s i) [
@@ -134,7 +134,7 @@ lens_push entries lens after i n count old made is s there =
       | inr (inr more) ↦ absurd (omega (arith, more, there))
     ])
 
--- what is marked, after the marks of the text and those of pairs
+-- a symbol that is marked after both loops is in the text or in another pair
 pub used : (entries : List (List ℕ)) (symbols : List ℕ) (s : ℕ) (start one two : List Bool) → get_or start s false ≡ false → get_or two s false ≡ true →
     (get_or one s false ≡ true → (get_or start s false ≡ true) ⊎ IsIn symbols s) → (get_or two s false ≡ true → (get_or one s false ≡ true) ⊎ IsInPair entries s) → IsIn symbols s ⊎ IsInPair entries s
 used entries symbols s start one two none marked text pairs =
@@ -146,7 +146,7 @@ used entries symbols s start one two none marked text pairs =
       | inr in_other ↦ inr in_other
     ]
 
--- ---- what passes is a round, and what is finished a pairing
+-- ---- a proposal that passes is a round, and a finished one a pairing
 
 pub passed : (values : List ℕ) (entries : List (List ℕ)) (symbols : List ℕ) (pairs : ℕ) → IsDictionary entries → AllByRecursion (AreBytes 3) entries → length entries ≤ 4095 →
     AllByRecursion (λ s. s < length entries) symbols → values_of entries symbols ≡ values → IsUsed entries symbols → pairs ≡ length (pairs_in entries) →
@@ -162,6 +162,6 @@ passed values entries symbols pairs dictionary triples few below same used count
   leaves = leaves;
 }
 
--- a number of rounds equal to the number of pairs is finished
+-- a round is a pairing if the number of rounds is that of its pairs
 pub as_made : (values : List ℕ) (entries : List (List ℕ)) (symbols : List ℕ) (pairs : ℕ) → pairs ≡ length (pairs_in entries) → IsRound values (length (pairs_in entries)) entries symbols → IsPairing values pairs entries symbols
 as_made values entries symbols pairs is round = record { done = length (pairs_in entries); round = round; finished = inl (sym is) }

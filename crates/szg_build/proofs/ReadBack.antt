@@ -37,7 +37,7 @@ read_line_of : (pattern : List Word) (word : List ℕ) (words values : List (Lis
 read_line_of pattern word words values e fits =
     read_line (λ z. or_fault Field (values_in pattern z)) word words [] values fits (read_some Field (values_in pattern (word ∷ words)) values e)
 
--- a text whose value is a function of what is read
+-- a text with a function applied to its meaning
 read_last : {A B : Type 0} (f : Lines A) (h : A → B) (lines : List (List (List ℕ))) (a : A) → IsReadAs f lines a → IsReadAs (f >>= λ x. means (h x)) lines (h a)
 read_last f h lines a first = record {
   told = λ count rest. verdict-then f (λ x. means (h x)) count (lines_text lines ++ rest) ∙ ap (continued (λ x. means (h x))) (first.told count rest);
@@ -83,7 +83,7 @@ read_beside f lines P one (x ∷ xs) (y ∷ ys) h =
 count_limit : (n : ℕ) → n ≤ greatest_count → n < 2 ^ 64
 count_limit n le = omega (arith, le)
 
--- (the numbers of the four lists are small)
+-- list j of a map (the numbers of the four lists are small)
 read_map_list : (greatest : ℕ) → greatest < 2 ^ 64 → (j : ℕ) → j < 4 → (list : List ℕ) → length list ≤ greatest_count → AreUpTo greatest list →
     IsReadAs (map_list greatest j) (map_list_lines j list) list
 read_map_list greatest small j four list le h =
@@ -156,7 +156,7 @@ none_left : (most : ℕ) → run_values most 0 ≡ means []
 none_left zero = refl
 none_left (suc most) = refl
 
--- Any runs with `left` values in all are read as their values: they need not be the longest.
+-- Runs with `left` values in all are read as their values; they need not be the longest runs.
 pub read_runs : (most left : ℕ) (found : List (ℕ × ℕ)) → AreRuns found → run_total found ≡ left → left ≤ most → left ≤ greatest_count →
     IsReadAs (run_values most left) (map (λ run. decimal run.0 ∷ decimal run.1 ∷ []) found) (flat_map run_list found)
 read_runs most zero [] h e le count = subst (λ f. IsReadAs f [] []) (sym (none_left most)) (read_nothing [])
@@ -204,7 +204,7 @@ length_passes runs (Some sizes) s count h = rw (eq-eqb (slice_index sizes s) cou
 passed : (f : Lines (Unit {0})) → f ≡ means tt → IsReadAs f [] tt
 passed f e = subst (λ z. IsReadAs z [] tt) (sym e) (read_nothing tt)
 
--- the text after flags and map
+-- the rest of a subtable's text after flags and map
 abbrev pub sub_rest : Form → Option (List ℕ) → ℕ → ℕ → Option Map → Lines SubDump
 sub_rest form sizes s flags lists =
     number_line (fixed (codes "values") ∷ value ∷ []) greatest_count >>= λ count.
@@ -227,7 +227,7 @@ read_sub_rest form sizes s flags lists values le h sized =
     (passed (length_check form sizes s (length values)) (length_passes form sizes s (length values) sized))
     (read_last (values_lines form (length values)) (λ found. record { flags = flags; lists = lists; values = found }) (value_lines form values) values (read_values form values le h)))
 
--- the text after the line of part and side
+-- the rest of a subtable's text after the line of part and side
 abbrev pub sub_behind : Form → Kind → Option (List ℕ) → ℕ → Lines SubDump
 sub_behind form kind sizes s =
     order_check form sizes >> (flags_line kind >>= λ flags. map_of (has_bit 1 flags) (has_bit 4 flags) >>= λ lists. sub_rest form sizes s flags lists)

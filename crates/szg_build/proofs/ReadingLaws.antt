@@ -1,4 +1,4 @@
--- Readers of lines compose: what two calls read one after another is what the two texts one after another are.
+-- Readers of lines compose: what two calls read one after another is the first text and then the second.
 use Rattle.std.proofs.Common.{◌≡◌, ℕ, List, [], ◌++◌, refl, sym, ap, subst, ◌∙◌, append_assoc, append-nil, Option, Some, None, Ok, Err, Bool}
 use Rattle.std.specs.Prelude.{Result, IsOk, IsErrOf, IsErrAnd, IsTrue}
 use Rattle.std.proofs.lemmas.Result.{err_from_is_err_and}
@@ -41,7 +41,7 @@ EndsWith-first g (good a count rest) number fault coming h e = absurd h
 EndsWith-first g (refused at why rest) number fault coming h e = e
 EndsWith-first g (ended at) number fault coming h e = e
 
--- an answer on bytes whose verdict is another's on other bytes
+-- two texts with equal verdicts have equal results
 pub answer_on : {B Y : Type 0} (f g : Lines B) (view : Y → B) (count count' : ℕ) (new : Incoming) (x y : List ℕ) (coming : Option (List ℕ)) (fs fs' row : ℕ) (may : Bool) (r : Result Y DumpReadFault) →
     verdict f count x ≡ verdict g count' y → LinesAnswer g view count' new y coming fs fs' row may r → LinesAnswer f view count new x coming fs fs' row may r
 answer_on f g view count count' new x y coming fs fs' row may (Ok v) e p = (p.0, p.1, e ∙ p.2, p.3)
@@ -51,7 +51,7 @@ answer_on f g view count count' new x y coming fs fs' row may (Err (Build fault)
 answer_on f g view count count' new x y coming fs fs' row may (Err Device) e p = p
 answer_on f g view count count' new x y coming fs fs' row may (Err Memory) e p = p
 
--- an error is the same in an answer of another type
+-- the error in a result
 abbrev error_in : {X E : Type 0} → E → Result X E → E
 error_in other (Ok x) = other
 error_in other (Err fault) = fault
@@ -59,15 +59,15 @@ error_in other (Err fault) = fault
 pub same_error : {X Y E : Type 0} {x y : E} → let r : Result X E = Err x in let s : Result Y E = Err x in IsErrOf r y → IsErrOf s y
 same_error {x = x} e = ap Err (ap (error_in x) e)
 
--- what never is this error isn't it where it is passed on
+-- an error that is never returned is not passed on
 pub passed_on : {X Y E P : Type 0} {x y : E} {s : Result Y E} → IsErrAnd s (λ z. z ≡ x) → (let r : Result X E = Err x in IsErrOf r y → ⊥) → IsErrOf s y → P
 passed_on {x = x} {s = s} same never e = let p = err_from_is_err_and s same in absurd (never (ap Err (sym p.2 ∙ ap (error_in x) (sym p.1 ∙ e))))
 
--- the same text, in another form
+-- ReadsLines for an equal text
 pub reads_as : {A X R : Type 0} {f g : Lines A} {view : X → A} {o n : Incoming} {dev : Ghosts R} {i k : R} {r : Result X DumpReadFault} → f ≡ g → ReadsLines g view o n dev i k r → ReadsLines f view o n dev i k r
 reads_as {view = view} {o = o} {n = n} {dev = dev} {i = i} {k = k} {r = r} e read = subst (λ z. ReadsLines z view o n dev i k r) (sym e) read
 
--- One reader after another that gave a value.
+-- A reader after one that returned a value.
 pub reads_then : {A B X Y R : Type 0} (f : Lines A) (g : A → Lines B) (view : X → A) (view' : Y → B) {o m n : Incoming}
     {dev : Ghosts R} {i j k : R} (v : X) {r : Result Y DumpReadFault} →
     ReadsLines f view o m dev i j (Ok v) →
@@ -86,7 +86,7 @@ reads_then f g view view' {o = o} {m = m} {n = n} {dev = dev} {i = i} {j = j} {k
       (subst (λ (fs : ℕ). LinesAnswer (g (view v)) view' a.0 n ((held_of m) ++ second.bytes) (dev.coming k) fs (dev.failures k) (dev.interrupted k) (dev.may_fail j) r) a.3 (second.answer a.0 a.1)));
 }
 
--- A reader's fault ends the whole.
+-- A reader's fault is the fault of the whole.
 stopped : {A B X Y : Type 0} (f : Lines A) (g : A → Lines B) (view : X → A) (view' : Y → B) (count : ℕ) (new new' : Incoming) (x : List ℕ) (coming : Option (List ℕ)) (fs fs' row : ℕ) (may : Bool) (fault : DumpReadFault) →
     LinesAnswer f view count new x coming fs fs' row may (Err fault) → LinesAnswer (f >>= g) view' count new' x coming fs fs' row may (Err fault)
 stopped f g view view' count new new' x coming fs fs' row may (Line number fault) p = (
@@ -109,7 +109,7 @@ reads_stopped f g view view' {o = o} {n = n} {n' = n'} {dev = dev} {i = i} {k = 
   answer = λ count told. stopped f g view view' count n n' ((held_of o) ++ first.bytes) (dev.coming k) (dev.failures i) (dev.failures k) (dev.interrupted k) (dev.may_fail i) fault (first.answer count told);
 }
 
--- What means a value is read by no call.
+-- A value without any line is read without a call.
 pub reads_nothing : {A X R : Type 0} (f : Lines A) (view : X → A) (x : X) {o : Incoming}
     {dev : Ghosts R} {i : R} → f ≡ means (view x) →
     ReadsLines f view o o dev i i (Ok x)
@@ -119,7 +119,7 @@ reads_nothing f view x {o = o} {dev = dev} {i = i} e = record {
   answer = λ count told. (count, told, ap (λ h. verdict h count ((held_of o) ++ [])) e ∙ ap (λ (z : List ℕ). good (view x) count z) (append-nil (held_of o)), refl);
 }
 
--- A refusal takes no call.
+-- A refusal is returned without a call.
 pub reads_refused : {A X R : Type 0} (f : Lines A) (view : X → A) (fault : DumpFault) {o : Incoming}
     {dev : Ghosts R} {i : R} → f ≡ refuses (of_line fault) →
     ReadsLines f view o o dev i i (Err (Line o.line fault))
@@ -142,7 +142,7 @@ reads_unbuilt f view fault {o = o} {dev = dev} {i = i} e = record {
       (subst (λ v. IsPlanFault v fault) (sym same) refl, refl);
 }
 
--- ---- a whole dump: what the public call promises follows
+-- ---- a whole dump: the contract of the public call
 
 taken_off : (all : List ℕ) (after : Option (List ℕ)) (bytes : List ℕ) → Consumes (Some all) after bytes → (rest : List ℕ) × (after ≡ Some rest) × (all ≡ bytes ++ rest)
 taken_off all None bytes h = absurd h
@@ -216,7 +216,7 @@ device_of f new bytes coming fs fs' row may (Err (Build fault)) h = (λ e. absur
 device_of f new bytes coming fs fs' row may (Err Device) h = (λ e. h, λ e. absurd (e refl))
 device_of f new bytes coming fs fs' row may (Err Memory) h = (λ e. absurd cc, λ e. h)
 
--- `Device` comes only where the reader failed.
+-- `Device` is returned only if the reader failed.
 pub reads_device : {R : Type 0} (f : Lines Dump) {o n : Incoming} {dev : Ghosts R} {i k : R} {r : Result declared.Dump DumpReadFault} →
     ReadsLines f dump_seen o n dev i k r → o.line ≡ 0 →
     (IsErrOf r Device → HasFailed (dev.failures i) (dev.failures k) (dev.interrupted k) × IsTrue (dev.may_fail i)) × ((IsErrOf r Device → ⊥) → dev.failures k ≡ dev.failures i)

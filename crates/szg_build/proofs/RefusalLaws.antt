@@ -1,4 +1,4 @@
--- The faults of a plan and its lists, in their order, and what holds if none of them applies.
+-- The faults of a plan and its lists, in their order, and what holds if there is none.
 use Rattle.std.proofs.Common.{ℕ, ◌≡◌, ◌+◌, ◌<◌, ◌≤◌, ◌^◌, Bool, true, false, cond, List, [], ◌∷◌, length, map, get_or, refl, sym, ap, subst, ◌∙◌, arith, inl, inr, Option, Some, None}
 use Rattle.std.specs.Prelude.{◌==◌, ◌&&◌, not, nat_lt, nat_le, option_map}
 use Rattle.std.specs.Bool.{then_some}
@@ -26,7 +26,7 @@ apart e = cc e
 pub no_less : (a b : ℕ) → nat_lt a b ≡ false → b ≤ a
 no_less a b e = elim (cases_lt a b) [ inl lt ↦ absurd (apart (sym e ∙ lt-ltb a b lt)) | inr le ↦ le ]
 
--- ---- the first place that passes a test
+-- ---- the first item that passes a test
 
 prefix_len-map : {A B : Type 0} (p : B → Bool) (f : A → B) (xs : List A) → prefix_len p (map f xs) ≡ prefix_len (λ x. p (f x)) xs
 prefix_len-map p f [] = refl
@@ -51,7 +51,7 @@ some_none n e = cc e
 no_place : (n m : ℕ) → place n m ≡ None → m ≤ n
 no_place n m e = elim (cases_lt n m) [ inl lt ↦ absurd (some_none n (sym (ap (λ (b : Bool). cond b (Some n) None) (lt-ltb n m lt)) ∙ e)) | inr le ↦ le ]
 
--- where there is no such place, no item passes
+-- if there is no first item that passes, no item passes
 pub none_pass : {A : Type 0} (p : A → Bool) (xs : List A) → position p xs ≡ None → AllByRecursion (λ x. p x ≡ false) xs
 none_pass p xs e =
     let whole : length xs ≤ prefix_len (λ x. not (p x)) xs = no_place (prefix_len (λ x. not (p x)) xs) (length xs) e in
@@ -118,14 +118,14 @@ at_bits b1 b2 b3 o4 o5 o6 b7 e1 = sym (ap (λ (b : Bool). chain b b2 b3 o4 o5 o6
 at_rounds : (b1 b2 b3 : Bool) (o4 o5 o6 : Option ℕ) (b7 : Bool) → b1 ≡ true → b2 ≡ false → Some fault.Rounds ≡ chain b1 b2 b3 o4 o5 o6 b7
 at_rounds b1 b2 b3 o4 o5 o6 b7 e1 e2 = sym (ap (λ (b : Bool). chain b b2 b3 o4 o5 o6 b7) e1 ∙ ap (λ (b : Bool). chain true b b3 o4 o5 o6 b7) e2)
 
--- after the checks of the numbers
+-- once the checks of the numbers pass
 counted : (b1 b2 b3 : Bool) (o4 o5 o6 : Option ℕ) (b7 : Bool) → b1 ≡ true → b2 ≡ true → chain b1 b2 b3 o4 o5 o6 b7 ≡ chain true true b3 o4 o5 o6 b7
 counted b1 b2 b3 o4 o5 o6 b7 e1 e2 = ap (λ (b : Bool). chain b b2 b3 o4 o5 o6 b7) e1 ∙ ap (λ (b : Bool). chain true b b3 o4 o5 o6 b7) e2
 
 at_count : (b1 b2 b3 : Bool) (o4 o5 o6 : Option ℕ) (b7 : Bool) → b1 ≡ true → b2 ≡ true → b3 ≡ false → Some fault.Count ≡ chain b1 b2 b3 o4 o5 o6 b7
 at_count b1 b2 b3 o4 o5 o6 b7 e1 e2 e3 = sym (counted b1 b2 b3 o4 o5 o6 b7 e1 e2 ∙ ap (λ (b : Bool). chain true true b o4 o5 o6 b7) e3)
 
--- after the check of the number of lists
+-- once the check of the number of lists passes, too
 listed : (b1 b2 b3 : Bool) (o4 o5 o6 : Option ℕ) (b7 : Bool) → b1 ≡ true → b2 ≡ true → b3 ≡ true → chain b1 b2 b3 o4 o5 o6 b7 ≡ chain true true true o4 o5 o6 b7
 listed b1 b2 b3 o4 o5 o6 b7 e1 e2 e3 = counted b1 b2 b3 o4 o5 o6 b7 e1 e2 ∙ ap (λ (b : Bool). chain true true b o4 o5 o6 b7) e3
 
@@ -143,7 +143,7 @@ at_many b1 b2 b3 o4 o5 o6 b7 n e1 e2 e3 e4 e5 e6 =
     sym (listed b1 b2 b3 o4 o5 o6 b7 e1 e2 e3 ∙ ap (λ (o : Option ℕ). chain true true true o o5 o6 b7) e4 ∙ ap (λ (o : Option ℕ). chain true true true None o o6 b7) e5
     ∙ ap (λ (o : Option ℕ). chain true true true None None o b7) e6)
 
--- after the checks of the lists
+-- once the checks of the lists pass, too
 valued : (b1 b2 b3 : Bool) (o4 o5 o6 : Option ℕ) (b7 : Bool) → b1 ≡ true → b2 ≡ true → b3 ≡ true → o4 ≡ None → o5 ≡ None → o6 ≡ None →
     chain b1 b2 b3 o4 o5 o6 b7 ≡ unless b7 fault.Map
 valued b1 b2 b3 o4 o5 o6 true e1 e2 e3 e4 e5 e6 =
@@ -161,7 +161,7 @@ at_maps : (b1 b2 b3 : Bool) (o4 o5 o6 : Option ℕ) (b7 : Bool) → b1 ≡ true 
     then_some (not b7) fault.Map ≡ chain b1 b2 b3 o4 o5 o6 b7
 at_maps b1 b2 b3 o4 o5 o6 b7 e1 e2 e3 e4 e5 e6 = unless_not b7 fault.Map ∙ sym (valued b1 b2 b3 o4 o5 o6 b7 e1 e2 e3 e4 e5 e6)
 
--- where nothing is refused, every test passes
+-- if nothing is refused, every test passes
 pub record Passed (b1 b2 b3 : Bool) (o4 o5 o6 : Option ℕ) (b7 : Bool) : Type 0 where
   pub bits : b1 ≡ true
   pub rounds : b2 ≡ true
@@ -184,7 +184,7 @@ passed true true true None None (Some n) b7 e = absurd (refused (fault.TooManyVa
 passed true true true None None None false e = absurd (refused fault.Map e)
 passed true true true None None None true e = record { bits = refl; rounds = refl; count = refl; length = refl; value = refl; many = refl; maps = refl }
 
--- lists that aren't refused can be built of
+-- from lists that are not refused subtables can be built
 pub lists_stand : (kind : Kind) (sizes : List ℕ) (lists : List (List ℕ)) → AllByRecursion (λ size. size < 2 ^ 33) sizes → sizes ≡ map length lists →
     wrong_value kind lists ≡ None → too_many_values lists ≡ None → AllByRecursion (IsBuildable kind) lists
 lists_stand kind sizes lists fits same small many =
@@ -198,7 +198,7 @@ lists_stand kind sizes lists fits same small many =
     (λ (list : List ℕ). (length list < 2 ^ 33) × (list_any (λ v. nat_lt (greatest_value kind) v) list ≡ false)) lists (λ list h k. (h, k)) few low)
     different
 
--- what is answered at each refusal
+-- the fault that is returned for each failed check
 
 pub told_bits : (sizes : List ℕ) (plan : Plan) (lists : List (List ℕ)) → bits_told plan ≡ false →
     Some fault.Bits ≡ fault_for (Some sizes) plan lists
@@ -242,7 +242,7 @@ told_maps sizes plan lists e1 e2 e3 e4 e5 e6 =
     at_maps (bits_told plan) (nat_le plan.rounds 4000) (length lists == length sizes) (wrong_length sizes lists) (wrong_value plan.kind lists) (too_many_values lists) (has_maps plan) e1 e2 e3 e4 e5 e6
     ∙ sym (fault_told sizes plan lists)
 
--- lists that are lent
+-- the checks over borrowed lists
 pub lengths_lent : {A : Type 0} (now : A → List ℕ) (sizes : List ℕ) (lists : List A) → position (λ (pair : ℕ × A). not (length (now pair.1) == pair.0)) (zip sizes lists) ≡ wrong_length sizes (map now lists)
 lengths_lent now sizes lists = sym (ap (position (λ (pair : ℕ × List ℕ). not (length pair.1 == pair.0))) (zip-map now sizes lists)
     ∙ position-map (λ (pair : ℕ × List ℕ). not (length pair.1 == pair.0)) (λ (pair : ℕ × _). (pair.0, now pair.1)) (zip sizes lists))
@@ -260,7 +260,7 @@ not_some (Some n) h = absurd (h n refl)
 pub too_many : (a b : ℕ) → b < a → nat_le a b ≡ false
 too_many a b lt = grind (arith, nat_tests)
 
--- lists without too great values
+-- borrowed lists whose values are not too great
 pub lent_small : {A : Type 0} (now : A → List ℕ) (kind : Kind) (lists : List A) → position (λ (list : A). list_any (λ v. nat_lt (greatest_value kind) v) (now list)) lists ≡ None →
     All (λ (list : A). AllByRecursion (λ v. v ≤ 4095) (now list)) lists
 lent_small now kind lists e =
@@ -279,7 +279,7 @@ four_all a b c d r e e' e'' same = same ∙ sym (ap (λ (x : Bool). x && b && c 
 pub three_all : (a b c r : Bool) → a ≡ true → b ≡ true → r ≡ c → r ≡ (a && b && c)
 three_all a b c r e e' same = same ∙ sym (ap (λ (x : Bool). x && b && c) e ∙ ap (λ (x : Bool). x && c) e')
 
--- what flags and maps of a plan say
+-- whether flags and maps are those that the kind requires
 abbrev pub maps_pass : Kind → Sides → List ℕ → List (Option Map) → Bool
 maps_pass kind material flags items = elim kind [
   | Wdl ↦ (length flags == 0) && (length items == 0)

@@ -1,4 +1,4 @@
--- A round: a pair that is made keeps the values; where none is left the dictionary is finished.
+-- A round: making a pair keeps the values; if no pair is left, the dictionary is finished.
 use Rattle.std.proofs.Common.{ℕ, zero, suc, ◌≡◌, ◌+◌, ◌<◌, ◌≤◌, Bool, true, false, List, [], ◌∷◌, ◌++◌, length, get_or, refl, sym, ap, subst, ◌∙◌, arith, inl, inr, length-append}
 use Rattle.std.specs.Prelude.{◌==◌, ◌&&◌}
 use Rattle.std.specs.List.{AllByRecursion}
@@ -18,7 +18,7 @@ use Rattle.szg_build.proofs.Growing.{IsNewPair, pair_grows, expansion-more, expa
 both : (left right s t : ℕ) → s ≡ left → t ≡ right → ((s == left) && (t == right)) ≡ true
 both left right s t p q = rw (eq-eqb s left p, eq-eqb t right q) refl
 
--- a pair that occurs at some index counts
+-- a pair that occurs has a count above 0
 pub pair_stands : (left right : ℕ) (symbols : List ℕ) (i : ℕ) → i + 1 < length symbols → get_or symbols i 0 ≡ left → get_or symbols (i + 1) 0 ≡ right → 0 < pair_count left right symbols
 pair_stands left right [] i inside p q = absurd (omega (arith, inside))
 pair_stands left right (s ∷ []) i inside p q = absurd (omega (arith, inside))
@@ -51,7 +51,7 @@ is_left left right s t n h a b =
     second true y e = e
     second false y e = absurd cc
 
--- a pair that counts is one of symbols that are there
+-- the symbols of a pair that occurs are symbols of the dictionary
 pub counts_there : (left right n : ℕ) (symbols : List ℕ) → AllByRecursion (λ s. s < n) symbols → 0 < pair_count left right symbols → (left < n) × (right < n)
 counts_there left right n [] below h = absurd (omega (arith, h))
 counts_there left right n (s ∷ []) below h = absurd (omega (arith, h))
@@ -147,6 +147,6 @@ paired_exhausted values entries lens symbols done rounds round are less none = r
   finished = inr (omega (arith, round.pairs, less), inr (exhausted entries lens symbols are round.below none));
 }
 
--- the symbols are those that have lengths
+-- the symbols are below the number of lengths
 pub lens_below : (entries : List (List ℕ)) (lens symbols : List ℕ) → AreLens entries lens → AllByRecursion (λ s. s < length entries) symbols → AllByRecursion (λ s. s < length lens) symbols
 lens_below entries lens symbols are below = subst (λ (k : ℕ). AllByRecursion (λ s. s < k) symbols) (sym are.count) below

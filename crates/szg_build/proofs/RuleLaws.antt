@@ -1,4 +1,4 @@
--- What a subtable is made of looks as the builder's rule says.
+-- A subtable as the builder makes it follows the builder's rule.
 use Rattle.std.proofs.Common.{ℕ, zero, suc, ◌≡◌, ◌+◌, ◌-◌, ◌*◌, ◌^◌, ◌<◌, ◌≤◌, Bool, List, [], ◌∷◌, ◌++◌, length, map, drop, Option, Some, None, refl, sym, ap, subst, ◌∙◌, arith, inl, inr, append-nil}
 use Rattle.std.specs.Prelude.{nat_lt, option_map, if◌then◌else◌}
 use Rattle.std.specs.List.{slice_get}
@@ -20,7 +20,7 @@ use Rattle.szg_build.proofs.Entries.{start-front}
 
 -- ---- extra lengths
 
--- the last entry of a sparse index by its type in memory
+-- the last entry of a sparse index, as the code holds it
 pub extended_as : (sparse : List Entry) (lengths after : List ℕ) (extra : ℕ) (last : Option SparseEntry) → option_map sparse_of (slice_get sparse (length sparse - 1)) ≡ last →
     extra ≡ length (extras_for (length lengths) last) → after ≡ lengths ++ extras_for (length lengths) last → IsExtended (map sparse_of sparse) lengths after extra
 extended_as sparse lengths after extra last is count joined =
@@ -28,7 +28,7 @@ extended_as sparse lengths after extra last is count joined =
     ap (λ (k : ℕ). slice_get (map sparse_of sparse) (k - 1)) (length-map sparse sparse_of) ∙ slice_get-map sparse_of sparse (length sparse - 1) ∙ is in
     (count ∙ ap (λ (o : Option SparseEntry). length (extras_for (length lengths) o)) (sym e), joined ∙ ap (λ (o : Option SparseEntry). lengths ++ extras_for (length lengths) o) (sym e))
 
--- no more lengths where the last entry leads to a block, or there is none
+-- there are no extra lengths if the last entry leads to a block, or if there is no entry
 pub extras_inside : (blocks : ℕ) (entry : SparseEntry) → entry.block < blocks → extras_for blocks (Some entry) ≡ []
 extras_inside blocks entry lt = ap (λ (b : Bool). if b then [] else 65535 ∷ []) (lt-ltb entry.block blocks lt)
 
@@ -49,7 +49,7 @@ extended_one sparse lengths after entry last le more =
     let one : extras_for (length lengths) (Some (sparse_of entry)) ≡ 65535 ∷ [] = extras_beyond (length lengths) (sparse_of entry) le in
     extended_as sparse lengths after 1 (Some (sparse_of entry)) (ap (option_map sparse_of) last) (ap length (sym one)) (more ∙ ap (λ (z : List ℕ). lengths ++ z) (sym one))
 
--- a subtable with a value has a span
+-- a subtable that has a value has a span
 span_some : (span_bits size : ℕ) → 0 < size → 0 < entry_count span_bits size
 unfolding entry_count
 span_some span_bits size some =

@@ -1,4 +1,4 @@
--- What a line says, where its words have their values and where they haven't.
+-- The meaning of a line: if its words have their values, and if they do not.
 use Rattle.std.proofs.Common.{◌≡◌, ℕ, zero, suc, map, ◌+◌, ◌<◌, ◌≤◌, Bool, true, false, List, [], ◌∷◌, ◌++◌, length, get_or, refl, sym, ap, subst, ◌∙◌, arith, Option, Some, None, Ok, Err}
 use Rattle.std.specs.Prelude.{codes, bytes_eq, nat_le, ◌==◌, ◌||◌, Result}
 use Rattle.std.specs.Fmt.{decimal}
@@ -22,12 +22,12 @@ use Rattle.szg_build.specs.Grammar.{Word, fixed, value, values_in, or_fault, num
 use Rattle.szg_build.specs.Fronts.{IsWord, IsFront, IsPair, said, sub_line}
 use Rattle.szg_build.proofs.WordLaws.{one_there, one_none, two_there, two_none, none_other, fixed_there}
 
--- a line of another pattern
+-- a line that does not follow the pattern is refused
 pub unsaid : {A : Type 0} (pattern : List Word) (front text : List ℕ) (k : List (List ℕ) → Lines A) → IsFront pattern front → ((word : List ℕ) → IsWord word → text ≡ front ++ word → ⊥) →
     (or_fault Field (values_in pattern (words_of text)) >>= k) ≡ refuses (of_line Field)
 unsaid pattern front text k is never = ap (λ (o : Option (List (List ℕ))). or_fault Field o >>= k) (one_none pattern front text is never)
 
--- a line with one value says what the value says
+-- the meaning of a line with one value is that of the value
 pub said_by : {A : Type 0} (pattern : List Word) (front text word : List ℕ) (k : List (List ℕ) → Lines A) → IsFront pattern front → IsWord word → text ≡ front ++ word →
     (or_fault Field (values_in pattern (words_of text)) >>= k) ≡ k (word ∷ [])
 said_by pattern front text word k is h e = ap (λ (o : Option (List (List ℕ))). or_fault Field o >>= k) (one_there pattern front word text is h e)
@@ -66,7 +66,7 @@ form_none word e e' = rw (e, e') refl
 pub kind_none : (word : List ℕ) → bytes_eq word (codes "wdl") ≡ false → bytes_eq word (codes "dtz") ≡ false → kind_in word ≡ None
 kind_none word e e' = rw (e, e') refl
 
--- ---- what lines say
+-- ---- the meanings of lines
 
 abbrev single_values : List ℕ → List Word
 single_values name = fixed name ∷ value ∷ []
@@ -185,7 +185,7 @@ too_long left run lt = other (nat_le run.0 left) refl
     other true e = absurd (omega (arith, lt, leb-true run.0 left e))
     other false e = rw e refl
 
--- ---- the line of a place
+-- ---- the line of a part and side
 
 abbrev pub place_text : ℕ × ℕ → List ℕ
 place_text place = 115 ∷ 117 ∷ 98 ∷ 32 ∷ (97 + place.0) ∷ 32 ∷ (48 + place.1) ∷ []

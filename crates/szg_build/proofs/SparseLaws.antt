@@ -18,7 +18,7 @@ pub middle-next : (span_bits j : ℕ) → middle_of_span span_bits j ≤ middle_
 unfolding middle_of_span
 middle-next span_bits j = let next : (j + 1) * 2 ^ span_bits ≡ j * 2 ^ span_bits + 2 ^ span_bits = omega arith in omega (arith, next)
 
--- the block after the next one starts after the index, or is the next one there
+-- an index past this block is in the next block or later
 pub next_start : (lengths : List ℕ) (block begun index : ℕ) → block < length lengths → begun ≡ start lengths block → index < start lengths (length lengths) → get_or lengths block 0 < index - begun →
     (block + 1 < length lengths) × (begun + (get_or lengths block 0 + 1) ≡ start lengths (block + 1)) × (begun + (get_or lengths block 0 + 1) ≤ index)
 next_start lengths block begun index there at inside far =
@@ -59,7 +59,7 @@ index_more lengths span_bits j sparse after entry h count made told small short 
       fit = all_push IsEntry sparse entry h.fit (small, short);
     })
 
--- an entry to an index is one to the middle of its span
+-- an entry that leads to the middle of a span is the span's entry
 pub entry_is : (lengths : List ℕ) (span_bits j index size : ℕ) (entry : SparseEntry) → index ≡ middle_of_span span_bits j → start lengths (length lengths) ≡ size → entry.block ≤ length lengths →
     start lengths entry.block + entry.offset ≡ index → (index < size → (entry.block < length lengths) × (index < start lengths (entry.block + 1))) → (size ≤ index → entry.block ≡ length lengths) →
     IsEntryOf lengths span_bits j entry
@@ -70,7 +70,7 @@ entry_is lengths span_bits j index size entry at total there place inside beyond
   beyond = λ le. beyond (omega (arith, le, at, total));
 }
 
--- an index of a block's start and more that is at most its length away from it is in that block
+-- an index that is at most the length of a block after its start is in the block
 pub held_by : (lengths : List ℕ) (block begun index : ℕ) → block < length lengths → begun ≡ start lengths block → index - begun ≤ get_or lengths block 0 → index < start lengths (block + 1)
 held_by lengths block begun index there at near =
     let more : start lengths (block + 1) ≡ start lengths block + (get_or lengths block 0 + 1) = start-more lengths block there in

@@ -1,4 +1,4 @@
--- What it is that a text of lines is read as a value, and how such texts are put together.
+-- What it means that lines are read as a value, and how such lines are joined.
 use Rattle.std.proofs.Common.{◌≡◌, ℕ, zero, suc, ◌≤◌, false, List, [], ◌∷◌, ◌++◌, length, refl, sym, ap, subst, ◌∙◌, append_assoc, arith, Option, Some}
 use Rattle.std.specs.Prelude.{◌==◌}
 use Rattle.std.specs.List.{AllByRecursion}
@@ -59,7 +59,7 @@ first_line-here zero (byte ∷ text) rest short h = absurd (omega (arith, short)
 first_line-here (suc room) (byte ∷ text) rest short h =
     within room byte (text ++ 10 ∷ rest) h.0 ∙ ap (behind byte) (first_line-here room text rest (omega (arith, short)) h.1)
 
--- words that make a line
+-- words that make a line: they have no space and no 0A
 pub record IsLine (word : List ℕ) (words : List (List ℕ)) : Type 0 where
   pub first : AreClean word
   pub others : AllByRecursion AreClean words
@@ -67,12 +67,12 @@ pub record IsLine (word : List ℕ) (words : List (List ℕ)) : Type 0 where
 
 -- ---- texts
 
--- the number of lines up to the end of these
+-- the number of lines up to the end of these, if `count` lines come before them
 abbrev pub lines_behind : List (List (List ℕ)) → ℕ → ℕ
 lines_behind [] count = count
 lines_behind (words ∷ lines) count = lines_behind lines (suc count)
 
--- these lines are read as a, whatever comes before and after them
+-- the text of these lines is read as a, whatever lines come before it and whatever bytes follow
 pub record IsReadAs {A : Type 0} (f : Lines A) (lines : List (List (List ℕ))) (a : A) : Type 0 where
   pub told : (count : ℕ) (rest : List ℕ) → verdict f count (lines_text lines ++ rest) ≡ good a (lines_behind lines count) rest
 
@@ -90,7 +90,7 @@ lines_behind-append (words ∷ lines) lines' count = lines_behind-append lines l
 pub read_nothing : {A : Type 0} (a : A) → IsReadAs (means a) [] a
 read_nothing a = record { told = λ count rest. refl }
 
--- a line, and then what its words say
+-- a line, and then the lines that its words require
 pub read_line : {A : Type 0} (next : List (List ℕ) → Lines A) (word : List ℕ) (words : List (List ℕ)) (lines : List (List (List ℕ))) (a : A) →
     IsLine word words → IsReadAs (next (word ∷ words)) lines a → IsReadAs (line next) ((word ∷ words) ∷ lines) a
 read_line next word words lines a fits inner = record {
@@ -117,6 +117,6 @@ read_then f g lines lines' a b first second = record {
       ∙ ap (λ (z : ℕ). good b z rest) (sym (lines_behind-append lines lines' count));
 }
 
--- a value that is there
+-- a value that exists is read without a line
 pub read_some : {A : Type 0} (fault : DumpFault) (found : Option A) (a : A) → found ≡ Some a → IsReadAs (or_fault fault found) [] a
 read_some fault found a e = subst (λ o. IsReadAs (or_fault fault o) [] a) (sym e) (read_nothing a)

@@ -1,4 +1,4 @@
--- Subtables of lists of values: constant ones, and those that are made of pairs.
+-- Subtables of lists of values: constant ones, and those made with pairs.
 use Rattle.std.proofs.Common.{ℕ, zero, suc, ◌≡◌, ◌<◌, ◌≤◌, arith, Bool, true, false, List, [], ◌∷◌, length, take, replicate, Option, Some, None, Result, Ok, Err, refl, sym, ap, subst, ◌∙◌}
 use Rattle.std.specs.Prelude.{◌==◌, ◌&&◌, IfOk, if◌then◌else◌}
 use Rattle.std.specs.List.{AllByRecursion, list_all, slice_get}
@@ -17,7 +17,7 @@ use Rattle.szg_build.specs.Tabling.{IsInRange, IsChoiceOf}
 use Rattle.szg_build.specs.Building.{IsMadeSub, IsMadeSmall, IsBuiltSub, IsInBounds}
 use Rattle.szg_build.proofs.MadeLaws.{made_stands, made_values, made_pairs}
 
--- what isn't constant expands alike in both kinds
+-- a subtable that is made and not constant is built
 pub made_is_built : (kind : Kind) (flags : ℕ) (values : List ℕ) (packing : Packing) (subtable : Subtable) → IsMadeSub values flags packing.block_bits packing.span_bits packing.rounds subtable →
     flags < 128 → IsInBounds (Fixed packing) → constant_for kind values ≡ None → HasTruncatedBinary subtable → HasSpanIndex (length values) subtable → IsBuiltSub kind flags values (Fixed packing) subtable
 made_is_built kind flags values packing (constant f byte) h a b none coded index = absurd h
@@ -41,12 +41,12 @@ made_by kind flags values block_bits span_bits rounds (pairs head sparse lengths
   rule = record { constants = sym none; codes = tt; index = index };
 }
 
--- by some numbers too
+-- a subtable that is made with some numbers is built as a small one
 pub small_is_built : (kind : Kind) (flags : ℕ) (values : List ℕ) (subtable : Subtable) → IsMadeSmall values flags subtable → flags < 128 → constant_for kind values ≡ None → HasSpanIndex (length values) subtable → IsBuiltSub kind flags values Small subtable
 small_is_built kind flags values subtable h a none index =
     made_by kind flags values h.block_bits h.span_bits h.rounds subtable h.made a h.least_block h.most_block h.least_span h.most_span none index
 
--- the numbers of a plan in its ranges are in their bounds
+-- if a plan's numbers are in their ranges, its choice's numbers are in their bounds
 pub choice_in_bounds : (plan : Plan) (choice : Choice) → IsInRange plan → IsChoiceOf plan choice → IsInBounds choice
 choice_in_bounds plan (Fixed packing) range same = (
   omega (arith, same.0, range.least_block),
@@ -63,7 +63,7 @@ bounds_as choice other e h = subst (λ (z : Choice). IsInBounds z) e h
 pub built_as : (kind : Kind) (flags : ℕ) (values : List ℕ) (choice other : Choice) (subtable : Subtable) → choice ≡ other → IsBuiltSub kind flags values other subtable → IsBuiltSub kind flags values choice subtable
 built_as kind flags values choice other subtable e h = subst (λ (z : Choice). IsBuiltSub kind flags values z subtable) (sym e) h
 
--- what follows of each value that was made
+-- if P implies Q for each value, it does for the value of a result
 pub if_ok : {A E : Type 0} {P Q : A → Type 0} (r : Result A E) → ((x : A) → P x → Q x) → IfOk r P → IfOk r Q
 if_ok (Ok x) f h = f x h
 if_ok (Err e) f h = tt
@@ -77,7 +77,7 @@ replicated_all one (suc n) = ap (λ (b : Bool). b && list_all (λ value. value =
 pub all_taken : (one : ℕ) (values : List ℕ) (i : ℕ) → length values ≤ i → take i values ≡ replicate i one → list_all (λ value. value == one) values ≡ true
 all_taken one values i end e = ap (list_all (λ value. value == one)) (sym (take_all i values end) ∙ e) ∙ replicated_all one i
 
--- a WDL list is constant by its first value
+-- a WDL list whose values are all equal to the first is constant
 first_constant' : (values : List ℕ) (first : ℕ) → Some first ≡ slice_get values 0 → list_all (λ value. value == first) values ≡ true → Some first ≡ constant_for Wdl values
 first_constant' [] first e all = absurd cc
 first_constant' (v ∷ values) first e all =
@@ -105,7 +105,7 @@ first_small' (v ∷ values) first e small = let same : first ≡ v = cc in omega
 pub first_small : (kind : Kind) (values : List ℕ) (first : ℕ) → kind ≡ Wdl → Some first ≡ slice_get values 0 → AllByRecursion (λ v. v ≤ greatest_value kind) values → first ≤ 4
 first_small kind values first wdl e small = first_small' values first e (subst (λ (k : Kind). AllByRecursion (λ v. v ≤ greatest_value k) values) wdl small)
 
--- no value is there
+-- an option that has no value is None
 pub none_of : {A : Type 0} (o : Option A) → ((x : A) → o ≡ Some x → ⊥) → o ≡ None
 none_of None h = refl
 none_of (Some x) h = absurd (h x refl)

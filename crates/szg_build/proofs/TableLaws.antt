@@ -1,4 +1,5 @@
--- A table of subtables that are built of lists: it passes the checks of a file, and has the plan's parts, flags and maps and the lists' values.
+-- A table of subtables that are built from lists: it passes the checks of a file, and has the plan's parts, flags
+-- and maps and the lists' values.
 use Rattle.std.proofs.Common.{ℕ, zero, suc, ◌≡◌, ◌+◌, ◌/◌, ◌%◌, ◌<◌, ◌^◌, Bool, true, false, List, [], ◌∷◌, ◌++◌, length, map, get_or, take, replicate, refl, sym, ap, subst, ◌∙◌, add-one, arith, inl, inr, Option, Some, None, Result, Err}
 use Rattle.std.specs.Prelude.{◌==◌, ◌&&◌, ◌⊎◌, not, nat_lt, nat_le, is_none, MatchOption, IfErr, IfNone, if◌then◌else◌, IfSome}
 use Rattle.std.specs.List.{AllByRecursion, list_all, zip}
@@ -90,7 +91,7 @@ parts_told material kind parts bytes e =
     sides_of_all (IsPart material kind) (part_numbers material) parts (sym (eqb-true (length parts) (length (part_numbers material)) halves.0))
     (all_both IsOfBytes (λ part. is_part material kind part ≡ true) (IsPart material kind) parts (λ part h k. part_told material kind part h k) bytes each)
 
--- valid parts give their sizes
+-- valid parts have sizes
 pub sizes_of_parts : (material : Sides) (kind : Kind) (parts : List Part) → SideBySide (λ _. IsPart material kind) (part_numbers material) parts →
     sizes_told material kind parts ≡ Some (map (λ slot. slot.size) (slots material kind parts))
 unfolding sizes_told
@@ -102,7 +103,7 @@ sizes_of_parts material kind parts h =
     let stands : has_parts material kind parts ≡ true = ap (λ (b : Bool). b && list_all (is_part material kind) parts) count ∙ each in
     ap (λ (b : Bool). if b then Some (map (λ slot. slot.size) (slots material kind parts)) else None) stands
 
--- where they don't, none are
+-- parts that are not valid have no sizes
 pub no_sizes : (material : Sides) (kind : Kind) (parts : List Part) → AllByRecursion IsOfBytes parts → ¬ SideBySide (λ _. IsPart material kind) (part_numbers material) parts →
     sizes_told material kind parts ≡ None
 unfolding sizes_told
@@ -133,7 +134,7 @@ built_more choice plan flags (v ∷ lists) [] values subtable h here = absurd h
 built_more choice plan [] (v ∷ lists) (s ∷ subtables) values subtable h here = (h.0, built_more choice plan [] lists subtables values subtable h.1 here)
 built_more choice plan (f ∷ flags) (v ∷ lists) (s ∷ subtables) values subtable h here = (h.0, built_more choice plan flags lists subtables values subtable h.1 here)
 
--- one more list of those that are lent
+-- one more of the borrowed lists
 pub built_next : {A : Type 0} (now : A → List ℕ) (choice : Choice) (plan : Plan) (flags : List ℕ) (lists : List A) (n : ℕ) (d : A) (subtables : List Subtable) (subtable : Subtable) (f : ℕ) → n < length lists →
     AreBuilt choice plan flags (map now (take n lists)) subtables → f ≡ get_or flags n 0 → IsBuiltSub plan.kind f (now (get_or lists n d)) choice subtable →
     AreBuilt choice plan flags (map now (take (n + 1) lists)) (subtables ++ subtable ∷ [])
@@ -148,7 +149,7 @@ built_next now choice plan flags lists n d subtables subtable f lt before same h
 pub lent_at : {A : Type 0} (P : List ℕ → Type 0) (now : A → List ℕ) (lists : List A) (n : ℕ) (d : A) → n < length lists → AllByRecursion P (map now lists) → P (now (get_or lists n d))
 lent_at P now lists n d lt h = All-get_or (λ x. P (now x)) lists n d lt (All-from_recursion (λ x. P (now x)) lists (all_held P now lists h))
 
--- a subtable built of a list, with some flags
+-- a subtable built from a list, with some flags
 abbrev IsOf : Choice → Plan → List ℕ → Subtable → Type 0
 IsOf choice plan values subtable = (flags : ℕ) × IsBuiltSub plan.kind flags values choice subtable
 
@@ -159,7 +160,7 @@ beside choice plan flags (v ∷ lists) [] h = absurd h
 beside choice plan [] (v ∷ lists) (s ∷ subtables) h = ((0, h.0), beside choice plan [] lists subtables h.1)
 beside choice plan (f ∷ flags) (v ∷ lists) (s ∷ subtables) h = ((f, h.0), beside choice plan flags lists subtables h.1)
 
--- sizes of slots that are the lengths of lists
+-- the sizes of the slots are the lengths of the lists
 abbrev AreSized : List Slot → List (List ℕ) → Type 0
 AreSized places lists = map (λ slot. slot.size) places ≡ map length lists
 
@@ -204,7 +205,7 @@ packed_stand choice plan (p ∷ places) (v ∷ lists) (s ∷ subtables) e h = (
   packed_stand choice plan places lists subtables (ap rest_of e) h.1,
 )
 
--- subtables that look as the rule says
+-- subtables that follow the builder's rule
 abbrev AreByRule : Kind → Choice → List (List ℕ) → List Subtable → Type 0
 AreByRule kind choice lists subtables = SideBySide (λ list subtable. IsByRule kind list choice subtable) lists subtables
 
@@ -336,7 +337,7 @@ small_flags Dtz material flags items e =
 abbrev pub flags_shown : Kind → List Subtable → List ℕ
 flags_shown kind subtables = elim kind [ Wdl ↦ [] | Dtz ↦ map (λ subtable. flags_of subtable % 32) subtables ]
 
--- flags and maps of a table of built subtables
+-- the flags and maps of a table whose subtables are built from lists
 pub maps_and_flags : (choice : Choice) (kind : Kind) (plan : Plan) (lists : List (List ℕ)) (subtables : List Subtable) → plan.kind ≡ kind → maps_pass kind plan.material plan.flags plan.maps ≡ true →
     AllByRecursion IsOfItems plan.maps → SideBySide (λ _. IsPart plan.material kind) (part_numbers plan.material) plan.parts →
     AreSized (slots plan.material kind plan.parts) lists → AreBuilt choice plan plan.flags lists subtables → AreMaps kind subtables plan.maps × (flags_shown kind subtables ≡ plan.flags)
@@ -356,7 +357,7 @@ maps_and_flags choice Dtz plan lists subtables is pass fit parts sized built =
 
 -- ---- the table
 
--- a table of a plan's parts, maps and last bytes, and of these subtables
+-- the table with a plan's parts, maps and last bytes, and these subtables
 abbrev pub table_with : Plan → ℕ → List Subtable → Contents
 table_with plan byte4 subtables = record {
   material = plan.material;
@@ -403,7 +404,7 @@ table_stands choice plan byte4 lists subtables small split pawns ruled last fit 
       };
     }
 
--- packed by the plan's numbers
+-- a table packed by the plan's numbers
 pub fixed_is_built : (plan : Plan) (lists : List (List ℕ)) (t : Contents) →
     IsBuiltBy (Fixed (record { block_bits = plan.block_bits; span_bits = plan.span_bits; rounds = plan.rounds })) plan lists t → IsBuilt plan lists t
 fixed_is_built plan lists t h = record {
@@ -418,7 +419,7 @@ fixed_is_built plan lists t h = record {
   values = h.values;
 }
 
--- packed by numbers that were chosen
+-- a table packed by numbers that the builder chose
 pub small_is_built : (plan : Plan) (lists : List (List ℕ)) (t : Contents) → IsBuiltBy Small plan lists t → IsBuiltSmall plan lists t
 small_is_built plan lists t h = record {
   material = h.material;
@@ -432,7 +433,7 @@ small_is_built plan lists t h = record {
   values = h.values;
 }
 
--- the same table, whose fields are copies
+-- the same table, with copies of the plan's fields
 pub table_copied : (choice : Choice) (plan : Plan) (lists : List (List ℕ)) (byte4 : ℕ) (subtables : List Subtable) (material : Sides) (parts : List Part) (items : List (Option Map)) (last : List ℕ) →
     material ≡ plan.material → parts ≡ plan.parts → items ≡ plan.maps → last ≡ plan.last → IsBuiltBare choice plan lists (table_with plan byte4 subtables) →
     IsBuiltBare choice plan lists (record { material = material; kind = plan.kind; byte4 = byte4; parts = parts; subtables = subtables; maps = items; last = last })
@@ -498,7 +499,7 @@ some_of f e = cc e
 same_of : (g f : BuildFault) → Some g ≡ Some f → g ≡ f
 same_of g f e = cc e
 
--- an answer that is the refusal, or that isn't one
+-- the result is the fault that is due
 pub refused_as : {A : Type 0} (r : Result A BuildFault) (o : Option BuildFault) (f : BuildFault) → o ≡ Some f → r ≡ Err f → MatchOption o (IfErr r (λ told. told ≡ fault.Memory)) (λ told. r ≡ Err told)
 refused_as r None f e h = absurd (some_of f e)
 refused_as r (Some g) f e h = h ∙ ap Err (sym (same_of g f e))
@@ -507,12 +508,12 @@ pub passed_as : {A : Type 0} (r : Result A BuildFault) (o : Option BuildFault) �
 passed_as r None e h = h
 passed_as r (Some g) e h = absurd (some_of g (sym e))
 
--- no fault is returned
+-- if there is no fault, the option is None
 pub no_fault : (o : Option BuildFault) → ((f : BuildFault) → o ≡ Some f → ⊥) → o ≡ None
 no_fault None h = refl
 no_fault (Some f) h = absurd (h f refl)
 
--- ---- parts that are lent
+-- ---- borrowed parts
 
 pub bytes_as : (lent held : List PartBytes) → lent ≡ held → AllByRecursion IsOfBytes (map part_of lent) → AllByRecursion IsOfBytes (map part_of held)
 bytes_as lent held e h = subst (λ (z : List PartBytes). AllByRecursion IsOfBytes (map part_of z)) e h

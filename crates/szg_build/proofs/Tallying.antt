@@ -1,16 +1,16 @@
--- How a body counts and replaces pairs symbol by symbol: a tally that is carried over the list, and a place in it.
+-- How the code counts and replaces a pair symbol by symbol: the state of a tally over the list.
 use Rattle.std.proofs.Common.{ℕ, suc, ◌≡◌, ◌+◌, Bool, true, false, List, [], ◌∷◌, ◌++◌, refl, sym, ap, ◌∙◌, arith, cond}
 use Rattle.std.specs.Prelude.{◌==◌, ◌&&◌}
 use Rattle.std.proofs.lemmas.Bool.{eq-eqb, eqb-true}
 use Rattle.szg_build.specs.Pairing.{pair_count}
 use Rattle.szg_build.proofs.PairingLaws.{pair_count-here, pair_count-later}
 
--- how often the pair was counted, and whether the symbol read last is a left one that is still free
+-- how often the pair was counted, and whether the symbol read last is a left one that waits for a right one
 pub record Tally : Type 0 where
   pub count : ℕ
   pub waits : Bool
 
--- one more symbol
+-- the tally after one more symbol
 abbrev pub tallied : ℕ → ℕ → Tally → ℕ → Tally
 tallied left right t s = cond (t.waits && (s == right)) (record { count = t.count + 1; waits = false }) (record { count = t.count; waits = s == left })
 
@@ -50,7 +50,7 @@ open_step left right n s symbols rest false h =
     let later : pair_count left right (left ∷ s ∷ symbols) ≡ pair_count left right (s ∷ symbols) = pair_count-later left right left s symbols (rw (eq-eqb left left refl, h) refl) in
     mutual_step left right n s symbols rest (s == left) refl ∙ ap (λ (z : ℕ). n + z) (sym later)
 
--- The tally counts the pairs, with a left symbol in front where it is waiting.
+-- The tally counts the pairs of the list, with a left symbol before it if the tally waits.
 tally-from : (left right : ℕ) (symbols : List ℕ) (n : ℕ) (waiting : Bool) → (tally left right (record { count = n; waits = waiting }) symbols).count ≡ n + pair_count left right (begun left waiting symbols)
 unfolding begun
 tally-from left right [] n true = omega arith
@@ -61,7 +61,7 @@ tally-from left right (s ∷ symbols) n false = mutual_step left right n s symbo
 abbrev pub none_yet : Tally
 none_yet = record { count = 0; waits = false }
 
--- Carried over a whole list it is the count of the pair.
+-- The tally over a whole list is the count of the pair.
 pub tally-pair_count : (left right : ℕ) (symbols : List ℕ) → (tally left right none_yet symbols).count ≡ pair_count left right symbols
 unfolding begun
 tally-pair_count left right symbols = let e : (tally left right none_yet symbols).count ≡ 0 + pair_count left right symbols = tally-from left right symbols 0 false in omega (arith, e)

@@ -20,6 +20,6 @@ pub entry-pair : (left right : ℕ) → left < 4096 → right < 4095 → is_leaf
 unfolding is_leaf
 entry-pair left right h lt = let e = entry-right left right h in ne_eqb (right_of (entry_of left right)) 4095 (λ same. absurd (omega (arith, e, same, lt)))
 
--- its bytes are bytes
+-- the three bytes of an entry are bytes
 pub entry_fits : (left right : ℕ) → left < 4096 → right < 4096 → (left % 256 < 256) × (left / 256 + 16 * (right % 16) < 256) × (right / 16 < 256)
 entry_fits left right h lt = (omega arith, omega (arith, h), omega (arith, lt))

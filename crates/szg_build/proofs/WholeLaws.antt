@@ -1,4 +1,4 @@
--- The subtables of a dump one after another, as they are read.
+-- Reading the subtables of a dump, one after another.
 use Rattle.std.proofs.Common.{◌≡◌, ℕ, suc, ◌<◌, ◌≤◌, List, [], ◌∷◌, ◌++◌, length, map, get_or, drop, drop-cons, drop_of_length-le, refl, sym, ap, subst, ◌∙◌, append_assoc, append-nil, option_map, Option, Some, None, Ok, Err}
 use Rattle.std.specs.Prelude.{Result, IfNone, IfSome, IsOk, OnOk}
 use Rattle.std.specs.List.{AllByRecursion}
@@ -71,7 +71,7 @@ same_dump material kind parts last subs read h =
 
 -- ---- one after another
 
--- what is left to be read from subtable s on, after these
+-- what is left to read from subtable s on, after these subtables
 abbrev pub subs_left : Form → Sides → Kind → List ℕ → List Part → List SubDump → ℕ → Lines Dump
 subs_left form material kind last parts read s =
     mapped (λ rest. dump_of_subs material kind parts last (read ++ rest)) (subs_text form kind (sizes_told material kind parts) s (drop s (places_of material kind)))

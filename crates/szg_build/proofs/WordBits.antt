@@ -1,4 +1,4 @@
--- Bits of words: whole bytes, and bits that wait.
+-- The bits of words: whole bytes, and bits that are not bytes yet.
 use Rattle.std.proofs.Common.{ℕ, ◌≡◌, ◌+◌, ◌-◌, ◌*◌, ◌/◌, ◌%◌, ◌^◌, ◌<◌, ◌≤◌, Bool, false, List, [], ◌++◌, length, replicate, refl, sym, ap, subst, ◌∙◌, arith, length-append, append_assoc, append-nil}
 use Rattle.std.specs.Int.{bytes_high_first}
 use Rattle.std.proofs.Math.Nat.{mul-le-mul_right, pow-le-pow_right, div-lt_iff_lt-mul}
@@ -21,7 +21,7 @@ length_held bytes count waiting =
     let c = length-bits_of_number count waiting in
     omega (arith, a, b, c)
 
--- the bits that wait and a word's make one number
+-- the waiting bits and the bits of a word, as one number
 pub joined_below : (count waiting length number : ℕ) → waiting < 2 ^ count → number < 2 ^ length → waiting * 2 ^ length + number < 2 ^ (count + length)
 joined_below count waiting length number small spelled =
     let p : 2 ^ (count + length) ≡ 2 ^ count * 2 ^ length = pow-add 2 count length in
@@ -38,13 +38,13 @@ joined_fits count waiting length number few short small spelled =
 pub shifted : (count waiting length : ℕ) → count < 32 → length ≤ 32 → waiting < 2 ^ count → waiting * 2 ^ length % 18446744073709551616 ≡ waiting * 2 ^ length
 shifted count waiting length few short small = shl_whole waiting count length 64 small (omega (arith, few, short))
 
--- a word more waits
+-- the bits after a word is added to those that wait
 pub held_more : (bytes : List ℕ) (count waiting length number : ℕ) → number < 2 ^ length → held bytes (count + length) (waiting * 2 ^ length + number) ≡ held bytes count waiting ++ bits_of_number length number
 held_more bytes count waiting length number spelled =
     ap (λ (z : List Bool). bits bytes ++ z) (bits_of_number-join count length waiting number spelled)
     ∙ sym (append_assoc (bits bytes) (bits_of_number count waiting) (bits_of_number length number))
 
--- four bytes are whole
+-- the bits after four bytes become whole
 pub held_four : (bytes after : List ℕ) (rest joined : ℕ) → after ≡ bytes ++ bytes_high_first 4 (joined / 2 ^ rest) → held after rest (joined % 2 ^ rest) ≡ held bytes (32 + rest) joined
 held_four bytes after rest joined e =
     ap (λ (z : List ℕ). bits z ++ bits_of_number rest (joined % 2 ^ rest)) e
@@ -60,7 +60,7 @@ whole_below count waiting length number rest small spelled same =
     let e : 2 ^ (count + length) ≡ 2 ^ 32 * 2 ^ rest = ap (λ (k : ℕ). 2 ^ k) same ∙ pow-add 2 32 rest in
     (div-lt_iff_lt-mul {k = 2 ^ rest} {x = waiting * 2 ^ length + number} {y = 2 ^ 32} (pow_pos rest)).1 (omega (arith, b, e))
 
--- the last bits, followed by zeros
+-- the waiting bits as four bytes, padded with zeros
 pub held_last : (bytes : List ℕ) (count waiting : ℕ) → count ≤ 32 → bits (bytes ++ bytes_high_first 4 (waiting * 2 ^ (32 - count))) ≡ held bytes count waiting ++ replicate (32 - count) false
 held_last bytes count waiting few =
     let all : count + (32 - count) ≡ 32 = omega (arith, few) in
@@ -77,7 +77,7 @@ held_last bytes count waiting few =
 spelled_as : (n v length number : ℕ) → n ≡ length → v ≡ number → number < 2 ^ length → v < 2 ^ n
 spelled_as n v length number same_length same_number spelled = subst (λ (k : ℕ). k < 2 ^ n) (sym same_number) (subst (λ (k : ℕ). number < 2 ^ k) (sym same_length) spelled)
 
--- a word more, where fewer than 32 bits wait then
+-- one more word, after which fewer than 32 bits wait
 pub waiting_more : (bytes : List ℕ) (count waiting n v length number : ℕ) → IsWaiting bytes count waiting → n ≡ length → v ≡ number → length ≤ 32 → number < 2 ^ length → count + n < 32 →
     IsWaiting bytes (count + n) (waiting * 2 ^ n % 18446744073709551616 + v)
 waiting_more bytes count waiting n v length number is same_length same_number short spelled few = record {
@@ -120,7 +120,7 @@ last_fits bytes count waiting is =
     let all : count + (32 - count) ≡ 32 = omega (arith, is.few) in
     subst (λ (k : ℕ). k < 2 ^ 32) (sym (last_is count waiting is.few is.small)) (subst (λ (k : ℕ). waiting * 2 ^ (32 - count) < 2 ^ k) all (shl_below waiting count (32 - count) is.small))
 
--- bytes that hold bits, followed by zeros, after others
+-- `after` is `packed` and then n bytes, which are the bits and zeros
 abbrev pub AreMoved : List ℕ → List ℕ → List Bool → ℕ → Type 0
 AreMoved packed after old n = (bytes : List ℕ) × (fill : ℕ) × (length bytes ≡ n) × (after ≡ packed ++ bytes) × (bits bytes ≡ old ++ replicate fill false)
 
@@ -138,7 +138,7 @@ moved bytes packed one two own last count waiting n old view is long same first 
       held_last bytes count waiting (omega (arith, is.few)) ∙ ap (λ (z : List Bool). z ++ replicate (32 - count) false) view,
     )
 
--- the bytes that the bits need, in fours
+-- the number of bytes for the bits, a multiple of four
 pub moved_few : (bytes : List ℕ) (count waiting : ℕ) (old : List Bool) → held bytes count waiting ≡ old → IsWaiting bytes count waiting → 0 < count → length bytes + 4 ≡ 4 * ((length old + 31) / 32)
 moved_few bytes count waiting old view is some =
     let long : length old ≡ 8 * length bytes + count = ap (λ (z : List Bool). length z) (sym view) ∙ length_held bytes count waiting in
@@ -149,7 +149,7 @@ moved_whole bytes count waiting old view is none =
     let long : length old ≡ 8 * length bytes + count = ap (λ (z : List Bool). length z) (sym view) ∙ length_held bytes count waiting in
     omega (arith, long, is.fours, none)
 
--- they fit a block that the bits fit
+-- if the bits fit a block, their bytes do
 pub block_holds : (b long n : ℕ) → 5 ≤ b → long ≤ 8 * 2 ^ b → n ≡ 4 * ((long + 31) / 32) → n ≤ 2 ^ b
 block_holds b long n least fits is =
     let five : 5 + (b - 5) ≡ b = omega (arith, least) in

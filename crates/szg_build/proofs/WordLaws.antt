@@ -1,4 +1,5 @@
--- A line of fixed words and values is cut into them, whatever words the values are; and no other text is.
+-- A line of fixed words and values is cut into these words, whatever words the values are; no other text is cut into
+-- them.
 use Rattle.std.proofs.Common.{◌≡◌, ℕ, zero, suc, Bool, true, false, List, [], ◌∷◌, ◌++◌, length, take, drop, get_or, Bor, refl, sym, ap, subst, ◌∙◌, arith, inl, inr, Option, Some, None}
 use Rattle.std.specs.Prelude.{◌==◌, ◌<◌, ◌+◌, MatchOption, bytes_eq, option_map, if◌then◌else◌}
 use Rattle.std.specs.List.{AllByRecursion, list_any}
@@ -85,7 +86,7 @@ value_part : (word : List ℕ) (pattern : List Word) (words : List (List ℕ)) (
 value_part word pattern words None h = tt
 value_part word pattern words (Some values) h = (ap (λ (z : List (List ℕ)). word ∷ z) h.0, omega (arith, h.1))
 
--- words that have the values are those of the pattern with them
+-- the words of a line that follows a pattern are those of the pattern with the line's values
 found_filled : (pattern : List Word) (words : List (List ℕ)) → AreValues pattern words (values_in pattern words)
 found_filled [] [] = (refl, refl)
 found_filled [] (word ∷ words) = tt
@@ -171,7 +172,7 @@ same_behind : (front xs ys : List ℕ) → front ++ xs ≡ front ++ ys → xs �
 same_behind [] xs ys e = e
 same_behind (x ∷ front) xs ys e = let inner : front ++ xs ≡ front ++ ys = cc e in same_behind front xs ys inner
 
--- what follows `front` is not one word
+-- there is not just one word after `front`
 pub no_word : (front text rest : List ℕ) → text ≡ front ++ rest → list_any (λ byte. byte == 32) rest ≡ true → (word : List ℕ) → IsWord word → text ≡ front ++ word → ⊥
 no_word front text rest e space word h e' =
     let same : rest ≡ word = same_behind front rest word (sym e ∙ e') in
@@ -201,14 +202,14 @@ same_split (c ∷ a) (d ∷ b) x y h h' e =
     let inner : a ++ 32 ∷ x ≡ b ++ 32 ∷ y = cc e in
     same_split a b x y (or_parts (c == 32) (list_any (λ k. k == 32) a) h).1 (or_parts (d == 32) (list_any (λ k. k == 32) b) h').1 inner
 
--- no second word after the first one
+-- there is no second word after the first
 pub no_second_word : (front middle text behind first last : List ℕ) → text ≡ front ++ behind → IsWord first → behind ≡ first ++ 32 ∷ last →
     ((word : List ℕ) → IsWord word → last ≡ middle ++ word → ⊥) → (a b : List ℕ) → IsWord a → IsWord b → text ≡ front ++ (a ++ 32 ∷ (middle ++ b)) → ⊥
 no_second_word front middle text behind first last e h e' never a b ha hb same =
     let rest : behind ≡ a ++ 32 ∷ (middle ++ b) = same_behind front behind (a ++ 32 ∷ (middle ++ b)) (sym e ∙ same) in
     never b hb (same_split first a last (middle ++ b) h ha (sym e' ∙ rest))
 
--- no space after `front`
+-- there is no space after `front`
 pub no_first_word : (front middle text behind : List ℕ) → text ≡ front ++ behind → ((word : List ℕ) → (rest : List ℕ) → behind ≡ word ++ 32 ∷ rest → ⊥) →
     (a b : List ℕ) → IsWord a → IsWord b → text ≡ front ++ (a ++ 32 ∷ (middle ++ b)) → ⊥
 no_first_word front middle text behind e never a b ha hb same = never a (middle ++ b) (same_behind front behind (a ++ 32 ∷ (middle ++ b)) (sym e ∙ same))

@@ -1,4 +1,4 @@
--- Writers compose: what two calls write one after another is their texts, one after another.
+-- Writers compose: two calls one after another write the first text and then the second.
 use Rattle.std.proofs.Common.{◌≡◌, ℕ, zero, suc, add-one, get_or, ◌+◌, ◌/◌, ◌%◌, ◌<◌, ◌≤◌, false, List, [], ◌∷◌, ◌++◌, length, take, drop, map, min, refl, sym, ap, subst, ◌∙◌, append_assoc, append-nil, arith, inl, inr, Option, None, option_map}
 use Rattle.std.specs.Prelude.{Result, Ok, Err, OnOk, OnErr, IfErr, ◌⊎◌, ◌==◌, slice_index, codes}
 use Rattle.std.specs.List.{flat_map, range_with_len}
@@ -64,7 +64,7 @@ Answer-then : {Y : Type 0} (s t : List ℕ) (o m n : Outgoing) (fs fs' row : ℕ
 Answer-then s t o m n fs fs' row x y (Ok v) first h = (Writes-then s t o m n x y first h.0, h.1)
 Answer-then s t o m n fs fs' row x y (Err fault) first h = (Writes-stops s t o m fault.out x y first h.0, h.1)
 
--- One writer after another that wrote its text.
+-- A writer after one that wrote its text.
 pub writes_then : {X Y W : Type 0} (s t : List ℕ) {o m n : Outgoing}
     {dev : Ghosts W} {i j k : W} (v : X) {r : Result Y WriteFault} →
     Writing s o m dev i j (Ok v) →
@@ -79,7 +79,7 @@ writes_then s t {o = o} {m = m} {n = n} {dev = dev} {i = i} {j = j} {k = k} v {r
           (subst (λ (fs : ℕ). Answer t m n fs (dev.failures k) (dev.interrupted k) second.bytes r) same second.answer);
     }
 
--- A writer's fault ends the whole.
+-- A writer's fault is the fault of the whole.
 pub writes_stopped : {X Y W : Type 0} (s t : List ℕ) {o n n' : Outgoing}
     {dev : Ghosts W} {i k : W} (fault : WriteFault) →
     Writing {X = X} s o n dev i k (Err fault) →
@@ -90,7 +90,7 @@ writes_stopped s t {o = o} fault h = record {
   answer = (Stops-first s t o fault.out h.bytes h.answer.0, h.answer.1);
 }
 
--- A text that is held: no call is made.
+-- A text that is buffered takes no call.
 pub writes_held : {X W : Type 0} (x : X) (text : List ℕ) (o n : Outgoing)
     {dev : Ghosts W} {i : W} →
     n.out ≡ o.out → n.held.items ≡ o.held.items ++ text →
@@ -107,11 +107,11 @@ writes_held x text o n {dev = dev} {i = i} out held = record {
   );
 }
 
--- No text is written by no call.
+-- An empty text takes no call.
 pub writes_nothing : {X W : Type 0} (x : X) {o : Outgoing} {dev : Ghosts W} {i : W} → Writing [] o o dev i i (Ok x)
 writes_nothing x {o = o} = writes_held x [] o o refl (sym (append-nil o.held.items))
 
--- A fault while it is given.
+-- A fault while the buffer is written.
 pub writes_held_stopped : {X W : Type 0} (o n : Outgoing)
     {dev : Ghosts W} {i k : W} (piece : List ℕ) (count : ℕ) (fault : WriteFault) → piece ≡ o.held.items →
     count < length piece → fault.out ≡ told (o.out + count) →
@@ -132,7 +132,7 @@ writes_held_stopped o n {dev = dev} {i = i} {k = k} piece count fault held at ou
   );
 }
 
--- The same text, in another form.
+-- Writing an equal text.
 pub writes_as : {X W : Type 0} {s t : List ℕ} {o n : Outgoing}
     {dev : Ghosts W} {i k : W} {r : Result X WriteFault} → s ≡ t →
     Writing t o n dev i k r →
@@ -303,7 +303,7 @@ pub writes_beside_all : {A B W : Type 0} (f : A → B → List (List (List ℕ))
     Writing {X = Unit {0}} (lines_text (flat_map_beside f xs ys)) o n dev i k (Ok tt)
 writes_beside_all f xs ys at h first = writes_as (ap lines_text (sym (beside_all f xs ys at h))) first
 
--- ---- items by their place
+-- ---- items by their indexes
 
 pub mapped_item : {A B : Type 0} (xs : List A) (f : A → B) (i : ℕ) (x : A) (d : B) → i < length xs → x ≡ get_or xs i x → get_or (map f xs) i d ≡ f x
 mapped_item [] f i x d h e = absurd (omega (arith, h))
@@ -398,7 +398,7 @@ part_told part parts numbers count n x same few there is =
       ap (λ z. lines_text (part_lines z (get_or (map part parts) n (part x)))) here.1 ∙ ap (λ z. lines_text (part_lines n z)) (mapped_item parts part n x (part x) there is),
     )
 
--- ---- the front
+-- ---- the lines before the subtables
 
 pub front_apart : (form : Form) (material : Sides) (kind : Kind) (last : List ℕ) → lines_text (front_lines form material kind last) ≡
     line_text (codes "szg-dump" ∷ decimal (form_number form) ∷ [])
@@ -460,7 +460,7 @@ runs_done values done from le h =
     let none : drop from values ≡ [] = drop_all from values le in
     sym (append-nil done) ∙ ap (λ (z : List ℕ). done ++ runs_of z) (sym none) ∙ h
 
--- ---- the whole
+-- ---- the whole text
 
 pub dump_apart : (form : Form) (dump : Dump) → dump_text form dump ≡
     lines_text (front_lines form dump.material dump.kind dump.last)
@@ -473,7 +473,7 @@ dump_apart form dump =
     let subs = flat_map_beside (sub_lines form dump.kind) (places_of dump.material dump.kind) (subs_of dump.kind dump.flags dump.maps dump.lists) in
     lines-append (front ++ parts) subs ∙ ap (λ (z : List ℕ). z ++ lines_text subs) (lines-append front parts) ∙ append_assoc (lines_text front) (lines_text parts) (lines_text subs)
 
--- What went out of a dump that was written whole, or up to a fault.
+-- What was written of a dump, if it was written whole and if not.
 pub whole_text : {X W : Type 0} (text : List ℕ) {o n : Outgoing} {dev : Ghosts W} {i k : W} (x : X) → o.held.items ≡ [] → n.held.items ≡ [] →
     Writing text o n dev i k (Ok x) → Gives dev i k text 0
 whole_text text {dev = dev} {i = i} {k = k} x none last h =
@@ -491,7 +491,7 @@ cut_text text {dev = dev} {i = i} {k = k} fault none zeroed h =
     let front : take (length h.bytes) text ≡ h.bytes = ap (λ (z : List ℕ). take (length h.bytes) z) (sym e) ∙ take-append_seam h.bytes stops.rest in
     (length h.bytes, omega (arith, more, length-append h.bytes stops.rest, ap length e), counted ∙ ap told same, subst (λ (z : List ℕ). Gives dev i k z 1) (sym front) h.given)
 
--- The same of an answer.
+-- The same for a result that may be a fault.
 pub whole_answer : {W : Type 0} (text : List ℕ) {o n : Outgoing} {dev : Ghosts W} {i k : W} (r : Result (Unit {0}) WriteFault) → o.held.items ≡ [] → OnOk r (n.held.items ≡ []) →
     Writing text o n dev i k r → OnOk r (Gives dev i k text 0)
 whole_answer text (Ok x) none last h = whole_text text x none last h

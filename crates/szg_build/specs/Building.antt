@@ -1,4 +1,4 @@
--- What the steps of the builder hand on to one another.
+-- What the steps of the builder pass on to one another.
 use Rattle.std.specs.Prelude.{ℕ, suc, ◌≡◌, ◌+◌, ◌-◌, ◌*◌, ◌/◌, ◌%◌, ◌^◌, ◌<◌, ◌≤◌, ◌==◌, Bool, false, IfSome, List, [], ◌∷◌, ◌++◌, length, map, take, drop, nat_lt, if◌then◌else◌, Option, Some, None, slice_get, slice_index, slice_index_or}
 use Rattle.std.specs.List.{AllByRecursion, concat, list_any}
 use Rattle.szg_pairs.specs.Dictionary.{IsDictionary}
@@ -25,7 +25,7 @@ use Rattle.szg_build.specs.Pairing.{pair_count, values_of, pairs_in, IsUsed, IsF
 
 -- ---- pairs
 
--- the three bytes of an entry: the two numbers of twelve bits each
+-- the three bytes of an entry, from its two numbers of twelve bits
 abbrev pub entry_of : ℕ → ℕ → List ℕ
 entry_of left right = (left % 256) ∷ (left / 256 + 16 * (right % 16)) ∷ (right / 16) ∷ []
 
@@ -34,24 +34,24 @@ pub record AreLens (entries : List (List ℕ)) (lens : List ℕ) : Type 0 where
   pub count : length lens ≡ length entries
   pub each : (s : ℕ) → s < length entries → slice_index lens s ≡ length (expansion_of entries s)
 
--- the values of a list from an offset on begin with those of a symbol
+-- the values from an offset on begin with those of a symbol
 pub record IsSymbolAt (entries : List (List ℕ)) (values : List ℕ) (symbol offset : ℕ) : Type 0 where
   pub inside : offset + length (expansion_of entries symbol) ≤ length values
   pub same : take (length (expansion_of entries symbol)) (drop offset values) ≡ expansion_of entries symbol
 
--- a pair of two symbols of the dictionary that together have at most 256 values and are neighbours somewhere
+-- two symbols of the dictionary that together have at most 256 values, and occur next to each other
 pub record IsCandidate (lens symbols : List ℕ) (left right : ℕ) : Type 0 where
   pub left_there : left < length lens
   pub right_there : right < length lens
   pub short : slice_index lens left + slice_index lens right ≤ 256
   pub some : 0 < pair_count left right symbols
 
--- for each value up to 4,095 whether the list has it
+-- for each value up to 4,095, whether the list has it
 pub record AreMarks (values : List ℕ) (marks : List Bool) : Type 0 where
   pub count : length marks ≡ 4096
   pub each : (value : ℕ) → value < 4096 → slice_index_or marks value false ≡ list_any (λ v. v == value) values
 
--- for each value up to 4,095 how many smaller ones the list has: the number of its symbol
+-- for each value up to 4,095, the number of its symbol: how many smaller values the list has
 pub record AreNumbered (values numbers : List ℕ) : Type 0 where
   pub count : length numbers ≡ 4096
   pub each : (value : ℕ) → value < 4096 → slice_index numbers value ≡ length (values_below value values)
@@ -60,8 +60,8 @@ pub record AreNumbered (values numbers : List ℕ) : Type 0 where
 abbrev pub leaves_below : ℕ → List ℕ → List (List ℕ)
 leaves_below bound values = map (λ value. entry_of value 4095) (values_below bound values)
 
--- a dictionary with a leaf for each different value, and a list of symbols that expands to these values, after
--- `done` rounds
+-- after `done` rounds: a dictionary with a leaf for each different value, and a list of symbols that expands to the
+-- values
 pub record IsRound (values : List ℕ) (done : ℕ) (entries : List (List ℕ)) (symbols : List ℕ) : Type 0 where
   pub dictionary : IsDictionary entries
   pub triples : AllByRecursion (AreBytes 3) entries
@@ -72,7 +72,7 @@ pub record IsRound (values : List ℕ) (done : ℕ) (entries : List (List ℕ)) 
   pub pairs : length (pairs_in entries) ≡ done
   pub leaves : length entries ≡ length (different_values values) + done
 
--- the last round: no more pairs are to be made
+-- after the last round: no more pairs are to be made
 pub record IsPairing (values : List ℕ) (rounds : ℕ) (entries : List (List ℕ)) (symbols : List ℕ) : Type 0 where
   pub done : ℕ
   pub round : IsRound values done entries symbols
@@ -90,20 +90,20 @@ pub record IsChosen (count : ℕ) (code : CanonicalCode) : Type 0 where
 
 -- ---- blocks
 
--- whole bytes, four at a time, and fewer than 32 bits that wait
+-- whole bytes, four at a time, and fewer than 32 bits that are not bytes yet
 pub record IsWaiting (bytes : List ℕ) (count waiting : ℕ) : Type 0 where
   pub few : count < 32
   pub small : waiting < 2 ^ count
   pub fours : length bytes ≡ 4 * (length bytes / 4)
 
--- The blocks from the j-th on are packed with these lists: each block's bits begin with the words of its list, and
--- its length is the number of values of the list.
+-- The blocks from the j-th on are filled with these lists of symbols: the bits of each block begin with the words of
+-- its list, and its length is the number of values of the list, less one.
 pub data AreFilled (layout : Layout) (packed : List ℕ) : ℕ → List (List ℕ) → Type 0 where
   end : {j : ℕ} → j ≡ layout.blocks → AreFilled layout packed j []
   next : {j : ℕ} {symbols : List ℕ} {lists : List (List ℕ)} → j < layout.blocks → Spells layout.code (bits (block_at layout.block_bits packed j)) symbols →
       slice_index layout.lengths j + 1 ≡ length (values_of layout.entries symbols) → AreFilled layout packed (suc j) lists → AreFilled layout packed j (symbols ∷ lists)
 
--- a subtable's parts before its sparse index is there
+-- the layout of a subtable that has no sparse index yet
 abbrev pub blocks_layout : ℕ → CanonicalCode → List (List ℕ) → ℕ → List ℕ → Layout
 blocks_layout block_bits code entries blocks lengths = record {
   block_bits = block_bits;
@@ -116,14 +116,14 @@ blocks_layout block_bits code entries blocks lengths = record {
   lengths = lengths;
 }
 
--- a block whose bits begin with words
+-- a block whose bits begin with these words, followed by zeros
 pub record IsBlockOf (block_bits : ℕ) (words : List Bool) (block : List ℕ) : Type 0 where
   pub size : length block ≡ 2 ^ block_bits
   pub rest : List Bool
   pub joined : bits block ≡ words ++ rest
 
--- Symbols fill closed blocks and begin another: its words so far, and their number of values. Each closed block has
--- at least four symbols.
+-- Symbols fill whole blocks and begin another one, of which `words` are the words so far and `values` is the number
+-- of values. Each whole block has at least four symbols.
 pub record IsFilling (code : CanonicalCode) (entries : List (List ℕ)) (block_bits : ℕ) (symbols lengths packed : List ℕ) (words : List Bool) (values : ℕ) : Type 0 where
   pub lists : List (List ℕ)
   pub current : List ℕ
@@ -139,8 +139,8 @@ pub record IsFilling (code : CanonicalCode) (entries : List (List ℕ)) (block_b
   pub some : length current ≤ values
   pub many : 4 * length lengths ≤ length (concat lists)
 
--- The symbols, divided into lists, fill `blocks` blocks; each length is valid, each block is whole, and the number
--- of blocks fits 32 bits.
+-- Lists into which the symbols are divided fill `blocks` blocks. Each length is valid, each block is whole, and the
+-- number of blocks fits 32 bits.
 pub record IsCut (code : CanonicalCode) (entries : List (List ℕ)) (block_bits : ℕ) (symbols : List ℕ) (blocks : ℕ) (lengths packed : List ℕ) : Type 0 where
   pub lists : List (List ℕ)
   pub joined : concat lists ≡ symbols
@@ -152,24 +152,24 @@ pub record IsCut (code : CanonicalCode) (entries : List (List ℕ)) (block_bits 
 
 -- ---- the sparse index
 
--- the entry leads to the middle of span j: to the block that holds it, or else past the last block
+-- the entry leads to the middle of span j: in the block that contains it, or past the last block
 pub record IsEntryOf (lengths : List ℕ) (span_bits j : ℕ) (entry : SparseEntry) : Type 0 where
   pub block : entry.block ≤ length lengths
   pub place : start lengths entry.block + entry.offset ≡ middle_of_span span_bits j
   pub inside : middle_of_span span_bits j < start lengths (length lengths) → (entry.block < length lengths) × (middle_of_span span_bits j < start lengths (entry.block + 1))
   pub beyond : start lengths (length lengths) ≤ middle_of_span span_bits j → entry.block ≡ length lengths
 
--- entries of these lengths' spans, which fit their fields
+-- each entry leads to the middle of its span, and fits its fields
 pub record IsIndexOf (lengths : List ℕ) (span_bits : ℕ) (sparse : List SparseEntry) : Type 0 where
   pub good : (j : ℕ) (entry : SparseEntry) → slice_get sparse j ≡ Some entry → IsEntryOf lengths span_bits j entry
   pub fit : AllByRecursion IsEntry sparse
 
--- the extra lengths that a last entry needs
+-- the extra lengths that the last entry requires
 abbrev pub extras_for : ℕ → Option SparseEntry → List ℕ
 extras_for blocks None = []
 extras_for blocks (Some entry) = if nat_lt entry.block blocks then [] else 65535 ∷ []
 
--- after the lengths follow those that the last entry needs, `extra` in number
+-- `after` are the lengths and then the extra ones that the last entry requires, `extra` of them
 abbrev pub IsExtended : List SparseEntry → List ℕ → List ℕ → ℕ → Type 0
 IsExtended sparse lengths after extra =
     (extra ≡ length (extras_for (length lengths) (slice_get sparse (length sparse - 1))))
@@ -177,8 +177,8 @@ IsExtended sparse lengths after extra =
 
 -- ---- a subtable
 
--- A subtable's header and lists, made of values by the steps above; after the lengths of the blocks follow at most
--- 255 more.
+-- A subtable's header and lists, made from values by the steps above. After the lengths of the blocks there are at
+-- most 255 extra ones.
 pub record IsMade (values : List ℕ) (flags block_bits span_bits rounds : ℕ) (head : Head) (sparse : List SparseEntry) (lengths packed : List ℕ) : Type 0 where
   pub symbols : List ℕ
   pub own : List ℕ
@@ -200,7 +200,7 @@ abbrev pub IsMadeSub : List ℕ → ℕ → ℕ → ℕ → ℕ → Subtable →
 IsMadeSub values flags block_bits span_bits rounds (constant _ byte) = ⊥
 IsMadeSub values flags block_bits span_bits rounds (pairs head sparse lengths packed) = IsMade values flags block_bits span_bits rounds head sparse lengths packed
 
--- the same, by some numbers in their ranges
+-- a subtable made from values with some block bits and span bits in their ranges, and some number of rounds
 pub record IsMadeSmall (values : List ℕ) (flags : ℕ) (subtable : Subtable) : Type 0 where
   pub block_bits : ℕ
   pub span_bits : ℕ
@@ -216,25 +216,26 @@ abbrev pub IsInBounds : Choice → Type 0
 IsInBounds (Fixed packing) = (5 ≤ packing.block_bits) × (packing.block_bits ≤ 10) × (1 ≤ packing.span_bits) × (packing.span_bits ≤ 16) × (packing.rounds ≤ 4000)
 IsInBounds Small = Unit {0}
 
--- what isn't constant is packed by the numbers of a choice, or by some where it has none
+-- a subtable that is not constant is packed by the numbers of a choice; for a small one only the pairs are
+-- restricted
 abbrev pub IsPackedBy : Choice → Layout → List ℕ → ℕ → Type 0
 IsPackedBy (Fixed packing) layout packed size =
     (layout.block_bits ≡ packing.block_bits) × (layout.span_bits ≡ packing.span_bits) × IsPaired layout packed size packing.rounds
 IsPackedBy Small layout packed size = (rounds : ℕ) × IsPaired layout packed size rounds
 
--- the code is the rule's, if the block bits and the span bits are chosen by a plan
+-- with fixed numbers the code is that of the builder's rule
 abbrev pub IsCodedBy : Choice → Subtable → Type 0
 IsCodedBy (Fixed packing) subtable = HasTruncatedBinary subtable
 IsCodedBy Small subtable = Unit {0}
 
--- a subtable that looks as the rule says
+-- a subtable that follows the builder's rule
 pub record IsByRule (kind : Kind) (values : List ℕ) (choice : Choice) (subtable : Subtable) : Type 0 where
   pub constants : constant_in subtable ≡ constant_for kind values
   pub codes : IsCodedBy choice subtable
   pub index : HasSpanIndex (length values) subtable
 
--- A subtable of a list of values: it passes the checks of a file, and expands to the values; its flags byte has these
--- flags; if it isn't constant it is packed as chosen; and it looks as the rule says.
+-- A subtable built from a list of values: it passes the checks of a file, it expands to the values, its flags byte
+-- has these flags, it is packed as chosen if it is not constant, and it follows the builder's rule.
 pub record IsBuiltSub (kind : Kind) (flags : ℕ) (values : List ℕ) (choice : Choice) (subtable : Subtable) : Type 0 where
   pub stands : (slot : Slot) → slot.size ≡ length values → IsSubtable slot subtable
   pub expands : values_in kind (length values) subtable ≡ values

@@ -1,4 +1,4 @@
--- What a built table is: the plan's, with the values handed in. The dump of a table.
+-- What a built table is: it has the plan's fields, and the values passed to the builder. The dump of a table.
 use Rattle.std.specs.Prelude.{◌≡◌, ℕ, ◌+◌, ◌%◌, List, [], ◌∷◌, map, Option, Some, None, IfSome}
 use Rattle.std.specs.List.{AllByRecursion}
 use Rattle.szg_values.specs.declared.Kind.TheVariants.{Wdl, Dtz}
@@ -10,12 +10,12 @@ use Rattle.szg_build.specs.Plan.{Plan}
 use Rattle.szg_build.specs.Pairing.{IsPaired}
 use Rattle.szg_build.specs.Dump.{Dump}
 
--- what a subtable that isn't constant consists of, beside its blocks
+-- the layout of a subtable that is not constant
 abbrev pub layout_in : Subtable → Option Layout
 layout_in (constant flags byte) = None
 layout_in (pairs head sparse lengths packed) = Some (layout_of head sparse lengths)
 
--- its blocks, one after another
+-- the blocks of a subtable, one after another
 abbrev pub packed_in : Subtable → List ℕ
 packed_in (constant flags byte) = []
 packed_in (pairs head sparse lengths packed) = packed
@@ -28,23 +28,24 @@ subtables_in t = slotted (slots t.material t.kind t.parts) t.subtables
 abbrev pub value_lists : Contents → List (List ℕ)
 value_lists t = map (values_of t.kind) (subtables_in t)
 
--- the flags of a DTZ table's parts without the one that says constant; a WDL table has none
+-- the flags of a DTZ table's parts, without flag 128 (constant); a WDL table has none
 abbrev pub plan_flags : Contents → List ℕ
 plan_flags t = elim t.kind [ Wdl ↦ [] | Dtz ↦ map (λ subtable. flags_of subtable % 32) t.subtables ]
 
--- the flags byte of a subtable with these flags: 128 more exactly where it is constant
+-- the flags byte of a subtable with these flags: plus 128 if it is constant
 abbrev pub flags_byte : ℕ → Subtable → ℕ
 flags_byte flags (constant _ byte) = flags + 128
 flags_byte flags (pairs head sparse lengths packed) = flags
 
--- the flags bytes of subtables, one after another; where the flags end, as in WDL from the first on, the flags are
--- 0
+-- the flags bytes of subtables, one after another; where there are no more flags, as in WDL from the first subtable
+-- on, the flags are 0
 abbrev pub flags_bytes : List ℕ → List Subtable → List ℕ
 flags_bytes flags [] = []
 flags_bytes [] (subtable ∷ subtables) = flags_byte 0 subtable ∷ flags_bytes [] subtables
 flags_bytes (first ∷ flags) (subtable ∷ subtables) = flags_byte first subtable ∷ flags_bytes flags subtables
 
--- a subtable that isn't constant has the plan's block bits and span bits, and pairs as the plan's rounds leave them
+-- a subtable that is not constant has the plan's block bits and span bits, and its pairs are those of the plan's
+-- rounds
 abbrev pub IsPacked : Plan → Slot × Subtable → Type 0
 IsPacked plan pair = IfSome (layout_in pair.1) (λ layout.
     (layout.block_bits ≡ plan.block_bits) × (layout.span_bits ≡ plan.span_bits)
@@ -61,11 +62,11 @@ pub record IsBuilt (plan : Plan) (lists : List (List ℕ)) (t : Contents) : Type
   pub packed : AllByRecursion (IsPacked plan) (subtables_in t)
   pub values : value_lists t ≡ lists
 
--- a subtable that isn't constant has pairs as some rounds leave them
+-- a subtable that is not constant has the pairs of some number of rounds
 abbrev pub IsSmallPacked : Slot × Subtable → Type 0
 IsSmallPacked pair = IfSome (layout_in pair.1) (λ layout. (rounds : ℕ) × IsPaired layout (packed_in pair.1) pair.0.size rounds)
 
--- a built table whose subtables are packed by numbers that the builder chose; the plan's own bind nothing
+-- a built table whose subtables are packed by numbers that the builder chose; those of the plan do not matter
 pub record IsBuiltSmall (plan : Plan) (lists : List (List ℕ)) (t : Contents) : Type 0 where
   pub material : t.material ≡ plan.material
   pub kind : t.kind ≡ plan.kind
@@ -77,7 +78,7 @@ pub record IsBuiltSmall (plan : Plan) (lists : List (List ℕ)) (t : Contents) :
   pub packed : AllByRecursion IsSmallPacked (subtables_in t)
   pub values : value_lists t ≡ lists
 
--- the dump has the content of this table
+-- the dump has the content of a table
 pub record IsDumpOf (dump : Dump) (t : Contents) : Type 0 where
   pub material : t.material ≡ dump.material
   pub kind : t.kind ≡ dump.kind
@@ -87,7 +88,7 @@ pub record IsDumpOf (dump : Dump) (t : Contents) : Type 0 where
   pub last : t.last ≡ dump.last
   pub values : value_lists t ≡ dump.lists
 
--- the plan by which a dump is built again
+-- the plan from which the table of a dump is built again
 abbrev pub dump_plan : Dump → ℕ → ℕ → ℕ → Plan
 dump_plan dump block_bits span_bits rounds = record {
   material = dump.material;

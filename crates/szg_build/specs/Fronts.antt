@@ -12,7 +12,7 @@ use Rattle.szg_build.specs.Lines.{Lines, means, refuses, line, words_of}
 use Rattle.szg_build.specs.Reading.{ReadsLines}
 use Rattle.szg_build.specs.Grammar.{Word, fixed, value, line_of}
 
--- there is no space in it
+-- a text without a space
 abbrev pub IsWord : List ℕ → Type 0
 IsWord word = list_any (λ byte. byte == 32) word ≡ false
 
@@ -22,43 +22,43 @@ HasFixedWords [] = Unit {0}
 HasFixedWords (fixed text ∷ pattern) = IsWord text × HasFixedWords pattern
 HasFixedWords (value ∷ pattern) = HasFixedWords pattern
 
--- the number of words of a pattern that are values
+-- the number of a pattern's words that are values
 abbrev pub value_count : List Word → ℕ
 value_count [] = 0
 value_count (fixed text ∷ pattern) = value_count pattern
 value_count (value ∷ pattern) = suc (value_count pattern)
 
--- the words of a line with these values
+-- the words of a pattern with these values in it
 abbrev pub filled : List Word → List (List ℕ) → List (List ℕ)
 filled [] values = []
 filled (fixed text ∷ pattern) values = text ∷ filled pattern values
 filled (value ∷ pattern) [] = [] ∷ filled pattern []
 filled (value ∷ pattern) (word ∷ values) = word ∷ filled pattern values
 
--- a line of this pattern is these bytes and one value
+-- the text of a line of this pattern is `front` and one value
 pub record IsFront (pattern : List Word) (front : List ℕ) : Type 0 where
   pub words : HasFixedWords pattern
   pub one : value_count pattern ≡ 1
   pub text : (word : List ℕ) → spaced (filled pattern (word ∷ [])) ≡ front ++ word
 
--- a line of this pattern is these bytes, a value, a space, the middle bytes and another value
+-- the text of a line of this pattern is `front`, a value, a space, `middle` and another value
 pub record IsPair (pattern : List Word) (front middle : List ℕ) : Type 0 where
   pub words : HasFixedWords pattern
   pub two : value_count pattern ≡ 2
   pub text : (first second : List ℕ) → spaced (filled pattern (first ∷ second ∷ [])) ≡ front ++ (first ++ 32 ∷ (middle ++ second))
 
--- what a line says by its words
+-- what comes next, by the words of a line
 abbrev pub said : {A : Type 0} → Lines A → List (List ℕ) → Lines A
 said (line next) words = next words
 said (means a) words = means a
 said (refuses why) words = refuses why
 
--- what the words of a line say is answered with the line's number
+-- the result of parsing a line, with the line's number in the error
 abbrev pub in_line : {X : Type 0} → ℕ → Result X DumpFault → Result X DumpReadFault
 in_line number (Ok x) = Ok x
 in_line number (Err fault) = Err (Line number fault)
 
--- A line was read, and the result is its parse; or no line was read.
+-- A line was read, and the result is what `tells` says of its text; or no line was read.
 abbrev pub TellsLine : {T R : Type 0} → (List ℕ → Result T DumpFault → Type 0) → Incoming → Incoming → Ghosts R → R → R → Result T DumpReadFault → Type 0
 TellsLine {T = T} tells old new dev input input' result =
     ((text : List ℕ) × (told : Result T DumpFault) × tells text told × ReadsLines (line means) words_of old new dev input input' (Ok text) × (result ≡ in_line new.line told))

@@ -1,4 +1,4 @@
--- The text of a dump as it is read, line after line, with the refusals.
+-- The grammar of a dump's text, line after line, with the refusals.
 use Rattle.std.specs.Prelude.{bytes_eq, ℕ, zero, suc, ◌+◌, ◌-◌, ◌*◌, ◌^◌, ◌==◌, ◌&&◌, nat_lt, nat_le, Bool, true, false, List, [], ◌∷◌, ◌++◌, length, replicate, get_or, Option, Some, None, Result, Ok, Err, option_map, codes, slice_index, if◌then◌else◌}
 use Rattle.std.specs.Fmt.{decimal}
 use Rattle.std.specs.Str.Parse.{digits_value}
@@ -19,15 +19,15 @@ use Rattle.szg_build.specs.Lines.{Lines, means, refuses, line, of_line, of_plan,
 
 -- ---- words
 
--- the number up to the limit whose decimal text the word is
+-- the number whose decimal text the word is, if it is at most the limit
 abbrev pub number_in : ℕ → List ℕ → Option ℕ
 number_in limit word = if bytes_eq (decimal (digits_value 10 word)) word && nat_le (digits_value 10 word) limit then Some (digits_value 10 word) else None
 
--- the number of a lower-case digit
+-- the value of a lower-case digit
 abbrev pub digit_number : ℕ → ℕ
 digit_number digit = if nat_lt digit 97 then digit - 48 else digit - 87
 
--- two digits make a byte
+-- each two digits make a byte
 abbrev pub digit_bytes : List ℕ → List ℕ
 digit_bytes (high ∷ low ∷ digits) = (16 * digit_number high + digit_number low) ∷ digit_bytes digits
 digit_bytes _ = []
@@ -43,23 +43,23 @@ pub data Word : Type 0 where
   fixed : List ℕ → Word
   value : Word
 
--- the words that are values, if the line has these words
+-- the values of a line, if its other words are the pattern's fixed words
 abbrev pub values_in : List Word → List (List ℕ) → Option (List (List ℕ))
 values_in [] [] = Some []
 values_in (fixed text ∷ pattern) (word ∷ words) = if bytes_eq word text then values_in pattern words else None
 values_in (value ∷ pattern) (word ∷ words) = option_map (λ values. word ∷ values) (values_in pattern words)
 values_in _ _ = None
 
--- a value where there is one, else the fault of its line
+-- a value if there is one, else the fault of its line
 abbrev pub or_fault : {A : Type 0} → DumpFault → Option A → Lines A
 or_fault fault None = refuses (of_line fault)
 or_fault fault (Some a) = means a
 
--- a line of these words: the values in it
+-- a line of this pattern; its meaning is the values in it
 abbrev pub line_of : List Word → Lines (List (List ℕ))
 line_of pattern = line (λ words. or_fault Field (values_in pattern words))
 
--- the i-th value of a line is a decimal up to a limit, or bytes
+-- the i-th value of a line as a decimal up to a limit; as bytes
 abbrev pub number_at : List (List ℕ) → ℕ → ℕ → Lines ℕ
 number_at values i limit = or_fault Number (number_in limit (get_or values i []))
 
@@ -142,7 +142,7 @@ part_line number = do
 
 -- ---- the subtables
 
--- list j of a map: how many items, and an item a line
+-- list j of a map: the number of items, and a line for each item
 abbrev pub map_list : ℕ → ℕ → Lines (List ℕ)
 map_list greatest j = do
   count ← number_line (fixed (codes "map") ∷ fixed (decimal j) ∷ value ∷ []) greatest_count
@@ -151,13 +151,13 @@ map_list greatest j = do
 abbrev pub list_numbers : List ℕ
 list_numbers = 0 ∷ 1 ∷ 2 ∷ 3 ∷ []
 
--- with flag 2 four lists, of bytes or with flag 16 of greater numbers
+-- with flag 2 there are four lists: of bytes, or with flag 16 of two-byte numbers
 abbrev pub map_of : Bool → Bool → Lines (Option Map)
 map_of false wide_items = means None
 map_of true false = each (map_list 255) list_numbers >>= λ lists. means (Some (narrow lists))
 map_of true true = each (map_list greatest_item) list_numbers >>= λ lists. means (Some (wide lists))
 
--- in DTZ the flags, up to 31
+-- in DTZ the line of the flags, up to 31
 abbrev pub flags_line : Kind → Lines ℕ
 flags_line Wdl = means 0
 flags_line Dtz = number_line (fixed (codes "flags") ∷ value ∷ []) 31
@@ -168,7 +168,7 @@ positive None = None
 positive (Some zero) = None
 positive (Some (suc more)) = Some (suc more)
 
--- a run is read whole before it is held against the values that are left
+-- a run is parsed first, and then compared with the number of values left
 abbrev pub fitting_run : ℕ → ℕ × ℕ → Option (ℕ × ℕ)
 fitting_run left run = if nat_le run.0 left then Some run else None
 
@@ -179,7 +179,7 @@ run_line left = do
   v ← number_at values 1 greatest_item
   or_fault Run (fitting_run left (count, v))
 
--- runs until `left` values are read; each has at least one value, so there are at most `left` runs
+-- runs until `left` values are read; each run has at least one value, so there are at most `left` runs
 abbrev pub run_values : ℕ → ℕ → Lines (List ℕ)
 run_values zero left = means []
 run_values (suc most) zero = means []
@@ -192,7 +192,7 @@ abbrev pub values_lines : Form → ℕ → Lines (List ℕ)
 values_lines single count = repeated count (number_line (value ∷ []) greatest_item)
 values_lines runs count = run_values count count
 
--- with runs, parts that are not valid are refused after the first line of a subtable
+-- in form 2, parts that are not valid are refused after the first line `sub`
 abbrev pub order_check : Form → Option (List ℕ) → Lines (Unit {0})
 order_check single sizes = means tt
 order_check runs None = refuses (of_plan plan.Order)
@@ -202,7 +202,7 @@ abbrev pub demand : Bool → BuildFault → Lines (Unit {0})
 demand true fault = means tt
 demand false fault = refuses (of_plan fault)
 
--- with runs, another number of values than subtable s has is refused
+-- in form 2, a number of values that is not the size of subtable s is refused
 abbrev pub length_check : Form → Option (List ℕ) → ℕ → ℕ → Lines (Unit {0})
 length_check single sizes s count = means tt
 length_check runs None s count = means tt
@@ -229,7 +229,7 @@ subs_text form kind sizes s (place ∷ places) = do
 
 -- ---- the whole text
 
--- the text of a dump, where `sizes` gives the sizes of the subtables of valid parts
+-- the text of a dump; `sizes` gives the sizes of the subtables if the parts are valid
 abbrev pub dump_with : (Sides → Kind → List Part → Option (List ℕ)) → Lines Dump
 dump_with sizes = do
   form ← version_line

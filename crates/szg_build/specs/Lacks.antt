@@ -1,4 +1,4 @@
--- What the answer for want of memory says of the bytes that were taken.
+-- What is known of the bytes that were read if memory is refused.
 use Rattle.std.specs.Prelude.{◌≡◌, ℕ, ◌+◌, ◌≤◌, ◌⊎◌, List, [], ◌∷◌, ◌++◌, length}
 use Rattle.szg_io.specs.Moved.{Takes}
 use Rattle.szg_io.specs.declared.device.Input.{Ghosts}
@@ -7,7 +7,7 @@ use Rattle.szg_build.specs.Held.{held_of}
 use Rattle.szg_build.specs.Lines.{Lines, Verdict, good, refused, ended, verdict}
 use Rattle.szg_build.specs.Reading.{told_line}
 
--- there is no line, or the last one has its 0A
+-- whole lines: there are none, or the last one has its 0A
 abbrev pub AreWhole : List ℕ → Type 0
 AreWhole lines = (lines ≡ []) ⊎ ((front : List ℕ) × (lines ≡ front ++ 10 ∷ []))
 
@@ -17,8 +17,8 @@ IsUnrefused (good a count rest) = rest ≡ []
 IsUnrefused (refused at why rest) = ⊥
 IsUnrefused (ended at) = Unit {0}
 
--- These bytes are whole lines, none of them refused, and then bytes that were read ahead: no more than follow these
--- lines in each text that begins with them, and `behind` more.
+-- The bytes are whole lines, none of them refused, and bytes that were read ahead. Of these there are at most
+-- `behind` more than follow the lines in each text that begins with them.
 pub record StopsShort {A : Type 0} (f : Lines A) (count behind : ℕ) (bytes : List ℕ) : Type 0 where
   pub lines : List ℕ
   pub ahead : List ℕ
@@ -27,7 +27,7 @@ pub record StopsShort {A : Type 0} (f : Lines A) (count behind : ℕ) (bytes : L
   pub unrefused : IsUnrefused (verdict f count lines)
   pub due : (more : List ℕ) (a : A) (n : ℕ) (rest : List ℕ) → verdict f count (lines ++ more) ≡ good a n rest → length ahead + length rest ≤ behind + length more
 
--- The bytes that were taken, with those that were held back, stop so short.
+-- The bytes read now, after those read ahead before, are whole lines and bytes read ahead as StopsShort says.
 pub record LacksLines {A R : Type 0} (f : Lines A) (behind : ℕ) (old : Incoming) (dev : Ghosts R) (input input' : R) : Type 0 where
   pub bytes : List ℕ
   pub taken : Takes dev input input' bytes 1

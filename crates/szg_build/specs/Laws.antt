@@ -1,5 +1,5 @@
--- Laws as types: the text of a dump is read back, that of each table's own dump among them; a built table is found in
--- its file, and one that is built of a table's dump has its values.
+-- Laws: the text of a dump is read back, also that of a table's own dump; a built table is found in its file; a
+-- table built from the dump of another has its values.
 use Rattle.std.specs.Prelude.{◌≡◌, ℕ, suc, ◌+◌, ◌≤◌, false, true, List, [], ◌∷◌, ◌++◌, length, Option, Some, None, option_and_then, option_map, slice_index}
 use Rattle.std.specs.List.{AllByRecursion}
 use Rattle.szg_values.specs.Material.{Sides, IsMaterial}
@@ -23,7 +23,7 @@ use Rattle.szg_build.specs.Grammar.{greatest_count, greatest_item, list_numbers,
 abbrev pub AreUpTo : ℕ → List ℕ → Type 0
 AreUpTo greatest values = AllByRecursion (λ v. v ≤ greatest) values
 
--- four lists, of items up to the greatest
+-- four lists, with items up to `greatest`
 abbrev pub AreMapLists : ℕ → List (List ℕ) → Type 0
 AreMapLists greatest lists = SideBySide (λ j list. (length list ≤ greatest_count) × AreUpTo greatest list) list_numbers lists
 
@@ -37,7 +37,7 @@ abbrev pub AreFlagsTold : Kind → SubDump → Type 0
 AreFlagsTold Wdl sub = (sub.flags ≡ 0) × (sub.lists ≡ None)
 AreFlagsTold Dtz sub = (sub.flags ≤ 31) × IsMapTold sub.flags sub.lists
 
--- with runs, the number of values of subtable s is its size
+-- in form 2, the number of values of subtable s is its size
 abbrev pub IsSized : Form → Option (List ℕ) → ℕ → ℕ → Type 0
 IsSized single sizes s count = Unit {0}
 IsSized runs None s count = ⊥
@@ -54,14 +54,14 @@ AreSubsTold form kind sizes s [] [] = Unit {0}
 AreSubsTold form kind sizes s (place ∷ subtable_ids) (sub ∷ subs) = IsSubTold form kind sizes s sub × AreSubsTold form kind sizes (suc s) subtable_ids subs
 AreSubsTold form kind sizes s _ _ = ⊥
 
--- a part's bytes fit one line
+-- the bytes of a part fit one line
 pub record IsPartTold (number : ℕ) (part : Part) : Type 0 where
   pub order : AreNumbers 1 part.order
   pub men : AreNumbers 1 part.men
   pub short : length part.order + length part.men ≤ 31
 
--- the dump of a material that a name may have, with the numbers of parts, flags, maps and lists that material and
--- kind require
+-- a dump that has a text: the material has a name, and the numbers of parts, flags, maps and lists are those that
+-- material and kind require
 pub record IsTold (form : Form) (sizes : Sides → Kind → List Part → Option (List ℕ)) (dump : Dump) : Type 0 where
   pub material : IsMaterial dump.material
   pub last_bytes : AreNumbers 1 dump.last
@@ -75,7 +75,7 @@ abbrev pub TextIsRead : Type 0
 TextIsRead = (sizes : Sides → Kind → List Part → Option (List ℕ)) (form : Form) (dump : Dump) (rest : List ℕ) → IsTold form sizes dump →
     verdict (dump_with sizes) 0 (dump_text form dump ++ rest) ≡ good dump (length (dump_lines form dump)) rest
 
--- The text of a dump that is cut anywhere ends before the 0A of the line after the last whole line.
+-- A text of a dump that is cut anywhere ends before the 0A of the line after the last whole line.
 abbrev pub CutTextIsEnded : Type 0
 CutTextIsEnded = (sizes : Sides → Kind → List Part → Option (List ℕ)) (form : Form) (dump : Dump) (front : List ℕ) (byte : ℕ) (back : List ℕ) → IsTold form sizes dump →
     dump_text form dump ≡ front ++ (byte ∷ back) → verdict (dump_with sizes) 0 front ≡ ended (1 + line_ends front)
@@ -89,7 +89,7 @@ OneTextOneDump = (sizes : Sides → Kind → List Part → Option (List ℕ)) (f
 abbrev pub DumpIsWritable : Type 0
 DumpIsWritable = (form : Form) (dump : Dump) (t : Contents) (fill : List ℕ) → IsMaterial t.material → IsAccepted t fill → IsDumpOf dump t → IsTold form sizes_told dump
 
--- So the text of a table's dump is read back as that dump, whatever follows it.
+-- The text of a table's own dump is read back as that dump, whatever follows it.
 abbrev pub OwnDumpIsRead : Type 0
 OwnDumpIsRead = (form : Form) (dump : Dump) (t : Contents) (fill rest : List ℕ) → IsMaterial t.material → IsAccepted t fill → IsDumpOf dump t →
     verdict dump_format 0 (dump_text form dump ++ rest) ≡ good dump (length (dump_lines form dump)) rest
@@ -105,16 +105,16 @@ pub record HasSameValues (t other : Contents) : Type 0 where
   pub lists : value_lists other ≡ value_lists t
   pub each : (part side : ℕ) → option_map (values_of other.kind) (subtable_at other part side) ≡ option_map (values_of t.kind) (subtable_at t part side)
 
--- A table that is built of the dump of another has its values, for each part and side.
+-- A table that is built from the dump of another table has the other table's values, for each part and side.
 abbrev pub RebuiltHasSameValues : Type 0
 RebuiltHasSameValues = (dump : Dump) (block_bits span_bits rounds : ℕ) (t rebuilt : Contents) → IsDumpOf dump t → IsBuilt (dump_plan dump block_bits span_bits rounds) dump.lists rebuilt → HasSameValues t rebuilt
 
--- The table that a dump's plan builds has that dump.
+-- A table that is built from a dump has this dump.
 abbrev pub BuiltDumpStays : Type 0
 BuiltDumpStays = (dump : Dump) (block_bits span_bits rounds : ℕ) (t : Contents) → IsBuilt (dump_plan dump block_bits span_bits rounds) dump.lists t → IsDumpOf dump t
 
--- Bytes that begin with the file of a built table have the verdict of that table; and value i of the subtable that is
--- found for a part and a side is item i of the list that was handed in for them.
+-- Bytes that begin with the file of a built table have the verdict of that table. Value i of the subtable found for
+-- a part and a side is item i of the list that was passed for them.
 abbrev pub BuiltIsFound : Type 0
 BuiltIsFound = (plan : Plan) (lists : List (List ℕ)) (t : Contents) (fill rest : List ℕ) → IsAccepted t fill → IsBuilt plan lists t →
     (file_format.verdict (file plan.material plan.kind) 0 (file_of t fill ++ rest) ≡ file_format.good t fill rest)

@@ -1,28 +1,28 @@
--- What a text of lines is, and the verdict on bytes. Nothing here depends on the content of a dump.
+-- What a text of lines is, and the verdict on bytes. It does not depend on what a dump contains.
 use Rattle.std.specs.Prelude.{ℕ, zero, suc, ◌==◌, true, false, List, [], ◌∷◌}
 use Rattle.szg_build.specs.declared.dump.DumpFault.{DumpFault}
 use Rattle.szg_build.specs.declared.dump.DumpFault.TheVariants.{Field}
 use Rattle.szg_build.specs.declared.BuildFault.{BuildFault}
 
--- why a text is refused: for the line that was read last, or for what the lines so far say of a table to be built
+-- why a text is refused: the fault of the line that was read last, or of the table that the lines so far describe
 pub data Refusal : Type 0 where
   of_line : DumpFault → Refusal
   of_plan : BuildFault → Refusal
 
--- What follows from a line on, from top to bottom.
+-- What is due from a line on, from top to bottom.
 pub data Lines (A : Type 0) : Type 0 where
-  -- nothing more: what was read means this
+  -- nothing more: the meaning of what was read
   means : A → Lines A
   -- what was read is refused
   refuses : Refusal → Lines A
-  -- a line; its words say what comes next
+  -- a line; what comes next depends on its words
   line : (List (List ℕ) → Lines A) → Lines A
 
 -- The first line of some bytes.
 pub data FirstLine : Type 0 where
-  -- its bytes before 0A, and those after it
+  -- its bytes before 0A, and the bytes after 0A
   whole : List ℕ → List ℕ → FirstLine
-  -- there is no 0A within the room: the bytes after the first byte that does not fit
+  -- no 0A within the room: the bytes after the first byte that does not fit
   long : List ℕ → FirstLine
   -- the bytes end before 0A
   unended : FirstLine
@@ -51,12 +51,12 @@ abbrev pub words_of : List ℕ → List (List ℕ)
 words_of [] = [] ∷ []
 words_of (byte ∷ bytes) = elim (byte == 32) [ true ↦ [] ∷ words_of bytes | false ↦ with_byte byte (words_of bytes) ]
 
--- how many lines end in some bytes
+-- how many lines end in these bytes
 abbrev pub line_ends : List ℕ → ℕ
 line_ends [] = 0
 line_ends (byte ∷ bytes) = elim (byte == 10) [ true ↦ suc (line_ends bytes) | false ↦ line_ends bytes ]
 
--- What the bytes from a line on are.
+-- The verdict on the bytes from a line on.
 pub data Verdict (A : Type 0) : Type 0 where
   -- a whole text: its meaning, the number of lines up to its end, and the bytes after it
   good : A → ℕ → List ℕ → Verdict A
@@ -65,7 +65,7 @@ pub data Verdict (A : Type 0) : Type 0 where
   -- the text ends before the 0A of this line
   ended : ℕ → Verdict A
 
--- The verdict on the bytes after `count` lines: line by line, each read whole. A line that is too long is refused.
+-- The verdict on the bytes after `count` lines, line by line. A line that is too long is refused.
 abbrev pub verdict : {A : Type 0} → Lines A → ℕ → List ℕ → Verdict A
 verdict (means a) count bytes = good a count bytes
 verdict (refuses why) count bytes = refused count why bytes
@@ -83,7 +83,7 @@ abbrev pub ◌>>=◌ : {A B : Type 0} → Lines A → (A → Lines B) → Lines 
 (refuses why) >>= g = refuses why
 (line next) >>= g = line (λ words. next words >>= g)
 
--- a check or a line without a meaning, and then the rest
+-- a check or a line without a meaning, and then what comes next
 infixl 10 ◌>>◌
 abbrev pub ◌>>◌ : {A B : Type 0} → Lines A → Lines B → Lines B
 f >> g = f >>= λ _. g

@@ -18,7 +18,7 @@ pair_count left right (s ∷ []) = 0
 pair_count left right (s ∷ t ∷ symbols) =
     elim ((s == left) && (t == right)) [ true ↦ suc (pair_count left right symbols) | false ↦ pair_count left right (t ∷ symbols) ]
 
--- the symbols with the new symbol in place of the pair, from left to right
+-- the symbols, with each occurrence of the pair replaced by the new symbol, from left to right
 abbrev pub replaced : ℕ → ℕ → ℕ → List ℕ → List ℕ
 replaced left right new [] = []
 replaced left right new (s ∷ []) = s ∷ []
@@ -33,34 +33,34 @@ pairs_in entries = filter (λ entry. not (is_leaf entry)) entries
 abbrev pub values_of : List (List ℕ) → List ℕ → List ℕ
 values_of entries symbols = flat_map (expansion_of entries) symbols
 
--- a list of symbols that the block's own bits begin with, with at least m values, and no shorter one has them
+-- the shortest list of symbols with at least m values whose words begin the block's own bits
 pub record IsShortest (layout : Layout) (block : List ℕ) (m : ℕ) (symbols : List ℕ) : Type 0 where
   pub spelled : Spells layout.code (bits block) symbols
   pub enough : m ≤ length (values_of layout.entries symbols)
   pub least : (others : List ℕ) → Spells layout.code (bits block) others → m ≤ length (values_of layout.entries others) → length symbols ≤ length others
 
--- for `size` blocks from the j-th on, the shortest lists for their needed values
+-- in a subtable of `size` values, the shortest lists for the needed values of the blocks from the j-th on
 abbrev pub AreShortest : Layout → List ℕ → ℕ → ℕ → List (List ℕ) → Type 0
 AreShortest layout packed size j [] = Unit {0}
 AreShortest layout packed size j (symbols ∷ lists) =
     IsShortest layout (block_at layout.block_bits packed j) (needed layout.lengths size j) symbols
     × AreShortest layout packed size (j + 1) lists
 
--- a pair may be made where its two symbols together have at most 256 values
+-- a pair may be made if its two symbols together have at most 256 values
 abbrev pub IsShort : List (List ℕ) → ℕ → ℕ → Type 0
 IsShort entries left right = length (expansion_of entries left) + length (expansion_of entries right) ≤ 256
 
--- no pair that may be made counts 4 or more
+-- no pair that may be made occurs 4 times or more
 abbrev pub IsExhausted : List (List ℕ) → List ℕ → Type 0
 IsExhausted entries symbols = (left right : ℕ) → IsShort entries left right → pair_count left right symbols < 4
 
--- the number of pairs is the number of rounds, or fewer if there are 4,095 symbols or no pair is left to be made
+-- there is a pair for each round; or fewer, if there are 4,095 symbols or no pair is left to be made
 abbrev pub IsFinished : List (List ℕ) → List ℕ → ℕ → Type 0
 IsFinished entries symbols rounds =
     (length (pairs_in entries) ≡ rounds)
     ⊎ ((length (pairs_in entries) < rounds) × ((length entries ≡ 4095) ⊎ IsExhausted entries symbols))
 
--- symbol s is one of another symbol's pair
+-- symbol s occurs in the pair of another symbol
 pub record IsInPair (entries : List (List ℕ)) (s : ℕ) : Type 0 where
   pub other : ℕ
   pub entry : List ℕ
@@ -69,12 +69,13 @@ pub record IsInPair (entries : List (List ℕ)) (s : ℕ) : Type 0 where
   pub half : (left_of entry ≡ s) ⊎ (right_of entry ≡ s)
   pub another : ¬ (other ≡ s)
 
--- each pair occurs in the symbols or in another's pair
+-- each pair occurs in the symbols or in another pair
 abbrev pub IsUsed : List (List ℕ) → List ℕ → Type 0
 IsUsed entries symbols = (s : ℕ) (entry : List ℕ) → slice_get entries s ≡ Some entry → is_leaf entry ≡ false → IsIn symbols s ⊎ IsInPair entries s
 
--- The entries of a subtable: beside the pairs there is one leaf for each different value. With the shortest lists of
--- symbols for its blocks' needed values, joined, the pairs are all used, and no more could be made.
+-- The entries of a subtable: the pairs, and one leaf for each different value. `lists` are the shortest lists of
+-- symbols for the needed values of the blocks. In these lists, joined, and in the pairs each pair is used, and no
+-- more pairs are to be made.
 pub record IsPaired (layout : Layout) (packed : List ℕ) (size rounds : ℕ) : Type 0 where
   pub lists : List (List ℕ)
   pub count : length lists ≡ layout.blocks

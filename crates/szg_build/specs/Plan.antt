@@ -1,4 +1,4 @@
--- What a table is to be built of, and the first thing in it that is refused.
+-- What a table is built from, and the first fault in it.
 use Rattle.std.specs.Prelude.{ℕ, ◌^◌, ◌==◌, ◌&&◌, not, nat_lt, nat_le, Bool, true, false, List, [], ◌∷◌, length, map, filter, Option, Some, None, is_none, option_map, position, if◌then◌else◌}
 use Rattle.std.specs.List.{list_any, list_all, range_with_len, zip}
 use Rattle.szg_values.specs.Material.{Sides, man_codes}
@@ -22,14 +22,14 @@ pub record Plan : Type 0 where
 
 -- ---- the parts
 
--- a part has its number of order bytes and of men, and the file's checks of its order pass on each side
+-- a part has the right numbers of order bytes and of men, and its order passes the checks of a file on each side
 abbrev pub is_part : Sides → Kind → Part → Bool
 is_part material kind part =
     (length part.order == order_bytes material)
     && (length part.men == length (man_codes material))
     && list_all (λ side. is_none (order_fault material (order_of side part))) (side_numbers material kind)
 
--- there are the parts of the material, and each is one
+-- the parts are those of the material, and each is valid
 abbrev pub has_parts : Sides → Kind → List Part → Bool
 has_parts material kind parts =
     (length parts == length (part_numbers material))
@@ -55,7 +55,7 @@ values_below bound list = filter (λ value. list_any (λ v. v == value) list) (r
 abbrev pub different_values : List ℕ → List ℕ
 different_values list = values_below 4096 list
 
--- the first list that hasn't its size
+-- the first list whose length is not its subtable's size
 abbrev pub wrong_length : List ℕ → List (List ℕ) → Option ℕ
 wrong_length sizes lists = position (λ pair. not (length pair.1 == pair.0)) (zip sizes lists)
 
@@ -96,7 +96,7 @@ first_fault [] = None
 first_fault (None ∷ others) = first_fault others
 first_fault (Some fault ∷ others) = Some fault
 
--- the first fault that applies, where these are the sizes of the parts
+-- the first fault that applies, by the sizes of the subtables; these are None if the parts are not valid
 unfoldable pub fault_for : Option (List ℕ) → Plan → List (List ℕ) → Option BuildFault
 fault_for None plan lists = Some fault.Order
 fault_for (Some sizes) plan lists = first_fault (

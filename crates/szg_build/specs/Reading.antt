@@ -1,4 +1,4 @@
--- What a call that reads lines of a dump says of the reader, of the bytes that it holds back, and of its answer.
+-- What a call that reads lines of a dump does to the reader and to the bytes read ahead, and what it returns.
 use Rattle.std.specs.Prelude.{◌≡◌, ℕ, ◌-◌, ◌^◌, min, List, ◌++◌, Option, Result, Ok, Err, Bool, IsTrue}
 use Rattle.std.specs.Io.KnownBytes.{IsAtEnd}
 use Rattle.szg_io.specs.Device.{HasFailed}
@@ -13,7 +13,7 @@ use Rattle.szg_build.specs.declared.dump.DumpReadFault.{DumpReadFault}
 use Rattle.szg_build.specs.declared.dump.DumpReadFault.TheVariants.{Line, Build, Device, Memory}
 use Rattle.szg_build.specs.Lines.{Lines, means, refuses, Verdict, good, refused, ended, of_line, of_plan, verdict}
 
--- the number of a line as it is returned: it stops at the last value of 64 bits
+-- a line's number as it is returned: it stops at the greatest 64-bit value
 abbrev pub told_line : ℕ → ℕ
 told_line number = min number (2 ^ 64 - 1)
 
@@ -23,20 +23,21 @@ IsLineFault (good a lines rest) number fault = ⊥
 IsLineFault (refused at why rest) number fault = (number ≡ told_line at) × (why ≡ of_line fault)
 IsLineFault (ended at) number fault = (number ≡ told_line at) × (fault ≡ Ended)
 
--- the verdict refuses what the lines so far say
+-- the verdict refuses what the lines so far say of a table
 abbrev pub IsPlanFault : {A : Type 0} → Verdict A → BuildFault → Type 0
 IsPlanFault (good a lines rest) fault = ⊥
 IsPlanFault (refused at why rest) fault = why ≡ of_plan fault
 IsPlanFault (ended at) fault = ⊥
 
--- the reader is at its end where the verdict says that the text ends
+-- if the verdict is that the text ends, the reader is at its end
 abbrev pub EndsWith : {A : Type 0} → Verdict A → Option (List ℕ) → Type 0
 EndsWith (good a lines rest) coming = Unit {0}
 EndsWith (refused at why rest) coming = Unit {0}
 EndsWith (ended at) coming = IsAtEnd coming
 
--- What the result says of the bytes that were read ahead and those that were read, after `count` lines. If a value
--- was read, the bytes after its lines are kept for the next call. `Device` only if the reader may fail.
+-- What the result means for `bytes`, which are those read ahead before and those read now, after `count` lines.
+-- After a value the bytes that follow its lines are kept for the next call. `Device` is returned only if the reader
+-- may fail.
 abbrev pub LinesAnswer : {A X : Type 0} → Lines A → (X → A) → ℕ → Incoming → List ℕ → Option (List ℕ) → ℕ → ℕ → ℕ → Bool → Result X DumpReadFault → Type 0
 LinesAnswer f view count new bytes coming failures failures' row may_fail (Ok x) =
     (count' : ℕ) × (told_line count' ≡ new.line) × (verdict f count bytes ≡ good (view x) count' (held_of new)) × (failures' ≡ failures)
@@ -46,13 +47,13 @@ LinesAnswer f view count new bytes coming failures failures' row may_fail (Err (
 LinesAnswer f view count new bytes coming failures failures' row may_fail (Err Device) = HasFailed failures failures' row × IsTrue may_fail
 LinesAnswer f view count new bytes coming failures failures' row may_fail (Err Memory) = failures' ≡ failures
 
--- a refused answer may have taken one more turn of retries
+-- an error may have taken one more round of retries
 abbrev pub turns_of : {X : Type 0} → Result X DumpReadFault → ℕ
 turns_of (Ok x) = 0
 turns_of (Err fault) = 1
 
--- These bytes were read, with few enough calls, and the result is the verdict on the bytes read ahead and on them,
--- whatever the line number is.
+-- These bytes were read, in few enough calls. The result is the verdict on the bytes read ahead and these bytes, for
+-- any number of lines before them.
 pub record ReadsLines {A X R : Type 0} (f : Lines A) (view : X → A) (old new : Incoming)
     (dev : Ghosts R) (input input' : R) (result : Result X DumpReadFault) : Type 0 where
   pub bytes : List ℕ
@@ -60,7 +61,7 @@ pub record ReadsLines {A X R : Type 0} (f : Lines A) (view : X → A) (old new :
   pub answer : (count : ℕ) → told_line count ≡ old.line →
       LinesAnswer f view count new (held_of old ++ bytes) (dev.coming input') (dev.failures input) (dev.failures input') (dev.interrupted input') (dev.may_fail input) result
 
--- What the words of a line say: a value, or the fault of the line.
+-- The meaning of a line's words: a value, or the fault of the line.
 abbrev pub Says : {A X : Type 0} → Lines A → (X → A) → Result X DumpFault → Type 0
 Says lines view (Ok x) = lines ≡ means (view x)
 Says lines view (Err fault) = lines ≡ refuses (of_line fault)

@@ -1,4 +1,4 @@
--- The rest of a subtable's text after its first lines, and the content of a subtable that was read.
+-- What is left of a subtable's text after its first lines, and the content of a subtable that was read.
 use Rattle.std.specs.Prelude.{ℕ, List, [], ◌∷◌, option_map, Option, codes}
 use Rattle.szg_values.specs.declared.Kind.{Kind}
 use Rattle.szg_file.specs.Contents.{Map, has_bit}
@@ -13,7 +13,7 @@ use Rattle.szg_build.specs.Grammar.{fixed, value, number_line, greatest_count, l
 abbrev pub sub_told : SubText → SubDump
 sub_told sub = record { flags = sub.flags; lists = option_map held.map_of sub.map; values = sub.values.items }
 
--- from the line `values` on, after flags and a map
+-- from the line `values` on, after these flags and this map
 abbrev pub counted_text : Form → Option (List ℕ) → ℕ → ℕ → Option Map → Lines SubDump
 counted_text form sizes s flags lists = do
   count ← number_line (fixed (codes "values") ∷ value ∷ []) greatest_count

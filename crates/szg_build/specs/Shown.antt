@@ -1,4 +1,4 @@
--- What clauses see of plans and dumps, and the results of reading a dump.
+-- Public views of plans and dumps, and the results of reading a dump.
 use Rattle.std.specs.Prelude.{◌≡◌, ℕ, ◌==◌, List, [], map, min, length, get_or, option_map, Option, Some, None, Result, Ok, Err, if◌then◌else◌}
 use Rattle.szg_values.specs.declared.Kind.{Kind}
 use Rattle.szg_values.specs.declared.Kind.TheVariants.{Wdl, Dtz}
@@ -28,7 +28,7 @@ plan_seen plan = record {
   last = plan.last;
 }
 
--- a small plan, with numbers that are in their ranges
+-- a small plan, with any numbers that are in their ranges
 abbrev pub small_seen : SmallPlan → seen.Plan
 small_seen plan = record {
   material = plan.material;
@@ -57,7 +57,7 @@ dump_seen dump = record {
 abbrev pub form_of : ℕ → Form
 form_of number = if number == 2 then runs else single
 
--- The result is the verdict on the bytes to come; after a dump that was read, the rest is still to come.
+-- The result is the verdict on the bytes to come. If a dump was read, the bytes after it are still to come.
 abbrev pub FollowsLines : Verdict told.Dump → Result Dump DumpReadFault → Option (List ℕ) → Type 0
 FollowsLines v (Ok dump) coming = (lines : ℕ) × (rest : List ℕ) × (v ≡ good (dump_seen dump) lines rest) × (coming ≡ Some rest)
 FollowsLines v (Err (Line number fault)) coming = IsLineFault v number fault
@@ -65,7 +65,7 @@ FollowsLines v (Err (Build fault)) coming = IsPlanFault v fault
 FollowsLines v (Err Device) coming = Unit {0}
 FollowsLines v (Err Memory) coming = Unit {0}
 
--- The bytes that were taken are the dump's text, or have this verdict.
+-- The bytes that were read are the dump's text, or have this verdict.
 abbrev pub TookLines : Verdict told.Dump → Result Dump DumpReadFault → Option (List ℕ) → Type 0
 TookLines v (Ok dump) coming = (lines : ℕ) × (v ≡ good (dump_seen dump) lines [])
 TookLines v (Err (Line number fault)) coming = IsLineFault v number fault × EndsWith v coming
@@ -73,7 +73,7 @@ TookLines v (Err (Build fault)) coming = IsPlanFault v fault
 TookLines v (Err Device) coming = Unit {0}
 TookLines v (Err Memory) coming = Unit {0}
 
--- ---- the subtables of a dump, by their place
+-- ---- the subtables of a dump, by their numbers
 
 -- the content of a dump, subtable by subtable
 abbrev pub subs_seen : Dump → List told.SubDump
@@ -83,7 +83,7 @@ abbrev pub count_at : Kind → ℕ → ℕ → ℕ → ℕ
 count_at Wdl flags maps lists = lists
 count_at Dtz flags maps lists = min (min flags maps) lists
 
--- how many these are
+-- the number of subtables of a dump
 abbrev pub sub_count : Dump → ℕ
 sub_count dump = count_at dump.kind (length dump.flags.items) (length dump.maps.items) (length dump.lists.items)
 
@@ -91,6 +91,6 @@ abbrev pub sub_at : Kind → List ℕ → List (Option held.Map) → List (List 
 sub_at Wdl flags maps lists s = record { flags = 0; lists = None; values = get_or lists s [] }
 sub_at Dtz flags maps lists s = record { flags = get_or flags s 0; lists = get_or maps s None; values = get_or lists s [] }
 
--- subtable s, where there is one
+-- subtable s, if it exists
 abbrev pub sub_in : Dump → ℕ → told.SubDump
 sub_in dump s = sub_at dump.kind dump.flags.items (map (option_map map_of) dump.maps.items) (map (λ list. list.items) dump.lists.items) s

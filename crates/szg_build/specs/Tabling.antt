@@ -1,4 +1,4 @@
--- What the last steps of the builder, from lists of values to a table, hand on.
+-- What the last steps of the builder, from lists of values to a table, pass on to one another.
 use Rattle.std.specs.Prelude.{◌≡◌, ℕ, ◌^◌, ◌<◌, ◌≤◌, List, [], ◌∷◌, length, map, true, Option, Some, None, IfSome}
 use Rattle.std.specs.List.{AllByRecursion}
 use Rattle.szg_values.specs.declared.Kind.{Kind}
@@ -13,7 +13,7 @@ use Rattle.szg_build.specs.Building.{IsBuiltSub, IsByRule, IsPackedBy}
 use Rattle.szg_build.specs.Rule.{byte4_for, HasSpanIndex}
 use Rattle.szg_build.specs.Built.{layout_in, packed_in, subtables_in, value_lists, plan_flags, flags_bytes}
 
--- a list of values of which a subtable can be built
+-- a list of values from which a subtable can be built
 pub record IsBuildable (kind : Kind) (values : List ℕ) : Type 0 where
   pub few : length values < 2 ^ 33
   pub small : AllByRecursion (λ v. v ≤ greatest_value kind) values
@@ -28,12 +28,12 @@ pub record IsInRange (plan : Plan) : Type 0 where
   pub rounds : plan.rounds ≤ 4000
   pub flags : AllByRecursion (λ flags. flags < 32) plan.flags
 
--- the choice is the plan's numbers, or none
+-- the choice is fixed to the plan's numbers, or is the small one
 abbrev pub IsChoiceOf : Plan → Choice → Type 0
 IsChoiceOf plan (Fixed packing) = (packing.block_bits ≡ plan.block_bits) × (packing.span_bits ≡ plan.span_bits) × (packing.rounds ≡ plan.rounds)
 IsChoiceOf plan Small = Unit {0}
 
--- subtables built of lists, each with its flags; where flags end, with none
+-- subtables built from lists, each with its flags; flags that are missing are 0
 abbrev pub AreBuilt : Choice → Plan → List ℕ → List (List ℕ) → List Subtable → Type 0
 AreBuilt choice plan flags [] [] = Unit {0}
 AreBuilt choice plan flags [] (subtable ∷ subtables) = ⊥
@@ -68,12 +68,12 @@ pub record IsBuiltBy (choice : Choice) (plan : Plan) (lists : List (List ℕ)) (
   pub rule : SideBySide (λ list subtable. IsByRule plan.kind list choice subtable) lists t.subtables
   pub index : AllByRecursion (λ pair. HasSpanIndex pair.0.size pair.1) (subtables_in t)
 
--- all of a built table but its fill
+-- all of a built table but its padding
 pub record IsBuiltBare (choice : Choice) (plan : Plan) (lists : List (List ℕ)) (t : Contents) : Type 0 where
   pub built : IsBuiltBy choice plan lists t
   pub accepted : (fill : List ℕ) → AreBytes (fill_asked t) fill → IsAccepted t fill
 
--- nothing of a plan and its lists is refused
+-- a plan and its lists have no fault
 pub record Stands (plan : Plan) (lists : List (List ℕ)) : Type 0 where
   pub parts : SideBySide (λ _. IsPart plan.material plan.kind) (part_numbers plan.material) plan.parts
   pub sizes : map (λ slot. slot.size) (slots plan.material plan.kind plan.parts) ≡ map length lists

@@ -1,4 +1,4 @@
--- The rest of a dump's text after its first lines, and the subtables that were read so far.
+-- What is left of a dump's text after its first lines, and the subtables that were read so far.
 use Rattle.std.specs.Prelude.{◌≡◌, ℕ, List, [], ◌∷◌, map, option_map}
 use Rattle.szg_values.specs.Material.{Sides}
 use Rattle.szg_values.specs.declared.Kind.{Kind}
@@ -12,25 +12,25 @@ use Rattle.szg_build.specs.Plan.{sizes_told}
 use Rattle.szg_build.specs.Lines.{Lines, means, ◌>>=◌}
 use Rattle.szg_build.specs.Grammar.{each, end_line, part_line, subs_text}
 
--- after the parts
+-- what is left of a dump after the parts
 abbrev pub dump_behind_parts : Form → Sides → Kind → List ℕ → List Part → Lines Dump
 dump_behind_parts form material kind last parts = do
   subs ← subs_text form kind (sizes_told material kind parts) 0 (places_of material kind)
   means (dump_of_subs material kind parts last subs)
 
--- after the kind
+-- what is left of a dump after the kind
 abbrev pub dump_behind_kind : Form → Sides → Kind → Lines Dump
 dump_behind_kind form material kind = do
   last ← end_line
   parts ← each part_line (parts_of material)
   dump_behind_parts form material kind last parts
 
--- in DTZ one item a subtable, in WDL none
+-- in DTZ the list of one item, in WDL the empty list
 abbrev pub told_in : {A : Type 0} → Kind → A → List A
 told_in Wdl item = []
 told_in Dtz item = item ∷ []
 
--- these are the subtables that were read
+-- `subs` has the subtables that were read
 abbrev pub AreSubs : Kind → Subs → List SubDump → Type 0
 AreSubs kind subs read =
     (subs.flags.items ≡ flags_in kind read)

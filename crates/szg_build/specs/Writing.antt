@@ -1,4 +1,4 @@
--- What a call that writes some text says of the writer, of how far it has come, and of its answer.
+-- What a call that writes text does to the writer and to the writer's state, and what it returns.
 use Rattle.std.specs.Prelude.{◌≡◌, ℕ, ◌+◌, ◌-◌, ◌^◌, ◌<◌, min, List, ◌++◌, length, Result, Ok, Err}
 use Rattle.szg_io.specs.Device.{HasFailed}
 use Rattle.szg_io.specs.Moved.{Gives}
@@ -6,33 +6,33 @@ use Rattle.szg_io.specs.declared.device.Output.{Ghosts}
 use Rattle.szg_file.specs.declared.fault.WriteFault.{WriteFault}
 use Rattle.szg_build.specs.declared.outgoing.Outgoing.{Outgoing}
 
--- a number as it is returned in 64 bits: it stops at the last one
+-- a number as it is returned: it stops at the greatest 64-bit value
 abbrev pub told : ℕ → ℕ
 told number = min number (2 ^ 64 - 1)
 
--- These bytes went out. With what is held now they are what was held and the text.
+-- These bytes were written. They and the bytes buffered now are the bytes buffered before and the text.
 pub record Writes (text : List ℕ) (old new : Outgoing) (bytes : List ℕ) : Type 0 where
   pub counts : (count : ℕ) → old.out ≡ told count → new.out ≡ told (count + length bytes)
   pub whole : bytes ++ new.held.items ≡ old.held.items ++ text
 
--- These bytes went out, and they are not all of what was held and of the text.
+-- These bytes were written. They are a proper prefix of the bytes buffered before and the text.
 pub record Stops (text : List ℕ) (old : Outgoing) (out : ℕ) (bytes : List ℕ) : Type 0 where
   pub counts : (count : ℕ) → old.out ≡ told count → out ≡ told (count + length bytes)
   pub rest : List ℕ
   pub some : 0 < length rest
   pub begun : bytes ++ rest ≡ old.held.items ++ text
 
--- A fault may have taken one more turn of retries.
+-- an error may have taken one more round of retries
 abbrev pub turns_of : {X : Type 0} → Result X WriteFault → ℕ
 turns_of (Ok x) = 0
 turns_of (Err fault) = 1
 
--- What the answer says of the bytes that went out.
+-- What the result means for the bytes that were written.
 abbrev pub Answer : {X : Type 0} → List ℕ → Outgoing → Outgoing → ℕ → ℕ → ℕ → List ℕ → Result X WriteFault → Type 0
 Answer text old new failures failures' row bytes (Ok x) = Writes text old new bytes × (failures' ≡ failures)
 Answer text old new failures failures' row bytes (Err fault) = Stops text old fault.out bytes × HasFailed failures failures' row
 
--- Some bytes went out, with few enough calls, and the answer is true of them.
+-- Some bytes were written, in few enough calls, and the result means what Answer says of them.
 pub record Writing {X W : Type 0} (text : List ℕ) (old new : Outgoing)
     (dev : Ghosts W) (output output' : W) (result : Result X WriteFault) : Type 0 where
   pub bytes : List ℕ

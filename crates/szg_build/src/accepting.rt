@@ -1,4 +1,4 @@
-//! Tests of a proposed dictionary and text. They assume nothing of how either was made.
+//! Tests of a proposed dictionary and text. They assume nothing about how the two were made.
 ghost use Rattle.std.specs.Prelude.{ℕ, ◌≡◌, ◌+◌, ◌<◌, ◌≤◌, ◌⊎◌, true, false, List, length, slice_get, slice_index_or, Some, None, IfOk, IfSome};
 ghost use Rattle.std.specs.List.{AllByRecursion};
 ghost use Rattle.szg_code.specs.Canonical.{IsIn};
@@ -16,7 +16,7 @@ use std::alloc::{AllocError, Global};
 use szg_pairs::entry::{is_leaf, left, right};
 use szg_pairs::{Dict, DictFault};
 
-/// Whether all symbols are below a number.
+/// Returns whether all symbols are below `count`.
 fn are_below(symbols: &[u16], count: usize) -> bool
     ensures { result ≡ true → AllByRecursion (λ s. s < count) symbols.now }
 {
@@ -28,7 +28,7 @@ fn are_below(symbols: &[u16], count: usize) -> bool
     true
 }
 
-/// Whether these are the values of a symbol.
+/// Returns whether `values` are the values of a symbol. Their number must be right.
 fn is_expansion(dict: &Dict, symbol: u16, values: &[u16]) -> bool
     requires there { symbol < length dict.now }
     requires many { length values.now ≡ length (expansion_of dict.now symbol) }
@@ -42,7 +42,8 @@ fn is_expansion(dict: &Dict, symbol: u16, values: &[u16]) -> bool
     true
 }
 
-/// Whether the values at `start` are those of a symbol. If `seen` is an offset at which they are, it compares with it.
+/// Returns whether the values from `start` on are those of a symbol. If `seen` is an offset where the symbol's
+/// values are known to be, it compares with the values there.
 fn is_at(dict: &Dict, symbol: u16, values: &[u16], start: usize, seen: Option<usize>) -> bool
     requires there { symbol < length dict.now }
     requires inside { start + length (expansion_of dict.now symbol) ≤ length values.now }
@@ -57,7 +58,8 @@ fn is_at(dict: &Dict, symbol: u16, values: &[u16], start: usize, seen: Option<us
     }
 }
 
-/// Whether the values of symbols, joined, are these. For each symbol it keeps an offset of its values in `offsets`.
+/// Returns whether the values of symbols, joined, are `values`. In `offsets` it stores, for each symbol, where its
+/// values were seen last.
 fn expands_by(dict: &Dict, symbols: &[u16], values: &[u16], offsets: &mut [Option<usize>]) -> bool
     requires below { AllByRecursion (λ s. s < length dict.now) symbols.now }
     requires count { length offsets.old ≡ length dict.now }
@@ -80,7 +82,7 @@ fn expands_by(dict: &Dict, symbols: &[u16], values: &[u16], offsets: &mut [Optio
     start == values.len()
 }
 
-/// Whether the values of symbols, joined, are these.
+/// Returns whether the values of symbols, joined, are `values`.
 fn expands_to(
     alloc: Global,
     dict: &Dict,
@@ -94,7 +96,7 @@ fn expands_to(
     Ok(expands_by(dict, symbols, values, &mut offsets))
 }
 
-/// Marks the symbols that are in a text.
+/// Marks the symbols that occur in a text.
 fn mark_symbols(symbols: &[u16], marks: &mut [bool])
     requires { AllByRecursion (λ s. s < length marks.old) symbols.now }
     ensures count { length marks.new ≡ length marks.old }
@@ -105,7 +107,7 @@ fn mark_symbols(symbols: &[u16], marks: &mut [bool])
     }
 }
 
-/// Marks a symbol that is in another's pair.
+/// Marks `half`, a symbol of pair `pair`, unless it is the pair itself.
 fn mark_half(marks: &mut [bool], half: u16, pair: usize)
     ensures count { length marks.new ≡ length marks.old }
     ensures marked { (s : ℕ) → slice_index_or marks.new s false ≡ true → (slice_index_or marks.old s false ≡ true) ⊎ ((s ≡ half) × ¬ (pair ≡ s)) }
@@ -116,7 +118,7 @@ fn mark_half(marks: &mut [bool], half: u16, pair: usize)
     }
 }
 
-/// Marks the symbols that are in another's pair.
+/// Marks the symbols that occur in a pair other than themselves.
 fn mark_halves(entries: &[[u8; 3]], marks: &mut [bool])
     ensures count { length marks.new ≡ length marks.old }
     ensures marked { (s : ℕ) → slice_index_or marks.new s false ≡ true → (slice_index_or marks.old s false ≡ true) ⊎ IsInPair entries.now s }
@@ -129,7 +131,7 @@ fn mark_halves(entries: &[[u8; 3]], marks: &mut [bool])
     }
 }
 
-/// Whether each pair is marked.
+/// Returns whether each pair is marked.
 fn are_marked(entries: &[[u8; 3]], marks: &[bool]) -> bool
     requires { length marks.now ≡ length entries.now }
     ensures { result ≡ true → (s : ℕ) (entry : List ℕ) → slice_get entries.now s ≡ Some entry → is_leaf entry ≡ false → slice_index_or marks.now s false ≡ true }
@@ -142,7 +144,7 @@ fn are_marked(entries: &[[u8; 3]], marks: &[bool]) -> bool
     true
 }
 
-/// Whether each pair is in the text or in another's pair, by marks of which none is set yet.
+/// Returns whether each pair occurs in the text or in another pair. No mark may be set before.
 fn are_used_by(entries: &[[u8; 3]], symbols: &[u16], marks: &mut [bool]) -> bool
     requires below { AllByRecursion (λ s. s < length entries.now) symbols.now }
     requires count { length marks.old ≡ length entries.now }
@@ -154,7 +156,7 @@ fn are_used_by(entries: &[[u8; 3]], symbols: &[u16], marks: &mut [bool]) -> bool
     are_marked(entries, marks)
 }
 
-/// Whether each pair is in the text or in another's pair.
+/// Returns whether each pair occurs in the text or in another pair.
 fn are_used(alloc: Global, entries: &[[u8; 3]], symbols: &[u16]) -> Result<bool, AllocError>
     requires { AllByRecursion (λ s. s < length entries.now) symbols.now }
     ensures { IfOk result (λ used. used ≡ true → IsUsed entries.now symbols.now) }
@@ -163,7 +165,7 @@ fn are_used(alloc: Global, entries: &[[u8; 3]], symbols: &[u16]) -> Result<bool,
     Ok(are_used_by(entries, symbols, &mut marks))
 }
 
-/// The number of pairs in a dictionary.
+/// Returns the number of pairs in a dictionary.
 pub(crate) fn count_pairs_in(entries: &[[u8; 3]]) -> usize
     ensures pairs { result ≡ length (pairs_in entries.now) }
     ensures few { result ≤ length entries.now }
@@ -177,7 +179,7 @@ pub(crate) fn count_pairs_in(entries: &[[u8; 3]]) -> usize
     count
 }
 
-/// The entries have three bytes each.
+/// For proofs alone: the entries have three bytes each.
 fn fit_three_bytes(entries: &[[u8; 3]])
     ensures { AllByRecursion (AreBytes 3) entries.now }
 {
@@ -186,7 +188,7 @@ fn fit_three_bytes(entries: &[[u8; 3]])
     }
 }
 
-/// The dictionary of entries, if they are one.
+/// Returns the dictionary with these entries. None if it is not accepted.
 fn dictionary_of(alloc: Global, entries: &[[u8; 3]]) -> Result<Option<Dict>, AllocError>
     requires { length entries.now ≤ 65535 }
     ensures { IfOk result (λ found. IfSome found (λ dict. dict ≡ entries.now)) }
@@ -210,8 +212,9 @@ fn lengths_of(alloc: Global, dict: &Dict) -> Result<Vec<u16>, AllocError>
     Ok(lens)
 }
 
-/// Tests a dictionary's entries and a text of symbols; returns the number of values of each symbol. None if the
-/// text does not expand to `values`, or if the dictionary has a leaf or a pair that the text does not use.
+/// Tests a dictionary's entries and a text of symbols; returns the number of values of each symbol. None if there
+/// are too many entries, or another number of leaves than of different values; if a pair occurs neither in the text
+/// nor in another pair; if the dictionary is not accepted; or if the text does not expand to `values`.
 fn tested(
     alloc: Global,
     values: &[u16],
@@ -242,7 +245,7 @@ fn tested(
     Ok(Some(lengths_of(alloc, &dict)?))
 }
 
-/// A proposal that passes the tests.
+/// Returns a proposal with the number of values of each symbol. None if it fails a test.
 pub(crate) fn accept(
     alloc: Global,
     values: &[u16],

@@ -1,4 +1,4 @@
-//! The bits of a block's words, which become bytes four at a time.
+//! A buffer for the bits of a block's words. Bits become bytes four bytes at a time.
 ghost use Rattle.std.specs.Prelude.{◌≡◌, ◌<◌, ◌≤◌, ◌^◌, ◌*◌, ◌/◌, ◌+◌, ◌++◌, List, [], length, ℕ, false, replicate, IfOk, OnOk};
 ghost use Rattle.szg_code.specs.Bits.{bits, bits_of_number};
 
@@ -6,7 +6,7 @@ use std::alloc::{AllocError, Global};
 use std::marker::Model;
 use szg_code::Word;
 
-/// Bits, high bit first: whole bytes, four at a time, and up to 31 bits that wait.
+/// Bits, high bit first: whole bytes, and fewer than 32 bits that are not bytes yet.
 #[derive(Drop)]
 pub(crate) struct WordBits {
     bytes: Vec<u8>,
@@ -27,7 +27,7 @@ impl Model for WordBits {
 }
 
 impl WordBits {
-    /// Without a bit. It takes no memory.
+    /// Creates a buffer without bits. Allocates nothing.
     pub fn new(alloc: Global) -> WordBits
         ensures { result ≡ [] }
     {
@@ -38,7 +38,7 @@ impl WordBits {
         }
     }
 
-    /// The number of bits.
+    /// Returns the number of bits.
     pub fn len(&self) -> u64
         requires { length self.now < 2 ^ 62 }
         ensures { result ≡ length self.now }
@@ -68,7 +68,8 @@ impl WordBits {
         Ok(())
     }
 
-    /// Appends the bits as bytes, with zeros up to a multiple of four bytes, and forgets them; returns the number of bytes.
+    /// Appends the bits as bytes to `packed`, padded with zeros to a multiple of four bytes, and empties the buffer;
+    /// returns the number of bytes.
     pub fn move_to(&mut self, packed: &mut Vec<u8>) -> Result<usize, AllocError>
         ensures bytes { IfOk result (λ n. (bytes : List ℕ) × (fill : ℕ) × (length bytes ≡ n) × (packed.new.items ≡ packed.old.items ++ bytes) × (bits bytes ≡ self.old ++ replicate fill false)) }
         ensures few { IfOk result (λ n. n ≡ 4 * ((length self.old + 31) / 32)) }

@@ -1,4 +1,4 @@
-//! Blocks: the words of symbols, each block filled as far as whole words and 65,536 values go.
+//! Fills blocks with the words of symbols. A block takes words up to its bits and up to 65,536 values.
 ghost use Rattle.std.specs.Prelude.{ℕ, ◌≡◌, ◌+◌, ◌-◌, ◌*◌, ◌<◌, ◌≤◌, ◌^◌, ◌↔◌, ◌⊎◌, Bool, List, [], ◌∷◌, ◌++◌, length, replicate, IfOk, OnOk, IsTrue};
 ghost use Rattle.std.specs.List.{AllByRecursion};
 ghost use Rattle.szg_code.specs.Acceptance.{IsCode};
@@ -13,18 +13,18 @@ use std::alloc::{AllocError, Global};
 use szg_code::{Code, Word, word};
 use szg_pairs::Dict;
 
-/// The most values of a block.
+/// The greatest number of values of a block.
 const MAX_VALUES: u32 = 65_536;
 
-/// Blocks with their lengths.
+/// Blocks, and their lengths.
 #[derive(Drop)]
 pub(crate) struct Cut {
-    /// For each block its number of values less one.
+    /// For each block, its number of values less one.
     pub lengths: Vec<u16>,
     pub packed: Vec<u8>,
 }
 
-/// Blocks that are whole, and one that is being filled.
+/// The blocks that are full, and the block that is being filled.
 #[derive(Drop)]
 struct Filling {
     lengths: Vec<u16>,
@@ -35,7 +35,7 @@ struct Filling {
     values: u32,
 }
 
-/// How many bytes a block has.
+/// Returns the number of bytes of a block.
 fn block_size(block_bits: u8) -> usize
     requires { block_bits ≤ 10 }
     ensures { result ≡ 2 ^ block_bits }
@@ -43,7 +43,7 @@ fn block_size(block_bits: u8) -> usize
     1 << block_bits
 }
 
-/// The word of a symbol that has one.
+/// Returns the word of a symbol that has one.
 fn word_of(code: &Code, symbol: u16) -> Word
     requires there { (bits : List Bool) × IsWord code.now bits symbol }
     ensures short { result.length ≤ 32 }
@@ -66,7 +66,7 @@ pub(crate) fn pad(bytes: &mut Vec<u8>, count: usize) -> Result<(), AllocError>
     Ok(())
 }
 
-/// Appends a block: the words, padded with zero bits. The words are dropped.
+/// Appends a block: the words, padded with zero bits. The buffer is emptied.
 fn push_block(packed: &mut Vec<u8>, words: &mut WordBits, block_bits: u8) -> Result<(), AllocError>
     requires least_bits { 5 ≤ block_bits }
     requires most_bits { block_bits ≤ 10 }
@@ -79,7 +79,7 @@ fn push_block(packed: &mut Vec<u8>, words: &mut WordBits, block_bits: u8) -> Res
     Ok(())
 }
 
-/// Closes the block that is being filled.
+/// Completes the block that is being filled.
 fn close(filling: &mut Filling, block_bits: u8) -> Result<(), AllocError>
     requires least_bits { 5 ≤ block_bits }
     requires most_bits { block_bits ≤ 10 }
@@ -97,7 +97,7 @@ fn close(filling: &mut Filling, block_bits: u8) -> Result<(), AllocError>
     Ok(())
 }
 
-/// Whether a word of `bits` bits and `values` values no longer fits into the current block.
+/// Returns whether a word of `bits` bits and `values` values no longer fits into the current block.
 fn is_full(filling: &Filling, bits: u64, values: u16, block_bits: u8) -> bool
     requires bits { block_bits ≤ 10 }
     requires fits { length filling.now.buffer ≤ 8 * 2 ^ block_bits }
@@ -109,7 +109,7 @@ fn is_full(filling: &Filling, bits: u64, values: u16, block_bits: u8) -> bool
         || filling.values + u32::from(values) > MAX_VALUES
 }
 
-/// Puts the word of a symbol into the block that is being filled, or where it doesn't fit into the next one.
+/// Appends the word of a symbol to the block that is being filled, or to a new one if it does not fit.
 fn add(
     filling: &mut Filling,
     code: &Code,
@@ -137,12 +137,12 @@ fn add(
     Ok(())
 }
 
-/// A proof's step that takes no time: what `u16` holds fits two bytes.
+/// For proofs alone: each `u16` fits two bytes. It does nothing.
 pub(crate) fn fit_two_bytes(numbers: &[u16])
     ensures { AreNumbers 2 numbers.now }
 {}
 
-/// A proof's step that takes no time: what `u8` holds fits one byte.
+/// For proofs alone: each `u8` fits one byte. It does nothing.
 pub(crate) fn fit_one_byte(numbers: &[u8])
     ensures { AreNumbers 1 numbers.now }
 {}

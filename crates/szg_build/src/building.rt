@@ -1,4 +1,4 @@
-//! A subtable of its values: pairs, words, blocks, the sparse index.
+//! Builds a subtable from its values: pairs, words, blocks and the sparse index.
 ghost use Rattle.std.specs.Prelude.{ℕ, ◌≡◌, ◌<◌, ◌≤◌, ◌^◌, ◌++◌, false, List, [], length, map, IfOk, OnOk};
 ghost use Rattle.std.specs.List.{AllByRecursion};
 ghost use Rattle.szg_pairs.specs.Dictionary.{IsDictionary};
@@ -10,7 +10,7 @@ ghost use Rattle.szg_build.specs.Rule.{HasSpanIndex, HasTruncatedBinary, IsTrunc
 
 use crate::accepting::count_pairs_in;
 use crate::blocks::{Cut, fill_blocks};
-use crate::coding::{MAX_BITS, choose_code, choose_short_code};
+use crate::coding::{choose_code, choose_short_code};
 use crate::leaves::Paired;
 use crate::numbering::counts_of;
 use crate::rounds::{pair_shortly, pair_up};
@@ -32,13 +32,13 @@ pub(crate) struct Packing {
 /// How the packing of subtables is chosen.
 #[derive(Clone, Copy)]
 pub(crate) enum Choice {
-    /// By these numbers.
+    /// These numbers.
     Fixed(Packing),
-    /// By what takes the fewest bytes.
+    /// The numbers that take the fewest bytes.
     Small,
 }
 
-/// The dictionary of entries that are one.
+/// Creates the dictionary of entries that are accepted.
 fn dictionary(alloc: Global, entries: Vec<[u8; 3]>) -> Result<Dict, AllocError>
     requires few { length entries.items ≤ 4095 }
     requires accepted { IsDictionary entries.items }
@@ -53,8 +53,8 @@ fn dictionary(alloc: Global, entries: Vec<[u8; 3]>) -> Result<Dict, AllocError>
     }
 }
 
-/// Pushes one more length (65,536 values) if the last sparse entry points past the blocks. Returns the number of
-/// lengths pushed.
+/// Appends one extra length, for 65,536 values, if the last sparse entry points past the blocks. Returns the number
+/// of lengths appended.
 fn push_extra(lengths: &mut Vec<u16>, sparse: &[Entry]) -> Result<u8, AllocError>
     ensures rule { IfOk result (λ extra. IsExtended (map sparse_of sparse.now) lengths.old.items lengths.new.items extra) }
     ensures fits { IfOk result (λ extra. (extras : List ℕ) × (extra ≡ length extras) × AreNumbers 2 extras × (lengths.new.items ≡ lengths.old.items ++ extras)) }
@@ -69,7 +69,8 @@ fn push_extra(lengths: &mut Vec<u16>, sparse: &[Entry]) -> Result<u8, AllocError
     Ok(1)
 }
 
-/// The code of a dictionary's symbols: by how often they are in the text, or of words of at most two lengths.
+/// Chooses a code for a dictionary's symbols. If `by_use`, it is chosen by the symbols' counts in the text; else its
+/// words have at most two lengths.
 fn code_for(alloc: Global, dict: &Dict, symbols: &[u16], by_use: bool) -> Result<Code, AllocError>
     requires some { 1 ≤ length dict.now }
     requires few { length dict.now ≤ 4095 }
@@ -83,7 +84,7 @@ fn code_for(alloc: Global, dict: &Dict, symbols: &[u16], by_use: bool) -> Result
     choose_code(alloc, dict.symbols())
 }
 
-/// A subtable that isn't constant, of these values and their pairs.
+/// Builds a subtable that is not constant from values and the pairs made of them.
 fn build_paired(
     alloc: Global,
     values: &[u16],
@@ -131,7 +132,7 @@ fn build_paired(
     })
 }
 
-/// A subtable that isn't constant, of these values.
+/// Builds a subtable that is not constant from values.
 pub(crate) fn build_pairs(
     alloc: Global,
     values: &[u16],
@@ -155,8 +156,8 @@ pub(crate) fn build_pairs(
     build_paired(alloc, values, flags, paired, packing, false)
 }
 
-/// Builds a subtable that is not constant in the small plan: pairs while they pay, words by frequency, and the
-/// block bits and span bits that give the fewest bytes.
+/// Builds a subtable that is not constant, as small as it gets: pairs while they pay, words by the symbols' counts,
+/// and the block bits and span bits that take the fewest bytes.
 pub(crate) fn build_short_pairs(alloc: Global, values: &[u16], flags: u8) -> Result<Sub, AllocError>
     requires some { 0 < length values.now }
     requires few { length values.now < 2 ^ 33 }
@@ -167,7 +168,7 @@ pub(crate) fn build_short_pairs(alloc: Global, values: &[u16], flags: u8) -> Res
 {
     let paired = pair_shortly(alloc, values)?;
     let pairs = count_pairs_in(&paired.entries);
-    let sizes = choose_sizes(alloc, values.len() as u64, &paired, MAX_BITS)?;
+    let sizes = choose_sizes(alloc, values.len() as u64, &paired)?;
     let packing = Packing {
         block_bits: sizes.block_bits,
         span_bits: sizes.span_bits,

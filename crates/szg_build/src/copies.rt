@@ -1,4 +1,4 @@
-//! What a dump takes over from a table.
+//! Copies for a dump what it has in common with its table.
 ghost use Rattle.std.specs.Prelude.{◌≡◌, ◌%◌, map, Some, option_map, IfOk};
 ghost use Rattle.szg_values.specs.Material.{IsMaterial};
 ghost use Rattle.szg_file.specs.File.{flags_of};
@@ -12,7 +12,7 @@ use szg_block::Sub;
 use szg_file::{Map, PartBytes, Table};
 use szg_values::{Kind, Material};
 
-/// The same material.
+/// Copies a material.
 pub(crate) fn copy_material(material: &Material) -> Material
     ensures { result ≡ material.now }
 {
@@ -24,7 +24,7 @@ pub(crate) fn copy_material(material: &Material) -> Material
     same
 }
 
-/// The same part.
+/// Copies a part.
 fn copy_part(alloc: Global, part: &PartBytes) -> Result<PartBytes, AllocError>
     ensures { IfOk result (λ copy. part_of copy ≡ part_of part.now) }
 {
@@ -33,7 +33,7 @@ fn copy_part(alloc: Global, part: &PartBytes) -> Result<PartBytes, AllocError>
     Ok(PartBytes { order, men })
 }
 
-/// The same parts.
+/// Copies parts.
 pub(crate) fn copy_parts(alloc: Global, parts: &[PartBytes]) -> Result<Vec<PartBytes>, AllocError>
     ensures { IfOk result (λ copies. map part_of copies.items ≡ map part_of parts.now) }
 {
@@ -45,7 +45,7 @@ pub(crate) fn copy_parts(alloc: Global, parts: &[PartBytes]) -> Result<Vec<PartB
     Ok(copies)
 }
 
-/// The same four lists.
+/// Copies four lists.
 fn copy_lists<T: Copy>(alloc: Global, lists: &[Vec<T>; 4]) -> Result<[Vec<T>; 4], AllocError>
     ensures { IfOk result (λ copies. map (λ list. list.items) copies ≡ map (λ list. list.items) lists.now) }
 {
@@ -57,7 +57,7 @@ fn copy_lists<T: Copy>(alloc: Global, lists: &[Vec<T>; 4]) -> Result<[Vec<T>; 4]
     Ok([wins, losses, cursed_wins, blessed_losses])
 }
 
-/// The same map, or none.
+/// Copies a map, if there is one.
 fn copy_map(alloc: Global, map: &Option<Map>) -> Result<Option<Map>, AllocError>
     ensures { IfOk result (λ copy. option_map map_of copy ≡ option_map map_of map.now) }
 {
@@ -74,7 +74,7 @@ fn copy_map(alloc: Global, map: &Option<Map>) -> Result<Option<Map>, AllocError>
     }
 }
 
-/// The same maps.
+/// Copies maps.
 pub(crate) fn copy_maps(alloc: Global, maps: &[Option<Map>]) -> Result<Vec<Option<Map>>, AllocError>
     ensures { IfOk result (λ copies. map (option_map map_of) copies.items ≡ map (option_map map_of) maps.now) }
 {
@@ -86,7 +86,7 @@ pub(crate) fn copy_maps(alloc: Global, maps: &[Option<Map>]) -> Result<Vec<Optio
     Ok(copies)
 }
 
-/// The flags byte of a subtable.
+/// Returns the flags byte of a subtable.
 fn flags_byte(sub: &Sub) -> u8
     ensures { result ≡ flags_of (subtable_of sub.now) }
 {
@@ -95,7 +95,7 @@ fn flags_byte(sub: &Sub) -> u8
     }
 }
 
-/// The flags of a DTZ table's parts, without the one that says constant; none of a WDL table.
+/// Copies the flags of a DTZ table's parts, without flag 128 (constant). A WDL table has none.
 pub(crate) fn copy_flags(alloc: Global, table: &Table) -> Result<Vec<u8>, AllocError>
     ensures { IfOk result (λ flags. flags.items ≡ plan_flags table.now.contents) }
 {
@@ -105,7 +105,7 @@ pub(crate) fn copy_flags(alloc: Global, table: &Table) -> Result<Vec<u8>, AllocE
     }
 }
 
-/// Part and side of each subtable of a table.
+/// Returns part and side of each subtable of a table.
 fn table_places(table: &Table) -> &'static [(u8, u8)]
     ensures { map Some (subtables_in table.now.contents) ≡ map (λ place. subtable_at table.now.contents place.0 place.1) result.now }
 {
@@ -113,7 +113,7 @@ fn table_places(table: &Table) -> &'static [(u8, u8)]
     places(table.material(), table.kind())
 }
 
-/// The flags of all subtables, without the one that says constant.
+/// Copies the flags of all subtables, without flag 128 (constant).
 fn copy_dtz_flags(alloc: Global, table: &Table) -> Result<Vec<u8>, AllocError>
     ensures { IfOk result (λ flags. flags.items ≡ map (λ subtable. flags_of subtable % 32) table.now.contents.subtables) }
 {
@@ -128,7 +128,7 @@ fn copy_dtz_flags(alloc: Global, table: &Table) -> Result<Vec<u8>, AllocError>
     Ok(flags)
 }
 
-/// The values of all subtables, in the order of the file.
+/// Lists the values of all subtables, in file order.
 pub(crate) fn copy_values(alloc: Global, table: &Table) -> Result<Vec<Vec<u16>>, AllocError>
     ensures { IfOk result (λ lists. map (λ list. list.items) lists.items ≡ value_lists table.now.contents) }
 {

@@ -1,15 +1,11 @@
-//! Estimates of the bits that a text takes by its symbols' counts, to see after which pair it takes the least.
+//! Estimates in bits, by how often symbols occur: what a symbol costs in a text, and what a pair saves.
 //!
-//! Nothing is proved of them but that they are safe: they only choose how many pairs are kept.
-use std::alloc::{AllocError, Global};
+//! Nothing is proved of the estimates but that they are safe: they only choose which pairs are kept and how values are spelled.
 
-/// The bits of an entry of a dictionary.
-const ENTRY_BITS: u64 = 24;
+/// The number of fractional bits of a logarithm and of an estimate.
+pub(crate) const FRACTION: u32 = 16;
 
-/// The number of fractional bits of a logarithm.
-const FRACTION: u32 = 16;
-
-/// The logarithm of a number to the base of two, with its fraction's bits.
+/// Returns the logarithm of a number to the base 2, times 2^`FRACTION`, rounded down; 0 for 0.
 fn log2(number: u64) -> u64 {
     if number == 0 {
         return 0;
@@ -26,85 +22,32 @@ fn log2(number: u64) -> u64 {
     log
 }
 
-/// A number times its logarithm.
+/// Returns a number times its logarithm.
 fn weighed(number: u64) -> u64 {
     number.wrapping_mul(log2(number))
 }
 
-/// How often each symbol is in a text, and what follows of it.
-#[derive(Drop)]
-pub(crate) struct Costs {
-    counts: Vec<u64>,
-    total: u64,
-    /// The counts times their logarithms, joined.
-    sum: u64,
-    pairs: u64,
+/// Estimates the bits that a pair saves which occurs `count` times, without those of its entry, by how often its
+/// halves occur beside it and how many symbols the text has. Fractional bits are included.
+pub(crate) fn saved_by(count: u64, left: u64, right: u64, is_double: bool, total: u64) -> u64 {
+    let longer = weighed(total.saturating_add(count));
+    let with = weighed(total)
+        .wrapping_sub(weighed(count))
+        .wrapping_sub(weighed(left));
+    let halves = if is_double {
+        weighed(left.saturating_add(count.saturating_mul(2)))
+    } else {
+        weighed(left.saturating_add(count)).wrapping_add(weighed(right.saturating_add(count)))
+    };
+    let other = if is_double { 0 } else { weighed(right) };
+    let saved = longer
+        .wrapping_sub(halves)
+        .wrapping_sub(with.wrapping_sub(other));
+    // rounding can make a saving of about nothing negative
+    if saved > u64::MAX / 2 { 0 } else { saved }
 }
 
-impl Costs {
-    /// Those of a text of symbols below a number.
-    pub fn new(alloc: Global, symbols: &[u16], number: usize) -> Result<Costs, AllocError> {
-        let mut counts = vec![in alloc; 0u64; number]?;
-        for symbol in symbols {
-            let symbol = usize::from(*symbol);
-            if symbol < counts.len() {
-                let count = counts[symbol].saturating_add(1);
-                counts[symbol] = count;
-            }
-        }
-        let mut sum = 0u64;
-        for count in &counts {
-            sum = sum.wrapping_add(weighed(*count));
-        }
-        Ok(Costs {
-            counts,
-            total: symbols.len() as u64,
-            sum,
-            pairs: 0,
-        })
-    }
-
-    /// A symbol is so much rarer.
-    fn lower(&mut self, symbol: u16, by: u64) {
-        let symbol = usize::from(symbol);
-        if symbol < self.counts.len() {
-            let count = self.counts[symbol];
-            let lower = count.saturating_sub(by);
-            self.counts[symbol] = lower;
-            self.sum = self
-                .sum
-                .wrapping_sub(weighed(count))
-                .wrapping_add(weighed(lower));
-        }
-    }
-
-    /// A pair became the next symbol, so often.
-    pub fn add_pair(&mut self, left: u16, right: u16, count: u64) -> Result<(), AllocError> {
-        self.lower(left, count);
-        self.lower(right, count);
-        self.counts.push(count)?;
-        self.sum = self.sum.wrapping_add(weighed(count));
-        self.total = self.total.saturating_sub(count);
-        self.pairs = self.pairs.saturating_add(1);
-        Ok(())
-    }
-
-    /// Estimates the bits of the text and of its dictionary entries. A word has at least one bit: if one symbol is
-    /// more than half of the text, a first bit separates it from all others, and the other words' bits are added.
-    pub fn bits(&self) -> u64 {
-        let most = self
-            .counts
-            .iter()
-            .fold(0u64, |most, count| most.max(*count));
-        let words = if most > self.total / 2 {
-            let others = self.total.saturating_sub(most);
-            let sum = self.sum.wrapping_sub(weighed(most));
-            (self.total << FRACTION)
-                .wrapping_add(weighed(others))
-                .wrapping_sub(sum)
-        } else {
-            weighed(self.total).wrapping_sub(self.sum)
-        };
-        words.wrapping_add(self.pairs.wrapping_mul(ENTRY_BITS) << FRACTION)
-    }
+/// Estimates the bits of a symbol that occurs `count` times in a text of `total` symbols, fractional bits included.
+pub(crate) fn bits_for(count: u64, total: u64) -> u64 {
+    log2(total.max(1)).saturating_sub(log2(count.max(1)))
 }

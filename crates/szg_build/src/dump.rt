@@ -1,4 +1,4 @@
-//! The content of a dump, and why a text is no dump.
+//! The content of a dump, and why a text is not a dump.
 ghost use Rattle.std.specs.Prelude.{◌≡◌};
 ghost use Rattle.szg_build.specs.declared.dump.DumpReadFault.TheVariants.{Memory};
 
@@ -15,7 +15,7 @@ pub struct Dump {
     pub material: Material,
     pub kind: Kind,
     pub parts: Vec<PartBytes>,
-    /// One item a part in DTZ, none in WDL; so is `maps`.
+    /// In DTZ one item for each part, in WDL none; likewise in `maps`.
     pub flags: Vec<u8>,
     pub maps: Vec<Option<Map>>,
     pub last: [u8; 16],
@@ -28,7 +28,7 @@ impl Dump {
     ghost use Rattle.szg_build.specs.Built.{IsDumpOf};
     ghost use Rattle.szg_build.specs.Shown.{dump_seen};
 
-    /// Returns the content of a table, with flags 1 to 16 alone. Errors: `AllocError` if memory was refused.
+    /// Returns the content of a table; of the flags only 1 to 16. Errors: `AllocError` if memory is refused.
     pub fn of(alloc: Global, table: &Table) -> Result<Dump, AllocError>
         ensures { IfOk result (λ dump. IsDumpOf (dump_seen dump) table.now.contents) }
     {
@@ -48,28 +48,28 @@ impl Dump {
     }
 }
 
-/// Why a line is refused. `as u8` gives the numbers, from 1.
+/// Why a line is refused. `as u8` gives a fault's number.
 #[derive(Clone, Copy, Debug, PartialEq, Eq, Drop, Error)]
 pub enum DumpFault {
     /// The first line names a version other than 1 and 2.
     #[error("Version")]
     Version = 1,
-    /// Another line than the one that is due, another kind of table, or more than 80 bytes before 0A.
+    /// The line is not the one that is due, it names no kind of table, or it has more than 80 bytes before 0A.
     #[error("Field")]
     Field = 2,
-    /// A word that is no decimal without leading zeros, or one above its limit.
+    /// A word is no decimal without leading zeros, or it is above its limit; or a run has length 0.
     #[error("Number")]
     Number = 3,
-    /// A word that is no lower-case hexadecimal of whole bytes; in the last bytes' line also another number of them.
+    /// A word is no lower-case hexadecimal text of whole bytes; or the line `end` has not sixteen bytes.
     #[error("Hex")]
     Hex = 4,
-    /// A word that names no material.
+    /// A word names no material.
     #[error("Name")]
     Name = 5,
     /// The text ends before this line's 0A.
     #[error("Ended")]
     Ended = 6,
-    /// A run is longer than what is left of its subtable.
+    /// A run is longer than the number of values that its subtable still needs.
     #[error("Run")]
     Run = 7,
 }
@@ -77,13 +77,13 @@ pub enum DumpFault {
 /// Why no dump was read.
 #[derive(Clone, Copy, Debug, PartialEq, Eq, Drop)]
 pub enum DumpReadFault {
-    /// The first line that is refused; lines are counted from 1, and the number stops at the last value of 64 bits.
+    /// The first line that is refused. Lines are counted from 1, and the number stops at the greatest 64-bit value.
     Line { line: u64, fault: DumpFault },
-    /// What the lines so far say can't be built.
+    /// No table can be built from what the lines so far say.
     Build(BuildFault),
     /// The reader failed.
     Device,
-    /// A growth was refused.
+    /// Memory was refused.
     Memory,
 }
 

@@ -1,4 +1,4 @@
-//! A whole dump from a device.
+//! Reads a whole dump from a device.
 ghost use Rattle.std.specs.Prelude.{◌≡◌, ℕ, ◌+◌, ◌*◌, ◌<◌, ◌≤◌, List, [], ◌∷◌, ◌++◌, length, map, option_map, IfSome, IsErrOf, IsTrue, OnOk};
 ghost use Rattle.szg_io.specs.Device.{HasFailed};
 ghost use Rattle.szg_io.specs.Moved.{Takes};
@@ -35,7 +35,7 @@ struct Front {
     last: [u8; 16],
 }
 
-/// The subtables that were read so far.
+/// The subtables read so far.
 #[derive(Drop)]
 struct Subs {
     flags: Vec<u8>,
@@ -51,7 +51,7 @@ fn sizes_of(material: &Material, kind: Kind, parts: &[PartBytes]) -> Option<Arra
     subtable_sizes(material, kind, parts)
 }
 
-/// Adds a subtable; in WDL its flags and its map are dropped.
+/// Adds a subtable. In WDL its flags and its map are dropped.
 fn add_sub(kind: Kind, subs: &mut Subs, sub: SubText) -> Result<(), AllocError>
     ensures flags { OnOk result (subs.new.flags.items ≡ subs.old.flags.items ++ told_in kind sub.flags) }
     ensures maps { OnOk result (subs.new.maps.items ≡ subs.old.maps.items ++ told_in kind sub.map) }
@@ -108,7 +108,7 @@ fn read_subs<R: Input>(
     })
 }
 
-/// What follows the kind: the last bytes, the parts and the subtables.
+/// Reads what comes after the kind: the last bytes, the parts and the subtables.
 fn read_behind_kind<R: Input>(
     alloc: Global,
     form: u8,
@@ -134,7 +134,7 @@ fn read_behind_kind<R: Input>(
     read_subs(alloc, form, front, input, incoming)
 }
 
-/// The whole text.
+/// Reads the whole text.
 fn read_text<R: Input>(
     alloc: Global,
     input: &mut R,
@@ -153,13 +153,13 @@ fn read_text<R: Input>(
 
 /// Reads the text of a dump, in the form that its first line names. No byte after its last line is read.
 ///
-/// Errors: `Line` has the first refused line, from 1, and the reason; its number stops at the last value of 64
-/// bits. A line is read whole, at most 80 bytes and its 0A; then the number of its words and its fixed words are
-/// checked, then its values from left to right. In form 2 alone, `Build` means that no table can be built of the
-/// lines so far: `Order` after the first line `sub` if the parts are not valid, `Length` after a line `values`
-/// whose number is not the subtable's size. `Device` if the reader failed; `Memory` if a growth was refused. After
-/// a refused line more bytes may have been read; if memory was refused, no more bytes than every dump with these
-/// lines still has; after a dump that was read, none.
+/// Errors: `Line` has the number of the first refused line, from 1, which stops at the greatest 64-bit value, and
+/// the reason. A line is read whole, at most 80 bytes and its 0A; then the number of its words and its fixed words
+/// are checked, then its values from left to right. Only in form 2, `Build` means that no table can be built from
+/// the lines so far: `Order` after the first line `sub` if the parts are not valid, `Length` after a line `values`
+/// whose number is not the subtable's size. `Device` means that the reader failed, `Memory` that memory was refused.
+/// After a refused line more bytes may have been read. If memory was refused, no more bytes were read ahead than
+/// every dump that begins with these lines still has. After a dump that was read, no byte was read ahead.
 pub fn read_dump<R: Input>(alloc: Global, input: &mut R) -> Result<Dump, DumpReadFault>
     // If the bytes to come are known, the result is their verdict, however the reader splits them.
     ensures verdict { IfSome (R.coming input.old) (λ bytes. FollowsLines (verdict dump_format 0 bytes) result (R.coming input.new)) }

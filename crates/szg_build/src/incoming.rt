@@ -1,20 +1,20 @@
-//! Bytes of a text from a device, which is asked for large pieces.
+//! Bytes of a text from a device. They are read in large chunks.
 ghost use Rattle.std.specs.Prelude.{◌≤◌};
 
 use arrayvec::ArrayVec;
 use szg_io::{DeviceFault, Input, take_once};
 
-/// How many bytes are held back at most.
+/// The size of the buffer.
 const ROOM: usize = 4096;
 
-/// How far the reading has come.
+/// The state of a reader of lines.
 #[derive(Drop)]
 pub(crate) struct Incoming {
-    /// The number of lines that were read; it stops at the last value of 64 bits.
+    /// The number of lines read; it stops at the greatest 64-bit value.
     pub line: u64,
-    /// The bytes that were read ahead begin at this index of `bytes` ..
+    /// The bytes read ahead begin at this index of `bytes`.
     from: usize,
-    /// .. to here in the room.
+    /// The bytes read ahead end before this index of `bytes`.
     to: usize,
     bytes: [u8; 4096],
     ghost ordered: { from ≤ to },
@@ -28,7 +28,7 @@ impl Incoming {
     ghost use Rattle.szg_io.specs.Moved.{Takes};
     ghost use Rattle.szg_build.specs.Held.{held_of};
 
-    /// Before the first line.
+    /// Creates the state before the first line.
     pub fn new() -> Incoming
         ensures line { result.line ≡ 0 }
         ensures held { held_of result ≡ [] }
@@ -41,14 +41,14 @@ impl Incoming {
         }
     }
 
-    /// The bytes that are held back.
+    /// Returns the bytes read ahead.
     pub fn held(&self) -> &[u8]
         ensures { result.now ≡ held_of self.now }
     {
         &self.bytes[self.from..self.to]
     }
 
-    /// Takes a line of `size` bytes and its 0A from the bytes that were read ahead.
+    /// Takes a line of `size` bytes and its 0A from the bytes read ahead; returns the line without its 0A.
     pub fn split_line(&mut self, size: usize) -> ArrayVec<u8, 80>
         requires short { size ≤ 80 }
         requires there { size < length (held_of self.old) }
@@ -65,8 +65,8 @@ impl Incoming {
         text
     }
 
-    /// Reads at most `most` more bytes ahead, with one call of the device that is not interrupted; returns their
-    /// number: 0 at the end of the input.
+    /// Reads at most `most` bytes more ahead, in one call of the device that is not interrupted. Returns their
+    /// number, which is 0 only at the end of the input.
     pub fn refill<R: Input>(&mut self, most: u64, input: &mut R) -> Result<usize, DeviceFault>
         requires some { 0 < most }
         requires room { length (held_of self.old) ≤ 80 }

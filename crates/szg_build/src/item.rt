@@ -1,24 +1,24 @@
-//! The items of a dump's lists, a number each.
+//! The items of a dump's lists, each of which is a number.
 ghost use Rattle.std.specs.Prelude.{◌≡◌, ℕ, ◌≤◌};
 
 use crate::saying::GREATEST_ITEM;
 
-/// What a list of numbers holds: bytes, or values.
+/// An item of a list: a byte or a value.
 pub(crate) trait Item: Copy {
     ghost GREATEST: { ℕ };
 
-    /// The greatest number that an item is.
+    /// The greatest number of an item.
     const GREATEST: u64;
 
-    /// The number that an item is.
+    /// the number of an item
     ghost number: { Self → ℕ };
 
-    /// The item of a number.
+    /// Returns the item with a number.
     fn of(value: u64) -> Self
         requires { value ≤ GREATEST }
         ensures { number result ≡ value };
 
-    /// The number of an item.
+    /// Returns the number of an item.
     fn number(self) -> u64
         ensures { result ≡ number self };
 }

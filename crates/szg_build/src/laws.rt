@@ -1,4 +1,4 @@
-//! Laws over the definitions.
+//! Laws over the definitions. The contract of each function is a law, and its body is empty.
 ghost use Rattle.szg_build.specs.Laws.{TextIsRead, CutTextIsEnded, OneTextOneDump, DumpIsWritable, OwnDumpIsRead, BuiltDumpStays, RebuiltHasSameValues, BuiltIsFound};
 
 /// The text of a dump is read back as that dump, whatever follows it.
@@ -6,7 +6,7 @@ pub fn text_is_read()
     ensures { TextIsRead }
 {}
 
-/// The text of a dump that is cut anywhere ends before the end of the line after the last whole line.
+/// A text of a dump that is cut anywhere ends before the 0A of the line after the last whole line.
 pub fn cut_text_is_ended()
     ensures { CutTextIsEnded }
 {}
@@ -16,7 +16,7 @@ pub fn one_text_one_dump()
     ensures { OneTextOneDump }
 {}
 
-/// The dump of an accepted table can be written as a text that is read back, in both forms.
+/// The dump of an accepted table has a text that is read back, in both forms.
 pub fn dump_is_writable()
     ensures { DumpIsWritable }
 {}
@@ -26,18 +26,18 @@ pub fn own_dump_is_read()
     ensures { OwnDumpIsRead }
 {}
 
-/// The table that a dump's plan builds has that dump.
+/// A table that is built from a dump has this dump.
 pub fn built_dump_stays()
     ensures { BuiltDumpStays }
 {}
 
-/// A table that is built of the dump of another table has the same values, for each part and side.
+/// A table that is built from the dump of another table has the other table's values, for each part and side.
 pub fn rebuilt_has_same_values()
     ensures { RebuiltHasSameValues }
 {}
 
-/// Bytes that begin with the file of a built table, whatever follows, are read as that table; and for each part and
-/// side, the values that are found there are the items of the list that was handed in for them.
+/// Bytes that begin with the file of a built table, whatever follows, are read as that table. For each part and
+/// side, the values found in it are the items of the list that was passed for them.
 pub fn built_is_found()
     ensures { BuiltIsFound }
 {}

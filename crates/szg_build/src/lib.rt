@@ -1,5 +1,5 @@
-//! The builder of tables: from values to a table that the reader accepts and that has just these values. And the text
-//! of a table, which a person can read and compare.
+//! The builder of tables: from values to a table that the reader accepts and that has exactly these values. And
+//! dumps: the text of a table, which a person can read and compare.
 #![tactic(auto)]
 
 mod accepting;
@@ -10,6 +10,7 @@ mod cells;
 mod coding;
 mod copies;
 mod costs;
+mod dropping;
 mod dump;
 mod dumpreading;
 mod incoming;
@@ -29,8 +30,10 @@ mod reading;
 mod refusing;
 mod rounds;
 mod saying;
+mod shrinking;
 mod sizing;
 mod sparse;
+mod spelling;
 mod subreading;
 mod subtables;
 mod table;
@@ -45,31 +48,31 @@ pub use table::{build, build_small};
 use thiserror::Error;
 pub use writing::write_dump;
 
-/// What a table is to be built of, beside its values.
+/// What a table is built from, beside its values.
 #[derive(Drop)]
 pub struct Plan {
     pub material: Material,
     pub kind: Kind,
     pub parts: Vec<PartBytes>,
-    /// A block has 2 to this power bytes, 5 to 10.
+    /// A block has 2^block_bits bytes; 5 to 10.
     pub block_bits: u8,
-    /// An entry of the sparse index serves 2 to this power values, 1 to 16.
+    /// An entry of the sparse index covers 2^span_bits values; 1 to 16.
     pub span_bits: u8,
-    /// The most pairs that a dictionary gets, at most 4,000.
+    /// The greatest number of pairs that a dictionary gets, at most 4,000.
     pub rounds: u32,
-    /// One item a part in DTZ, none in WDL; so is `maps`.
+    /// In DTZ one item for each part, in WDL none; likewise in `maps`.
     pub flags: Vec<u8>,
     pub maps: Vec<Option<Map>>,
     pub last: [u8; 16],
 }
 
-/// What a small table is to be built of, beside its values: a `Plan` without the three numbers.
+/// What a small table is built from, beside its values: a `Plan` without block bits, span bits and rounds.
 #[derive(Drop)]
 pub struct SmallPlan {
     pub material: Material,
     pub kind: Kind,
     pub parts: Vec<PartBytes>,
-    /// One item a part in DTZ, none in WDL; so is `maps`.
+    /// In DTZ one item for each part, in WDL none; likewise in `maps`.
     pub flags: Vec<u8>,
     pub maps: Vec<Option<Map>>,
     pub last: [u8; 16],
@@ -78,29 +81,30 @@ pub struct SmallPlan {
 /// Why no table was built. Lists are counted from 0.
 #[derive(Debug, Clone, Copy, PartialEq, Eq, Error)]
 pub enum BuildFault {
-    /// Another number of parts, order bytes or men than the material has, or an order that no file may have.
+    /// The number of parts, order bytes or men is not the material's, or no file may have this order.
     #[error("Order")]
     Order,
-    /// Block bits that aren't 5 to 10, or span bits that aren't 1 to 16.
+    /// The block bits are not 5 to 10, or the span bits are not 1 to 16.
     #[error("Bits")]
     Bits,
-    /// More than 4,000 rounds.
+    /// There are more than 4,000 rounds.
     #[error("Rounds")]
     Rounds,
-    /// Another number of lists than of subtables.
+    /// The number of lists is not the number of subtables.
     #[error("Count")]
     Count,
     /// The first list whose length is not the size of its subtable.
     #[error("Length")]
     Length(usize),
-    /// The first list with a value above 4, in DTZ above 4,095.
+    /// The first list with a value that is too great: above 4 in WDL, above 4,095 in DTZ.
     #[error("Value")]
     Value(usize),
     /// The first list with more than 4,095 different values.
     #[error("TooManyValues")]
     TooManyValues(usize),
-    /// In DTZ another number of flags or of maps than of parts, flags above 31, a map without flag 2 or the reverse, a
-    /// wide one without flag 16 or the reverse, or a list too long for its length field; in WDL any flags or maps.
+    /// In DTZ the number of flags or of maps is not the number of parts, flags are above 31, flag 2 is without a map
+    /// or a map without flag 2, flag 16 is without a wide map or a wide map without flag 16, or a list is too long
+    /// for its length field. In WDL there are flags or maps.
     #[error("Map")]
     Map,
     /// Memory was refused.

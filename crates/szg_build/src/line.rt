@@ -1,4 +1,4 @@
-//! One line of text.
+//! Reads one line of text.
 ghost use Rattle.std.specs.Prelude.{◌≡◌, ◌≢◌, ℕ, ◌+◌, ◌<◌, ◌≤◌, length, slice_index, MatchOption, IfOk, IsErrOf};
 ghost use Rattle.szg_build.specs.Held.{held_of};
 ghost use Rattle.szg_build.specs.Lines.{line, means, words_of};
@@ -9,10 +9,10 @@ use crate::incoming::Incoming;
 use arrayvec::ArrayVec;
 use szg_io::{DeviceFault, Input};
 
-/// How many bytes a line has before its 0A, at most.
+/// The greatest number of bytes of a line before its 0A.
 const LINE_ROOM: usize = 80;
 
-/// Where the first line of some bytes ends, if it does within its room.
+/// Returns the length of the first line. None if no 0A is among its first 81 bytes.
 fn line_len(held: &[u8]) -> Option<usize>
     ensures none { MatchOption result ((k : ℕ) → k < 81 → k < length held.now → slice_index held.now k ≢ 10)
         (λ n. (n ≤ 80) × (n < length held.now)) }
@@ -27,10 +27,12 @@ fn line_len(held: &[u8]) -> Option<usize>
     None
 }
 
-/// Reads a line of at least `least` bytes with its 0A, after which at least `behind` more bytes are due. That many
-/// bytes may be requested at once. Of a line that is long enough, no byte after those is read.
+/// Reads a line and its 0A. The line and its 0A should have at least `least` bytes, and at least `behind` bytes are
+/// due after them. So it requests these bytes at once, and after a line that is long enough no byte past them has
+/// been read.
 ///
-/// `Field` where the line has more than 80 bytes before its 0A, `Ended` where the bytes end before it.
+/// Errors: `Field` if the line has more than 80 bytes before its 0A, `Ended` if the bytes end before it, `Device` if
+/// the reader failed.
 pub(crate) fn next_line<R: Input>(
     least: usize,
     behind: u64,

@@ -1,4 +1,4 @@
-//! A dump's lines from a device, one at a time.
+//! Reads a dump's lines from a device, one at a time.
 ghost use Rattle.std.specs.Prelude.{◌≡◌, ◌+◌, ◌<◌, ◌≤◌, List, [], length, IfOk, IsErrOf, OnOk};
 ghost use Rattle.std.specs.Fn.{FnOnceReturnsAt};
 ghost use Rattle.szg_build.specs.Fronts.{IsFront, TellsLine, in_line, sub_line};
@@ -17,13 +17,13 @@ use arrayvec::ArrayVec;
 use szg_io::Input;
 use szg_values::{Kind, Material};
 
-/// The bytes of a line, with its 0A, at least.
+/// The least number of bytes of a line with its 0A.
 const LEAST_LINE: usize = 1;
 
-/// The bytes of a run's line, with its 0A, at least.
+/// The least number of bytes of a run's line with its 0A.
 const LEAST_RUN: usize = 4;
 
-/// What a line says, with its number where it is refused.
+/// Adds the line's number to the fault of a line.
 fn with_line<T: Drop>(told: Result<T, DumpFault>, line: u64) -> Result<T, DumpReadFault>
     ensures { result ≡ in_line line told }
 {
@@ -33,7 +33,7 @@ fn with_line<T: Drop>(told: Result<T, DumpFault>, line: u64) -> Result<T, DumpRe
     }
 }
 
-/// Reads a line and parses it.
+/// Reads a line and parses it by `tell`.
 fn read_told<T: Drop, R: Input, F: FnOnce(&[u8]) -> Result<T, DumpFault> + Drop>(
     tell: F,
     behind: u64,
@@ -50,7 +50,7 @@ fn read_told<T: Drop, R: Input, F: FnOnce(&[u8]) -> Result<T, DumpFault> + Drop>
     with_line(tell(text.as_slice()), incoming.line)
 }
 
-/// The line of the form.
+/// Reads the line of the form.
 pub(crate) fn read_form<R: Input>(
     behind: u64,
     input: &mut R,
@@ -64,7 +64,7 @@ pub(crate) fn read_form<R: Input>(
     read_told(form_told, behind, input, incoming)
 }
 
-/// The line of the name.
+/// Reads the line of the name.
 pub(crate) fn read_material<R: Input>(
     behind: u64,
     input: &mut R,
@@ -78,7 +78,7 @@ pub(crate) fn read_material<R: Input>(
     read_told(material_told, behind, input, incoming)
 }
 
-/// The line of the kind.
+/// Reads the line of the kind.
 pub(crate) fn read_kind<R: Input>(
     behind: u64,
     input: &mut R,
@@ -92,7 +92,7 @@ pub(crate) fn read_kind<R: Input>(
     read_told(kind_told, behind, input, incoming)
 }
 
-/// The line of the last bytes.
+/// Reads the line of the last bytes.
 pub(crate) fn read_end<R: Input>(
     behind: u64,
     input: &mut R,
@@ -106,7 +106,7 @@ pub(crate) fn read_end<R: Input>(
     read_told(end_told, behind, input, incoming)
 }
 
-/// The line of a part.
+/// Reads the line of a part.
 pub(crate) fn read_part<R: Input>(
     number: u8,
     behind: u64,
@@ -122,7 +122,7 @@ pub(crate) fn read_part<R: Input>(
     read_told(|text| part_told(number, text), behind, input, incoming)
 }
 
-/// The line that names a subtable.
+/// Reads the line that names a subtable.
 pub(crate) fn read_place<R: Input>(
     place: (u8, u8),
     behind: u64,
@@ -139,7 +139,7 @@ pub(crate) fn read_place<R: Input>(
     read_told(|text| place_told(place, text), behind, input, incoming)
 }
 
-/// The line of a run, of no more values than are left.
+/// Reads the line of a run, which has at most `left` values.
 pub(crate) fn read_run<R: Input>(
     left: u64,
     behind: u64,

@@ -1,4 +1,4 @@
-//! Text on its way to a device, in large pieces and without memory.
+//! Text on its way to a device, in large chunks and without allocation.
 ghost use Rattle.std.specs.Prelude.{◌≡◌, ℕ, ◌+◌, ◌-◌, ◌<◌, ◌≤◌, ◌^◌, [], ◌++◌, length, take, min, IfOk, IfErr, OnOk, OnErr};
 ghost use Rattle.szg_io.specs.Device.{HasFailed};
 ghost use Rattle.szg_io.specs.Moved.{Gives};
@@ -8,17 +8,17 @@ use arrayvec::ArrayVec;
 use szg_file::WriteFault;
 use szg_io::{Output, give_whole};
 
-/// How far the writing has come.
+/// The state of a writer of text.
 #[derive(Drop)]
 pub(crate) struct Outgoing {
-    /// The number of bytes that went out; it stops at the last value of 64 bits.
+    /// The number of bytes written; it stops at the greatest 64-bit value.
     pub out: u64,
-    /// The bytes after them that are buffered.
+    /// The bytes after those, which are buffered.
     pub held: ArrayVec<u8, 4096>,
 }
 
 impl Outgoing {
-    /// Before the first byte.
+    /// Creates the state before the first byte.
     pub fn new() -> Outgoing
         ensures out { result.out ≡ 0 }
         ensures held { result.held.items ≡ [] }
@@ -30,7 +30,7 @@ impl Outgoing {
     }
 }
 
-/// Writes `piece` after `out` bytes; returns the new number of bytes written.
+/// Writes `piece`, where `out` bytes were written before; returns the new number of bytes written.
 fn give<W: Output>(piece: &[u8], output: &mut W, out: u64) -> Result<u64, WriteFault>
     ensures ok { IfOk result (λ now. now ≡ min (out + length piece.now) (2 ^ 64 - 1)) }
     ensures given { OnOk result (Gives W.Output output.old output.new piece.now 0) }
@@ -47,7 +47,7 @@ fn give<W: Output>(piece: &[u8], output: &mut W, out: u64) -> Result<u64, WriteF
     }
 }
 
-/// Gives the bytes that are held.
+/// Writes the buffered bytes.
 pub(crate) fn flush<W: Output>(output: &mut W, outgoing: &mut Outgoing) -> Result<(), WriteFault>
     ensures none { Writing [] outgoing.old outgoing.new W.Output output.old output.new result }
     ensures held { OnOk result (outgoing.new.held.items ≡ []) }
@@ -57,7 +57,7 @@ pub(crate) fn flush<W: Output>(output: &mut W, outgoing: &mut Outgoing) -> Resul
     Ok(())
 }
 
-/// Holds a piece.
+/// Appends `piece` to the buffer.
 fn hold(piece: &[u8], outgoing: &mut Outgoing)
     requires { length outgoing.old.held.items + length piece.now ≤ 4096 }
     ensures out { outgoing.new.out ≡ outgoing.old.out }
@@ -68,7 +68,7 @@ fn hold(piece: &[u8], outgoing: &mut Outgoing)
     };
 }
 
-/// Appends a short chunk to the buffer. The buffer is written first only if the chunk does not fit.
+/// Appends `piece`, at most 4,096 bytes, to the buffer. The buffer is written first only if `piece` does not fit.
 pub(crate) fn put<W: Output>(
     piece: &[u8],
     output: &mut W,

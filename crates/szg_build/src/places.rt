@@ -1,4 +1,4 @@
-//! Which parts and sides a table has, in the order of its file.
+//! The parts and sides of a table's subtables, in file order.
 ghost use Rattle.std.specs.Prelude.{◌≡◌, ◌≤◌, ◌<◌, [], ◌∷◌, length, All, if◌then◌else◌};
 ghost use Rattle.std.specs.List.{range_with_len};
 ghost use Rattle.szg_file.specs.Contents.{part_numbers, side_numbers};
@@ -6,7 +6,7 @@ ghost use Rattle.szg_build.specs.Dump.{places_of};
 
 use szg_values::{Kind, Material};
 
-/// Part and side of each subtable, where there is one part and one side, and so on.
+/// Part and side of each subtable, for one part with one side. The constants after it are for more of them.
 const ONE: &[(u8, u8)] = &[(0, 0)];
 
 const TWO_SIDES: &[(u8, u8)] = &[(0, 0), (0, 1)];
@@ -24,7 +24,7 @@ const EIGHT: &[(u8, u8)] = &[
     (3, 1),
 ];
 
-/// How many parts a table has: four with pawns, else one.
+/// Returns the number of parts of a table: four with pawns, else one.
 pub(crate) fn part_count(material: &Material) -> u8
     ensures numbers { part_numbers material.now ≡ range_with_len 0 result }
     ensures few { result ≤ 4 }
@@ -33,7 +33,7 @@ pub(crate) fn part_count(material: &Material) -> u8
     if material.has_pawns() { 4 } else { 1 }
 }
 
-/// Whether subtables have two sides.
+/// Returns whether each part has two sides.
 fn has_two_sides(material: &Material, kind: Kind) -> bool
     ensures { side_numbers material.now kind ≡ (if result then 0 ∷ 1 ∷ [] else 0 ∷ []) }
 {
@@ -43,7 +43,7 @@ fn has_two_sides(material: &Material, kind: Kind) -> bool
     }
 }
 
-/// Part and side of each subtable.
+/// Returns part and side of each subtable.
 pub(crate) fn places(material: &Material, kind: Kind) -> &'static [(u8, u8)]
     ensures places { result.now ≡ places_of material.now kind }
     ensures parts { All (λ place. place.0 < 4) result.now }

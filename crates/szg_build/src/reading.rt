@@ -1,4 +1,4 @@
-//! A dump from a device.
+//! Reads a dump's parts, maps and values from a device.
 ghost use Rattle.std.specs.Prelude.{◌≡◌, ◌+◌, ◌<◌, ◌≤◌, ◌^◌, [], ◌∷◌, ◌++◌, length, map, option_map, replicate, IsErrOf, OnOk};
 ghost use Rattle.szg_file.specs.Contents.{has_bit, part_numbers};
 ghost use Rattle.szg_file.specs.Held.{map_of, part_of};
@@ -22,7 +22,7 @@ use szg_values::Material;
 
 // ---- values
 
-/// An item, in a line of its own.
+/// Reads an item from a line of its own.
 fn read_item<T: Item, R: Input>(
     behind: u64,
     input: &mut R,
@@ -37,7 +37,7 @@ fn read_item<T: Item, R: Input>(
     Ok(T::of(number))
 }
 
-/// Items, one a line.
+/// Reads `count` items, one a line.
 fn read_items<T: Item, R: Input>(
     alloc: Global,
     count: u64,
@@ -59,7 +59,7 @@ fn read_items<T: Item, R: Input>(
     Ok(list)
 }
 
-/// Adds a run of equal values.
+/// Appends a run of equal values.
 fn add_run(list: &mut Vec<u16>, size: u64, value: u16) -> Result<(), AllocFailed<u16>>
     ensures { OnOk result (list.new.items ≡ list.old.items ++ replicate size value) }
 {
@@ -69,7 +69,7 @@ fn add_run(list: &mut Vec<u16>, size: u64, value: u16) -> Result<(), AllocFailed
     Ok(())
 }
 
-/// Reads runs, one a line, until the subtable has all its values.
+/// Reads runs, one a line, until there are `count` values.
 fn read_runs<R: Input>(
     alloc: Global,
     count: u64,
@@ -92,7 +92,7 @@ fn read_runs<R: Input>(
     Ok(list)
 }
 
-/// Reads the `count` values of a subtable in this form.
+/// Reads the `count` values of a subtable in form `form`.
 pub(crate) fn read_values<R: Input>(
     alloc: Global,
     form: u8,
@@ -116,7 +116,7 @@ pub(crate) fn read_values<R: Input>(
 
 // ---- maps
 
-/// List `j` of a map.
+/// Reads list `j` of a map.
 fn read_list<T: Item, R: Input>(
     alloc: Global,
     j: u8,
@@ -136,7 +136,7 @@ fn read_list<T: Item, R: Input>(
     read_items(alloc, count, behind, input, incoming)
 }
 
-/// The four lists of a map.
+/// Reads the four lists of a map.
 fn read_lists<T: Item, R: Input>(
     alloc: Global,
     behind: u64,
@@ -156,7 +156,7 @@ fn read_lists<T: Item, R: Input>(
     Ok([wins, losses, cursed_wins, blessed_losses])
 }
 
-/// The map that flags ask for, if they do.
+/// Reads the map that the flags require. None if they require none.
 pub(crate) fn read_map<R: Input>(
     alloc: Global,
     flags: u8,
@@ -183,7 +183,7 @@ pub(crate) fn read_map<R: Input>(
 
 // ---- the parts
 
-/// A part.
+/// Reads a part.
 fn read_part_bytes<R: Input>(
     alloc: Global,
     number: u8,
@@ -203,7 +203,7 @@ fn read_part_bytes<R: Input>(
     Ok(PartBytes { order, men })
 }
 
-/// The parts of a material.
+/// Reads the parts of a material.
 pub(crate) fn read_parts<R: Input>(
     alloc: Global,
     material: &Material,

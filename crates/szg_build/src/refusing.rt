@@ -1,4 +1,4 @@
-//! The checks of a plan and its lists that follow the check of the order of its parts.
+//! The checks of a plan and its lists that come after the check of its parts.
 ghost use Rattle.std.specs.Prelude.{◌≡◌, ◌≤◌, ◌==◌, ◌&&◌, ◌^◌, not, nat_lt, nat_le, length, map, option_map, Some};
 ghost use Rattle.std.specs.List.{All, AllByRecursion, list_all, list_any, position, zip};
 ghost use Rattle.szg_file.specs.Contents.{has_bit, part_numbers};
@@ -12,20 +12,20 @@ use crate::{BuildFault, Plan};
 use szg_file::Map;
 use szg_values::Kind;
 
-/// The most rounds that a plan may ask for.
+/// The greatest number of rounds of a plan.
 const MAX_ROUNDS: u32 = 4000;
 
-/// The most different values of a list.
+/// The greatest number of different values of a list.
 const MAX_DIFFERENT: usize = 4095;
 
-/// Whether block bits and span bits are in their ranges.
+/// Returns whether block bits and span bits are in their ranges.
 fn bits_stand(plan: &Plan) -> bool
     ensures { result ≡ (nat_le 5 plan.now.block_bits && nat_le plan.now.block_bits 10 && nat_le 1 plan.now.span_bits && nat_le plan.now.span_bits 16) }
 {
     5 <= plan.block_bits && plan.block_bits <= 10 && 1 <= plan.span_bits && plan.span_bits <= 16
 }
 
-/// The greatest value of a kind.
+/// Returns the greatest value that a kind of table may have.
 fn greatest_of(kind: Kind) -> u16
     ensures { result ≡ greatest_value kind }
 {
@@ -35,14 +35,14 @@ fn greatest_of(kind: Kind) -> u16
     }
 }
 
-/// Whether a list has a value above this one.
+/// Returns whether a list has a value above `greatest`.
 fn has_above(values: &[u16], greatest: u16) -> bool
     ensures { result ≡ list_any (λ v. nat_lt greatest v) values.now }
 {
     values.iter().any(|v| *v > greatest)
 }
 
-/// The first list that hasn't its size.
+/// Returns the index of the first list whose length is not its subtable's size.
 fn wrong_length(sizes: &[u64], lists: &[&[u16]]) -> Option<usize>
     ensures { result ≡ position (λ pair. not (length pair.1.now == pair.0)) (zip sizes.now lists.now) }
 {
@@ -52,7 +52,7 @@ fn wrong_length(sizes: &[u64], lists: &[&[u16]]) -> Option<usize>
         .position(|(size, list)| list.len() as u64 != *size)
 }
 
-/// The first list with a value that is too great.
+/// Returns the index of the first list with a value that is too great.
 fn wrong_value(kind: Kind, lists: &[&[u16]]) -> Option<usize>
     ensures { result ≡ position (λ list. list_any (λ v. nat_lt (greatest_value kind) v) list.now) lists.now }
 {
@@ -60,7 +60,7 @@ fn wrong_value(kind: Kind, lists: &[&[u16]]) -> Option<usize>
     lists.iter().position(|list| has_above(list, greatest))
 }
 
-/// The first list with more than 4,095 different values.
+/// Returns the index of the first list with more than 4,095 different values.
 fn too_many_values(lists: &[&[u16]]) -> Option<usize>
     requires { All (λ list. AllByRecursion (λ v. v ≤ 4095) list.now) lists.now }
     ensures { result ≡ position (λ list. nat_lt 4095 (length (different_values list.now))) lists.now }
@@ -70,35 +70,35 @@ fn too_many_values(lists: &[&[u16]]) -> Option<usize>
         .position(|list| count_different(list) > MAX_DIFFERENT)
 }
 
-/// Whether flags ask for a map.
+/// Returns whether flags require a map.
 pub(crate) fn is_mapped(flags: u8) -> bool
     ensures { result ≡ has_bit 1 flags }
 {
     (flags / 2) % 2 == 1
 }
 
-/// Whether flags say that a map's items have two bytes.
+/// Returns whether flags require a map whose items have two bytes.
 pub(crate) fn is_wide(flags: u8) -> bool
     ensures { result ≡ has_bit 4 flags }
 {
     (flags / 16) % 2 == 1
 }
 
-/// Whether the length of each list of bytes fits a byte.
+/// Returns whether the length of each list of bytes fits one byte.
 fn are_short(lists: &[Vec<u8>]) -> bool
     ensures { result ≡ list_all (λ list. nat_lt (length list.items) (2 ^ 8)) lists.now }
 {
     lists.iter().all(|list| list.len() < 256)
 }
 
-/// Whether the length of each list of numbers of two bytes fits two bytes.
+/// Returns whether the length of each list of two-byte items fits two bytes.
 fn are_short_wide(lists: &[Vec<u16>]) -> bool
     ensures { result ≡ list_all (λ list. nat_lt (length list.items) (2 ^ 16)) lists.now }
 {
     lists.iter().all(|list| list.len() < 65536)
 }
 
-/// Whether flags ask for a map of bytes, and its lists fit their length fields.
+/// Returns whether flags require a map of bytes and the lists fit their length fields.
 fn is_narrow_for(flags: u8, lists: &[Vec<u8>]) -> bool
     ensures { result ≡ (has_bit 1 flags && not (has_bit 4 flags) && list_all (λ list. nat_lt (length list) (2 ^ 8)) (map (λ list. list.items) lists.now)) }
 {
@@ -111,7 +111,7 @@ fn is_narrow_for(flags: u8, lists: &[Vec<u8>]) -> bool
     are_short(lists)
 }
 
-/// Whether flags ask for a map of numbers of two bytes, and its lists fit their length fields.
+/// Returns whether flags require a wide map and the lists fit their length fields.
 fn is_wide_for(flags: u8, lists: &[Vec<u16>]) -> bool
     ensures { result ≡ (has_bit 1 flags && has_bit 4 flags && list_all (λ list. nat_lt (length list) (2 ^ 16)) (map (λ list. list.items) lists.now)) }
 {
@@ -124,7 +124,7 @@ fn is_wide_for(flags: u8, lists: &[Vec<u16>]) -> bool
     are_short_wide(lists)
 }
 
-/// Whether a map is just what the flags ask for.
+/// Returns whether a map is what the flags require.
 fn is_map_for(flags: u8, item: &Option<Map>) -> bool
     ensures { result ≡ is_map_of (flags, option_map map_of item.now) }
 {
@@ -135,14 +135,14 @@ fn is_map_for(flags: u8, item: &Option<Map>) -> bool
     }
 }
 
-/// Whether no flags byte has another bit than 0 to 4.
+/// Returns whether no flags byte has a bit other than 0 to 4.
 fn are_flags(flags: &[u8]) -> bool
     ensures { result ≡ list_all (λ byte. nat_lt byte 32) flags.now }
 {
     flags.iter().all(|byte| *byte < 32)
 }
 
-/// Whether each map is just what its flags ask for.
+/// Returns whether each map is what its flags require.
 fn are_maps_for(flags: &[u8], maps: &[Option<Map>]) -> bool
     ensures { result ≡ list_all (λ pair. is_map_of (pair.0, option_map map_of pair.1)) (zip flags.now maps.now) }
 {
@@ -152,7 +152,7 @@ fn are_maps_for(flags: &[u8], maps: &[Option<Map>]) -> bool
         .all(|(byte, item)| is_map_for(*byte, item))
 }
 
-/// Whether a DTZ plan has flags and a map or none for each part, which fit each other.
+/// Returns whether a DTZ plan has flags and an optional map for each part, and each map is what its flags require.
 fn each_has_map(plan: &Plan) -> bool
     ensures { result ≡ ((length plan.now.flags.items == length (part_numbers plan.now.material)) && (length plan.now.maps.items == length (part_numbers plan.now.material)) && list_all (λ byte. nat_lt byte 32) plan.now.flags.items && list_all (λ pair. is_map_of (pair.0, option_map map_of pair.1)) (zip plan.now.flags.items plan.now.maps.items)) }
 {
@@ -169,7 +169,7 @@ fn each_has_map(plan: &Plan) -> bool
     are_maps_for(&plan.flags, &plan.maps)
 }
 
-/// Whether a plan has the flags and maps of its kind.
+/// Returns whether a plan has the flags and maps that its kind requires.
 fn maps_stand(plan: &Plan) -> bool
     ensures { result ≡ has_maps (plan_seen plan.now) }
 {
@@ -179,7 +179,7 @@ fn maps_stand(plan: &Plan) -> bool
     }
 }
 
-/// Returns the first fault of a plan and its lists, whose parts are valid and give these sizes. It takes no memory.
+/// Returns the first fault of a plan and its lists. The parts are valid and give these sizes. Allocates nothing.
 pub(crate) fn first_fault(plan: &Plan, sizes: &[u64], lists: &[&[u16]]) -> Option<BuildFault>
     ensures { result ≡ fault_for (Some sizes.now) (plan_seen plan.now) (map (λ list. list.now) lists.now) }
 {

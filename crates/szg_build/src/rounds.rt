@@ -1,4 +1,4 @@
-//! Pairs: those that are proposed, where they pass the tests, else one a round by a count anew.
+//! Makes pairs: the proposed ones if they pass the tests, else one pair a round, counting all pairs again.
 ghost use Rattle.std.specs.Prelude.{ℕ, ◌≡◌, ◌+◌, ◌*◌, ◌<◌, ◌≤◌, ◌^◌, ◌↔◌, true, IsTrue, List, length, slice_index, IfOk, IfSome, IfNone, OnOk};
 ghost use Rattle.std.specs.List.{AllByRecursion};
 ghost use Rattle.szg_build.specs.Building.{AreLens, IsCandidate, IsPairing, IsRound};
@@ -9,10 +9,11 @@ use crate::accepting::{accept, count_pairs_in};
 use crate::leaves::{MAX_SYMBOLS, Paired, begin, entry};
 use crate::numbering::numbered_by_count;
 use crate::pairing::{LEAST_COUNT, Pair, count_pairs, is_short, replace};
-use crate::proposing::{propose, propose_short};
+use crate::proposing::{propose, with_pairs};
+use crate::shrinking::shrink;
 use std::alloc::{AllocError, Global};
 
-/// A right symbol with which a left one makes a pair that counts four or more and may be made.
+/// Returns a right symbol with which `left` makes a pair that may be made and counts four or more.
 fn find_right(counts: &[u32], lens: &[u16], left: usize) -> Option<usize>
     requires few { length lens.now ≤ 4095 }
     requires room { length counts.now ≡ length lens.now * length lens.now }
@@ -32,7 +33,7 @@ fn find_right(counts: &[u32], lens: &[u16], left: usize) -> Option<usize>
     None
 }
 
-/// A pair that counts four or more and may be made.
+/// Returns a pair that may be made and counts four or more.
 fn find_pair(counts: &[u32], lens: &[u16]) -> Option<Pair>
     requires few { length lens.now ≤ 4095 }
     requires room { length counts.now ≡ length lens.now * length lens.now }
@@ -54,7 +55,7 @@ fn find_pair(counts: &[u32], lens: &[u16]) -> Option<Pair>
     None
 }
 
-/// A pair that is left to be made, by a count of all pairs anew.
+/// Counts all pairs, and returns one that is still to be made.
 fn find_left(alloc: Global, symbols: &[u16], lens: &[u16]) -> Result<Option<Pair>, AllocError>
     requires few { length lens.now ≤ 4095 }
     requires below { AllByRecursion (λ s. s < length lens.now) symbols.now }
@@ -71,7 +72,7 @@ fn find_left(alloc: Global, symbols: &[u16], lens: &[u16]) -> Result<Option<Pair
     Ok(find_pair(&counts, lens))
 }
 
-/// How many values the two symbols of a pair have together.
+/// Returns the number of values of a pair.
 fn joined_length(lens: &[u16], pair: Pair) -> u16
     requires left { pair.left < length lens.now }
     requires right { pair.right < length lens.now }
@@ -81,7 +82,7 @@ fn joined_length(lens: &[u16], pair: Pair) -> u16
     lens[usize::from(pair.left)] + lens[usize::from(pair.right)]
 }
 
-/// Makes a pair the next symbol.
+/// Makes a pair the next symbol, and replaces it in the text.
 fn make_pair(paired: &mut Paired, pair: Pair) -> Result<(), AllocError>
     requires few { length paired.old.entries.items < 4095 }
     requires count { length paired.old.lens.items ≡ length paired.old.entries.items }
@@ -99,7 +100,7 @@ fn make_pair(paired: &mut Paired, pair: Pair) -> Result<(), AllocError>
     Ok(())
 }
 
-/// Makes pairs by a count anew in each round, which needs nothing but itself.
+/// Makes pairs without a proposal: counts all pairs again in each round.
 fn pair_slowly(alloc: Global, values: &[u16], rounds: u32) -> Result<Paired, AllocError>
     requires small { AllByRecursion (λ v. v ≤ 4095) values.now }
     requires different { length (different_values values.now) ≤ 4095 }
@@ -119,7 +120,7 @@ fn pair_slowly(alloc: Global, values: &[u16], rounds: u32) -> Result<Paired, All
     Ok(paired)
 }
 
-/// Whether no more pairs are to be made.
+/// Returns whether no more pairs are to be made.
 fn is_finished(alloc: Global, paired: &Paired, rounds: u32) -> Result<bool, AllocError>
     requires lens { AreLens paired.now.entries.items paired.now.lens.items }
     requires few { length paired.now.entries.items ≤ 4095 }
@@ -139,14 +140,14 @@ fn is_finished(alloc: Global, paired: &Paired, rounds: u32) -> Result<bool, Allo
     Ok(false)
 }
 
-/// Whether four bytes hold each offset of a list, as the lists of a pair's offsets have them.
+/// Returns whether four bytes hold each offset of a list, as lists of a pair's offsets store them.
 fn has_short_offsets(values: &[u16]) -> bool
     ensures { IsTrue result ↔ (length values.now < 2 ^ 32) }
 {
     values.len() <= u32::MAX as usize
 }
 
-/// Pairs as they are proposed, where the proposal passes all tests. A list of 2^32 values or more gets none.
+/// Returns the proposed pairs. None if the proposal fails a test, or if there are 2^32 values or more.
 fn pair_by_proposal(
     alloc: Global,
     values: &[u16],
@@ -185,7 +186,8 @@ pub(crate) fn pair_up(alloc: Global, values: &[u16], rounds: u32) -> Result<Pair
     pair_slowly(alloc, values, rounds)
 }
 
-/// Makes pairs while they pay; symbols are numbered by how often they are in the text, the rarest first.
+/// Makes the pairs by which the subtable takes few bytes, and spells the values with them. Symbols are numbered by how
+/// often they occur in the text, the rarest first.
 pub(crate) fn pair_shortly(alloc: Global, values: &[u16]) -> Result<Paired, AllocError>
     requires small { AllByRecursion (λ v. v ≤ 4095) values.now }
     requires different { length (different_values values.now) ≤ 4095 }
@@ -196,7 +198,10 @@ pub(crate) fn pair_shortly(alloc: Global, values: &[u16]) -> Result<Paired, Allo
     if !has_short_offsets(values) {
         return Ok(begun);
     }
-    let proposal = numbered_by_count(alloc, propose_short(alloc, begun)?)?;
+    let all = with_pairs(alloc, begun, MAX_SYMBOLS as u32)?;
+    let leaves = begin(alloc, values)?;
+    let shrunk = shrink(alloc, &leaves.symbols, all)?;
+    let proposal = numbered_by_count(alloc, shrunk)?;
     if let Some(paired) = accept(alloc, values, proposal)? {
         return Ok(paired);
     }

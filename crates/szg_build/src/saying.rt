@@ -1,4 +1,4 @@
-//! What the words of a dump's lines say.
+//! Parses the lines of a dump.
 ghost use Rattle.std.specs.Prelude.{◌≡◌, ◌≤◌, ◌<◌, ◌^◌, ℕ, List, [], length, IfOk, IfSome};
 ghost use Rattle.szg_build.specs.Fronts.{IsFront, said, sub_line};
 ghost use Rattle.szg_build.specs.Grammar.{Word, version_line, name_line, kind_line, end_line, part_line, number_in, number_line, positive, greatest_count, run_line};
@@ -11,13 +11,13 @@ use crate::word::{hex_bytes, number_of, one_word, two_words};
 use arrayvec::ArrayVec;
 use szg_values::{Kind, Material};
 
-/// The greatest number of values or of a map's items.
+/// The greatest number of values, or of items of a map's list.
 pub(crate) const GREATEST_COUNT: u64 = 0x7fff_ffff_ffff_ffff;
 
-/// The greatest value.
+/// The greatest value or item.
 pub(crate) const GREATEST_ITEM: u64 = 65535;
 
-/// The form of a dump.
+/// Parses the line of the form.
 pub(crate) fn form_told(text: &[u8]) -> Result<u8, DumpFault>
     ensures { Says (said version_line (words_of text.now)) form_of result }
 {
@@ -33,7 +33,7 @@ pub(crate) fn form_told(text: &[u8]) -> Result<u8, DumpFault>
     Err(DumpFault::Version)
 }
 
-/// The material that a name names.
+/// Parses the line of the name.
 pub(crate) fn material_told(text: &[u8]) -> Result<Material, DumpFault>
     ensures { Says (said name_line (words_of text.now)) (λ material. material) result }
 {
@@ -49,7 +49,7 @@ pub(crate) fn material_told(text: &[u8]) -> Result<Material, DumpFault>
     }
 }
 
-/// The kind of table.
+/// Parses the line of the kind.
 pub(crate) fn kind_told(text: &[u8]) -> Result<Kind, DumpFault>
     ensures { Says (said kind_line (words_of text.now)) (λ kind. kind) result }
 {
@@ -65,7 +65,7 @@ pub(crate) fn kind_told(text: &[u8]) -> Result<Kind, DumpFault>
     Err(DumpFault::Field)
 }
 
-/// The last sixteen bytes.
+/// Parses the line of the last sixteen bytes.
 pub(crate) fn end_told(text: &[u8]) -> Result<[u8; 16], DumpFault>
     requires { length text.now ≤ 80 }
     ensures { Says (said end_line (words_of text.now)) (λ bytes. bytes) result }
@@ -84,7 +84,7 @@ pub(crate) fn end_told(text: &[u8]) -> Result<[u8; 16], DumpFault>
     Ok(last)
 }
 
-/// The number of a line of one number.
+/// Parses a line of one number, at most `limit`, after the fixed words `front`.
 pub(crate) fn number_told(front: &[u8], limit: u64, text: &[u8]) -> Result<u64, DumpFault>
     ensures within { IfOk result (λ number. number ≤ limit) }
     ensures number { (pattern : List Word) → IsFront pattern front.now → Says (said (number_line pattern limit) (words_of text.now)) (λ n. n) result }
@@ -98,7 +98,7 @@ pub(crate) fn number_told(front: &[u8], limit: u64, text: &[u8]) -> Result<u64, 
     }
 }
 
-/// Whether a line names this subtable.
+/// Checks that a line names this subtable.
 pub(crate) fn place_told(place: (u8, u8), text: &[u8]) -> Result<(), DumpFault>
     requires part { place.0 < 4 }
     requires side { place.1 < 2 }
@@ -112,7 +112,7 @@ pub(crate) fn place_told(place: (u8, u8), text: &[u8]) -> Result<(), DumpFault>
     }
 }
 
-/// The bytes of the order and of the men of a part.
+/// Parses the line of a part: its order bytes and its man bytes.
 pub(crate) fn part_told(
     number: u8,
     text: &[u8],
@@ -148,7 +148,7 @@ pub(crate) fn part_told(
     Ok((order, men))
 }
 
-/// How many values a run has, and which; no more than are left.
+/// Parses the line of a run: its length, at most `left`, and its value.
 pub(crate) fn run_told(left: u64, text: &[u8]) -> Result<(u64, u16), DumpFault>
     ensures run { Says (said (run_line left) (words_of text.now)) (λ run. run) result }
     ensures some { IfOk result (λ run. 0 < run.0) }
@@ -170,7 +170,7 @@ pub(crate) fn run_told(left: u64, text: &[u8]) -> Result<(u64, u16), DumpFault>
     Ok((count, value as u16))
 }
 
-/// A count that isn't 0.
+/// Parses a count that is not 0.
 fn positive_of(word: &[u8]) -> Option<u64>
     ensures value { result ≡ positive (number_in greatest_count word.now) }
     ensures some { IfSome result (λ count. 0 < count) }

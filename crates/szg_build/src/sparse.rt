@@ -1,4 +1,5 @@
-//! The sparse index: for each span that values begin, the block that holds its middle, and the place in that block.
+//! The sparse index: for each span that has a value, the block that contains the middle of the span, and the offset
+//! in it.
 ghost use Rattle.std.specs.Prelude.{ℕ, ◌≡◌, ◌+◌, ◌<◌, ◌≤◌, ◌^◌, length, map, IfOk};
 ghost use Rattle.szg_block.specs.Block.{start};
 ghost use Rattle.szg_block.specs.Sound.{entry_count, middle_of_span};
@@ -15,7 +16,7 @@ struct Walk {
     start: u64,
 }
 
-/// Goes on to the block that holds a value.
+/// Moves on to the block that contains value `index`.
 fn advance(lengths: &[u16], walk: &mut Walk, index: u64)
     requires there { walk.old.block < length lengths.now }
     requires at { walk.old.start ≡ start lengths.now walk.old.block }
@@ -33,7 +34,8 @@ fn advance(lengths: &[u16], walk: &mut Walk, index: u64)
     }
 }
 
-/// The sparse entry for a value, or for the same distance after the last value.
+/// Returns the sparse entry that leads to `index`: the block that contains it, or from `size` on the end after the
+/// last block.
 fn entry_to(lengths: &[u16], walk: &mut Walk, index: u64, size: u64) -> Entry
     requires there { walk.old.block < length lengths.now }
     requires at { walk.old.start ≡ start lengths.now walk.old.block }
@@ -63,7 +65,7 @@ fn entry_to(lengths: &[u16], walk: &mut Walk, index: u64, size: u64) -> Entry
     }
 }
 
-/// The sparse index of blocks of these lengths, which hold all values.
+/// Returns the sparse index of blocks with these lengths, which have `size` values in all.
 pub(crate) fn sparse_index(
     alloc: Global,
     lengths: &[u16],

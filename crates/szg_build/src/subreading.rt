@@ -1,4 +1,4 @@
-//! A dump's subtables from a device.
+//! Reads a dump's subtables from a device.
 ghost use Rattle.std.specs.Prelude.{◌≡◌, ◌+◌, ◌<◌, ◌≤◌, ◌^◌, length, option_map, IsErrOf, OnOk};
 ghost use Rattle.szg_file.specs.Held.{map_of};
 ghost use Rattle.szg_build.specs.Grammar.{demand, flags_line, length_check, order_check, sub_text};
@@ -21,7 +21,7 @@ use szg_file::Map;
 use szg_io::Input;
 use szg_values::Kind;
 
-/// What the text says of a subtable; in WDL the flags are 0 and there is no map.
+/// The content of a subtable in the text. In WDL the flags are 0 and there is no map.
 #[derive(Drop)]
 pub(crate) struct SubText {
     pub flags: u8,
@@ -29,7 +29,7 @@ pub(crate) struct SubText {
     pub values: Vec<u16>,
 }
 
-/// The flags of a subtable; in WDL there is no line of them.
+/// Reads the flags of a subtable. In WDL there is no line for them, and they are 0.
 fn read_flags<R: Input>(
     kind: Kind,
     behind: u64,
@@ -50,7 +50,7 @@ fn read_flags<R: Input>(
     }
 }
 
-/// Whether subtable `s` may have `count` values: in form 2 only its size, if the sizes are known.
+/// Returns whether subtable `s` may have `count` values. In form 2 it must be its size, if the sizes are known.
 fn may_have(form: u8, sizes: &Option<ArrayVec<u64, 8>>, s: usize, count: u64) -> bool
     ensures { length_check (form_of form) (option_map (λ list. list.items) sizes.now) s count ≡ demand result (Length s) }
 {
@@ -66,14 +66,14 @@ fn may_have(form: u8, sizes: &Option<ArrayVec<u64, 8>>, s: usize, count: u64) ->
     }
 }
 
-/// Whether subtables may follow: in form 2 the parts have to be valid, so that the sizes are known.
+/// Returns whether a subtable may follow. In form 2 the parts must be valid, so that the sizes are known.
 fn may_stand(form: u8, sizes: &Option<ArrayVec<u64, 8>>) -> bool
     ensures { order_check (form_of form) (option_map (λ list. list.items) sizes.now) ≡ demand result Order }
 {
     form != 2 || sizes.is_some()
 }
 
-/// A subtable from its line `values` on, with the flags and the map that were read.
+/// Reads a subtable from its line `values` on. `flags` and `map` were read before.
 fn read_counted<R: Input>(
     alloc: Global,
     form: u8,
@@ -121,7 +121,7 @@ fn read_fields<R: Input>(
     read_counted(alloc, form, sizes, s, flags, map, behind, input, incoming)
 }
 
-/// Subtable `s`, which is named by its part and its side.
+/// Reads subtable `s`, from the line that names its part and side on.
 pub(crate) fn read_sub<R: Input>(
     alloc: Global,
     form: u8,

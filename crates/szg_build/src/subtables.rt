@@ -1,4 +1,4 @@
-//! A subtable of its values: a constant one, or one of blocks.
+//! Builds a subtable from its values: a constant one, or one with blocks.
 ghost use Rattle.std.specs.Prelude.{◌≡◌, ◌==◌, ◌<◌, ◌≤◌, ◌^◌, length, replicate, false, true, IfNone, IfOk, IfSome};
 ghost use Rattle.std.specs.List.{AllByRecursion, list_all};
 ghost use Rattle.szg_file.specs.Held.{subtable_of};
@@ -12,10 +12,10 @@ use std::alloc::{AllocError, Global};
 use szg_block::Sub;
 use szg_values::Kind;
 
-/// The highest bit of a flags byte: set in a constant subtable and no other.
+/// The highest bit of a flags byte, set only in a constant subtable.
 const CONSTANT: u8 = 128;
 
-/// Whether all values are this one.
+/// Returns whether all values are `one`.
 fn are_all(values: &[u16], one: u16) -> bool
     ensures same { result ≡ true → values.now ≡ replicate (length values.now) one }
     ensures some { result ≡ false → 0 < length values.now }
@@ -29,8 +29,8 @@ fn are_all(values: &[u16], one: u16) -> bool
     true
 }
 
-/// The byte of the constant subtable that a list makes: in WDL where it has one value alone, in DTZ where it has zeros.
-/// A list without values makes one, too.
+/// Returns the byte of the constant subtable for a list: in WDL if all values are equal and below 256, in DTZ if all
+/// values are 0. The byte for an empty list is 0.
 fn constant_byte(kind: Kind, values: &[u16]) -> Option<u8>
     requires small { AllByRecursion (λ v. v ≤ greatest_value kind) values.now }
     ensures same { IfSome result (λ byte. values.now ≡ replicate (length values.now) (constant_value kind byte)) }
@@ -52,7 +52,7 @@ fn constant_byte(kind: Kind, values: &[u16]) -> Option<u8>
     }
 }
 
-/// The subtable of a list of values, with the plan's flags (0 in WDL).
+/// Builds the subtable of a list of values, with the plan's flags (0 in WDL).
 pub(crate) fn build_sub(
     alloc: Global,
     kind: Kind,

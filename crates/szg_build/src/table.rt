@@ -1,4 +1,4 @@
-//! A table of a plan and of lists of values.
+//! Builds a table from a plan and lists of values.
 ghost use Rattle.std.specs.Prelude.{◌≡◌, ◌<◌, not, length, map, option_map, slice_index, Err, IfOk, IfErr, MatchOption};
 ghost use Rattle.std.specs.List.{AllByRecursion};
 ghost use Rattle.szg_values.specs.Material.{has_pawns, is_symmetric};
@@ -23,19 +23,19 @@ use szg_block::Sub;
 use szg_file::{Fields, Map, PartBytes, Table, subtable_sizes};
 use szg_values::Material;
 
-// ---- what types say
+// ---- for proofs alone: what types ensure
 
-/// Bytes are below 256. It does nothing.
+/// For proofs alone: bytes are below 256. It does nothing.
 pub(crate) fn bytes_fit(list: &[u8])
     ensures { AreNumbers 1 list.now }
 {}
 
-/// Numbers of two bytes fit them. It does nothing.
+/// For proofs alone: each `u16` fits two bytes. It does nothing.
 fn words_fit(list: &[u16])
     ensures { AreNumbers 2 list.now }
 {}
 
-/// The sixteen bytes at the end, as they are: they are bytes.
+/// Returns the sixteen bytes at the end. For proofs: they are bytes.
 fn end_bytes(last: &[u8; 16]) -> [u8; 16]
     ensures last { result ≡ last.now }
     ensures bytes { AreBytes 16 last.now }
@@ -44,7 +44,7 @@ fn end_bytes(last: &[u8; 16]) -> [u8; 16]
     *last
 }
 
-/// The numbers of parts are bytes.
+/// For proofs alone: the numbers of parts are bytes.
 pub(crate) fn parts_fit(parts: &[PartBytes])
     ensures { AllByRecursion IsOfBytes (map part_of parts.now) }
 {
@@ -70,7 +70,7 @@ fn wide_lists_fit(lists: &[Vec<u16>])
     }
 }
 
-/// The items of a map's lists fit their width.
+/// For proofs alone: the items of a map's lists fit their width.
 fn item_fits(item: &Option<Map>)
     ensures { IsOfItems (option_map map_of item.now) }
 {
@@ -81,7 +81,7 @@ fn item_fits(item: &Option<Map>)
     }
 }
 
-/// The items of maps fit their widths.
+/// For proofs alone: the items of maps fit their widths.
 fn maps_fit(maps: &[Option<Map>])
     ensures { AllByRecursion IsOfItems (map (option_map map_of) maps.now) }
 {
@@ -92,7 +92,7 @@ fn maps_fit(maps: &[Option<Map>])
 
 // ---- the table
 
-/// Byte 4: bit 0 where the material isn't symmetric, bit 1 where it has pawns.
+/// Returns byte 4: bit 0 is set if the material is not symmetric, bit 1 if it has pawns.
 fn byte4_of(material: &Material) -> u8
     ensures split { has_bit 0 result ≡ not (is_symmetric material.now) }
     ensures pawns { has_bit 1 result ≡ has_pawns material.now }
@@ -106,7 +106,7 @@ fn byte4_of(material: &Material) -> u8
     }
 }
 
-/// The flags at index `n`, 0 after the last.
+/// Returns the flags at index `n`; 0 after the last.
 fn flags_at(flags: &[u8], n: usize) -> u8
     requires { AllByRecursion (λ byte. byte < 32) flags.now }
     ensures flags { result ≡ slice_index flags.now n }
@@ -115,7 +115,7 @@ fn flags_at(flags: &[u8], n: usize) -> u8
     if n < flags.len() { flags[n] } else { 0 }
 }
 
-/// The subtables of lists of values.
+/// Builds the subtables of lists of values.
 fn build_subs(
     alloc: Global,
     plan: &Plan,
@@ -136,7 +136,7 @@ fn build_subs(
     Ok(subs)
 }
 
-/// All of a table but its fill.
+/// Builds all of a table but its padding.
 fn build_fields(
     alloc: Global,
     plan: &Plan,
@@ -164,7 +164,7 @@ fn build_fields(
     })
 }
 
-/// The table of a plan and lists of which nothing is refused.
+/// Builds the table of a plan and lists that are not refused.
 fn build_table(
     alloc: Global,
     plan: &Plan,
@@ -185,7 +185,7 @@ fn build_table(
     Ok(Table::assemble(fields))
 }
 
-/// The table of a plan and of lists, packed as chosen, or the first refusal.
+/// Builds the table of a plan and lists, packed by `choice`. Errors: the first fault of the plan and lists.
 fn build_by(
     alloc: Global,
     plan: &Plan,
@@ -213,7 +213,7 @@ fn build_by(
     }
 }
 
-/// Builds the table of a plan and of its subtables' values, in their order.
+/// Builds a table from a plan and the values of its subtables, which are listed in file order.
 ///
 /// Errors, the first that applies: `Order` (another number of parts, order bytes or men than the material has, or
 /// an order that no file may have), `Bits` (block bits not 5 to 10, span bits not 1 to 16), `Rounds` (above 4,000),
@@ -223,8 +223,8 @@ fn build_by(
 /// 31, flag 2 without a map or a map without flag 2, flag 16 on a map of bytes or a wide map without flag 16, or a
 /// list too long for its length field; in WDL any flags or maps at all), `Memory` (memory was refused).
 ///
-/// A list takes time in proportion to its values. One of 2^32 values or more takes as much for each pair: offsets of
-/// pairs have four bytes, so that all pairs of it are counted anew in each round.
+/// The time for a list is proportional to its number of values. A list of 2^32 values or more takes this time for
+/// each pair: its offsets do not fit four bytes, so all its pairs are counted again in each round.
 pub fn build(alloc: Global, plan: &Plan, lists: &[&[u16]]) -> Result<Table, BuildFault>
     ensures refused { MatchOption (build_fault (plan_seen plan.now) (map (λ list. list.now) lists.now))
         (IfErr result (λ fault. fault ≡ BuildFault.Memory))
@@ -245,11 +245,12 @@ pub fn build(alloc: Global, plan: &Plan, lists: &[&[u16]]) -> Result<Table, Buil
     build_by(alloc, plan, Choice::Fixed(packing), lists)
 }
 
-/// Builds the table of a plan and of its subtables' values, in their order, as small as the builder can make it.
+/// Builds a table from a plan and the values of its subtables, which are listed in file order, as small as the
+/// builder can make it.
 ///
-/// Each subtable gets pairs while they pay, words by how often their symbols are used, and the block bits and span bits by
-/// which it takes the fewest bytes. Refuses as `build` does, but never by `Bits` or `Rounds`. A list of 2^32 values or more
-/// gets no pairs.
+/// Each subtable gets pairs while they pay, words by their symbols' counts, and the block bits and span bits with
+/// which it takes the fewest bytes. Errors: those of `build` without `Bits` and `Rounds`. A list of 2^32 values or
+/// more gets no pairs.
 pub fn build_small(alloc: Global, plan: SmallPlan, lists: &[&[u16]]) -> Result<Table, BuildFault>
     ensures refused { MatchOption (build_fault (small_seen plan) (map (λ list. list.now) lists.now))
         (IfErr result (λ fault. fault ≡ BuildFault.Memory))

@@ -1,4 +1,4 @@
-//! The words of a line, as they are read.
+//! Parses the words of a line.
 ghost use Rattle.std.specs.Prelude.{◌≡◌, ◌==◌, ◌≤◌, ◌^◌, ◌<◌, ℕ, List, [], ◌∷◌, ◌++◌, false, length, bytes_eq, IfSome, MatchOption};
 ghost use Rattle.szg_build.specs.Fronts.{IsWord};
 ghost use Rattle.hex.specs.Hex.{encode_lower};
@@ -10,14 +10,14 @@ use itoa::Buffer;
 
 // ---- cutting
 
-/// Returns what follows `front` if the text begins with it.
+/// Returns what follows `front`. None if the text does not begin with it.
 pub(crate) fn strip_front<'a>(front: &[u8], text: &'a [u8]) -> Option<&'a [u8]>
     ensures { MatchOption result ((rest : List ℕ) → text.now ≡ front.now ++ rest → ⊥) (λ rest. text.now ≡ front.now ++ rest.now) }
 {
     text.strip_prefix(front)
 }
 
-/// Returns the single word after `front`.
+/// Returns the single word after `front`. None if the text is not `front` and one word.
 pub(crate) fn one_word<'a>(front: &[u8], text: &'a [u8]) -> Option<&'a [u8]>
     ensures { MatchOption result ((word : List ℕ) → IsWord word → text.now ≡ front.now ++ word → ⊥)
         (λ word. IsWord word.now × (text.now ≡ front.now ++ word.now)) }
@@ -30,7 +30,7 @@ pub(crate) fn one_word<'a>(front: &[u8], text: &'a [u8]) -> Option<&'a [u8]>
     }
 }
 
-/// Splits a text at its first space into the word before it and the rest.
+/// Splits a text at its first space. None if it has no space.
 pub(crate) fn split_word(text: &[u8]) -> Option<(&[u8], &[u8])>
     ensures { MatchOption result ((word : List ℕ) → (rest : List ℕ) → text.now ≡ word ++ 32 ∷ rest → ⊥)
         (λ parts. IsWord parts.0.now × (text.now ≡ parts.0.now ++ 32 ∷ parts.1.now)) }
@@ -43,7 +43,8 @@ pub(crate) fn split_word(text: &[u8]) -> Option<(&[u8], &[u8])>
     None
 }
 
-/// Splits a text into two words, each after its fixed words; the first word ends at the first space.
+/// Returns the two words of a text: one between `front` and `middle`, which ends at the first space, and one after
+/// `middle`.
 pub(crate) fn two_words<'a>(
     front: &[u8],
     middle: &[u8],
@@ -66,7 +67,7 @@ pub(crate) fn two_words<'a>(
 
 // ---- values
 
-/// The number up to a limit whose decimal text a word is.
+/// Parses a decimal up to `limit`. None if the word is not the decimal text of such a number.
 pub(crate) fn number_of(word: &[u8], limit: u64) -> Option<u64>
     ensures value { result ≡ number_in limit word.now }
     ensures within { IfSome result (λ number. number ≤ limit) }
@@ -88,7 +89,7 @@ pub(crate) fn number_of(word: &[u8], limit: u64) -> Option<u64>
     }
 }
 
-/// Whether a word is the lower-case hexadecimal text of some bytes.
+/// Returns whether a word is the lower-case hexadecimal text of these bytes.
 fn is_spelled(bytes: &[u8], word: &[u8]) -> bool
     requires { length bytes.now ≤ 40 }
     ensures { result ≡ bytes_eq (encode_lower bytes.now) word.now }
@@ -101,7 +102,7 @@ fn is_spelled(bytes: &[u8], word: &[u8]) -> bool
     *text == *word
 }
 
-/// The bytes whose lower-case hexadecimal text a word is.
+/// Parses lower-case hexadecimal text.
 pub(crate) fn hex_bytes(word: &[u8]) -> Option<ArrayVec<u8, 40>>
     requires { length word.now ≤ 80 }
     ensures { MatchOption result (bytes_in word.now ≡ None) (λ bytes. bytes_in word.now ≡ Some bytes.items) }

@@ -1,4 +1,4 @@
-//! Writing the text of a dump, line by line.
+//! Writes the text of a dump, line by line.
 ghost use Rattle.std.specs.Prelude.{◌≡◌, ℕ, ◌+◌, ◌-◌, ◌<◌, ◌≤◌, ◌^◌, ◌⊎◌, [], ◌∷◌, ◌++◌, length, map, take, drop, min, slice_index, codes, Option, Some, option_map, IfErr, OnOk, OnErr};
 ghost use Rattle.std.specs.Fmt.{decimal};
 ghost use Rattle.hex.specs.Hex.{encode_lower};
@@ -22,12 +22,12 @@ use szg_file::{Map, PartBytes, WriteFault};
 use szg_io::Output;
 use szg_values::{Kind, Material};
 
-/// A line with its 0A.
+/// The bytes of a line, its 0A included.
 type Line = ArrayVec<u8, 96>;
 
 // ---- lines
 
-/// Adds a piece to a line.
+/// Appends bytes to a line.
 fn add(line: &mut Line, piece: &[u8])
     requires { length line.old.items + length piece.now ≤ 96 }
     ensures { line.new.items ≡ line.old.items ++ piece.now }
@@ -37,7 +37,7 @@ fn add(line: &mut Line, piece: &[u8])
     };
 }
 
-/// Adds a decimal to a line.
+/// Appends a decimal to a line.
 fn add_number(line: &mut Line, number: u64)
     requires { length line.old.items ≤ 76 }
     ensures text { line.new.items ≡ line.old.items ++ decimal number }
@@ -103,7 +103,7 @@ fn put_word<W: Output>(
     put(line.as_slice(), output, outgoing)
 }
 
-/// The two lower-case digits of a byte.
+/// Returns the two lower-case digits of a byte.
 fn digits(byte: u8) -> [u8; 2]
     ensures { result ≡ encode_lower (byte ∷ []) }
 {
@@ -114,7 +114,7 @@ fn digits(byte: u8) -> [u8; 2]
     digits
 }
 
-/// Puts bytes as lower-case hexadecimal.
+/// Writes bytes as lower-case hexadecimal text.
 fn put_hex<W: Output>(
     bytes: &[u8],
     output: &mut W,
@@ -130,7 +130,7 @@ fn put_hex<W: Output>(
 
 // ---- values
 
-/// Puts a line for each item.
+/// Writes a line for each item.
 fn put_items<T: Item, W: Output>(
     items: &[T],
     output: &mut W,
@@ -144,7 +144,7 @@ fn put_items<T: Item, W: Output>(
     Ok(())
 }
 
-/// How many values are equal at the beginning.
+/// Returns how many values at the beginning are equal.
 fn run_length(values: &[u16]) -> usize
     requires { 0 < length values.now }
     ensures some { 0 < result }
@@ -159,7 +159,7 @@ fn run_length(values: &[u16]) -> usize
     values.len()
 }
 
-/// Puts a line for each longest run of equal values.
+/// Writes a line for each longest run of equal values.
 fn put_runs<W: Output>(
     values: &[u16],
     output: &mut W,
@@ -176,7 +176,7 @@ fn put_runs<W: Output>(
     Ok(())
 }
 
-/// Puts how many values there are, and the values in this form.
+/// Writes the number of values, and the values in form `form`.
 fn put_list<W: Output>(
     form: u8,
     values: &[u16],
@@ -195,7 +195,7 @@ fn put_list<W: Output>(
 
 // ---- maps
 
-/// Puts list `j` of a map: how many items there are, and a line for each.
+/// Writes list `j` of a map: the number of its items, and a line for each.
 fn put_map_list<T: Item, W: Output>(
     j: usize,
     list: &[T],
@@ -208,7 +208,7 @@ fn put_map_list<T: Item, W: Output>(
     put_items(list, output, outgoing)
 }
 
-/// Puts the four lists of a map.
+/// Writes the four lists of a map.
 fn put_map_lists<T: Item, W: Output>(
     lists: &[Vec<T>; 4],
     output: &mut W,
@@ -222,7 +222,7 @@ fn put_map_lists<T: Item, W: Output>(
     Ok(())
 }
 
-/// Puts the map of a part, where it has one.
+/// Writes the map of a part, if there is one.
 fn put_map<W: Output>(
     map: &Option<Map>,
     output: &mut W,
@@ -239,7 +239,7 @@ fn put_map<W: Output>(
 
 // ---- subtables
 
-/// Puts the line that names a subtable's part and side.
+/// Writes the line that names a subtable's part and side.
 fn put_place<W: Output>(
     place: (u8, u8),
     output: &mut W,
@@ -252,7 +252,7 @@ fn put_place<W: Output>(
     put_number(&front, u64::from(place.1), output, outgoing)
 }
 
-/// Puts the flags and the map of a DTZ table's part.
+/// Writes the flags and the map of a part of a DTZ table.
 fn put_flags_and_map<W: Output>(
     flags: u8,
     map: &Option<Map>,
@@ -265,7 +265,7 @@ fn put_flags_and_map<W: Output>(
     put_map(map, output, outgoing)
 }
 
-/// Puts the flags and the map of a DTZ table's part; a WDL table has none.
+/// Writes the flags and the map of subtable `s` of a DTZ dump. For a WDL dump it writes nothing.
 fn put_flags<W: Output>(
     dump: &Dump,
     s: usize,
@@ -281,7 +281,7 @@ fn put_flags<W: Output>(
     }
 }
 
-/// Puts a subtable.
+/// Writes a subtable.
 fn put_sub<W: Output>(
     form: u8,
     dump: &Dump,
@@ -299,7 +299,7 @@ fn put_sub<W: Output>(
     put_list(form, &dump.lists[s], output, outgoing)
 }
 
-/// The number of subtables of a dump.
+/// Returns the number of subtables of a dump.
 fn count_subs(dump: &Dump) -> usize
     ensures { result ≡ sub_count dump.now }
 {
@@ -309,7 +309,7 @@ fn count_subs(dump: &Dump) -> usize
     }
 }
 
-/// Puts the subtables.
+/// Writes the subtables.
 fn put_subs<W: Output>(
     form: u8,
     dump: &Dump,
@@ -325,9 +325,9 @@ fn put_subs<W: Output>(
     Ok(())
 }
 
-// ---- the front
+// ---- the lines before the subtables
 
-/// Puts a part's line.
+/// Writes a part's line.
 fn put_part<W: Output>(
     number: u8,
     part: &PartBytes,
@@ -346,7 +346,7 @@ fn put_part<W: Output>(
     put(b"\n", output, outgoing)
 }
 
-/// Puts the parts.
+/// Writes the parts.
 fn put_parts<W: Output>(
     material: &Material,
     parts: &[PartBytes],
@@ -361,7 +361,7 @@ fn put_parts<W: Output>(
     Ok(())
 }
 
-/// Puts version, name, kind and the last bytes.
+/// Writes form, name, kind and the last bytes.
 fn put_front<W: Output>(
     form: u8,
     dump: &Dump,
@@ -380,7 +380,7 @@ fn put_front<W: Output>(
     put(b"\n", output, outgoing)
 }
 
-/// The word of a kind.
+/// Returns the word of a kind.
 fn kind_bytes(kind: Kind) -> &'static [u8]
     ensures word { result.now ≡ kind_word kind }
     ensures short { length result.now ≡ 3 }
@@ -391,9 +391,9 @@ fn kind_bytes(kind: Kind) -> &'static [u8]
     }
 }
 
-// ---- the whole
+// ---- the whole text
 
-/// Puts a dump, and holds nothing back.
+/// Writes a dump, and then the bytes that are still buffered.
 fn put_dump<W: Output>(
     form: u8,
     dump: &Dump,
@@ -411,9 +411,9 @@ fn put_dump<W: Output>(
 }
 
 /// Writes the text of a dump: in form 1 a line for each value, in form 2 a line for each longest run of equal
-/// values. If a DTZ dump has fewer flags or maps than lists, the last subtables are not written. It takes no
-/// memory. If the writer fails, the fault has the number of bytes of the text that were written; it stops at the
-/// last value of 64 bits.
+/// values. If a DTZ dump has fewer flags or maps than lists, the last subtables are not written. Allocates nothing.
+/// Errors: the writer failed; the fault has the number of bytes of the text that were written, which stops at the
+/// greatest 64-bit value.
 pub fn write_dump<W: Output>(dump: &Dump, form: u8, output: &mut W) -> Result<(), WriteFault>
     requires { (form ≡ 1) ⊎ (form ≡ 2) }
     ensures ok { OnOk result (Gives W.Output output.old output.new (dump_text (form_of form) (dump_seen dump.now)) 0) }

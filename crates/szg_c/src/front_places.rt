@@ -9,7 +9,7 @@ ghost use Rattle.szg_c.specs.Places.{IsSpot};
 use crate::fronts::{BadBlock, fetch_status};
 use crate::handle::{put, take};
 use crate::held_front::HeldFront;
-use crate::men::{CodedMan, placement_of};
+use crate::men::{CodedMan, placement_or_fault, sound_placement};
 use crate::places::{
     FoundSpot, is_class, map_status, number_or_status, place_status, spot_or_status,
 };
@@ -56,12 +56,24 @@ pub extern "C" fn szg_front_index(
 fn spot_in(table: &FrontTable, men: &[CodedMan], mover: u8) -> Result<Spot, u32>
     ensures { result ≡ front_spot table.now.index (board_of men.now mover) }
 {
-    match placement_of(men, mover) {
-        Ok(placement) => spot_of(table.index(), &placement),
+    match sound_placement(men, mover) {
+        Some(placement) => spot_of(table.index(), &placement),
+        None => spot_or_fault(table.index(), men, mover),
+    }
+}
+
+/// The same, by one check of the men after the other.
+#[inline(never)]
+fn spot_or_fault(index: &TableIndex, men: &[CodedMan], mover: u8) -> Result<Spot, u32>
+    ensures { result ≡ front_spot index.now (board_of men.now mover) }
+{
+    match placement_or_fault(men, mover) {
+        Ok(placement) => spot_of(index, &placement),
         Err(status) => Err(status),
     }
 }
 
+#[inline(always)]
 fn spot_of(index: &TableIndex, placement: &Placement) -> Result<Spot, u32>
     ensures { result ≡ front_spot index.now (Ok placement.now) }
 {
@@ -154,7 +166,28 @@ fn outcome_in(
     ensures outcome_stays { (result ≡ 0 → ⊥) → outcome.new ≡ outcome.old }
     ensures bad_stays { (result ≡ 18 → ⊥) → bad.new ≡ bad.old }
 {
-    match placement_of(men, mover) {
+    match sound_placement(men, mover) {
+        Some(placement) => outcome_of(table, bytes, &placement, class, outcome, bad),
+        None => outcome_or_fault(table, bytes, men, mover, class, outcome, bad),
+    }
+}
+
+/// The same, by one check of the men after the other.
+#[inline(never)]
+fn outcome_or_fault(
+    table: &FrontTable,
+    bytes: &[u8],
+    men: &[CodedMan],
+    mover: u8,
+    class: i8,
+    outcome: &mut i64,
+    bad: &mut BadBlock,
+) -> u32
+    ensures told { IsOutcomeTold table.now bytes.now class (board_of men.now mover) result outcome.new bad.new }
+    ensures outcome_stays { (result ≡ 0 → ⊥) → outcome.new ≡ outcome.old }
+    ensures bad_stays { (result ≡ 18 → ⊥) → bad.new ≡ bad.old }
+{
+    match placement_or_fault(men, mover) {
         Ok(placement) => outcome_of(table, bytes, &placement, class, outcome, bad),
         // a status of men is not 0 and not 18
         Err(status) => status,

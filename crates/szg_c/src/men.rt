@@ -1,12 +1,13 @@
 //! Placements as C passes them.
-ghost use Rattle.std.specs.Prelude.{◌≡◌, ◌<◌, ◌≤◌, ◌&&◌, IsTrue, IsFalse, IfSome, IsNone, MatchResult, Ok, length, map, nat_lt};
+ghost use Rattle.std.specs.Prelude.{◌≡◌, ◌<◌, ◌≤◌, ◌&&◌, IsTrue, IsFalse, IfSome, IsNone, MatchResult, Ok, length, map, nat_lt, true, []};
 ghost use Rattle.std.specs.declared.option.Option.TheVariants.{None, Some};
 ghost use Rattle.std.specs.List.{list_all};
+ghost use Rattle.szg_values.specs.Placement.{AreStanding, men_key};
 ghost use Rattle.szg_c.specs.Men.{IsWritten, board_of, coded_man, color_code as color_number, color_of as color_told, with_room, is_told, man_told, placement_status, standing_of};
 
 use crate::status::{DONE, MAN, MEN, PAWN_RANK, RANGE, SAME_SQUARE};
 use arrayvec::ArrayVec;
-use szg_values::{Color, MAX_MEN, Man, Placement, PlacementFault, Square};
+use szg_values::{Color, MAX_MEN, Man, Placement, PlacementFault, Square, man_key, with_man};
 
 /// A man on a square, as three numbers.
 #[repr(C)]
@@ -20,10 +21,51 @@ pub struct CodedMan {
     pub square: u8,
 }
 
-/// Returns the placement of these men with this side to move (White 0, Black 1). Errors: the first status that
-/// applies, of `MAN` for an invalid number, `MEN`, `SAME_SQUARE` and `PAWN_RANK`.
+/// Returns the placement of these men with this side to move (White 0, Black 1), by a single pass over the men. None if
+/// there is an error: then `placement_or_fault` returns it. A placement is moved as seldom as can be, since that copies its
+/// list.
+#[inline(always)]
+pub fn sound_placement(men: &[CodedMan], mover: u8) -> Option<Placement>
+    ensures { IfSome result (λ placement. board_of men.now mover ≡ Ok placement) }
+{
+    if mover >= 2 || men.len() > MAX_MEN {
+        return None;
+    }
+    let mut placed_men = ArrayVec::new();
+    let key = put_men(men, &mut placed_men)?;
+    Placement::of_standing(placed_men, color_of(mover), key)
+}
+
+/// Puts the men on their squares, into an empty list; returns their key. None if a man's numbers are invalid, two men are
+/// on one square, or a pawn is on rank 1 or 8. A call of its own, so that the list is filled in memory.
+#[inline(never)]
+fn put_men(
+    men: &[CodedMan],
+    placed_men: &mut ArrayVec<(Man, Color, Square), MAX_MEN>,
+) -> Option<u64>
+    requires few { length men.now ≤ 6 }
+    requires empty { placed_men.old.items ≡ [] }
+    ensures told { IfSome result (λ key. list_all is_told men.now ≡ true) }
+    ensures placed { IfSome result (λ key. placed_men.new.items ≡ map standing_of men.now) }
+    ensures standing { IfSome result (λ key. AreStanding (map standing_of men.now)) }
+    ensures key { IfSome result (λ key. key ≡ men_key (map standing_of men.now)) }
+{
+    let mut taken = 0;
+    let mut key = 0;
+    for man in men {
+        let placed_man = standing_of(man)?;
+        taken = with_man(taken, placed_man.0, placed_man.2)?;
+        key += man_key(placed_man.0, placed_man.1);
+        placed_men.push(placed_man);
+    }
+    Some(key)
+}
+
+/// Returns the placement of these men with this side to move (White 0, Black 1), by one check after the other. Errors: the
+/// first status that applies, of `MAN` for an invalid number, `MEN`, `SAME_SQUARE` and `PAWN_RANK`.
+#[inline(never)]
 #[tactic(auto, unfolding(crate::specs::Men::board_of))]
-pub fn placement_of(men: &[CodedMan], mover: u8) -> Result<Placement, u32>
+pub fn placement_or_fault(men: &[CodedMan], mover: u8) -> Result<Placement, u32>
     ensures { result ≡ board_of men.now mover }
 {
     if mover >= 2 {

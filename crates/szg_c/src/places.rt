@@ -7,7 +7,7 @@ ghost use Rattle.szg_c.specs.Telling.{class_or_status, distance_or_status, spot_
 
 use crate::handle::{put, take};
 use crate::held_table::HeldTable;
-use crate::men::{CodedMan, placement_of};
+use crate::men::{CodedMan, placement_or_fault, sound_placement};
 use crate::status::{
     CLOSED, DONE, DRAW, IRREGULAR, KINGS_TOUCH, NO_CLASS, OTHER_MATERIAL, OUTSIDE_MAP, RANGE,
     WRONG_SIDE,
@@ -66,12 +66,24 @@ pub extern "C" fn szg_index(
 fn spot_in(table: &PreparedTable, men: &[CodedMan], mover: u8) -> Result<Spot, u32>
     ensures { result ≡ spot_told table.now.contents (board_of men.now mover) }
 {
-    match placement_of(men, mover) {
+    match sound_placement(men, mover) {
+        Some(placement) => spot_of(table, &placement),
+        None => spot_or_fault(table, men, mover),
+    }
+}
+
+/// The same, by one check of the men after the other.
+#[inline(never)]
+fn spot_or_fault(table: &PreparedTable, men: &[CodedMan], mover: u8) -> Result<Spot, u32>
+    ensures { result ≡ spot_told table.now.contents (board_of men.now mover) }
+{
+    match placement_or_fault(men, mover) {
         Ok(placement) => spot_of(table, &placement),
         Err(status) => Err(status),
     }
 }
 
+#[inline(always)]
 fn spot_of(table: &PreparedTable, placement: &Placement) -> Result<Spot, u32>
     ensures { result ≡ spot_told table.now.contents (Ok placement.now) }
 {
@@ -125,7 +137,23 @@ pub extern "C" fn szg_probe(
 fn outcome_in(table: &PreparedTable, men: &[CodedMan], mover: u8, class: i8) -> Result<i64, u32>
     ensures { result ≡ outcome_told table.now.contents class (board_of men.now mover) }
 {
-    match placement_of(men, mover) {
+    match sound_placement(men, mover) {
+        Some(placement) => outcome_of(table, &placement, class),
+        None => outcome_or_fault(table, men, mover, class),
+    }
+}
+
+/// The same, by one check of the men after the other.
+#[inline(never)]
+fn outcome_or_fault(
+    table: &PreparedTable,
+    men: &[CodedMan],
+    mover: u8,
+    class: i8,
+) -> Result<i64, u32>
+    ensures { result ≡ outcome_told table.now.contents class (board_of men.now mover) }
+{
+    match placement_or_fault(men, mover) {
         Ok(placement) => outcome_of(table, &placement, class),
         Err(status) => Err(status),
     }

@@ -14,3 +14,4 @@ pub mod BaseSteps
 pub mod ByteBits
 pub mod Prefixes
 pub mod Buffers
+pub mod TwoWords

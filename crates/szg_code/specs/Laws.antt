@@ -24,8 +24,8 @@ WordsAreListed = (code : CanonicalCode) → IsCode code → (word : List Bool) (
 abbrev pub OneListSpelled : Type 0
 OneListSpelled = (code : CanonicalCode) → IsCode code → (bits : List Bool) (xs ys : List ℕ) → Spells code bits xs → Spells code bits ys → length xs ≤ length ys → take (length xs) ys ≡ xs
 
--- A reader at the offset of a written word takes this word, whatever follows: it cannot answer that no word is
--- left, and the word that it takes is the written one.
+-- A reader at the offset of a written word takes this word, whatever follows: it cannot return that there is no
+-- word, and it takes no other word.
 abbrev pub WrittenIsRead : Type 0
 WrittenIsRead = (code : CanonicalCode) → IsCode code → (word rest : List Bool) (s : ℕ) → IsWord code word s → (old new : Cursor) → old.left ≡ word ++ rest →
     (¬ BeginsWithNoWord code old.left) × ((t : ℕ) → TakesWord code old new t → (t ≡ s) × (new.taken ≡ old.taken ++ word) × (new.left ≡ rest))
@@ -55,8 +55,8 @@ FirstOverfullFinds = (code : CanonicalCode) →
     ((first_overfull code ≡ None) ↔ (((l : ℕ) → HasRoomAt code l) × (base code code.min_length < 2 ^ code.min_length)))
     × ((j : ℕ) → (first_overfull code ≡ Some j) ↔ (IsLastOverfull code (code.min_length + j) ⊎ ((j ≡ 0) × IsOverfullAtLeast code)))
 
--- if the lengths are valid, a code is accepted exactly if neither finds an index; else the first that finds one
--- determines the fault
+-- if the lengths are valid, a code is accepted exactly if first_rise and first_overfull find no index; else the
+-- first of them that finds one determines the fault
 abbrev pub FoundIsFault : Type 0
 FoundIsFault = (code : CanonicalCode) → HasLengths code →
     (IsCode code ↔ ((first_rise code ≡ None) × (first_overfull code ≡ None)))

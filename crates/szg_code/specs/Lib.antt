@@ -9,3 +9,5 @@ pub mod FirstFault
 pub mod CodeHeader
 pub mod Buffer
 pub mod Window
+pub mod TwoWords
+pub mod NextWords

@@ -5,20 +5,24 @@ ghost use Rattle.szg_code.specs.Canonical.{IsWord, base, top, symbol_at};
 ghost use Rattle.szg_code.specs.Spelling.{HasNoWord};
 ghost use Rattle.szg_code.specs.Acceptance.{IsCode, IsCodeFault};
 ghost use Rattle.szg_code.specs.Least.{shifted_base};
+ghost use Rattle.szg_code.specs.TwoWords.{ContainsTwoWords};
 
 use crate::CodeFault;
 use crate::checks::CodeHeader;
 use crate::code_word::Word;
+use crate::two_words::{NO_WORDS, TwoWords, two_words_by_byte};
 use std::marker::Model;
 
 /// An accepted code: words of 1 to 32 bits, none of which begins another, for symbols below the number of symbols.
 /// As in de Man's probing code, it stores the base of each length shifted to the top of 64 bits. For each first
-/// byte of a window it also stores the length index from which the search for a word's length starts.
+/// byte of a window it also stores the length index from which the search for a word's length starts, and the first
+/// two words of that byte if it contains them whole.
 #[derive(Drop)]
 pub struct Code {
     header: CodeHeader,
     bases: [u64; 32],
     starts: [u8; 256],
+    two_words: [TwoWords; 256],
 }
 
 impl Model for Code {
@@ -26,18 +30,19 @@ impl Model for Code {
     ghost use Rattle.szg_code.specs.Acceptance.{IsCode};
     ghost use Rattle.szg_code.specs.Least.{HasShiftedBases, HasStarts};
     ghost use Rattle.szg_code.specs.CodeHeader.{code_of};
+    ghost use Rattle.szg_code.specs.TwoWords.{HasTwoWords};
 
     ghost Value = { CanonicalCode };
 
     ghost view = { λ code. code_of code.header };
 
-    ghost invariant = { λ code. IsCode (code_of code.header) × HasShiftedBases (code_of code.header) code.bases × HasStarts (code_of code.header) code.starts };
+    ghost invariant = { λ code. IsCode (code_of code.header) × HasShiftedBases (code_of code.header) code.bases × HasStarts (code_of code.header) code.starts × HasTwoWords (code_of code.header) code.two_words };
 }
 
 impl Code {
-    /// Creates the code of a subtable header: the least and the greatest length of a word in bits, the lowest
-    /// symbol of each length from the least on, and the number of symbols `n`. The list is moved, not copied. That
-    /// the call takes no memory, from the list's allocator either, is seen by reading; no clause says it.
+    /// Creates the code of a subtable header: `min` and `max` are the least and the greatest length of a word in
+    /// bits, `lowest` has the lowest symbol of each length from `min` on, and `n` is the number of symbols. The list
+    /// is moved, not copied. The call allocates nothing; that is seen by reading, no clause says it.
     ///
     /// Errors: `Lengths` if `min` is 0, `min` is above `max`, `max` is above 32, or the length of the list is not
     /// `max - min + 1`. Else `LowestOrder` if the list increases somewhere. Else `TooFull` if the bases that follow
@@ -64,11 +69,13 @@ impl Code {
             Err(j) => Err(CodeFault::TooFull(j)),
             Ok(bases) => {
                 let bases = header.shifted(&bases);
-                Ok(Code {
+                let code = Code {
                     starts: header.starts(&bases),
                     bases,
+                    two_words: [NO_WORDS; 256],
                     header,
-                })
+                };
+                Ok(code.with_two_words())
             }
         }
     }
@@ -111,7 +118,28 @@ impl Code {
             symbols: n,
             ..self.header
         };
-        Code { header, ..self }
+        let code = Code {
+            header,
+            two_words: [NO_WORDS; 256],
+            ..self
+        };
+        code.with_two_words()
+    }
+
+    /// Stores the first two words of each byte.
+    fn with_two_words(self) -> Code
+        ensures { result ≡ self }
+    {
+        let two_words = two_words_by_byte(&self);
+        Code { two_words, ..self }
+    }
+
+    /// Returns the first two words of the window's first byte, if the byte contains them whole.
+    #[inline(always)]
+    pub(crate) fn two_words_in(&self, window: u64) -> TwoWords
+        ensures { ContainsTwoWords self.now (window / 2 ^ 56) result }
+    {
+        self.two_words[(window >> 56) as usize]
     }
 
     /// Returns the base of the length at index `j`; index 0 is the least length.
@@ -125,7 +153,7 @@ impl Code {
         self.bases[j] >> (64 - min - j)
     }
 
-    /// Returns the end of the numbers of the length at index `j`, exclusive.
+    /// Returns the end of the range of numbers that the words of the length at index `j` have, exclusive.
     fn top_at(&self, j: usize) -> u64
         requires { j < length self.now.lowest }
         ensures { result ≡ top self.now (self.now.min_length + j) }

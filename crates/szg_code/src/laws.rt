@@ -21,7 +21,7 @@ pub fn words_are_listed()
     ensures { WordsAreListed }
 {}
 
-/// Bits spell only one list of symbols, as far as they are decoded.
+/// Of two lists of symbols that bits spell, the shorter is a prefix of the longer.
 pub fn one_list_spelled()
     ensures { OneListSpelled }
 {}
@@ -47,8 +47,8 @@ pub fn first_overfull_finds()
     ensures { FirstOverfullFinds }
 {}
 
-/// If the lengths are valid, a code is accepted exactly if the two functions find nothing. Otherwise the first of
-/// them that finds an index determines the fault that `Code::new` returns.
+/// If the lengths are valid, a code is accepted exactly if `first_rise` and `first_overfull` find nothing. Otherwise
+/// the first of them that finds an index determines the fault that `Code::new` returns.
 pub fn found_is_fault()
     ensures { FoundIsFault }
 {}

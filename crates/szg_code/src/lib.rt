@@ -11,11 +11,12 @@ mod checks;
 mod code_word;
 pub mod laws;
 mod reader;
+mod two_words;
 mod writer;
 
 pub use canonical::{Code, word};
 pub use code_word::Word;
-pub use reader::{Bits, next};
+pub use reader::{Bits, NextWords, next, next_words};
 pub use writer::{BitBuf, put};
 
 /// Why a code is refused: the first fault in this order.

@@ -2,11 +2,13 @@
 ghost use Rattle.std.specs.Prelude.{◌≡◌, ◌+◌, ◌*◌, ◌^◌, ◌<◌, ◌≤◌, [], ◌++◌, length, slice_index, take, drop, IfSome, IfNone};
 ghost use Rattle.szg_code.specs.Bits.{bits, number};
 ghost use Rattle.szg_code.specs.Spelling.{BeginsWithNoWord};
-ghost use Rattle.szg_code.specs.Cursor.{TakesWord};
+ghost use Rattle.szg_code.specs.Cursor.{Cursor, TakesWord, TakesWords};
+ghost use Rattle.szg_code.specs.NextWords.{symbols_of};
 ghost use Rattle.szg_code.specs.Window.{padded};
 
 use crate::bytes::byte_or_zero;
 use crate::canonical::Code;
+use crate::two_words::TwoWords;
 use byteorder::{BigEndian, ByteOrder};
 use std::marker::Model;
 
@@ -48,7 +50,7 @@ impl<'a> Bits<'a> {
         }
     }
 
-    /// Returns the bit offset: the number of bits taken.
+    /// Returns the bit offset of the reader: the number of bits taken.
     pub fn place(&self) -> u64
         ensures { result ≡ length self.now.taken }
     {
@@ -118,4 +120,46 @@ pub fn next(code: &Code, bits: &mut Bits) -> Option<u16>
     let symbol = code.symbol_in(bits.window, j)?;
     bits.skip(count);
     Some(symbol)
+}
+
+/// The symbols of one or two words, in their order.
+#[derive(Debug, Clone, Copy, PartialEq, Eq)]
+pub enum NextWords {
+    /// The symbol of one word.
+    One(u16),
+    /// The symbols of two words.
+    Two(u16, u16),
+}
+
+/// Decodes the next two words if the next byte contains both, and moves the reader past them. Otherwise returns None,
+/// and the reader does not move.
+#[inline(always)]
+fn next_two(code: &Code, bits: &mut Bits) -> Option<TwoWords>
+    ensures found { IfSome result (λ words. (middle : Cursor) × TakesWord code.now bits.old middle words.first × TakesWord code.now middle bits.new words.second) }
+    ensures none { IfNone result (bits.new ≡ bits.old) }
+{
+    let words = code.two_words_in(bits.window);
+    let both = u64::from(words.bits);
+    if both == 0 || both > bits.count_left() {
+        return None;
+    }
+    bits.skip(both);
+    Some(words)
+}
+
+/// Decodes one or two words at the reader's offset, moves the reader past them, and returns their symbols. Two words are
+/// decoded at a step if both are in the next byte.
+///
+/// None if the remaining bits do not begin with a word, or if the word would extend past the bytes; then the reader
+/// does not move.
+#[inline(always)]
+pub fn next_words(code: &Code, bits: &mut Bits) -> Option<NextWords>
+    ensures found { IfSome result (λ words. TakesWords code.now bits.old bits.new (symbols_of words)) }
+    ensures none { IfNone result (BeginsWithNoWord code.now bits.old.left × (bits.new ≡ bits.old)) }
+{
+    if let Some(words) = next_two(code, bits) {
+        return Some(NextWords::Two(words.first, words.second));
+    }
+    let symbol = next(code, bits)?;
+    Some(NextWords::One(symbol))
 }

@@ -31,7 +31,7 @@ impl Model for BitBuf {
 }
 
 impl BitBuf {
-    /// Creates an empty buffer without memory. `put` allocates from `alloc`.
+    /// Creates an empty buffer, which allocates nothing. `put` allocates from `alloc`.
     pub fn new(alloc: Global) -> BitBuf
         ensures empty { result.written ≡ [] }
         ensures no_memory { result.capacity ≡ 0 }

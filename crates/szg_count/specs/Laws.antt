@@ -21,11 +21,11 @@ AllDiffer (x ∷ xs) = (IsIn x xs → ⊥) × AllDiffer xs
 abbrev pub LawSetCount : Type 0
 LawSetCount = (r : ℕ) (xs : List ℕ) → length (sets_of r xs) ≡ choose (length xs) r
 
--- and the number of sets of r numbers below n is the binomial
+-- the number of sets of r numbers below n is the binomial
 abbrev pub LawSubsetCount : Type 0
 LawSubsetCount = (n r : ℕ) → length (subsets n r) ≡ choose n r
 
--- each binomial from the one before it
+-- choose (n + 1) (k + 1) follows from choose n k
 abbrev pub LawChooseStep : Type 0
 LawChooseStep = (n k : ℕ) → choose (suc n) (suc k) * suc k ≡ suc n * choose n k
 
@@ -104,7 +104,7 @@ IsBefore (x ∷ xs) (y ∷ ys) = (x < y) ⊎ ((x ≡ y) × IsBefore xs ys)
 abbrev pub LawSubsetsRise : Type 0
 LawSubsetsRise = (n r i j : ℕ) (a b : List ℕ) → slice_get (subsets n r) i ≡ Some a → slice_get (subsets n r) j ≡ Some b → i < j → IsBefore a b
 
--- so the rank of a set is the sum of its binomials
+-- the rank of a set is the sum of its binomials
 abbrev pub LawRankSubset : Type 0
 LawRankSubset = (n : ℕ) (set : List ℕ) → IsFallingBelow n set → slice_get (subsets n (length set)) (binomial_sum set) ≡ Some set
 
@@ -113,17 +113,16 @@ LawRankSubset = (n : ℕ) (set : List ℕ) → IsFallingBelow n set → slice_ge
 abbrev pub LawSetsNumbered : Type 0
 LawSetsNumbered = (r : ℕ) (xs : List ℕ) → sets_of r xs ≡ map (map (slice_index (reverse xs))) (subsets (length xs) r)
 
--- for a list of different elements: the number of elements outside some of its elements is the difference of the
--- numbers
+-- of a list of different elements without some of them, the length is the difference of the two lengths
 abbrev pub LawFreeCount : Type 0
 LawFreeCount = (some xs : List ℕ) → AllDiffer some → AllDiffer xs → ((x : ℕ) → IsIn x some → IsIn x xs) → length (without some xs) + length some ≡ length xs
 
--- so the number of sets of the remaining elements is the binomial of their number
+-- the number of sets of the remaining elements is the binomial of their number
 abbrev pub LawFreeSetCount : Type 0
 LawFreeSetCount = (some xs : List ℕ) (r : ℕ) → AllDiffer some → AllDiffer xs → ((x : ℕ) → IsIn x some → IsIn x xs) →
     length (sets_of r (without some xs)) ≡ choose (length xs - length some) r
 
--- a size fits into 64 bits
+-- the size of a subtable is below 2^33
 abbrev pub LawSizeBelow : Type 0
 LawSizeBelow = (sides : Sides) (part : ℕ) (n : Nibbles) → IsMaterial sides → IsPart sides part → order_fault sides n ≡ None →
     product (counted sides part n).ways < 2 ^ 33
@@ -134,7 +133,7 @@ abbrev pub LawLeadSets : Type 0
 LawLeadSets = (sides : Sides) (part : ℕ) (set : List ℕ) → IsMaterial sides → IsPart sides part → IsIn set (lead_sets sides part) →
     (length set ≡ lead_length sides) × AllDiffer set × ((square : ℕ) → IsIn square set → square < 64)
 
--- The men of an accepted order are the material's, each as often as there, and no others.
+-- The men of an accepted order are the material's men, in any order.
 abbrev pub LawMenOfOrder : Type 0
 LawMenOfOrder = (sides : Sides) (n : Nibbles) → order_fault sides n ≡ None → (code : ℕ) → count_of code n.men ≡ count_of code (man_codes sides)
 

@@ -1,4 +1,4 @@
--- The parts of a computation over plain lists: of men, of lengths, of ways and of positions.
+-- The steps of the computation, over plain lists of men, of lengths, of ways and of positions.
 use Rattle.std.specs.Prelude.{ℕ, suc, ◌+◌, ◌-◌, ◌<◌, Bool, not, ◌&&◌, ◌==◌, nat_lt, List, [], ◌∷◌, ◌++◌, map, length, take, drop, sum, Option, option_to_list, is_some, if◌then◌else◌, slice_index}
 use Rattle.std.specs.List.{list_any, list_all, range_with_len}
 use Rattle.szg_count.specs.Sets.{choose}
@@ -6,7 +6,7 @@ use Rattle.szg_count.specs.Leads.{without}
 use Rattle.szg_count.specs.Groups.{runs_of, ways_before, product}
 use Rattle.szg_count.specs.declared.Group.{Group}
 
--- the number of men at the beginning of a list that are this one
+-- how many men at the beginning of a list are equal to `man`
 abbrev pub leading : ℕ → List ℕ → ℕ
 leading man [] = 0
 leading man (x ∷ men) = if man == x then suc (leading man men) else 0
@@ -19,7 +19,7 @@ run_lengths men = map (λ run. length run) (runs_of men)
 abbrev pub lengths_of : ℕ → ℕ → List ℕ → List ℕ
 lengths_of lead other men = lead ∷ (if nat_lt 0 other then other ∷ [] else []) ++ run_lengths (drop (lead + other) men)
 
--- the ways of group i by the lengths; `lead` for the lead group
+-- the ways of group i, from the lengths of the groups; `lead` for the lead group
 abbrev pub ways_by : ℕ → Bool → List ℕ → ℕ → ℕ
 ways_by lead has_other lengths i = if i == 0 then lead else choose ((if has_other && i == 1 then 48 else 64) - sum (take i lengths)) (slice_index lengths i)
 

@@ -1,4 +1,4 @@
--- What contracts say about `Order` and `Groups`.
+-- Public views of `Order` and `Groups`.
 use Rattle.std.specs.Prelude.{ℕ, List, [], map, take, length, slice_get, slice_index, unwrap_or}
 use Rattle.std.specs.List.{concat, range_with_len}
 use Rattle.szg_count.specs.Groups.{Nibbles, Counted}

@@ -13,7 +13,7 @@ pub fn subset_count()
     ensures { LawSubsetCount }
 {}
 
-/// Each binomial follows from the one before it.
+/// `choose(n + 1, k + 1)` follows from `choose(n, k)`.
 pub fn choose_step()
     ensures { LawChooseStep }
 {}
@@ -109,7 +109,7 @@ pub fn free_set_count()
     ensures { LawFreeSetCount }
 {}
 
-/// A size is below 2^33.
+/// The size of a subtable is below 2^33.
 pub fn size_below()
     ensures { LawSizeBelow }
 {}
@@ -139,18 +139,18 @@ pub fn positions_order_groups()
     ensures { LawPositionsOrderGroups }
 {}
 
-/// The men of an accepted order are the material's, each as often as there.
+/// The men of an accepted order are the material's men, in any order.
 pub fn men_of_order()
     ensures { LawMenOfOrder }
 {}
 
-/// The groups joined are the men that were divided into them.
+/// The groups, joined, are the men that were divided into them.
 pub fn groups_joined()
     ensures { LawGroupsJoined }
 {}
 
-/// The runs joined are the men. Each run has at least one man and equal men, and neighbouring runs have different
-/// men.
+/// The runs, joined, are the men. Each run has at least one man, its men are equal, and neighbouring runs have
+/// different men.
 pub fn runs()
     ensures { LawRuns }
 {}

@@ -11,16 +11,16 @@ ghost use Rattle.szg_count.specs.Steps.{ArePositive, ways_by};
 use arrayvec::ArrayVec;
 use szg_values::{MAX_MEN, Material};
 
-/// The ways of a lead group of three men, up to symmetry.
+/// The number of ways of a lead group of three men, up to symmetry.
 const TRIPLES: u64 = 31332;
 
-/// The ways of a lead group of two kings, up to symmetry.
+/// The number of ways of a lead group of two kings, up to symmetry.
 const KING_PAIRS: u64 = 462;
 
-/// The squares of the board.
+/// The number of squares of the board.
 const SQUARES: u64 = 64;
 
-/// The squares of ranks 2 to 7.
+/// The number of squares of ranks 2 to 7.
 const PAWN_SQUARES: u64 = 48;
 
 /// Returns the number of sets of `k` of `n` things, for `n` up to 64 and `k` up to 6; 0 if `k` is above `n`.
@@ -49,12 +49,12 @@ pub fn lead_ways(material: &Material, part: u8) -> u64
     requires { IsPart material.now part }
     ensures { result ≡ lead_ways material.now part }
 {
-    // Reading the men shows that this is a material, and so that at most four pawns lead.
+    // for proofs alone: the material's invariant, by which at most four pawns lead
     let _men = material.men();
     ways_of_lead(material, part)
 }
 
-// The same for a caller that knows the material.
+// `lead_ways` without the invariant of the material, which is required instead.
 fn ways_of_lead(material: &Material, part: u8) -> u64
     requires material { IsMaterial material.now }
     requires part { IsPart material.now part }
@@ -69,9 +69,9 @@ fn ways_of_lead(material: &Material, part: u8) -> u64
     }
 }
 
-// Returns the ways of lead pawns on a file: for each square of the lead pawn, the sets of the others on squares
-// after it in the order of pawn squares. There are 47 such squares after the first square of file a, 12 less for
-// each further file and 2 less for each further rank.
+// Returns the ways of lead pawns on a file: the sum, over the squares of the first lead pawn, of the number of sets
+// of squares after it for the other lead pawns. In the order of pawn squares 47 squares come after the first square
+// of file a, 12 fewer for each further file and 2 fewer for each further rank.
 fn lead_pawn_ways(pawns: u8, file: u8) -> u64
     requires some { 0 < pawns }
     requires few { pawns ≤ 4 }

@@ -27,6 +27,7 @@ pub mod ItemsRead
 pub mod LackingReads
 pub mod LoopReads
 pub mod MapReads
+pub mod OnlyWanted
 pub mod OpenedLaws
 pub mod OutlinedLaws
 pub mod PackedReads
@@ -42,6 +43,8 @@ pub mod Rows
 pub mod SoundLaws
 pub mod Standing
 pub mod StepsFound
+pub mod Streamed
+pub mod StreamedTables
 pub mod SubtableLoops
 pub mod TableFinds
 pub mod TableLaws

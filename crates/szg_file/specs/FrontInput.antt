@@ -20,17 +20,17 @@ pub record BeginsWith (front : List ℕ) (size : ℕ) (content : List ℕ) : Typ
   pub long : length content ≡ size
   pub begins : take (length front) content ≡ front
 
--- The first check that fails refuses these bytes, or they end within a field. Or they are a whole front, which fits
--- into `size` bytes, and a file of `size` bytes that begins with it is too short for its blocks. Or `size` is less
--- than the number of bytes that were read.
+-- The first check that fails refuses these bytes, or they end within a field. Or they are a whole front of at most
+-- `size` bytes, and a file of `size` bytes that begins with it is too short for its blocks. Or `size` is less than
+-- the number of bytes read.
 abbrev pub IsFrontRefusal : Sides → Kind → List ℕ → ℕ → Option (List ℕ) → ℕ → Reason → Type 0
 IsFrontRefusal material kind bytes size coming place reason =
     IsRefusal (verdict (unread_file material kind) 0 bytes) place reason coming
     ⊎ ((length bytes ≤ size) × ((content : List ℕ) → BeginsWith bytes size content → IsOpenRefusal (verdict (unread_file material kind) 0 content) (Refused place reason)))
     ⊎ ((size < length bytes) × (place ≡ size) × (reason ≡ Truncated))
 
--- The table is of each file of `size` bytes that begins with the bytes that were read, which are no more than
--- `size`; their number is returned, too.
+-- Ok: the table is that of each file of `size` bytes that begins with the bytes read. Their number is at most
+-- `size`, and it is returned too.
 abbrev pub FrontOutcome : Sides → Kind → List ℕ → ℕ → Option (List ℕ) → Result (FrontKept × ℕ) ReadFault → Type 0
 FrontOutcome material kind bytes size coming (Ok found) =
     (found.0.index.material ≡ material) × (found.0.index.kind ≡ kind) × (found.1 ≡ length bytes) × (length bytes ≤ size) × ((content : List ℕ) → BeginsWith bytes size content → IsFrontOf found.0 content)
@@ -38,7 +38,7 @@ FrontOutcome material kind bytes size coming (Err (fault.Refused place reason)) 
 FrontOutcome material kind bytes size coming (Err fault.Device) = Unit {0}
 FrontOutcome material kind bytes size coming (Err fault.Memory) = Unit {0}
 
--- These bytes were read of a file of `size` bytes, and the result is theirs.
+-- These bytes were read from a file of `size` bytes, and the result is FrontOutcome of them.
 pub record IsFrontRead {R : Type 0} (device : Ghosts R) (material : Sides) (kind : Kind) (size : ℕ) (old new : R) (result : Result (FrontKept × ℕ) ReadFault) : Type 0 where
   pub bytes : List ℕ
   pub taken : Takes device old new bytes 1

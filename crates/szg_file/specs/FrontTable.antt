@@ -8,14 +8,14 @@ use Rattle.szg_file.specs.Placed.{whole_sub, Fits}
 use Rattle.szg_file.specs.Unread.{front_in, IsUnread}
 use Rattle.szg_file.specs.declared.dropping.PlacedSub.{PlacedSub}
 
--- its index, the length of the file, the length of the longest block, and its subtables without their blocks
+-- the index, the length of the file, the length of the longest block, and the subtables without their blocks
 pub record FrontKept : Type 0 where
   pub index : Index
   pub length : ℕ
   pub room : ℕ
   pub subs : List PlacedSub
 
--- the index, length and subtables of the table that `content` begins with; its blocks are not checked
+-- `kept` has the index, length and subtables of the table that `content` begins with; its blocks are not checked
 pub record IsFrontOf (kept : FrontKept) (content : List ℕ) : Type 0 where
   pub table : Contents
   pub there : front_in kept.index.material kept.index.kind content ≡ Some table

@@ -1,4 +1,4 @@
--- The lengths of the lists that readers return are counted, by `grow`.
+-- Readers of lists count by how much the lists that they return have grown, by `grow`.
 use Rattle.std.specs.Prelude.{ℕ, ◌+◌, ◌*◌, ◌≤◌, List, length, option_map, Option}
 use Rattle.std.specs.List.{sum_by}
 use Rattle.szg_block.specs.declared.Sub.{Sub}
@@ -12,8 +12,8 @@ use Rattle.szg_file.specs.Held.{part_of, subtable_of, map_of}
 use Rattle.szg_file.specs.Lengths.{part_length}
 use Rattle.szg_file.specs.WholeRead.{sub_lengths, map_lengths}
 
--- The lists passed in have `before` items, those returned have `after`: together with the padding bytes they have
--- grown by at most the number counted.
+-- The lists passed in have `before` items, and those returned `after`. They and the list of padding bytes have grown
+-- by at most the increase of `growth`.
 abbrev pub HasCounted : Front → Front → ℕ → ℕ → Type 0
 HasCounted old new before after = old.growth + after + length new.fill.items ≤ new.growth + before + length old.fill.items
 
@@ -38,7 +38,7 @@ opening_lengths o =
     length o.parts.bytes.items + parts_lengths o.parts.bytes.items + length o.heads.items + begun_lengths o.heads.items
     + length o.maps.items + maps_lengths o.maps.items
 
--- each subtable has a slot as well
+-- subtables count twice, since each has a slot as well
 abbrev pub pieces_lengths : Pieces → ℕ
 pieces_lengths p =
     length p.parts.bytes.items + parts_lengths p.parts.bytes.items + 2 * length p.subs.items + subs_lengths p.subs.items

@@ -32,3 +32,4 @@ pub mod Fetching
 pub mod Index
 pub mod Checked
 pub mod FrontInput
+pub mod Streaming

@@ -18,7 +18,7 @@ use Rattle.szg_file.specs.declared.opened.OpenFault.{OpenFault}
 use Rattle.szg_file.specs.declared.opened.OpenFault.TheVariants.{Refused, Source, Memory}
 use Rattle.szg_file.specs.declared.dropping.PlacedSub.{PlacedSub}
 
--- its material and kind, the source's bytes, and the source's counts
+-- the material and kind, the source's bytes, and the source's counts
 pub record Opened : Type 0 where
   pub material : Sides
   pub kind : Kind
@@ -40,11 +40,11 @@ table_in material kind bytes = table_of (verdict (file material kind) 0 bytes)
 abbrev pub opened_table : Opened → Option Contents
 opened_table o = table_in o.material o.kind o.content
 
--- its subtable of a part and side
+-- the subtable of a part and side of the table that was opened
 abbrev pub opened_at : Opened → ℕ → ℕ → Option (Slot × Subtable)
 opened_at o part side = option_and_then (λ t. subtable_at t part side) (table_in o.material o.kind o.content)
 
--- the number of bytes requested after a value was returned: one block more, or none more for a constant subtable
+-- the number of bytes requested once a value was returned: one block's bytes more, none more for a constant subtable
 abbrev pub asked_after : Subtable → ℕ → ℕ
 asked_after (constant flags byte) requested = requested
 asked_after (pairs head sparse lengths packed) requested = raised requested (2 ^ head.block_bits)

@@ -1,4 +1,4 @@
--- Subtables whose blocks are elsewhere.
+-- Subtables whose blocks are not in memory.
 use Rattle.std.specs.Prelude.{ℕ, ◌≡◌, ◌&&◌, nat_eq, position, slice_get, Some, ◌+◌, ◌*◌, ◌^◌, ◌≤◌, List, length, drop, IfSome}
 use Rattle.szg_block.specs.BlocksTrait.{bytes_at}
 use Rattle.szg_block.specs.Subtable.{layout_of}
@@ -23,12 +23,12 @@ blocks_size (Pairs flags block_bits span_bits extra blocks code dict sparse leng
 abbrev pub whole_sub : List ℕ → PlacedSub → Subtable
 whole_sub bytes placed = with_blocks (subtable_of placed.sub) (bytes_at bytes placed.first (blocks_size placed.sub))
 
--- its blocks end within `count` bytes, and a buffer of `room` bytes holds each of them
+-- the subtable's blocks end within `count` bytes, and a buffer of `room` bytes holds each of them
 pub record Fits (count room : ℕ) (placed : PlacedSub) : Type 0 where
   pub inside : placed.first + blocks_size placed.sub ≤ count
   pub roomy : IfSome (layout_of placed.sub) (λ layout. 2 ^ layout.block_bits ≤ room)
 
--- its blocks are within `content`, and with them it is a subtable that every check accepts
+-- the subtable's blocks are within `content`, and with them every check accepts the subtable
 pub record StandsIn (content : List ℕ) (slot : Slot) (placed : PlacedSub) : Type 0 where
   pub stands : IsSubtable slot (whole_sub content placed)
   pub inside : placed.first + blocks_size placed.sub ≤ length content

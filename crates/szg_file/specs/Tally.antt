@@ -16,7 +16,7 @@ abbrev pub end_of : ℕ → List Section → ℕ
 end_of place [] = place
 end_of place (section ∷ sections) = end_of (place + length_of section + fill_of section place) sections
 
--- the number of their padding bytes
+-- the number of padding bytes of sections that begin at offset `place`
 abbrev pub fill_from : ℕ → List Section → ℕ
 fill_from place [] = 0
 fill_from place (section ∷ sections) = fill_of section place + fill_from (place + length_of section + fill_of section place) sections

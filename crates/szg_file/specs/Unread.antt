@@ -109,12 +109,12 @@ abbrev pub blocks_first : ℕ → Subtable → ℕ
 blocks_first place (constant flags byte) = 0
 blocks_first place (pairs head sparse lengths packed) = place + gap 64 place
 
--- the number of bytes of its blocks
+-- the number of bytes of a subtable's blocks
 abbrev pub blocks_count : Subtable → ℕ
 blocks_count (constant flags byte) = 0
 blocks_count (pairs head sparse lengths packed) = head.blocks * 2 ^ head.block_bits
 
--- the offset after its last block
+-- the offset after a subtable's last block
 abbrev pub blocks_end : ℕ → Subtable → ℕ
 blocks_end place (constant flags byte) = place
 blocks_end place (pairs head sparse lengths packed) = place + gap 64 place + head.blocks * 2 ^ head.block_bits
@@ -159,7 +159,7 @@ AcceptedDecodes = (t : Contents) (fill : List ℕ) → IsAccepted t fill → (pa
 abbrev pub front_in : Sides → Kind → List ℕ → Option Contents
 front_in material kind bytes = table_of (verdict (unread_file material kind) 0 bytes)
 
--- its subtable of a part and side
+-- the subtable of a part and side of that table
 abbrev pub front_at : Sides → Kind → List ℕ → ℕ → ℕ → Option (Slot × Subtable)
 front_at material kind bytes part side = option_and_then (λ t. subtable_at t part side) (front_in material kind bytes)
 

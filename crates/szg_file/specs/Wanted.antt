@@ -10,9 +10,9 @@ wanted_block (constant flags byte) i = None
 wanted_block (pairs head sparse lengths packed) i =
     Some (block_at head.block_bits packed (block_location (layout_of head sparse lengths) i).list)
 
--- The value that a look-up of value `i` returns for the bytes in `piece`, which may be another block: the value
--- that their words spell at the value's index in its block, and none if they spell fewer or do not have the length
--- of a block. Of a constant subtable it says nothing.
+-- The value that a look-up of value `i` returns for the bytes in `piece`, which may be those of another block: the
+-- value that their words spell at value `i`'s index in its block. None if they spell fewer values, or do not have
+-- the length of a block. Of a constant subtable it says nothing.
 abbrev pub IsSpelledBy : List ℕ → Subtable → ℕ → Option ℕ → Type 0
 IsSpelledBy piece (constant flags byte) i told = Unit {0}
 IsSpelledBy piece (pairs head sparse lengths packed) i told =

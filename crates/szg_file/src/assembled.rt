@@ -43,8 +43,8 @@ pub struct Fields {
 }
 
 impl Fields {
-    /// Returns the number of padding bytes in the file of these fields: those up to even offsets and to multiples
-    /// of 64, and the one after each dictionary with an odd number of entries. It takes no memory.
+    /// Returns the number of padding bytes in the file of these fields: those up to even offsets and to multiples of
+    /// 64, and the one after each dictionary with an odd number of entries. Allocates nothing.
     pub fn fill_asked(&self) -> u64
         ensures { result ≡ fill_asked (fields_shown self.now).contents }
     {
@@ -67,8 +67,8 @@ impl Fields {
         tally.fill()
     }
 
-    /// Whether these fields, with these padding bytes, form a table that every check of the format accepts. It
-    /// takes no memory.
+    /// Returns whether these fields, with these padding bytes, form a table that every check of the format accepts.
+    /// Allocates nothing.
     pub fn passes(&self) -> bool
         ensures { IsTrue result ↔ IsAccepted (fields_shown self.now).contents (fields_shown self.now).filled }
     {
@@ -136,7 +136,7 @@ fn slots_of(material: &Material, kind: Kind, parts: &[PartBytes]) -> Option<Arra
 
 /// Returns the number of positions of each subtable of these parts, in file order: part by part, side 0 before side
 /// 1. None if there is a different number of parts than the material requires, or if a part has a different number
-/// of order bytes or men, or an order that no file may have. It takes no memory.
+/// of order bytes or men, or an order that no file may have. Allocates nothing.
 pub fn subtable_sizes(
     material: &Material,
     kind: Kind,
@@ -156,7 +156,7 @@ pub fn subtable_sizes(
 }
 
 impl Table {
-    /// Creates the table of fields that pass. It takes no memory.
+    /// Creates the table of fields that pass. Allocates nothing.
     pub fn assemble(fields: Fields) -> Table
         requires { IsAccepted (fields_shown fields).contents (fields_shown fields).filled }
         ensures { result ≡ fields_shown fields }

@@ -7,6 +7,7 @@ use crate::fault::ReadFault;
 use crate::forward::Ahead;
 use crate::front::Front;
 use crate::outline::read_outline;
+use crate::sink::NoSink;
 use std::alloc::Global;
 use szg_io::Input;
 use szg_values::{Kind, Material};
@@ -30,6 +31,15 @@ pub fn check<R: Input + Ahead>(
 {
     let mut front = Front::new(alloc);
     let mut block = Vec::new(alloc);
-    let _outline = read_outline(alloc, material, kind, &mut block, input, &mut front)?;
+    let _outline = read_outline(
+        alloc,
+        material,
+        kind,
+        &mut block,
+        input,
+        &mut front,
+        &mut NoSink,
+        &mut (),
+    )?;
     Ok(front.place)
 }

@@ -33,8 +33,8 @@ fn map_item(map: &Map, list: usize, v: u16) -> Option<u16>
     }
 }
 
-/// Whether the numbers of a list count plies: those of wins with bit 2 (flag 4), those of losses with bit 3 (flag
-/// 8).
+/// Returns whether the numbers of a list count plies: those of list 0 (wins) with flag 4, those of list 1 (losses)
+/// with flag 8. The numbers of the other lists count moves.
 fn in_plies(flags: u8, list: usize) -> bool
     ensures { result ≡ told_in_plies flags list }
 {

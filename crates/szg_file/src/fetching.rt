@@ -121,7 +121,7 @@ impl FrontTable {
     ghost use Rattle.szg_file.specs.Unread.{front_at, IsDecoded};
 
     /// Returns value `i` of a part's side, decoded from the file's bytes. It verifies the value's block; a constant
-    /// subtable needs none. It takes no memory. Any number of threads may call it on one table.
+    /// subtable needs none. Allocates nothing. Any number of threads may call it on one table.
     ///
     /// Errors: `Block` if the block does not decode, `Source` if there are fewer bytes than when the table was
     /// opened. An error has no effect on later calls.
@@ -161,8 +161,8 @@ impl FrontTable {
         })
     }
 
-    /// Returns value `i` of a part's side, decoded from `block`, the bytes at the range that `find` returns. It verifies
-    /// them; a constant subtable ignores them. It takes no memory.
+    /// Returns value `i` of a part's side, decoded from `block`, the bytes at the range that `find` returns. It
+    /// verifies them; a constant subtable ignores them. Allocates nothing.
     ///
     /// Errors: `Block` if the block does not decode, `Source` if the bytes do not have its length. An error has no
     /// effect on later calls.
@@ -171,7 +171,7 @@ impl FrontTable {
         ensures value { IfOk result (λ value. (content : List ℕ) → IsFrontOf self.now content → IfSome (front_at self.now.index.material self.now.index.kind content part side) (λ found. IfSome (wanted_block found.1 i) (λ wanted. wanted ≡ block.now) → IsDecoded self.now.index.kind found i value)) }
         ensures fault { IfErr result (λ fault. (content : List ℕ) → IsFrontOf self.now content → IfSome (front_at self.now.index.material self.now.index.kind content part side) (λ found. IfSome (wanted_block found.1 i) (λ wanted. wanted ≡ block.now) → NamesBadBlock content found i fault)) }
         ensures length { (content : List ℕ) → IsFrontOf self.now content → IfSome (front_at self.now.index.material self.now.index.kind content part side) (λ found. MatchOption (wanted_block found.1 i) (IsOk result) (λ wanted. (result ≡ Err FetchFault.Source) ↔ (length block.now ≢ length wanted))) }
-        // of bytes that are not the file's too
+        // also if `block` has other bytes than the file
         ensures spelled { IfOk result (λ value. (content : List ℕ) → IsFrontOf self.now content → IfSome (front_at self.now.index.material self.now.index.kind content part side) (λ found. IsSpelledBy block.now found.1 i (Some value))) }
     {
         let Some(found) = slotted_at(self.index.slots(), &self.subs, part, side) else {
@@ -194,7 +194,7 @@ impl FrontTable {
     }
 
     /// Returns value `i` of a part's side. It requests the value's block from the source, into `buffer`, and
-    /// verifies it; a constant subtable needs none. It takes no memory.
+    /// verifies it; a constant subtable needs none. Allocates nothing.
     ///
     /// Errors: `Block` if the block does not decode, `Source` if the source failed. An error has no effect on later
     /// calls.

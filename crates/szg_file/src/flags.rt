@@ -15,7 +15,7 @@ pub fn flags_of(sub: &Sub) -> u8
     }
 }
 
-/// Whether bit `k` of a byte is set. In a flag byte that is flag `2^k`.
+/// Returns whether bit `k` of a byte is set. In a flag byte it is flag `2^k`.
 pub fn has_bit(k: u8, byte: u8) -> bool
     requires { k < 8 }
     ensures { result ≡ has_bit k byte }

@@ -26,10 +26,11 @@ fn read_fault(fault: OpenFault) -> ReadFault
 
 /// Opens a table of this material and kind by its front, from the first byte of a file of `size` bytes. It makes
 /// every check of `read` up to the block lengths, and computes that the file is long enough for the blocks, the
-/// padding and the last sixteen bytes. It reads no byte after the block lengths. Returns the number of bytes read,
-/// too.
+/// padding and the last sixteen bytes. It reads no byte after the block lengths. Returns the table and the number of
+/// bytes read.
 ///
-/// The caller fetches the block that `FrontTable::find` names, and hands it to `FrontTable::value_in`.
+/// For a value, the caller reads the byte range that `FrontTable::find` returns, and passes the bytes to
+/// `FrontTable::value_in`.
 ///
 /// Errors: `Refused` with the offset and the reason that `read` returns for these checks, or `Truncated` at `size`;
 /// `Device` if the device failed; `Memory` if an allocation was refused.

@@ -60,7 +60,8 @@ impl FrontTable {
 /// The number of bytes requested from the source at once.
 const CHUNK: usize = 32768;
 
-/// Whether a file of `length` bytes whose blocks end at `end` has room for the padding and the last sixteen bytes.
+/// Returns whether a file of `length` bytes whose blocks end at `end` has room for the padding and the last sixteen
+/// bytes.
 fn has_ending(end: u64, length: u64) -> bool
     requires { end < 2 ^ 62 }
     ensures { IsTrue result ↔ (end + gap 64 end + 16 ≤ length) }
@@ -114,7 +115,7 @@ pub fn front_table(
 
 /// Opens a table of this material and kind by its front. It reads the source from its first byte up to the block
 /// lengths, with every check that `read` makes there, and computes that the source is long enough for the blocks,
-/// the padding and the last sixteen bytes. It requests no byte of a block. Returns the source, too.
+/// the padding and the last sixteen bytes. It requests no byte of a block. Returns the table and the source.
 ///
 /// Errors: `Refused` with the offset and the reason that `read` returns for these checks, or `Truncated` at the
 /// source's length; `Source` if the source failed; `Memory` if an allocation was refused.

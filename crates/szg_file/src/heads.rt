@@ -164,7 +164,7 @@ pub struct HeadSizes {
     pub max: u8,
 }
 
-/// Whether a code may have these least and greatest lengths.
+/// Returns whether a code may have these least and greatest lengths.
 fn are_lengths(min: u8, max: u8) -> bool
     ensures { result ≡ (nat_lt 0 min && nat_le min max && nat_le max 32) }
 {

@@ -12,6 +12,7 @@ use crate::forward::Forward;
 use crate::front::Front;
 use crate::lookup::{Slotted, constant_value, slotted_at};
 use crate::outline::{Outline, read_outline};
+use crate::sink::NoSink;
 use crate::table_index::{TableIndex, index_of_placed};
 use std::alloc::Global;
 use std::marker::Model;
@@ -79,8 +80,8 @@ impl<S: Source + Drop> Opened<S> {
         self.blocks.source()
     }
 
-    /// Returns value `i` of a part's side. It takes no memory, and requests one block from the source, or none for
-    /// a constant subtable.
+    /// Returns value `i` of a part's side. Allocates nothing. It requests one block from the source, or none for a
+    /// constant subtable.
     ///
     /// Errors: the source failed, which never happens for a constant subtable. An error has no effect on later
     /// calls.
@@ -118,8 +119,8 @@ const PIECE: usize = 65536;
 /// of a subtable in chunks of 64 KiB. It requests no byte after the table, and none after a field whose check
 /// fails, except that chunks may extend past a block whose check fails to later blocks of its subtable.
 ///
-/// An error includes the source. Errors: `Refused` with the offset and the reason that `read` returns; `Source` if
-/// the source failed; `Memory` if an allocation was refused.
+/// Errors, each with the source: `Refused` with the offset and the reason that `read` returns; `Source` if the
+/// source failed; `Memory` if an allocation was refused.
 pub fn open<S: Source + Drop>(
     alloc: Global,
     material: Material,
@@ -143,7 +144,16 @@ pub fn open<S: Source + Drop>(
     let mut front = Front::new(alloc);
     let mut buffer = Vec::new(alloc);
     let mut input = Forward::new(source, piece);
-    match read_outline(alloc, &material, kind, &mut buffer, &mut input, &mut front) {
+    match read_outline(
+        alloc,
+        &material,
+        kind,
+        &mut buffer,
+        &mut input,
+        &mut front,
+        &mut NoSink,
+        &mut (),
+    ) {
         Ok(
             Outline {
                 byte4: _,

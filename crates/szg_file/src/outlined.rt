@@ -50,7 +50,7 @@ impl<S: Source + Drop> Opened<S> {
         &self.index
     }
 
-    /// Returns the material of the name that the table was opened by.
+    /// Returns the table's material, for which it was opened.
     pub fn material(&self) -> &Material
         ensures { result.now ≡ self.now.material }
     {

@@ -53,7 +53,7 @@ pub fn man_count(material: &Material) -> usize
     material.men().len()
 }
 
-/// Whether each part has subtables for both sides.
+/// Returns whether each part has subtables for both sides.
 fn has_two_sides(material: &Material, kind: Kind) -> bool
     ensures { side_numbers material.now kind ≡ (if result then 0 ∷ 1 ∷ [] else 0 ∷ []) }
 {

@@ -96,7 +96,7 @@ pub fn end_bytes(byte4: u8, last: &[u8; 16]) -> [u8; 16]
 
 // ---- subtables
 
-/// Whether a subtable passes the checks of a slot.
+/// Returns whether a subtable passes the checks of a slot.
 fn sub_stands(slot: &Slot, sub: &Sub) -> bool
     ensures { IsTrue result ↔ IsSubtable slot.now (subtable_of sub.now) }
 {
@@ -110,7 +110,7 @@ fn sub_stands(slot: &Slot, sub: &Sub) -> bool
     }
 }
 
-/// Whether there is one subtable per slot, and each passes its checks.
+/// Returns whether there is one subtable per slot, and each passes its checks.
 pub fn subs_stand(slots: &[Slot], subs: &[Sub]) -> bool
     ensures { IsTrue result ↔ SideBySide IsSubtable slots.now (map subtable_of subs.now) }
 {
@@ -127,14 +127,14 @@ pub fn subs_stand(slots: &[Slot], subs: &[Sub]) -> bool
 
 // ---- maps
 
-/// Whether the length of a list fits one byte.
+/// Returns whether the length of a list fits one byte.
 fn short_list_fits(list: &[u8]) -> bool
     ensures { IsTrue result ↔ ((length list.now < 256 ^ 1) × AreNumbers 1 list.now) }
 {
     list.len() < 256
 }
 
-/// Whether the length of a list fits two bytes.
+/// Returns whether the length of a list fits two bytes.
 fn wide_list_fits(list: &[u16]) -> bool
     ensures { IsTrue result ↔ ((length list.now < 256 ^ 2) × AreNumbers 2 list.now) }
 {
@@ -163,8 +163,8 @@ fn wide_lists_fit(lists: &[Vec<u16>; 4]) -> bool
     true
 }
 
-/// Whether a map is the one that the flags of the part's subtable require: a map with bit 1 (flag 2), a wide one
-/// with bit 4 (flag 16).
+/// Returns whether a map is the one that the flags of the part's subtable require: a map with bit 1 (flag 2), a wide
+/// one with bit 4 (flag 16).
 fn map_stands(sub: &Sub, map: &Option<Map>) -> bool
     ensures { IsTrue result ↔ IsMapOf (subtable_of sub.now) (option_map map_of map.now) }
 {
@@ -178,7 +178,7 @@ fn map_stands(sub: &Sub, map: &Option<Map>) -> bool
     }
 }
 
-/// Whether there is one item per subtable, and each is the one that the flags require.
+/// Returns whether there is one item per subtable, and each is the one that the flags require.
 fn each_map_stands(subs: &[Sub], maps: &[Option<Map>]) -> bool
     ensures { IsTrue result ↔ SideBySide IsMapOf (map subtable_of subs.now) (map (option_map map_of) maps.now) }
 {
@@ -193,7 +193,7 @@ fn each_map_stands(subs: &[Sub], maps: &[Option<Map>]) -> bool
     true
 }
 
-/// Whether the maps are those that the kind and the flags require.
+/// Returns whether the maps are those that the kind and the flags require.
 pub fn maps_stand(kind: Kind, subs: &[Sub], maps: &[Option<Map>]) -> bool
     ensures { IsTrue result ↔ AreMaps kind (map subtable_of subs.now) (map (option_map map_of) maps.now) }
 {

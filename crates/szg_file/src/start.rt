@@ -22,7 +22,7 @@ pub fn magic(kind: Kind) -> [u8; 4]
     }
 }
 
-/// Whether two byte strings are equal.
+/// Returns whether two byte strings are equal.
 fn same(a: &[u8], b: &[u8]) -> bool
     ensures { result ≡ bytes_eq a.now b.now }
 {
@@ -47,15 +47,15 @@ fn read_magic<R: Input>(kind: Kind, input: &mut R, front: &mut Front) -> Result<
     Ok(())
 }
 
-/// Whether bit 1 of byte 4 is set exactly if the material has pawns.
+/// Returns whether bit 1 of byte 4 is set exactly if the material has pawns.
 pub fn pawns_as(material: &Material, byte: u8) -> bool
     ensures { result ≡ agrees (has_bit 1 byte) (has_pawns material.now) }
 {
     has_bit(1, byte) == material.has_pawns()
 }
 
-/// Whether bit 0 of byte 4 of a WDL file is set exactly if the material is not symmetric. In a DTZ file it may be
-/// either.
+/// Returns whether bit 0 of byte 4 of a WDL file is set exactly if the material is not symmetric. True for a DTZ
+/// file.
 pub fn splits_as(material: &Material, kind: Kind, byte: u8) -> bool
     ensures { result ≡ split_agrees material.now kind byte }
 {

@@ -68,7 +68,7 @@ impl Table {
         &self.index
     }
 
-    /// Returns the material of the name that the table was read by.
+    /// Returns the table's material, for which it was read.
     pub fn material(&self) -> &Material
         ensures { result.now ≡ self.now.contents.material }
     {

@@ -19,7 +19,7 @@ use szg_block::Sub;
 use szg_values::{Kind, Material};
 
 /// The index of a table: its material and kind, its parts, the slots and flags of its subtables, and its maps. Each
-/// kind of table owns one, and adds its subtables and where their blocks come from.
+/// type of table owns one, with its subtables and the source of their blocks.
 #[derive(Drop)]
 pub struct TableIndex {
     material: Material,
@@ -56,13 +56,13 @@ pub fn index_of_subs(
     requires slots { parts.slots.items ≡ slots_of material kind (map part_of parts.bytes.items) }
     ensures { result ≡ index_with material kind (map part_of parts.bytes.items) (map flags_byte (map subtable_of subs.now)) (map (option_map map_of) maps.items) }
 {
-    // the number of slots is the same, at most eight
+    // there is a slot for each subtable, at most eight
     let _slots = parts.slots.as_slice();
     let flags = flags_of_all(subs);
     TableIndex::new(material, kind, parts, flags, maps)
 }
 
-/// Creates the index of a table whose blocks are elsewhere.
+/// Creates the index of a table whose blocks are not in memory.
 pub fn index_of_placed(
     material: Material,
     kind: Kind,
@@ -74,7 +74,7 @@ pub fn index_of_placed(
     requires slots { parts.slots.items ≡ slots_of material kind (map part_of parts.bytes.items) }
     ensures { result ≡ index_with material kind (map part_of parts.bytes.items) (map (λ placed. flags_byte (subtable_of placed.sub)) subs.now) (map (option_map map_of) maps.items) }
 {
-    // the number of slots is the same, at most eight
+    // there is a slot for each subtable, at most eight
     let _slots = parts.slots.as_slice();
     let flags = flags_of_placed(subs);
     TableIndex::new(material, kind, parts, flags, maps)
@@ -92,7 +92,7 @@ fn flags_of_all(subs: &[Sub]) -> ArrayVec<u8, 8>
     flags
 }
 
-/// Returns the flag bytes of subtables whose blocks are elsewhere.
+/// Returns the flag bytes of subtables whose blocks are not in memory.
 pub fn flags_of_placed(subs: &[PlacedSub]) -> ArrayVec<u8, 8>
     requires { length subs.now ≤ 8 }
     ensures { result.items ≡ map (λ placed. flags_byte (subtable_of placed.sub)) subs.now }
@@ -133,7 +133,7 @@ impl TableIndex {
         }
     }
 
-    /// Returns the material of the name that the table was read by.
+    /// Returns the table's material, for which it was read.
     pub fn material(&self) -> &Material
         ensures { result.now ≡ self.now.material }
     {

@@ -15,7 +15,7 @@ use std::mem;
 use szg_block::Entry;
 use szg_io::{Input, take_whole};
 
-/// Reads a field of the length of `piece` into it.
+/// Reads a field into `piece`, which it fills.
 pub fn take_field<R: Input>(
     input: &mut R,
     front: &mut Front,
@@ -68,8 +68,8 @@ pub fn read_number<R: Input>(input: &mut R, front: &mut Front) -> Result<u16, Re
     Ok(LittleEndian::read_u16(&piece))
 }
 
-/// The most bytes that are read into a list at a time. It is half of the number of items that lists may be ahead of
-/// their bytes, which leaves room for items that few bytes account for.
+/// The greatest number of bytes that are read into a list at once. Lists may be 65,536 items ahead of the bytes
+/// read; this is half of that, and the rest is for items that few bytes account for.
 const PIECE: u64 = 32768;
 
 /// Reads `size` bytes, at most 32,768, and appends them to a list.
@@ -190,11 +190,12 @@ pub fn take_fill<R: Input>(
     take_spare(alloc, (unit - rest) % unit, input, front)
 }
 
-/// The most items for which room is made at once: each takes two bytes or more, so they stay below `PIECE`.
+/// The greatest number of items for which space is reserved at once. Each takes two bytes or more, so their number
+/// is below `PIECE`.
 const ROWS: usize = 16384;
 
-/// Makes room for items of a list that grows by `left` more, unless there is `room` for one already; returns the items
-/// that there is room for.
+/// Reserves space in a list to which `left` more items will be appended, unless space for `room` items is left.
+/// Returns the number of items for which there is space.
 #[inline(always)]
 fn grow_ahead<T>(
     list: &mut Vec<T>,

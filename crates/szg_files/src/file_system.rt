@@ -1,5 +1,5 @@
 //! Files by path.
-ghost use Rattle.std.specs.Prelude.{◌≡◌, ℕ, List, Option, Some, [], IfOk, IfSome, OnOk, OnErr, drop, length};
+ghost use Rattle.std.specs.Prelude.{◌≡◌, ℕ, List, None, Option, Some, [], IfErr, IfOk, IfSome, OnOk, OnErr, drop, length};
 ghost use Rattle.szg_io.specs.Device.{raised};
 
 use std::io::Error;
@@ -41,14 +41,16 @@ pub trait FileSystem {
         ensures quiet { OnOk result (failures self.new ≡ failures self.old) }
         ensures failed { OnErr result (failures self.new ≡ raised (failures self.old)) };
 
-    /// Returns the number of bytes of an opened file. Errors: the system's reason.
+    /// Returns the number of bytes of an opened file. Errors: the system's reason, only if the bytes are not known.
     fn len(&self, file: &Self::File) -> Result<u64, FileFault>
         requires unread { Self.File.moved file.now ≡ [] }
-        ensures { IfSome (Self.File.coming file.now) (λ bytes. IfOk result (λ count. count ≡ length bytes)) };
+        ensures size { IfSome (Self.File.coming file.now) (λ bytes. IfOk result (λ count. count ≡ length bytes)) }
+        ensures failed { IfErr result (λ fault. Self.File.coming file.now ≡ None) };
 
     /// Skips the next `count` bytes of an opened file without reading them. Returns a device that has moved no byte,
-    /// at the byte after them. Errors: the system's reason.
+    /// at the byte after them. Errors: the system's reason, only if the bytes are not known.
     fn skip(&self, file: Self::File, count: u64) -> Result<Self::File, FileFault>
         ensures unread { IfOk result (λ rest. Self.File.moved rest ≡ []) }
-        ensures coming { IfOk result (λ rest. IfSome (Self.File.coming file) (λ bytes. Self.File.coming rest ≡ Some (drop count bytes))) };
+        ensures coming { IfOk result (λ rest. IfSome (Self.File.coming file) (λ bytes. Self.File.coming rest ≡ Some (drop count bytes))) }
+        ensures failed { IfErr result (λ fault. Self.File.coming file ≡ None) };
 }

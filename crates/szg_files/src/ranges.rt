@@ -1,6 +1,6 @@
 //! Ranges of a file's bytes.
-ghost use Rattle.std.specs.Prelude.{◌≡◌, ◌+◌, ◌<◌, IfSome, IsErrOf, OnOk, length};
-ghost use Rattle.szg_files.specs.Ranges.{IsRangeOf};
+ghost use Rattle.std.specs.Prelude.{◌≡◌, ◌+◌, ◌<◌, ◌⊎◌, IfErr, IfSome, IsErrOf, OnOk, length};
+ghost use Rattle.szg_files.specs.Ranges.{HasFailedIn, IsRangeOf};
 
 use crate::file_system::{FileFault, FileSystem, Reasons};
 use std::io::ErrorKind;
@@ -26,6 +26,7 @@ pub fn read_range<S: FileSystem>(
 ) -> Result<(), RangeFault>
     ensures range { OnOk result (IsRangeOf S.File.Input file skipped bytes.new) }
     ensures ended { IsErrOf result RangeFault.Ended → IfSome (S.File.coming file) (λ coming. length coming < skipped + length bytes.old) }
+    ensures failed { IfErr result (λ fault. fault ≡ RangeFault.Ended ⊎ HasFailedIn S.File.Input file) }
 {
     let mut rest = match system.skip(file, skipped) {
         Ok(rest) => rest,

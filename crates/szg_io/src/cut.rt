@@ -47,7 +47,7 @@ impl<T> Cut<T> {
         &self.device
     }
 
-    /// Returns the fault that this call is set to return. None if it is set to none.
+    /// Returns the fault that this call is set to return. None if the call is not set to fail.
     fn fault_due(&mut self) -> Option<IoFault>
         ensures device { self.new.device ≡ self.old.device }
         ensures counts { self.new.counts ≡ self.old.counts }

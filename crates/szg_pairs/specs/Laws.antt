@@ -23,7 +23,7 @@ ExpansionIsOf = (entries : List (List ℕ)) (s : ℕ) (xs : List ℕ) → Expand
 abbrev pub AcceptedHasNoFault : Type 0
 AcceptedHasNoFault = (entries : List (List ℕ)) → IsDictionary entries → (fault : DictFault) → IsDictionaryFault entries fault → fault ≡ Memory
 
--- any other dictionary has at most one fault, apart from refused memory
+-- a dictionary has at most one fault, apart from refused memory
 abbrev pub OneFault : Type 0
 OneFault = (entries : List (List ℕ)) (f g : DictFault) → IsDictionaryFault entries f → IsDictionaryFault entries g → (f ≡ Memory) ⊎ ((g ≡ Memory) ⊎ (f ≡ g))
 
@@ -39,12 +39,12 @@ FirstChildFinds = (entries : List (List ℕ)) → FindsFirst (NamesSymbols entri
 abbrev pub FirstCycleFinds : Type 0
 FirstCycleFinds = (entries : List (List ℕ)) → FindsFirst (HasExpansion entries) (first_cycle entries)
 
--- if all symbols have one, first_long finds the least symbol of more than 256 values
+-- if first_cycle finds none, first_long finds the least symbol of more than 256 values
 abbrev pub FirstLongFinds : Type 0
 FirstLongFinds = (entries : List (List ℕ)) → first_cycle entries ≡ None → FindsFirst (HasShortExpansion entries) (first_long entries)
 
--- a dictionary is accepted exactly if none of the three finds a symbol; else the first that finds one determines
--- the fault
+-- a dictionary is accepted exactly if first_child, first_cycle and first_long find no symbol; else the first of them
+-- that finds one determines the fault
 abbrev pub FoundIsFault : Type 0
 FoundIsFault = (entries : List (List ℕ)) →
     (IsDictionary entries ↔ ((first_child entries ≡ None) × (first_cycle entries ≡ None) × (first_long entries ≡ None)))

@@ -22,7 +22,7 @@ abbrev pub stack_values : List (List ℕ) → List ℕ → List ℕ
 stack_values entries [] = []
 stack_values entries (s ∷ stack) = stack_values entries stack ++ expansion_of entries s
 
--- the number of symbols that are still popped until the stack is empty: a symbol of n values has n - 1 pairs
+-- the number of symbols popped until the stack is empty: for a symbol of n values, n leaves and n - 1 pairs
 abbrev pub steps_left : List (List ℕ) → List ℕ → ℕ
 steps_left entries [] = 0
 steps_left entries (s ∷ stack) = steps_left entries stack + (2 * length (expansion_of entries s) - 1)

@@ -7,12 +7,12 @@ use Rattle.szg_pairs.specs.Expansion.{Expands}
 abbrev pub IsLength : List (List ℕ) → ℕ → ℕ → Type 0
 IsLength entries s n = (values : List ℕ) × Expands entries s values × (n ≡ min (length values) 257)
 
--- n is that number, or 0 if symbol s has no expansion
+-- n is the number of values of symbol s (257 if that is more than 256), or 0 if symbol s has no expansion
 pub record IsLengthOrNone (entries : List (List ℕ)) (s n : ℕ) : Type 0 where
   pub known : 0 < n → IsLength entries s n
   pub unknown : n ≡ 0 → (values : List ℕ) → Expands entries s values → ⊥
 
--- such a number for each symbol
+-- `lengths` has such a number for each symbol
 pub record AreLengths (entries : List (List ℕ)) (lengths : List ℕ) : Type 0 where
   pub same_length : length lengths ≡ length entries
   pub each : (s : ℕ) → s < length entries → IsLengthOrNone entries s (slice_index lengths s)

@@ -41,8 +41,8 @@ pub fn first_long_finds()
     ensures { FirstLongFinds }
 {}
 
-/// A dictionary is accepted exactly if the three functions find nothing. Otherwise the first of them that finds a
-/// symbol determines the fault that `Dict::new` returns.
+/// A dictionary is accepted exactly if `first_child`, `first_cycle` and `first_long` find nothing. Otherwise the
+/// first of them that finds a symbol determines the fault that `Dict::new` returns.
 pub fn found_is_fault()
     ensures { FoundIsFault }
 {}

@@ -77,9 +77,9 @@ impl Dict {
     ///
     /// Errors: `Child` if an entry has a child that does not exist; else `Cycle` if a symbol has no finite
     /// expansion; else `LongSymbol` if a symbol has more than 256 values. Each carries the least such symbol.
-    /// `Memory` if a list of the search for the last two could not grow, so never if there is a `Child`. That
-    /// `Memory` has no other cause is seen by reading and by tests, since no clause can say what an allocator
-    /// returns. The running time is linear in the number of entries, and the call depth does not grow with the
+    /// `Memory` if a list of the search for `Cycle` and `LongSymbol` could not grow, so never if there is a `Child`.
+    /// No clause says that `Memory` has no other cause, since none can say what an allocator returns; reading and
+    /// tests show it. The running time is linear in the number of entries, and the call depth does not grow with the
     /// depth of the pairs.
     pub fn new(alloc: Global, entries: Vec<[u8; 3]>) -> Result<Dict, DictFault>
         requires { length entries.items ≤ 65535 }
@@ -170,8 +170,8 @@ impl Dict {
         }
     }
 
-    /// Returns the values of symbol `s`, 1 to 256, in their order. Errors: refused memory. That it has no other
-    /// cause is seen by reading and by tests.
+    /// Returns the values of symbol `s`, 1 to 256, in their order. Errors: memory is refused. Reading and tests show
+    /// that there is no other cause.
     pub fn expand(&self, alloc: Global, s: u16) -> Result<Vec<u16>, AllocError>
         requires { s < length self.now }
         ensures { IfOk result (λ values. values.items ≡ expansion_of self.now s) }

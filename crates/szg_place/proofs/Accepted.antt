@@ -1,4 +1,5 @@
--- A table's numbering is one: its parts order their groups without a fault, and its subtables have the sizes of their groups.
+-- A table's numbering fulfils IsLayout: its parts order their groups without a fault, and its subtables have the
+-- sizes of their groups.
 use Rattle.std.proofs.Common.{◌≡◌, ℕ, zero, suc, ◌<◌, List, [], ◌∷◌, length, refl, ap, ◌∙◌, Bool, true, false, cond, arith}
 use Rattle.std.specs.Prelude.{slice_get, unwrap_or, Option, Some, None, IsNone}
 use Rattle.std.specs.List.{AllByRecursion}
@@ -12,7 +13,7 @@ use Rattle.szg_file.specs.Index.{Index, index_of}
 use Rattle.szg_place.specs.Layout.{IsLayout, nibbles_at, is_dtz}
 use Rattle.szg_place.specs.Tables.{numbering_of, numbering_in}
 
--- the item beside one
+-- the item at an index of one list has an item at that index of the other list
 pub side_get : {A B : Type 0} (Q : B → Type 0) (xs : List A) (ys : List B) (i : ℕ) → SideBySide (λ _. Q) xs ys → i < length xs → (y : B) × (slice_get ys i ≡ Some y) × Q y
 side_get Q [] ys i h l = absurd (omega arith)
 side_get Q (x ∷ xs) [] i h l = absurd h

@@ -1,4 +1,4 @@
--- Which slots an index has, and of what size.
+-- Which slots a TableIndex has, and their sizes.
 use Rattle.std.proofs.Common.{◌≡◌, ℕ, zero, suc, ◌+◌, ◌<◌, inl, inr, List, [], ◌∷◌, length, map, refl, subst, Some, Option, option_map, sym, ap, ◌∙◌, Bool, true, false, cond, arith}
 use Rattle.std.specs.Prelude.{slice_get, unwrap_or, None, IsSome, IsSomeAnd, IfSome, nat_eq, ◌&&◌}
 use Rattle.std.proofs.lemmas.List.{length-map}
@@ -21,7 +21,7 @@ use Rattle.szg_place.proofs.Accepted.{parts_many}
 abbrev part_at : List Part → ℕ → Part
 part_at parts i = unwrap_or (slice_get parts i) (record { order = []; men = [] })
 
--- the subtable of the i-th part is there, with its size
+-- the subtable of part i exists and has its size
 HasSize : Sides → List ℕ → ℕ → List Part → List Subtable → ℕ → ℕ → ℕ → Type 0
 HasSize m sides number parts ys i part side =
     IsSomeAnd (found part side (slotted (slots_from m sides number parts) ys)) (λ f. f.0.size ≡ size_of m part (order_of side (part_at parts i)))
@@ -55,7 +55,7 @@ two_sides m number (q ∷ parts) (y ∷ z ∷ ys) (suc i) part side e h p s =
     let f : nat_eq number part ≡ false = ne_eqb number part (λ k. omega (arith, k, p)) in
     rw f (two_sides m (number + 1) parts ys i part side (let k : suc (suc (length ys)) ≡ suc (suc (length (slots_from m (0 ∷ 1 ∷ []) (number + 1) parts))) = e in omega (arith, k)) (omega arith) (omega arith) s)
 
--- what a table has to fulfil so that its slots can be found: parts that pass their checks, and one subtable a slot
+-- what a table needs so that its slots can be found: parts that pass their checks, and one subtable for each slot
 pub record HasSlots (t : Contents) : Type 0 where
   pub parts : SideBySide (λ _. IsPart t.material t.kind) (part_numbers t.material) t.parts
   pub many : length t.subtables ≡ length (slots t.material t.kind t.parts)
@@ -63,7 +63,7 @@ pub record HasSlots (t : Contents) : Type 0 where
 parts_there : (t : Contents) → HasSlots t → length t.parts ≡ part_count (numbering_of t)
 parts_there t a = sym (side_lengths (λ _. IsPart t.material t.kind) (part_numbers t.material) t.parts a.parts) ∙ parts_many t.material
 
--- each part and side of an accepted table has a subtable, of the size of its groups
+-- each part and side of an accepted table has a subtable, with the size that its groups give
 size_there : (t : Contents) (part side : ℕ) → HasSlots t → part < part_count (numbering_of t) → side < side_count (numbering_of t) →
     IsSomeAnd (subtable_at t part side) (λ found. found.0.size ≡ size_at (numbering_of t) part side)
 unfolding HasSize size_of
@@ -86,7 +86,7 @@ size_there t part side a p s =
         alone (suc side) s = absurd (omega arith)
       either false e s = two_sides t.material 0 t.parts t.subtables part part side e l (omega arith) s
 
--- ---- and it has no others
+-- ---- a table has no other subtables
 
 none_there : {X : Type 0} → IsSome {T = Slot × Subtable} None → X
 none_there e = cc
@@ -135,9 +135,9 @@ there_below t part side a e =
       either true e = in_one t.material 0 t.parts t.subtables part side e
       either false e = in_two t.material 0 t.parts t.subtables part side e
 
--- ---- the same of an index
+-- ---- the same laws for a TableIndex
 
--- an index has one subtable a slot
+-- contents with the parts of a TableIndex, and one subtable for each slot
 fake : Index → Contents
 fake x = contents_with x 0 (map (λ _. constant 0 0) (slots_in x)) []
 
@@ -160,7 +160,7 @@ is_first : (o : Option (Slot × Subtable)) → IsSome (first_of o) → IsSome o
 is_first None h = absurd (cc h)
 is_first (Some x) h = refl
 
--- each part and side of an index has a slot, of the size of its groups
+-- each part and side of a TableIndex has a slot, with the size that its groups give
 pub slot_size : (x : Index) (part side : ℕ) → IsIndex x → part < part_count (numbering_in x) → side < side_count (numbering_in x) →
     IsSomeAnd (slot_in x part side) (λ slot. slot.size ≡ size_at (numbering_in x) part side)
 unfolding fake

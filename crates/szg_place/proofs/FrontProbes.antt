@@ -61,7 +61,7 @@ no_fetch : (r : Result ℕ MapFault) (f : FetchFault) → mapped r ≡ Err (Fetc
 no_fetch (Ok n) f e = cc e
 no_fetch (Err fault) f e = cc e
 
--- a number that wasn't fetched is of a value that wasn't
+-- if the number's error is a failed fetch, the value's fetch failed
 pub fetch_of : (x : Index) (class : ℤ) (found : Result (Spot × ℕ) FrontProbeFault) (f : FetchFault) → number_told x class found ≡ Err (Fetch f) → found ≡ Err (Fetch f)
 fetch_of x class (Ok (spot, v)) f e = absurd (no_fetch (as_number x spot.part class v) f e)
 fetch_of x class (Err fault) f e = let k : fault ≡ Fetch f = cc e in ap Err k

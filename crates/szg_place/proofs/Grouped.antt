@@ -49,7 +49,7 @@ cut_of sides part n i group groups e h g =
 pub told_long : (sides : Sides) (part : ℕ) (n : Nibbles) (groups : List Group) → groups ≡ groups_in_slot_order (counted sides part n) → length groups ≡ length (groups_of sides n.men)
 told_long sides part n groups e = ap length e ∙ groups_many (counted sides part n) ∙ ap length (groups_are sides part n)
 
--- there is a lead group
+-- there is at least one group, the lead group
 pub some_group : (sides : Sides) (men : List ℕ) → 0 < length (groups_of sides men)
 unfolding groups_of
 some_group sides men = omega arith
@@ -71,7 +71,7 @@ regular_is sides men = split (groups_of sides men) (some_group sides men) (conca
   split (lead ∷ groups) h e =
       ap (λ (l : List ℕ). (has_pawns sides || list_all (λ code. count_of code l == 1) lead) && list_all (λ group. list_all (λ code. count_of code l == length group) group) groups) (sym e)
 
--- one group more of those that a test passes or not
+-- the test over the groups from the i-th on, by group i and the groups after it
 pub all_more : (test : List ℕ → Bool) (groups : List (List ℕ)) (i : ℕ) → i < length groups → list_all test (drop i groups) ≡ (test (get_or groups i []) && list_all test (drop (i + 1) groups))
 all_more test [] i h = absurd (omega (arith, h))
 all_more test (group ∷ groups) zero h = refl
@@ -188,7 +188,7 @@ takes_all [] (suc i) h = refl
 takes_all (set ∷ sets) zero h = absurd (omega (arith, h))
 takes_all (set ∷ sets) (suc i) h = ap (λ l. set ∷ l) (takes_all sets i (omega (arith, h)))
 
--- what the code has of a later group: its men's squares, and room for them
+-- a later group in the code's loop: its men's squares, and room for them in the list
 pub record IsGroupSet (sides : Sides) (n : Nibbles) (pieces : List Piece) (i size code : ℕ) : Type 0 where
   pub set : squares_with (code ∷ []) pieces squares_down ≡ get_or (squares_by_group sides (groups_of sides n.men) pieces) i []
   pub size_is : size ≡ length (squares_with (code ∷ []) pieces squares_down)

@@ -1,4 +1,4 @@
--- The index of an index's placement, for the index of a table.
+-- For a TableIndex: ranking the placement of an index returns the index.
 use Rattle.std.proofs.Common.{◌≡◌, ℕ, ◌<◌, refl, Option, Some, None}
 use Rattle.std.specs.Prelude.{IsNone, IsSome, IfSome}
 use Rattle.szg_values.specs.Material.{IsMaterial}

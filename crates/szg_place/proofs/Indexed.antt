@@ -1,4 +1,4 @@
--- What the code knows of a placement where it looks for its index.
+-- What the code knows of a placement while it computes its index.
 use Rattle.std.proofs.Common.{◌≡◌, ℕ, ◌<◌, ◌≤◌, inl, inr, List, [], ◌∷◌, length, map, take, refl, sym, ap, ◌∙◌, subst, Bool, true, false, cond, arith, length-take}
 use Rattle.std.specs.Prelude.{◌==◌, Option, Some, None, IsNone, IsSome, IfSome, IfOk, IsSomeAnd, Result, Ok, Err, slice_get, slice_index, unwrap_or}
 use Rattle.std.specs.List.{All, concat, list_all}
@@ -73,7 +73,7 @@ ready_of sides n board k o reg few =
       led = λ e c. lead_only sides n.men m e ok.pawns fits c;
     }
 
--- the lead group has all its men
+-- the lead group has as its length the material's number of lead men
 pub lead_size : (sides : Sides) (n : Nibbles) → IsMaterial sides → order_fault sides n ≡ None → length (take (lead_length sides) n.men) ≡ lead_length sides
 lead_size sides n m o =
     let ok = ordered sides n o in let lead = lead_length-fits sides m in
@@ -117,7 +117,7 @@ pub fault_none : (l : Layout) (board : Board) → is_of_material l.material boar
 unfolding place_fault
 fault_none l board e f g h = rw (e, f, g, h) refl
 
--- what the contract says of a refusal
+-- what the contract says of a fault
 pub refused_is : (A : Type 0) (o : Option PlaceFault) (f : PlaceFault) → o ≡ Some f → IfSome o (λ x. ◌≡◌ {A = Result A PlaceFault} (Err f) (Err x))
 refused_is A None f e = cc
 refused_is A (Some x) f e = let k : f ≡ x = cc in ap (λ y. Err y) k
@@ -137,7 +137,7 @@ pub located_other : {l : Layout} {board b : Board} {f : PlaceFault} → b ≡ bo
 located_other {l} {board} {b} {f} e h =
     subst (λ (x : PlaceFault). IsLocated l board (Err x)) (sym h.0) (located_not (fault_material l board (ap (is_of_material l.material) (sym e) ∙ h.1)))
 
--- and of a spot
+-- what the contract says of a spot
 pub located_at : {l : Layout} {board : Board} {spot : Spot} → IsAnswered l board → spot ≡ spot_of l board → IsLocated l board (Ok spot)
 located_at {l} {board} {spot} a e = record {
   refused = answered_is _ (place_fault l board) a.place;
@@ -147,7 +147,7 @@ located_at {l} {board} {spot} a e = record {
 
 -- ---- the normal form
 
--- the lead group of the placement's groups
+-- the lead group of the placement's subtable
 pub lead_chosen : (l : Layout) (board : Board) → unwrap_or (slice_get (chosen_groups l board) 0) [] ≡
     take (lead_length l.material) (nibbles_at l (part_of l.material (pieces_of l.material board)) (subtable_side l board)).men
 unfolding chosen_groups groups_of
@@ -196,7 +196,7 @@ spot_is l board part side index e f g =
     ∙ ap (λ (p : ℕ). make p side (index_with (places_in_lists l.material p [] squares) (counted l.material p (nibbles_at l p side)).factors)) e
     ∙ ap (λ (s : ℕ). let p = part_of l.material (pieces_of l.material board) in make p s (index_with (places_in_lists l.material p [] squares) (counted l.material p (nibbles_at l p s)).factors)) f
 
--- so the index has a slot there
+-- a placement that has an index has a slot at its spot
 pub spot_below : (x : Index) (board : Board) → IsLayout (numbering_in x) → IsIndex x → IsAnswered (numbering_in x) board →
     (spot : Spot) → spot ≡ spot_of (numbering_in x) board → IsSomeAnd (slot_in x spot.part spot.side) (λ slot. spot.index < slot.size)
 unfolding spot_of normal_of
@@ -244,7 +244,7 @@ located_by {x} {kind} {m} {parts} {flags} {board} {result} a k e h p f told =
     located_in (parts_numbering x (subst (λ (y : Sides). IsMaterial y) e h) a.parts_stand) a
     (subst (λ (l : Layout). IsLocated l board result) (sym (layout_same x kind m parts flags k e p f)) told)
 
--- where an index has a slot, a table that has this index has a subtable
+-- if a TableIndex has a slot at a spot, its table has a subtable there
 pub below_table : (t : Contents) (fill : List ℕ) (x : Index) (result : Result Spot PlaceFault) → IsAccepted t fill → x ≡ index_of t →
     IfOk result (λ spot. IsSomeAnd (slot_in x spot.part spot.side) (λ slot. spot.index < slot.size)) →
     IfOk result (λ spot. IsSomeAnd (subtable_at t spot.part spot.side) (λ found. spot.index < found.0.size))
@@ -303,7 +303,7 @@ found_asked {l} {board} {pieces} {part} {side} h a o =
     zero_if : Bool → ℕ → ℕ
     zero_if b n = cond b 0 n
 
--- the part and the side that are asked are there
+-- the part and side of a query exist
 pub record IsThere (l : Layout) (part side : ℕ) : Type 0 where
   pub has_part : part < length l.parts
   pub is_part : IsPart l.material part
@@ -367,7 +367,7 @@ ready_found {l} {board} {part} {side} {asked} {n} {items} f r e i few s =
     let ready = ready_of l.material n board f.known (ordered_found f) (sym r ∙ e) (omega (arith, few, size)) in
     subst (λ (x : List ℕ). AreReady l.material x items) (sym s) (subst (λ (x : List Piece). AreReady l.material (take (lead_length l.material) n.men) x) (sym i) ready)
 
--- and then the regular groups, the men after the flips and the lead squares
+-- what is known once the groups are regular: the men after the flips, and the lead squares
 pub record IsLed (l : Layout) (board : Board) (part side asked : ℕ) (n : Nibbles) (lead leads : List ℕ) (normal : List Piece) : Type 0 where
   pub found : IsFound l board part side asked n
   pub regular : is_regular l.material (chosen_groups l board) ≡ true
@@ -414,7 +414,7 @@ pub none_led : {l : Layout} {board : Board} {part side asked : ℕ} {n : Nibbles
 none_led {l} {board} d t e w f =
     fault_none l board d.found.known.men d.regular (touching_led d t e) (wrong_led d.found w f)
 
--- the squares of the groups are the normal form's
+-- the squares of the groups are those of the normal form
 sets_led : {l : Layout} {board : Board} {part side asked : ℕ} {n : Nibbles} {lead leads : List ℕ} {normal slice : List Piece} → IsLed l board part side asked n lead leads normal → slice ≡ normal →
     squares_by_group l.material (groups_of l.material n.men) slice ≡ (normal_of l board).squares
 sets_led {l} {board} {part} {side} {asked} {n} {lead} d e =

@@ -57,7 +57,7 @@ index_step sides part sets factors i h e =
     ∙ index_more (place_at sides part sets i) (get_or factors i 0) (places_in_lists sides part (take i sets ++ get_or sets i [] ∷ []) (drop (i + 1) sets)) (drop (i + 1) factors)
     ∙ ap (λ (l : List (List ℕ)). place_at sides part sets i * get_or factors i 0 + index_with (places_in_lists sides part l (drop (i + 1) sets)) (drop (i + 1) factors)) t
 
--- what is known where the i-th group's turn comes
+-- what is known before group i is ranked
 pub record IsTurn (sides : Sides) (part : ℕ) (before groups sets : List (List ℕ)) (i : ℕ) : Type 0 where
   pub laid : IsLaid sides (before ++ take i sets)
   pub listed : IsIn (get_or sets i []) (ordered_sets sides part (before ++ take i sets) (length (get_or sets i [])))
@@ -148,7 +148,7 @@ factors_many : (sides : Sides) (part : ℕ) (n : Nibbles) → order_fault sides 
 unfolding counted factors_of
 factors_many sides part n o = simp length-map (positions_order_groups sides n (ordered sides n o).places).1
 
--- what is known at a step
+-- what is known in step i
 pub record IsStep (sides : Sides) (part : ℕ) (n : Nibbles) (sets : List (List ℕ)) (i : ℕ) (group : Group) : Type 0 where
   pub count : i < length sets
   pub many : length (counted sides part n).factors ≡ length sets
@@ -185,7 +185,7 @@ step_of sides part n sets i group m p o h k e =
       turn = t;
     }
 
--- the squares that groups in front leave to a later one
+-- the squares of earlier groups are among those that group i is counted on
 pub left_to : (sides : Sides) (before : List (List ℕ)) (i : ℕ) → length before ≡ i → IsLaid sides before → (x : ℕ) → IsIn x (concat before) →
     IsIn x (base_of (has_other_pawns sides && i == 1))
 left_to sides before i e laid x h = elim (cases_Bool (has_other_pawns sides && i == 1)) [
@@ -218,7 +218,7 @@ index_fits sides part n sets m p o h =
     let b = index_inside sides part n sets m p (ordered sides n o).places h in
     let c = size_below sides part n m p o in omega (arith, a, b, c)
 
--- a place that the code finds is the group's
+-- the rank that the code finds is the group's rank
 pub place_is : (sides : Sides) (part : ℕ) (sets : List (List ℕ)) (i place : ℕ) (set : List ℕ) → part < 4 → set ≡ get_or sets i [] →
     slice_get (ordered_sets sides part (take i sets) (length set)) place ≡ Some set → place_at sides part sets i ≡ place
 place_is sides part sets i place set p e h =
@@ -236,7 +236,7 @@ pub part_small : (b : Bool) (part : ℕ) → part < cond b 4 1 → part < 4
 part_small true part h = h
 part_small false part h = omega (arith, h)
 
--- one group more
+-- the sum after one more group
 pub gained : (sides : Sides) (part : ℕ) (n : Nibbles) (sets : List (List ℕ)) (i place index : ℕ) (group : Group) → IsStep sides part n sets i group → place_at sides part sets i ≡ place →
     index + index_behind sides part sets (counted sides part n).factors i ≡ index_behind sides part sets (counted sides part n).factors 0 →
     (index + place * group.factor) + index_behind sides part sets (counted sides part n).factors (i + 1) ≡ index_behind sides part sets (counted sides part n).factors 0
@@ -247,7 +247,7 @@ gained sides part n sets i place index group s e h =
     let k : place_at sides part sets i * get_or factors i 0 ≡ place * group.factor = ap (λ x. x * get_or factors i 0) e ∙ ap (λ x. place * x) (sym f) in
     omega (arith, t, k, h)
 
--- ---- the code's turns
+-- ---- the steps of the code
 
 pub step_in : {sides : Sides} {part i count : ℕ} {n : Nibbles} {sets : List (List ℕ)} {group : Group} {groups : List Group} → IsMaterial sides → AreGrouped sides part n groups →
     EachInList sides part [] (groups_of sides n.men) sets → i < count → count ≡ length groups → slice_get groups i ≡ Some group → IsStep sides part n sets i group
@@ -265,7 +265,7 @@ behind_at {sides} {part} {i} {n} {sets} p s e =
       inside = λ pos x h. left_to sides (take i sets) i (sym number) s.turn.laid x (subst (λ (l : List ℕ). IsIn x l) e h);
     }
 
--- the squares before a group's, and its own
+-- the squares before a group's squares, and the group's squares
 pub record IsSplit (sides : Sides) (part : ℕ) (n : Nibbles) (sets : List (List ℕ)) (i : ℕ) (group : Group) (taken set : List ℕ) : Type 0 where
   pub step : IsStep sides part n sets i group
   pub taken_is : taken ≡ concat (take i sets)
@@ -286,7 +286,7 @@ pub gained_at : {sides : Sides} {part : ℕ} {n : Nibbles} {sets : List (List �
 gained_at {sides} {part} {n} {sets} {i} {group} {set = set} place index p c e h =
     gained sides part n sets i place index group c.step (place_is sides part sets i place set (part_small (has_pawns sides) part p) c.set_is e) h
 
--- an index so far fits
+-- the sum up to a group is below 2^33
 pub room_at : {sides : Sides} {part : ℕ} {n : Nibbles} {sets : List (List ℕ)} {i : ℕ} {group : Group} {groups : List Group} {taken set : List ℕ} (place index : ℕ) → IsMaterial sides → AreGrouped sides part n groups →
     EachInList sides part [] (groups_of sides n.men) sets → IsSplit sides part n sets i group taken set → slice_get (ordered_sets sides part (take i sets) (length set)) place ≡ Some set →
     index + index_behind sides part sets (counted sides part n).factors i ≡ index_behind sides part sets (counted sides part n).factors 0 → index + place * group.factor < 2 ^ 33
@@ -297,3 +297,16 @@ pub index_small : (sides : Sides) (part : ℕ) (n : Nibbles) (sets : List (List 
     index_with (places_in_lists sides part [] sets) (counted sides part n).factors < 2 ^ 33
 index_small sides part n sets m p o l =
     let f = index_fits sides part n sets m p o l in let a = index_start sides part sets (counted sides part n).factors in omega (arith, f, a)
+
+-- the squares that stand behind those of the groups before, once a group's were appended
+pub split_behind : {sides : Sides} {part : ℕ} {n : Nibbles} {sets : List (List ℕ)} {i first : ℕ} {group : Group} {squares taken set own : List ℕ} → IsStep sides part n sets i group →
+    squares ≡ concat (take i sets) ++ set → set ≡ get_or sets i [] → first ≡ group.first → taken ≡ take first squares → own ≡ drop first squares → IsSplit sides part n sets i group taken own
+split_behind {sets = sets} {i} {first} {group} {squares} {taken} {set} {own} s e f g a b =
+    let k : length (concat (take i sets)) ≡ first = sym s.first ∙ sym g in record {
+      step = s;
+      taken_is = a ∙ ap (λ (l : List ℕ). take first l) e ∙ take_at (concat (take i sets)) set first k;
+      set_is = b ∙ ap (λ (l : List ℕ). drop first l) e ∙ drop_at (concat (take i sets)) set first k ∙ f;
+    }
+
+pub split_first : {sides : Sides} {part : ℕ} {n : Nibbles} {sets : List (List ℕ)} {group : Group} {set : List ℕ} → IsStep sides part n sets 0 group → set ≡ get_or sets 0 [] → IsSplit sides part n sets 0 group [] set
+split_first s e = record { step = s; taken_is = refl; set_is = e }

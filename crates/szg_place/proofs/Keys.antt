@@ -51,7 +51,7 @@ unfolding digits
 digits-none a zero = refl
 digits-none a (suc n) = let m = digits-none (a + 1) n in omega (arith, m)
 
--- one digit
+-- the counts with 1 for code x and 0 for the others
 mark : ℕ → ℕ → ℕ
 mark x c = cond (x == c) 1 0
 
@@ -75,7 +75,7 @@ mark-at (suc k) x a (suc n) e h =
     let d : ◌≡◌ {A = ℕ} (mark x a) 0 = ap (λ (b : Bool). cond b 1 0) (ne_eqb x a (λ f. absurd (omega (arith, e, f)))) in
     let m = mark-at k x (a + 1) n (omega (arith, e)) (omega (arith, h)) in let p = power-more k in omega (arith, d, m, p)
 
--- digits below 8 are determined by their number
+-- equal numbers have equal digits below 8
 digits-told : (f g : ℕ → ℕ) (a n k : ℕ) → ((c : ℕ) → f c < 8) → ((c : ℕ) → g c < 8) → digits f a n ≡ digits g a n → k < n → f (a + k) ≡ g (a + k)
 unfolding digits
 digits-told f g a zero k p q e h = absurd (omega (arith, h))
@@ -101,7 +101,7 @@ key-digits f (x ∷ xs) h =
     counted : (c : ℕ) → count_by (λ y. f y == c) (x ∷ xs) ≡ mark (f x) c + count_by (λ y. f y == c) xs
     counted c = count-cons (λ y. f y == c) x xs
 
--- what equal keys say of lists with at most six men
+-- two lists of at most six men with equal keys have equally many men of each code
 same_counts : {A B : Type 0} (f : A → ℕ) (g : B → ℕ) (xs : List A) (ys : List B) → ((x : A) → IsIn x xs → f x < 16) → ((y : B) → IsIn y ys → g y < 16) → length xs ≤ 6 → length ys ≤ 6 →
     sum_by (λ x. 8 ^ f x) xs ≡ sum_by (λ y. 8 ^ g y) ys → (c : ℕ) → c < 16 → count_by (λ x. f x == c) xs ≡ count_by (λ y. g y == c) ys
 same_counts f g xs ys p q a b e c h =
@@ -111,7 +111,7 @@ same_counts f g xs ys p q a b e c h =
     (λ d. let k = count_by-le-length (λ x. f x == d) xs in omega (arith, k, a)) (λ d. let k = count_by-le-length (λ y. g y == d) ys in omega (arith, k, b))
     (sym (key-digits f xs p) ∙ e ∙ key-digits g ys q) h)
 
--- and the other way round
+-- two lists with equally many men of each code have equal keys
 same_keys : {A B : Type 0} (f : A → ℕ) (g : B → ℕ) (xs : List A) (ys : List B) → ((x : A) → IsIn x xs → f x < 16) → ((y : B) → IsIn y ys → g y < 16) →
     ((c : ℕ) → count_by (λ x. f x == c) xs ≡ count_by (λ y. g y == c) ys) → sum_by (λ x. 8 ^ f x) xs ≡ sum_by (λ y. 8 ^ g y) ys
 same_keys f g xs ys p q e = key-digits f xs p ∙ digits-same (λ d. count_by (λ x. f x == d) xs) (λ d. count_by (λ y. g y == d) ys) 0 16 e ∙ sym (key-digits g ys q)
@@ -286,7 +286,7 @@ neither_later (x ∷ a) (y ∷ b) l p q = elim (cases_order (code_of x) (code_of
   clash true e f = cc
   clash false e f = cc
 
--- of two sides that may each be first both are the same
+-- if each of two sides may be the first, they are the same
 both_first : (a b : List Man) → may_be_first a b ≡ true → may_be_first b a ≡ true → a ≡ b
 both_first a b p q = elim (cases_order (length a) (length b)) [
   | inl s ↦
@@ -388,7 +388,7 @@ pub not_if : (sides : Sides) (ex : Bool) (board : Board) (list : List PlacedMan)
     key ≡ men_key ex list → own ≡ key_of (man_codes sides) → (key ≡ own → ⊥) → men_key ex board.placed_men ≡ key_of (man_codes sides) → ⊥
 not_if sides ex board list key own e k o out f = out (k ∙ ap (men_key ex) e ∙ f ∙ sym o)
 
--- the three ends of the test
+-- the three results of the test
 pub plain_if : (sides : Sides) (board : Board) (list : List PlacedMan) (key own : ℕ) → IsMaterial sides → list ≡ board.placed_men → IsNone (placement_fault list) →
     key ≡ men_key false list → own ≡ key_of (man_codes sides) → key ≡ own →
     (is_of_material sides board ≡ true) × (is_exchanged sides board ≡ (is_symmetric sides && is_color Black board.mover))

@@ -17,7 +17,7 @@ use Rattle.szg_place.proofs.Ways.{pawn_order-squares, pawns_down}
 use Rattle.szg_place.proofs.Pieces.{IsStood, IsStood-moved, moved_piece, stands, stands-from, stands-true, squares_count, count-same, is_pawn_code}
 use Rattle.szg_place.proofs.Flips.{flip_file-move, flip_file-back}
 
--- pawn squares of files a to d in their order, each followed by the one of files h to e
+-- pawn squares of files a to d in pawn order, after each of which comes its square on files h to e
 abbrev lefts : List ℕ
 lefts = flat_map (λ file. map (square_at file) (range_with_len 1 6)) (range_with_len 0 4)
 
@@ -31,7 +31,7 @@ pawn_order-pairs = refl
 turned_file : (s : ℕ) → s < 64 → file_of (flip_file s) ≡ 7 - file_of s
 turned_file s h = eqb-true (file_of (flip_file s)) (7 - file_of s) (tested (λ x. file_of (flip_file x) == (7 - file_of x)) 64 s refl h)
 
--- the first square that passes is on files a to d, or else it is the first of the flipped test
+-- a square on files e to h whose flipped square is the first that passes the flipped test
 record IsLeft (f : ℕ → Bool) (order : List ℕ) (q : ℕ) : Type 0 where
   right : 3 < file_of q
   inside : q < 64
@@ -74,7 +74,7 @@ lefts_low s h = (ltb-true (file_of s) 4 (all-IsIn (λ x. nat_lt (file_of x) 4) l
 first_of_order : (f : ℕ → Bool) (q : ℕ) (rest : List ℕ) → filter f pawn_order ≡ q ∷ rest → (file_of q < 4) ⊎ IsLeft f pawn_order q
 first_of_order f q rest e = subst (λ (l : List ℕ). filter f l ≡ q ∷ rest → (file_of q < 4) ⊎ IsLeft f l q) (sym pawn_order-pairs) (first_pair f lefts lefts_low q rest) e
 
--- squares of a file, then those after it
+-- a pawn square is one of the six of its file
 in_file : (q : ℕ) → IsIn q pawn_order → IsIn q (map (square_at (file_of q)) (range_with_len 1 6))
 unfolding pawn_order
 in_file q h = contains-IsIn q (map (square_at (file_of q)) (range_with_len 1 6)) (all-IsIn (λ x. contains (map (square_at (file_of x)) (range_with_len 1 6)) x) pawn_order q refl h)

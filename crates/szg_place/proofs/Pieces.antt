@@ -134,9 +134,9 @@ pub some_piece : (sides : Sides) (men : List ℕ) (pieces : List Piece) (code : 
 some_piece sides men pieces code stood one =
     let r = count-some (λ (p : Piece). p.code == code) pieces 0 (stood.counts code ∙ one) in (r.0, r.1, eqb-true r.0.code code r.2)
 
--- ---- moves
+-- ---- moves of squares
 
--- a move of the board's squares, apart from each other; of pawns' squares too where there are pawns
+-- a map of the board's squares that keeps them different; if there are pawns, it keeps pawn squares
 pub record IsMove (sides : Sides) (move : ℕ → ℕ) : Type 0 where
   pub inside : (s : ℕ) → s < 64 → move s < 64
   pub apart : (s t : ℕ) → s < 64 → t < 64 → move s ≡ move t → s ≡ t

@@ -85,9 +85,9 @@ manned sides part n index m p o h =
           ∙ ap (λ (g : List (List ℕ)). standing_by_group g sets) (sym (groups_are sides part n));
     }
 
--- ---- an index's part and side
+-- ---- a side of a part
 
--- what the code knows where it looks for the placement of an index
+-- what the code knows while it computes the placement of an index
 pub record IsAt (t : Index) (part side index : ℕ) (m : Sides) (n : Nibbles) : Type 0 where
   pub layout : IsLayout (numbering_in t)
   pub material : IsMaterial m
@@ -168,7 +168,7 @@ pub refused_irregular : {t : Index} {part side index : ℕ} {m : Sides} {n : Nib
 unfolding placement_refusal
 refused_irregular a r e = let k = regular_at a r e in rw k refl
 
--- a DTZ subtable with pawns that stores Black where both sides have the same men
+-- a DTZ subtable stores Black although both sides have the same men and there are pawns
 abbrev pub is_untold : Index → ℕ → Bool
 is_untold t part = is_dtz t.kind && is_symmetric t.material && has_pawns t.material && stored_side (numbering_in t) part == 1
 
@@ -205,6 +205,6 @@ pub none_holds : {A : Type 0} (o : Option A) → o ≡ None → IsNone o
 none_holds None e = refl
 none_holds (Some x) e = cc
 
--- one result has one placement
+-- two placements of one result are equal
 pub told_same : (r : Result Board PlacementFault) (x y : Board) → r ≡ Ok x → r ≡ Ok y → x ≡ y
 told_same r x y e f = let k : ◌≡◌ {A = Result Board PlacementFault} (Ok x) (Ok y) = sym e ∙ f in cc

@@ -1,4 +1,4 @@
--- Where the code looks for a value.
+-- The spot at which the code looks up a value.
 use Rattle.std.proofs.Common.{◌≡◌, ℕ, Bool, cond, refl, ap}
 use Rattle.std.specs.Prelude.{Option, Some, None, IsNone, IsSome, IfSome, IsSomeAnd, Result, Ok, Err}
 use Rattle.szg_values.specs.declared.Kind.{Kind}
@@ -12,7 +12,7 @@ use Rattle.szg_place.specs.Tables.{numbering_of}
 use Rattle.szg_place.specs.declared.Spot.{Spot}
 use Rattle.szg_place.specs.declared.PlaceFault.{PlaceFault}
 
--- an answer is the spot
+-- a result without an error is the spot
 pub ok_spot : (o : Option PlaceFault) (s spot : Spot) → IfSome o (λ fault. ◌≡◌ {A = Result Spot PlaceFault} (Ok spot) (Err fault)) → (IsNone o → ◌≡◌ {A = Result Spot PlaceFault} (Ok spot) (Ok s)) → spot ≡ s
 ok_spot None s spot h g = let k : ◌≡◌ {A = Result Spot PlaceFault} (Ok spot) (Ok s) = g refl in cc
 ok_spot (Some f) s spot h g = let k : ◌≡◌ {A = Result Spot PlaceFault} (Ok spot) (Err f) = h in cc

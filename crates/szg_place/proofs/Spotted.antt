@@ -26,7 +26,7 @@ use Rattle.szg_place.specs.declared.PlaceFault.TheVariants as fault
 use Rattle.szg_place.proofs.Ranking.{squares_again}
 use Rattle.szg_place.proofs.Ways.{each_below, laid_none}
 
--- ---- what the checks say
+-- ---- what follows from the checks
 
 pub record IsOrdered (sides : Sides) (n : Nibbles) : Type 0 where
   pub pieces : is_rearrangement n.men (man_codes sides) ≡ true
@@ -138,7 +138,7 @@ squares_back sides part n squares m p e h = let groups = groups_of sides n.men i
     (positions_order_groups sides n e).0 (ways_many sides part n e) (places_below sides part n squares m p h))
     ∙ squares_again sides part groups squares h
 
--- ---- the laws, from the squares' places in their lists
+-- ---- the laws, from the ranks of squares in their lists
 
 -- in a placement that has an index, each group of the normal form has a rank in its list
 abbrev pub InLists : Type 0
@@ -153,7 +153,7 @@ below_size_from lists l board h a =
     index_inside l.material normal.part (nibbles_at l normal.part normal.side) normal.squares h.material p
     (ordered l.material (nibbles_at l normal.part normal.side) (order_none l normal.part normal.side h p s)).places (lists l board h a)
 
--- the squares of a spot
+-- the squares of each group at an index
 abbrev told_at : Layout → ℕ → ℕ → ℕ → List (List ℕ)
 told_at l part side index = squares_told l.material part [] (zip (counted_at l part side).groups (places_told (counted_at l part side) index))
 

@@ -1,4 +1,4 @@
--- What a probe of an opened front returns. The block that has the placement's value is fetched and verified.
+-- What a probe by an opened front returns. The block that contains the value is fetched and verified.
 use Rattle.std.specs.Prelude.{◌≡◌, ℕ, ℤ, List, Option, Some, None, IfSome, Result, Ok, Err}
 use Rattle.szg_values.specs.Placement.{Board}
 use Rattle.szg_file.specs.Contents.{Slot, Subtable}
@@ -18,7 +18,7 @@ use Rattle.szg_place.specs.declared.ProbeFault.TheVariants.{Place, Map}
 use Rattle.szg_place.specs.declared.FrontProbeFault.{FrontProbeFault}
 use Rattle.szg_place.specs.declared.FrontProbeFault.TheVariants.{Probe, Fetch}
 
--- why a front's table has no index for a placement, if it has none; and where the placement is
+-- why the table of a front has no index for a placement, if it has none; and the spot of a placement
 abbrev pub fault_in : FrontKept → Board → Option PlaceFault
 fault_in kept board = place_fault (numbering_in kept.index) board
 
@@ -29,27 +29,28 @@ spot_in kept board = spot_of (numbering_in kept.index) board
 abbrev pub spot_at : FrontKept → List ℕ → Spot → Option (Slot × Subtable)
 spot_at kept content spot = front_at kept.index.material kept.index.kind content spot.part spot.side
 
--- the spot's block decodes, and this is the value at its place
+-- the spot's block decodes, and v is its value at the spot's index
 abbrev pub IsValueAt : FrontKept → List ℕ → Spot → ℕ → Type 0
 IsValueAt kept content spot v = IfSome (spot_at kept content spot) (λ found. IsDecoded kept.index.kind found spot.index v)
 
--- the fault names the spot's block and its offset, and the block doesn't decode
+-- the fault names the spot's block and the block's offset, and the block doesn't decode
 abbrev pub IsBadAt : FrontKept → List ℕ → Spot → FetchFault → Type 0
 IsBadAt kept content spot fault = IfSome (spot_at kept content spot) (λ found. NamesBadBlock content found spot.index fault)
 
--- the same, where a source may fail as well
+-- IsBadAt, or the source failed
 abbrev pub IsMissedAt : FrontKept → List ℕ → Spot → FetchFault → Type 0
 IsMissedAt kept content spot (fetch.Block number offset) = IsBadAt kept content spot (fetch.Block number offset)
 IsMissedAt kept content spot fetch.Source = Unit {0}
 
--- What the spot's value means, out of a block that decodes; or why there is no value, or why it means nothing.
+-- Ok: what the spot's value means, from a block that decodes. Err: why there is no value, or why the value has no
+-- meaning.
 abbrev pub IsMeant : {A : Type 0} → (ℕ → Type 0) → (FetchFault → Type 0) → (ℕ → Result A MapFault) → Result A FrontProbeFault → Type 0
 IsMeant is_value missed meaning (Ok answer) = (v : ℕ) × is_value v × (meaning v ≡ Ok answer)
 IsMeant is_value missed meaning (Err (Probe (Map fault))) = (v : ℕ) × is_value v × (meaning v ≡ Err fault)
 IsMeant is_value missed meaning (Err (Probe (Place fault))) = ⊥
 IsMeant is_value missed meaning (Err (Fetch fault)) = missed fault
 
--- a value with its spot; the class of a value; its number of a part in a class
+-- a value with its spot; the class of a value; the number of a value of a part in a class
 abbrev pub at_spot : Spot → ℕ → Result (Spot × ℕ) MapFault
 at_spot spot v = Ok (spot, v)
 
@@ -59,7 +60,7 @@ as_class v = Ok (class_of v)
 abbrev pub as_number : Index → ℕ → ℤ → ℕ → Result ℕ MapFault
 as_number x part class v = number_in (list_number class) (number_of x part class v)
 
--- what follows a value: its class, or its number in a class
+-- the class of a value that was fetched, and its number in a class; a fault is passed on
 abbrev pub class_told : Result (Spot × ℕ) FrontProbeFault → Result (Option ℤ) FrontProbeFault
 class_told (Ok (spot, v)) = Ok (class_of v)
 class_told (Err fault) = Err fault

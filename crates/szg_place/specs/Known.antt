@@ -1,4 +1,4 @@
--- What is known of a placement on the way to its index.
+-- What the code knows of a placement before it has the placement's index.
 use Rattle.std.specs.List.{concat}
 use Rattle.std.specs.Prelude.{◌≡◌, ℕ, ◌<◌, ◌≤◌, ◌==◌, ◌&&◌, true, List, [], ◌∷◌, slice_index, length, None, IsNone, IfSome, IsSomeAnd, Result, Ok, Err, IfOk, if◌then◌else◌}
 use Rattle.szg_values.specs.declared.Kind.{Kind}
@@ -19,14 +19,14 @@ use Rattle.szg_place.specs.declared.Spot.{Spot}
 use Rattle.szg_place.specs.declared.spots.Asked.{Asked}
 use Rattle.szg_place.specs.declared.PlaceFault.{PlaceFault}
 
--- a placement of a table's men
+-- a placement whose men are the material's
 pub record IsKnown (sides : Sides) (board : Board) : Type 0 where
   pub material : IsMaterial sides
   pub inside : IsOnBoard board
   pub placement : placement_fault board.placed_men ≡ None
   pub men : is_of_material sides board ≡ true
 
--- its men as the file codes them, its part, its subtable's side and the asked side
+-- the placement's men as a file codes them, its part, its subtable's side and the asked side
 pub record IsAsked (sides : Sides) (kind : Kind) (board : Board) (pieces : List Piece) (part side asked : ℕ) : Type 0 where
   pub known : IsKnown sides board
   pub pieces_are : pieces ≡ pieces_of sides board
@@ -35,13 +35,13 @@ pub record IsAsked (sides : Sides) (kind : Kind) (board : Board) (pieces : List 
   pub side_is : side ≡ (if is_dtz kind then 0 else asked)
   pub asked_is : asked ≡ asked_side sides board
 
--- what the code keeps of it
+-- the query of a placement, as the code holds it
 pub record IsAskedOf (sides : Sides) (kind : Kind) (board : Board) (a : Asked) : Type 0 where
   pub asked : IsAsked sides kind board (pieces_of sides board) a.part a.side a.mover
   pub exchanged : a.exchanged ≡ is_exchanged sides board
   pub first : has_pawns sides ≡ true → a.first ≡ slice_index (squares_with (lead_pawn_code sides ∷ []) (pieces_of sides board) pawn_order) 0
 
--- its subtable, and the nibbles of that part's side
+-- the subtable of a placement, and the nibbles of that side of the part
 pub record IsFound (l : Layout) (board : Board) (part side asked : ℕ) (n : Nibbles) : Type 0 where
   pub layout : IsLayout l
   pub known : IsKnown l.material board
@@ -57,7 +57,7 @@ pub record IsLocated (l : Layout) (board : Board) (result : Result Spot PlaceFau
   pub spot : IsNone (place_fault l board) → result ≡ Ok (spot_of l board)
   pub answered : IfOk result (λ _. IsAnswered l board)
 
--- and the index has a slot there
+-- the result for a placement; if it is a spot, the table has a slot there that contains the index
 pub record IsLocatedIn (x : Index) (board : Board) (result : Result Spot PlaceFault) : Type 0 where
   pub refused : IfSome (place_fault (numbering_in x) board) (λ fault. result ≡ Err fault)
   pub spot : IsNone (place_fault (numbering_in x) board) → result ≡ Ok (spot_of (numbering_in x) board)

@@ -17,11 +17,11 @@ abbrev pub is_dtz : Kind → Bool
 is_dtz Wdl = false
 is_dtz Dtz = true
 
--- a layout of these
+-- the layout with this kind and material, and these parts and flags
 abbrev pub layout_in : Kind → Sides → List Part → List ℕ → Layout
 layout_in kind material parts flags = record { kind = kind; material = material; parts = parts; flags = flags }
 
--- the nibbles of a part's side
+-- the nibbles of a side of a part
 abbrev pub nibbles_in_part : List Part → ℕ → ℕ → Nibbles
 nibbles_in_part parts part side = let p = unwrap_or (slice_get parts part) (record { order = []; men = [] }) in nibbles_of side p.order p.men
 
@@ -39,7 +39,7 @@ part_count l = if has_pawns l.material then 4 else 1
 abbrev pub stored_side : Layout → ℕ → ℕ
 stored_side l part = slice_index l.flags part % 2
 
--- the parts are there, and each side of each orders its groups without a fault
+-- each part exists, and orders the groups of each of its sides without a fault
 pub record IsLayout (l : Layout) : Type 0 where
   pub material : IsMaterial l.material
   pub parts : length l.parts ≡ part_count l

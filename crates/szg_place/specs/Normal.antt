@@ -1,4 +1,4 @@
--- The normal form of a placement: the subtable that counts it, and the squares of each group.
+-- The normal form of a placement: its part, its subtable's side, and the squares of each group.
 use Rattle.std.specs.Prelude.{ℕ, ◌-◌, Bool, false, not, ◌&&◌, ◌==◌, nat_lt, min, List, [], ◌∷◌, map, filter, flat_map, slice_get, slice_index, unwrap_or, if◌then◌else◌}
 use Rattle.std.specs.List.{list_any}
 use Rattle.szg_values.specs.Men.{file_of, rank_of, square_at, is_color, other_color}
@@ -9,21 +9,22 @@ use Rattle.szg_values.specs.declared.Color.TheVariants.{White, Black}
 use Rattle.szg_count.specs.Leads.{contains, pawn_order, squares_down, is_on_diagonal}
 use Rattle.szg_count.specs.Groups.{groups_of}
 use Rattle.szg_place.specs.Layout.{Layout, is_dtz, nibbles_at}
--- a man's code; the men of the name's second side, which are now Black's, add 8
+-- a man's code: that of its kind, plus 8 for Black, which is the name's second side here
 pub use Rattle.szg_values.specs.Placement.{colored_code}
 -- a man code and its square
 pub use Rattle.szg_place.specs.declared.men.Piece.{Piece}
 
 -- ---- colours
 
--- whether colours are exchanged: with the same men on both sides when Black moves, else where White isn't the name's first side
+-- whether colours are exchanged: if both sides have the same men, when Black moves; else when White isn't the name's
+-- first side
 abbrev pub is_exchanged : Sides → Board → Bool
 is_exchanged sides board = if is_symmetric sides then is_color Black board.mover else not (is_same_men (side_of White board.placed_men) sides.first)
 
 abbrev pub exchanged_color : Bool → Color → Color
 exchanged_color exchanged color = if exchanged then other_color color else color
 
--- the asked side is 0 where the name's first side moves, else 1
+-- the asked side is 0 if the name's first side moves, else 1
 abbrev pub asked_side : Sides → Board → ℕ
 asked_side sides board = if is_color White (exchanged_color (is_exchanged sides board) board.mover) then 0 else 1
 
@@ -35,11 +36,11 @@ flip_file square = square_at (7 - file_of square) (rank_of square)
 abbrev pub flip_rank : ℕ → ℕ
 flip_rank square = square_at (file_of square) (7 - rank_of square)
 
--- file and rank exchanged
+-- the flip along the diagonal a1-h8: file and rank exchanged
 abbrev pub reflect : ℕ → ℕ
 reflect square = square_at (rank_of square) (file_of square)
 
--- the men once colours are exchanged where they have to be; with pawns that flips the ranks
+-- the men as a file codes them, colours exchanged if needed; with pawns an exchange of colours flips the ranks too
 unfoldable pub pieces_of : Sides → Board → List Piece
 pieces_of sides board = let exchanged = is_exchanged sides board in map (λ s. record {
   code = colored_code s.0 (exchanged_color exchanged s.1);
@@ -52,16 +53,16 @@ squares_with codes pieces order = filter (λ square. list_any (λ p. p.square ==
 
 -- ---- the subtable
 
--- the part: the file of the lead pawn, the one with the greatest P, a and h, b and g, c and f, d and e as one
+-- the part: 0 to 3 by the file of the lead pawn with the greatest P, for a and h, b and g, c and f, d and e
 abbrev pub part_of : Sides → List Piece → ℕ
 part_of sides pieces = let file = file_of (slice_index (squares_with (lead_pawn_code sides ∷ []) pieces pawn_order) 0) in
     if has_pawns sides then min file (7 - file) else 0
 
--- a WDL table has a subtable for the asked side, a DTZ table one for both
+-- a WDL table has a subtable for each asked side, a DTZ table one for both
 abbrev pub subtable_side : Layout → Board → ℕ
 subtable_side l board = if is_dtz l.kind then 0 else asked_side l.material board
 
--- the men of each group in the subtable chosen
+-- the men of each group in the placement's subtable
 unfoldable pub chosen_groups : Layout → Board → List (List ℕ)
 chosen_groups l board = groups_of l.material (nibbles_at l (part_of l.material (pieces_of l.material board)) (subtable_side l board)).men
 
@@ -75,27 +76,27 @@ lead_squares sides lead pieces = if has_pawns sides then squares_with lead piece
 abbrev pub moved : (ℕ → ℕ) → List Piece → List Piece
 moved move pieces = map (λ p. record { code = p.code; square = move p.square }) pieces
 
--- the first square that isn't on the diagonal is above it
+-- the first square off the diagonal is above the diagonal
 abbrev pub is_first_above : List ℕ → Bool
 is_first_above [] = false
 is_first_above (s ∷ more) = if is_on_diagonal s then is_first_above more else nat_lt (file_of s) (rank_of s)
 
--- where the first lead square is on files e to h, all files are flipped
+-- if the first lead square is on files e to h, all files are flipped
 unfoldable pub with_file : Sides → List ℕ → List Piece → List Piece
 with_file sides lead pieces = if nat_lt 3 (file_of (slice_index (lead_squares sides lead pieces) 0)) then moved flip_file pieces else pieces
 
--- without pawns, where it is on ranks 5 to 8, all ranks are flipped
+-- without pawns, if the first lead square is on ranks 5 to 8, all ranks are flipped
 unfoldable pub with_rank : Sides → List ℕ → List Piece → List Piece
 with_rank sides lead pieces = if not (has_pawns sides) && nat_lt 3 (rank_of (slice_index (lead_squares sides lead pieces) 0)) then moved flip_rank pieces else pieces
 
--- without pawns, where the first lead square off the diagonal is above it, all squares are reflected
+-- without pawns, if the first lead square off the diagonal is above the diagonal, all squares are reflected
 unfoldable pub with_reflection : Sides → List ℕ → List Piece → List Piece
 with_reflection sides lead pieces = if not (has_pawns sides) && is_first_above (lead_squares sides lead pieces) then moved reflect pieces else pieces
 
 unfoldable pub normal_pieces : Sides → List ℕ → List Piece → List Piece
 normal_pieces sides lead pieces = with_reflection sides lead (with_rank sides lead (with_file sides lead pieces))
 
--- the squares of each group: the lead group's as above, the others' from the greatest down
+-- the squares of each group: those of the lead group as lead_squares lists them, others from the greatest down
 unfoldable pub squares_by_group : Sides → List (List ℕ) → List Piece → List (List ℕ)
 squares_by_group sides [] pieces = []
 squares_by_group sides (lead ∷ groups) pieces = lead_squares sides lead pieces ∷ map (λ group. squares_with group pieces squares_down) groups

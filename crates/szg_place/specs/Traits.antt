@@ -9,15 +9,15 @@ use Rattle.szg_place.specs.Normal.{colored_code, exchanged_color}
 abbrev pub key_of : List ℕ → ℕ
 key_of codes = sum_by (λ code. 8 ^ code) codes
 
--- the key of men on squares, colours exchanged or not
+-- the key of placed men, with colours exchanged or not
 abbrev pub men_key : Bool → List PlacedMan → ℕ
 men_key exchanged placed_men = sum_by (λ s. 8 ^ colored_code s.0 (exchanged_color exchanged s.1)) placed_men
 
--- a key whose eight lower digits and eight upper digits change places: that of the same men, colours exchanged
+-- a key with its eight lower and its eight upper digits swapped: that of the same men with colours exchanged
 abbrev pub with_exchanged_halves : ℕ → ℕ
 with_exchanged_halves key = key / 16777216 + key % 16777216 * 16777216
 
--- what is kept of a material
+-- the facts that `Traits` stores of a material
 pub record AreTraits (sides : Sides) (symmetric pawns single : Bool) (lead other code key : ℕ) : Type 0 where
   pub material : IsMaterial sides
   pub symmetric_is : symmetric ≡ is_symmetric sides

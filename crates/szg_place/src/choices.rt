@@ -1,9 +1,9 @@
-//! The places of sets of numbers, by a table of binomials.
+//! Ranks of sets of numbers, by a table of binomials.
 
 ghost use Rattle.std.specs.Prelude.{◌≡◌, ◌<◌, ◌≤◌, ◌^◌, ℕ, length, Some, slice_get};
 ghost use Rattle.szg_count.specs.Sets.{subsets, choose, IsFallingBelow};
 
-/// How many sets of k things n things have: by k, up to 6, and n, below 64.
+/// The binomials `choose(n, k)`, at index `64 * k + n`, for `k` up to 6 and `n` below 64.
 const CHOICES: [u32; 448] = [
     1, 1, 1, 1, 1, 1, 1, 1, 1, 1, 1, 1, 1, 1, 1, 1, 1, 1, 1, 1, 1, 1, 1, 1, 1, 1, 1, 1, 1, 1, 1, 1,
     1, 1, 1, 1, 1, 1, 1, 1, 1, 1, 1, 1, 1, 1, 1, 1, 1, 1, 1, 1, 1, 1, 1, 1, 1, 1, 1, 1, 1, 1, 1, 1,
@@ -34,7 +34,8 @@ const CHOICES: [u32; 448] = [
     50063860, 55525372, 61474519, 67945521,
 ];
 
-/// The rank of a set in the ordered list of sets of its size, as `rank_subset` of `szg_count` computes it.
+/// Returns the rank of a set of numbers, the greatest first, in the ordered list of the sets of its size. It is what
+/// `rank_subset` of `szg_count` computes.
 pub fn place_of_set(set: &[u8]) -> u64
     requires few { length set.now ≤ 6 }
     requires falling { IsFallingBelow 64 set.now }
@@ -49,7 +50,7 @@ pub fn place_of_set(set: &[u8]) -> u64
     place
 }
 
-/// How many sets of k things n things have.
+/// Returns `choose(n, k)`, the number of sets of `k` things out of `n`.
 pub fn choices(n: u8, k: usize) -> u64
     requires things { n < 64 }
     requires chosen { k ≤ 6 }

@@ -1,4 +1,4 @@
-//! Probes of an opened front: the block that has a placement's value is fetched and verified.
+//! Probes of a table that was opened by its front: the block that contains the value is fetched and verified.
 
 ghost use Rattle.std.specs.Prelude.{◌≡◌, ◌<◌, ◌≤◌, ◌≤ℤ◌, pos, neg_ℤ, length, IsNone, IsSome, IfSome, IfOk, IfErr, Ok, Err};
 ghost use Rattle.szg_block.specs.BlocksTrait.{Rose};
@@ -16,11 +16,11 @@ use szg_block::Source;
 use szg_file::{FetchFault, FrontTable, TableIndex};
 use szg_values::{Kind, Placement};
 
-/// Returns the class of a placement in a WDL table whose front was opened, out of the file's bytes, as `probe_wdl`
-/// returns it for a table in memory. It verifies the value's block first and takes no memory. Any number of threads may
-/// call it on one front.
+/// Returns the class of a placement in a WDL table that was opened by its front, as `probe_wdl` returns it for a
+/// table in memory. `bytes` are the file's bytes. It verifies the block of the value and allocates nothing. Any
+/// number of threads may call it on one front.
 ///
-/// Errors: `Probe` with `Place` as `index_in`, `Fetch` as `FrontTable::get_in`.
+/// Errors: `Probe(Place(..))` with the error of `index_in`, then `Fetch` with the error of `FrontTable::get_in`.
 pub fn probe_wdl_front_in(
     front: &FrontTable,
     bytes: &[u8],
@@ -34,11 +34,11 @@ pub fn probe_wdl_front_in(
     class_told(value_in(front, bytes, placement))
 }
 
-/// Returns the number of a placement of this class in a DTZ table whose front was opened, out of the file's bytes, as
-/// `probe_dtz` returns it for a table in memory. It verifies the value's block first and takes no memory. Any number of
-/// threads may call it on one front.
+/// Returns the number of a placement in a DTZ table that was opened by its front, as `probe_dtz` returns it for a
+/// table in memory. `class` is the placement's class, `bytes` are the file's bytes. It verifies the block of the
+/// value and allocates nothing. Any number of threads may call it on one front.
 ///
-/// Errors: `Probe` as `probe_dtz`, `Fetch` as `FrontTable::get_in`.
+/// Errors: `Probe` with the error of `probe_dtz`, `Fetch` with the error of `FrontTable::get_in`.
 pub fn probe_dtz_front_in(
     front: &FrontTable,
     bytes: &[u8],
@@ -56,11 +56,12 @@ pub fn probe_dtz_front_in(
     number_told(front.index(), class, found)
 }
 
-/// Returns the class of a placement in a WDL table whose front was opened, as `probe_wdl` returns it for a table in memory.
-/// It requests the value's block of the source, into `buffer`, and verifies it; a constant subtable needs none.
+/// Returns the class of a placement in a WDL table that was opened by its front, as `probe_wdl` returns it for a
+/// table in memory. It requests the block of the value from the source, into `buffer`, and verifies it. For a
+/// constant subtable it requests nothing.
 ///
-/// Errors: `Probe` with `Place` as `index_in`, `Fetch` as `FrontTable::get`. The next call is answered as if there had been
-/// no error.
+/// Errors: `Probe(Place(..))` with the error of `index_in`, then `Fetch` with the error of `FrontTable::get`. An
+/// error does not change what later calls return.
 pub fn probe_wdl_front<S: Source>(
     front: &FrontTable,
     source: &mut S,
@@ -82,11 +83,12 @@ pub fn probe_wdl_front<S: Source>(
     class_told(value_by(front, source, buffer, placement))
 }
 
-/// Returns the number of a placement of this class in a DTZ table whose front was opened, as `probe_dtz` returns it for a
-/// table in memory. It requests the value's block of the source, into `buffer`, and verifies it; a constant subtable needs
-/// none.
+/// Returns the number of a placement in a DTZ table that was opened by its front, as `probe_dtz` returns it for a
+/// table in memory. `class` is the placement's class. It requests the block of the value from the source, into
+/// `buffer`, and verifies it. For a constant subtable it requests nothing.
 ///
-/// Errors: `Probe` as `probe_dtz`, `Fetch` as `FrontTable::get`. The next call is answered as if there had been no error.
+/// Errors: `Probe` with the error of `probe_dtz`, `Fetch` with the error of `FrontTable::get`. An error does not
+/// change what later calls return.
 pub fn probe_dtz_front<S: Source>(
     front: &FrontTable,
     source: &mut S,
@@ -112,7 +114,7 @@ pub fn probe_dtz_front<S: Source>(
     number_told(front.index(), class, found)
 }
 
-// The spot of a placement and its value, out of the file's bytes.
+// Returns the spot of a placement and the value there, from the file's bytes.
 fn value_in(
     front: &FrontTable,
     bytes: &[u8],
@@ -134,7 +136,7 @@ fn value_in(
     }
 }
 
-// The spot of a placement and its value, out of a source.
+// Returns the spot of a placement and the value there, from a source.
 fn value_by<S: Source>(
     front: &FrontTable,
     source: &mut S,
@@ -164,7 +166,7 @@ fn value_by<S: Source>(
     }
 }
 
-// The class of a value that was fetched.
+// Returns the class of a value that was fetched.
 fn class_told(found: Result<(Spot, u16), FrontProbeFault>) -> Result<Option<i8>, FrontProbeFault>
     ensures { result ≡ class_told found }
 {
@@ -174,7 +176,7 @@ fn class_told(found: Result<(Spot, u16), FrontProbeFault>) -> Result<Option<i8>,
     }
 }
 
-// The number in a class of a DTZ value that was fetched.
+// Returns the number, in a class, of a DTZ value that was fetched.
 fn number_told(
     index: &TableIndex,
     class: i8,

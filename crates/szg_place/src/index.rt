@@ -11,33 +11,11 @@ ghost use Rattle.szg_place.specs.Known.{AreGrouped};
 ghost use Rattle.szg_place.specs.Spots.{places_in_lists, squares_told, places_told};
 ghost use Rattle.szg_place.specs.Ranks.{EachInList};
 
-use crate::places::{set_at_by, set_place_by};
+use crate::places::set_at_by;
 use crate::traits::Traits;
 use arrayvec::ArrayVec;
 use szg_count::Groups;
 use szg_values::{MAX_MEN, Material};
-
-/// The same for a caller that has the material's traits.
-#[inline(always)]
-pub(crate) fn index_by(material: &Traits, part: u8, groups: &Groups, squares: &[u8]) -> u64
-    ghost given: { Nibbles × List (List ℕ) }
-    requires grouped { AreGrouped material.now part given.0 groups.now }
-    requires squares { squares.now ≡ concat given.1 }
-    requires few { length squares.now ≤ 6 }
-    requires listed { EachInList material.now part [] (groups_of material.now given.0.men) given.1 }
-    ensures { result ≡ index_with (places_in_lists material.now part [] given.1) (counted material.now part given.0).factors }
-{
-    // ghost: the material is one that a name gives
-    let _material = material.material();
-    let mut index = 0;
-    for i in 0..groups.count() {
-        let group = groups.group(i);
-        let (taken, rest) = squares.split_at(usize::from(group.first));
-        let (set, _) = rest.split_at(usize::from(group.length));
-        index += set_place_by(material, part, i, taken, set) * group.factor;
-    }
-    index
-}
 
 /// Returns the squares of an index, group by group.
 pub fn squares_at(
@@ -58,7 +36,7 @@ pub fn squares_at(
     squares_by(&Traits::of(material), part, groups, index)
 }
 
-/// The same for a caller that has the material's traits.
+/// `squares_at` for a caller that has the material's `Traits`.
 pub(crate) fn squares_by(
     material: &Traits,
     part: u8,
@@ -72,7 +50,7 @@ pub(crate) fn squares_by(
     requires few { length (concat given.1) ≤ 6 }
     ensures { result.items ≡ concat given.1 }
 {
-    // ghost: the material is one that a name gives
+    // for proofs alone: the material's invariant
     let _material = material.material();
     let mut squares = ArrayVec::new();
     for i in 0..groups.count() {
@@ -84,7 +62,7 @@ pub(crate) fn squares_by(
     squares
 }
 
-/// Appends squares.
+/// Appends `more` to `squares`.
 pub(crate) fn append(squares: &mut ArrayVec<u8, MAX_MEN>, more: &[u8])
     requires { array_vec_len squares.old + length more.now ≤ 6 }
     ensures { squares.new.items ≡ squares.old.items ++ more.now }

@@ -1,4 +1,4 @@
-//! Laws over the definitions: each is a function whose one clause is the law.
+//! Laws over the definitions. The contract of each function is a law.
 
 ghost use Rattle.std.specs.Prelude.{◌≡◌, ◌<◌, IsNone, IsSome, IfSome};
 ghost use Rattle.szg_file.specs.Index.{slot_in};
@@ -31,26 +31,27 @@ pub fn one_spot()
     ensures { LawOneSpot }
 {}
 
-/// The placement of an index has an index in the table, and it is that index.
+/// Unranking an index to a placement, and ranking this placement, returns the index.
 pub fn spot_of_placement()
     ensures { LawSpotOfPlacement }
 {}
 
-/// The placement of a placement's index is the placement of its normal form.
+/// Unranking the index of a placement returns the placement of its normal form.
 pub fn placement_of_spot()
     ensures { LawPlacementOfSpot }
 {}
 
-/// Each part of a table is there and orders its groups without a fault, as the laws ask of a numbering.
+/// A table's numbering fulfils `IsLayout`, which the laws require: each part exists and orders its groups without a
+/// fault.
 pub fn table_numbering(table: &Table)
     ensures { IsLayout (numbering_of table.now.contents) }
 {
-    // ghost: this is a table, and its men are a material's
+    // for proofs alone: the invariants of the table and its material
     let _fill = table.fill();
     let _men = table.material().men();
 }
 
-/// For the placement of an index of a table, unless it is refused, `index_of` returns the same part, side and index.
+/// If `placement_of` does not refuse an index, `index_of` returns its part, side and index for the placement.
 pub fn index_of_placement(table: &Table, part: u8, side: u8, index: u64)
     requires there { IsSome (subtable_at table.now.contents part side) }
     requires below { IfSome (subtable_at table.now.contents part side) (λ found. index < found.0.size) }
@@ -62,8 +63,8 @@ pub fn index_of_placement(table: &Table, part: u8, side: u8, index: u64)
     index_in_placement(table.index(), part, side, index);
 }
 
-/// For the placement of an index, unless it is refused, `index_in` returns the same part, side and index: the same for each
-/// kind of table.
+/// If `placement_in` does not refuse an index, `index_in` returns its part, side and index for the placement. Both
+/// take the `TableIndex`, which each type of table has.
 pub fn index_in_placement(table: &TableIndex, part: u8, side: u8, index: u64)
     requires there { IsSome (slot_in table.now part side) }
     requires below { IfSome (slot_in table.now part side) (λ slot. index < slot.size) }
@@ -72,7 +73,7 @@ pub fn index_in_placement(table: &TableIndex, part: u8, side: u8, index: u64)
     ensures spot { IsNone (placement_refusal (numbering_in table.now) part side) →
         spot_of (numbering_in table.now) (board_at (numbering_in table.now) part side index) ≡ record { part = part; side = side; index = index } }
 {
-    // ghost: it is a table's index, and its men are a material's
+    // for proofs alone: the invariants of the `TableIndex` and its material
     let _flags = table.flags();
     let _men = table.material().men();
 }

@@ -1,4 +1,4 @@
-//! The places of lead pawns, listed from the greatest by the value P down.
+//! Ranks of lead pawns. The pawns are listed by their values P, the greatest first.
 
 ghost use Rattle.std.specs.Prelude.{◌≡◌, ◌<◌, ◌≤◌, ◌^◌, ◌+◌, ◌-◌, ◌*◌, ◌∷◌, ℕ, [], length, map, Some, slice_get, slice_index};
 ghost use Rattle.arrayvec.specs.ArrayVec.{array_vec_len};
@@ -11,21 +11,21 @@ use arrayvec::ArrayVec;
 use szg_count::unrank_subset;
 use szg_values::MAX_MEN;
 
-/// The value P of a square: how many squares come after it in the order of pawn squares.
+/// The value P of a square: the number of squares after it in the order of pawn squares.
 pub(crate) const PAWN_NUMBERS: [u8; 64] = [
     0, 0, 0, 0, 0, 0, 0, 0, 47, 35, 23, 11, 10, 22, 34, 46, 45, 33, 21, 9, 8, 20, 32, 44, 43, 31,
     19, 7, 6, 18, 30, 42, 41, 29, 17, 5, 4, 16, 28, 40, 39, 27, 15, 3, 2, 14, 26, 38, 37, 25, 13,
     1, 0, 12, 24, 36, 0, 0, 0, 0, 0, 0, 0, 0,
 ];
 
-/// The square of each value P.
+/// The square with a value P.
 pub(crate) const PAWN_SQUARES: [u8; 48] = [
     52, 51, 44, 43, 36, 35, 28, 27, 20, 19, 12, 11, 53, 50, 45, 42, 37, 34, 29, 26, 21, 18, 13, 10,
     54, 49, 46, 41, 38, 33, 30, 25, 22, 17, 14, 9, 55, 48, 47, 40, 39, 32, 31, 24, 23, 16, 15, 8,
 ];
 
-/// By the number of lead pawns, 1 to 4, the file of the first, a to d, and its rank, 2 to 7: how many
-/// sets have their first pawn on an earlier rank.
+/// The number of sets whose first pawn is on an earlier rank of the board, at index `24 * (pawns - 1) + 6 * file +
+/// (rank - 1)`: by the number of lead pawns, 1 to 4, and the file, 0 to 3, and the rank, 1 to 6, of the first pawn.
 const WAYS_BEFORE: [u32; 96] = [
     0, 1, 2, 3, 4, 5, 0, 1, 2, 3, 4, 5, 0, 1, 2, 3, 4, 5, 0, 1, 2, 3, 4, 5, 0, 47, 92, 135, 176,
     215, 0, 35, 68, 99, 128, 155, 0, 23, 44, 63, 80, 95, 0, 11, 20, 27, 32, 35, 0, 1081, 2071,
@@ -34,7 +34,7 @@ const WAYS_BEFORE: [u32; 96] = [
     3101, 4070, 4750, 5205, 0, 165, 249, 284, 294, 295,
 ];
 
-/// The place of lead pawns in the ordered list of their file.
+/// Returns the rank of lead pawns in the ordered list of their file.
 pub fn lead_pawns_place(squares: &[u8], file: u8) -> u64
     requires some { 0 < length squares.now }
     requires few { length squares.now ≤ 4 }
@@ -49,7 +49,7 @@ pub fn lead_pawns_place(squares: &[u8], file: u8) -> u64
     before + place_of_set(numbers.as_slice())
 }
 
-// How many sets have their first pawn on an earlier rank.
+// Returns the number of sets whose first pawn is on an earlier rank of the board.
 fn ways_before(pawns: usize, file: u8, rank: u8) -> u64
     requires some { 0 < pawns }
     requires few { pawns ≤ 4 }
@@ -74,7 +74,7 @@ fn pawn_numbers(squares: &[u8], numbers: &mut ArrayVec<u8, MAX_MEN>)
     }
 }
 
-/// Lead pawns at a place in the ordered list of their file.
+/// Returns the squares of the lead pawns with rank `place` in the ordered list of their file.
 pub fn lead_pawns_at(pawns: u8, file: u8, place: u64) -> ArrayVec<u8, MAX_MEN>
     requires some { 0 < pawns }
     requires few { pawns ≤ 4 }
@@ -89,7 +89,7 @@ pub fn lead_pawns_at(pawns: u8, file: u8, place: u64) -> ArrayVec<u8, MAX_MEN>
     squares_from(first, numbers.as_slice())
 }
 
-// A first square and those of the values P.
+// Returns the first square, and then the squares with these values P.
 fn squares_from(first: u8, numbers: &[u8]) -> ArrayVec<u8, MAX_MEN>
     requires few { length numbers.now ≤ 5 }
     requires below { (n : ℕ) → IsIn n numbers.now → n < 48 }
@@ -103,7 +103,7 @@ fn squares_from(first: u8, numbers: &[u8]) -> ArrayVec<u8, MAX_MEN>
     squares
 }
 
-// The rank of the first pawn at a place.
+// Returns the rank of the board, 1 to 6, on which the first pawn of set `place` of the ordered list is.
 fn first_rank(pawns: u8, file: u8, place: u64) -> u8
     requires some { 0 < pawns }
     requires few { pawns ≤ 4 }

@@ -38,29 +38,30 @@ pub enum PlaceFault {
     /// The placement's men are not the table's.
     #[error("OtherMaterial")]
     OtherMaterial,
-    /// In the subtable chosen a man of a lead group without pawns has a twin, or equal men are in several groups.
+    /// The groups of the placement's subtable can't number it. Without pawns, a man of the lead group is not the
+    /// only one of its kind and colour; or a later group does not have all men of its kind and colour.
     #[error("Irregular")]
     Irregular,
-    /// The lead group is the two kings, and they touch.
+    /// The lead group is the two kings, and they are on neighbouring squares.
     #[error("KingsTouch")]
     KingsTouch,
-    /// A DTZ table stores only the other side to move.
+    /// The DTZ subtable stores only the other side to move.
     #[error("WrongSide")]
     WrongSide,
 }
 
-/// Why a DTZ table has no number for a placement and a class.
+/// Why a DTZ table has no number for a placement in a class.
 #[derive(Clone, Copy, Debug, PartialEq, Eq, Error)]
 pub enum ProbeFault {
     /// The table has no index for the placement.
     #[error("{0}")]
     Place(PlaceFault),
-    /// The table has no number for the value in this class.
+    /// The table has no number for the value in this class, or the class is a draw.
     #[error("{0}")]
     Map(MapFault),
 }
 
-/// Why an opened front returns nothing for a placement.
+/// Why a probe by an opened front returns neither a class nor a number.
 #[derive(Clone, Copy, Debug, PartialEq, Eq, Error)]
 pub enum FrontProbeFault {
     /// The table has no index for the placement, or no number for its value.
@@ -71,12 +72,12 @@ pub enum FrontProbeFault {
     Fetch(FetchFault),
 }
 
-/// Where a table tells of a placement.
+/// Where a table stores the value of a placement.
 #[derive(Clone, Copy, Debug, PartialEq, Eq)]
 pub struct Spot {
     /// The part, 0 to 3 for the files a to d of the lead pawn, 0 without pawns.
     pub part: u8,
-    /// The subtable's side, 0 where a part has one.
+    /// The subtable's side; 0 if each part has one subtable.
     pub side: u8,
     /// The index in the subtable.
     pub index: u64,

@@ -1,4 +1,5 @@
-//! The men of a placement as a file codes them: which colour is the name's first side, and the squares of its men.
+//! The men of a placement as a file codes them: which colour is the name's first side, and each man's code and
+//! square.
 
 ghost use Rattle.std.specs.Prelude.{◌≡◌, ◌≤◌, ◌<◌, ◌↔◌, ◌&&◌, IsTrue, true, false, IfNone, IfSome, [], length, map, if◌then◌else◌};
 ghost use Rattle.szg_values.specs.Men.{is_color};
@@ -12,26 +13,26 @@ use crate::traits::Traits;
 use arrayvec::ArrayVec;
 use szg_values::{Color, MAX_MEN, Man, Placement, Square};
 
-/// The codes of the name's second side are those of the first side and this.
+/// What the men of the name's second side add to the code of their kind.
 const SECOND_SIDE: u8 = 8;
 
 /// A man as a file codes it, and its square.
 #[derive(Clone, Copy, Debug, Default, PartialEq, Eq)]
 pub struct Piece {
-    /// The man's code, 1 to 6; the men of the name's second side add 8.
+    /// The code of the man's kind, 1 to 6, plus 8 if it belongs to the name's second side.
     pub code: u8,
     /// The square, 0 to 63.
     pub square: u8,
 }
 
-/// Whether colours are exchanged: with the same men on both sides where Black moves, else where White
-/// is not the name's first side. None where the men are another material's.
+/// Returns whether colours are exchanged. If both sides have the same men, they are when Black moves; else they are
+/// when White is not the name's first side. None if the men are not the material's.
 pub fn exchange_of(material: &Traits, placement: &Placement) -> Option<bool>
     ensures other { IfNone result (is_of_material material.now placement.now ≡ false) }
     ensures men { IfSome result (λ exchanged. is_of_material material.now placement.now ≡ true) }
     ensures exchanged { IfSome result (λ exchanged. exchanged ≡ is_exchanged material.now placement.now) }
 {
-    // ghost: the men are a placement's, and the material is one that a name gives
+    // for proofs alone: the invariants of the placement and the material
     let _placed_men = placement.men();
     let _material = material.material();
     let key = placement.key();
@@ -46,28 +47,28 @@ pub fn exchange_of(material: &Traits, placement: &Placement) -> Option<bool>
     None
 }
 
-// The key of the same men with colours exchanged: the eight digits of White's men and those of Black's change places.
+// Returns the key of the same men with colours exchanged: White's eight digits and Black's eight digits are swapped.
 fn with_exchanged_halves(key: u64) -> u64
     ensures { result ≡ with_exchanged_halves key }
 {
     key / 16777216 + key % 16777216 * 16777216
 }
 
-// Whether both sides have the same men and Black moves.
+// Returns whether both sides have the same men and Black moves.
 fn is_twin(material: &Traits, placement: &Placement) -> bool
     ensures { result ≡ (is_symmetric material.now && is_color Color.Black placement.now.mover) }
 {
     material.symmetric() && placement.mover() == Color::Black
 }
 
-/// How many codes are this one.
+/// Returns how often `code` occurs in `codes`.
 pub fn code_count(code: u8, codes: &[u8]) -> usize
     ensures { result ≡ count_of code codes.now }
 {
     codes.iter().filter(|other| **other == code).count()
 }
 
-/// The asked side: 0 where the name's first side moves, else 1.
+/// Returns the asked side: 0 if the name's first side moves, else 1.
 pub fn asked_side(exchanged: bool, mover: Color) -> u8
     ensures { result ≡ (if is_color Color.White (exchanged_color exchanged mover) then 0 else 1) }
 {
@@ -77,7 +78,7 @@ pub fn asked_side(exchanged: bool, mover: Color) -> u8
     }
 }
 
-/// A colour, exchanged or not.
+/// Returns a colour, exchanged if `exchanged`.
 pub fn exchanged_color(exchanged: bool, color: Color) -> Color
     ensures { result ≡ exchanged_color exchanged color }
 {
@@ -90,7 +91,7 @@ pub fn exchanged_color(exchanged: bool, color: Color) -> Color
     }
 }
 
-/// Whether an exchange of colours flips the ranks: with pawns.
+/// Returns whether the ranks are flipped: colours are exchanged and the material has pawns.
 pub(crate) fn flips_ranks(material: &Traits, exchanged: bool) -> bool
     ensures { result ≡ (exchanged && has_pawns material.now) }
 {
@@ -107,19 +108,15 @@ pub(crate) fn piece_of(man: &(Man, Color, Square), exchanged: bool, flips: bool)
     }
 }
 
-// A square after a flip of the ranks that is made or not.
+// Returns a square, its rank flipped if `flips`.
 fn ranked_if(flips: bool, square: u8) -> u8
     requires { square < 64 }
     ensures { result ≡ (if flips then flip_rank square else square) }
 {
-    if flips {
-        8 * (7 - square / 8) + square % 8
-    } else {
-        square
-    }
+    if flips { square ^ 56 } else { square }
 }
 
-/// A man's code: the men of the name's second side, which are now Black's, add 8.
+/// Returns a man's code: that of its kind, plus 8 for Black, which is the name's second side here.
 pub fn colored_code(man: Man, color: Color) -> u8
     ensures { result ≡ colored_code man color }
 {

@@ -20,7 +20,7 @@ use szg_count::{Groups, Order};
 use szg_file::{PartBytes, TableIndex};
 use szg_values::{Kind, Material};
 
-/// The subtable's side where this side is asked: a DTZ table has one for both.
+/// Returns the side of the subtable for an asked side. A DTZ table has one subtable for both.
 pub fn side_at(kind: Kind, asked: u8) -> u8
     ensures { result ≡ (if is_dtz kind then 0 else asked) }
 {
@@ -30,7 +30,7 @@ pub fn side_at(kind: Kind, asked: u8) -> u8
     }
 }
 
-/// The nibbles of a part's side.
+/// Returns the nibbles of a side of a part.
 pub fn order_in(parts: &[PartBytes], part: u8, side: u8) -> Order
     requires part { part < length parts.now }
     requires side { side < 2 }
@@ -41,14 +41,14 @@ pub fn order_in(parts: &[PartBytes], part: u8, side: u8) -> Order
     order_of(side, &bytes.order, &bytes.men)
 }
 
-/// Returns the nibbles of a part and side that the index has.
+/// Returns the nibbles of a side of a part that the table has.
 pub fn order_at(index: &TableIndex, part: u8, side: u8) -> Order
     requires { IsSome (slot_in index.now part side) }
     ensures nibbles { nibbles_in result ≡ nibbles_at (numbering_in index.now) part side }
     ensures part { IsPart index.now.material part }
     ensures ordered { order_fault index.now.material (nibbles_in result) ≡ None }
 {
-    // ghost: the men are a material's
+    // for proofs alone: the material's invariant
     let _men = index.material().men();
     order_in(index.parts(), part, side)
 }
@@ -81,7 +81,7 @@ fn byte_at(bytes: &[u8], i: usize) -> u8
     if i < bytes.len() { bytes[i] } else { 0 }
 }
 
-// A side's nibble of a byte: side 0 has the low one.
+// Returns a side's nibble of a byte: the low one for side 0, the high one for side 1.
 fn nibble_of(side: u8, byte: u8) -> u8
     requires { side < 2 }
     ensures { result ≡ nibble side byte }
@@ -89,7 +89,7 @@ fn nibble_of(side: u8, byte: u8) -> u8
     if side == 0 { byte % 16 } else { byte / 16 }
 }
 
-/// The groups of an order without a fault.
+/// Returns the groups of an order that has no fault.
 pub fn groups_of(material: &Material, part: u8, order: &Order) -> Groups
     requires part { IsPart material.now part }
     requires ordered { order_fault material.now (nibbles_in order.now) ≡ None }
@@ -101,20 +101,20 @@ pub fn groups_of(material: &Material, part: u8, order: &Order) -> Groups
     groups
 }
 
-/// The men of a part's side, cut into groups.
+/// The men of a side of a part, cut into groups.
 #[derive(Drop)]
 pub struct SideGroups {
-    /// Its nibbles.
+    /// The side's order nibbles and men.
     pub order: Order,
-    /// Its groups.
+    /// The groups, in slot order.
     pub groups: Groups,
-    /// Whether its groups number placements.
+    /// Whether these groups can number placements, as `is_regular` returns it.
     pub regular: bool,
-    /// The first slot of each man's code.
+    /// The first slot of each man code.
     pub slots: [u8; 16],
 }
 
-/// The groups of an order without a fault, and whether they number placements.
+/// Returns the groups of an order that has no fault, and whether they can number placements.
 pub fn grouped_by(material: &Material, part: u8, order: Order) -> SideGroups
     requires part { IsPart material.now part }
     requires ordered { order_fault material.now (nibbles_in order) ≡ None }
@@ -134,7 +134,7 @@ pub fn grouped_by(material: &Material, part: u8, order: Order) -> SideGroups
     }
 }
 
-/// The same for a caller that has the material's traits.
+/// `grouped_by` for a caller that has the material's `Traits`.
 pub fn grouped_of(material: &Traits, part: u8, order: Order) -> SideGroups
     requires part { IsPart material.now part }
     requires ordered { order_fault material.now (nibbles_in order) ≡ None }
@@ -146,8 +146,8 @@ pub fn grouped_of(material: &Traits, part: u8, order: Order) -> SideGroups
     grouped_by(material.material(), part, order)
 }
 
-/// Whether without pawns each man of the lead group is the only one of its kind and colour, and each
-/// later group has all men of its kind and colour.
+/// Returns whether the groups can number placements: without pawns each man of the lead group is the only one of its
+/// kind and colour, and each later group has all men of its kind and colour.
 pub fn is_regular(material: &Material, part: u8, order: &Order, groups: &Groups) -> bool
     requires { groups.now ≡ groups_in_slot_order (counted material.now part (nibbles_in order.now)) }
     ensures { result ≡ is_regular material.now (groups_of material.now order.now.men.items) }
@@ -175,7 +175,7 @@ fn are_later_whole(material: &Material, part: u8, order: &Order, groups: &Groups
     true
 }
 
-// Whether the material has all the men of each code of a group that the group has.
+// Returns whether each code of group `i` occurs `number` times among all men of the order.
 fn is_group_counted(
     material: &Material,
     part: u8,
@@ -201,8 +201,8 @@ fn are_counted(codes: &[u8], men: &[u8], number: usize) -> bool
     codes.iter().all(|code| code_count(*code, men) == number)
 }
 
-/// Whether a DTZ subtable stores the other side than the one asked, unless the sides are alike and
-/// without pawns.
+/// Returns whether a DTZ subtable stores the other side than `asked`. False if both sides have the same men and
+/// there are no pawns.
 pub fn is_wrong_side(material: &Traits, kind: Kind, flags: &[u8], part: u8, asked: u8) -> bool
     ensures { result ≡ is_wrong_side (layout_in kind material.now [] flags.now) part asked }
 {
@@ -218,7 +218,7 @@ fn is_alike(material: &Traits) -> bool
     material.symmetric() && !material.has_pawns()
 }
 
-/// The side that a DTZ table stores of a part: the lowest bit of its flags.
+/// Returns the side that a DTZ table stores for a part: the lowest bit of the part's flags.
 pub fn stored_side(flags: &[u8], part: u8) -> u8
     ensures { result ≡ slice_index flags.now part % 2 }
 {

@@ -21,13 +21,13 @@ use szg_count::{Groups, Order};
 use szg_file::{Table, TableIndex};
 use szg_values::{Color, Kind, MAX_MEN, Man, Material, Placement, Square};
 
-/// Returns the placement of an index in a part's side: the inverse of `index_of`. The name's first side is White;
-/// the side to move is the subtable's side (in DTZ the stored one; White if both sides have the same men). The men
-/// come slot by slot: those of a later group from the greatest square down, the lead pawns from the greatest value
-/// P down, other lead men as in their ordered list. It takes no memory.
+/// Returns the placement of an index of a subtable: the inverse of `index_of`. The name's first side is White; the
+/// side to move is the subtable's side (in DTZ the stored one; White if both sides have the same men). The men are
+/// listed slot by slot: those of a later group from the greatest square down, the lead pawns from the greatest value
+/// P down, other lead men as in their ordered list. Allocates nothing.
 ///
-/// Errors, the first that applies: `Irregular`; `WrongSide` for a DTZ subtable with pawns that stores Black if both
-/// sides have the same men.
+/// Errors, the first that applies: `Irregular`; `WrongSide` for a DTZ subtable that stores Black although both sides
+/// have the same men and there are pawns.
 pub fn placement_of(table: &Table, part: u8, side: u8, index: u64) -> Result<Placement, PlaceFault>
     requires there { IsSome (subtable_at table.now.contents part side) }
     requires below { IfSome (subtable_at table.now.contents part side) (λ found. index < found.0.size) }
@@ -38,7 +38,7 @@ pub fn placement_of(table: &Table, part: u8, side: u8, index: u64) -> Result<Pla
     placement_in(table.index(), part, side, index)
 }
 
-/// Returns what `placement_of` returns for a table with this index: the same for each kind of table.
+/// Returns what `placement_of` returns, by the `TableIndex` that each type of table has.
 ///
 /// Errors: as `placement_of`.
 pub fn placement_in(
@@ -54,7 +54,7 @@ pub fn placement_in(
     ensures placed { IsNone (placement_refusal (numbering_in table.now) part side) → result ≡ Ok (board_at (numbering_in table.now) part side index) }
 {
     let (material, kind, flags) = (table.material(), table.kind(), table.flags());
-    // ghost: the men are a material's
+    // for proofs alone: the material's invariant
     let _men = material.men();
     let order = order_at(table, part, side);
     let groups = groups_of(material, part, &order);
@@ -90,13 +90,13 @@ fn men_at(
     requires inside { (placed_men : PlacedMan) → IsIn placed_men (standing_by_group (counted material.now part given).groups (squares_told material.now part [] (zip (counted material.now part given).groups (places_told (counted material.now part given) index)))) → placed_men.2 < 64 }
     ensures { result.items ≡ standing_by_group (counted material.now part given).groups (squares_told material.now part [] (zip (counted material.now part given).groups (places_told (counted material.now part given) index))) }
 {
-    // ghost: the men are a material's
+    // for proofs alone: the material's invariant
     let _men = material.men();
     let squares = squares_at(material, part, groups, index);
     standing_on(order.men.as_slice(), squares.as_slice())
 }
 
-// Men of these codes on these squares.
+// Returns men with these codes on these squares.
 fn standing_on(codes: &[u8], squares: &[u8]) -> ArrayVec<(Man, Color, Square), MAX_MEN>
     requires few { length codes.now ≤ 6 }
     requires same { length squares.now ≡ length codes.now }
@@ -139,8 +139,8 @@ fn color_at(code: u8) -> Color
     if code < 8 { Color::White } else { Color::Black }
 }
 
-// Whether a DTZ subtable with pawns stores Black although both sides have the same men: its index is that of the
-// color-flipped placement.
+// Returns whether a DTZ subtable stores Black although both sides have the same men and there are pawns. No
+// placement has an index in it: one with Black to move is color-flipped first, so side 0 is asked.
 fn is_untold(material: &Material, kind: Kind, stored: u8) -> bool
     ensures { result ≡ (is_dtz kind && is_symmetric material.now && has_pawns material.now && stored == 1) }
 {
@@ -150,7 +150,7 @@ fn is_untold(material: &Material, kind: Kind, stored: u8) -> bool
     }
 }
 
-// Who moves: the subtable's side, in DTZ the one that it stores; White where both sides have the same men.
+// Returns the side to move: White if both sides have the same men, else the subtable's side, in DTZ the stored one.
 fn mover_at(material: &Material, kind: Kind, stored: u8, side: u8) -> Color
     ensures { result ≡ (if is_symmetric material.now then Color.White else if (if is_dtz kind then stored else side) == 0 then Color.White else Color.Black) }
 {
@@ -161,7 +161,7 @@ fn mover_at(material: &Material, kind: Kind, stored: u8, side: u8) -> Color
     }
 }
 
-// The side to move of a subtable's placements: in DTZ the one that it stores.
+// Returns the side to move in a subtable: in DTZ the side that it stores.
 fn told_side(kind: Kind, stored: u8, side: u8) -> u8
     ensures { result ≡ (if is_dtz kind then stored else side) }
 {

@@ -16,8 +16,8 @@ use std::marker::Model;
 use szg_file::Table;
 use szg_values::{Kind, Placement};
 
-/// A table with what depends on it alone and serves many placements: facts about its material, and the groups of
-/// each part and side.
+/// A table, and what placements need of it: facts about its material, and the groups of each side of each part.
+/// These depend on the table alone and are computed once.
 #[derive(Drop)]
 pub struct PreparedTable {
     table: Table,
@@ -42,7 +42,7 @@ impl PreparedTable {
     ghost use Rattle.szg_place.specs.Spots.{place_fault, spot_of};
     ghost use Rattle.szg_place.specs.Tables.{numbering_of, value_at, class_of, mapped_number};
 
-    /// Prepares a table. It takes no memory.
+    /// Prepares a table. Allocates nothing.
     pub fn of(table: Table) -> PreparedTable
         ensures { result ≡ table }
     {
@@ -55,7 +55,7 @@ impl PreparedTable {
         }
     }
 
-    /// The table.
+    /// Returns the table.
     pub fn table(&self) -> &Table
         ensures { result.now ≡ self.now }
     {
@@ -63,13 +63,14 @@ impl PreparedTable {
     }
 
     /// Returns what `index_of` returns for the table. Nothing that depends on the table alone is computed again.
+    #[inline(always)]
     pub fn index_of(&self, placement: &Placement) -> Result<Spot, PlaceFault>
         ensures refused { IfSome (place_fault (numbering_of self.now.contents) placement.now) (λ fault. result ≡ Err fault) }
         ensures spot { IsNone (place_fault (numbering_of self.now.contents) placement.now) → result ≡ Ok (spot_of (numbering_of self.now.contents) placement.now) }
-        // So the table has a value there.
+        // The table has a value at the spot.
         ensures below { IfOk result (λ spot. IsSomeAnd (subtable_at self.now.contents spot.part spot.side) (λ found. spot.index < found.0.size)) }
     {
-        // ghost: the material is one that a name gives
+        // for proofs alone: the material's invariant
         let _material = self.material.material();
         let index = self.table.index();
         let (kind, parts, flags) = (index.kind(), index.parts(), index.flags());
@@ -120,7 +121,7 @@ impl PreparedTable {
     }
 }
 
-// The numbering of each part's side that the table has.
+// Returns the numbering of each side of each part that the table has, at index `2 * part + side`.
 fn sides_of(table: &Table) -> ArrayVec<Option<Prepared>, 8>
     ensures { (p : PreparedSide) → IsIn (Some p) result.items → IsPrepared (numbering_of table.now.contents) p }
 {
@@ -131,7 +132,7 @@ fn sides_of(table: &Table) -> ArrayVec<Option<Prepared>, 8>
     sides
 }
 
-// The numbering of a part's side, where the table has it.
+// Returns the numbering of a side of a part. None if the table has no such subtable.
 fn side_of(table: &Table, part: u8, side: u8) -> Option<Prepared>
     ensures prepared { IfSome result (λ prepared. IsPrepared (numbering_of table.now.contents) prepared) }
     ensures asked { IfSome result (λ prepared. (prepared.part ≡ part) × (prepared.side ≡ side)) }

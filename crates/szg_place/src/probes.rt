@@ -1,4 +1,4 @@
-//! Probes of a table: the class or the distance of a placement.
+//! Probes of a table: the class or the DTZ number of a placement.
 
 ghost use Rattle.std.specs.Prelude.{◌≡◌, ◌≤ℤ◌, pos, neg_ℤ, IsNone, IfSome, IsSomeAnd, MatchResult, Ok, Err};
 ghost use Rattle.szg_place.specs.Spots.{place_fault, spot_of};
@@ -9,11 +9,11 @@ use crate::{PlaceFault, ProbeFault};
 use szg_file::Table;
 use szg_values::{Kind, Placement};
 
-/// Returns the class of a placement from a WDL table: 2 a win, 1 a cursed win, 0 a draw, -1 a blessed loss, -2 a
-/// loss for the side to move; None for a value that is no class. Captures and en passant are not considered.
+/// Returns the class of a placement from a WDL table: 2 is a win, 1 a cursed win, 0 a draw, -1 a blessed loss and -2
+/// a loss for the side to move. None if the value is above 4. Captures and en passant are not considered.
 /// (`probe_wdl_table` in the probing code.)
 ///
-/// Refused is what `index_of` refuses, and as it does.
+/// Errors: those of `index_of`.
 pub fn probe_wdl(table: &Table, placement: &Placement) -> Result<Option<i8>, PlaceFault>
     requires { table.now.contents.kind ≡ Kind.Wdl }
     ensures refused { IfSome (place_fault (numbering_of table.now.contents) placement.now) (λ fault. result ≡ Err fault) }
@@ -26,7 +26,7 @@ pub fn probe_wdl(table: &Table, placement: &Placement) -> Result<Option<i8>, Pla
     }
 }
 
-// The class of a WDL value: less two, up to 4.
+// Returns the class of a WDL value: the value less two. None if it is above 4.
 pub(crate) fn class_of(value: u16) -> Option<i8>
     ensures { result ≡ class_of value }
 {
@@ -37,11 +37,12 @@ pub(crate) fn class_of(value: u16) -> Option<i8>
     }
 }
 
-/// Returns the number of a placement of this class (2 win, 1 cursed win, -1 blessed loss, -2 loss) from a DTZ
-/// table: plies without sign, doubled if the table counts moves. (`probe_dtz_table` in the probing code.)
+/// Returns the number of a placement of this class (2 win, 1 cursed win, -1 blessed loss, -2 loss) from a DTZ table:
+/// a number of plies without sign. A number that the table counts in moves is doubled. (`probe_dtz_table` in the
+/// probing code.)
 ///
-/// Refused is `Place` for what `index_of` refuses, then `Map` where the class has no list or the list
-/// no such item.
+/// Errors: `Place` with the error of `index_of`, then `Map` if the class is 0, or if its list has no item for the
+/// value.
 pub fn probe_dtz(table: &Table, placement: &Placement, class: i8) -> Result<u32, ProbeFault>
     requires kind { table.now.contents.kind ≡ Kind.Dtz }
     requires lowest { neg_ℤ (pos 2) ≤ℤ class }

@@ -9,7 +9,7 @@ use crate::men::code_count;
 use std::marker::Model;
 use szg_values::Material;
 
-/// What a man adds to a key, by his code.
+/// What a man adds to a key, by his code: 8 to the power of the code.
 const KEYS: [u64; 16] = [
     1,
     8,
@@ -76,7 +76,7 @@ impl Traits {
         }
     }
 
-    /// The material.
+    /// Returns the material.
     pub fn material(&self) -> &Material
         ensures material { result.now ≡ self.now }
         ensures named { IsMaterial self.now }
@@ -84,49 +84,49 @@ impl Traits {
         &self.material
     }
 
-    /// Whether both sides have the same men.
+    /// Returns whether both sides have the same men.
     pub fn symmetric(&self) -> bool
         ensures { result ≡ is_symmetric self.now }
     {
         self.symmetric
     }
 
-    /// Whether some man is a pawn.
+    /// Returns whether some man is a pawn.
     pub fn has_pawns(&self) -> bool
         ensures { result ≡ has_pawns self.now }
     {
         self.pawns
     }
 
-    /// Whether some man other than a king is the only one of its kind and colour.
+    /// Returns whether some man other than a king is the only one of its kind and colour.
     pub fn single_lead(&self) -> bool
         ensures { result ≡ has_single_lead self.now }
     {
         self.single
     }
 
-    /// The number of pawns of the lead colour; 0 without pawns.
+    /// Returns the number of pawns of the lead colour; 0 without pawns.
     pub fn lead_pawns(&self) -> u8
         ensures { result ≡ lead_pawns self.now }
     {
         self.lead
     }
 
-    /// The number of pawns of the other colour; 0 without pawns.
+    /// Returns the number of pawns of the other colour; 0 without pawns.
     pub fn other_pawns(&self) -> u8
         ensures { result ≡ other_pawns self.now }
     {
         self.other
     }
 
-    /// The lead pawns' code.
+    /// Returns the lead pawns' code.
     pub fn lead_pawn_code(&self) -> u8
         ensures { result ≡ lead_pawn_code self.now }
     {
         self.code
     }
 
-    /// The key of its men.
+    /// Returns the key of the material's men.
     pub fn key(&self) -> u64
         ensures { result ≡ key_of (man_codes self.now) }
     {
@@ -134,7 +134,7 @@ impl Traits {
     }
 }
 
-// The lead pawns' code, of a material with these codes.
+// Returns the lead pawns' code in a material with these man codes.
 fn lead_pawn_code(codes: &[u8]) -> u8
     ensures { result ≡ (if nat_lt 0 (count_of 1 codes.now) && (count_of 9 codes.now == 0 || nat_le (count_of 1 codes.now) (count_of 9 codes.now)) then 1 else 9) }
 {
@@ -147,14 +147,15 @@ fn lead_pawn_code(codes: &[u8]) -> u8
     }
 }
 
-// Whether the first side's pawns lead: it has pawns, and the second side has none or at least the same number.
+// Returns whether the first side's pawns lead: it has pawns, and the second side has none or at least the same
+// number.
 fn is_first_leading(first: usize, second: usize) -> bool
     ensures { result ≡ (nat_lt 0 first && (second == 0 || nat_le first second)) }
 {
     0 < first && (second == 0 || first <= second)
 }
 
-// The key of codes.
+// Returns the key of man codes: the sum of what each adds.
 fn codes_key(codes: &[u8]) -> u64
     requires few { length codes.now ≤ 6 }
     requires small { (code : ℕ) → IsIn code codes.now → code < 16 }
@@ -167,7 +168,7 @@ fn codes_key(codes: &[u8]) -> u64
     key
 }
 
-// What a man of a code adds to a key.
+// Returns what a man of a code adds to a key.
 fn code_key(code: u8) -> u64
     requires { code < 16 }
     ensures key { result ≡ 8 ^ code }

@@ -1,5 +1,5 @@
 -- The values of a constant subtable.
-use Rattle.std.proofs.Common.{◌≡◌, ℕ, List, Option, Some, None, flat_map, replicate, option_map, refl}
+use Rattle.std.proofs.Common.{◌≡◌, ℕ, Option, Some, None, flat_map, replicate, option_map, refl}
 use Rattle.std.specs.Prelude.{IsSomeAnd}
 use Rattle.szg_file.specs.Contents.{Slot, Subtable, constant}
 use Rattle.szg_file.specs.Values.{constant_value, values_in, values_of}

@@ -1,6 +1,6 @@
 -- What is known of a front, as facts of the table of a file.
-use Rattle.std.proofs.Common.{◌≡◌, ℕ, ◌+◌, ◌-◌, ◌≤◌, List, [], ◌++◌, length, take, refl, sym, ap, subst, ◌∙◌, arith, inl, inr}
-use Rattle.std.specs.Prelude.{◌⊎◌, IfOk, IsNone, Result, Ok, Err, Option, Some, None, IsSome, IfSome, IsSomeAnd, MatchOption, replicate, option_map, option_and_then}
+use Rattle.std.proofs.Common.{◌≡◌, ℕ, ◌+◌, ◌-◌, ◌≤◌, List, [], ◌++◌, length, refl, sym, ap, subst, ◌∙◌, arith, inl, inr}
+use Rattle.std.specs.Prelude.{IfOk, IsNone, Result, Ok, Err, Option, Some, None, IsSome, IfSome, IsSomeAnd, MatchOption, replicate, option_map, option_and_then}
 use Rattle.std.proofs.Math.Seq.{take-append_seam}
 use Rattle.std.proofs.lemmas.List.{length-replicate, length-append}
 use Rattle.szg_io.specs.declared.device.Input as input
@@ -15,7 +15,7 @@ use Rattle.szg_file.specs.Wanted.{wanted_block}
 use Rattle.szg_file.specs.declared.wanted.Wanted.{Wanted}
 use Rattle.szg_file.proofs.IndexLaws.{slot_told}
 use Rattle.szg_file.proofs.TableFinds.{side_lengths}
-use Rattle.szg_files.specs.Ranges.{IsRangeOf}
+use Rattle.szg_files.specs.declared.file_system.FileFault.{FileFault}
 use Rattle.szg_place.specs.Spots.{place_fault, spot_of}
 use Rattle.szg_place.specs.Tables.{numbering_in, numbering_of}
 use Rattle.szg_place.specs.declared.PlaceFault.{PlaceFault}
@@ -24,7 +24,7 @@ use Rattle.szg_values.specs.Material.{Sides}
 use Rattle.szg_values.specs.Placement.{Board}
 use Rattle.szg_values.specs.declared.Kind.{Kind}
 use Rattle.szg_tool.specs.Answers.{IsSpotLine, spot_line}
-use Rattle.szg_tool.specs.Fronts.{IsBadBlockAt, IsBlockRead, IsDecodedAt, IsFetchedIn, IsFrontTaken, IsLookUpAnswer, IsLookUpRefused, IsLookedUp, IsMapRefusal, IsMeaningLine}
+use Rattle.szg_tool.specs.Fronts.{IsBadBlockAt, IsBlockRead, IsDecodedAt, IsFetchedIn, IsFrontTaken, IsLookUpAnswer, IsLookUpRefused, IsLookedUp, IsMapRefusal, IsMeaningLine, IsUnhad, IsWantedBy}
 use Rattle.szg_tool.specs.Refusals.{index_refusal, place_refusal, size_at, spot_refusal}
 use Rattle.szg_tool.specs.declared.fronts.OpenedFront.{OpenedFront}
 use Rattle.szg_tool.specs.declared.refusal.Refusal.{Refusal}
@@ -80,11 +80,11 @@ sized (Some pair) = refl
 pub size_of_front : (kept : FrontKept) (content : List ℕ) (h : IsFrontOf kept content) (part side : ℕ) → size_at h.table part side ≡ option_map (λ slot. slot.size) (slot_in kept.index part side)
 size_of_front kept content h part side = sym (sized (subtable_at h.table part side)) ∙ ap (option_map (λ (slot : Slot). slot.size)) (slot_of_front kept content h part side)
 
--- a subtable that is there, with two facts
+-- a subtable that is there, with the fact of its slot and two others
 found_by : (o : Option (Slot × Subtable)) (S : Slot → Type 0) (A B C : Slot × Subtable → Type 0) → IsSomeAnd (option_map (λ found. found.0) o) S → IfSome o A → IfSome o B →
-    ((found : Slot × Subtable) → A found → B found → C found) → IsSomeAnd o C
+    ((found : Slot × Subtable) → S found.0 → A found → B found → C found) → IsSomeAnd o C
 found_by None S A B C there a b c = absurd there
-found_by (Some found) S A B C there a b c = c found a b
+found_by (Some found) S A B C there a b c = c found there a b
 
 brought : (o : Option (List ℕ)) (block bytes : List ℕ) → o ≡ Some bytes → bytes ≡ block → IfSome o (λ wanted. wanted ≡ block)
 brought o block bytes e is = subst (λ (z : Option (List ℕ)). IfSome z (λ wanted. wanted ≡ block)) (sym e) is
@@ -102,16 +102,16 @@ module _ {F : Type 0} (device : input.Ghosts F) (file : F) (kept : FrontKept) (r
   told_in : (wanted : Option Wanted) (content : List ℕ) (h : IsFrontOf kept content) → IfSome (front_at kept.index.material kept.index.kind content part side) (wants i wanted content) →
       IfSome (front_at kept.index.material kept.index.kind content part side) (λ found. IfSome (wanted_block found.1 i) (λ wanted. wanted ≡ block) → Told content found) →
       ((found : Slot × Subtable) → wants i wanted content found → IfSome (wanted_block found.1 i) (λ wanted. wanted ≡ block)) →
-      IsSomeAnd (front_in kept.index.material kept.index.kind content) (λ t. IsSomeAnd (subtable_at t part side) (Told content))
+      IsSomeAnd (front_in kept.index.material kept.index.kind content) (λ t. IsSomeAnd (subtable_at t part side) (λ found. S found.0 × Told content found))
   told_in wanted content h wanted_is value_is brings =
       let e = ap (option_and_then (λ (t : Contents). subtable_at t part side)) h.there in
-      in_table (front_in kept.index.material kept.index.kind content) h.table (λ t. IsSomeAnd (subtable_at t part side) (Told content)) h.there
+      in_table (front_in kept.index.material kept.index.kind content) h.table (λ t. IsSomeAnd (subtable_at t part side) (λ found. S found.0 × Told content found)) h.there
       (
-      found_by (subtable_at h.table part side) S (wants i wanted content) (λ found. IfSome (wanted_block found.1 i) (λ wanted. wanted ≡ block) → Told content found) (Told content)
+      found_by (subtable_at h.table part side) S (wants i wanted content) (λ found. IfSome (wanted_block found.1 i) (λ wanted. wanted ≡ block) → Told content found) (λ found. S found.0 × Told content found)
       (subst (λ (o : Option Slot). IsSomeAnd o S) (sym (slot_of_front kept content h part side)) there)
       (subst (λ (o : Option (Slot × Subtable)). IfSome o (wants i wanted content)) e wanted_is)
       (subst (λ (o : Option (Slot × Subtable)). IfSome o (λ found. IfSome (wanted_block found.1 i) (λ wanted. wanted ≡ block) → Told content found)) e value_is)
-      (λ found w value. value (brings found w))
+      (λ found s w value. (s, value (brings found w)))
       )
 
   pub fetched_by : (wanted : Option Wanted) → IfSome wanted (λ w. w.place + w.count ≤ kept.length) →
@@ -119,7 +119,7 @@ module _ {F : Type 0} (device : input.Ghosts F) (file : F) (kept : FrontKept) (r
       (λ found. MatchOption wanted (wanted_block found.1 i ≡ None) (λ w. wanted_block found.1 i ≡ Some (bytes_at content w.place w.count)))) →
       IsBlockRead device file read wanted block →
       ((content : List ℕ) → IsFrontOf kept content → IfSome (front_at kept.index.material kept.index.kind content part side) (λ found. IfSome (wanted_block found.1 i) (λ wanted. wanted ≡ block) → Told content found)) →
-      IsFetchedIn device file kept read size (λ content t. IsSomeAnd (subtable_at t part side) (Told content))
+      IsFetchedIn device file kept read size (λ content t. IsSomeAnd (subtable_at t part side) (λ found. S found.0 × Told content found))
   fetched_by None inside finds is values = record {
     skipped = 0;
     block = [];
@@ -136,6 +136,20 @@ module _ {F : Type 0} (device : input.Ghosts F) (file : F) (kept : FrontKept) (r
         let at : bytes_at content w.place w.count ≡ block = ap (λ (k : ℕ). bytes_at content k w.count) place ∙ ap (λ (k : ℕ). bytes_at content (read + skipped) k) (sym count) ∙ holds in
         told_in (Some w) content h (finds content h) (values content h) (λ found e. brought (wanted_block found.1 i) block (bytes_at content w.place w.count) e at);
   }
+
+-- ---- failures
+
+pub none_there : (o : Option (Slot × Subtable)) (S : Slot × Subtable → Type 0) → IsSomeAnd o (λ found. S found × ⊥) → ⊥
+none_there None S h = absurd h
+none_there (Some found) S h = h.1
+
+-- the bytes of a block that can't be had are those that the value needs
+pub unhad_then : {F : Type 0} (device : input.Ghosts F) (file : F) (kept : FrontKept) (read part side i : ℕ) (fault : FileFault) (wanted : Option Wanted) → IsSomeAnd wanted (IsUnhad device file read fault) →
+    ((content : List ℕ) → IsFrontOf kept content → IfSome (front_at kept.index.material kept.index.kind content part side)
+    (λ found. MatchOption wanted (wanted_block found.1 i ≡ None) (λ w. wanted_block found.1 i ≡ Some (bytes_at content w.place w.count)))) →
+    (wanted : Wanted) × IsWantedBy kept part side i wanted × IsUnhad device file read fault wanted
+unhad_then device file kept read part side i fault None unhad finds = absurd unhad
+unhad_then device file kept read part side i fault (Some wanted) unhad finds = (wanted, finds, unhad)
 
 -- ---- the length of the file
 

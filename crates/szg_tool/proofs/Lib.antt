@@ -1,4 +1,5 @@
-mod Lines
+pub mod SinkLines
+pub mod StreamedFiles
 mod Outcomes
 mod Builds
 mod Digits

@@ -1,5 +1,5 @@
 -- What a command line asks for, by its command and by the values that `clap` found for the command's arguments.
-use Rattle.std.specs.Prelude.{◌≡◌, ℕ, Bool, true, false, ◌||◌, List, [], codes, map, Option, Some, None, option_map, Result, Ok, Err, unwrap_or, if◌then◌else◌}
+use Rattle.std.specs.Prelude.{◌≡◌, ℕ, Bool, true, false, ◌||◌, List, [], codes, map, Option, Some, option_map, Result, Ok, Err, unwrap_or, if◌then◌else◌}
 use Rattle.std.specs.Borrow.{Bor}
 use Rattle.std.specs.Str.{bytes_eq}
 use Rattle.clap.specs.Matches.{first_value, matched_of, raw_values}

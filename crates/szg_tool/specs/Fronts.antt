@@ -1,29 +1,28 @@
 -- What a look-up in a file by its front does: the file is read and checked up to its blocks, and then at most one block.
-use Rattle.std.specs.Prelude.{◌≡◌, ◌⊎◌, ℕ, ◌+◌, ◌≤◌, List, [], length, Option, Some, None, IsNone, IfSome, IsSomeAnd, Ok}
+use Rattle.std.specs.Prelude.{◌≡◌, ◌⊎◌, ℕ, ◌+◌, ◌<◌, ◌≤◌, List, [], length, Option, Some, None, IsNone, IfSome, IsSomeAnd, Ok}
 use Rattle.szg_io.specs.declared.device.Input as input
 use Rattle.szg_io.specs.Moved.{Takes}
 use Rattle.szg_values.specs.Material.{Sides, parsed}
-use Rattle.szg_values.specs.Placement.{Board}
 use Rattle.szg_values.specs.declared.Kind.{Kind}
 use Rattle.szg_values.specs.declared.Kind.TheVariants.{Wdl, Dtz}
 use Rattle.szg_block.specs.BlocksTrait.{bytes_at}
-use Rattle.szg_file.specs.Contents.{Contents, Slot, Subtable}
+use Rattle.szg_file.specs.Contents.{Contents}
 use Rattle.szg_file.specs.Fetching.{NamesBadBlock}
 use Rattle.szg_file.specs.FrontInput.{BeginsWith, IsFrontRefusal}
 use Rattle.szg_file.specs.FrontTable.{FrontKept, IsFrontOf}
 use Rattle.szg_file.specs.Index.{Index as TableIndex, index_of}
 use Rattle.szg_file.specs.Unread.{IsDecoded, front_at, front_in}
 use Rattle.szg_file.specs.Values.{subtable_at}
-use Rattle.szg_file.specs.declared.fault.MapFault.{MapFault}
+use Rattle.szg_file.specs.Wanted.{wanted_block}
 use Rattle.szg_file.specs.declared.fault.Reason.{Reason}
 use Rattle.szg_file.specs.declared.fetching.FetchFault.TheVariants as fetch
 use Rattle.szg_file.specs.declared.wanted.Wanted.{Wanted}
-use Rattle.szg_files.specs.FileSystem.{IsOpened}
-use Rattle.szg_files.specs.Ranges.{IsRangeOf}
+use Rattle.szg_files.specs.Ranges.{HasFailedIn, IsRangeOf}
+use Rattle.szg_files.specs.declared.file_system.FileFault.{FileFault}
+use Rattle.szg_files.specs.declared.file_system.FileFault.TheVariants.{Memory}
 use Rattle.szg_place.specs.Front.{as_number}
 use Rattle.szg_place.specs.Spots.{place_fault, spot_of}
 use Rattle.szg_place.specs.Tables.{class_of, numbering_of}
-use Rattle.szg_place.specs.declared.Spot.{Spot}
 use Rattle.szg_tool.specs.Answers.{IsSpotLine, class_line, number_line, number_of_class}
 use Rattle.szg_tool.specs.Refusals.{index_refusal, map_refusal, size_at, spot_refusal}
 use Rattle.szg_tool.specs.Requests.{first_check}
@@ -37,9 +36,9 @@ use Rattle.szg_tool.specs.declared.request.Request.{Request}
 
 -- ---- answers
 
--- the value of a part and side at an index, out of a block that decodes
+-- the value of a part and side at one of its indexes, out of a block that decodes
 abbrev pub IsDecodedAt : Contents → ℕ → ℕ → ℕ → ℕ → Type 0
-IsDecodedAt t part side index value = IsSomeAnd (subtable_at t part side) (λ found. IsDecoded t.kind found index value)
+IsDecodedAt t part side index value = IsSomeAnd (subtable_at t part side) (λ found. (index < found.0.size) × IsDecoded t.kind found index value)
 
 -- the line of a value: of a WDL table its class, of a DTZ table its number of a part in a class
 abbrev pub IsMeaningLine : Kind → TableIndex → ℕ → Class → ℕ → List ℕ → Type 0
@@ -58,10 +57,10 @@ IsLookUpAnswer action part side t text = ⊥
 
 -- ---- refusals
 
--- the refusal names the value's block, which does not decode, and its offset
+-- the refusal names the block of the value at one of the indexes, which does not decode, and its offset
 abbrev pub IsBadBlockAt : List ℕ → Contents → ℕ → ℕ → ℕ → Refusal → Type 0
 IsBadBlockAt content t part side index (why.Block number offset) =
-    IsSomeAnd (subtable_at t part side) (λ found. NamesBadBlock content found index (fetch.Block number offset))
+    IsSomeAnd (subtable_at t part side) (λ found. (index < found.0.size) × NamesBadBlock content found index (fetch.Block number offset))
 IsBadBlockAt content t part side index refusal = ⊥
 
 -- the value has no number of its part in the class
@@ -125,6 +124,27 @@ pub record IsFetched {F : Type 0} (device : input.Ghosts F) (file : F) (kept : F
 abbrev pub IsFetchedIn : {F : Type 0} → input.Ghosts F → F → FrontKept → ℕ → ℕ → (List ℕ → Contents → Type 0) → Type 0
 IsFetchedIn device file kept read size Told =
     IsFetched device file kept read size (λ content. IsSomeAnd (front_in kept.index.material kept.index.kind content) (λ t. Told content t))
+
+-- ---- failures
+
+-- These are the bytes that a value needs, of each file with the front.
+abbrev pub IsWantedBy : FrontKept → ℕ → ℕ → ℕ → Wanted → Type 0
+IsWantedBy kept part side i wanted = (content : List ℕ) → IsFrontOf kept content → IfSome (front_at kept.index.material kept.index.kind content part side)
+    (λ found. wanted_block found.1 i ≡ Some (bytes_at content wanted.place wanted.count))
+
+-- They begin before the end of the front of `read` bytes, or end after the file does.
+abbrev pub IsBeyond : {F : Type 0} → input.Ghosts F → F → ℕ → Wanted → Type 0
+IsBeyond device file read wanted = (wanted.place < read) ⊎ IfSome (device.coming file) (λ bytes. read + length bytes < wanted.place + wanted.count)
+
+-- They can't be had: memory was refused, the file failed, or they aren't there.
+abbrev pub IsUnhad : {F : Type 0} → input.Ghosts F → F → ℕ → FileFault → Wanted → Type 0
+IsUnhad device file read fault wanted = (fault ≡ Memory) ⊎ HasFailedIn device file ⊎ IsBeyond device file read wanted
+
+-- A value's block can't be had; or it was read, and no file has that front and that block: so a block that doesn't decode is
+-- no failure.
+abbrev pub IsUnfetched : {F : Type 0} → input.Ghosts F → F → FrontKept → ℕ → ℕ → ℕ → ℕ → ℕ → FileFault → Type 0
+IsUnfetched device file kept read size part side i fault =
+    ((wanted : Wanted) × IsWantedBy kept part side i wanted × IsUnhad device file read fault wanted) ⊎ IsFetchedIn device file kept read size (λ content t. ⊥)
 
 -- ---- a look-up in a file
 

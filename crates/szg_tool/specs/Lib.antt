@@ -8,6 +8,7 @@ pub mod Requests
 pub mod Refusals
 pub mod Fronts
 pub mod Jobs
+pub mod Chosen
 pub mod OnFiles
 pub mod Asked
 pub mod Statuses

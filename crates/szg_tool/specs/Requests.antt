@@ -1,5 +1,5 @@
 -- What carrying a task out does to the reader and to the writer.
-use Rattle.std.specs.Prelude.{◌≡◌, ◌⊎◌, List, ℕ, Option, Some, None, Result, Ok, Err}
+use Rattle.std.specs.Prelude.{◌≡◌, ◌⊎◌, ◌++◌, List, ℕ, Option, Some, None, Result, Ok, Err}
 use Rattle.szg_io.specs.Moved.{Takes, Gives}
 use Rattle.szg_io.specs.declared.device.Input as input
 use Rattle.szg_io.specs.declared.device.Output as output
@@ -18,7 +18,7 @@ use Rattle.szg_tool.specs.Refusals.{IsRefused}
 use Rattle.szg_tool.specs.declared.refusal.Refusal.{Refusal}
 use Rattle.szg_tool.specs.declared.refusal.Refusal.TheVariants as why
 use Rattle.szg_tool.specs.declared.request.Action.{Action}
-use Rattle.szg_tool.specs.declared.request.Action.TheVariants.{Unplaced}
+use Rattle.szg_tool.specs.declared.request.Action.TheVariants.{Unplaced, Values}
 use Rattle.szg_tool.specs.declared.request.Request.{Request}
 use Rattle.szg_tool.specs.declared.request.Task.{Task}
 use Rattle.szg_tool.specs.declared.request.Task.TheVariants.{OnTable, Build}
@@ -38,6 +38,19 @@ pub record IsAnswered {R W : Type 0} (reading : input.Ghosts R) (writing : outpu
   pub taken : Takes reading reader reader' (file_bytes table) 1
   pub text : List ℕ
   pub answers : IsAnswer request.action request.part request.side table text
+  pub given : Gives writing writer writer' text 0
+
+-- The file of such a table was taken from the reader, and the values asked for are listed: of them a beginning was given to
+-- the writer.
+pub record IsBegun {R W : Type 0} (reading : input.Ghosts R) (writing : output.Ghosts W) (request : Request)
+    (reader reader' : R) (writer writer' : W) : Type 0 where
+  pub table : Shown
+  pub asked : IsTableOf request table
+  pub taken : Takes reading reader reader' (file_bytes table) 1
+  pub listed : request.action ≡ Values
+  pub text : List ℕ
+  pub rest : List ℕ
+  pub answers : IsAnswer Values request.part request.side table (text ++ rest)
   pub given : Gives writing writer writer' text 0
 
 -- Why a request is refused before anything is read: its name is none, or its words make no placement.
@@ -79,6 +92,11 @@ pub record IsRefusedOf {R : Type 0} (reading : input.Ghosts R) (request : Reques
 abbrev pub IsCarriedOut : {R W : Type 0} → input.Ghosts R → output.Ghosts W → Task → R → R → W → W → Type 0
 IsCarriedOut reading writing (OnTable request) reader reader' writer writer' = IsAnswered reading writing request reader reader' writer writer'
 IsCarriedOut reading writing (Build packing) reader reader' writer writer' = IsMade reading writing packing reader reader' writer writer'
+
+-- A beginning of a task's answer was given to the writer.
+abbrev pub IsBegunBy : {R W : Type 0} → input.Ghosts R → output.Ghosts W → Task → R → R → W → W → Type 0
+IsBegunBy reading writing (OnTable request) reader reader' writer writer' = IsBegun reading writing request reader reader' writer writer'
+IsBegunBy reading writing (Build packing) reader reader' writer writer' = ⊥
 
 -- The task meets this refusal.
 abbrev pub Meets : {R : Type 0} → input.Ghosts R → Task → R → R → Refusal → Type 0

@@ -1,5 +1,5 @@
 -- The program's status, by the ending of a run.
-use Rattle.std.specs.Prelude.{◌≡◌, ◌⊎◌, ℕ, nat_lt, Result, Ok, Err, if◌then◌else◌}
+use Rattle.std.specs.Prelude.{◌≡◌, ◌⊎◌, ℕ, nat_lt, Ok, Err, if◌then◌else◌}
 use Rattle.szg_named.specs.declared.stop.Stop.{Stop}
 use Rattle.szg_named.specs.declared.stop.Stop.TheVariants as check_stops
 use Rattle.szg_named.specs.declared.stop.Tally.{Tally}

@@ -25,8 +25,9 @@ pub fn build_told<R: Input, W: Output>(
     // Just the text of a dump was read, and just the file of a table that is built of it was written.
     ensures told { OnOk result (IsMade R.Input W.Output packing reader.old reader.new writer.old writer.new) }
     ensures calls { (bytes : List ℕ) × Takes R.Input reader.old reader.new bytes 1 }
-    ensures device { IsErrOf result Stop.Device → HasFailed (R.failures reader.old) (R.failures reader.new) (R.interrupted reader.new) ⊎ HasFailed (W.failures writer.old) (W.failures writer.new) (W.interrupted writer.new) }
+    ensures device { IsErrOf result Stop.Device → (HasFailed (R.failures reader.old) (R.failures reader.new) (R.interrupted reader.new) × (writer.new ≡ writer.old)) ⊎ HasFailed (W.failures writer.old) (W.failures writer.new) (W.interrupted writer.new) }
     ensures refused { (refusal : Refusal) → IsErrOf result (Stop.Refused refusal) → (writer.new ≡ writer.old) × IsUnmade R.Input packing reader.old reader.new refusal }
+    ensures memory { IsErrOf result Stop.Memory → writer.new ≡ writer.old }
 {
     let dump = read_told(alloc, reader)?;
     let table = table_of(alloc, dump, packing)?;

@@ -1,17 +1,20 @@
-ghost use Rattle.std.specs.Prelude.{◌≡◌, ℕ, ◌⊎◌, List, None, OnOk, IfOk, IsErrOf};
+ghost use Rattle.std.specs.Prelude.{◌≡◌, ℕ, ◌++◌, ◌⊎◌, List, None, OnOk, IfOk, IsErrOf, map};
 ghost use Rattle.szg_io.specs.Device.{HasFailed};
 ghost use Rattle.szg_io.specs.Moved.{Gives, Takes};
 ghost use Rattle.szg_file.specs.Held.{file_bytes};
+ghost use Rattle.clap.specs.Values.{kind_of as kind_of_error};
 ghost use Rattle.szg_tool.specs.Answers.{IsAnswer, IsDumpText};
+ghost use Rattle.szg_tool.specs.Chosen.{AsksFor, AsksForNone, IsFoundByClap, IsRefusedByClap};
 ghost use Rattle.szg_tool.specs.Outcome.{OnDone, OnRefused, OnWords};
 ghost use Rattle.szg_tool.specs.RefusalLines.{refusal_line};
 ghost use Rattle.szg_tool.specs.Refusals.{IsRefused};
-ghost use Rattle.szg_tool.specs.Requests.{IsAnswered, IsCarriedOut, IsRefusedWith, IsTableOf, IsUnread, IsRefusedOf, Meets, unplaced_refusal};
+ghost use Rattle.szg_tool.specs.Requests.{IsAnswered, IsBegun, IsBegunBy, IsCarriedOut, IsRefusedWith, IsTableOf, IsUnread, IsRefusedOf, Meets, unplaced_refusal};
 ghost use Rattle.szg_tool.specs.declared.refusal.Refusal.{Refusal};
 ghost use Rattle.szg_tool.specs.declared.request.Task.{Task};
 
 use crate::building::build_told;
 use crate::description::description;
+use crate::finding::{Clap, Finder};
 use crate::lookups::{counted_answer, get_answer, tell_values};
 use crate::outcome::Outcome;
 use crate::placements::{outcome_answer, placement_answer, spot_answer};
@@ -28,7 +31,7 @@ use szg_io::{Input, Output};
 use szg_values::Material;
 
 /// Runs a command line: `words` begins with the program's name. The table's file, for `build` the dump, is read from
-/// `reader`, the answer is written to `writer`.
+/// `reader`, the answer is written to `writer`. Which word goes to which argument, `clap` decides.
 ///
 /// `Refused` where the name, a man, the placement, the file, the dump, the part, the index, the position or the number is
 /// refused, by a line of text. `Words` where the words make no command, or ask for help, and then nothing is read or
@@ -39,17 +42,44 @@ pub fn run<R: Input, W: Output>(
     reader: &mut R,
     writer: &mut W,
 ) -> Outcome
-    // A request was answered: just the file of an accepted table was read, and just its answer was written. Or a table
-    // was built: just the text of a dump was read, and just the file of an accepted table that is built of it was written.
-    ensures told { OnDone result ((task : Task) × IsCarriedOut R.Input W.Output task reader.old reader.new writer.old writer.new) }
+    // The request that the words ask for was answered: just the file of an accepted table was read, and just its answer
+    // was written. Or a table was built: just the text of a dump was read, and just the file of an accepted table that is
+    // built of it was written.
+    ensures told { OnDone result ((task : Task) × AsksFor IsFoundByClap (map (λ word. word.now) words.now) task × IsCarriedOut R.Input W.Output task reader.old reader.new writer.old writer.new) }
     // It was refused: it meets a refusal, and just this refusal's line was written.
-    ensures refused { OnRefused result ((task : Task) × IsRefusedWith R.Input W.Output task reader.old reader.new writer.old writer.new) }
-    ensures words { OnWords result ((reader.new ≡ reader.old) × (writer.new ≡ writer.old)) }
+    ensures refused { OnRefused result ((task : Task) × AsksFor IsFoundByClap (map (λ word. word.now) words.now) task × IsRefusedWith R.Input W.Output task reader.old reader.new writer.old writer.new) }
+    ensures words { OnWords result ((reader.new ≡ reader.old) × (writer.new ≡ writer.old) × AsksForNone IsFoundByClap IsRefusedByClap (map (λ word. word.now) words.now)) }
     // Whatever the outcome: bytes were taken with at most 1,001 calls for each of them and for one more.
     ensures calls { (bytes : List ℕ) × Takes R.Input reader.old reader.new bytes 1 }
-    ensures device { (result ≡ Outcome.Device) → HasFailed (R.failures reader.old) (R.failures reader.new) (R.interrupted reader.new) ⊎ HasFailed (W.failures writer.old) (W.failures writer.new) (W.interrupted writer.new) }
+    ensures device { (result ≡ Outcome.Device) → (HasFailed (R.failures reader.old) (R.failures reader.new) (R.interrupted reader.new) × (writer.new ≡ writer.old)) ⊎ HasFailed (W.failures writer.old) (W.failures writer.new) (W.interrupted writer.new) }
+    // Nothing was written, or, by `values`, a beginning of the answer.
+    ensures memory { (result ≡ Outcome.Memory) → (writer.new ≡ writer.old) ⊎ ((task : Task) × AsksFor IsFoundByClap (map (λ word. word.now) words.now) task × IsBegunBy R.Input W.Output task reader.old reader.new writer.old writer.new) }
 {
-    let task = match parse(alloc, words) {
+    run_by(alloc, &Clap, words, reader, writer)
+}
+
+/// Runs a command line as `run` does, with what a finder finds in its words.
+pub fn run_by<F: Finder, R: Input, W: Output>(
+    alloc: Global,
+    finder: &F,
+    words: &[&str],
+    reader: &mut R,
+    writer: &mut W,
+) -> Outcome
+    // The request that the words ask for was answered: just the file of an accepted table was read, and just its answer
+    // was written. Or a table was built: just the text of a dump was read, and just the file of an accepted table that is
+    // built of it was written.
+    ensures told { OnDone result ((task : Task) × AsksFor F.finds (map (λ word. word.now) words.now) task × IsCarriedOut R.Input W.Output task reader.old reader.new writer.old writer.new) }
+    // It was refused: it meets a refusal, and just this refusal's line was written.
+    ensures refused { OnRefused result ((task : Task) × AsksFor F.finds (map (λ word. word.now) words.now) task × IsRefusedWith R.Input W.Output task reader.old reader.new writer.old writer.new) }
+    ensures words { OnWords result ((reader.new ≡ reader.old) × (writer.new ≡ writer.old) × AsksForNone F.finds F.refuses (map (λ word. word.now) words.now)) }
+    // Whatever the outcome: bytes were taken with at most 1,001 calls for each of them and for one more.
+    ensures calls { (bytes : List ℕ) × Takes R.Input reader.old reader.new bytes 1 }
+    ensures device { (result ≡ Outcome.Device) → (HasFailed (R.failures reader.old) (R.failures reader.new) (R.interrupted reader.new) × (writer.new ≡ writer.old)) ⊎ HasFailed (W.failures writer.old) (W.failures writer.new) (W.interrupted writer.new) }
+    // Nothing was written, or, by `values`, a beginning of the answer.
+    ensures memory { (result ≡ Outcome.Memory) → (writer.new ≡ writer.old) ⊎ ((task : Task) × AsksFor F.finds (map (λ word. word.now) words.now) task × IsBegunBy R.Input W.Output task reader.old reader.new writer.old writer.new) }
+{
+    let task = match parse(alloc, finder, words) {
         Ok(task) => task,
         Err(error) => return words_outcome(error),
     };
@@ -65,6 +95,7 @@ pub fn run<R: Input, W: Output>(
 pub fn words_outcome(error: Error) -> Outcome
     ensures done { OnDone result ⊥ }
     ensures refused { OnRefused result ⊥ }
+    ensures words { OnWords result (kind_of_error error ≡ ErrorKind.OutOfMemory → ⊥) }
     ensures device { (result ≡ Outcome.Device) → ⊥ }
 {
     if matches!(error.kind(), ErrorKind::OutOfMemory) {
@@ -79,6 +110,7 @@ pub fn refuse<W: Output>(alloc: Global, refusal: Refusal, writer: &mut W) -> Out
     ensures done { OnDone result ⊥ }
     ensures refused { OnRefused result (Gives W.Output writer.old writer.new (refusal_line refusal) 0) }
     ensures words { OnWords result ⊥ }
+    ensures memory { (result ≡ Outcome.Memory) → writer.new ≡ writer.old }
     ensures device { (result ≡ Outcome.Device) → HasFailed (W.failures writer.old) (W.failures writer.new) (W.interrupted writer.new) }
 {
     let Ok(line) = refusal_line(alloc, refusal) else {
@@ -99,8 +131,9 @@ pub fn carry_out<R: Input, W: Output>(
 ) -> Result<(), Stop>
     ensures told { OnOk result (IsCarriedOut R.Input W.Output task.now reader.old reader.new writer.old writer.new) }
     ensures calls { (bytes : List ℕ) × Takes R.Input reader.old reader.new bytes 1 }
-    ensures device { IsErrOf result Stop.Device → HasFailed (R.failures reader.old) (R.failures reader.new) (R.interrupted reader.new) ⊎ HasFailed (W.failures writer.old) (W.failures writer.new) (W.interrupted writer.new) }
+    ensures device { IsErrOf result Stop.Device → (HasFailed (R.failures reader.old) (R.failures reader.new) (R.interrupted reader.new) × (writer.new ≡ writer.old)) ⊎ HasFailed (W.failures writer.old) (W.failures writer.new) (W.interrupted writer.new) }
     ensures refused { (refusal : Refusal) → IsErrOf result (Stop.Refused refusal) → (writer.new ≡ writer.old) × Meets R.Input task.now reader.old reader.new refusal }
+    ensures memory { IsErrOf result Stop.Memory → (writer.new ≡ writer.old) ⊎ IsBegunBy R.Input W.Output task.now reader.old reader.new writer.old writer.new }
 {
     match task {
         Task::OnTable(request) => answer(alloc, request, reader, writer),
@@ -118,9 +151,10 @@ fn answer<R: Input, W: Output>(
     // Just the file of an accepted table was read, and just its answer was written.
     ensures told { OnOk result (IsAnswered R.Input W.Output request.now reader.old reader.new writer.old writer.new) }
     ensures calls { (bytes : List ℕ) × Takes R.Input reader.old reader.new bytes 1 }
-    ensures device { IsErrOf result Stop.Device → HasFailed (R.failures reader.old) (R.failures reader.new) (R.interrupted reader.new) ⊎ HasFailed (W.failures writer.old) (W.failures writer.new) (W.interrupted writer.new) }
+    ensures device { IsErrOf result Stop.Device → (HasFailed (R.failures reader.old) (R.failures reader.new) (R.interrupted reader.new) × (writer.new ≡ writer.old)) ⊎ HasFailed (W.failures writer.old) (W.failures writer.new) (W.interrupted writer.new) }
     ensures refused { (refusal : Refusal) → IsErrOf result (Stop.Refused refusal) → (writer.new ≡ writer.old)
         × (IsUnread R.Input request.now reader.old reader.new refusal ⊎ IsRefusedOf R.Input request.now reader.old reader.new refusal) }
+    ensures memory { IsErrOf result Stop.Memory → (writer.new ≡ writer.old) ⊎ IsBegun R.Input W.Output request.now reader.old reader.new writer.old writer.new }
 {
     let table = read_asked(alloc, request, reader)?;
     tell(alloc, &table, request, writer)
@@ -162,6 +196,7 @@ fn tell<W: Output>(
     ensures told { OnOk result ((text : List ℕ) × IsAnswer request.now.action request.now.part request.now.side table.now text × Gives W.Output writer.old writer.new text 0) }
     ensures device { IsErrOf result Stop.Device → HasFailed (W.failures writer.old) (W.failures writer.new) (W.interrupted writer.new) }
     ensures refused { (refusal : Refusal) → IsErrOf result (Stop.Refused refusal) → (writer.new ≡ writer.old) × IsRefused request.now.action request.now.part request.now.side table.now.contents refusal }
+    ensures memory { IsErrOf result Stop.Memory → (writer.new ≡ writer.old) ⊎ ((request.now.action ≡ Action.Values) × (text : List ℕ) × (rest : List ℕ) × IsAnswer Action.Values request.now.part request.now.side table.now (text ++ rest) × Gives W.Output writer.old writer.new text 0) }
 {
     match &request.action {
         Action::Check => {
@@ -206,6 +241,7 @@ fn tell_dump<W: Output>(
     ensures told { OnOk result ((text : List ℕ) × IsDumpText form table.now.contents text × Gives W.Output writer.old writer.new text 0) }
     ensures device { IsErrOf result Stop.Device → HasFailed (W.failures writer.old) (W.failures writer.new) (W.interrupted writer.new) }
     ensures only { (refusal : Refusal) → IsErrOf result (Stop.Refused refusal) → ⊥ }
+    ensures memory { IsErrOf result Stop.Memory → writer.new ≡ writer.old }
 {
     let dump = Dump::of(alloc, table)?;
     match write_dump(&dump, form.number(), writer) {

@@ -1,16 +1,21 @@
 //! Command lines that name files.
-ghost use Rattle.std.specs.Prelude.{◌≡◌, IfOk, option_map};
-ghost use Rattle.clap.specs.Matches.{found_of};
-ghost use Rattle.clap.specs.declared.parser.matches.Found.{Found};
+ghost use Rattle.std.specs.Prelude.{◌≡◌, ◌⊎◌, true, false, IfErr, IfOk, codes, map, option_map};
+ghost use Rattle.std.specs.Str.{bytes_eq};
+ghost use Rattle.clap.specs.Matches.{first_value, found_of};
+ghost use Rattle.clap.specs.Values.{kind_of as kind_of_error};
+ghost use Rattle.szg_named.specs.Named.{name_given, named_as};
 ghost use Rattle.szg_tool.specs.Asked.{report_format_told};
-ghost use Rattle.szg_tool.specs.Jobs.{IsJobIn};
+ghost use Rattle.szg_tool.specs.Chosen.{AsksForJob, AsksForNoJob, IsWordsFault};
+ghost use Rattle.szg_tool.specs.Jobs.{AreOptionsIn, IsJobIn, kind_given};
+ghost use Rattle.szg_tool.specs.Words.{word_of};
 
 use crate::command_line::CommandForm;
+use crate::finding::Finder;
 use crate::fronts::is_look_up;
 use crate::numbers::NumberFault;
 use crate::request::{
-    Request, Task, conflict_error, is_given, kind_of, matches_of, missing_command, number_error,
-    packing_in, request_on, unused_by_plan, usage_error,
+    Request, Task, conflict_error, is_given, kind_of, missing_command, number_error, packing_in,
+    request_on, unused_by_plan, usage_error,
 };
 use clap::error::ErrorKind;
 use clap::{ArgMatches, Error};
@@ -51,6 +56,11 @@ enum WordsFault<'a> {
 }
 
 impl<'a> From<NumberFault<'a>> for WordsFault<'a> {
+    ghost use Rattle.std.specs.Prelude.{◌≡◌};
+    ghost use Rattle.szg_tool.specs.declared.file_words.WordsFault.TheVariants.{Number};
+
+    ghost from_gives = { λ fault told. told ≡ Number fault };
+
     fn from(fault: NumberFault<'a>) -> WordsFault<'a> {
         WordsFault::Number(fault)
     }
@@ -109,11 +119,16 @@ pub fn names_files(words: &[&str]) -> bool {
 }
 
 /// What the words of a command that names files ask for.
-pub fn parse_files<'a>(alloc: Global, words: &'a [&'a str]) -> Result<FileJob<'a>, Error>
-    ensures { IfOk result (λ job. (found : Found) × IsJobIn found job) }
+pub fn parse_files<'a, F: Finder>(
+    alloc: Global,
+    finder: &F,
+    words: &'a [&'a str],
+) -> Result<FileJob<'a>, Error>
+    ensures asked { IfOk result (AsksForJob F.finds (map (λ word. word.now) words.now)) }
+    ensures none { IfErr result (λ error. (kind_of_error error ≡ ErrorKind.OutOfMemory) ⊎ AsksForNoJob F.finds F.refuses (map (λ word. word.now) words.now)) }
 {
     let form = CommandForm::Files;
-    let matches = matches_of(alloc, words, form)?;
+    let matches = finder.find(alloc, words, form)?;
     let Some((command, chosen)) = matches.subcommand() else {
         return Err(missing_command(alloc, form)?);
     };
@@ -135,7 +150,10 @@ pub fn parse_files<'a>(alloc: Global, words: &'a [&'a str]) -> Result<FileJob<'a
 }
 
 /// The name and the kind that are given.
-fn naming_in<'a>(chosen: &ArgMatches<'a>) -> Naming<'a> {
+fn naming_in<'a>(chosen: &ArgMatches<'a>) -> Naming<'a>
+    ensures name { name_given result ≡ first_value (found_of chosen.now) (codes "name") }
+    ensures kind { result.kind ≡ kind_given (found_of chosen.now) }
+{
     let kind = match chosen.get_str("kind") {
         Some(word) => Some(kind_of(Some(word))),
         None => None,
@@ -163,7 +181,8 @@ fn job_in<'a>(
     command: &str,
     chosen: &ArgMatches<'a>,
 ) -> Result<FileJob<'a>, WordsFault<'a>>
-    ensures { IfOk result (λ job. IsJobIn (found_of chosen.now) job) }
+    ensures job { IfOk result (IsJobIn command.now (found_of chosen.now)) }
+    ensures none { IfErr result (IsWordsFault command.now (found_of chosen.now)) }
 {
     match command {
         "check" => check_in(alloc, chosen),
@@ -176,27 +195,36 @@ fn job_in<'a>(
     }
 }
 
+/// How files are to be checked.
+fn options_in<'a>(chosen: &ArgMatches<'a>) -> CheckOptions<'a>
+    ensures { AreOptionsIn (found_of chosen.now) result }
+{
+    CheckOptions {
+        naming: naming_in(chosen),
+        allow_trailing: is_given(chosen.get_str("allow-trailing"), "true"),
+        format: report_format_of(chosen.get_str("format")),
+    }
+}
+
 /// The files that are to be checked.
 fn check_in<'a>(alloc: Global, chosen: &ArgMatches<'a>) -> Result<FileJob<'a>, WordsFault<'a>>
-    ensures { IfOk result (λ job. IsJobIn (found_of chosen.now) job) }
+    ensures job { IfOk result (IsJobIn (codes "check") (found_of chosen.now)) }
+    ensures none { IfErr result (λ fault. fault ≡ WordsFault.Memory) }
 {
-    let options = CheckOptions {
-        naming: naming_in(chosen),
-        allow_trailing: chosen.get_flag("allow-trailing"),
-        format: report_format_of(chosen.get_str("format")),
-    };
+    let options = options_in(chosen);
+    let found = chosen.get_strs("FILE").unwrap_or(&[]);
     let mut paths = Vec::new(alloc);
-    'paths: for path in chosen.get_strs("FILE").unwrap_or(&[]) {
-        if paths.push(*path).is_err() {
-            return Err(WordsFault::Memory);
-        }
+    if paths.extend_from_slice(found).is_err() {
+        return Err(WordsFault::Memory);
     }
     Ok(FileJob::Check { options, paths })
 }
 
 /// The request on the table at a path.
 fn table_job_in<'a>(command: &str, chosen: &ArgMatches<'a>) -> Result<FileJob<'a>, WordsFault<'a>>
-    ensures { IfOk result (λ job. IsJobIn (found_of chosen.now) job) }
+    requires { bytes_eq command.now (codes "build") ≡ false }
+    ensures job { IfOk result (IsJobIn command.now (found_of chosen.now)) }
+    ensures none { IfErr result (IsWordsFault command.now (found_of chosen.now)) }
 {
     let path = chosen.get_str("FILE").unwrap_or("");
     let Some((name, kind)) = named_as(naming_in(chosen), path) else {

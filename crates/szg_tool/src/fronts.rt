@@ -1,14 +1,15 @@
 //! Look-ups in a file by its front: the file is read and checked up to its blocks, and then at most one block.
 
-ghost use Rattle.std.specs.Prelude.{◌≡◌, ℕ, ◌+◌, ◌≤◌, ◌<◌, [], length, Ok, IfOk, IfSome, IfErr, IsErrOf, IsNone, IsSome, IsSomeAnd, Some, option_map, string_bytes, true};
+ghost use Rattle.std.specs.Prelude.{◌≡◌, ℕ, ◌+◌, ◌≤◌, ◌<◌, [], length, Ok, IfOk, IfSome, IfErr, IsErrOf, IsNone, IsSome, IsSomeAnd, Some, option_map, string_bytes, false, true};
 ghost use Rattle.szg_file.specs.Index.{slot_in};
 ghost use Rattle.szg_file.specs.Unread.{front_in};
 ghost use Rattle.szg_place.specs.Front.{as_number};
 ghost use Rattle.szg_place.specs.Spots.{place_fault, spot_of};
 ghost use Rattle.szg_place.specs.Tables.{class_of, numbering_in};
 ghost use Rattle.szg_tool.specs.Answers.{number_of_class, spot_line};
-ghost use Rattle.szg_tool.specs.Fronts.{AnswersIn, IsBadBlockAt, IsBlockRead, IsDecodedAt, IsFetchedIn, IsFrontTaken, IsLookUp, IsLookUpAnswer, IsLookUpRefused, IsMapRefusal, IsMeaningLine, IsUnopened, MeetsIn};
+ghost use Rattle.szg_tool.specs.Fronts.{AnswersIn, IsBadBlockAt, IsBlockRead, IsDecodedAt, IsFetchedIn, IsFrontTaken, IsLookUp, IsLookUpAnswer, IsLookUpRefused, IsMapRefusal, IsMeaningLine, IsUnfetched, IsUnhad, IsUnopened, MeetsIn};
 ghost use Rattle.szg_tool.specs.Refusals.{index_refusal, place_refusal};
+ghost use Rattle.szg_files.specs.declared.file_system.FileFault.{FileFault as Fault};
 ghost use Rattle.szg_tool.specs.declared.refusal.Refusal.{Refusal};
 
 use crate::placements::{class_line, spot_line};
@@ -55,7 +56,8 @@ impl From<AllocError> for LookUpStop {
 
 /// Whether an action is a look-up: it needs a table's front, and at most one block.
 pub fn is_look_up(action: &Action) -> bool
-    ensures { (result ≡ true) → IsLookUp action.now }
+    ensures yes { (result ≡ true) → IsLookUp action.now }
+    ensures no { (result ≡ false) → IsLookUp action.now → ⊥ }
 {
     matches!(
         action,
@@ -98,16 +100,18 @@ fn block_read<S: FileSystem>(
     read: u64,
     wanted: Option<Wanted>,
 ) -> Result<Vec<u8>, FileFault>
-    ensures { IfOk result (λ block. IsBlockRead S.File.Input file read wanted block.items) }
+    ensures block { IfOk result (λ block. IsBlockRead S.File.Input file read wanted block.items) }
+    ensures failed { IfErr result (λ fault. IsSomeAnd wanted (IsUnhad S.File.Input file read fault)) }
 {
     let mut block = Vec::new(alloc);
     let Some(Wanted { place, count }) = wanted else {
         return Ok(block);
     };
-    let (Some(skipped), Ok(length)) = (place.checked_sub(read), usize::try_from(count)) else {
+    if place < read {
         return Err(FileFault::System(ErrorKind::InvalidData.into()));
-    };
-    if block.resize(length, 0).is_err() {
+    }
+    let skipped = place - read;
+    if block.resize(count as usize, 0).is_err() {
         return Err(FileFault::Memory);
     }
     match read_range(system, file, skipped, &mut block) {
@@ -130,6 +134,7 @@ fn value_by<S: FileSystem>(
     requires size { opened.now.front.length ≡ opened.now.size }
     ensures value { IfOk result (λ value. IsFetchedIn S.File.Input file opened.now.front opened.now.read opened.now.size (λ content t. IsDecodedAt t spot.part spot.side spot.index value)) }
     ensures refused { (refusal : Refusal) → IsErrOf result (LookUpStop.Refused refusal) → IsFetchedIn S.File.Input file opened.now.front opened.now.read opened.now.size (λ content t. IsBadBlockAt content t spot.part spot.side spot.index refusal) }
+    ensures failed { (fault : Fault) → IsErrOf result (LookUpStop.Failed fault) → IsUnfetched S.File.Input file opened.now.front opened.now.read opened.now.size spot.part spot.side spot.index fault }
 {
     let front = &opened.front;
     let wanted = front.find(spot.part, spot.side, spot.index);
@@ -142,7 +147,7 @@ fn value_by<S: FileSystem>(
         Err(FetchFault::Block { number, offset }) => {
             Err(LookUpStop::Refused(Refusal::Block(number, offset)))
         }
-        // the block has the length that `find` returned
+        // no file has such a block: it has the length that `find` returned
         Err(FetchFault::Source) => {
             Err(LookUpStop::Failed(FileFault::System(ErrorKind::UnexpectedEof.into())))
         }

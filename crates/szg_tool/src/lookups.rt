@@ -1,6 +1,6 @@
 //! The commands that look values up.
 
-ghost use Rattle.std.specs.Prelude.{◌≡◌, ℕ, ◌<◌, List, ◌++◌, flat_map, Some, None, IsSome, IsSomeAnd, IfSome, IfErr, OnOk, OnErr, IfOk, Err, IsErrOf, replicate, string_bytes};
+ghost use Rattle.std.specs.Prelude.{◌≡◌, ◌⊎◌, ℕ, ◌<◌, List, ◌++◌, flat_map, Some, None, IsSome, IsSomeAnd, IfSome, IfErr, OnOk, OnErr, IfOk, Err, IsErrOf, replicate, string_bytes};
 ghost use Rattle.szg_io.specs.Device.{HasFailed};
 ghost use Rattle.szg_io.specs.Moved.{Gives};
 ghost use Rattle.szg_file.specs.Values.{subtable_at, values_of};
@@ -11,15 +11,12 @@ ghost use Rattle.szg_tool.specs.declared.refusal.Refusal.{Refusal};
 use crate::refusal::{Refusal, Stop};
 use crate::request::{Action, Request};
 use crate::saying::say;
-use itoa::Buffer;
+use crate::streaming::{add_lines, add_same};
 use std::alloc::{AllocError, Global};
 use szg_block::{Steps, Sub};
 use szg_file::Table;
 use szg_io::Output;
 use szg_values::Kind;
-
-/// How many bytes of values are written at a time, or a little more.
-const PIECE: usize = 65536;
 
 /// Whether the table has the index: `Part` where there is no such part or side, `Index` where it has fewer positions.
 pub fn check_index(table: &Table, request: &Request, index: u64) -> Result<(), Refusal>
@@ -93,6 +90,8 @@ pub fn tell_values<W: Output>(
     ensures told { OnOk result ((text : List ℕ) × IsAnswer Action.Values request.now.part request.now.side table.now text × Gives W.Output writer.old writer.new text 0) }
     ensures device { IsErrOf result Stop.Device → HasFailed (W.failures writer.old) (W.failures writer.new) (W.interrupted writer.new) }
     ensures refused { (refusal : Refusal) → IsErrOf result (Stop.Refused refusal) → (writer.new ≡ writer.old) × IsRefused Action.Values request.now.part request.now.side table.now.contents refusal }
+    // a beginning of the answer was written
+    ensures memory { IsErrOf result Stop.Memory → (writer.new ≡ writer.old) ⊎ ((text : List ℕ) × (rest : List ℕ) × IsAnswer Action.Values request.now.part request.now.side table.now (text ++ rest) × Gives W.Output writer.old writer.new text 0) }
 {
     let Some(size) = table.size(request.part, request.side) else {
         return Err(Stop::Refused(Refusal::Part));
@@ -122,12 +121,10 @@ fn say_same<W: Output>(alloc: Global, count: u64, value: u16, writer: &mut W) ->
     ensures given { OnOk result (Gives W.Output writer.old writer.new (flat_map number_line (replicate count value)) 0) }
     ensures device { IsErrOf result Stop.Device → HasFailed (W.failures writer.old) (W.failures writer.new) (W.interrupted writer.new) }
     ensures only { (refusal : Refusal) → IsErrOf result (Stop.Refused refusal) → ⊥ }
+    ensures memory { IsErrOf result Stop.Memory → (text : List ℕ) × (rest : List ℕ) × (text ++ rest ≡ flat_map number_line (replicate count value)) × Gives W.Output writer.old writer.new text 0 }
 {
     let mut text = Vec::new(alloc);
-    'values: for _done in 0..count {
-        add_line(&mut text, value)?;
-        say_piece(writer, &mut text)?;
-    }
+    add_same(&mut text, value, count, writer)?;
     say(writer, &text)
 }
 
@@ -136,34 +133,9 @@ fn say_lines<W: Output>(alloc: Global, values: &[u16], writer: &mut W) -> Result
     ensures given { OnOk result (Gives W.Output writer.old writer.new (flat_map number_line values.now) 0) }
     ensures device { IsErrOf result Stop.Device → HasFailed (W.failures writer.old) (W.failures writer.new) (W.interrupted writer.new) }
     ensures only { (refusal : Refusal) → IsErrOf result (Stop.Refused refusal) → ⊥ }
+    ensures memory { IsErrOf result Stop.Memory → (text : List ℕ) × (rest : List ℕ) × (text ++ rest ≡ flat_map number_line values.now) × Gives W.Output writer.old writer.new text 0 }
 {
     let mut text = Vec::new(alloc);
-    'values: for value in values {
-        add_line(&mut text, *value)?;
-        say_piece(writer, &mut text)?;
-    }
+    add_lines(&mut text, values, writer)?;
     say(writer, &text)
-}
-
-/// Adds a number on a line.
-fn add_line(text: &mut Vec<u8>, number: u16) -> Result<(), AllocError>
-    ensures { OnOk result (text.new.items ≡ text.old.items ++ number_line number) }
-{
-    text.extend_from_slice(Buffer::new().format(number).as_bytes())?;
-    Ok(text.push(b'\n')?)
-}
-
-/// Writes the text that is held where it is long enough, and then holds none.
-fn say_piece<W: Output>(writer: &mut W, text: &mut Vec<u8>) -> Result<(), Stop>
-    ensures given { OnOk result ((out : List ℕ) × Gives W.Output writer.old writer.new out 0 × (out ++ text.new.items ≡ text.old.items)) }
-    ensures failed { OnErr result (HasFailed (W.failures writer.old) (W.failures writer.new) (W.interrupted writer.new)) }
-    ensures device { OnErr result (result ≡ Err Stop.Device) }
-    ensures quiet { OnOk result (W.failures writer.new ≡ W.failures writer.old) }
-{
-    if text.len() < PIECE {
-        return Ok(());
-    }
-    say(writer, text)?;
-    text.clear();
-    Ok(())
 }

@@ -12,6 +12,7 @@ mod command_line;
 mod commands;
 mod description;
 mod file_words;
+mod finding;
 mod fronts;
 mod lookups;
 mod meant;
@@ -24,9 +25,11 @@ mod refusal;
 mod refusal_lines;
 mod request;
 mod saying;
+mod streaming;
 #[cfg(test)]
 mod tests;
 
+use finding::Clap;
 use meant::meant_name;
 use on_files::{Ending, FileFailure, run_words};
 use outcome::Outcome;
@@ -205,7 +208,15 @@ fn run_on_streams<'a, D: Files + Clock>(
     let mut disk = Disk::new(alloc, machine);
     let mut reader = Std::new(input);
     let mut output = Std::new(&mut writer);
-    let ending = run_words(alloc, texts, &mut disk, machine, &mut reader, &mut output);
+    let ending = run_words(
+        alloc,
+        &Clap,
+        texts,
+        &mut disk,
+        machine,
+        &mut reader,
+        &mut output,
+    );
     let flushed = writer.flush();
     let is_closed = match writer.get_ref().error() {
         Some(error) => error.kind() == io::ErrorKind::BrokenPipe,

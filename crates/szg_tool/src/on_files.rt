@@ -1,23 +1,26 @@
 //! Commands on files by their paths.
-ghost use Rattle.std.specs.Prelude.{◌≡◌, None, IfOk, IsErrOf, IfSome, map, option_map};
+ghost use Rattle.std.specs.Prelude.{◌≡◌, ◌⊎◌, None, Some, IfErr, IfOk, IsErrOf, IfSome, map, option_map};
 ghost use Rattle.szg_files.specs.Draft.{draft_target, published_target, published_text, text_of};
 ghost use Rattle.szg_io.specs.Device.{HasFailed};
 ghost use Rattle.szg_io.specs.Moved.{Gives};
 ghost use Rattle.szg_named.specs.Asked.{files_asked};
 ghost use Rattle.szg_named.specs.Verdicts.{IsReport, plain_options};
 ghost use Rattle.szg_tool.specs.Fronts.{IsLookUp};
-ghost use Rattle.szg_tool.specs.OnFiles.{AreChecked, EndsTask, EndsWell, HasDone, HasLookedUp, HasRefused, HasRefusedLookUp, IsCarriedFrom, IsCarriedTo, IsPublishedBy, MeetsFrom};
+ghost use Rattle.szg_tool.specs.OnFiles.{AreChecked, EndsTask, EndsWell, HasDoneTask, HasLookedUp, HasRefusedLookUp, HasRefusedTask, IsCarriedFrom, IsCarriedTo, IsListing, IsPublishedBy, IsShortOfMemory, IsStarted, IsStartedFrom, IsUnwritten, MeetsFrom};
 ghost use Rattle.szg_tool.specs.RefusalLines.{refusal_line};
 ghost use Rattle.szg_tool.specs.Requests.{Meets};
+ghost use Rattle.szg_tool.specs.declared.on_files.FileFailure.{FileFailure};
 ghost use Rattle.szg_tool.specs.declared.refusal.Refusal.{Refusal};
 
-use crate::commands::{carry_out, refuse, run, words_outcome};
+use crate::commands::{carry_out, refuse, run_by, words_outcome};
 use crate::file_words::{FileJob, names_files, parse_files};
+use crate::finding::Finder;
 use crate::fronts::{LookUpStop, answer_in};
 use crate::outcome::Outcome;
 use crate::refusal::{Refusal, Stop};
 use crate::request::{Request, Task};
 use crate::saying::say;
+use crate::streaming::{is_values, stream_from};
 use std::alloc::Global;
 use std::rt::Files;
 use std::time::Clock;
@@ -79,8 +82,9 @@ fn carry_out_into<'a, I: Input, R: Files>(
 }
 
 /// Why a file stops a task.
-fn failed(path: &str, fault: FileFault) -> FileStop<'_>
-    ensures { (refusal : Refusal) → (result ≡ FileStop.Refused refusal) → ⊥ }
+pub fn failed(path: &str, fault: FileFault) -> FileStop<'_>
+    ensures refused { (refusal : Refusal) → (result ≡ FileStop.Refused refusal) → ⊥ }
+    ensures memory { (result ≡ FileStop.Memory) → fault ≡ FileFault.Memory }
 {
     match fault {
         FileFault::Memory => FileStop::Memory,
@@ -126,6 +130,9 @@ fn carry_out_to<'a, I: Input, R: Files, W: Output>(
 ) -> Result<Option<Published<'a>>, FileStop<'a>>
     ensures told { IfOk result (λ published. IsCarriedTo I.Input W.Output task.now (option_map (λ path. path.now) target.entry) input.old input.new writer.old writer.new published) }
     ensures refused { (refusal : Refusal) → IsErrOf result (FileStop.Refused refusal) → (writer.new ≡ writer.old) × Meets I.Input task.now input.old input.new refusal }
+    ensures failed { (failure : FileFailure) → IsErrOf result (FileStop.Failed failure) → writer.new ≡ writer.old }
+    ensures device { IsErrOf result FileStop.Device → IsUnwritten W.Output writer.old writer.new }
+    ensures memory { IsErrOf result FileStop.Memory → IsStarted I.Input W.Output task.now input.old input.new writer.old writer.new }
 {
     match target {
         Some(target) => match carry_out_into(alloc, task, input, files, target) {
@@ -155,6 +162,9 @@ fn carry_out_from<'a, S: FileSystem, R: Files, W: Output>(
     ensures told { IfOk result (λ published. IsCarriedFrom S.content S.failures S.File.Input W.Output task.now source.now (option_map (λ path. path.now) target.entry) system.old system.new writer.old writer.new published) }
     ensures refused { (refusal : Refusal) → IsErrOf result (FileStop.Refused refusal) → (writer.new ≡ writer.old)
         × MeetsFrom S.content S.failures S.File.Input task.now source.now system.old system.new refusal }
+    ensures failed { (failure : FileFailure) → IsErrOf result (FileStop.Failed failure) → IsUnwritten W.Output writer.old writer.new }
+    ensures device { IsErrOf result FileStop.Device → IsUnwritten W.Output writer.old writer.new }
+    ensures memory { IsErrOf result FileStop.Memory → IsStartedFrom S.content S.failures S.File.Input W.Output task.now source.now system.old system.new writer.old writer.new }
 {
     let mut file = match system.open(source) {
         Ok(file) => file,
@@ -170,6 +180,37 @@ fn carry_out_from<'a, S: FileSystem, R: Files, W: Output>(
         Err(FileStop::Failed(failure)) => Err(FileStop::Failed(failure)),
         Err(FileStop::Memory) => Err(FileStop::Memory),
     }
+}
+
+/// Carries a task out on the file at `source`, as `carry_out_from`. Values for `writer` are written while the file is read.
+fn carry_out_file<'a, S: FileSystem, R: Files, W: Output>(
+    alloc: Global,
+    task: &Task,
+    source: &'a str,
+    target: Option<&'a str>,
+    system: &mut S,
+    files: &'a R,
+    writer: &mut W,
+) -> Result<Option<Published<'a>>, FileStop<'a>>
+where
+    S::File: Ahead,
+    ensures told { IfOk result (λ published. IsCarriedFrom S.content S.failures S.File.Input W.Output task.now source.now (option_map (λ path. path.now) target.entry) system.old system.new writer.old writer.new published) }
+    ensures refused { (refusal : Refusal) → IsErrOf result (FileStop.Refused refusal) → (writer.new ≡ writer.old)
+        × MeetsFrom S.content S.failures S.File.Input task.now source.now system.old system.new refusal }
+    // where values are written while the file is read, a part of them may be written then
+    ensures failed { (failure : FileFailure) → IsErrOf result (FileStop.Failed failure) → IsListing task.now (Some source.now) target.entry ⊎ IsUnwritten W.Output writer.old writer.new }
+    ensures device { IsErrOf result FileStop.Device → IsListing task.now (Some source.now) target.entry ⊎ IsUnwritten W.Output writer.old writer.new }
+    ensures memory { IsErrOf result FileStop.Memory → IsListing task.now (Some source.now) target.entry ⊎ IsStartedFrom S.content S.failures S.File.Input W.Output task.now source.now system.old system.new writer.old writer.new }
+{
+    if let (Task::OnTable(request), None) = (task, target) {
+        if is_values(&request.action) {
+            return match stream_from(alloc, request, source, system, writer) {
+                Ok(()) => Ok(None),
+                Err(stop) => Err(stop),
+            };
+        }
+    }
+    carry_out_from(alloc, task, source, target, system, files, writer)
 }
 
 /// How a command line ended.
@@ -193,7 +234,8 @@ pub enum Ending<'a> {
 
 /// Writes why a task that names files is refused.
 fn refused<'a, W: Output>(alloc: Global, refusal: Refusal, writer: &mut W) -> Ending<'a>
-    ensures { EndsTask result (λ published. ⊥) (Gives W.Output writer.old writer.new (refusal_line refusal) 0) }
+    ensures { EndsTask result (λ published. ⊥) (Gives W.Output writer.old writer.new (refusal_line refusal) 0)
+        (HasFailed (W.failures writer.old) (W.failures writer.new) (W.interrupted writer.new)) (writer.new ≡ writer.old) }
 {
     match refuse(alloc, refusal, writer) {
         Outcome::Refused => Ending::Refused,
@@ -212,10 +254,14 @@ fn run_from<'a, S: FileSystem, D: Files, W: Output>(
     files: &'a D,
     writer: &mut W,
 ) -> Ending<'a>
+where
+    S::File: Ahead,
     ensures { EndsTask result (λ published. IsCarriedFrom S.content S.failures S.File.Input W.Output task.now source.now (option_map (λ path. path.now) target.entry) system.old system.new writer.old writer.new published)
-        ((refusal : Refusal) × MeetsFrom S.content S.failures S.File.Input task.now source.now system.old system.new refusal × Gives W.Output writer.old writer.new (refusal_line refusal) 0) }
+        ((refusal : Refusal) × MeetsFrom S.content S.failures S.File.Input task.now source.now system.old system.new refusal × Gives W.Output writer.old writer.new (refusal_line refusal) 0)
+        (IsListing task.now (Some source.now) target.entry ⊎ IsUnwritten W.Output writer.old writer.new)
+        (IsListing task.now (Some source.now) target.entry ⊎ IsStartedFrom S.content S.failures S.File.Input W.Output task.now source.now system.old system.new writer.old writer.new) }
 {
-    match carry_out_from(alloc, task, source, target, system, files, writer) {
+    match carry_out_file(alloc, task, source, target, system, files, writer) {
         Ok(published) => Ending::Done(published),
         Err(FileStop::Refused(refusal)) => refused(alloc, refusal, writer),
         Err(FileStop::Failed(failure)) => Ending::Failed(failure),
@@ -234,7 +280,8 @@ fn run_to<'a, R: Input, D: Files, W: Output>(
     writer: &mut W,
 ) -> Ending<'a>
     ensures { EndsTask result (λ published. IsCarriedTo R.Input W.Output task.now (option_map (λ path. path.now) target.entry) reader.old reader.new writer.old writer.new published)
-        ((refusal : Refusal) × Meets R.Input task.now reader.old reader.new refusal × Gives W.Output writer.old writer.new (refusal_line refusal) 0) }
+        ((refusal : Refusal) × Meets R.Input task.now reader.old reader.new refusal × Gives W.Output writer.old writer.new (refusal_line refusal) 0)
+        (IsUnwritten W.Output writer.old writer.new) (IsStarted R.Input W.Output task.now reader.old reader.new writer.old writer.new) }
 {
     match carry_out_to(alloc, task, reader, files, target, writer) {
         Ok(published) => Ending::Done(published),
@@ -256,8 +303,12 @@ fn run_task<'a, R: Input, W: Output, S: FileSystem, D: Files>(
     reader: &mut R,
     writer: &mut W,
 ) -> Ending<'a>
-    ensures { EndsTask result (HasDone S.content S.failures S.File.Input R.Input W.Output system.old system.new reader.old reader.new writer.old writer.new)
-        (HasRefused S.content S.failures S.File.Input R.Input W.Output system.old system.new reader.old reader.new writer.old writer.new) }
+where
+    S::File: Ahead,
+    ensures { EndsTask result (HasDoneTask S.content S.failures S.File.Input R.Input W.Output task.now source.entry target.entry system.old system.new reader.old reader.new writer.old writer.new)
+        (HasRefusedTask S.content S.failures S.File.Input R.Input W.Output task.now source.entry system.old system.new reader.old reader.new writer.old writer.new)
+        (IsListing task.now source.entry target.entry ⊎ IsUnwritten W.Output writer.old writer.new)
+        (IsListing task.now source.entry target.entry ⊎ IsShortOfMemory S.content S.failures S.File.Input R.Input W.Output task.now source.entry system.old system.new reader.old reader.new writer.old writer.new) }
 {
     match source {
         Some(source) => run_from(alloc, task, source, target, system, files, writer),
@@ -267,7 +318,7 @@ fn run_task<'a, R: Input, W: Output, S: FileSystem, D: Files>(
 
 /// How a look-up ends where its file fails.
 fn failed_ending(path: &str, fault: FileFault) -> Ending<'_>
-    ensures { EndsTask result (λ published. ⊥) ⊥ }
+    ensures { EndsTask result (λ published. ⊥) ⊥ (fault ≡ FileFault.Memory → ⊥) (fault ≡ FileFault.Memory) }
 {
     match fault {
         FileFault::Memory => Ending::Memory,
@@ -285,7 +336,8 @@ fn run_look_up<'a, S: FileSystem, W: Output>(
 ) -> Ending<'a>
     requires { IsLookUp request.now.action }
     ensures { EndsTask result (λ published. (published ≡ None) × HasLookedUp S.content S.failures S.File.Input W.Output request.now source.now system.old system.new writer.old writer.new)
-        (HasRefusedLookUp S.content S.failures S.File.Input W.Output request.now source.now system.old system.new writer.old writer.new) }
+        (HasRefusedLookUp S.content S.failures S.File.Input W.Output request.now source.now system.old system.new writer.old writer.new)
+        (IsUnwritten W.Output writer.old writer.new) (writer.new ≡ writer.old) }
 {
     let file = match system.open(source) {
         Ok(file) => file,
@@ -301,28 +353,11 @@ fn run_look_up<'a, S: FileSystem, W: Output>(
     }
 }
 
-/// Runs a look-up of a command line in the file at `source`. The reader stays.
-fn run_by_front<'a, R: Input, S: FileSystem, W: Output>(
-    alloc: Global,
-    request: &Request,
-    source: &'a str,
-    system: &mut S,
-    reader: &mut R,
-    writer: &mut W,
-) -> Ending<'a>
-    requires { IsLookUp request.now.action }
-    ensures stays { reader.new ≡ reader.old }
-    ensures ending { EndsTask result (HasDone S.content S.failures S.File.Input R.Input W.Output system.old system.new reader.old reader.new writer.old writer.new)
-        (HasRefused S.content S.failures S.File.Input R.Input W.Output system.old system.new reader.old reader.new writer.old writer.new) }
-{
-    run_look_up(alloc, request, source, system, writer)
-}
-
 /// Runs a command line: on the files of a system where it names these, else on the reader. Of the machine it writes files,
 /// and reads the clock.
-#[tactic(auto, using(crate::proofs::Endings::ends_well))]
-pub fn run_words<'a, R: Input, W: Output, S: FileSystem, D: Files + Clock>(
+pub fn run_words<'a, P: Finder, R: Input, W: Output, S: FileSystem, D: Files + Clock>(
     alloc: Global,
+    finder: &P,
     words: &'a [&'a str],
     system: &mut S,
     machine: &'a D,
@@ -336,16 +371,16 @@ where
     ensures files { IfSome (files_asked (map (λ word. word.now) words.now)) (λ paths. (reader.new ≡ reader.old)
         × AreChecked result (IsReport S.content S.failures S.File.Input W.Output plain_options paths system.old system.new writer.old writer.new) (HasFailed (W.failures writer.old) (W.failures writer.new) (W.interrupted writer.new))) }
     // Whatever the words: what was done is what the ending says.
-    ensures ending { EndsWell S.content S.failures S.File.Input R.Input W.Output result system.old system.new reader.old reader.new writer.old writer.new }
+    ensures ending { EndsWell P.finds P.refuses S.content S.failures S.File.Input R.Input W.Output (map (λ word. word.now) words.now) result system.old system.new reader.old reader.new writer.old writer.new }
 {
     if let Some(paths) = files_asked(words) {
         let options = CheckOptions::plain();
         return Ending::Checked(check_files(alloc, system, machine, options, paths, writer));
     }
     if !names_files(words) {
-        return Ending::Words(run(alloc, words, reader, writer));
+        return Ending::Words(run_by(alloc, finder, words, reader, writer));
     }
-    match parse_files(alloc, words) {
+    match parse_files(alloc, finder, words) {
         Ok(FileJob::Check { options, paths }) => {
             Ending::Checked(check_files(alloc, system, machine, options, &paths, writer))
         }
@@ -359,7 +394,7 @@ where
             alloc, &task, source, target, system, machine, reader, writer,
         ),
         Ok(FileJob::LookUp { request, source }) => {
-            run_by_front(alloc, &request, source, system, reader, writer)
+            run_look_up(alloc, &request, source, system, writer)
         }
         Err(error) => Ending::Words(words_outcome(error)),
     }

@@ -1,11 +1,13 @@
-ghost use Rattle.std.specs.Prelude.{◌≡◌, ◌⊎◌, true, false, ℕ, List, IfOk, Some, codes, map, option_map};
+ghost use Rattle.std.specs.Prelude.{◌≡◌, ◌⊎◌, true, false, IfErr, IfOk, IsNone, MatchOption, Some, codes, map, option_map};
 ghost use Rattle.clap.specs.Matches.{first_value, found_of};
-ghost use Rattle.clap.specs.declared.parser.matches.Found.{Found};
+ghost use Rattle.clap.specs.Values.{kind_of as kind_of_error};
 ghost use Rattle.szg_tool.specs.Answers.{number_of_class, number_of_form};
 ghost use Rattle.szg_tool.specs.Asked.{IsActionOf, IsActionOnMen, IsPackingIn, IsRequestIn, IsRequestOn, IsTaskIn, action_of_men, action_told, look_up_told, names_men, words_of};
+ghost use Rattle.szg_tool.specs.Chosen.{AsksFor, AsksForNone, line_of, has_numbers, has_sizes, has_table_numbers, has_unused, is_given as is_typed};
 ghost use Rattle.szg_tool.specs.Words.{is_word, class_told, form_told, kind_told, mover_told, number_from, part_told, side_told, word_of};
 
 use crate::command_line::{CommandForm, command_of, program};
+use crate::finding::Finder;
 use crate::men::placement_in;
 use crate::numbers::{
     BLOCK, FORM, INDEX, NumberArgument, NumberFault, ROUNDS, SIDE, SPAN, number_of,
@@ -128,20 +130,22 @@ pub struct Request<'a> {
 /// The program's name, where no word is given.
 static ALONE: [&str; 1] = ["szg"];
 
-/// The end of `clap`'s texts of errors.
-const HINT: &str = "\n\nFor more information, try '--help'.\n";
-
 /// The letters of the parts.
 pub static PARTS: [&str; 4] = ["a", "b", "c", "d"];
 
-/// What a command line on the standard streams asks for. Which word is which argument's value, `clap` decides: the task is
-/// that of the command and the values that `clap` found.
-pub fn parse<'a>(alloc: Global, words: &'a [&'a str]) -> Result<Task<'a>, Error>
-    ensures { IfOk result (λ task. (command : List ℕ) × (found : Found) × IsTaskIn command found task) }
+/// What a command line on the standard streams asks for. Which word is which argument's value, the finder decides: the
+/// task is that of the command and the values that it finds.
+pub fn parse<'a, F: Finder>(
+    alloc: Global,
+    finder: &F,
+    words: &'a [&'a str],
+) -> Result<Task<'a>, Error>
+    ensures asked { IfOk result (AsksFor F.finds (map (λ word. word.now) words.now)) }
+    ensures none { IfErr result (λ error. (kind_of_error error ≡ ErrorKind.OutOfMemory) ⊎ AsksForNone F.finds F.refuses (map (λ word. word.now) words.now)) }
 {
-    let words = if words.is_empty() { &ALONE[..] } else { words };
+    let words = line_of(words);
     let form = CommandForm::Streams;
-    let matches = matches_of(alloc, words, form)?;
+    let matches = finder.find(alloc, words, form)?;
     let Some((command, chosen)) = matches.subcommand() else {
         return Err(missing_command(alloc, form)?);
     };
@@ -154,47 +158,16 @@ pub fn parse<'a>(alloc: Global, words: &'a [&'a str]) -> Result<Task<'a>, Error>
     }
 }
 
-/// The words by the commands of a form.
-pub fn matches_of<'a>(
-    alloc: Global,
-    words: &'a [&'a str],
-    form: CommandForm,
-) -> Result<ArgMatches<'a>, Error> {
-    match program(alloc, form)?.try_get_matches_from(words) {
-        Ok(matches) => Ok(matches),
-        Err(error) => Err(with_usage(alloc, words, form, error)?),
-    }
+/// The words, or the program's name if there is none.
+fn line_of<'a>(words: &'a [&'a str]) -> &'a [&'a str]
+    ensures { map (λ word. word.now) result.now ≡ line_of (map (λ word. word.now) words.now) }
+{
+    if words.is_empty() { &ALONE } else { words }
 }
 
 /// The error of words that have no command.
 pub fn missing_command(alloc: Global, form: CommandForm) -> Result<Error, AllocError> {
     program(alloc, form)?.error(ErrorKind::MissingSubcommand, "a command is missing")
-}
-
-/// An error of a word that is none of its argument's values, with its command's usage, which `clap` leaves out; any
-/// other error as it is.
-fn with_usage(
-    alloc: Global,
-    words: &[&str],
-    form: CommandForm,
-    error: Error,
-) -> Result<Error, AllocError> {
-    if !matches!(error.kind(), ErrorKind::InvalidValue) {
-        return Ok(error);
-    }
-    let text = format!(in alloc; "{error}")?;
-    let Some(message) = message_in(text.as_str()) else {
-        return Ok(error);
-    };
-    match words.get(1) {
-        Some(command) => usage_error(alloc, command, form, ErrorKind::InvalidValue, message),
-        None => Ok(error),
-    }
-}
-
-/// The message in an error's text, between its first word and the hint at its end.
-fn message_in(text: &str) -> Option<&str> {
-    text.strip_prefix("error: ")?.strip_suffix(HINT)
 }
 
 /// Creates the error of a word that is none of its argument's numbers.
@@ -240,18 +213,31 @@ pub fn is_given(given: Option<&str>, word: &str) -> bool
     }
 }
 
+/// Whether an argument's value is among the words, and no default.
+fn is_typed(chosen: &ArgMatches<'_>, argument: &str) -> bool
+    ensures { result ≡ is_typed (found_of chosen.now) argument.now }
+{
+    matches!(
+        chosen.value_source(argument),
+        Some(ValueSource::CommandLine)
+    )
+}
+
 /// Returns the first number of a fixed plan that is given with a small plan.
-pub fn unused_by_plan(chosen: &ArgMatches<'_>) -> Option<NumberArgument> {
+pub fn unused_by_plan(chosen: &ArgMatches<'_>) -> Option<NumberArgument>
+    ensures { MatchOption result (has_unused (found_of chosen.now) ≡ false) (λ argument. has_unused (found_of chosen.now) ≡ true) }
+{
     if !is_small(chosen) {
         return None;
     }
-    for argument in [BLOCK, SPAN, ROUNDS] {
-        if matches!(
-            chosen.value_source(argument.id),
-            Some(ValueSource::CommandLine)
-        ) {
-            return Some(argument);
-        }
+    if is_typed(chosen, "block") {
+        return Some(BLOCK);
+    }
+    if is_typed(chosen, "span") {
+        return Some(SPAN);
+    }
+    if is_typed(chosen, "rounds") {
+        return Some(ROUNDS);
     }
     None
 }
@@ -289,7 +275,8 @@ pub fn usage_error(
 
 /// The task that a command and its words make.
 fn task_in<'a>(command: &str, chosen: &ArgMatches<'a>) -> Result<Task<'a>, NumberFault<'a>>
-    ensures { IfOk result (λ task. IsTaskIn command.now (found_of chosen.now) task) }
+    ensures task { IfOk result (IsTaskIn command.now (found_of chosen.now)) }
+    ensures none { IfErr result (λ fault. has_numbers command.now (found_of chosen.now) ≡ false) }
 {
     if command == "build" {
         return Ok(Task::Build(packing_in(chosen)?));
@@ -299,7 +286,8 @@ fn task_in<'a>(command: &str, chosen: &ArgMatches<'a>) -> Result<Task<'a>, Numbe
 
 /// Returns the packing that the words ask for.
 pub fn packing_in<'a>(chosen: &ArgMatches<'a>) -> Result<Packing, NumberFault<'a>>
-    ensures { IfOk result (λ packing. IsPackingIn (found_of chosen.now) packing) }
+    ensures packing { IfOk result (IsPackingIn (found_of chosen.now)) }
+    ensures none { IfErr result (λ fault. (is_word (first_value (found_of chosen.now) (codes "plan")) (codes "small") ≡ false) × (has_sizes (found_of chosen.now) ≡ false)) }
 {
     if is_small(chosen) {
         return Ok(Packing::Small);
@@ -312,6 +300,7 @@ pub fn sizes_in<'a>(chosen: &ArgMatches<'a>) -> Result<Sizes, NumberFault<'a>>
     ensures block { IfOk result (λ sizes. number_from 5 10 (word_of (found_of chosen.now) (codes "block")) ≡ Some sizes.block_bits) }
     ensures span { IfOk result (λ sizes. number_from 1 16 (word_of (found_of chosen.now) (codes "span")) ≡ Some sizes.span_bits) }
     ensures rounds { IfOk result (λ sizes. number_from 0 4000 (word_of (found_of chosen.now) (codes "rounds")) ≡ Some sizes.rounds) }
+    ensures none { IfErr result (λ fault. has_sizes (found_of chosen.now) ≡ false) }
 {
     Ok(Sizes {
         block_bits: number_of(chosen, BLOCK)? as u8,
@@ -327,6 +316,7 @@ fn request_in<'a>(command: &str, chosen: &ArgMatches<'a>) -> Result<Request<'a>,
     ensures part { IfOk result (λ request. request.part ≡ part_told (first_value (found_of chosen.now) (codes "part"))) }
     ensures side { IfOk result (λ request. side_told command.now (found_of chosen.now) ≡ Some request.side) }
     ensures action { IfOk result (λ request. IsActionOf command.now (found_of chosen.now) request.action) }
+    ensures none { IfErr result (λ fault. has_table_numbers command.now (found_of chosen.now) ≡ false) }
 {
     let name = chosen.get_str("NAME").unwrap_or("");
     request_on(command, chosen, name, kind_of(chosen.get_str("KIND")))
@@ -344,6 +334,7 @@ pub fn request_on<'a>(
     ensures part { IfOk result (λ request. request.part ≡ part_told (first_value (found_of chosen.now) (codes "part"))) }
     ensures side { IfOk result (λ request. side_told command.now (found_of chosen.now) ≡ Some request.side) }
     ensures action { IfOk result (λ request. IsActionOf command.now (found_of chosen.now) request.action) }
+    ensures none { IfErr result (λ fault. has_table_numbers command.now (found_of chosen.now) ≡ false) }
 {
     let action = action_in(command, chosen)?;
     let side = side_in(command, chosen)?;
@@ -358,7 +349,8 @@ pub fn request_on<'a>(
 
 /// The side that is asked, 0 for a command that asks for none.
 fn side_in<'a>(command: &str, chosen: &ArgMatches<'a>) -> Result<u8, NumberFault<'a>>
-    ensures { IfOk result (λ side. side_told command.now (found_of chosen.now) ≡ Some side) }
+    ensures side { IfOk result (λ side. side_told command.now (found_of chosen.now) ≡ Some side) }
+    ensures none { IfErr result (λ fault. IsNone (side_told command.now (found_of chosen.now))) }
 {
     match command {
         "get" | "values" | "placement" => Ok(number_of(chosen, SIDE)? as u8),
@@ -368,7 +360,8 @@ fn side_in<'a>(command: &str, chosen: &ArgMatches<'a>) -> Result<u8, NumberFault
 
 /// What a command asks of a table.
 fn action_in<'a>(command: &str, chosen: &ArgMatches<'a>) -> Result<Action, NumberFault<'a>>
-    ensures { IfOk result (λ action. IsActionOf command.now (found_of chosen.now) action) }
+    ensures action { IfOk result (IsActionOf command.now (found_of chosen.now)) }
+    ensures none { IfErr result (λ fault. (names_men command.now ≡ false) × IsNone (action_told command.now (found_of chosen.now))) }
 {
     if names_men(command) {
         return Ok(action_on_men(command, chosen));
@@ -385,7 +378,8 @@ fn names_men(command: &str) -> bool
 
 /// What a command asks of a table, where it names no men.
 fn action_without_men<'a>(command: &str, chosen: &ArgMatches<'a>) -> Result<Action, NumberFault<'a>>
-    ensures { IfOk result (λ action. action_told command.now (found_of chosen.now) ≡ Some action) }
+    ensures action { IfOk result (λ action. action_told command.now (found_of chosen.now) ≡ Some action) }
+    ensures none { IfErr result (λ fault. IsNone (action_told command.now (found_of chosen.now))) }
 {
     Ok(match command {
         "check" => Action::Check,

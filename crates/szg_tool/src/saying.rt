@@ -27,6 +27,7 @@ pub fn say_line<W: Output>(writer: &mut W, line: Result<String, Stop>) -> Result
     ensures given { OnOk result (IsOkAnd line (λ text. Gives W.Output writer.old writer.new (string_bytes text) 0)) }
     ensures device { IsErrOf result Stop.Device → HasFailed (W.failures writer.old) (W.failures writer.new) (W.interrupted writer.new) }
     ensures refused { (refusal : Refusal) → IsErrOf result (Stop.Refused refusal) → (writer.new ≡ writer.old) × IsErrOf line (Stop.Refused refusal) }
+    ensures memory { IsErrOf result Stop.Memory → writer.new ≡ writer.old }
 {
     let line = line?;
     say(writer, line.as_bytes())

@@ -9,3 +9,6 @@ pub mod AllNames
 pub mod Sound
 pub mod TooMany
 pub mod MenKeys
+pub mod Stood
+pub mod Barred
+pub mod Complete

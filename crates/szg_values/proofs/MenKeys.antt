@@ -1,7 +1,7 @@
 -- A key holds the number of kings of each colour.
 use Rattle.std.proofs.Common.{◌≡◌, ℕ, ◌+◌, ◌*◌, ◌/◌, ◌%◌, ◌^◌, ◌<◌, ◌≤◌, List, [], ◌∷◌, length, get_or, take, ◌++◌, refl, sym, ap, ◌∙◌, Bool, true, false, cond, arith}
 use Rattle.std.specs.Prelude.{◌==◌, ◌&&◌, count_by, slice_index}
-use Rattle.std.proofs.lemmas.Bool.{eqb-true, and_parts}
+use Rattle.std.proofs.lemmas.Bool.{eqb-true, eq-eqb, and_parts, and_from}
 use Rattle.std.proofs.lemmas.List.Sums.{sum_by-cons, sum_by-append, count_by-le-length}
 use Rattle.std.proofs.lemmas.List.{take_more}
 use Rattle.szg_values.specs.Men.{is_man, is_color}
@@ -107,6 +107,20 @@ kings_told men few e =
     let z = split_key (men_key men) p.low p.white p.between p.black h.key (omega (arith, l, few)) (omega (arith, m, few)) (omega (arith, w, c, few))
     (eqb-true (men_key men / 262144 % 8) 1 t.0) (eqb-true (men_key men / 4398046511104) 1 t.1) in
     (sym h.white ∙ z.0, sym h.black ∙ z.1)
+
+split_back : (key low w b k : ℕ) → key ≡ low + 262144 * w + 2097152 * b + 4398046511104 * k → low ≤ 196608 → b ≤ 1572864 → w ≡ 1 → k ≡ 1 → (key / 262144 % 8 ≡ 1) × (key / 4398046511104 ≡ 1)
+split_back key low w b k e l m f g =
+    let q : key / 262144 ≡ w + 8 * b + 16777216 * k = omega arith in
+    (omega (arith, q, g, f), omega (arith, e, l, m, f, g))
+
+-- the key of men with a king of each colour
+pub kings_kept : (men : List PlacedMan) → length men ≤ 6 → number_of King White men ≡ 1 → number_of King Black men ≡ 1 →
+    (men_key men / 262144 % 8 == 1 && men_key men / 4398046511104 == 1) ≡ true
+kings_kept men few white black =
+    let r = men_are men in let p = r.0 in let h = r.1 in
+    let l = h.low in let m = h.between in
+    let z = split_back (men_key men) p.low p.white p.between p.black h.key (omega (arith, l, few)) (omega (arith, m, few)) (h.white ∙ white) (h.black ∙ black) in
+    and_from (men_key men / 262144 % 8 == 1) (men_key men / 4398046511104 == 1) (eq-eqb (men_key men / 262144 % 8) 1 z.0) (eq-eqb (men_key men / 4398046511104) 1 z.1)
 
 -- one man more
 pub key_more : (men : List PlacedMan) (i : ℕ) (s : PlacedMan) → i < length men → s ≡ get_or men i s → (key one : ℕ) → key ≡ men_key (take i men) → one ≡ 8 ^ colored_code s.0 s.1 →

@@ -1,4 +1,4 @@
--- The list of all materials: every two sides of a king and other men that are a material.
+-- The list of all materials: all pairs of sides, each a king and other men, that are a material.
 use Rattle.std.specs.Prelude.{ℕ, zero, suc, List, [], ◌∷◌, map, flat_map, filter}
 use Rattle.szg_values.specs.Material.{Sides, is_material}
 use Rattle.szg_values.specs.declared.Man.{Man}

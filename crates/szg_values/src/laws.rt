@@ -12,7 +12,7 @@ pub fn placement_has_material()
     ensures { LawMaterialOf }
 {}
 
-/// A side of a material has as many men of each kind as its part of the name has letters of that kind.
+/// For each kind, the number of men of a side is the number of the kind's letters in the side's part of the name.
 pub fn name_letters()
     ensures { LawNameLetters }
 {}

@@ -17,6 +17,8 @@ mod parsing;
 mod placements;
 mod squares;
 
+pub use placements::{man_key, with_man};
+
 /// The greatest number of men of a material.
 pub const MAX_MEN: usize = 6;
 

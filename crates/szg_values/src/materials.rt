@@ -1,4 +1,4 @@
-//! The calls of a material.
+//! The methods of a material.
 
 ghost use Rattle.std.specs.Prelude.{◌≡◌, ◌↔◌, ◌≤◌, ◌+◌, ◌==◌, ◌&&◌, not, ◌++◌, IsTrue, length, map};
 ghost use Rattle.szg_values.specs.Men.{code_of, letter_of};
@@ -82,8 +82,8 @@ impl Material {
         0 < self.first_pawns() + self.second_pawns()
     }
 
-    /// Returns the number of pawns of the lead colour: the side with fewer pawns but not none, or the first side on
-    /// a tie. 0 without pawns.
+    /// Returns the number of pawns of the lead colour: that of the side with fewer pawns, but at least one, or of
+    /// the first side if both have the same number. 0 without pawns.
     pub fn lead_pawns(&self) -> u8
         ensures { result ≡ lead_pawns self.now }
     {

@@ -1,10 +1,11 @@
 //! Placements: men on squares, and the side to move.
 
-ghost use Rattle.std.specs.Prelude.{◌≡◌, ◌≢◌, ℕ, IsTrue, ◌<◌, ◌≤◌, ◌+◌, ◌&&◌, ◌||◌, ◌++◌, ◌==◌, ◌/◌, ◌%◌, ◌^◌, length, replicate, None, IsNone, IfSome, IfOk, Ok, Err};
+ghost use Rattle.std.specs.Prelude.{◌≡◌, ◌≢◌, ℕ, IsTrue, true, false, ◌<◌, ◌≤◌, ◌+◌, ◌&&◌, ◌||◌, ◌++◌, ◌==◌, ◌/◌, ◌%◌, ◌^◌, length, replicate, Some, None, IsNone, IsSome, IfSome, IfOk, Ok, Err};
 ghost use Rattle.std.specs.List.{list_any};
 ghost use Rattle.arrayvec.specs.ArrayVec.{array_vec_len};
 ghost use Rattle.szg_values.specs.Men.{is_man, is_color, rank_of};
-ghost use Rattle.szg_values.specs.Placement.{AreOnBoard, colored_code, men_key, placement_fault, material_of, number_of, has_men, has_distinct_squares, has_pawns_on_inner_ranks, is_taken, side_of};
+ghost use Rattle.szg_values.specs.Material.{is_count};
+ghost use Rattle.szg_values.specs.Placement.{AreOnBoard, AreStanding, colored_code, is_barred, men_key, placement_fault, material_of, number_of, has_men, has_distinct_squares, has_pawns_on_inner_ranks, is_taken, side_of};
 
 use crate::materials::{NAME_ORDER, may_be_first};
 use crate::men::is_count;
@@ -43,6 +44,26 @@ impl Placement {
         }
     }
 
+    /// Creates a placement of men that stand on squares of the board, each put there by [`with_man`], and of their key. None
+    /// if there aren't three to six of them, with exactly one king of each colour.
+    #[inline(always)]
+    pub fn of_standing(
+        men: ArrayVec<(Man, Color, Square), 6>,
+        mover: Color,
+        key: u64,
+    ) -> Option<Placement>
+        requires standing { AreStanding men.items }
+        requires key { key ≡ men_key men.items }
+        ensures accepted { IsNone (placement_fault men.items) → result ≡ Some (record { placed_men = men.items; mover = mover }) }
+        ensures refused { IsSome (placement_fault men.items) → result ≡ None }
+    {
+        if are_complete(men.len(), key) {
+            Some(Placement { men, mover, key })
+        } else {
+            None
+        }
+    }
+
     /// Returns the men in the order given. They have no fault, and are on squares of the board.
     pub fn men(&self) -> &[(Man, Color, Square)]
         ensures men { result.now ≡ self.now.placed_men }
@@ -74,7 +95,7 @@ impl Placement {
         self.mover
     }
 
-    /// The number of men of each kind and colour, as one number: each code has a digit of base 8.
+    /// Returns the number of men of each kind and colour as one number: it has a digit of base 8 for each man code.
     pub fn key(&self) -> u64
         ensures { result ≡ men_key self.now.placed_men }
     {
@@ -82,7 +103,7 @@ impl Placement {
     }
 }
 
-/// Returns the key of men that have no fault, by a single pass. Errors: the first fault of the men.
+/// Returns the key of men that have no fault, in a single pass over the men. Errors: the first fault of the men.
 #[tactic(auto, unfolding(crate::specs::Placement::placement_fault))]
 fn checked_key(men: &[(Man, Color, Square)]) -> Result<u64, PlacementFault>
     ensures accepted { IsNone (placement_fault men.now) → result ≡ Ok (men_key men.now) }
@@ -104,8 +125,8 @@ fn checked_key(men: &[(Man, Color, Square)]) -> Result<u64, PlacementFault>
     Ok(key_of(men))
 }
 
-/// Returns the key of men that have no fault. None if they have one. A call of its own, so that the list is filled in
-/// memory.
+/// Returns the key of men that have no fault. None if they have one. It is not inlined, so that the caller fills its
+/// list in memory.
 #[inline(never)]
 fn sound_key(men: &[(Man, Color, Square)]) -> Option<u64>
     ensures no_fault { IfSome result (λ key. placement_fault men.now ≡ None) }
@@ -118,24 +139,27 @@ fn sound_key(men: &[(Man, Color, Square)]) -> Option<u64>
     let mut taken = 0;
     let mut key = 0;
     for man in men {
-        let square = man.2.number();
-        if is_taken(taken, square) || is_pawn_on_outer_rank(man.0, man.2) {
-            return None;
-        }
-        taken = with_square(taken, square);
+        taken = with_man(taken, man.0, man.2)?;
         key += man_key(man.0, man.1);
     }
     if has_kings(key) { Some(key) } else { None }
 }
 
-/// Whether a key has one king of each colour.
+/// Whether there are three to six men, by their number, with one king of each colour, by their key.
+fn are_complete(count: usize, key: u64) -> bool
+    ensures { result ≡ (is_count count && (key / 262144 % 8 == 1 && key / 4398046511104 == 1)) }
+{
+    is_count(count) && has_kings(key)
+}
+
+/// Returns whether a key has exactly one king of each colour.
 fn has_kings(key: u64) -> bool
     ensures { result ≡ (key / 262144 % 8 == 1 && key / 4398046511104 == 1) }
 {
     key / 262144 % 8 == 1 && key / 4398046511104 == 1
 }
 
-/// The key of men.
+/// Returns the key of men: the sum of what each adds.
 fn key_of(men: &[(Man, Color, Square)]) -> u64
     requires { length men.now ≤ 6 }
     ensures { result ≡ men_key men.now }
@@ -147,7 +171,36 @@ fn key_of(men: &[(Man, Color, Square)]) -> u64
     key
 }
 
-/// What a man adds to a key, by his code.
+/// The squares on which a man may not stand, by his code, a bit for each: for a pawn those of ranks 1 and 8.
+const BARRED: [u64; 7] = [0, 0xFF00_0000_0000_00FF, 0, 0, 0, 0, 0];
+
+/// Puts a man on a square: returns `taken`, which has a bit for each square that has a man, with this one's. None if the
+/// square is taken, or if the man is a pawn and the square is on rank 1 or 8.
+#[inline(always)]
+pub fn with_man(taken: u64, man: Man, square: Square) -> Option<u64>
+    ensures free { IfSome result (λ more. is_taken taken square ≡ false) }
+    ensures inside { IfSome result (λ more. is_barred man square ≡ false) }
+    ensures on_board { IfSome result (λ more. square < 64) }
+    ensures same { IfSome result (λ more. is_taken more square ≡ true) }
+    ensures others { IfSome result (λ more. (other : ℕ) → other ≢ square → is_taken more other ≡ is_taken taken other) }
+    ensures refused { IsNone result → IsTrue (is_taken taken square || is_barred man square) }
+{
+    let number = square.number();
+    if is_closed(taken, man, number) {
+        return None;
+    }
+    Some(with_square(taken, number))
+}
+
+/// Returns whether a man can't be put on a square.
+fn is_closed(taken: u64, man: Man, square: u8) -> bool
+    requires { square < 64 }
+    ensures { result ≡ (is_taken taken square || is_barred man square) }
+{
+    is_taken(taken | BARRED[usize::from(man.code())], square)
+}
+
+/// What a man adds to a key, by his code: 8 to the power of the code.
 const KEYS: [u64; 16] = [
     1,
     8,
@@ -167,15 +220,16 @@ const KEYS: [u64; 16] = [
     35184372088832,
 ];
 
-/// What a man adds to a key.
-fn man_key(man: Man, color: Color) -> u64
+/// Returns what a man adds to a placement's key.
+#[inline(always)]
+pub fn man_key(man: Man, color: Color) -> u64
     ensures key { result ≡ 8 ^ colored_code man color }
     ensures small { result < 2 ^ 60 }
 {
     KEYS[usize::from(colored_code(man, color))]
 }
 
-/// A man's code: Black's men add 8.
+/// Returns a man's code: that of his kind, plus 8 for Black.
 fn colored_code(man: Man, color: Color) -> u8
     ensures same { result ≡ colored_code man color }
     ensures below { result < 16 }

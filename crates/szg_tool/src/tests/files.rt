@@ -3,6 +3,7 @@ use super::fixtures::{
     first_bytes, knvk_wdl_constant, kqvk_wdl_lone_word, kqvk_wdl_unpaired, with_byte,
 };
 use super::words_of;
+use crate::finding::Clap;
 use crate::on_files::{Ending, run_words};
 use std::alloc::Global;
 use std::process::Abort;
@@ -25,6 +26,7 @@ fn check_on_files(
     let mut writer = Std::new(Vec::new(rt.alloc()));
     let ending = run_words(
         rt.alloc(),
+        &Clap,
         &words,
         &mut system,
         rt,

@@ -1,20 +1,24 @@
-use Rattle.std.proofs.Common.{◌≡◌, refl, ◌+◌, ◌∷◌, [], ◌++◌, Ok, length, map, take, ℕ, List, sym, ap, subst, ◌∙◌, arith}
+use Rattle.std.proofs.Common.{◌≡◌, Bool, refl, ◌+◌, ◌∷◌, [], ◌++◌, Ok, length, map, take, ℕ, List, sym, ap, subst, ◌∙◌, arith}
 use Rattle.std.specs.List.{AllByRecursion}
-use Rattle.std.proofs.lemmas.List.{length_push, length-append, map-append}
+use Rattle.std.proofs.lemmas.List.{length_push, length-append, length-map, map-append}
+use Rattle.std.proofs.lemmas.List.{length-take-le}
 use Rattle.std.proofs.lemmas.Result.{err_from_is_err_and}
 use Rattle.std.proofs.lemmas.Iterator.Adapters.{YieldsList-from_vec}
 use Rattle.std.proofs.lemmas.Iterator.Consumers.{YieldsList-turn}
 use Rattle.szg_file.specs.declared.fault.ReadFault.TheVariants.{Memory}
 use Rattle.szg_file.specs.declared.dropping.PlacedSub.{PlacedSub}
-use Rattle.szg_file.specs.Contents.{Subtable}
+use Rattle.szg_file.specs.Contents.{Slot, Subtable}
 use Rattle.szg_file.specs.Format.{means}
-use Rattle.szg_file.specs.File.{each, blocks_field}
+use Rattle.szg_file.specs.File.{Begun, each, blocks_field}
 use Rattle.szg_file.specs.Placed.{whole_sub, Fits}
+use Rattle.szg_file.specs.Streaming.{values_if, wanted_values}
+use Rattle.szg_file.specs.Values.{slotted, values_in}
 use Rattle.szg_file.proofs.PassedBlocks.{stands_at}
 use Rattle.szg_file.proofs.PlacedSubs.{kept_whole, still_fit, all_fit}
 use Rattle.szg_file.proofs.ReadingLaws.{reads_nothing}
 use Rattle.szg_file.proofs.Taken.{reads_as, reads_equal}
-use Rattle.szg_file.proofs.LoopReads.{each_next, each_stops, reads_lacking}
+use Rattle.szg_file.proofs.LoopReads.{each_next, each_stops, reads_lacking, taken_next}
+use Rattle.szg_file.proofs.Streamed.{accepted_as, accepted_none, accepted_then, wanted_next}
 use Rattle.szg_file.proofs.dropping.pass_subs.Goals as goal
 
 pub subtables-init : goal.subtables-init
@@ -23,6 +27,9 @@ subtables-init g c =
     record {
       read = reads_nothing (means []) (λ subs. map (whole_sub moved) subs.items) c.new-subs.result (ap (λ (l : List PlacedSub). means (map (whole_sub moved) l)) (sym c.new-subs.ensures.items));
       fits = subst (λ (l : List PlacedSub). AllByRecursion (Fits (length moved) (length c.args.buffer.now.items)) l) (sym c.new-subs.ensures.items) tt;
+      many = ap (λ (l : List PlacedSub). length l) c.new-subs.ensures.items;
+      accepted = accepted_none g.K.ValueSink.accepts c.args.sink.now c.args.out.now;
+      wanted = refl;
       at = c.requires.at;
       place = omega arith;
       growth = omega arith;
@@ -65,6 +72,16 @@ subtables-preserved g c =
     ap (λ (z : List ℕ). map (whole_sub z) subs) gone ∙ kept_whole before bytes (length c.subtables.buffer.items) subs c.subtables.invariant.fits in
     let shown : map (whole_sub behind) c.append.new.list.items ≡ map (whole_sub before) subs ++ whole_sub behind sub ∷ [] =
     ap (λ (l : List PlacedSub). map (whole_sub behind) l) c.in_ok-append.ensures.items ∙ map-append (whole_sub behind) subs (sub ∷ []) ∙ ap (λ (l : List Subtable). l ++ whole_sub behind sub ∷ []) kept in
+    let many : length (take (length c.subtables.yielded) c.args.list.items) ≡ length (map (whole_sub before) subs) =
+    length-take-le (length c.subtables.yielded) c.args.list.items (omega (arith, turn.0)) ∙ sym c.subtables.invariant.many ∙ sym (length-map subs (whole_sub before)) in
+    let more_subs : length c.append.new.list.items ≡ length subs + 1 = ap (λ (l : List PlacedSub). length l) c.in_ok-append.ensures.items ∙ length_push subs sub in
+    let wanted : ℕ → ℕ → Bool = g.K.ValueSink.wanted c.args.sink.now in
+    let slot_of : Begun → Slot = λ b. b.slot in
+    let still = ap (λ (w : ℕ → ℕ → Bool). values_if (w c.in-Some.measured.slot.part c.in-Some.measured.slot.side) (values_in c.args.kind c.in-Some.measured.slot.size (whole_sub behind sub))) c.subtables.invariant.wanted in
+    let all = wanted_next wanted c.args.kind c.args.list.items (length c.subtables.yielded) c.in-Some.measured (map (whole_sub before) subs) (whole_sub behind sub)
+    (taken_next c.args.list.items (length c.subtables.yielded) c.in-Some.measured turn.0 turn.1) many
+    ∙ ap (λ (l : List Subtable). wanted_values wanted c.args.kind (slotted (map slot_of (take (length c.subtables.yielded + 1) c.args.list.items)) l)) (sym shown)
+    ∙ ap (λ (n : ℕ). wanted_values wanted c.args.kind (slotted (map slot_of (take n c.args.list.items)) (map (whole_sub behind) c.append.new.list.items))) (sym longer) in
     record {
       read = reads_equal (each blocks_field (take (length c.subtables.yielded + 1) c.args.list.items)) _ (λ subs. map (whole_sub behind) subs.items) (Ok c.append.new.list) (ap (λ (n : ℕ). each blocks_field (take n c.args.list.items)) (sym longer))
           (each_next blocks_field c.args.list.items (length c.subtables.yielded) c.in-Some.measured (λ subs. map (whole_sub before) subs.items) (whole_sub behind) (λ subs. map (whole_sub behind) subs.items)
@@ -72,6 +89,11 @@ subtables-preserved g c =
           (reads_as (blocks_field c.in-Some.measured) (blocks_field c.in-Some.measured) (whole_sub behind) (whole_sub behind) sub sub refl refl c.in_ok-append.ensures.place c.in_ok-append.ensures.fill c.in_ok-sub.ensures.blocks));
       fits = subst (λ (l : List PlacedSub). AllByRecursion (Fits (length behind) (length c.pass_sub.new.buffer.items)) l) (sym c.in_ok-append.ensures.items)
           (all_fit (Fits (length behind) (length c.pass_sub.new.buffer.items)) subs sub (still_fit (length before) (length behind) (length c.subtables.buffer.items) (length c.pass_sub.new.buffer.items) subs (omega (arith, more)) c.in_ok-sub.ensures.room c.subtables.invariant.fits) c.in_ok-sub.ensures.fits);
+      many = omega (arith, longer, more_subs, c.subtables.invariant.many);
+      accepted = accepted_as g.K.ValueSink.accepts _ (wanted_values wanted c.args.kind (slotted (map slot_of (take (length (c.subtables.yielded ++ c.in-Some.measured ∷ [])) c.args.list.items)) (map (whole_sub behind) c.append.new.list.items))) all
+          (accepted_then g.K.ValueSink.accepts _ _ c.subtables.invariant.accepted
+          (accepted_as g.K.ValueSink.accepts _ (values_if (wanted c.in-Some.measured.slot.part c.in-Some.measured.slot.side) (values_in c.args.kind c.in-Some.measured.slot.size (whole_sub behind sub))) still c.in_ok-sub.ensures.accepted));
+      wanted = c.pass_sub.ensures.wanted ∙ c.subtables.invariant.wanted;
       at = c.in_ok-append.ensures.place ∙ stands_at (blocks_field c.in-Some.measured) (whole_sub behind) sub c.subtables.invariant.at c.in_ok-sub.ensures.blocks;
       place = omega (arith, c.subtables.invariant.place, c.in_ok-sub.ensures.place, c.in_ok-append.ensures.place, longer);
       growth = omega (arith, c.subtables.invariant.growth, c.in_ok-sub.ensures.growth, c.in_ok-append.ensures.growth, c.in_ok-append.ensures.place, longer);

@@ -1,10 +1,16 @@
-use Rattle.std.proofs.Common.{List}
+use Rattle.std.proofs.Common.{◌≡◌, ℕ, List, length, map, ap, sym, subst, ◌∙◌}
+use Rattle.std.specs.Prelude.{IfOk}
+use Rattle.std.proofs.lemmas.List.{length-map}
 use Rattle.std.proofs.lemmas.Result.{err_from_is_err_and}
-use Rattle.szg_file.specs.Contents.{Subtable}
+use Rattle.szg_file.specs.Contents.{Slot, Subtable}
 use Rattle.szg_file.specs.File.{Begun, each, sparse_field, lengths_field, blocks_field}
 use Rattle.szg_file.specs.Format.{Format, ◌>>=◌}
+use Rattle.szg_file.specs.Placed.{whole_sub}
+use Rattle.szg_file.specs.Streaming.{Accepted, wanted_values}
+use Rattle.szg_file.specs.Values.{slotted}
 use Rattle.szg_file.proofs.PassedBlocks.{stands_at}
 use Rattle.szg_file.proofs.ReadingLaws.{reads_then, reads_stopped}
+use Rattle.szg_file.proofs.StreamedTables.{slot_of, indexed_slots, measured_slots}
 use Rattle.szg_file.proofs.outline.outline_subtables.Goals as goal
 
 -- what follows the sparse indexes
@@ -39,3 +45,20 @@ returns-clause-packed g c =
     c.in_ok-indexed.ensures.indexes
     (reads_then (each lengths_field c.in_ok-indexed.indexed.items) (each blocks_field) (λ measured. measured.items) _ c.in_ok-measured.measured
     c.in_ok-measured.ensures.lengths c.pass_subs.ensures.blocks)
+
+pub returns-clause-accepted : goal.returns-clause-accepted
+returns-clause-accepted g c =
+    let same : map slot_of c.in_ok-measured.measured.items ≡ map slot_of c.args.heads.items =
+    measured_slots c.in_ok-indexed.indexed.items (λ measured. measured.items) c.in_ok-measured.measured c.in_ok-measured.ensures.lengths
+    ∙ indexed_slots c.args.heads.items (λ indexed. indexed.items) c.in_ok-indexed.indexed c.in_ok-indexed.ensures.indexes in
+    subst (λ (l : List Slot). IfOk c.pass_subs.result (λ subs. Accepted g.K.ValueSink.accepts (wanted_values (g.K.ValueSink.wanted c.args.sink.now) c.args.kind (slotted l (map (whole_sub (g.R.Input.moved c.pass_subs.new.input)) subs.items)))
+    c.args.sink.now c.args.out.now c.pass_subs.new.sink c.pass_subs.new.out)) same c.pass_subs.ensures.accepted
+
+pub returns-clause-many : goal.returns-clause-many
+returns-clause-many g c =
+    let same : map slot_of c.in_ok-measured.measured.items ≡ map slot_of c.args.heads.items =
+    measured_slots c.in_ok-indexed.indexed.items (λ measured. measured.items) c.in_ok-measured.measured c.in_ok-measured.ensures.lengths
+    ∙ indexed_slots c.args.heads.items (λ indexed. indexed.items) c.in_ok-indexed.indexed c.in_ok-indexed.ensures.indexes in
+    let long : length c.in_ok-measured.measured.items ≡ length c.args.heads.items =
+    sym (length-map c.in_ok-measured.measured.items slot_of) ∙ ap (λ (l : List Slot). length l) same ∙ length-map c.args.heads.items slot_of in
+    subst (λ (n : ℕ). IfOk c.pass_subs.result (λ subs. length subs.items ≡ n)) long c.pass_subs.ensures.many

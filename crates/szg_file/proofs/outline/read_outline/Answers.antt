@@ -1,5 +1,5 @@
-use Rattle.std.proofs.Common.{◌≡◌, ◌+◌, ◌++◌, ℕ, List, length, map, sym, ap, ◌∙◌, Ok, Err, arith}
-use Rattle.std.proofs.lemmas.List.{length-append}
+use Rattle.std.proofs.Common.{◌≡◌, Bool, ◌+◌, ◌++◌, ℕ, List, length, map, sym, ap, ◌∙◌, Ok, Err, arith}
+use Rattle.std.proofs.lemmas.List.{length-append, length-map}
 use Rattle.std.proofs.lemmas.Result.{err_from_is_err_and}
 use Rattle.szg_values.specs.declared.Kind.{Kind}
 use Rattle.szg_values.specs.Material.{Sides}
@@ -10,10 +10,14 @@ use Rattle.szg_file.specs.Format.{means, ◌>>=◌}
 use Rattle.szg_file.specs.FilePieces.{Opened, opened, opening_field, packed_field, ending_field}
 use Rattle.szg_file.specs.Outline.{outlined}
 use Rattle.szg_file.specs.Placed.{whole_sub}
+use Rattle.szg_file.specs.Streaming.{wanted_values}
+use Rattle.szg_file.specs.Values.{slotted}
 use Rattle.szg_file.proofs.LackingReads.{opening_lacks, behind_lacks, packed_lacks, ending_lacks, memory_told, memory_tells}
 use Rattle.szg_file.proofs.PassedBlocks.{stands_at}
 use Rattle.szg_file.proofs.PlacedSubs.{kept_whole, still_fit}
 use Rattle.szg_file.proofs.ReadingLaws.{reads_then, reads_stopped}
+use Rattle.szg_file.proofs.Streamed.{accepted_as}
+use Rattle.szg_file.proofs.StreamedTables.{wanted_begun}
 use Rattle.szg_file.proofs.Taken.{reads_equal}
 use Rattle.szg_file.proofs.WholeReads.{reads_made, behind_opening, behind_packed, with_last, pieces_are_file}
 use Rattle.szg_file.proofs.outline.read_outline.Goals as goal
@@ -92,6 +96,26 @@ returns-clause-fits g c =
     let gone : behind ≡ before ++ bytes = c.in_ok-last.ensures.ending.taken.bytes_moved in
     let more : length behind ≡ length before + length bytes = ap (λ (z : List ℕ). length z) gone ∙ length-append before bytes in
     still_fit (length before) (length behind) _ _ c.in_ok-subs.subs.items (omega (arith, more)) (omega arith) c.in_ok-subs.ensures.fits
+
+-- ---- what the sink accepted
+
+pub returns-clause-accepted : goal.returns-clause-accepted
+returns-clause-accepted g c =
+    let m : Sides = c.args.material.now in
+    let k : Kind = c.args.kind in
+    let o : Opened = opened c.in_ok-byte4.field-0 in
+    let subs : List PlacedSub = c.in_ok-subs.subs.items in
+    let before : List ℕ = g.R.Input.moved c.outline_subtables.new.input in
+    let behind : List ℕ = g.R.Input.moved c.read_ending.new.input in
+    let bytes : List ℕ = c.in_ok-last.ensures.ending.bytes in
+    let gone : behind ≡ before ++ bytes = c.in_ok-last.ensures.ending.taken.bytes_moved in
+    let kept : map (whole_sub behind) subs ≡ map (whole_sub before) subs =
+    ap (λ (z : List ℕ). map (whole_sub z) subs) gone ∙ kept_whole before bytes _ subs c.in_ok-subs.ensures.fits in
+    let wanted : ℕ → ℕ → Bool = g.K.ValueSink.wanted c.args.sink.now in
+    let many : length (map (whole_sub before) subs) ≡ length c.in_ok-byte4.field-0.heads.items = length-map subs (whole_sub before) ∙ c.in_ok-subs.ensures.many in
+    let same = wanted_begun wanted k (slots m k o.parts) o.heads (map (whole_sub before) subs) c.in_ok-byte4.field-0.heads.items c.in_ok-byte4.ensures.begun many
+    ∙ ap (λ (l : List Subtable). wanted_values wanted k (slotted (slots m k o.parts) l)) (sym kept) in
+    accepted_as g.K.ValueSink.accepts _ (wanted_values wanted k (slotted (slots m k o.parts) (map (whole_sub behind) subs))) same c.in_ok-subs.ensures.accepted
 
 -- ---- with `Memory`, the file is not whole
 

@@ -1,7 +1,6 @@
-use Rattle.std.proofs.Common.{◌≡◌, sym, subst}
-use Rattle.std.specs.Prelude.{IfOk, IsErrOf}
+use Rattle.std.proofs.Common.{sym, subst}
+use Rattle.std.specs.Prelude.{IfOk}
 use Rattle.szg_build.specs.Shown.{dump_seen}
-use Rattle.szg_tool.specs.declared.refusal.Stop.TheVariants.{Refused}
 use Rattle.szg_tool.specs.declared.request.Packing.{Packing}
 use Rattle.szg_tool.specs.Builds.{IsBuiltIn, IsRefusedPlan, plan_in}
 use Rattle.szg_tool.proofs.building.table_of.Goals as goal

@@ -9,7 +9,7 @@ returns-in-Ok-opened_front-clause-told g c =
     let request = c.args.request.now in
     ok_then c.look_up_line.result _ _
     (λ line told. looked_up g.S.File.Input request c.args.file c.opened_front.new.file c.in-Ok.size c.in-Ok-opened_front.opened
-    (λ content t. IsLookUpAnswer request.action request.part request.side t (string_bytes line)) c.in-Ok.ensures c.in-Ok-opened_front.ensures.front told)
+    (λ content t. IsLookUpAnswer request.action request.part request.side t (string_bytes line)) (c.in-Ok.ensures.size) c.in-Ok-opened_front.ensures.front told)
     c.look_up_line.ensures.told
 
 pub returns-in-Ok-opened_front-clause-refused : goal.returns-in-Ok-opened_front-clause-refused
@@ -18,8 +18,8 @@ returns-in-Ok-opened_front-clause-refused g c = λ refusal is.
     inr
     (
     looked_up g.S.File.Input request c.args.file c.opened_front.new.file c.in-Ok.size c.in-Ok-opened_front.opened
-    (λ content t. IsLookUpRefused request.action request.part request.side content t refusal) c.in-Ok.ensures c.in-Ok-opened_front.ensures.front (c.look_up_line.ensures.refused refusal is)
+    (λ content t. IsLookUpRefused request.action request.part request.side content t refusal) (c.in-Ok.ensures.size) c.in-Ok-opened_front.ensures.front (c.look_up_line.ensures.refused refusal is)
     )
 
 pub returns-in-Err-Refused-clause-refused : goal.returns-in-Err-Refused-clause-refused
-returns-in-Err-Refused-clause-refused g c = λ refusal is. inl (c.in-Ok.size, c.opened_front.new.file, c.in-Ok.ensures, c.in-Err-Refused.ensures.refused refusal (cc))
+returns-in-Err-Refused-clause-refused g c = λ refusal is. inl (c.in-Ok.size, c.opened_front.new.file, c.in-Ok.ensures.size, c.in-Err-Refused.ensures.refused refusal (cc))

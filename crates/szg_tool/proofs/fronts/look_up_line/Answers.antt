@@ -1,7 +1,6 @@
-use Rattle.std.proofs.Common.{◌≡◌}
 use Rattle.std.specs.Prelude.{string_bytes}
-use Rattle.szg_tool.specs.Fronts.{IsFetchedIn, IsLookUpAnswer, IsLookUpRefused}
-use Rattle.szg_tool.specs.declared.request.Action.TheVariants.{Index, Probe}
+use Rattle.szg_tool.specs.Fronts.{IsLookUpAnswer, IsLookUpRefused}
+use Rattle.szg_tool.specs.declared.request.Action.TheVariants.{Index}
 use Rattle.szg_tool.specs.declared.request.Class.TheVariants.{Win}
 use Rattle.szg_tool.proofs.FrontFacts.{ok_then, spot_refused, spot_told, unfetched}
 use Rattle.szg_tool.proofs.fronts.look_up_line.Goals as goal

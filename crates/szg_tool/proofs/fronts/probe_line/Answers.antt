@@ -1,4 +1,4 @@
-use Rattle.std.proofs.Common.{◌≡◌, ◌∙◌, ap, inl, refl, subst, sym}
+use Rattle.std.proofs.Common.{◌≡◌, ◌∙◌, ap, inl, subst, sym}
 use Rattle.std.specs.Prelude.{Ok, string_bytes}
 use Rattle.szg_file.specs.Index.{Index}
 use Rattle.szg_place.specs.Spots.{place_fault, spot_of}

@@ -1,3 +1,4 @@
+use Rattle.std.proofs.Common.{inr}
 use Rattle.szg_tool.proofs.Endings.{EndsTask-then}
 use Rattle.szg_tool.proofs.on_files.run_look_up.Goals as goal
 
@@ -12,4 +13,6 @@ returns-in-Err-Refused g c =
       c.in-Err-Refused.ensures.refused c.in-Err-Refused.refusal (cc),
       given,
     ))
+    (λ failed. inr failed)
+    (λ stays. stays)
     c.refused.ensures

@@ -1,4 +1,4 @@
-use Rattle.std.proofs.Common.{◌≡◌, refl}
+use Rattle.std.proofs.Common.{refl}
 use Rattle.szg_tool.proofs.Words.{texts_or}
 use Rattle.szg_tool.proofs.request.action_on_men.Goals as goal
 

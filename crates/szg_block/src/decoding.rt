@@ -1,0 +1,42 @@
+//! The values of a whole block, whose bytes the caller provides.
+
+ghost use Rattle.std.specs.Prelude.{◌≡◌, ◌++◌, ◌<◌, ◌^◌, IfSome, IsSomeAnd, OnOk, length, take};
+ghost use Rattle.szg_block.specs.Block.{block_values, needed, start};
+ghost use Rattle.szg_block.specs.Sound.{SpellsNeeded};
+ghost use Rattle.szg_block.specs.Subtable.{layout_of, IsShapedHead};
+
+use crate::Sub;
+use crate::lengths::needed_from;
+use crate::words::push_values;
+use std::alloc::AllocError;
+
+/// Decodes the values that block `n` of a subtable with `size` values needs, and appends them. `block` has the block's
+/// bytes and passed `check_block`; `before` values come before it. Errors: an allocation was refused.
+pub fn decode_block(
+    sub: &Sub,
+    size: u64,
+    n: u32,
+    before: u64,
+    block: &[u8],
+    values: &mut Vec<u16>,
+) -> Result<(), AllocError>
+    requires head { IsShapedHead sub.now size }
+    requires there { IsSomeAnd (layout_of sub.now) (λ layout. n < layout.blocks) }
+    requires before { IsSomeAnd (layout_of sub.now) (λ layout. before ≡ start layout.lengths n) }
+    requires whole { IsSomeAnd (layout_of sub.now) (λ layout. length block.now ≡ 2 ^ layout.block_bits) }
+    requires spelled { IsSomeAnd (layout_of sub.now) (λ layout. SpellsNeeded layout size n block.now) }
+    ensures { OnOk result (IfSome (layout_of sub.now) (λ layout. values.new.items ≡ values.old.items ++ take (needed layout.lengths size n) (block_values layout block.now))) }
+{
+    let Sub::Pairs {
+        code,
+        dict,
+        lengths,
+        ..
+    } = sub
+    else {
+        unreachable!()
+    };
+    prove_eq!(code.symbols(), dict.symbols());
+    let needed = needed_from(lengths[n as usize], size, before);
+    Ok(push_values(code, dict, block, needed, values)?)
+}

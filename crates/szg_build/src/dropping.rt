@@ -1,0 +1,181 @@
+//! Drops pairs from a dictionary that save too little, from the last to the first.
+//!
+//! Nothing is proved of what is dropped but that it is safe: what is left is only proposed, and a proposal is tested.
+use crate::costs::saved_by;
+use crate::leaves::{MAX_SYMBOLS, Paired};
+use crate::numbering::{at, counts_of, renamed};
+use std::alloc::{AllocError, Global};
+use szg_pairs::entry::{is_leaf, left, right};
+
+/// A dictionary, and how often each of its symbols occurs in a text.
+#[derive(Drop)]
+pub(crate) struct Counted {
+    pub entries: Vec<[u8; 3]>,
+    pub lens: Vec<u16>,
+    pub counts: Vec<u64>,
+}
+
+/// Returns the count of a symbol; 0 if it isn't there.
+fn count_at(counts: &[u64], symbol: u16) -> u64 {
+    let place = usize::from(symbol);
+    if place < counts.len() {
+        counts[place]
+    } else {
+        0
+    }
+}
+
+/// Raises a symbol's count.
+fn raise(counts: &mut [u64], symbol: u16, by: u64) {
+    let place = usize::from(symbol);
+    if place < counts.len() {
+        let count = counts[place].saturating_add(by);
+        counts[place] = count;
+    }
+}
+
+/// Lowers a symbol's count by one.
+fn lower(counts: &mut [u64], symbol: u16) {
+    let place = usize::from(symbol);
+    if place < counts.len() {
+        let count = counts[place].saturating_sub(1);
+        counts[place] = count;
+    }
+}
+
+/// Counts how often each symbol is a half of a pair.
+fn uses_of(alloc: Global, entries: &[[u8; 3]]) -> Result<Vec<u64>, AllocError> {
+    let mut uses = vec![in alloc; 0u64; entries.len()]?;
+    for entry in entries {
+        if !is_leaf(*entry) {
+            raise(&mut uses, left(*entry), 1);
+            raise(&mut uses, right(*entry), 1);
+        }
+    }
+    Ok(uses)
+}
+
+/// Returns the bits that a pair saves in a text of `total` symbols: 0 where it doesn't occur, and only there.
+fn saved(counts: &[u64], entry: [u8; 3], count: u64, total: u64) -> u64 {
+    if count == 0 {
+        return 0;
+    }
+    let (left, right) = (left(entry), right(entry));
+    saved_by(
+        count,
+        count_at(counts, left),
+        count_at(counts, right),
+        left == right,
+        total,
+    )
+    .saturating_add(1)
+}
+
+/// Returns whether each symbol is kept. A pair that is no half of a kept one and saves at most `least` bits is dropped;
+/// its halves then occur as often as it did.
+fn keep(
+    alloc: Global,
+    entries: &[[u8; 3]],
+    counts: &mut [u64],
+    least: u64,
+) -> Result<Vec<bool>, AllocError> {
+    let mut uses = uses_of(alloc, entries)?;
+    let mut kept = vec![in alloc; true; entries.len()]?;
+    let mut total = counts
+        .iter()
+        .fold(0u64, |sum, count| sum.saturating_add(*count));
+    for later in 0..entries.len() {
+        let place = entries.len() - 1 - later;
+        let entry = entries[place];
+        let symbol = place.min(MAX_SYMBOLS) as u16;
+        let count = count_at(counts, symbol);
+        let is_half = count_at(&uses, symbol) > 0;
+        if !is_leaf(entry) && !is_half && saved(counts, entry, count, total) <= least {
+            raise(counts, left(entry), count);
+            raise(counts, right(entry), count);
+            lower(&mut uses, left(entry));
+            lower(&mut uses, right(entry));
+            total = total.saturating_add(count);
+            if place < counts.len() && place < kept.len() {
+                counts[place] = 0;
+                kept[place] = false;
+            }
+        }
+    }
+    Ok(kept)
+}
+
+/// Returns for each symbol its number among those that are kept.
+fn numbers_of(alloc: Global, kept: &[bool]) -> Result<Vec<u16>, AllocError> {
+    let mut numbers = Vec::new(alloc);
+    let mut next = 0u16;
+    for is_kept in kept {
+        numbers.push(next)?;
+        if *is_kept {
+            next = next.saturating_add(1);
+        }
+    }
+    Ok(numbers)
+}
+
+/// Returns the symbols that are kept, numbered anew in their order.
+fn kept_of(
+    alloc: Global,
+    dictionary: &Counted,
+    kept: &[bool],
+    numbers: &[u16],
+) -> Result<Counted, AllocError> {
+    let mut left = Counted {
+        entries: Vec::new(alloc),
+        lens: Vec::new(alloc),
+        counts: Vec::new(alloc),
+    };
+    for (place, is_kept) in kept.iter().enumerate() {
+        let symbol = place.min(MAX_SYMBOLS) as u16;
+        if *is_kept && place < dictionary.entries.len() {
+            left.entries
+                .push(renamed(dictionary.entries[place], numbers))?;
+            left.lens.push(at(&dictionary.lens, symbol))?;
+            left.counts.push(count_at(&dictionary.counts, symbol))?;
+        }
+    }
+    Ok(left)
+}
+
+/// Drops the pairs that save at most `least` bits, fractional bits included. The counts are then those of a text in
+/// which each dropped pair is written as its halves.
+pub(crate) fn without_poor(
+    alloc: Global,
+    mut dictionary: Counted,
+    least: u64,
+) -> Result<Counted, AllocError> {
+    let kept = keep(alloc, &dictionary.entries, &mut dictionary.counts, least)?;
+    let numbers = numbers_of(alloc, &kept)?;
+    kept_of(alloc, &dictionary, &kept, &numbers)
+}
+
+/// Drops the pairs that neither the text nor another pair has.
+pub(crate) fn without_unused(alloc: Global, paired: Paired) -> Result<Paired, AllocError> {
+    let Paired {
+        entries,
+        lens,
+        mut symbols,
+    } = paired;
+    let counts = counts_of(alloc, entries.len(), &symbols)?;
+    let mut dictionary = Counted {
+        entries,
+        lens,
+        counts,
+    };
+    let kept = keep(alloc, &dictionary.entries, &mut dictionary.counts, 0)?;
+    let numbers = numbers_of(alloc, &kept)?;
+    for symbol in symbols.iter_mut() {
+        *symbol = at(&numbers, *symbol);
+    }
+    let Counted { entries, lens, .. } = kept_of(alloc, &dictionary, &kept, &numbers)?;
+    Ok(Paired {
+        entries,
+        lens,
+        symbols,
+    })
+}

@@ -1,0 +1,247 @@
+//! Spells a list of leaves with the symbols of a dictionary in the fewest bits: a shortest path over its values.
+//!
+//! Nothing is proved of a spelling but that it is safe: it is only proposed, and a proposal is tested.
+use crate::leaves::MAX_SYMBOLS;
+use crate::numbering::at;
+use std::alloc::{AllocError, Global};
+use szg_pairs::entry::{is_leaf, left, right};
+
+/// No node.
+const NO_NODE: u32 = u32::MAX;
+
+/// What a node costs at which no symbol ends.
+const NO_COST: u64 = u64::MAX;
+
+/// How many costs are kept: more than a symbol has values.
+const KEPT: usize = 512;
+
+/// The leaves from the root to a node begin the expansions of some symbols.
+#[derive(Clone, Copy)]
+struct Node {
+    leaf: u16,
+    /// The cheapest symbol that has just these leaves, if there is one.
+    symbol: u16,
+    cost: u64,
+    child: u32,
+    sibling: u32,
+}
+
+/// The expansions of a dictionary's symbols. The first nodes are those of the leaves alone.
+#[derive(Drop)]
+struct Tree {
+    nodes: Vec<Node>,
+}
+
+/// Returns a node of `leaf` at which no symbol ends.
+fn bare(leaf: u16, sibling: u32) -> Node {
+    Node {
+        leaf,
+        symbol: 0,
+        cost: NO_COST,
+        child: NO_NODE,
+        sibling,
+    }
+}
+
+impl Tree {
+    /// Creates the tree of a dictionary whose symbols take `costs`.
+    fn new(alloc: Global, entries: &[[u8; 3]], costs: &[u64]) -> Result<Tree, AllocError> {
+        let mut tree = Tree {
+            nodes: Vec::new(alloc),
+        };
+        for (number, entry) in entries.iter().enumerate() {
+            if is_leaf(*entry) {
+                tree.nodes
+                    .push(bare(number.min(MAX_SYMBOLS) as u16, NO_NODE))?;
+            }
+        }
+        for (number, cost) in costs.iter().enumerate() {
+            let leaves = expansion(alloc, entries, number.min(MAX_SYMBOLS) as u16)?;
+            tree.insert(&leaves, number.min(MAX_SYMBOLS) as u16, *cost)?;
+        }
+        Ok(tree)
+    }
+
+    /// Returns the child of a node for a leaf, by the node's first child.
+    fn child(&self, first: u32, leaf: u16) -> usize {
+        let mut next = first as usize;
+        for _ in 0..self.nodes.len() {
+            if next >= self.nodes.len() {
+                break;
+            }
+            let node = self.nodes[next];
+            if node.leaf == leaf {
+                return next;
+            }
+            next = node.sibling as usize;
+        }
+        NO_NODE as usize
+    }
+
+    /// Returns the child of a node for a leaf, which is made if it isn't there.
+    fn child_or_new(&mut self, parent: usize, leaf: u16) -> Result<usize, AllocError> {
+        if parent >= self.nodes.len() {
+            return Ok(NO_NODE as usize);
+        }
+        let node = self.nodes[parent];
+        let found = self.child(node.child, leaf);
+        if found < self.nodes.len() {
+            return Ok(found);
+        }
+        let new = self.nodes.len();
+        self.nodes.push(bare(leaf, node.child))?;
+        self.nodes[parent] = Node {
+            child: new.min(NO_NODE as usize) as u32,
+            ..node
+        };
+        Ok(new)
+    }
+
+    /// Adds a symbol with these leaves.
+    fn insert(&mut self, leaves: &[u16], symbol: u16, cost: u64) -> Result<(), AllocError> {
+        let mut place = NO_NODE as usize;
+        for (depth, leaf) in leaves.iter().enumerate() {
+            place = if depth == 0 {
+                usize::from(*leaf)
+            } else {
+                self.child_or_new(place, *leaf)?
+            };
+        }
+        if place < self.nodes.len() {
+            let node = self.nodes[place];
+            if cost < node.cost {
+                self.nodes[place] = Node {
+                    symbol,
+                    cost,
+                    ..node
+                };
+            }
+        }
+        Ok(())
+    }
+}
+
+/// Returns the leaves of a symbol.
+fn expansion(alloc: Global, entries: &[[u8; 3]], symbol: u16) -> Result<Vec<u16>, AllocError> {
+    let mut leaves = Vec::new(alloc);
+    let mut waiting = Vec::new(alloc);
+    waiting.push(symbol)?;
+    for _ in 0..KEPT.saturating_mul(2) {
+        let Some(next) = waiting.pop() else {
+            break;
+        };
+        let place = usize::from(next);
+        if place < entries.len() {
+            let entry = entries[place];
+            if is_leaf(entry) {
+                leaves.push(next)?;
+            } else {
+                waiting.push(right(entry))?;
+                waiting.push(left(entry))?;
+            }
+        }
+    }
+    Ok(leaves)
+}
+
+/// The cheapest spelling from a place on: its first symbol and its cost.
+#[derive(Clone, Copy)]
+struct Cheapest {
+    symbol: u16,
+    cost: u64,
+    steps: u64,
+}
+
+/// Returns the cost that is kept for a place.
+fn kept_at(kept: &[u64], place: usize) -> u64 {
+    let number = place % KEPT;
+    if number < kept.len() { kept[number] } else { 0 }
+}
+
+/// Returns the cheapest spelling from `place` on, by the costs of those that begin later.
+fn cheapest_from(tree: &Tree, leaves: &[u16], place: usize, kept: &[u64]) -> Cheapest {
+    let mut best = Cheapest {
+        symbol: 0,
+        cost: NO_COST,
+        steps: 0,
+    };
+    let mut next = usize::from(at_place(leaves, place));
+    for end in place.saturating_add(1)..leaves.len().saturating_add(1) {
+        if next >= tree.nodes.len() {
+            break;
+        }
+        let node = tree.nodes[next];
+        best.steps = best.steps.saturating_add(1);
+        if node.cost != NO_COST {
+            let cost = node.cost.saturating_add(kept_at(kept, end));
+            if cost < best.cost {
+                best.symbol = node.symbol;
+                best.cost = cost;
+            }
+        }
+        if node.child == NO_NODE || end >= leaves.len() {
+            break;
+        }
+        next = tree.child(node.child, leaves[end]);
+    }
+    best
+}
+
+/// Returns the leaf at a place; 0 after the last one.
+fn at_place(leaves: &[u16], place: usize) -> u16 {
+    if place < leaves.len() {
+        leaves[place]
+    } else {
+        0
+    }
+}
+
+/// A text that spells a list of leaves, and how many nodes were visited to find it.
+#[derive(Drop)]
+pub(crate) struct Spelling {
+    pub symbols: Vec<u16>,
+    pub steps: u64,
+}
+
+/// Spells leaves in the fewest bits, where each symbol takes its cost.
+pub(crate) fn spell(
+    alloc: Global,
+    leaves: &[u16],
+    entries: &[[u8; 3]],
+    lens: &[u16],
+    costs: &[u64],
+) -> Result<Spelling, AllocError> {
+    let tree = Tree::new(alloc, entries, costs)?;
+    let mut kept = vec![in alloc; 0u64; KEPT]?;
+    let mut choices = vec![in alloc; 0u16; leaves.len()]?;
+    let mut steps = 0u64;
+    for later in 0..leaves.len() {
+        let place = leaves.len() - 1 - later;
+        let found = cheapest_from(&tree, leaves, place, &kept);
+        steps = steps.saturating_add(found.steps);
+        let number = place % KEPT;
+        if number < kept.len() && place < choices.len() {
+            kept[number] = found.cost;
+            choices[place] = found.symbol;
+        }
+    }
+    Ok(Spelling {
+        symbols: chosen(alloc, &choices, lens)?,
+        steps,
+    })
+}
+
+/// Returns the symbols of a text, by the symbol that was chosen at each place.
+fn chosen(alloc: Global, choices: &[u16], lens: &[u16]) -> Result<Vec<u16>, AllocError> {
+    let mut symbols = Vec::new(alloc);
+    let mut place = 0usize;
+    for _ in 0..choices.len() {
+        if place >= choices.len() {
+            break;
+        }
+        let symbol = choices[place];
+        symbols.push(symbol)?;
+        place = place.saturating_add(usize::from(at(lens, symbol).max(1)));
+    }
+    Ok(symbols)
+}

@@ -1,0 +1,62 @@
+//! The first two words of a byte, for codes of short words.
+ghost use Rattle.std.specs.Prelude.{◌≡◌};
+ghost use Rattle.szg_code.specs.TwoWords.{ContainsTwoWords, HasTwoWords};
+
+use crate::canonical::Code;
+use crate::reader::{Bits, next};
+
+/// The symbols of the first two words of a byte, and the number of bits of both together. 0 bits if the byte does not
+/// contain two whole words.
+#[derive(Clone, Copy)]
+pub(crate) struct TwoWords {
+    pub first: u16,
+    pub second: u16,
+    pub bits: u8,
+}
+
+/// A byte without two whole words.
+pub(crate) const NO_WORDS: TwoWords = TwoWords {
+    first: 0,
+    second: 0,
+    bits: 0,
+};
+
+/// Decodes the first two words of a byte.
+fn two_words_of(code: &Code, byte: u8) -> TwoWords
+    ensures { ContainsTwoWords code.now byte result }
+{
+    let bytes = [byte];
+    let mut bits = Bits::new(&bytes);
+    let Some(first) = next(code, &mut bits) else {
+        return NO_WORDS;
+    };
+    let Some(second) = next(code, &mut bits) else {
+        return NO_WORDS;
+    };
+    TwoWords {
+        first,
+        second,
+        bits: bits.place() as u8,
+    }
+}
+
+/// The fewest bytes with two words for which they are stored. With fewer, decoding two words at a step would be tried
+/// in vain too often.
+const FEWEST_BYTES: usize = 192;
+
+/// Decodes the first two words of each byte. Returns none for all bytes if too few bytes contain two words.
+pub(crate) fn two_words_by_byte(code: &Code) -> [TwoWords; 256]
+    ensures { HasTwoWords code.now result }
+{
+    let mut two_words = [NO_WORDS; 256];
+    if code.min() > 4 {
+        return two_words;
+    }
+    for byte in 0..256usize {
+        two_words[byte] = two_words_of(code, byte as u8);
+    }
+    if two_words.iter().filter(|words| words.bits > 0).count() < FEWEST_BYTES {
+        return [NO_WORDS; 256];
+    }
+    two_words
+}

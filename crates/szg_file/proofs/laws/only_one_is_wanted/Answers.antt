@@ -1,0 +1,5 @@
+use Rattle.szg_file.proofs.OnlyWanted.{only_one}
+use Rattle.szg_file.proofs.laws.only_one_is_wanted.Goals as goal
+
+pub returns : goal.returns
+returns c = only_one
