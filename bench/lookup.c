@@ -1,6 +1,7 @@
 /* Looks values up in one subtable of a table file, checks its blocks and lists its values, each by szg_block and by
  * plain C of the form of de Man's probing code, and prints the ratios of times; then looks the same values up by the
- * calls of the C library. */
+ * calls of the C library: lookup TABLE SIZE LIBRARY. With a fourth word it prints only what a look-up that verifies its
+ * block costs beside one that doesn't. */
 #include "../bindings/szg.h"
 #include <dlfcn.h>
 #include <inttypes.h>
@@ -257,6 +258,9 @@ static bool read_blocks(const struct table *t, uint16_t *list)
     return start >= t->n.size;
 }
 
+/* how many values are looked up: of longer blocks fewer */
+static size_t look_ups = LOOK_UPS;
+
 static double now(void)
 {
     struct timespec t;
@@ -294,7 +298,7 @@ typedef uint64_t plain_work(const struct table *t, const uint32_t *indexes);
 static uint64_t look_all_up(const struct table *t, const uint32_t *indexes)
 {
     uint64_t mix = 0;
-    for (size_t k = 0; k < LOOK_UPS; k++)
+    for (size_t k = 0; k < look_ups; k++)
         mix = 31 * mix + look_up(t, indexes[k]);
     return mix;
 }
@@ -351,6 +355,7 @@ struct library {
     __typeof__(szg_open_front) *open_front;
     __typeof__(szg_front_find) *find;
     __typeof__(szg_front_value) *value;
+    __typeof__(szg_front_get) *front_get;
 };
 
 static void *call(void *library, const char *name)
@@ -367,7 +372,8 @@ static struct library library_at(const char *path)
 {
     void *library = dlopen(path, RTLD_NOW | RTLD_LOCAL);
     return (struct library){call(library, "szg_open"), call(library, "szg_get"), call(library, "szg_open_front"),
-                            call(library, "szg_front_find"), call(library, "szg_front_value")};
+                            call(library, "szg_front_find"), call(library, "szg_front_value"),
+                            call(library, "szg_front_get")};
 }
 
 /* the least time of the look-ups in a table that stays in a source over memory, its opening left out */
@@ -378,7 +384,7 @@ static double time_source(const struct table *t, const uint32_t *indexes, const 
     uint64_t mix = look_all_up(t, indexes);
     for (int round = 0; round < ROUNDS; round++) {
         double t0 = now();
-        uint64_t other = szg_bench_opened(name, sizeof name, file, length, indexes, LOOK_UPS);
+        uint64_t other = szg_bench_opened(name, sizeof name, file, length, indexes, look_ups);
         double t1 = now();
         szg_bench_opened(name, sizeof name, file, length, indexes, 0);
         double t2 = now();
@@ -390,15 +396,16 @@ static double time_source(const struct table *t, const uint32_t *indexes, const 
     return whole - begun;
 }
 
-/* the least times of a look-up by szg_get, and by szg_front_find and szg_front_value from the file in memory */
+/* the least times of a look-up by szg_get, by szg_front_find and szg_front_value, and by szg_front_get, which verify the
+ * value's whole block, from the file in memory */
 struct called {
-    double get, by_range;
+    double get, by_range, verified;
 };
 
 static struct called time_calls(const struct table *t, const uint32_t *indexes, struct library szg, const uint8_t *file,
                                 size_t length)
 {
-    struct called best = {1e9, 1e9};
+    struct called best = {1e9, 1e9, 1e9};
     szg_table table = SZG_NO_TABLE;
     szg_front front = SZG_NO_FRONT;
     szg_answer answer;
@@ -406,26 +413,32 @@ static struct called time_calls(const struct table *t, const uint32_t *indexes, 
         szg.open_front("KQRvK", 5, false, file, length, &front, &answer) != SZG_DONE)
         fail("the files");
     for (int round = 0; round < ROUNDS; round++) {
-        uint64_t mix = look_all_up(t, indexes), held = 0, placed = 0;
+        uint64_t mix = look_all_up(t, indexes), held = 0, placed = 0, verified = 0;
         uint16_t value = 0;
         szg_byte_range range = {0, 0};
         szg_bad_block bad;
         double t0 = now();
-        for (size_t k = 0; k < LOOK_UPS; k++) {
+        for (size_t k = 0; k < look_ups; k++) {
             szg.get(&table, 0, 0, indexes[k], &value);
             held = 31 * held + value;
         }
         double t1 = now();
-        for (size_t k = 0; k < LOOK_UPS; k++) {
+        for (size_t k = 0; k < look_ups; k++) {
             szg.find(&front, 0, 0, indexes[k], &range);
             szg.value(&front, 0, 0, indexes[k], file + range.offset, range.count, &value, &bad);
             placed = 31 * placed + value;
         }
         double t2 = now();
-        if (mix != held || mix != placed)
+        for (size_t k = 0; k < look_ups; k++) {
+            szg.front_get(&front, file, length, 0, 0, indexes[k], &value, &bad);
+            verified = 31 * verified + value;
+        }
+        double t3 = now();
+        if (mix != held || mix != placed || mix != verified)
             fail("the look-ups of the C library");
         least(&best.get, t1 - t0);
         least(&best.by_range, t2 - t1);
+        least(&best.verified, t3 - t2);
     }
     return best;
 }
@@ -444,19 +457,25 @@ int main(int argc, char **argv)
     read_table(&t, &other, file, strtoull(argv[2], NULL, 10));
     uint32_t *indexes = malloc(LOOK_UPS * sizeof *indexes);
     uint64_t state = 1;
-    for (size_t k = 0; k < LOOK_UPS; k++) {
+    for (size_t k = 0; k < look_ups; k++) {
         state = state * 6364136223846793005u + 1442695040888963407u;
         indexes[k] = (state >> 16) % t.n.size;
     }
-    struct times memory = time_work(look_all_up, (struct work){0, 0}, &t, indexes, LOOK_UPS, 1);
-    double source = time_source(&t, indexes, file, length);
+    if (argc > 4)
+        look_ups = ((size_t)LOOK_UPS << 4) >> t.n.block_bits;
     struct called library = time_calls(&t, indexes, library_at(argv[3]), file, length);
+    if (argc > 4) {
+        printf("szg_get %.1f ns, szg_front_get %.1f ns, ratio %.2f\n", library.get / look_ups * 1e9, library.verified / look_ups * 1e9, library.verified / library.get);
+        return 0;
+    }
+    struct times memory = time_work(look_all_up, (struct work){0, 0}, &t, indexes, look_ups, 1);
+    double source = time_source(&t, indexes, file, length);
     struct times check = time_work(check_all, (struct work){.checks = PASSES}, &t, NULL, 0, PASSES);
     struct times list = time_work(list_all, (struct work){.lists = PASSES}, &t, NULL, 0, PASSES);
     printf("%" PRIu64 " values, %u blocks, %u symbols\n", t.n.size, t.n.blocks, t.n.symbols);
-    printf("look-up:             C %6.1f ns, szg_block %6.1f ns, ratio %.2f\n", memory.plain / LOOK_UPS * 1e9, memory.szg / LOOK_UPS * 1e9, memory.szg / memory.plain);
-    printf("by a source:         Opened  %6.1f ns, ratio %.2f\n", source / LOOK_UPS * 1e9, source / memory.plain);
-    printf("by the C library:    szg_get %6.1f ns, ratio %.2f; szg_front_find and szg_front_value %6.1f ns, ratio %.2f\n", library.get / LOOK_UPS * 1e9, library.get / memory.plain, library.by_range / LOOK_UPS * 1e9, library.by_range / memory.plain);
+    printf("look-up:             C %6.1f ns, szg_block %6.1f ns, ratio %.2f\n", memory.plain / look_ups * 1e9, memory.szg / look_ups * 1e9, memory.szg / memory.plain);
+    printf("by a source:         Opened  %6.1f ns, ratio %.2f\n", source / look_ups * 1e9, source / memory.plain);
+    printf("by the C library:    szg_get %6.1f ns, ratio %.2f; szg_front_find and szg_front_value %6.1f ns, ratio %.2f\n", library.get / look_ups * 1e9, library.get / memory.plain, library.by_range / look_ups * 1e9, library.by_range / memory.plain);
     printf("check of all blocks: C %6.0f million values a second, szg_block %6.0f, ratio of times %.2f\n", t.n.size / check.plain / 1e6, t.n.size / check.szg / 1e6, check.szg / check.plain);
     printf("list of all values:  C %6.0f million values a second, szg_block %6.0f, ratio of times %.2f\n", t.n.size / list.plain / 1e6, t.n.size / list.szg / 1e6, list.szg / list.plain);
     return 0;

@@ -1,12 +1,15 @@
 #!/usr/bin/env python3
 """Writes a WDL file of king, queen and rook against king to standard output, for timing: 1,911,252 values a side in
-blocks of 64 bytes. Plain: values drawn by a fixed rule from 0 to 4, as words of two and three bits. With the word
-'deep': words of 3 to 12 bits, drawn by a fixed rule, of symbols that stand for up to 256 values each by deep pairs."""
+blocks of 64 bytes: make_table.py [plain|deep [BLOCK_BITS]]. Plain: values drawn by a fixed rule from 0 to 4, as words of
+two and three bits. Deep: words of 3 to 12 bits, drawn by a fixed rule, of symbols that stand for up to 256 values each by
+deep pairs; in blocks of 1,024 bytes for up to 80 values, since a block has at most 65,536. A block has 2^BLOCK_BITS bytes,
+64 if nothing is said."""
 import struct
 import sys
 
 SIZE = 31332 * 61
-BLOCK_BITS = 6
+BLOCK_BITS = int(sys.argv[2]) if len(sys.argv) > 2 else 6
+LONGEST = 256 if BLOCK_BITS < 10 else 80
 WIDTH = 8 << BLOCK_BITS
 
 
@@ -42,7 +45,7 @@ class Deep:
         made, lengths, chain = [(value, 0xFFF) for value in range(5)], [1] * 5, 0
         while len(made) < count:
             right = next(draw) % min(len(made), 40)
-            if lengths[chain] + lengths[right] > 256:
+            if lengths[chain] + lengths[right] > LONGEST:
                 chain = next(draw) % 5
                 continue
             made.append((chain, right))
@@ -113,7 +116,7 @@ def sparse(form, counts):
 
 
 def main():
-    form = Deep() if sys.argv[1:] == ["deep"] else Plain()
+    form = Deep() if sys.argv[1:2] == ["deep"] else Plain()
     lowest, spelled = code_of(form.LEAST, form.WORDS)
     sides = [packed(form, spelled, seed) for seed in (1, 2)]
     out = bytes([0x71, 0xE8, 0x23, 0x5D, 0x01, 0x00, 0x66, 0x55, 0x44, 0xEE])

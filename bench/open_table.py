@@ -1,16 +1,20 @@
 #!/usr/bin/env python3
-"""Writes a WDL file of KQRBNvK of about 1 GB: open_table.py FILE
+"""Writes a WDL file of KQRBNvK of about 1 GB, or one of KQRBvK of 76 MB: open_table.py FILE [KQRBvK]
 
-Side 0 has 6,765,832,080 values: 4 at even indexes, 2 at odd ones, in 16,747,110 blocks of 64 bytes; side 1 is constant.
-All bytes of the blocks are 0, so that the file is sparse: it takes 34 MB of the disk."""
+Side 0 has 6,765,832,080 values: 4 at even indexes, 2 at odd ones, in 16,747,110 blocks of 64 bytes; or 114,675,120
+values in 1,146,752 blocks. Side 1 is constant. All bytes of the blocks are 0, so that the file is sparse: it takes 34 MB
+of the disk, or 2.3 MB."""
 import array
 import struct
 import sys
 
-SIZE = 31332 * 61 * 60 * 59
 BLOCK_BITS, SPAN_BITS = 6, 16
-# a word is one bit, a symbol two values; the last block may have fewer
-HELD = 404
+# The table's men, its number of values, and the number of values of a block: a word is one bit, a symbol two values; the
+# last block may have fewer.
+if sys.argv[2:] == ["KQRBvK"]:
+    MEN, SIZE, HELD = "66 55 44 33 ee", 31332 * 61 * 60, 100
+else:
+    MEN, SIZE, HELD = "66 55 44 33 22 ee", 31332 * 61 * 60 * 59, 404
 LEAF = 0xFFF
 
 
@@ -20,7 +24,8 @@ def entry(left, right):
 
 def front(count):
     """Magic, flags, order, men, and the headers of both subtables; symbol 0 is the values 4 and 2, and has the word 0."""
-    men = bytes.fromhex("71e8235d 01 00 66 55 44 33 22 ee")
+    men = bytes.fromhex("71e8235d 01 00" + MEN)
+    men += bytes(len(men) % 2)
     shape = struct.pack("<4BI2B", 0, BLOCK_BITS, SPAN_BITS, 0, count, 1, 1)
     dictionary = entry(1, 2) + entry(4, LEAF) + entry(2, LEAF)
     return men + shape + struct.pack("<HH", 0, 3) + dictionary + bytes(3 % 2) + bytes([0x80, 2])

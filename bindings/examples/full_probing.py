@@ -2,15 +2,35 @@
 """Full probing by python-chess over tables that szg reads: full_probing.py FOLDER FEN..
 
 python-chess's Tablebase looks at captures, en passant and moves, and asks its own `probe_wdl_table` and
-`probe_dtz_table` for what the tables store. Here these two ask szg. It needs python-chess (the package `chess`).
+`probe_dtz_table` for what the tables store. Here these two ask szg. Their numbers are those of python-chess: the stored
+class, and the stored distance in plies, with 1, or with -1 where the table stores the other side to move; python-chess then
+looks one ply ahead. It adds itself 1, or 101 for a cursed win or a blessed loss, and the sign.
+
+A KeyError says that a board can't be probed, as in python-chess: no table of these men (MissingTableError), castling rights,
+a board of a variant, or a placement that a table has no entry for, as with kings that touch. `get_wdl` and `get_dtz` return
+their default then. A file that is refused raises szg.Refused, and a block that doesn't decode szg.BadBlock.
+
+It needs python-chess (the package `chess`).
 """
 import sys
-from typing import Any, Tuple
+from contextlib import contextmanager
+from typing import Any, Iterator, Tuple
 
 import chess
 import chess.syzygy
 
 import szg
+
+
+@contextmanager
+def key_errors() -> Iterator[None]:
+    """What szg can't look up becomes what python-chess's `get_wdl` and `get_dtz` catch."""
+    try:
+        yield
+    except szg.MissingTableError as error:
+        raise chess.syzygy.MissingTableError(str(error)) from error
+    except szg.Untold as error:
+        raise KeyError(str(error)) from error
 
 
 class FullTablebase(chess.syzygy.Tablebase):
@@ -24,16 +44,12 @@ class FullTablebase(chess.syzygy.Tablebase):
         return self.tables.add_directory(directory, **words)
 
     def probe_wdl_table(self, board: chess.Board) -> int:
-        try:
+        with key_errors():
             return self.tables.probe_wdl_table(board)
-        except szg.MissingTableError as error:
-            raise chess.syzygy.MissingTableError(str(error)) from error
 
     def probe_dtz_table(self, board: chess.Board, wdl: int) -> Tuple[int, int]:
-        try:
+        with key_errors():
             return self.tables.probe_dtz_table(board, wdl)
-        except szg.MissingTableError as error:
-            raise chess.syzygy.MissingTableError(str(error)) from error
 
     def close(self) -> None:
         self.tables.close()
