@@ -24,10 +24,10 @@ extern "C" {
 #endif
 
 /* The version of this header. A library with the same major number serves a program compiled with it. */
-#define SZG_VERSION_MAJOR 0
-#define SZG_VERSION_MINOR 1
+#define SZG_VERSION_MAJOR 1
+#define SZG_VERSION_MINOR 0
 #define SZG_VERSION_PATCH 0
-#define SZG_VERSION "0.1.0"
+#define SZG_VERSION "1.0.0"
 
 enum szg_status {
     SZG_DONE = 0,    /* the call was carried out */

@@ -1,5 +1,6 @@
 """A second reader of tables, plain and slow, written from docs/FORMAT.md alone. `checks/fuzz` holds the program
 against it."""
+import bisect
 from math import comb, prod
 
 MAGIC = {"wdl": bytes.fromhex("71e8235d"), "dtz": bytes.fromhex("d7660ca5")}
@@ -156,6 +157,26 @@ class Reader:
         self.take(-self.at % multiple)
 
     def read(self):
+        for sub in self.sections():
+            self.fill_to(64)
+            self.blocks(sub)
+        return self.ended()
+
+    def read_front(self):
+        """Reads all but the blocks; the file must have room for them."""
+        for sub in self.sections():
+            self.fill_to(64)
+            sub.place = self.at
+            self.take(sub.block_count << sub.block_bits)
+        return self.ended()
+
+    def ended(self):
+        self.fill_to(64)
+        self.last = self.take(16)
+        return self
+
+    def sections(self):
+        """Reads what precedes the blocks. Returns the subtables that have blocks."""
         self.opening()
         self.parts = [self.part(part) for part in range(self.material.parts)]
         self.fill_to(2)
@@ -168,12 +189,7 @@ class Reader:
             self.index(sub)
         for sub in paired:
             self.measures(sub)
-        for sub in paired:
-            self.fill_to(64)
-            self.blocks(sub)
-        self.fill_to(64)
-        self.last = self.take(16)
-        return self
+        return paired
 
     def opening(self):
         if self.take(4) != MAGIC[self.kind]:
@@ -283,18 +299,33 @@ class Reader:
     def blocks(self, sub):
         sub.values, sub.words = [], []
         for j in range(sub.block_count):
-            place, block = self.at, self.take(1 << sub.block_bits)
-            needed = max(0, min(sub.starts[j + 1], sub.size) - sub.starts[j])
-            values, symbols = [], []
-            for symbol in words_of(sub, block):
-                if len(values) >= needed:
-                    break
-                symbols.append(symbol)
-                values += sub.expansions[symbol]
-            if len(values) < needed:
+            place = self.at
+            values, symbols = decoded(sub, j, self.take(1 << sub.block_bits))
+            if values is None:
                 raise Refused(place, "Word")
-            sub.values += values[:needed]
+            sub.values += values
             sub.words.append(symbols)
+
+    def fetched(self, sub, index):
+        """The value at an index by the front alone and one block; if it doesn't decode, its number and offset in a tuple."""
+        if sub.constant is not None:
+            return sub.constant
+        j = bisect.bisect_right(sub.starts, index) - 1
+        place = sub.place + (j << sub.block_bits)
+        values, _ = decoded(sub, j, self.data[place : place + (1 << sub.block_bits)])
+        return (j, place) if values is None else values[index - sub.starts[j]]
+
+
+def decoded(sub, j, block):
+    """The values that block j must have and its symbols; no values where it has fewer."""
+    needed = max(0, min(sub.starts[j + 1], sub.size) - sub.starts[j])
+    values, symbols = [], []
+    for symbol in words_of(sub, block):
+        if len(values) >= needed:
+            break
+        symbols.append(symbol)
+        values += sub.expansions[symbol]
+    return values[:needed] if len(values) >= needed else None, symbols
 
 
 def expansions_of(pairs):

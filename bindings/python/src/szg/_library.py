@@ -65,7 +65,7 @@ def _load() -> ctypes.CDLL:
 
     Errors: OSError if it cannot be loaded; ImportError if it lacks a call."""
     beside = Path(__file__).resolve().parent / "libszg.so"
-    library = ctypes.CDLL(os.environ.get("SZG_LIBRARY") or (str(beside) if beside.exists() else "libszg.so.0"))
+    library = ctypes.CDLL(os.environ.get("SZG_LIBRARY") or (str(beside) if beside.exists() else "libszg.so.1"))
     for name, arguments in _signatures().items():
         try:
             call = getattr(library, name)
