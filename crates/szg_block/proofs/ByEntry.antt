@@ -1,4 +1,4 @@
--- A look-up from the sparse index: its entry, the block that it leads to, and its steps.
+-- A look-up from the sparse index: the entry, the block that the entry leads to, and the steps.
 use Rattle.std.proofs.Common.{ℕ, suc, ◌≡◌, refl, ◌+◌, ◌-◌, ◌*◌, ◌/◌, ◌^◌, ◌<◌, ◌≤◌, List, Some, length, ap, sym, ◌∙◌, subst, arith, get_or}
 use Rattle.std.specs.Prelude.{IfSome}
 use Rattle.std.specs.List.{slice_index}

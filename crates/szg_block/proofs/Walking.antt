@@ -1,4 +1,4 @@
--- Walks by lengths from a block on, forwards and backwards.
+-- Walks over block lengths, forwards and backwards.
 use Rattle.std.proofs.Common.{ℕ, zero, suc, ◌≡◌, ◌+◌, ◌<◌, ◌≤◌, inl, inr, List, length, ap, arith}
 use Rattle.std.specs.List.{slice_index}
 use Rattle.std.proofs.lemmas.Bool.{cases_lt, cases_order}

@@ -3,7 +3,7 @@ use Rattle.std.specs.Prelude.{ℕ, ◌+◌, ◌≤◌, ◌^◌, ◌-◌, min, Li
 use Rattle.std.specs.Prelude.{Result, Ok, Err}
 use Rattle.std.specs.List.{flat_map, range_with_len}
 
--- a count increased by `more`; it stops at the greatest 64-bit value
+-- a count increased by `more`; it saturates at the greatest 64-bit value
 abbrev pub raised : ℕ → ℕ → ℕ
 raised count more = min (count + more) (2 ^ 64 - 1)
 
@@ -11,7 +11,7 @@ raised count more = min (count + more) (2 ^ 64 - 1)
 abbrev pub Rose : ℕ → ℕ → Type 0
 Rose old new = raised old 1 ≤ new
 
--- a source's failure count increases by one exactly at a fault
+-- a source's failure count: it increases by one if the call fails
 abbrev pub failed_after : {A E : Type 0} → Result A E → ℕ → ℕ
 failed_after (Ok answer) failed = failed
 failed_after (Err fault) failed = raised failed 1

@@ -52,8 +52,8 @@ abbrev pub MovesAreBounded : Type 0
 MovesAreBounded = (layout : Layout) (packed : List ℕ) (size : ℕ) → IsShapedLayout layout size → IsCode layout.code → IsSoundLayout layout packed size → (i : ℕ) → i < size →
     (entry : SparseEntry) → slice_get layout.sparse (i / 2 ^ layout.span_bits) ≡ Some entry → move_count layout i ≤ 2 ^ layout.span_bits / 2 + entry.offset
 
--- the moves to value i are at most half a span if the entry's offset lies within its block, or if that block is past
--- all lengths
+-- the moves to value i are at most half a span if the entry's offset lies within its block, or if the entry points to
+-- the end after the last length
 abbrev pub MovesAreFewer : Type 0
 MovesAreFewer = (layout : Layout) (packed : List ℕ) (size : ℕ) → IsShapedLayout layout size → IsCode layout.code → IsSoundLayout layout packed size → (i : ℕ) → i < size →
     (entry : SparseEntry) → slice_get layout.sparse (i / 2 ^ layout.span_bits) ≡ Some entry →

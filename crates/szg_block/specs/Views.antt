@@ -1,6 +1,6 @@
--- Public view of a sound subtable: the subtable, its size, the value that it has if it is constant, its blocks, one
--- after another, the number of failures of their source, of bytes requested from it, and of bytes that one block
--- requests.
+-- Public view of a sound subtable: the subtable, its size, its value if it is constant, its blocks one after another,
+-- the number of failures of their source, the number of bytes requested from it, and the number of bytes requested for
+-- one block.
 use Rattle.std.specs.Prelude.{ℕ, ◌≡◌, ◌<◌, ◌^◌, List, length, IfSome}
 use Rattle.szg_code.specs.Acceptance.{IsCode}
 use Rattle.szg_block.specs.BlocksTrait.{packed_blocks}
@@ -25,7 +25,7 @@ pub record IsReady (sub : Sub) (size : ℕ) (count : ℕ) (bytes : ℕ → List 
   pub whole : IfSome (layout_of sub) (λ layout. (k : ℕ) → k < layout.blocks → length (bytes k) ≡ 2 ^ layout.block_bits)
   pub sound : IsSoundOver sub (packed_blocks bytes count) size
 
--- a subtable is sound with some blocks
+-- there are blocks with which the subtable is sound
 abbrev pub IsSound : Sub → ℕ → Type 0
 IsSound sub size = (count : ℕ) × (bytes : ℕ → List ℕ) × IsReady sub size count bytes
 

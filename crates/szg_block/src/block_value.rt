@@ -29,8 +29,9 @@ pub fn find_block(sub: &Sub, size: u64, i: u64) -> Option<u32>
 
 /// Decodes value `i` of a sound subtable with `size` values from the bytes of its block.
 ///
-/// `block` may hold any bytes: the result is the value that its words spell at value `i`'s index in its block. None
-/// if they spell too few values, if `block` does not have the length of a block, and in a constant subtable.
+/// `block` may hold any bytes: the result is the value that their words spell at the index that value `i` has in its
+/// block. None if they spell too few values, if `block` does not have the length of a block, and in a constant
+/// subtable.
 pub fn value_in_block(sub: &Sub, size: u64, i: u64, block: &[u8]) -> Option<u16>
     requires sound { IsSound sub.now size }
     requires below { i < size }

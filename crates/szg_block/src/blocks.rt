@@ -24,15 +24,16 @@ pub trait Blocks {
     ghost content: { Self → List ℕ };
 
     ghost buffer_len: { Self → ℕ };
-    // the number of failures of the source, of bytes requested from it, and of bytes that one block requests
+    // the number of failures of the source, the number of bytes requested from it, and the number of bytes requested
+    // for one block
     ghost failures: { Self → ℕ };
 
     ghost requested: { Self → ℕ };
 
     ghost cost: { Self → ℕ };
 
-    /// Returns block `n`, which must exist. The failure count increases by one exactly at a fault. The blocks do not
-    /// change.
+    /// Returns block `n`, which must exist. The failure count increases by one if the call fails, and otherwise stays
+    /// the same. The blocks do not change.
     fn block(&mut self, n: u32) -> Result<&[u8], SourceFault>
         requires { n < count self.old }
         ensures block { IfOk result (λ block. block.now ≡ bytes self.old n) }
@@ -75,7 +76,7 @@ impl<'a> Blocks for Whole<'a> {
     }
 }
 
-/// Returns the blocks that a subtable contains itself; none if it is constant.
+/// Returns the blocks that are stored in the subtable; none if it is constant.
 pub fn blocks_in(sub: &Sub) -> Whole<'_>
     requires { IfSome (layout_of sub.now) (λ layout. layout.code.symbols ≡ length layout.entries) }
     ensures packed { result.packed.now ≡ packed_of sub.now }

@@ -42,7 +42,8 @@ mod words;
 /// An entry of the sparse index.
 #[derive(Clone, Copy)]
 pub struct Entry {
-    /// The number of a block or an extra length; the number of all lengths means the end after the last length.
+    /// The number of a block or of an extra length. If it equals the number of all lengths, it means the end after the
+    /// last one.
     pub block: u32,
     /// A number of values, counted from the start of that block.
     pub offset: u16,
@@ -127,10 +128,10 @@ pub fn entry_count(size: u64, span_bits: u8) -> u64
     size.div_ceil(1 << span_bits)
 }
 
-/// Returns whether the flag, the numbers and the lists of a subtable with `size` values fit together, apart from
-/// the blocks.
+/// Returns whether the header and the lists of a subtable with `size` values are consistent. Does not look at the
+/// blocks.
 ///
-/// It is `shaped` without the test that `packed` has the bytes of all blocks.
+/// The checks are those of `shaped`, except for the length of `packed`.
 pub fn shaped_head(sub: &Sub, size: u64) -> bool
     ensures { IsTrue result ↔ IsShapedHead sub.now size }
 {
@@ -157,8 +158,8 @@ pub fn shaped_head(sub: &Sub, size: u64) -> bool
     }
 }
 
-/// Returns whether the flag, the numbers and the lists of a subtable with `size` values fit together, whatever
-/// their contents.
+/// Returns whether the header and the lists of a subtable with `size` values are consistent, whatever the lists
+/// contain.
 ///
 /// The flags byte has its highest bit set exactly in a constant subtable. Otherwise block bits are at most 18, span
 /// bits 1 to 31, the code has as many symbols as the dictionary, the sparse index has an entry for each span that
@@ -212,8 +213,8 @@ pub fn check_index(sub: &Sub, size: u64) -> Result<(), SubFault>
 /// Checks that the words of block `n`, whose bytes are `block`, spell the values that the block needs. The subtable
 /// has `size` values and is not constant, `n` is one of its blocks, and `block` has the length of its blocks.
 ///
-/// Errors: `Word(n)` if the block's own bits do not spell these values. Each call adds the lengths of all blocks
-/// before `n`.
+/// Errors: `Word(n)` if the block's own bits do not spell these values. Each call takes time proportional to `n`, since
+/// it adds the lengths of all blocks before `n`.
 pub fn check_block(sub: &Sub, size: u64, n: u32, block: &[u8]) -> Result<(), SubFault>
     requires head { IsShapedHead sub.now size }
     requires there { IsSomeAnd (layout_of sub.now) (λ layout. n < layout.blocks) }
@@ -262,8 +263,8 @@ pub fn check_block_from(
     }
 }
 
-/// Checks a subtable with `size` values. It accepts exactly the sound ones, which `find_block` and `value_in_block`
-/// require.
+/// Checks a subtable with `size` values. Accepts exactly the sound subtables; `find_block` and `value_in_block` require
+/// a sound one.
 ///
 /// Errors: those of `check_index`, then those of `check_block` for each block in order.
 pub fn check(sub: &Sub, size: u64) -> Result<(), SubFault>

@@ -108,7 +108,7 @@ pub struct Found {
     pub value: u16,
     /// The number of words read, the value's own included.
     pub words: u64,
-    /// The number of pairs above the value in its symbol.
+    /// The number of pairs descended through, from the word's symbol to the value's leaf.
     pub pairs: u16,
 }
 

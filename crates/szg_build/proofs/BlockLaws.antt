@@ -64,7 +64,8 @@ values-cons layout symbols lists = flat_map-append (expansion_of layout.entries)
 pub length-values : (layout : Layout) (symbols : List ℕ) (lists : List (List ℕ)) → length (values_from layout (symbols ∷ lists)) ≡ length (values_of layout.entries symbols) + length (values_from layout lists)
 length-values layout symbols lists = ap length (values-cons layout symbols lists) ∙ length-append (values_of layout.entries symbols) (values_from layout lists)
 
--- if the blocks before block j and those from it on have all values, block j needs as its values all that it has
+-- if the blocks before block j and those from it on together have just the subtable's values, block j needs all values
+-- that it has
 all_needed : (layout : Layout) (size j n rest : ℕ) → slice_index layout.lengths j + 1 ≡ n → start layout.lengths j + (n + rest) ≡ size → needed layout.lengths size j ≡ n
 unfolding needed
 all_needed layout size j n rest here all = omega (arith, here, all)

@@ -17,7 +17,7 @@ use Rattle.szg_build.specs.Built.{IsBuilt, subtables_in}
 use Rattle.szg_build.specs.Laws.{BuiltDumpStays, BuiltIsFound}
 use Rattle.szg_build.proofs.PlaceLaws.{places_stand}
 
--- A table that is built from a dump has this dump.
+-- The dump of a table that is built from a dump is that dump.
 pub built_dump_stays : BuiltDumpStays
 built_dump_stays dump block_bits span_bits rounds t built = record {
   material = built.material;

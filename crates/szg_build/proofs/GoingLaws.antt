@@ -30,7 +30,7 @@ pub went_on : {A : Type 0} {f g : Lines A} {count count' : ℕ} {bytes held : Li
 went_on {f = f} {count = count} {held = held} w y =
     ap (λ (z : List ℕ). verdict f count (z ++ y)) w.split ∙ ap (λ (z : List ℕ). verdict f count z) (append_assoc w.lines held y) ∙ w.on (held ++ y)
 
--- These bytes were read, and no line was refused; of the text f the text g is left.
+-- These bytes were read, and no line was refused; the text g is what is left of the text f.
 pub record GoesOn {A R : Type 0} (f g : Lines A) (old new : Incoming) (dev : Ghosts R) (input input' : R) : Type 0 where
   pub bytes : List ℕ
   pub taken : Takes dev input input' bytes 0

@@ -174,7 +174,7 @@ pub cut_anywhere : {A : Type 0} (f : Lines A) (count : ℕ) (front : List ℕ) (
     verdict f count (front ++ (byte ∷ back)) ≡ good a n [] → (at : ℕ) × (verdict f count front ≡ ended at)
 cut_anywhere f count front byte back a n e = cut_cases f count front byte back a n (verdict f count front) refl e
 
--- ---- the line before whose end a text ends
+-- ---- the line in which a text ends
 
 line_ends-here : (byte : ℕ) (bytes : List ℕ) → (byte == 10) ≡ true → line_ends (byte ∷ bytes) ≡ suc (line_ends bytes)
 line_ends-here byte bytes e = rw (e, line_ends) refl
@@ -182,7 +182,7 @@ line_ends-here byte bytes e = rw (e, line_ends) refl
 line_ends-later : (byte : ℕ) (bytes : List ℕ) → (byte == 10) ≡ false → line_ends (byte ∷ bytes) ≡ line_ends bytes
 line_ends-later byte bytes e = rw (e, line_ends) refl
 
--- after a whole first line there is one line end less; bytes that end before their first line does have none
+-- after a whole first line there is one line end fewer; bytes that end within their first line have none
 abbrev EndsOnce : List ℕ → FirstLine → Type 0
 EndsOnce bytes (whole text rest) = line_ends bytes ≡ suc (line_ends rest)
 EndsOnce bytes (long rest) = Unit {0}

@@ -448,7 +448,7 @@ nothing_behind : (text : List ℕ) → text ++ [] ≡ text
 nothing_behind [] = refl
 nothing_behind (x ∷ text) = ap (λ (z : List ℕ). x ∷ z) (nothing_behind text)
 
--- The text of a dump that is cut anywhere ends before the 0A of the line after the last whole line.
+-- The text of a dump that is cut anywhere is refused as `Ended`, at the line after the last whole line.
 pub cut_text_is_ended : CutTextIsEnded
 cut_text_is_ended sizes form dump front byte back told e =
     let cut = cut_anywhere (dump_with sizes) 0 front byte back dump (length (dump_lines form dump))
@@ -456,7 +456,7 @@ cut_text_is_ended sizes form dump front byte back told e =
     let at : cut.0 ≡ 1 + line_ends front = let line : cut.0 ≡ suc (0 + line_ends front) = ended_line (dump_with sizes) 0 front cut.0 cut.1 in omega (arith, line) in
     cut.1 ∙ ap ended at
 
--- Two dumps of one text are equal.
+-- Two dumps with the same text are equal.
 pub one_text_one_dump : OneTextOneDump
 one_text_one_dump sizes form form' dump dump' told told' e =
     let both_read : good dump (length (dump_lines form dump)) [] ≡ good dump' (length (dump_lines form' dump')) [] =

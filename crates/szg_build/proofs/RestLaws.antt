@@ -109,7 +109,7 @@ sub_read form kind sizes s place view x view' fault e read rest =
     reads_then (sub_line place) (λ _. behind_place form kind sizes s) view view' x read
     (reads_as (ap (λ (z : Lines (Unit {0})). z >>= λ _. fields_text form kind sizes s) e) rest)
 
--- ---- a growth is refused
+-- ---- memory for a longer list is refused
 
 pub values_lack : {R : Type 0} (form : Form) (sizes : Option (List ℕ)) (s flags : ℕ) (lists : Option Map) (count : ℕ) (fault : BuildFault) (behind : ℕ) {o m : Incoming} {dev : Ghosts R} {i j k : R} →
     length_check form sizes s count ≡ demand true fault → ReadsLines count_line (λ (n : ℕ). n) o m dev i j (Ok count) → LacksLines (values_lines form count) behind m dev j k → LacksLines (counted_text form sizes s flags lists) behind o dev i k

@@ -1,4 +1,4 @@
--- What the steps of the builder pass on to one another.
+-- What each step of the builder establishes for the next.
 use Rattle.std.specs.Prelude.{ℕ, suc, ◌≡◌, ◌+◌, ◌-◌, ◌*◌, ◌/◌, ◌%◌, ◌^◌, ◌<◌, ◌≤◌, ◌==◌, Bool, false, IfSome, List, [], ◌∷◌, ◌++◌, length, map, take, drop, nat_lt, if◌then◌else◌, Option, Some, None, slice_get, slice_index, slice_index_or}
 use Rattle.std.specs.List.{AllByRecursion, concat, list_any}
 use Rattle.szg_pairs.specs.Dictionary.{IsDictionary}

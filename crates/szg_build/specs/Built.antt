@@ -37,8 +37,7 @@ abbrev pub flags_byte : ℕ → Subtable → ℕ
 flags_byte flags (constant _ byte) = flags + 128
 flags_byte flags (pairs head sparse lengths packed) = flags
 
--- the flags bytes of subtables, one after another; where there are no more flags, as in WDL from the first subtable
--- on, the flags are 0
+-- the flags bytes of subtables, one after another; missing flags are 0, as all are in WDL
 abbrev pub flags_bytes : List ℕ → List Subtable → List ℕ
 flags_bytes flags [] = []
 flags_bytes [] (subtable ∷ subtables) = flags_byte 0 subtable ∷ flags_bytes [] subtables

@@ -17,8 +17,8 @@ IsUnrefused (good a count rest) = rest ≡ []
 IsUnrefused (refused at why rest) = ⊥
 IsUnrefused (ended at) = Unit {0}
 
--- The bytes are whole lines, none of them refused, and bytes that were read ahead. Of these there are at most
--- `behind` more than follow the lines in each text that begins with them.
+-- The bytes are whole lines, none of them refused, and then bytes that were read ahead. Their number is at most
+-- `behind` more than the number of bytes after these lines in any text that begins with them.
 pub record StopsShort {A : Type 0} (f : Lines A) (count behind : ℕ) (bytes : List ℕ) : Type 0 where
   pub lines : List ℕ
   pub ahead : List ℕ

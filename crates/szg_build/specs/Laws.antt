@@ -75,12 +75,12 @@ abbrev pub TextIsRead : Type 0
 TextIsRead = (sizes : Sides → Kind → List Part → Option (List ℕ)) (form : Form) (dump : Dump) (rest : List ℕ) → IsTold form sizes dump →
     verdict (dump_with sizes) 0 (dump_text form dump ++ rest) ≡ good dump (length (dump_lines form dump)) rest
 
--- A text of a dump that is cut anywhere ends before the 0A of the line after the last whole line.
+-- The text of a dump that is cut anywhere is refused as `Ended`, at the line after the last whole line.
 abbrev pub CutTextIsEnded : Type 0
 CutTextIsEnded = (sizes : Sides → Kind → List Part → Option (List ℕ)) (form : Form) (dump : Dump) (front : List ℕ) (byte : ℕ) (back : List ℕ) → IsTold form sizes dump →
     dump_text form dump ≡ front ++ (byte ∷ back) → verdict (dump_with sizes) 0 front ≡ ended (1 + line_ends front)
 
--- Two dumps of one text are equal.
+-- Two dumps with the same text are equal.
 abbrev pub OneTextOneDump : Type 0
 OneTextOneDump = (sizes : Sides → Kind → List Part → Option (List ℕ)) (form form' : Form) (dump dump' : Dump) → IsTold form sizes dump → IsTold form' sizes dump' →
     dump_text form dump ≡ dump_text form' dump' → dump ≡ dump'
@@ -109,7 +109,7 @@ pub record HasSameValues (t other : Contents) : Type 0 where
 abbrev pub RebuiltHasSameValues : Type 0
 RebuiltHasSameValues = (dump : Dump) (block_bits span_bits rounds : ℕ) (t rebuilt : Contents) → IsDumpOf dump t → IsBuilt (dump_plan dump block_bits span_bits rounds) dump.lists rebuilt → HasSameValues t rebuilt
 
--- A table that is built from a dump has this dump.
+-- The dump of a table that is built from a dump is that dump.
 abbrev pub BuiltDumpStays : Type 0
 BuiltDumpStays = (dump : Dump) (block_bits span_bits rounds : ℕ) (t : Contents) → IsBuilt (dump_plan dump block_bits span_bits rounds) dump.lists t → IsDumpOf dump t
 

@@ -9,7 +9,7 @@ pub data Refusal : Type 0 where
   of_line : DumpFault → Refusal
   of_plan : BuildFault → Refusal
 
--- What is due from a line on, from top to bottom.
+-- The lines that are expected from some line on.
 pub data Lines (A : Type 0) : Type 0 where
   -- nothing more: the meaning of what was read
   means : A → Lines A

@@ -13,7 +13,7 @@ use Rattle.szg_build.specs.declared.dump.DumpReadFault.{DumpReadFault}
 use Rattle.szg_build.specs.declared.dump.DumpReadFault.TheVariants.{Line, Build, Device, Memory}
 use Rattle.szg_build.specs.Lines.{Lines, means, refuses, Verdict, good, refused, ended, of_line, of_plan, verdict}
 
--- a line's number as it is returned: it stops at the greatest 64-bit value
+-- a line's number as it is returned: it saturates at the greatest 64-bit value
 abbrev pub told_line : ℕ → ℕ
 told_line number = min number (2 ^ 64 - 1)
 
@@ -23,7 +23,7 @@ IsLineFault (good a lines rest) number fault = ⊥
 IsLineFault (refused at why rest) number fault = (number ≡ told_line at) × (why ≡ of_line fault)
 IsLineFault (ended at) number fault = (number ≡ told_line at) × (fault ≡ Ended)
 
--- the verdict refuses what the lines so far say of a table
+-- the verdict refuses the table that the lines so far describe
 abbrev pub IsPlanFault : {A : Type 0} → Verdict A → BuildFault → Type 0
 IsPlanFault (good a lines rest) fault = ⊥
 IsPlanFault (refused at why rest) fault = why ≡ of_plan fault
@@ -52,8 +52,8 @@ abbrev pub turns_of : {X : Type 0} → Result X DumpReadFault → ℕ
 turns_of (Ok x) = 0
 turns_of (Err fault) = 1
 
--- These bytes were read, in few enough calls. The result is the verdict on the bytes read ahead and these bytes, for
--- any number of lines before them.
+-- These bytes were read, within the bound on calls. The result is the verdict on the bytes read ahead and these bytes,
+-- for any number of lines before them.
 pub record ReadsLines {A X R : Type 0} (f : Lines A) (view : X → A) (old new : Incoming)
     (dev : Ghosts R) (input input' : R) (result : Result X DumpReadFault) : Type 0 where
   pub bytes : List ℕ

@@ -1,4 +1,4 @@
--- What the last steps of the builder, from lists of values to a table, pass on to one another.
+-- What each of the builder's last steps, from lists of values to a table, establishes for the next.
 use Rattle.std.specs.Prelude.{◌≡◌, ℕ, ◌^◌, ◌<◌, ◌≤◌, List, [], ◌∷◌, length, map, true, Option, Some, None, IfSome}
 use Rattle.std.specs.List.{AllByRecursion}
 use Rattle.szg_values.specs.declared.Kind.{Kind}

@@ -6,7 +6,7 @@ use Rattle.szg_io.specs.declared.device.Output.{Ghosts}
 use Rattle.szg_file.specs.declared.fault.WriteFault.{WriteFault}
 use Rattle.szg_build.specs.declared.outgoing.Outgoing.{Outgoing}
 
--- a number as it is returned: it stops at the greatest 64-bit value
+-- a number as it is returned: it saturates at the greatest 64-bit value
 abbrev pub told : ℕ → ℕ
 told number = min number (2 ^ 64 - 1)
 
@@ -32,7 +32,7 @@ abbrev pub Answer : {X : Type 0} → List ℕ → Outgoing → Outgoing → ℕ 
 Answer text old new failures failures' row bytes (Ok x) = Writes text old new bytes × (failures' ≡ failures)
 Answer text old new failures failures' row bytes (Err fault) = Stops text old fault.out bytes × HasFailed failures failures' row
 
--- Some bytes were written, in few enough calls, and the result means what Answer says of them.
+-- Some bytes were written, within the bound on calls, and the result means what Answer says of them.
 pub record Writing {X W : Type 0} (text : List ℕ) (old new : Outgoing)
     (dev : Ghosts W) (output output' : W) (result : Result X WriteFault) : Type 0 where
   pub bytes : List ℕ

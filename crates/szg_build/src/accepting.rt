@@ -28,7 +28,7 @@ fn are_below(symbols: &[u16], count: usize) -> bool
     true
 }
 
-/// Returns whether `values` are the values of a symbol. Their number must be right.
+/// Returns whether `values` are the values of a symbol. The symbol must have this number of values.
 fn is_expansion(dict: &Dict, symbol: u16, values: &[u16]) -> bool
     requires there { symbol < length dict.now }
     requires many { length values.now ≡ length (expansion_of dict.now symbol) }
@@ -212,9 +212,9 @@ fn lengths_of(alloc: Global, dict: &Dict) -> Result<Vec<u16>, AllocError>
     Ok(lens)
 }
 
-/// Tests a dictionary's entries and a text of symbols; returns the number of values of each symbol. None if there
-/// are too many entries, or another number of leaves than of different values; if a pair occurs neither in the text
-/// nor in another pair; if the dictionary is not accepted; or if the text does not expand to `values`.
+/// Tests a dictionary's entries and a text of symbols; returns the number of values of each symbol. None if there are
+/// too many entries, if the number of leaves is not the number of different values, if a pair occurs neither in the
+/// text nor in another pair, if the dictionary is not accepted, or if the text does not expand to `values`.
 fn tested(
     alloc: Global,
     values: &[u16],

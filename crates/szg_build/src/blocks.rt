@@ -1,4 +1,5 @@
-//! Fills blocks with the words of symbols. A block takes words up to its bits and up to 65,536 values.
+//! Fills blocks with the words of symbols. A block takes words as long as their bits fit and they have at most 65,536
+//! values.
 ghost use Rattle.std.specs.Prelude.{ℕ, ◌≡◌, ◌+◌, ◌-◌, ◌*◌, ◌<◌, ◌≤◌, ◌^◌, ◌↔◌, ◌⊎◌, Bool, List, [], ◌∷◌, ◌++◌, length, replicate, IfOk, OnOk, IsTrue};
 ghost use Rattle.std.specs.List.{AllByRecursion};
 ghost use Rattle.szg_code.specs.Acceptance.{IsCode};

@@ -1,4 +1,4 @@
-//! Copies for a dump what it has in common with its table.
+//! Copies the fields that a dump shares with its table.
 ghost use Rattle.std.specs.Prelude.{◌≡◌, ◌%◌, map, Some, option_map, IfOk};
 ghost use Rattle.szg_values.specs.Material.{IsMaterial};
 ghost use Rattle.szg_file.specs.File.{flags_of};

@@ -1,6 +1,7 @@
-//! Estimates in bits, by how often symbols occur: what a symbol costs in a text, and what a pair saves.
+//! Estimates, in bits and from symbol counts, what a symbol costs in a text and what a pair saves.
 //!
-//! Nothing is proved of the estimates but that they are safe: they only choose which pairs are kept and how values are spelled.
+//! Only the safety of this code is proved, not its estimates: they only decide which pairs are kept and how values are
+//! spelled.
 
 /// The number of fractional bits of a logarithm and of an estimate.
 pub(crate) const FRACTION: u32 = 16;

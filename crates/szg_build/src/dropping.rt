@@ -1,4 +1,4 @@
-//! Drops pairs from a dictionary that save too little, from the last to the first.
+//! Drops the pairs of a dictionary that save too little, from the last to the first.
 //!
 //! Nothing is proved of what is dropped but that it is safe: what is left is only proposed, and a proposal is tested.
 use crate::costs::saved_by;

@@ -28,7 +28,8 @@ impl Dump {
     ghost use Rattle.szg_build.specs.Built.{IsDumpOf};
     ghost use Rattle.szg_build.specs.Shown.{dump_seen};
 
-    /// Returns the content of a table; of the flags only 1 to 16. Errors: `AllocError` if memory is refused.
+    /// Returns the content of a table, with only the flags 1, 2, 4, 8 and 16. Errors: `AllocError` if memory is
+    /// refused.
     pub fn of(alloc: Global, table: &Table) -> Result<Dump, AllocError>
         ensures { IfOk result (λ dump. IsDumpOf (dump_seen dump) table.now.contents) }
     {
@@ -54,13 +55,13 @@ pub enum DumpFault {
     /// The first line names a version other than 1 and 2.
     #[error("Version")]
     Version = 1,
-    /// The line is not the one that is due, it names no kind of table, or it has more than 80 bytes before 0A.
+    /// The line is not the expected one, it names no kind of table, or it has more than 80 bytes before 0A.
     #[error("Field")]
     Field = 2,
-    /// A word is no decimal without leading zeros, or it is above its limit; or a run has length 0.
+    /// A word is not a decimal without leading zeros, or exceeds its limit; or a run has length 0.
     #[error("Number")]
     Number = 3,
-    /// A word is no lower-case hexadecimal text of whole bytes; or the line `end` has not sixteen bytes.
+    /// A word is not lower-case hexadecimal text of whole bytes; or the line `end` does not have sixteen bytes.
     #[error("Hex")]
     Hex = 4,
     /// A word names no material.
@@ -77,7 +78,7 @@ pub enum DumpFault {
 /// Why no dump was read.
 #[derive(Clone, Copy, Debug, PartialEq, Eq, Drop)]
 pub enum DumpReadFault {
-    /// The first line that is refused. Lines are counted from 1, and the number stops at the greatest 64-bit value.
+    /// The first line that is refused. Lines are counted from 1, and the number saturates at the greatest 64-bit value.
     Line { line: u64, fault: DumpFault },
     /// No table can be built from what the lines so far say.
     Build(BuildFault),

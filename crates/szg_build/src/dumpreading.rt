@@ -153,20 +153,20 @@ fn read_text<R: Input>(
 
 /// Reads the text of a dump, in the form that its first line names. No byte after its last line is read.
 ///
-/// Errors: `Line` has the number of the first refused line, from 1, which stops at the greatest 64-bit value, and
-/// the reason. A line is read whole, at most 80 bytes and its 0A; then the number of its words and its fixed words
-/// are checked, then its values from left to right. Only in form 2, `Build` means that no table can be built from
-/// the lines so far: `Order` after the first line `sub` if the parts are not valid, `Length` after a line `values`
-/// whose number is not the subtable's size. `Device` means that the reader failed, `Memory` that memory was refused.
-/// After a refused line more bytes may have been read. If memory was refused, no more bytes were read ahead than
-/// every dump that begins with these lines still has. After a dump that was read, no byte was read ahead.
+/// Errors: `Line` has the reason and the number of the first refused line, which counts from 1 and saturates at the
+/// greatest 64-bit value. First a whole line is read, at most 80 bytes and its 0A; then the number of its words and its
+/// fixed words are checked, and then its values from left to right. Only in form 2, `Build` means that no table can be
+/// built from the lines so far: `Order` after the first line `sub` if the parts are not valid, `Length` after a line
+/// `values` whose number is not the subtable's size. `Device` means that the reader failed, `Memory` that memory was
+/// refused. After a refused line more bytes may have been read. If memory was refused, no more bytes were read ahead
+/// than the shortest dump that begins with these lines still has. If a dump was read, no byte was read ahead.
 pub fn read_dump<R: Input>(alloc: Global, input: &mut R) -> Result<Dump, DumpReadFault>
     // If the bytes to come are known, the result is their verdict, however the reader splits them.
     ensures verdict { IfSome (R.coming input.old) (λ bytes. FollowsLines (verdict dump_format 0 bytes) result (R.coming input.new)) }
     // For every reader: the bytes that were read, and the number of calls.
     ensures taken { (bytes : List ℕ) × Takes R.Input input.old input.new bytes 1 × TookLines (verdict dump_format 0 bytes) result (R.coming input.new) }
-    // If memory is refused: the lines that were read are valid, and no more bytes were read ahead than every dump
-    // that begins with these lines still has.
+    // If memory is refused: the lines that were read are valid, and no more bytes were read ahead than the shortest
+    // dump that begins with these lines still has.
     ensures memory { IsErrOf result DumpReadFault.Memory → (bytes : List ℕ) × Takes R.Input input.old input.new bytes 1 × StopsShort dump_format 0 0 bytes }
     ensures device { IsErrOf result DumpReadFault.Device → HasFailed (R.failures input.old) (R.failures input.new) (R.interrupted input.new) × IsTrue (R.may_fail input.old) }
     ensures quiet { (IsErrOf result DumpReadFault.Device → ⊥) → R.failures input.new ≡ R.failures input.old }

@@ -10,7 +10,7 @@ const ROOM: usize = 4096;
 /// The state of a reader of lines.
 #[derive(Drop)]
 pub(crate) struct Incoming {
-    /// The number of lines read; it stops at the greatest 64-bit value.
+    /// The number of lines read; it saturates at the greatest 64-bit value.
     pub line: u64,
     /// The bytes read ahead begin at this index of `bytes`.
     from: usize,
@@ -65,8 +65,8 @@ impl Incoming {
         text
     }
 
-    /// Reads at most `most` bytes more ahead, in one call of the device that is not interrupted. Returns their
-    /// number, which is 0 only at the end of the input.
+    /// Reads up to `most` more bytes ahead, in one call of the device that is not interrupted. Returns their number,
+    /// which is 0 only at the end of the input.
     pub fn refill<R: Input>(&mut self, most: u64, input: &mut R) -> Result<usize, DeviceFault>
         requires some { 0 < most }
         requires room { length (held_of self.old) ≤ 80 }

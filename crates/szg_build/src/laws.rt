@@ -6,12 +6,12 @@ pub fn text_is_read()
     ensures { TextIsRead }
 {}
 
-/// A text of a dump that is cut anywhere ends before the 0A of the line after the last whole line.
+/// The text of a dump that is cut anywhere is refused as `Ended`, at the line after the last whole line.
 pub fn cut_text_is_ended()
     ensures { CutTextIsEnded }
 {}
 
-/// Two dumps of one text are equal.
+/// Two dumps with the same text are equal.
 pub fn one_text_one_dump()
     ensures { OneTextOneDump }
 {}
@@ -26,7 +26,7 @@ pub fn own_dump_is_read()
     ensures { OwnDumpIsRead }
 {}
 
-/// A table that is built from a dump has this dump.
+/// The dump of a table that is built from a dump is that dump.
 pub fn built_dump_stays()
     ensures { BuiltDumpStays }
 {}

@@ -81,7 +81,7 @@ pub struct SmallPlan {
 /// Why no table was built. Lists are counted from 0.
 #[derive(Debug, Clone, Copy, PartialEq, Eq, Error)]
 pub enum BuildFault {
-    /// The number of parts, order bytes or men is not the material's, or no file may have this order.
+    /// The number of parts, order bytes or men is not the material's, or the reader would refuse this order.
     #[error("Order")]
     Order,
     /// The block bits are not 5 to 10, or the span bits are not 1 to 16.

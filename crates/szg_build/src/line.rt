@@ -27,8 +27,8 @@ fn line_len(held: &[u8]) -> Option<usize>
     None
 }
 
-/// Reads a line and its 0A. The line and its 0A should have at least `least` bytes, and at least `behind` bytes are
-/// due after them. So it requests these bytes at once, and after a line that is long enough no byte past them has
+/// Reads a line and its 0A. The caller expects at least `least` bytes for these and at least `behind` bytes after them,
+/// so at least that much may be read at once. If the line is not shorter, no more than `behind` bytes after it have
 /// been read.
 ///
 /// Errors: `Field` if the line has more than 80 bytes before its 0A, `Ended` if the bytes end before it, `Device` if

@@ -33,7 +33,7 @@ fn with_line<T: Drop>(told: Result<T, DumpFault>, line: u64) -> Result<T, DumpRe
     }
 }
 
-/// Reads a line and parses it by `tell`.
+/// Reads a line and parses it with `tell`.
 fn read_told<T: Drop, R: Input, F: FnOnce(&[u8]) -> Result<T, DumpFault> + Drop>(
     tell: F,
     behind: u64,

@@ -11,7 +11,7 @@ use szg_io::{Output, give_whole};
 /// The state of a writer of text.
 #[derive(Drop)]
 pub(crate) struct Outgoing {
-    /// The number of bytes written; it stops at the greatest 64-bit value.
+    /// The number of bytes written; it saturates at the greatest 64-bit value.
     pub out: u64,
     /// The bytes after those, which are buffered.
     pub held: ArrayVec<u8, 4096>,
@@ -30,7 +30,7 @@ impl Outgoing {
     }
 }
 
-/// Writes `piece`, where `out` bytes were written before; returns the new number of bytes written.
+/// Writes `piece` after `out` bytes; returns the new total.
 fn give<W: Output>(piece: &[u8], output: &mut W, out: u64) -> Result<u64, WriteFault>
     ensures ok { IfOk result (λ now. now ≡ min (out + length piece.now) (2 ^ 64 - 1)) }
     ensures given { OnOk result (Gives W.Output output.old output.new piece.now 0) }

@@ -6,7 +6,7 @@ ghost use Rattle.szg_build.specs.Dump.{places_of};
 
 use szg_values::{Kind, Material};
 
-/// Part and side of each subtable, for one part with one side. The constants after it are for more of them.
+/// Part and side of each subtable, for one part with one side. The constants below are for more sides and parts.
 const ONE: &[(u8, u8)] = &[(0, 0)];
 
 const TWO_SIDES: &[(u8, u8)] = &[(0, 0), (0, 1)];

@@ -1,4 +1,4 @@
-//! Proposes pairs. A round takes time for what it replaces, and none goes over the whole text.
+//! Proposes pairs. The time of a round is proportional to what it replaces; no round passes over the whole text.
 use crate::cells::Cells;
 use crate::leaves::{MAX_SYMBOLS, Paired, entry};
 use crate::occurrences::Occurrences;

@@ -13,7 +13,7 @@ use crate::proposing::{propose, with_pairs};
 use crate::shrinking::shrink;
 use std::alloc::{AllocError, Global};
 
-/// Returns a right symbol with which `left` makes a pair that may be made and counts four or more.
+/// Returns a right symbol with which `left` makes a pair that may be made and occurs at least four times.
 fn find_right(counts: &[u32], lens: &[u16], left: usize) -> Option<usize>
     requires few { length lens.now ≤ 4095 }
     requires room { length counts.now ≡ length lens.now * length lens.now }
@@ -33,7 +33,7 @@ fn find_right(counts: &[u32], lens: &[u16], left: usize) -> Option<usize>
     None
 }
 
-/// Returns a pair that may be made and counts four or more.
+/// Returns a pair that may be made and occurs at least four times.
 fn find_pair(counts: &[u32], lens: &[u16]) -> Option<Pair>
     requires few { length lens.now ≤ 4095 }
     requires room { length counts.now ≡ length lens.now * length lens.now }
@@ -140,7 +140,7 @@ fn is_finished(alloc: Global, paired: &Paired, rounds: u32) -> Result<bool, Allo
     Ok(false)
 }
 
-/// Returns whether four bytes hold each offset of a list, as lists of a pair's offsets store them.
+/// Returns whether each offset in a list fits four bytes, the size in which a pair's offsets are stored.
 fn has_short_offsets(values: &[u16]) -> bool
     ensures { IsTrue result ↔ (length values.now < 2 ^ 32) }
 {

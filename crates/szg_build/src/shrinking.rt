@@ -1,4 +1,4 @@
-//! Chooses the pairs of a small subtable and spells its values with them, by trial over the bytes that come out.
+//! Chooses the pairs of a small subtable and spells its values with them: tries several choices and counts their bytes.
 //!
 //! From a dictionary of many pairs those are dropped that save the fewest bits; the values are spelled anew with what is
 //! left, and so on, with a bound that rises. Then pairs are added to the best text, and pairs are dropped again.
@@ -159,7 +159,7 @@ fn bounds_for(values: usize) -> Bounds {
     }
 }
 
-/// Returns the bounds after pairs were added for the time `round`: their step is 4 bits to 1 bit.
+/// Returns the bounds after pairs were added `round` times. Their step is between 1 and 4 bits.
 fn later_bounds(round: u64) -> Bounds {
     Bounds {
         first: bits(12),
@@ -168,14 +168,14 @@ fn later_bounds(round: u64) -> Bounds {
     }
 }
 
-/// Returns what symbols cost after pairs were added for the time `round`.
+/// Returns how symbols' costs are mixed after pairs were added `round` times.
 fn blend_for(round: u64) -> Blend {
     Blend {
         quarters: round.wrapping_mul(2) % 5,
     }
 }
 
-/// Returns one more than how often pairs are added to the best text of a list of `values` values, at most.
+/// Returns one more than the greatest number of times that pairs are added to the best text of `values` values.
 fn rounds_for(values: usize) -> u64 {
     if values > FEW_VALUES { 1 } else { 61 }
 }

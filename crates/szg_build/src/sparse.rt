@@ -34,8 +34,8 @@ fn advance(lengths: &[u16], walk: &mut Walk, index: u64)
     }
 }
 
-/// Returns the sparse entry that leads to `index`: the block that contains it, or from `size` on the end after the
-/// last block.
+/// Returns the sparse entry that leads to `index`: the block that contains it, or the end after the last block if
+/// `index` is `size` or more.
 fn entry_to(lengths: &[u16], walk: &mut Walk, index: u64, size: u64) -> Entry
     requires there { walk.old.block < length lengths.now }
     requires at { walk.old.start ≡ start lengths.now walk.old.block }

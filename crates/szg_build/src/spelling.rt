@@ -1,6 +1,6 @@
 //! Spells a list of leaves with the symbols of a dictionary in the fewest bits: a shortest path over its values.
 //!
-//! Nothing is proved of a spelling but that it is safe: it is only proposed, and a proposal is tested.
+//! Only the safety of this code is proved: a spelling is only a proposal, and proposals are tested.
 use crate::leaves::MAX_SYMBOLS;
 use crate::numbering::at;
 use std::alloc::{AllocError, Global};
@@ -9,13 +9,13 @@ use szg_pairs::entry::{is_leaf, left, right};
 /// No node.
 const NO_NODE: u32 = u32::MAX;
 
-/// What a node costs at which no symbol ends.
+/// The cost of a node at which no symbol ends.
 const NO_COST: u64 = u64::MAX;
 
-/// How many costs are kept: more than a symbol has values.
+/// The number of costs kept at a time; it is above the greatest number of values of a symbol.
 const KEPT: usize = 512;
 
-/// The leaves from the root to a node begin the expansions of some symbols.
+/// A node of a prefix tree of expansions: the leaves from the root to it begin the expansion of some symbol.
 #[derive(Clone, Copy)]
 struct Node {
     leaf: u16,
@@ -144,7 +144,7 @@ fn expansion(alloc: Global, entries: &[[u8; 3]], symbol: u16) -> Result<Vec<u16>
     Ok(leaves)
 }
 
-/// The cheapest spelling from a place on: its first symbol and its cost.
+/// The cheapest spelling from an index on: its first symbol and its cost.
 #[derive(Clone, Copy)]
 struct Cheapest {
     symbol: u16,
@@ -152,13 +152,13 @@ struct Cheapest {
     steps: u64,
 }
 
-/// Returns the cost that is kept for a place.
+/// Returns the cost that is kept for an index.
 fn kept_at(kept: &[u64], place: usize) -> u64 {
     let number = place % KEPT;
     if number < kept.len() { kept[number] } else { 0 }
 }
 
-/// Returns the cheapest spelling from `place` on, by the costs of those that begin later.
+/// Returns the cheapest spelling from index `place` on, from the costs of spellings that begin later.
 fn cheapest_from(tree: &Tree, leaves: &[u16], place: usize, kept: &[u64]) -> Cheapest {
     let mut best = Cheapest {
         symbol: 0,
@@ -187,7 +187,7 @@ fn cheapest_from(tree: &Tree, leaves: &[u16], place: usize, kept: &[u64]) -> Che
     best
 }
 
-/// Returns the leaf at a place; 0 after the last one.
+/// Returns the leaf at an index; 0 after the last leaf.
 fn at_place(leaves: &[u16], place: usize) -> u16 {
     if place < leaves.len() {
         leaves[place]
@@ -231,7 +231,7 @@ pub(crate) fn spell(
     })
 }
 
-/// Returns the symbols of a text, by the symbol that was chosen at each place.
+/// Returns the symbols of a text, from the symbol that was chosen at each index.
 fn chosen(alloc: Global, choices: &[u16], lens: &[u16]) -> Result<Vec<u16>, AllocError> {
     let mut symbols = Vec::new(alloc);
     let mut place = 0usize;

@@ -215,13 +215,13 @@ fn build_by(
 
 /// Builds a table from a plan and the values of its subtables, which are listed in file order.
 ///
-/// Errors, the first that applies: `Order` (another number of parts, order bytes or men than the material has, or
-/// an order that no file may have), `Bits` (block bits not 5 to 10, span bits not 1 to 16), `Rounds` (above 4,000),
+/// Errors, the first that applies: `Order` (the number of parts, order bytes or men is not the material's, or the
+/// reader would refuse this order), `Bits` (block bits not 5 to 10, span bits not 1 to 16), `Rounds` (above 4,000),
 /// `Count` (the number of lists is not the number of subtables), `Length` (the first list whose length is not its
-/// subtable's size), `Value` (the first with a value above 4, in DTZ above 4,095), `TooManyValues` (the first with
-/// more than 4,095 different values), `Map` (in DTZ another number of flags or of maps than of parts, flags above
-/// 31, flag 2 without a map or a map without flag 2, flag 16 on a map of bytes or a wide map without flag 16, or a
-/// list too long for its length field; in WDL any flags or maps at all), `Memory` (memory was refused).
+/// subtable's size), `Value` (the first with a value above 4, in DTZ above 4,095), `TooManyValues` (the first with more
+/// than 4,095 different values), `Map` (in DTZ another number of flags or of maps than of parts, flags above 31, flag 2
+/// without a map or a map without flag 2, flag 16 on a map of bytes or a wide map without flag 16, or a list too long
+/// for its length field; in WDL any flags or maps at all), `Memory` (memory was refused).
 ///
 /// The time for a list is proportional to its number of values. A list of 2^32 values or more takes this time for
 /// each pair: its offsets do not fit four bytes, so all its pairs are counted again in each round.
@@ -248,9 +248,9 @@ pub fn build(alloc: Global, plan: &Plan, lists: &[&[u16]]) -> Result<Table, Buil
 /// Builds a table from a plan and the values of its subtables, which are listed in file order, as small as the
 /// builder can make it.
 ///
-/// Each subtable gets pairs while they pay, words by their symbols' counts, and the block bits and span bits with
-/// which it takes the fewest bytes. Errors: those of `build` without `Bits` and `Rounds`. A list of 2^32 values or
-/// more gets no pairs.
+/// Each subtable gets pairs as long as they save bytes, words by their symbols' counts, and the block bits and span
+/// bits with which it takes the fewest bytes. Errors: those of `build` without `Bits` and `Rounds`. A list of 2^32
+/// values or more gets no pairs.
 pub fn build_small(alloc: Global, plan: SmallPlan, lists: &[&[u16]]) -> Result<Table, BuildFault>
     ensures refused { MatchOption (build_fault (small_seen plan) (map (λ list. list.now) lists.now))
         (IfErr result (λ fault. fault ≡ BuildFault.Memory))

@@ -412,7 +412,7 @@ fn put_dump<W: Output>(
 
 /// Writes the text of a dump: in form 1 a line for each value, in form 2 a line for each longest run of equal
 /// values. If a DTZ dump has fewer flags or maps than lists, the last subtables are not written. Allocates nothing.
-/// Errors: the writer failed; the fault has the number of bytes of the text that were written, which stops at the
+/// Errors: the writer failed; the fault has the number of bytes of the text that were written, saturated at the
 /// greatest 64-bit value.
 pub fn write_dump<W: Output>(dump: &Dump, form: u8, output: &mut W) -> Result<(), WriteFault>
     requires { (form ≡ 1) ⊎ (form ≡ 2) }

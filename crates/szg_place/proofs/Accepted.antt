@@ -1,5 +1,5 @@
--- A table's numbering fulfils IsLayout: its parts order their groups without a fault, and its subtables have the
--- sizes of their groups.
+-- A table's numbering satisfies IsLayout: its parts have valid order nibbles and men, and its subtables have the sizes
+-- of their groups.
 use Rattle.std.proofs.Common.{◌≡◌, ℕ, zero, suc, ◌<◌, List, [], ◌∷◌, length, refl, ap, ◌∙◌, Bool, true, false, cond, arith}
 use Rattle.std.specs.Prelude.{slice_get, unwrap_or, Option, Some, None, IsNone}
 use Rattle.std.specs.List.{AllByRecursion}
@@ -13,7 +13,7 @@ use Rattle.szg_file.specs.Index.{Index, index_of}
 use Rattle.szg_place.specs.Layout.{IsLayout, nibbles_at, is_dtz}
 use Rattle.szg_place.specs.Tables.{numbering_of, numbering_in}
 
--- the item at an index of one list has an item at that index of the other list
+-- if one of two lists side by side has an item at an index, so has the other
 pub side_get : {A B : Type 0} (Q : B → Type 0) (xs : List A) (ys : List B) (i : ℕ) → SideBySide (λ _. Q) xs ys → i < length xs → (y : B) × (slice_get ys i ≡ Some y) × Q y
 side_get Q [] ys i h l = absurd (omega arith)
 side_get Q (x ∷ xs) [] i h l = absurd h
@@ -47,7 +47,7 @@ none_holds : {A : Type 0} (o : Option A) → o ≡ None → IsNone o
 none_holds None e = refl
 none_holds (Some x) e = cc
 
--- parts that pass their checks order their groups without a fault
+-- parts that pass their checks have valid order nibbles and men
 pub parts_numbering : (x : Index) → IsMaterial x.material → SideBySide (λ _. IsPart x.material x.kind) (part_numbers x.material) x.parts → IsLayout (numbering_in x)
 parts_numbering x m stand = record {
   material = m;

@@ -1,4 +1,4 @@
--- What is known of an opened front where a placement is probed in it.
+-- What is known about a table opened by its front when a placement is probed in it.
 use Rattle.std.proofs.Common.{◌≡◌, ℕ, Bool, cond, refl, sym, ap, ◌∙◌, subst}
 use Rattle.std.specs.Prelude.{ℤ, Option, Some, None, IsNone, IsSome, IfOk, IsSomeAnd, Result, Ok, Err}
 use Rattle.szg_values.specs.declared.Kind.{Kind}

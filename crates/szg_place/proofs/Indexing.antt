@@ -185,7 +185,7 @@ step_of sides part n sets i group m p o h k e =
       turn = t;
     }
 
--- the squares of earlier groups are among those that group i is counted on
+-- the squares of earlier groups are among the squares on which group i is ranked
 pub left_to : (sides : Sides) (before : List (List ℕ)) (i : ℕ) → length before ≡ i → IsLaid sides before → (x : ℕ) → IsIn x (concat before) →
     IsIn x (base_of (has_other_pawns sides && i == 1))
 left_to sides before i e laid x h = elim (cases_Bool (has_other_pawns sides && i == 1)) [
@@ -298,7 +298,7 @@ pub index_small : (sides : Sides) (part : ℕ) (n : Nibbles) (sets : List (List 
 index_small sides part n sets m p o l =
     let f = index_fits sides part n sets m p o l in let a = index_start sides part sets (counted sides part n).factors in omega (arith, f, a)
 
--- the squares that stand behind those of the groups before, once a group's were appended
+-- the squares after those of earlier groups, once a group's squares are appended
 pub split_behind : {sides : Sides} {part : ℕ} {n : Nibbles} {sets : List (List ℕ)} {i first : ℕ} {group : Group} {squares taken set own : List ℕ} → IsStep sides part n sets i group →
     squares ≡ concat (take i sets) ++ set → set ≡ get_or sets i [] → first ≡ group.first → taken ≡ take first squares → own ≡ drop first squares → IsSplit sides part n sets i group taken own
 split_behind {sets = sets} {i} {first} {group} {squares} {taken} {set} {own} s e f g a b =

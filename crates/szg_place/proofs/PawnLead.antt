@@ -17,7 +17,7 @@ use Rattle.szg_place.proofs.Ways.{pawn_order-squares, pawns_down}
 use Rattle.szg_place.proofs.Pieces.{IsStood, IsStood-moved, moved_piece, stands, stands-from, stands-true, squares_count, count-same, is_pawn_code}
 use Rattle.szg_place.proofs.Flips.{flip_file-move, flip_file-back}
 
--- pawn squares of files a to d in pawn order, after each of which comes its square on files h to e
+-- the pawn squares of files a to d, in pawn order; there each is followed by its mirror square on files h to e
 abbrev lefts : List ℕ
 lefts = flat_map (λ file. map (square_at file) (range_with_len 1 6)) (range_with_len 0 4)
 

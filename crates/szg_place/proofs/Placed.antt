@@ -87,7 +87,7 @@ manned sides part n index m p o h =
 
 -- ---- a side of a part
 
--- what the code knows while it computes the placement of an index
+-- what is known while the placement of an index is computed
 pub record IsAt (t : Index) (part side index : ℕ) (m : Sides) (n : Nibbles) : Type 0 where
   pub layout : IsLayout (numbering_in t)
   pub material : IsMaterial m

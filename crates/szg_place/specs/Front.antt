@@ -1,4 +1,4 @@
--- What a probe by an opened front returns. The block that contains the value is fetched and verified.
+-- What a probe of a table opened by its front returns. The block that contains the value is fetched and verified.
 use Rattle.std.specs.Prelude.{◌≡◌, ℕ, ℤ, List, Option, Some, None, IfSome, Result, Ok, Err}
 use Rattle.szg_values.specs.Placement.{Board}
 use Rattle.szg_file.specs.Contents.{Slot, Subtable}
@@ -18,7 +18,7 @@ use Rattle.szg_place.specs.declared.ProbeFault.TheVariants.{Place, Map}
 use Rattle.szg_place.specs.declared.FrontProbeFault.{FrontProbeFault}
 use Rattle.szg_place.specs.declared.FrontProbeFault.TheVariants.{Probe, Fetch}
 
--- why the table of a front has no index for a placement, if it has none; and the spot of a placement
+-- the fault of a placement that has no index in the table of a front; and the spot of a placement
 abbrev pub fault_in : FrontKept → Board → Option PlaceFault
 fault_in kept board = place_fault (numbering_in kept.index) board
 
@@ -42,8 +42,8 @@ abbrev pub IsMissedAt : FrontKept → List ℕ → Spot → FetchFault → Type 
 IsMissedAt kept content spot (fetch.Block number offset) = IsBadAt kept content spot (fetch.Block number offset)
 IsMissedAt kept content spot fetch.Source = Unit {0}
 
--- Ok: what the spot's value means, from a block that decodes. Err: why there is no value, or why the value has no
--- meaning.
+-- Ok: the meaning of the spot's value, whose block decodes. Err: the fault of the fetch, or the fault of a value
+-- without meaning.
 abbrev pub IsMeant : {A : Type 0} → (ℕ → Type 0) → (FetchFault → Type 0) → (ℕ → Result A MapFault) → Result A FrontProbeFault → Type 0
 IsMeant is_value missed meaning (Ok answer) = (v : ℕ) × is_value v × (meaning v ≡ Ok answer)
 IsMeant is_value missed meaning (Err (Probe (Map fault))) = (v : ℕ) × is_value v × (meaning v ≡ Err fault)

@@ -1,4 +1,4 @@
--- What the code knows of a placement before it has the placement's index.
+-- What is known about a placement before its index is computed.
 use Rattle.std.specs.List.{concat}
 use Rattle.std.specs.Prelude.{◌≡◌, ℕ, ◌<◌, ◌≤◌, ◌==◌, ◌&&◌, true, List, [], ◌∷◌, slice_index, length, None, IsNone, IfSome, IsSomeAnd, Result, Ok, Err, IfOk, if◌then◌else◌}
 use Rattle.szg_values.specs.declared.Kind.{Kind}

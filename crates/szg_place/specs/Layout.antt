@@ -39,7 +39,7 @@ part_count l = if has_pawns l.material then 4 else 1
 abbrev pub stored_side : Layout → ℕ → ℕ
 stored_side l part = slice_index l.flags part % 2
 
--- each part exists, and orders the groups of each of its sides without a fault
+-- each part exists, and has valid order nibbles and men for each of its sides
 pub record IsLayout (l : Layout) : Type 0 where
   pub material : IsMaterial l.material
   pub parts : length l.parts ≡ part_count l

@@ -1,4 +1,5 @@
-//! Probes of a table that was opened by its front: the block that contains the value is fetched and verified.
+//! Probes of a table that was opened by its front, which is all of its file before the blocks. A probe fetches and
+//! verifies the block that contains the value.
 
 ghost use Rattle.std.specs.Prelude.{◌≡◌, ◌<◌, ◌≤◌, ◌≤ℤ◌, pos, neg_ℤ, length, IsNone, IsSome, IfSome, IfOk, IfErr, Ok, Err};
 ghost use Rattle.szg_block.specs.BlocksTrait.{Rose};

@@ -1,4 +1,4 @@
-//! The index of groups' squares, and the squares of an index.
+//! The squares of an index, group by group.
 
 ghost use Rattle.std.specs.Prelude.{◌≡◌, ◌+◌, ◌++◌, ◌<◌, ◌≤◌, ◌^◌, ℕ, List, [], length, None};
 ghost use Rattle.std.specs.List.{concat, zip};

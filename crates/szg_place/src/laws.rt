@@ -16,7 +16,7 @@ pub fn squares_told()
     ensures { LawSquaresTold }
 {}
 
-/// Ranking the squares of given ranks returns the ranks.
+/// Unranking ranks to squares, and ranking these squares, returns the ranks.
 pub fn places_told()
     ensures { LawPlacesTold }
 {}
@@ -41,8 +41,7 @@ pub fn placement_of_spot()
     ensures { LawPlacementOfSpot }
 {}
 
-/// A table's numbering fulfils `IsLayout`, which the laws require: each part exists and orders its groups without a
-/// fault.
+/// A table's numbering satisfies `IsLayout`, which the laws require: each part exists and has valid order nibbles.
 pub fn table_numbering(table: &Table)
     ensures { IsLayout (numbering_of table.now.contents) }
 {

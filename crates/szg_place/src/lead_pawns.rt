@@ -11,7 +11,7 @@ use arrayvec::ArrayVec;
 use szg_count::unrank_subset;
 use szg_values::MAX_MEN;
 
-/// The value P of a square: the number of squares after it in the order of pawn squares.
+/// The value P of a square (`ptwist` in the probing code): the number of squares after it in the order of pawn squares.
 pub(crate) const PAWN_NUMBERS: [u8; 64] = [
     0, 0, 0, 0, 0, 0, 0, 0, 47, 35, 23, 11, 10, 22, 34, 46, 45, 33, 21, 9, 8, 20, 32, 44, 43, 31,
     19, 7, 6, 18, 30, 42, 41, 29, 17, 5, 4, 16, 28, 40, 39, 27, 15, 3, 2, 14, 26, 38, 37, 25, 13,
@@ -24,8 +24,8 @@ pub(crate) const PAWN_SQUARES: [u8; 48] = [
     54, 49, 46, 41, 38, 33, 30, 25, 22, 17, 14, 9, 55, 48, 47, 40, 39, 32, 31, 24, 23, 16, 15, 8,
 ];
 
-/// The number of sets whose first pawn is on an earlier rank of the board, at index `24 * (pawns - 1) + 6 * file +
-/// (rank - 1)`: by the number of lead pawns, 1 to 4, and the file, 0 to 3, and the rank, 1 to 6, of the first pawn.
+/// The number of sets whose first pawn is on a lower rank of its file. It is at index `24 * (pawns - 1) + 6 * file +
+/// (rank - 1)` for 1 to 4 lead pawns, whose first is on file 0 to 3 and rank 1 to 6, counted from 0.
 const WAYS_BEFORE: [u32; 96] = [
     0, 1, 2, 3, 4, 5, 0, 1, 2, 3, 4, 5, 0, 1, 2, 3, 4, 5, 0, 1, 2, 3, 4, 5, 0, 47, 92, 135, 176,
     215, 0, 35, 68, 99, 128, 155, 0, 23, 44, 63, 80, 95, 0, 11, 20, 27, 32, 35, 0, 1081, 2071,
@@ -49,7 +49,7 @@ pub fn lead_pawns_place(squares: &[u8], file: u8) -> u64
     before + place_of_set(numbers.as_slice())
 }
 
-// Returns the number of sets whose first pawn is on an earlier rank of the board.
+// Returns the number of sets whose first pawn is on a lower rank of its file.
 fn ways_before(pawns: usize, file: u8, rank: u8) -> u64
     requires some { 0 < pawns }
     requires few { pawns ≤ 4 }
@@ -103,7 +103,8 @@ fn squares_from(first: u8, numbers: &[u8]) -> ArrayVec<u8, MAX_MEN>
     squares
 }
 
-// Returns the rank of the board, 1 to 6, on which the first pawn of set `place` of the ordered list is.
+// Returns the rank of the board, 1 to 6 counted from 0, of the first pawn of the set with rank `place` in the ordered
+// list.
 fn first_rank(pawns: u8, file: u8, place: u64) -> u8
     requires some { 0 < pawns }
     requires few { pawns ≤ 4 }

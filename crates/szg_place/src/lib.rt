@@ -38,8 +38,8 @@ pub enum PlaceFault {
     /// The placement's men are not the table's.
     #[error("OtherMaterial")]
     OtherMaterial,
-    /// The groups of the placement's subtable can't number it. Without pawns, a man of the lead group is not the
-    /// only one of its kind and colour; or a later group does not have all men of its kind and colour.
+    /// The groups of the placement's subtable give it no index: without pawns, some man of the lead group is not the
+    /// only one of its kind and colour; or some later group does not have all men of its kind and colour.
     #[error("Irregular")]
     Irregular,
     /// The lead group is the two kings, and they are on neighbouring squares.
@@ -61,7 +61,7 @@ pub enum ProbeFault {
     Map(MapFault),
 }
 
-/// Why a probe by an opened front returns neither a class nor a number.
+/// Why a probe of a table that was opened by its front (all but its blocks) returns neither a class nor a number.
 #[derive(Clone, Copy, Debug, PartialEq, Eq, Error)]
 pub enum FrontProbeFault {
     /// The table has no index for the placement, or no number for its value.

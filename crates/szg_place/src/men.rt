@@ -13,7 +13,7 @@ use crate::traits::Traits;
 use arrayvec::ArrayVec;
 use szg_values::{Color, MAX_MEN, Man, Placement, Square};
 
-/// What the men of the name's second side add to the code of their kind.
+/// Added to the code of a man's kind if the man belongs to the name's second side.
 const SECOND_SIDE: u8 = 8;
 
 /// A man as a file codes it, and its square.
@@ -25,8 +25,8 @@ pub struct Piece {
     pub square: u8,
 }
 
-/// Returns whether colours are exchanged. If both sides have the same men, they are when Black moves; else they are
-/// when White is not the name's first side. None if the men are not the material's.
+/// Returns whether colours are exchanged: if both sides have the same men, when Black moves; otherwise, when White is
+/// not the name's first side. None if the men are not the material's.
 pub fn exchange_of(material: &Traits, placement: &Placement) -> Option<bool>
     ensures other { IfNone result (is_of_material material.now placement.now ≡ false) }
     ensures men { IfSome result (λ exchanged. is_of_material material.now placement.now ≡ true) }

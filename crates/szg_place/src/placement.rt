@@ -38,7 +38,7 @@ pub fn placement_of(table: &Table, part: u8, side: u8, index: u64) -> Result<Pla
     placement_in(table.index(), part, side, index)
 }
 
-/// Returns what `placement_of` returns, by the `TableIndex` that each type of table has.
+/// `placement_of` for any type of table, each of which has a `TableIndex`.
 ///
 /// Errors: as `placement_of`.
 pub fn placement_in(

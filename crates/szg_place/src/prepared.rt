@@ -16,8 +16,8 @@ use std::marker::Model;
 use szg_file::Table;
 use szg_values::{Kind, Placement};
 
-/// A table, and what placements need of it: facts about its material, and the groups of each side of each part.
-/// These depend on the table alone and are computed once.
+/// A table with what an index of a placement requires of it: facts about its material, and the groups of each side of
+/// each part. These depend on the table alone and are computed once.
 #[derive(Drop)]
 pub struct PreparedTable {
     table: Table,

@@ -9,7 +9,7 @@ use crate::men::code_count;
 use std::marker::Model;
 use szg_values::Material;
 
-/// What a man adds to a key, by his code: 8 to the power of the code.
+/// The summand of a man in a key, at the index of the man's code: 8 to the power of the code.
 const KEYS: [u64; 16] = [
     1,
     8,

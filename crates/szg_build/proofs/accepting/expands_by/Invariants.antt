@@ -4,7 +4,7 @@ use Rattle.szg_build.specs.Building.{IsSymbolAt}
 use Rattle.szg_build.specs.Pairing.{values_of}
 use Rattle.szg_build.proofs.accepting.expands_by.Given as goal
 
--- the values of the symbols so far are the first ones, and each offset is one of its symbol
+-- the values of the symbols so far are the first of `values`, and at each stored offset the values of its symbol occur
 abbrev pub invariant-loop-symbol : goal.invariant-loop-symbol
 invariant-loop-symbol l = record {
   inside : l.start ≤ length l.values;

@@ -2,7 +2,7 @@ use Rattle.std.proofs.Common.{ℕ, ◌≡◌, ◌<◌, length, get_or}
 use Rattle.szg_pairs.specs.Expansion.{expansion_of}
 use Rattle.szg_build.proofs.accepting.lengths_of.Given as goal
 
--- those of the symbols so far
+-- the lengths of the symbols so far
 abbrev pub invariant-loop-symbol : goal.invariant-loop-symbol
 invariant-loop-symbol l = record {
   count : length l.lens.items ≡ l.symbol;

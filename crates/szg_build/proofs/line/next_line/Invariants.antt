@@ -3,8 +3,8 @@ use Rattle.szg_io.specs.Moved.{Takes}
 use Rattle.szg_build.specs.Held.{held_of}
 use Rattle.szg_build.proofs.line.next_line.Given as goal
 
--- Bytes were read and are buffered after the others; if a line that is long enough ends in them, no more bytes than
--- are due follow it.
+-- Bytes were read and are buffered after the others; if a line of at least `least` bytes ends in them, at most `behind`
+-- bytes follow it.
 abbrev pub invariant-pieces : goal.invariant-pieces
 invariant-pieces g l =
     (taken : List ℕ)

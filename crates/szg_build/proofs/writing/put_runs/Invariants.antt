@@ -6,7 +6,7 @@ use Rattle.szg_build.specs.Writing.{Writing}
 use Rattle.szg_build.proofs.WritingLaws.{run_line}
 use Rattle.szg_build.proofs.writing.put_runs.Given as goal
 
--- the runs so far are written, and with those of the values that are left they are all runs
+-- the runs so far are written; they and the runs of the remaining values are all runs of the list
 abbrev pub invariant-runs : goal.invariant-runs
 invariant-runs g l =
     (l.from ≤ length l.values)

@@ -2,7 +2,7 @@ use Rattle.std.proofs.Common.{◌≡◌, ℕ, zero, suc, ◌<◌, List, length, 
 use Rattle.szg_build.proofs.WritingLaws.{runs_at}
 use Rattle.szg_build.proofs.writing.run_length.Goals as goal
 
--- a place whose value is another than the first isn't the first
+-- an index with another value than the first is above 0
 positive : (values : List ℕ) (n : ℕ) → (get_or values n 0 ≡ get_or values 0 0 → ⊥) → 0 < n
 positive values zero h = absurd (h refl)
 positive values (suc n) h = omega arith
