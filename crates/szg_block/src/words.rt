@@ -5,7 +5,9 @@ ghost use Rattle.szg_code.specs.Acceptance.{IsCode};
 ghost use Rattle.szg_code.specs.Bits.{bits};
 ghost use Rattle.szg_pairs.specs.Dictionary.{IsDictionary};
 ghost use Rattle.szg_pairs.specs.Expansion.{expansion_of};
+ghost use Rattle.szg_code.specs.Cursor.{TakesWords};
 ghost use Rattle.szg_code.specs.NextWords.{symbols_of};
+ghost use Rattle.szg_code.specs.Spelling.{BeginsWithNoWord};
 ghost use Rattle.szg_block.specs.Spelled.{AreSymbols, values_of, values_spelled, word_at, pairs_above};
 
 use std::alloc::AllocError;
@@ -69,9 +71,30 @@ struct Reached<'a> {
     bits: Bits<'a>,
 }
 
+/// Decodes one word, or with `TWO` one or two, moves the reader past them, and returns their symbols. None if the bits
+/// left do not begin with a word.
+#[inline(always)]
+fn step<const TWO: bool>(code: &Code, bits: &mut Bits) -> Option<NextWords>
+    ensures found { IfSome result (λ words. TakesWords code.now bits.old bits.new (symbols_of words)) }
+    ensures none { IfNone result (BeginsWithNoWord code.now bits.old.left) }
+{
+    if TWO {
+        return next_words(code, bits);
+    }
+    match next(code, bits) {
+        Some(symbol) => Some(NextWords::One(symbol)),
+        None => None,
+    }
+}
+
 /// Decodes words up to those that contain the value at `index`. None if the bits left spell too few values.
 #[inline(always)]
-fn reach<'a>(code: &Code, dict: &Dict, left: Bits<'a>, index: u64) -> Option<Reached<'a>>
+fn reach_by<'a, const TWO: bool>(
+    code: &Code,
+    dict: &Dict,
+    left: Bits<'a>,
+    index: u64,
+) -> Option<Reached<'a>>
     requires accepted { IsCode code.now }
     requires symbols { code.now.symbols ≡ length dict.now }
     ensures there { IfSome result (λ reached. AreSymbols dict.now (symbols_of reached.words)) }
@@ -85,7 +108,7 @@ fn reach<'a>(code: &Code, dict: &Dict, left: Bits<'a>, index: u64) -> Option<Rea
 {
     let mut bits = left;
     let mut ahead = index;
-    while let Some(words) = next_words(code, &mut bits) {
+    while let Some(words) = step::<TWO>(code, &mut bits) {
         let count = count_of(dict, words);
         if ahead < count {
             return Some(Reached {
@@ -98,6 +121,27 @@ fn reach<'a>(code: &Code, dict: &Dict, left: Bits<'a>, index: u64) -> Option<Rea
         ahead -= count;
     }
     None
+}
+
+/// `reach_by`, with two words at a step if the code is worth it.
+#[inline(always)]
+fn reach<'a>(code: &Code, dict: &Dict, left: Bits<'a>, index: u64) -> Option<Reached<'a>>
+    requires accepted { IsCode code.now }
+    requires symbols { code.now.symbols ≡ length dict.now }
+    ensures there { IfSome result (λ reached. AreSymbols dict.now (symbols_of reached.words)) }
+    ensures count { IfSome result (λ reached. reached.count ≡ length (values_of dict.now (symbols_of reached.words))) }
+    ensures few { IfSome result (λ reached. reached.count ≤ 512) }
+    ensures within { IfSome result (λ reached. reached.index < reached.count) }
+    ensures at_most { IfSome result (λ reached. reached.index ≤ index) }
+    ensures value { IfSome result (λ reached. slice_get (values_of dict.now (symbols_of reached.words)) reached.index ≡ slice_get (values_spelled code.now dict.now left.entry.left) index) }
+    ensures spelled { IfSome result (λ reached. length (values_spelled code.now dict.now left.entry.left) ≡ (index - reached.index) + reached.count + length (values_spelled code.now dict.now reached.bits.left)) }
+    ensures none { IfNone result (length (values_spelled code.now dict.now left.entry.left) ≤ index) }
+{
+    if code.has_two_words() {
+        reach_by::<true>(code, dict, left, index)
+    } else {
+        reach_by::<false>(code, dict, left, index)
+    }
 }
 
 /// Returns whether the bits left spell `needed` values or more.

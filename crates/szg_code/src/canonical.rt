@@ -1,5 +1,5 @@
 //! Accepted codes, and the words of their symbols.
-ghost use Rattle.std.specs.Prelude.{ℕ, ◌≡◌, ◌+◌, ◌-◌, ◌/◌, ◌^◌, ◌<◌, ◌≤◌, Bool, List, length, IfOk, IfErr, IfSome, IfNone};
+ghost use Rattle.std.specs.Prelude.{ℕ, ◌≡◌, ◌+◌, ◌-◌, ◌/◌, ◌^◌, ◌<◌, ◌≤◌, Bool, List, length, IsTrue, IfOk, IfErr, IfSome, IfNone};
 ghost use Rattle.szg_code.specs.Bits.{bits_of_number};
 ghost use Rattle.szg_code.specs.Canonical.{IsWord, base, top, symbol_at};
 ghost use Rattle.szg_code.specs.Spelling.{HasNoWord};
@@ -30,14 +30,14 @@ impl Model for Code {
     ghost use Rattle.szg_code.specs.Acceptance.{IsCode};
     ghost use Rattle.szg_code.specs.Least.{HasShiftedBases, HasStarts};
     ghost use Rattle.szg_code.specs.CodeHeader.{code_of};
-    ghost use Rattle.std.specs.Prelude.{IfSome};
+    ghost use Rattle.std.specs.Prelude.{◌≤◌, IfSome};
     ghost use Rattle.szg_code.specs.TwoWords.{HasTwoWords};
 
     ghost Value = { CanonicalCode };
 
     ghost view = { λ code. code_of code.header };
 
-    ghost invariant = { λ code. IsCode (code_of code.header) × HasShiftedBases (code_of code.header) code.bases × HasStarts (code_of code.header) code.starts × IfSome code.two_words (HasTwoWords (code_of code.header)) };
+    ghost invariant = { λ code. IsCode (code_of code.header) × HasShiftedBases (code_of code.header) code.bases × HasStarts (code_of code.header) code.starts × IfSome code.two_words (λ list. HasTwoWords (code_of code.header) list × (code.header.min ≤ 4)) };
 }
 
 impl Code {
@@ -133,6 +133,15 @@ impl Code {
     {
         let two_words = two_words_by_byte(&self);
         Code { two_words, ..self }
+    }
+
+    /// Returns whether the first two words of each byte are stored, so that `next_words` is worth its table look-up. They
+    /// are only if some words may have 4 bits or fewer.
+    #[inline(always)]
+    pub fn has_two_words(&self) -> bool
+        ensures short { IsTrue result → self.now.min_length ≤ 4 }
+    {
+        self.two_words.is_some()
     }
 
     /// Returns the first two words of the window's first byte, if they are stored and the byte contains them whole.

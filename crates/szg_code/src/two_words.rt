@@ -1,5 +1,5 @@
 //! The first two words of a byte, for codes of short words.
-ghost use Rattle.std.specs.Prelude.{◌≡◌, IfSome};
+ghost use Rattle.std.specs.Prelude.{◌≡◌, ◌≤◌, IfSome};
 ghost use Rattle.szg_code.specs.TwoWords.{ContainsTwoWords, HasTwoWords};
 
 use crate::canonical::Code;
@@ -46,7 +46,8 @@ const FEWEST_BYTES: usize = 192;
 
 /// Decodes the first two words of each byte. None if too few bytes contain two words.
 pub(crate) fn two_words_by_byte(code: &Code) -> Option<[TwoWords; 256]>
-    ensures { IfSome result (HasTwoWords code.now) }
+    ensures words { IfSome result (HasTwoWords code.now) }
+    ensures short { IfSome result (λ _. code.now.min_length ≤ 4) }
 {
     if code.min() > 4 {
         return None;
