@@ -1,11 +1,13 @@
 //! The words of one block, and the values of their symbols.
 
-ghost use Rattle.std.specs.Prelude.{◌≡◌, ◌<◌, ◌≤◌, ◌+◌, ◌↔◌, ◌++◌, ◌^◌, IsTrue, IfNone, IfSome, OnOk, length, take, slice_get, Some};
+ghost use Rattle.std.specs.Prelude.{◌≡◌, ◌<◌, ◌≤◌, ◌+◌, ◌-◌, ◌↔◌, ◌++◌, ◌^◌, IsTrue, IfNone, IfSome, OnOk, length, take, slice_get, Some};
 ghost use Rattle.szg_code.specs.Acceptance.{IsCode};
 ghost use Rattle.szg_code.specs.Bits.{bits};
 ghost use Rattle.szg_pairs.specs.Dictionary.{IsDictionary};
 ghost use Rattle.szg_pairs.specs.Expansion.{expansion_of};
+ghost use Rattle.szg_code.specs.Cursor.{TakesWords};
 ghost use Rattle.szg_code.specs.NextWords.{symbols_of};
+ghost use Rattle.szg_code.specs.Spelling.{BeginsWithNoWord};
 ghost use Rattle.szg_block.specs.Spelled.{AreSymbols, values_of, values_spelled, word_at, pairs_above};
 
 use std::alloc::AllocError;
@@ -57,21 +59,99 @@ fn value_in(dict: &Dict, words: NextWords, index: u16) -> u16
     }
 }
 
+/// One or two words that contain a value.
+#[derive(Drop)]
+struct Reached<'a> {
+    words: NextWords,
+    /// The number of their values.
+    count: u64,
+    /// The value's index among them.
+    index: u64,
+    /// The reader after them.
+    bits: Bits<'a>,
+}
+
+/// Decodes one word, or with `TWO` one or two, moves the reader past them, and returns their symbols. None if the bits
+/// left do not begin with a word.
+#[inline(always)]
+fn step<const TWO: bool>(code: &Code, bits: &mut Bits) -> Option<NextWords>
+    ensures found { IfSome result (λ words. TakesWords code.now bits.old bits.new (symbols_of words)) }
+    ensures none { IfNone result (BeginsWithNoWord code.now bits.old.left) }
+{
+    if TWO {
+        return next_words(code, bits);
+    }
+    match next(code, bits) {
+        Some(symbol) => Some(NextWords::One(symbol)),
+        None => None,
+    }
+}
+
+/// Decodes words up to those that contain the value at `index`. None if the bits left spell too few values.
+#[inline(always)]
+fn reach_by<'a, const TWO: bool>(
+    code: &Code,
+    dict: &Dict,
+    left: Bits<'a>,
+    index: u64,
+) -> Option<Reached<'a>>
+    requires accepted { IsCode code.now }
+    requires symbols { code.now.symbols ≡ length dict.now }
+    ensures there { IfSome result (λ reached. AreSymbols dict.now (symbols_of reached.words)) }
+    ensures count { IfSome result (λ reached. reached.count ≡ length (values_of dict.now (symbols_of reached.words))) }
+    ensures few { IfSome result (λ reached. reached.count ≤ 512) }
+    ensures within { IfSome result (λ reached. reached.index < reached.count) }
+    ensures at_most { IfSome result (λ reached. reached.index ≤ index) }
+    ensures value { IfSome result (λ reached. slice_get (values_of dict.now (symbols_of reached.words)) reached.index ≡ slice_get (values_spelled code.now dict.now left.entry.left) index) }
+    ensures spelled { IfSome result (λ reached. length (values_spelled code.now dict.now left.entry.left) ≡ (index - reached.index) + reached.count + length (values_spelled code.now dict.now reached.bits.left)) }
+    ensures none { IfNone result (length (values_spelled code.now dict.now left.entry.left) ≤ index) }
+{
+    let mut bits = left;
+    let mut ahead = index;
+    while let Some(words) = step::<TWO>(code, &mut bits) {
+        let count = count_of(dict, words);
+        if ahead < count {
+            return Some(Reached {
+                words,
+                count,
+                index: ahead,
+                bits,
+            });
+        }
+        ahead -= count;
+    }
+    None
+}
+
+/// `reach_by`, with two words at a step if the code is worth it.
+#[inline(always)]
+fn reach<'a>(code: &Code, dict: &Dict, left: Bits<'a>, index: u64) -> Option<Reached<'a>>
+    requires accepted { IsCode code.now }
+    requires symbols { code.now.symbols ≡ length dict.now }
+    ensures there { IfSome result (λ reached. AreSymbols dict.now (symbols_of reached.words)) }
+    ensures count { IfSome result (λ reached. reached.count ≡ length (values_of dict.now (symbols_of reached.words))) }
+    ensures few { IfSome result (λ reached. reached.count ≤ 512) }
+    ensures within { IfSome result (λ reached. reached.index < reached.count) }
+    ensures at_most { IfSome result (λ reached. reached.index ≤ index) }
+    ensures value { IfSome result (λ reached. slice_get (values_of dict.now (symbols_of reached.words)) reached.index ≡ slice_get (values_spelled code.now dict.now left.entry.left) index) }
+    ensures spelled { IfSome result (λ reached. length (values_spelled code.now dict.now left.entry.left) ≡ (index - reached.index) + reached.count + length (values_spelled code.now dict.now reached.bits.left)) }
+    ensures none { IfNone result (length (values_spelled code.now dict.now left.entry.left) ≤ index) }
+{
+    if code.has_two_words() {
+        reach_by::<true>(code, dict, left, index)
+    } else {
+        reach_by::<false>(code, dict, left, index)
+    }
+}
+
 /// Returns whether the bits left spell `needed` values or more.
+#[inline(always)]
 fn spells_on(code: &Code, dict: &Dict, left: Bits, needed: u64) -> bool
     requires accepted { IsCode code.now }
     requires symbols { code.now.symbols ≡ length dict.now }
     ensures { IsTrue result ↔ (needed ≤ length (values_spelled code.now dict.now left.entry.left)) }
 {
-    let mut bits = left;
-    let mut missing = needed;
-    while missing > 0 {
-        let Some(words) = next_words(code, &mut bits) else {
-            return false;
-        };
-        missing = missing.saturating_sub(count_of(dict, words));
-    }
-    true
+    needed == 0 || reach(code, dict, left, needed - 1).is_some()
 }
 
 /// Returns the value at `index` in a block, in one pass over the words of the block's first `needed` values. None if
@@ -85,21 +165,13 @@ pub fn find_verified(code: &Code, dict: &Dict, block: &[u8], index: u64, needed:
     ensures enough { IfSome result (λ _. needed ≤ length (values_spelled code.now dict.now (bits block.now))) }
     ensures few { IfNone result (¬ (needed ≤ length (values_spelled code.now dict.now (bits block.now)))) }
 {
-    let mut bits = Bits::new(block);
-    let mut ahead = index;
-    let mut missing = needed;
-    while let Some(words) = next_words(code, &mut bits) {
-        let count = count_of(dict, words);
-        missing = missing.saturating_sub(count);
-        if ahead < count {
-            if !spells_on(code, dict, bits, missing) {
-                return None;
-            }
-            return Some(value_in(dict, words, ahead as u16));
-        }
-        ahead -= count;
+    let reached = reach(code, dict, Bits::new(block), index)?;
+    let before = index - reached.index;
+    let missing = (needed - before).saturating_sub(reached.count);
+    if !spells_on(code, dict, reached.bits, missing) {
+        return None;
     }
-    None
+    Some(value_in(dict, reached.words, reached.index as u16))
 }
 
 /// A value that was found in a block, and the work done for it.

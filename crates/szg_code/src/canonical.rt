@@ -1,5 +1,5 @@
 //! Accepted codes, and the words of their symbols.
-ghost use Rattle.std.specs.Prelude.{ℕ, ◌≡◌, ◌+◌, ◌-◌, ◌/◌, ◌^◌, ◌<◌, ◌≤◌, Bool, List, length, IfOk, IfErr, IfSome, IfNone};
+ghost use Rattle.std.specs.Prelude.{ℕ, ◌≡◌, ◌+◌, ◌-◌, ◌/◌, ◌^◌, ◌<◌, ◌≤◌, Bool, List, length, IsTrue, IfOk, IfErr, IfSome, IfNone};
 ghost use Rattle.szg_code.specs.Bits.{bits_of_number};
 ghost use Rattle.szg_code.specs.Canonical.{IsWord, base, top, symbol_at};
 ghost use Rattle.szg_code.specs.Spelling.{HasNoWord};
@@ -15,14 +15,14 @@ use std::marker::Model;
 
 /// An accepted code: words of 1 to 32 bits, none of which begins another, for symbols below the number of symbols.
 /// As in de Man's probing code, it stores the base of each length shifted to the top of 64 bits. For each first
-/// byte of a window it also stores the length index from which the search for a word's length starts, and the first
-/// two words of that byte if it contains them whole.
+/// byte of a window it also stores the length index from which the search for a word's length starts. If most bytes
+/// contain two whole words, it stores the first two words of each byte.
 #[derive(Drop)]
 pub struct Code {
     header: CodeHeader,
     bases: [u64; 32],
     starts: [u8; 256],
-    two_words: [TwoWords; 256],
+    two_words: Option<[TwoWords; 256]>,
 }
 
 impl Model for Code {
@@ -30,13 +30,14 @@ impl Model for Code {
     ghost use Rattle.szg_code.specs.Acceptance.{IsCode};
     ghost use Rattle.szg_code.specs.Least.{HasShiftedBases, HasStarts};
     ghost use Rattle.szg_code.specs.CodeHeader.{code_of};
+    ghost use Rattle.std.specs.Prelude.{◌≤◌, IfSome};
     ghost use Rattle.szg_code.specs.TwoWords.{HasTwoWords};
 
     ghost Value = { CanonicalCode };
 
     ghost view = { λ code. code_of code.header };
 
-    ghost invariant = { λ code. IsCode (code_of code.header) × HasShiftedBases (code_of code.header) code.bases × HasStarts (code_of code.header) code.starts × HasTwoWords (code_of code.header) code.two_words };
+    ghost invariant = { λ code. IsCode (code_of code.header) × HasShiftedBases (code_of code.header) code.bases × HasStarts (code_of code.header) code.starts × IfSome code.two_words (λ list. HasTwoWords (code_of code.header) list × (code.header.min ≤ 4)) };
 }
 
 impl Code {
@@ -72,7 +73,7 @@ impl Code {
                 let code = Code {
                     starts: header.starts(&bases),
                     bases,
-                    two_words: [NO_WORDS; 256],
+                    two_words: None,
                     header,
                 };
                 Ok(code.with_two_words())
@@ -120,13 +121,13 @@ impl Code {
         };
         let code = Code {
             header,
-            two_words: [NO_WORDS; 256],
+            two_words: None,
             ..self
         };
         code.with_two_words()
     }
 
-    /// Stores the first two words of each byte.
+    /// Stores the first two words of each byte, if most bytes contain two words.
     fn with_two_words(self) -> Code
         ensures { result ≡ self }
     {
@@ -134,12 +135,24 @@ impl Code {
         Code { two_words, ..self }
     }
 
-    /// Returns the first two words of the window's first byte, if the byte contains them whole.
+    /// Returns whether the first two words of each byte are stored, so that `next_words` is worth its table look-up. They
+    /// are only if some words may have 4 bits or fewer.
+    #[inline(always)]
+    pub fn has_two_words(&self) -> bool
+        ensures short { IsTrue result → self.now.min_length ≤ 4 }
+    {
+        self.two_words.is_some()
+    }
+
+    /// Returns the first two words of the window's first byte, if they are stored and the byte contains them whole.
     #[inline(always)]
     pub(crate) fn two_words_in(&self, window: u64) -> TwoWords
         ensures { ContainsTwoWords self.now (window / 2 ^ 56) result }
     {
-        self.two_words[(window >> 56) as usize]
+        match &self.two_words {
+            Some(two_words) => two_words[(window >> 56) as usize],
+            None => NO_WORDS,
+        }
     }
 
     /// Returns the base of the length at index `j`; index 0 is the least length.

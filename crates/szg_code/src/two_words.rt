@@ -1,5 +1,5 @@
 //! The first two words of a byte, for codes of short words.
-ghost use Rattle.std.specs.Prelude.{◌≡◌};
+ghost use Rattle.std.specs.Prelude.{◌≡◌, ◌≤◌, IfSome};
 ghost use Rattle.szg_code.specs.TwoWords.{ContainsTwoWords, HasTwoWords};
 
 use crate::canonical::Code;
@@ -44,19 +44,20 @@ fn two_words_of(code: &Code, byte: u8) -> TwoWords
 /// in vain too often.
 const FEWEST_BYTES: usize = 192;
 
-/// Decodes the first two words of each byte. Returns none for all bytes if too few bytes contain two words.
-pub(crate) fn two_words_by_byte(code: &Code) -> [TwoWords; 256]
-    ensures { HasTwoWords code.now result }
+/// Decodes the first two words of each byte. None if too few bytes contain two words.
+pub(crate) fn two_words_by_byte(code: &Code) -> Option<[TwoWords; 256]>
+    ensures words { IfSome result (HasTwoWords code.now) }
+    ensures short { IfSome result (λ _. code.now.min_length ≤ 4) }
 {
-    let mut two_words = [NO_WORDS; 256];
     if code.min() > 4 {
-        return two_words;
+        return None;
     }
+    let mut two_words = [NO_WORDS; 256];
     for byte in 0..256usize {
         two_words[byte] = two_words_of(code, byte as u8);
     }
     if two_words.iter().filter(|words| words.bits > 0).count() < FEWEST_BYTES {
-        return [NO_WORDS; 256];
+        return None;
     }
-    two_words
+    Some(two_words)
 }

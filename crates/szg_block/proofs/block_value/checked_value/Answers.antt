@@ -1,10 +1,7 @@
-use Rattle.std.proofs.Common.{◌≡◌, ◌+◌, ◌-◌, ◌≤◌, ◌<◌, min, refl, sym, ap, subst, ◌∙◌, arith, length, Some}
+use Rattle.std.proofs.Common.{◌≡◌, ◌+◌, ◌-◌, min, refl, sym, ap, ◌∙◌, arith}
 use Rattle.std.specs.List.{slice_index}
 use Rattle.std.proofs.lemmas.List.{get_or_read}
-use Rattle.szg_code.specs.Bits.{bits}
 use Rattle.szg_block.specs.Block.{needed}
-use Rattle.szg_block.specs.Sound.{SpellsNeeded}
-use Rattle.szg_block.specs.Spelled.{values_spelled}
 use Rattle.szg_block.specs.Subtable.{layout_of, layout_from}
 use Rattle.szg_block.proofs.Parts.{needed_spelled, spelled_needed, wanted-needed}
 use Rattle.szg_block.proofs.BlockValueLaws.{held_at, held_within, spelled_at}

@@ -13,9 +13,3 @@ loop-byte-preserved c =
       placed = length-set c.loop-byte.two_words c.loop-byte.byte c.two_words_of.result ∙ placed;
       valid = one_more_byte c.args.code.now c.loop-byte.two_words c.loop-byte.byte c.two_words_of.result (omega arith) c.loop-byte.invariant.valid c.two_words_of.ensures;
     }
-
-pub returns-then-min-gt4 : goal.returns-then-min-gt4
-returns-then-min-gt4 c = none_by_byte c.args.code.now
-
-pub returns-then-count-lt-FEWEST_BYTES : goal.returns-then-count-lt-FEWEST_BYTES
-returns-then-count-lt-FEWEST_BYTES c = none_by_byte c.args.code.now

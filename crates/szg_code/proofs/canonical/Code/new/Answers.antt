@@ -1,5 +1,4 @@
-use Rattle.szg_code.proofs.TwoWords.{none_by_byte}
 use Rattle.szg_code.proofs.canonical.Code.new.Goals as goal
 
 pub invariant_of-code : goal.invariant_of-code
-invariant_of-code c = (c.in-Ok.ensures.accepted, c.shifted-bases.ensures, c.starts.ensures, none_by_byte _)
+invariant_of-code c = (c.in-Ok.ensures.accepted, c.shifted-bases.ensures, c.starts.ensures, tt)
