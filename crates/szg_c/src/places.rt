@@ -49,45 +49,53 @@ pub extern "C" fn szg_index(
     let Some(held) = take(table, alloc) else {
         return CLOSED;
     };
-    let told = spot_in(held.value(), men, mover);
+    let status = write_spot(held.value(), men, mover, spot);
     put(table, held);
-    match told {
+    status
+}
+
+/// Writes the location of men in a table; returns the status. A `Result` with a `Spot` is matched once, where it is made,
+/// since each one that is passed on is copied.
+#[inline(always)]
+fn write_spot(table: &PreparedTable, men: &[CodedMan], mover: u8, spot: &mut FoundSpot) -> u32
+    ensures { MatchResult (spot_told table.now.contents (board_of men.now mover)) (λ found. (result ≡ 0) × IsSpot spot.new found) (λ status. (result ≡ status) × (spot.new ≡ spot.old)) }
+{
+    match &sound_placement(men, mover) {
+        Some(placement) => write_spot_of(table, placement, spot),
+        None => write_spot_or_fault(table, men, mover, spot),
+    }
+}
+
+/// The same, by one check of the men after the other.
+#[inline(never)]
+fn write_spot_or_fault(
+    table: &PreparedTable,
+    men: &[CodedMan],
+    mover: u8,
+    spot: &mut FoundSpot,
+) -> u32
+    ensures { MatchResult (spot_told table.now.contents (board_of men.now mover)) (λ found. (result ≡ 0) × IsSpot spot.new found) (λ status. (result ≡ status) × (spot.new ≡ spot.old)) }
+{
+    match placement_or_fault(men, mover) {
+        Ok(placement) => write_spot_of(table, &placement, spot),
+        Err(status) => status,
+    }
+}
+
+/// Writes the location of a placement in a table; returns the status.
+#[inline(always)]
+fn write_spot_of(table: &PreparedTable, placement: &Placement, spot: &mut FoundSpot) -> u32
+    ensures { MatchResult (spot_told table.now.contents (Ok placement.now)) (λ found. (result ≡ 0) × IsSpot spot.new found) (λ status. (result ≡ status) × (spot.new ≡ spot.old)) }
+{
+    match table.index_of(placement) {
         Ok(found) => {
             spot.part = found.part;
             spot.side = found.side;
             spot.index = found.index;
             DONE
         }
-        Err(status) => status,
+        Err(fault) => place_status(fault),
     }
-}
-
-/// Returns the location of men in a table. Errors: a status.
-fn spot_in(table: &PreparedTable, men: &[CodedMan], mover: u8) -> Result<Spot, u32>
-    ensures { result ≡ spot_told table.now.contents (board_of men.now mover) }
-{
-    match sound_placement(men, mover) {
-        Some(placement) => spot_of(table, &placement),
-        None => spot_or_fault(table, men, mover),
-    }
-}
-
-/// The same, by one check of the men after the other.
-#[inline(never)]
-fn spot_or_fault(table: &PreparedTable, men: &[CodedMan], mover: u8) -> Result<Spot, u32>
-    ensures { result ≡ spot_told table.now.contents (board_of men.now mover) }
-{
-    match placement_or_fault(men, mover) {
-        Ok(placement) => spot_of(table, &placement),
-        Err(status) => Err(status),
-    }
-}
-
-#[inline(always)]
-fn spot_of(table: &PreparedTable, placement: &Placement) -> Result<Spot, u32>
-    ensures { result ≡ spot_told table.now.contents (Ok placement.now) }
-{
-    spot_or_status(table.index_of(placement))
 }
 
 pub fn spot_or_status(told: Result<Spot, PlaceFault>) -> Result<Spot, u32>
