@@ -157,8 +157,13 @@ pub(crate) fn build_pairs(
 }
 
 /// Builds a subtable that is not constant, as small as it gets: pairs while they pay, words by the symbols' counts,
-/// and the block bits and span bits that take the fewest bytes.
-pub(crate) fn build_short_pairs(alloc: Global, values: &[u16], flags: u8) -> Result<Sub, AllocError>
+/// and the block bits and span bits that take the fewest bytes. `beside` is as in `cost_of`.
+pub(crate) fn build_short_pairs(
+    alloc: Global,
+    values: &[u16],
+    flags: u8,
+    beside: Option<u64>,
+) -> Result<Sub, AllocError>
     requires some { 0 < length values.now }
     requires few { length values.now < 2 ^ 33 }
     requires small { AllByRecursion (λ v. v ≤ 4095) values.now }
@@ -166,7 +171,7 @@ pub(crate) fn build_short_pairs(alloc: Global, values: &[u16], flags: u8) -> Res
     ensures made { IfOk result (λ sub. IsMadeSmall values.now flags (subtable_of sub)) }
     ensures index { IfOk result (λ sub. HasSpanIndex (length values.now) (subtable_of sub)) }
 {
-    let paired = pair_shortly(alloc, values)?;
+    let paired = pair_shortly(alloc, values, beside)?;
     let pairs = count_pairs_in(&paired.entries);
     let sizes = choose_sizes(alloc, values.len() as u64, &paired)?;
     let packing = Packing {
