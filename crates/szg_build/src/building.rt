@@ -14,7 +14,7 @@ use crate::coding::{choose_code, choose_short_code};
 use crate::leaves::Paired;
 use crate::numbering::counts_of;
 use crate::rounds::{pair_shortly, pair_up};
-use crate::sizing::choose_sizes;
+use crate::sizing::{are_by_use, choose_sizes};
 use crate::sparse::sparse_index;
 use std::alloc::{AllocError, Global};
 use szg_block::{Entry, Sub};
@@ -173,11 +173,13 @@ pub(crate) fn build_short_pairs(
 {
     let paired = pair_shortly(alloc, values, beside)?;
     let pairs = count_pairs_in(&paired.entries);
-    let sizes = choose_sizes(alloc, values.len() as u64, &paired)?;
+    let size = values.len() as u64;
+    let by_use = are_by_use(alloc, size, &paired, beside)?;
+    let sizes = choose_sizes(alloc, size, &paired, beside, by_use)?;
     let packing = Packing {
         block_bits: sizes.block_bits,
         span_bits: sizes.span_bits,
         rounds: pairs as u32,
     };
-    build_paired(alloc, values, flags, paired, packing, true)
+    build_paired(alloc, values, flags, paired, packing, by_use)
 }
