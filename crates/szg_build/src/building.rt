@@ -14,7 +14,7 @@ use crate::coding::{choose_code, choose_short_code};
 use crate::leaves::Paired;
 use crate::numbering::counts_of;
 use crate::rounds::{pair_shortly, pair_up};
-use crate::sizing::choose_sizes;
+use crate::sizing::{are_by_use, choose_sizes};
 use crate::sparse::sparse_index;
 use std::alloc::{AllocError, Global};
 use szg_block::{Entry, Sub};
@@ -157,8 +157,13 @@ pub(crate) fn build_pairs(
 }
 
 /// Builds a subtable that is not constant, as small as it gets: pairs while they pay, words by the symbols' counts,
-/// and the block bits and span bits that take the fewest bytes.
-pub(crate) fn build_short_pairs(alloc: Global, values: &[u16], flags: u8) -> Result<Sub, AllocError>
+/// and the block bits and span bits that take the fewest bytes. `beside` is as in `cost_of`.
+pub(crate) fn build_short_pairs(
+    alloc: Global,
+    values: &[u16],
+    flags: u8,
+    beside: Option<u64>,
+) -> Result<Sub, AllocError>
     requires some { 0 < length values.now }
     requires few { length values.now < 2 ^ 33 }
     requires small { AllByRecursion (λ v. v ≤ 4095) values.now }
@@ -166,13 +171,15 @@ pub(crate) fn build_short_pairs(alloc: Global, values: &[u16], flags: u8) -> Res
     ensures made { IfOk result (λ sub. IsMadeSmall values.now flags (subtable_of sub)) }
     ensures index { IfOk result (λ sub. HasSpanIndex (length values.now) (subtable_of sub)) }
 {
-    let paired = pair_shortly(alloc, values)?;
+    let paired = pair_shortly(alloc, values, beside)?;
     let pairs = count_pairs_in(&paired.entries);
-    let sizes = choose_sizes(alloc, values.len() as u64, &paired)?;
+    let size = values.len() as u64;
+    let by_use = are_by_use(alloc, size, &paired, beside)?;
+    let sizes = choose_sizes(alloc, size, &paired, beside, by_use)?;
     let packing = Packing {
         block_bits: sizes.block_bits,
         span_bits: sizes.span_bits,
         rounds: pairs as u32,
     };
-    build_paired(alloc, values, flags, paired, packing, true)
+    build_paired(alloc, values, flags, paired, packing, by_use)
 }

@@ -28,9 +28,37 @@ fn weighed(number: u64) -> u64 {
     number.wrapping_mul(log2(number))
 }
 
+/// How many symbols a text has, and how often the most frequent one occurs.
+#[derive(Clone, Copy)]
+pub(crate) struct Totals {
+    pub symbols: u64,
+    pub most: u64,
+}
+
+/// Returns the bits by which a text's words exceed its entropy because each word has a bit or more, fractional bits
+/// included: by its entropy a symbol that is more than half of the text has less than a bit.
+fn excess(totals: Totals) -> u64 {
+    let Totals { symbols, most } = totals;
+    if most <= symbols / 2 {
+        return 0;
+    }
+    most.wrapping_mul(1 << FRACTION)
+        .wrapping_add(weighed(most))
+        .wrapping_sub(most.wrapping_mul(log2(symbols)))
+}
+
+/// Returns the totals of a text in which a pair is written as its halves, which then occur as often as told.
+fn unpaired(totals: Totals, count: u64, left: u64, right: u64) -> Totals {
+    Totals {
+        symbols: totals.symbols.saturating_add(count),
+        most: totals.most.max(left).max(right),
+    }
+}
+
 /// Estimates the bits that a pair saves which occurs `count` times, without those of its entry, by how often its
-/// halves occur beside it and how many symbols the text has. Fractional bits are included.
-pub(crate) fn saved_by(count: u64, left: u64, right: u64, is_double: bool, total: u64) -> u64 {
+/// halves occur beside it and by the text's totals. Fractional bits are included.
+pub(crate) fn saved_by(count: u64, left: u64, right: u64, is_double: bool, totals: Totals) -> u64 {
+    let total = totals.symbols;
     let longer = weighed(total.saturating_add(count));
     let with = weighed(total)
         .wrapping_sub(weighed(count))
@@ -41,14 +69,30 @@ pub(crate) fn saved_by(count: u64, left: u64, right: u64, is_double: bool, total
         weighed(left.saturating_add(count)).wrapping_add(weighed(right.saturating_add(count)))
     };
     let other = if is_double { 0 } else { weighed(right) };
+    let each = if is_double {
+        count.saturating_mul(2)
+    } else {
+        count
+    };
+    let before = unpaired(
+        totals,
+        count,
+        left.saturating_add(each),
+        right.saturating_add(each),
+    );
     let saved = longer
         .wrapping_sub(halves)
-        .wrapping_sub(with.wrapping_sub(other));
+        .wrapping_sub(with.wrapping_sub(other))
+        .wrapping_add(excess(before))
+        .wrapping_sub(excess(totals));
     // rounding can make a saving of about nothing negative
     if saved > u64::MAX / 2 { 0 } else { saved }
 }
 
-/// Estimates the bits of a symbol that occurs `count` times in a text of `total` symbols, fractional bits included.
+/// Estimates the bits of a symbol that occurs `count` times in a text of `total` symbols, fractional bits included: one
+/// bit or more.
 pub(crate) fn bits_for(count: u64, total: u64) -> u64 {
-    log2(total.max(1)).saturating_sub(log2(count.max(1)))
+    log2(total.max(1))
+        .saturating_sub(log2(count.max(1)))
+        .max(1 << FRACTION)
 }

@@ -1,7 +1,7 @@
 //! Drops the pairs of a dictionary that save too little, from the last to the first.
 //!
 //! Nothing is proved of what is dropped but that it is safe: what is left is only proposed, and a proposal is tested.
-use crate::costs::saved_by;
+use crate::costs::{Totals, saved_by};
 use crate::leaves::{MAX_SYMBOLS, Paired};
 use crate::numbering::{at, counts_of, renamed};
 use std::alloc::{AllocError, Global};
@@ -55,8 +55,8 @@ fn uses_of(alloc: Global, entries: &[[u8; 3]]) -> Result<Vec<u64>, AllocError> {
     Ok(uses)
 }
 
-/// Returns the bits that a pair saves in a text of `total` symbols: 0 where it doesn't occur, and only there.
-fn saved(counts: &[u64], entry: [u8; 3], count: u64, total: u64) -> u64 {
+/// Returns the bits that a pair saves in a text with these totals: 0 where it doesn't occur, and only there.
+fn saved(counts: &[u64], entry: [u8; 3], count: u64, totals: Totals) -> u64 {
     if count == 0 {
         return 0;
     }
@@ -66,9 +66,28 @@ fn saved(counts: &[u64], entry: [u8; 3], count: u64, total: u64) -> u64 {
         count_at(counts, left),
         count_at(counts, right),
         left == right,
-        total,
+        totals,
     )
     .saturating_add(1)
+}
+
+/// Returns the totals of a text whose symbols occur as often as counted.
+fn totals_of(counts: &[u64]) -> Totals {
+    let mut totals = Totals {
+        symbols: 0,
+        most: 0,
+    };
+    for count in counts {
+        totals.symbols = totals.symbols.saturating_add(*count);
+        totals.most = totals.most.max(*count);
+    }
+    totals
+}
+
+/// Writes each occurrence of a pair as its halves: raises their counts.
+fn split(counts: &mut [u64], entry: [u8; 3], count: u64) {
+    raise(counts, left(entry), count);
+    raise(counts, right(entry), count);
 }
 
 /// Returns whether each symbol is kept. A pair that is no half of a kept one and saves at most `least` bits is dropped;
@@ -81,21 +100,22 @@ fn keep(
 ) -> Result<Vec<bool>, AllocError> {
     let mut uses = uses_of(alloc, entries)?;
     let mut kept = vec![in alloc; true; entries.len()]?;
-    let mut total = counts
-        .iter()
-        .fold(0u64, |sum, count| sum.saturating_add(*count));
+    let mut totals = totals_of(counts);
     for later in 0..entries.len() {
         let place = entries.len() - 1 - later;
         let entry = entries[place];
         let symbol = place.min(MAX_SYMBOLS) as u16;
         let count = count_at(counts, symbol);
         let is_half = count_at(&uses, symbol) > 0;
-        if !is_leaf(entry) && !is_half && saved(counts, entry, count, total) <= least {
-            raise(counts, left(entry), count);
-            raise(counts, right(entry), count);
+        if !is_leaf(entry) && !is_half && saved(counts, entry, count, totals) <= least {
+            split(counts, entry, count);
             lower(&mut uses, left(entry));
             lower(&mut uses, right(entry));
-            total = total.saturating_add(count);
+            totals.symbols = totals.symbols.saturating_add(count);
+            totals.most = totals
+                .most
+                .max(count_at(counts, left(entry)))
+                .max(count_at(counts, right(entry)));
             if place < counts.len() && place < kept.len() {
                 counts[place] = 0;
                 kept[place] = false;
@@ -152,6 +172,30 @@ pub(crate) fn without_poor(
     let kept = keep(alloc, &dictionary.entries, &mut dictionary.counts, least)?;
     let numbers = numbers_of(alloc, &kept)?;
     kept_of(alloc, &dictionary, &kept, &numbers)
+}
+
+/// Drops one pair. The counts are then those of a text in which it is written as its halves. None if the symbol is a leaf
+/// or a half of a pair, or isn't there.
+pub(crate) fn without_one(
+    alloc: Global,
+    mut dictionary: Counted,
+    symbol: u16,
+) -> Result<Option<Counted>, AllocError> {
+    let place = usize::from(symbol);
+    let uses = uses_of(alloc, &dictionary.entries)?;
+    let mut kept = vec![in alloc; true; dictionary.entries.len()]?;
+    if place >= dictionary.entries.len() || place >= kept.len() || count_at(&uses, symbol) > 0 {
+        return Ok(None);
+    }
+    let entry = dictionary.entries[place];
+    if is_leaf(entry) {
+        return Ok(None);
+    }
+    let count = count_at(&dictionary.counts, symbol);
+    split(&mut dictionary.counts, entry, count);
+    kept[place] = false;
+    let numbers = numbers_of(alloc, &kept)?;
+    Ok(Some(kept_of(alloc, &dictionary, &kept, &numbers)?))
 }
 
 /// Drops the pairs that neither the text nor another pair has.

@@ -13,6 +13,7 @@ mod costs;
 mod dropping;
 mod dump;
 mod dumpreading;
+mod headers;
 mod incoming;
 mod item;
 pub mod laws;
@@ -37,6 +38,8 @@ mod spelling;
 mod subreading;
 mod subtables;
 mod table;
+mod tries;
+mod trimming;
 mod word;
 mod writing;
 

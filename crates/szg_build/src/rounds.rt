@@ -9,7 +9,7 @@ use crate::accepting::{accept, count_pairs_in};
 use crate::leaves::{MAX_SYMBOLS, Paired, begin, entry};
 use crate::numbering::numbered_by_count;
 use crate::pairing::{LEAST_COUNT, Pair, count_pairs, is_short, replace};
-use crate::proposing::{propose, with_pairs};
+use crate::proposing::propose;
 use crate::shrinking::shrink;
 use std::alloc::{AllocError, Global};
 
@@ -187,8 +187,12 @@ pub(crate) fn pair_up(alloc: Global, values: &[u16], rounds: u32) -> Result<Pair
 }
 
 /// Makes the pairs by which the subtable takes few bytes, and spells the values with them. Symbols are numbered by how
-/// often they occur in the text, the rarest first.
-pub(crate) fn pair_shortly(alloc: Global, values: &[u16]) -> Result<Paired, AllocError>
+/// often they occur in the text, the rarest first. `beside` is as in `cost_of`.
+pub(crate) fn pair_shortly(
+    alloc: Global,
+    values: &[u16],
+    beside: Option<u64>,
+) -> Result<Paired, AllocError>
     requires small { AllByRecursion (λ v. v ≤ 4095) values.now }
     requires different { length (different_values values.now) ≤ 4095 }
     ensures round { IfOk result (λ p. IsRound values.now (length (pairs_in p.entries.items)) p.entries.items p.symbols.items) }
@@ -198,9 +202,7 @@ pub(crate) fn pair_shortly(alloc: Global, values: &[u16]) -> Result<Paired, Allo
     if !has_short_offsets(values) {
         return Ok(begun);
     }
-    let all = with_pairs(alloc, begun, MAX_SYMBOLS as u32)?;
-    let leaves = begin(alloc, values)?;
-    let shrunk = shrink(alloc, &leaves.symbols, all)?;
+    let shrunk = shrink(alloc, begun, beside)?;
     let proposal = numbered_by_count(alloc, shrunk)?;
     if let Some(paired) = accept(alloc, values, proposal)? {
         return Ok(paired);

@@ -1,19 +1,21 @@
 //! Chooses the pairs of a small subtable and spells its values with them: tries several choices and counts their bytes.
 //!
-//! From a dictionary of many pairs those are dropped that save the fewest bits; the values are spelled anew with what is
-//! left, and so on, with a bound that rises. Then pairs are added to the best text, and pairs are dropped again.
+//! The first tries are the text without pairs, and the texts that pairing leaves with 256 pairs and with all pairs. From
+//! all pairs those are dropped that save the fewest bits; the values are spelled anew with what is left, and so on, with
+//! a bound that rises. Then pairs are added to the best text, and pairs are dropped again; in the end single pairs are.
 //! Nothing is proved of the choice but that it is safe: it is only proposed, and a proposal is tested.
-use crate::costs::{FRACTION, bits_for};
-use crate::dropping::{Counted, without_poor, without_unused};
+use crate::dropping::without_poor;
 use crate::leaves::{MAX_SYMBOLS, Paired};
-use crate::numbering::counts_of;
 use crate::proposing::{Proposal, with_pairs};
-use crate::sizing::{Words, choose_words, cost_of};
-use crate::spelling::spell;
+use crate::tries::{Best, Blend, bits, copy_of, counted};
+use crate::trimming::{polish, trim};
 use std::alloc::{AllocError, Global};
 
 /// The number of nodes after which no more spellings are tried.
 const BUDGET: u64 = 1 << 29;
+
+/// The number of nodes after which no more single pairs are dropped.
+const TRIM_BUDGET: u64 = 1 << 28;
 
 /// Lists of more values are spelled a few times only.
 const FEW_VALUES: usize = 1 << 17;
@@ -21,97 +23,15 @@ const FEW_VALUES: usize = 1 << 17;
 /// Pairs are added to no text with more symbols than this.
 const FEW_SYMBOLS: usize = 1024;
 
+/// The number of pairs of a fixed plan, unless it says otherwise.
+const FEW_PAIRS: u32 = 256;
+
 /// Which bounds are tried in one go, in bits with fractional bits.
 #[derive(Clone, Copy)]
 struct Bounds {
     first: u64,
     step: u64,
     last: u64,
-}
-
-/// What a symbol costs: so many quarters of its estimated bits, the others of its word's.
-#[derive(Clone, Copy)]
-struct Blend {
-    quarters: u64,
-}
-
-/// The best dictionary and text so far, and what they cost.
-#[derive(Drop)]
-struct Best {
-    paired: Paired,
-    cost: u64,
-    /// How many more nodes may be visited.
-    budget: u64,
-}
-
-/// Returns bits with fractional bits.
-fn bits(number: u64) -> u64 {
-    number.saturating_mul(1 << FRACTION)
-}
-
-/// Returns a copy.
-fn copy_of(alloc: Global, paired: &Paired) -> Result<Paired, AllocError> {
-    Ok(Paired {
-        entries: paired.entries.to_vec(alloc)?,
-        lens: paired.lens.to_vec(alloc)?,
-        symbols: paired.symbols.to_vec(alloc)?,
-    })
-}
-
-/// Returns the cost of each symbol, by its word and by how often it occurs.
-fn costs_of(
-    alloc: Global,
-    counts: &[u64],
-    words: &Words,
-    blend: Blend,
-) -> Result<Vec<u64>, AllocError> {
-    let total = counts
-        .iter()
-        .fold(0u64, |sum, count| sum.saturating_add(*count));
-    let rest = 4u64.saturating_sub(blend.quarters);
-    let mut costs = Vec::new(alloc);
-    for (symbol, count) in counts.iter().enumerate() {
-        let word = bits(words.length(symbol)).saturating_mul(rest);
-        let estimated = bits_for(*count, total).saturating_mul(blend.quarters);
-        costs.push(word.saturating_add(estimated))?;
-    }
-    Ok(costs)
-}
-
-/// Drops the pairs that save at most `least` bits, spells the values with the others, and drops those that the text doesn't
-/// need. Returns how many nodes were visited, too.
-fn respelled(
-    alloc: Global,
-    leaves: &[u16],
-    paired: Paired,
-    least: u64,
-    blend: Blend,
-) -> Result<(Paired, u64), AllocError> {
-    let Paired {
-        entries,
-        lens,
-        symbols,
-    } = paired;
-    let counts = counts_of(alloc, entries.len(), &symbols)?;
-    let all = Counted {
-        entries,
-        lens,
-        counts,
-    };
-    let Counted {
-        entries,
-        lens,
-        counts,
-    } = without_poor(alloc, all, least)?;
-    let words = choose_words(alloc, &counts)?;
-    let costs = costs_of(alloc, &counts, &words, blend)?;
-    let spelling = spell(alloc, leaves, &entries, &lens, &costs)?;
-    let spelled = Paired {
-        entries,
-        lens,
-        symbols: spelling.symbols,
-    };
-    Ok((without_unused(alloc, spelled)?, spelling.steps))
 }
 
 /// Drops more and more pairs, and keeps the best.
@@ -129,13 +49,9 @@ fn drop_pairs(
         if least > bounds.last || best.budget == 0 {
             break;
         }
-        let (next, steps) = respelled(alloc, leaves, paired, least, blend)?;
-        best.budget = best.budget.saturating_sub(steps);
-        let cost = cost_of(alloc, leaves.len() as u64, &next)?;
-        if cost < best.cost {
-            best.paired = copy_of(alloc, &next)?;
-            best.cost = cost;
-        }
+        let rest = without_poor(alloc, counted(alloc, &paired)?, least)?;
+        let next = best.spelled(alloc, leaves, rest, blend)?;
+        best.offer(alloc, &next)?;
         paired = next;
         least = least.saturating_add(bounds.step.max(1));
     }
@@ -180,29 +96,51 @@ fn rounds_for(values: usize) -> u64 {
     if values > FEW_VALUES { 1 } else { 61 }
 }
 
-/// Returns a dictionary and a text of a list of leaves, from a dictionary with all pairs that may be made.
-pub(crate) fn shrink(alloc: Global, leaves: &[u16], all: Paired) -> Result<Proposal, AllocError> {
-    let mut best = Best {
-        paired: copy_of(alloc, &all)?,
-        cost: u64::MAX,
-        budget: BUDGET,
-    };
-    let first = bounds_for(leaves.len());
-    drop_pairs(alloc, leaves, all, first, Blend { quarters: 2 }, &mut best)?;
+/// Begins with the best of the texts without pairs, with 256 pairs and with all of them. Returns the last one, too.
+fn begin_tries(
+    alloc: Global,
+    begun: Paired,
+    beside: Option<u64>,
+) -> Result<(Best, Paired), AllocError> {
+    let values = begun.symbols.len() as u64;
+    let mut best = Best::new(alloc, copy_of(alloc, &begun)?, values, beside, BUDGET)?;
+    let few = with_pairs(alloc, copy_of(alloc, &begun)?, FEW_PAIRS)?;
+    best.offer(alloc, &few)?;
+    let all = with_pairs(alloc, begun, MAX_SYMBOLS as u32)?;
+    best.offer(alloc, &all)?;
+    Ok((best, all))
+}
+
+/// Adds pairs to the best text and drops pairs again, some times.
+fn add_pairs(alloc: Global, leaves: &[u16], best: &mut Best) -> Result<(), AllocError> {
     for round in 1..rounds_for(leaves.len()) {
         if best.budget == 0 || best.paired.entries.len() > FEW_SYMBOLS {
             break;
         }
         let more = with_pairs(alloc, copy_of(alloc, &best.paired)?, MAX_SYMBOLS as u32)?;
-        drop_pairs(
-            alloc,
-            leaves,
-            more,
-            later_bounds(round),
-            blend_for(round),
-            &mut best,
-        )?;
+        let bounds = later_bounds(round);
+        drop_pairs(alloc, leaves, more, bounds, blend_for(round), best)?;
     }
+    Ok(())
+}
+
+/// Returns a dictionary and a text of a list of leaves, which is `begun` without any pairs. `beside` is as in `cost_of`.
+pub(crate) fn shrink(
+    alloc: Global,
+    begun: Paired,
+    beside: Option<u64>,
+) -> Result<Proposal, AllocError> {
+    let leaves = begun.symbols.to_vec(alloc)?;
+    let (mut best, all) = begin_tries(alloc, begun, beside)?;
+    let first = bounds_for(leaves.len());
+    drop_pairs(alloc, &leaves, all, first, Blend { quarters: 2 }, &mut best)?;
+    add_pairs(alloc, &leaves, &mut best)?;
+    let is_short = leaves.len() <= FEW_VALUES;
+    if is_short && best.paired.entries.len() <= FEW_SYMBOLS {
+        trim(alloc, &leaves, TRIM_BUDGET, &mut best)?;
+    }
+    let tries = if is_short { 4 } else { 1 };
+    polish(alloc, &leaves, tries, &mut best)?;
     let Paired {
         entries,
         symbols,

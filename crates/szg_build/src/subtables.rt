@@ -52,13 +52,14 @@ fn constant_byte(kind: Kind, values: &[u16]) -> Option<u8>
     }
 }
 
-/// Builds the subtable of a list of values, with the plan's flags (0 in WDL).
+/// Builds the subtable of a list of values, with the plan's flags (0 in WDL). `beside` is as in `cost_of`.
 pub(crate) fn build_sub(
     alloc: Global,
     kind: Kind,
     values: &[u16],
     flags: u8,
     choice: Choice,
+    beside: Option<u64>,
 ) -> Result<Sub, AllocError>
     requires few { length values.now < 2 ^ 33 }
     requires small { AllByRecursion (λ v. v ≤ greatest_value kind) values.now }
@@ -75,6 +76,6 @@ pub(crate) fn build_sub(
     }
     match choice {
         Choice::Fixed(packing) => build_pairs(alloc, values, flags, packing),
-        Choice::Small => build_short_pairs(alloc, values, flags),
+        Choice::Small => build_short_pairs(alloc, values, flags, beside),
     }
 }

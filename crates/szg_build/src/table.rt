@@ -15,6 +15,7 @@ ghost use Rattle.szg_build.specs.Tabling.{AreBuilt, IsBuildable, IsBuiltBare, Is
 use crate::blocks::pad;
 use crate::building::{Choice, Packing};
 use crate::copies::{copy_maps, copy_material, copy_parts};
+use crate::headers::bytes_beside;
 use crate::refusing::first_fault;
 use crate::subtables::build_sub;
 use crate::{BuildFault, Plan, SmallPlan};
@@ -127,10 +128,11 @@ fn build_subs(
     requires lists { AllByRecursion (IsBuildable plan.now.kind) (map (λ list. list.now) lists.now) }
     ensures { IfOk result (λ subs. AreBuilt choice (plan_seen plan.now) plan.now.flags.items (map (λ list. list.now) lists.now) (map subtable_of subs.items)) }
 {
+    let beside = bytes_beside(plan, lists);
     let mut subs = Vec::new(alloc);
     'lists: for (n, list) in lists.iter().enumerate() {
         let flags = flags_at(&plan.flags, n);
-        let sub = build_sub(alloc, plan.kind, list, flags, choice)?;
+        let sub = build_sub(alloc, plan.kind, list, flags, choice, beside)?;
         subs.push(sub)?;
     }
     Ok(subs)
