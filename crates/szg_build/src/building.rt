@@ -16,6 +16,7 @@ use crate::numbering::counts_of;
 use crate::rounds::{pair_shortly, pair_up};
 use crate::sizing::choose_sizes;
 use crate::sparse::sparse_index;
+use crate::watching::Watcher;
 use std::alloc::{AllocError, Global};
 use szg_block::{Entry, Sub};
 use szg_code::Code;
@@ -133,11 +134,12 @@ fn build_paired(
 }
 
 /// Builds a subtable that is not constant from values.
-pub(crate) fn build_pairs(
+pub(crate) fn build_pairs<V: Watcher>(
     alloc: Global,
     values: &[u16],
     flags: u8,
     packing: Packing,
+    watcher: &mut V,
 ) -> Result<Sub, AllocError>
     requires some { 0 < length values.now }
     requires few { length values.now < 2 ^ 33 }
@@ -152,13 +154,18 @@ pub(crate) fn build_pairs(
     ensures rule { IfOk result (λ sub. HasTruncatedBinary (subtable_of sub)) }
     ensures index { IfOk result (λ sub. HasSpanIndex (length values.now) (subtable_of sub)) }
 {
-    let paired = pair_up(alloc, values, packing.rounds)?;
+    let paired = pair_up(alloc, values, packing.rounds, watcher)?;
     build_paired(alloc, values, flags, paired, packing, false)
 }
 
 /// Builds a subtable that is not constant, as small as it gets: pairs while they pay, words by the symbols' counts,
 /// and the block bits and span bits that take the fewest bytes.
-pub(crate) fn build_short_pairs(alloc: Global, values: &[u16], flags: u8) -> Result<Sub, AllocError>
+pub(crate) fn build_short_pairs<V: Watcher>(
+    alloc: Global,
+    values: &[u16],
+    flags: u8,
+    watcher: &mut V,
+) -> Result<Sub, AllocError>
     requires some { 0 < length values.now }
     requires few { length values.now < 2 ^ 33 }
     requires small { AllByRecursion (λ v. v ≤ 4095) values.now }
@@ -166,7 +173,7 @@ pub(crate) fn build_short_pairs(alloc: Global, values: &[u16], flags: u8) -> Res
     ensures made { IfOk result (λ sub. IsMadeSmall values.now flags (subtable_of sub)) }
     ensures index { IfOk result (λ sub. HasSpanIndex (length values.now) (subtable_of sub)) }
 {
-    let paired = pair_shortly(alloc, values)?;
+    let paired = pair_shortly(alloc, values, watcher)?;
     let pairs = count_pairs_in(&paired.entries);
     let sizes = choose_sizes(alloc, values.len() as u64, &paired)?;
     let packing = Packing {

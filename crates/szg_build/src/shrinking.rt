@@ -8,8 +8,9 @@ use crate::dropping::{Counted, without_poor, without_unused};
 use crate::leaves::{MAX_SYMBOLS, Paired};
 use crate::numbering::counts_of;
 use crate::proposing::{Proposal, with_pairs};
-use crate::sizing::{Words, choose_words, cost_of};
+use crate::sizing::{Words, bytes_at, choose_words, cost_of};
 use crate::spelling::spell;
+use crate::watching::{Unwatched, Watcher};
 use std::alloc::{AllocError, Global};
 
 /// The number of nodes after which no more spellings are tried.
@@ -42,6 +43,15 @@ struct Best {
     cost: u64,
     /// How many more nodes may be visited.
     budget: u64,
+    /// How many texts were tried.
+    tries: u64,
+}
+
+impl Best {
+    /// Returns the bytes of a file with the best text alone. None before the first try.
+    fn bytes(&self) -> Option<u64> {
+        if self.tries > 0 { Some(bytes_at(self.cost)) } else { None }
+    }
 }
 
 /// Returns bits with fractional bits.
@@ -115,13 +125,14 @@ fn respelled(
 }
 
 /// Drops more and more pairs, and keeps the best.
-fn drop_pairs(
+fn drop_pairs<V: Watcher>(
     alloc: Global,
     leaves: &[u16],
     start: Paired,
     bounds: Bounds,
     blend: Blend,
     best: &mut Best,
+    watcher: &mut V,
 ) -> Result<(), AllocError> {
     let mut paired = start;
     let mut least = bounds.first;
@@ -129,8 +140,10 @@ fn drop_pairs(
         if least > bounds.last || best.budget == 0 {
             break;
         }
+        watcher.attempt(best.tries, best.bytes());
         let (next, steps) = respelled(alloc, leaves, paired, least, blend)?;
         best.budget = best.budget.saturating_sub(steps);
+        best.tries = best.tries.saturating_add(1);
         let cost = cost_of(alloc, leaves.len() as u64, &next)?;
         if cost < best.cost {
             best.paired = copy_of(alloc, &next)?;
@@ -181,19 +194,33 @@ fn rounds_for(values: usize) -> u64 {
 }
 
 /// Returns a dictionary and a text of a list of leaves, from a dictionary with all pairs that may be made.
-pub(crate) fn shrink(alloc: Global, leaves: &[u16], all: Paired) -> Result<Proposal, AllocError> {
+pub(crate) fn shrink<V: Watcher>(
+    alloc: Global,
+    leaves: &[u16],
+    all: Paired,
+    watcher: &mut V,
+) -> Result<Proposal, AllocError> {
     let mut best = Best {
         paired: copy_of(alloc, &all)?,
         cost: u64::MAX,
         budget: BUDGET,
+        tries: 0,
     };
     let first = bounds_for(leaves.len());
-    drop_pairs(alloc, leaves, all, first, Blend { quarters: 2 }, &mut best)?;
+    drop_pairs(
+        alloc,
+        leaves,
+        all,
+        first,
+        Blend { quarters: 2 },
+        &mut best,
+        watcher,
+    )?;
     for round in 1..rounds_for(leaves.len()) {
         if best.budget == 0 || best.paired.entries.len() > FEW_SYMBOLS {
             break;
         }
-        let more = with_pairs(alloc, copy_of(alloc, &best.paired)?, MAX_SYMBOLS as u32)?;
+        let more = with_pairs(alloc, copy_of(alloc, &best.paired)?, MAX_SYMBOLS as u32, &mut Unwatched)?;
         drop_pairs(
             alloc,
             leaves,
@@ -201,6 +228,7 @@ pub(crate) fn shrink(alloc: Global, leaves: &[u16], all: Paired) -> Result<Propo
             later_bounds(round),
             blend_for(round),
             &mut best,
+            watcher,
         )?;
     }
     let Paired {
