@@ -50,7 +50,11 @@ struct Best {
 impl Best {
     /// Returns the bytes of a file with the best text alone. None before the first try.
     fn bytes(&self) -> Option<u64> {
-        if self.tries > 0 { Some(bytes_at(self.cost)) } else { None }
+        if self.tries > 0 {
+            Some(bytes_at(self.cost))
+        } else {
+            None
+        }
     }
 }
 
@@ -220,7 +224,12 @@ pub(crate) fn shrink<V: Watcher>(
         if best.budget == 0 || best.paired.entries.len() > FEW_SYMBOLS {
             break;
         }
-        let more = with_pairs(alloc, copy_of(alloc, &best.paired)?, MAX_SYMBOLS as u32, &mut Unwatched)?;
+        let more = with_pairs(
+            alloc,
+            copy_of(alloc, &best.paired)?,
+            MAX_SYMBOLS as u32,
+            &mut Unwatched,
+        )?;
         drop_pairs(
             alloc,
             leaves,

@@ -108,11 +108,7 @@ fn fixed_table_of<V: Watcher>(
 }
 
 /// Builds the table of a dump as small as it can.
-fn small_table_of<V: Watcher>(
-    alloc: Global,
-    dump: Dump,
-    watcher: &mut V,
-) -> Result<Table, Stop>
+fn small_table_of<V: Watcher>(alloc: Global, dump: Dump, watcher: &mut V) -> Result<Table, Stop>
     ensures built { IfOk result (λ t. IsBuiltIn Packing.Small (dump_seen dump) t.contents) }
     ensures accepted { IfOk result (λ t. IsAccepted t.contents t.filled) }
     ensures refused { (refusal : Refusal) → IsErrOf result (Stop.Refused refusal) → IsRefusedPlan (plan_in Packing.Small (dump_seen dump)) (dump_seen dump).lists refusal }

@@ -267,9 +267,7 @@ where
         (IsListing task.now (Some source.now) target.entry ⊎ IsUnwritten W.Output writer.old writer.new)
         (IsListing task.now (Some source.now) target.entry ⊎ IsStartedFrom S.content S.failures S.File.Input W.Output task.now source.now system.old system.new writer.old writer.new) }
 {
-    match carry_out_file(
-        alloc, task, source, target, system, files, writer, watcher,
-    ) {
+    match carry_out_file(alloc, task, source, target, system, files, writer, watcher) {
         Ok(published) => Ending::Done(published),
         Err(FileStop::Refused(refusal)) => refused(alloc, refusal, writer),
         Err(FileStop::Failed(failure)) => Ending::Failed(failure),
@@ -321,9 +319,7 @@ where
         (IsListing task.now source.entry target.entry ⊎ IsShortOfMemory S.content S.failures S.File.Input R.Input W.Output task.now source.entry system.old system.new reader.old reader.new writer.old writer.new) }
 {
     match source {
-        Some(source) => run_from(
-            alloc, task, source, target, system, files, writer, watcher,
-        ),
+        Some(source) => run_from(alloc, task, source, target, system, files, writer, watcher),
         None => run_to(alloc, task, target, files, reader, writer, watcher),
     }
 }
