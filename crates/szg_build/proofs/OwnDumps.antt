@@ -1,7 +1,7 @@
 -- The dump of an accepted table can be written as a text and read back, and a table built from it has the table's
 -- values.
-use Rattle.std.proofs.Common.{◌≡◌, ℕ, zero, suc, ◌+◌, ◌*◌, ◌/◌, ◌%◌, ◌^◌, ◌<◌, ◌≤◌, Bool, true, false, List, [], ◌∷◌, ◌++◌, length, map, take, get_or, replicate, refl, sym, ap, subst, ◌∙◌, arith, inl, inr, Option, Some, None}
-use Rattle.std.specs.Prelude.{◌==◌, ◌&&◌, ◌⊎◌, IfSome, IsTrue, option_map, nat_eq, slice_get, slice_index, if◌then◌else◌}
+use Rattle.std.proofs.Common.{◌≡◌, ℕ, zero, suc, ◌+◌, ◌/◌, ◌%◌, ◌^◌, ◌<◌, ◌≤◌, Bool, true, false, List, [], ◌∷◌, ◌++◌, length, map, take, get_or, replicate, refl, sym, ap, subst, ◌∙◌, arith, Option, Some, None}
+use Rattle.std.specs.Prelude.{◌==◌, ◌&&◌, IfSome, option_map, nat_eq, slice_get, slice_index, if◌then◌else◌}
 use Rattle.std.specs.List.{AllByRecursion, flat_map, range_with_len}
 use Rattle.std.proofs.lemmas.Bool.{leb-true, and_parts}
 use Rattle.std.proofs.lemmas.List.{length-map, length-append, length-replicate}
@@ -15,24 +15,23 @@ use Rattle.szg_pairs.specs.Entry.{left_of, is_leaf}
 use Rattle.szg_pairs.specs.Expansion.{values_of_kind, values_of_entry, values_within, expansion_of}
 use Rattle.szg_code.specs.Spelling.{symbols_spelled}
 use Rattle.szg_code.specs.Bits.{bits}
-use Rattle.szg_block.specs.Layout.{Layout, SparseEntry}
+use Rattle.szg_block.specs.Layout.{Layout}
 use Rattle.szg_block.specs.Block.{needed, block_at, block_values}
 use Rattle.szg_block.specs.Expansion.{needed_values, joined_values}
 use Rattle.szg_block.proofs.Values.{length-joined_values}
-use Rattle.szg_file.specs.Contents.{Part, Head, Slot, Subtable, constant, pairs, layout_of, Map, narrow, wide, Contents, has_bit, slots, slots_from, part_slots, part_numbers, side_numbers, order_bytes, order_of}
+use Rattle.szg_file.specs.Contents.{Part, Slot, Subtable, constant, pairs, layout_of, Map, narrow, wide, Contents, has_bit, slots, slots_from, part_slots, part_numbers, side_numbers, order_bytes, order_of}
 use Rattle.szg_file.specs.File.{flags_of}
-use Rattle.szg_file.specs.Values.{slotted, found, subtable_at, values_in, values_of}
-use Rattle.szg_file.specs.Accepted.{SideBySide, AreNumbers, AreBytes, IsPart, IsPacked, IsSubtable, IsMapOf, AreMaps, AreLists, IsAccepted}
+use Rattle.szg_file.specs.Values.{slotted, found, values_in, values_of}
+use Rattle.szg_file.specs.Accepted.{SideBySide, AreNumbers, AreBytes, IsPart, IsSubtable, IsMapOf, AreMaps, AreLists, IsAccepted}
 use Rattle.szg_file.proofs.SoundLaws.{accepted_code, accepted_shape, accepted_subtable}
 use Rattle.szg_file.proofs.TableFinds.{side_lengths}
 use Rattle.szg_file.proofs.AssembledLaws.{all_of_sides}
-use Rattle.szg_build.specs.Built.{IsBuilt, IsDumpOf, subtables_in, value_lists, plan_flags, dump_plan}
-use Rattle.szg_build.specs.Dump.{Dump, SubDump, parts_of, places_of, subs_of, mapped_subs, flags_in, maps_in, dump_of_subs}
-use Rattle.szg_build.specs.Grammar.{greatest_count, greatest_item, list_numbers, dump_format}
+use Rattle.szg_build.specs.Built.{IsDumpOf, value_lists, plan_flags}
+use Rattle.szg_build.specs.Dump.{Dump, SubDump, places_of, subs_of, mapped_subs, flags_in, maps_in}
+use Rattle.szg_build.specs.Grammar.{greatest_count, greatest_item, dump_format}
 use Rattle.szg_build.specs.Plan.{sizes_told}
 use Rattle.szg_build.specs.Text.{Form, single, runs}
-use Rattle.szg_build.specs.Laws.{AreUpTo, AreMapLists, IsMapTold, AreFlagsTold, IsSized, IsSubTold, AreSubsTold, IsPartTold, IsTold, DumpIsWritable, OwnDumpIsRead, HasSameValues, RebuiltHasSameValues}
-use Rattle.szg_build.proofs.LinesLaws.{bool_cases}
+use Rattle.szg_build.specs.Laws.{AreUpTo, AreMapLists, IsMapTold, AreFlagsTold, IsSized, IsSubTold, AreSubsTold, IsPartTold, IsTold, DumpIsWritable, OwnDumpIsRead, RebuiltHasSameValues}
 use Rattle.szg_build.proofs.ReadBack.{text_is_read}
 use Rattle.szg_build.proofs.PlaceLaws.{places_stand, place_count}
 use Rattle.szg_build.proofs.TableLaws.{sizes_of_parts, flags_shown}

@@ -16,6 +16,7 @@ use crate::numbering::counts_of;
 use crate::rounds::{pair_shortly, pair_up};
 use crate::sizing::{are_by_use, choose_sizes};
 use crate::sparse::sparse_index;
+use crate::watching::Watcher;
 use std::alloc::{AllocError, Global};
 use szg_block::{Entry, Sub};
 use szg_code::Code;
@@ -133,11 +134,12 @@ fn build_paired(
 }
 
 /// Builds a subtable that is not constant from values.
-pub(crate) fn build_pairs(
+pub(crate) fn build_pairs<V: Watcher>(
     alloc: Global,
     values: &[u16],
     flags: u8,
     packing: Packing,
+    watcher: &mut V,
 ) -> Result<Sub, AllocError>
     requires some { 0 < length values.now }
     requires few { length values.now < 2 ^ 33 }
@@ -152,17 +154,18 @@ pub(crate) fn build_pairs(
     ensures rule { IfOk result (λ sub. HasTruncatedBinary (subtable_of sub)) }
     ensures index { IfOk result (λ sub. HasSpanIndex (length values.now) (subtable_of sub)) }
 {
-    let paired = pair_up(alloc, values, packing.rounds)?;
+    let paired = pair_up(alloc, values, packing.rounds, watcher)?;
     build_paired(alloc, values, flags, paired, packing, false)
 }
 
 /// Builds a subtable that is not constant, as small as it gets: pairs while they pay, words by the symbols' counts,
 /// and the block bits and span bits that take the fewest bytes. `beside` is as in `cost_of`.
-pub(crate) fn build_short_pairs(
+pub(crate) fn build_short_pairs<V: Watcher>(
     alloc: Global,
     values: &[u16],
     flags: u8,
     beside: Option<u64>,
+    watcher: &mut V,
 ) -> Result<Sub, AllocError>
     requires some { 0 < length values.now }
     requires few { length values.now < 2 ^ 33 }
@@ -171,7 +174,7 @@ pub(crate) fn build_short_pairs(
     ensures made { IfOk result (λ sub. IsMadeSmall values.now flags (subtable_of sub)) }
     ensures index { IfOk result (λ sub. HasSpanIndex (length values.now) (subtable_of sub)) }
 {
-    let paired = pair_shortly(alloc, values, beside)?;
+    let paired = pair_shortly(alloc, values, beside, watcher)?;
     let pairs = count_pairs_in(&paired.entries);
     let size = values.len() as u64;
     let by_use = are_by_use(alloc, size, &paired, beside)?;

@@ -40,6 +40,7 @@ mod subtables;
 mod table;
 mod tries;
 mod trimming;
+mod watching;
 mod word;
 mod writing;
 
@@ -47,8 +48,9 @@ pub use dump::{Dump, DumpFault, DumpReadFault};
 pub use dumpreading::read_dump;
 use szg_file::{Map, PartBytes};
 use szg_values::{Kind, Material};
-pub use table::{build, build_small};
+pub use table::{build, build_small, build_small_watched, build_watched};
 use thiserror::Error;
+pub use watching::{Unwatched, Watcher};
 pub use writing::write_dump;
 
 /// What a table is built from, beside its values.

@@ -3,6 +3,7 @@ use crate::cells::Cells;
 use crate::leaves::{MAX_SYMBOLS, Paired, entry};
 use crate::occurrences::Occurrences;
 use crate::pairing::LEAST_COUNT;
+use crate::watching::Watcher;
 use std::alloc::{AllocError, Global};
 
 /// A proposed dictionary and text, of which nothing is known yet.
@@ -21,7 +22,12 @@ fn width_for(leaves: usize, symbols: usize, rounds: u32) -> u16 {
 
 /// Makes pairs of the most frequent neighbours of a text, at most `rounds` of them. Each occurs at least four times.
 /// The text's symbols may be pairs themselves.
-pub(crate) fn with_pairs(alloc: Global, begun: Paired, rounds: u32) -> Result<Paired, AllocError> {
+pub(crate) fn with_pairs<V: Watcher>(
+    alloc: Global,
+    begun: Paired,
+    rounds: u32,
+    watcher: &mut V,
+) -> Result<Paired, AllocError> {
     let Paired {
         mut entries,
         lens,
@@ -31,6 +37,7 @@ pub(crate) fn with_pairs(alloc: Global, begun: Paired, rounds: u32) -> Result<Pa
     let mut text = Cells::new(alloc, symbols, lens)?;
     let mut occurrences = Occurrences::new(alloc, &text, width)?;
     for done in 0..rounds {
+        watcher.round(done, rounds);
         let new = text.symbols();
         if new >= MAX_SYMBOLS {
             break;
@@ -55,11 +62,16 @@ pub(crate) fn with_pairs(alloc: Global, begun: Paired, rounds: u32) -> Result<Pa
 }
 
 /// Proposes pairs of the most frequent neighbours, at most `rounds` of them.
-pub(crate) fn propose(alloc: Global, begun: Paired, rounds: u32) -> Result<Proposal, AllocError> {
+pub(crate) fn propose<V: Watcher>(
+    alloc: Global,
+    begun: Paired,
+    rounds: u32,
+    watcher: &mut V,
+) -> Result<Proposal, AllocError> {
     let Paired {
         entries,
         symbols,
         ..
-    } = with_pairs(alloc, begun, rounds)?;
+    } = with_pairs(alloc, begun, rounds, watcher)?;
     Ok(Proposal { entries, symbols })
 }

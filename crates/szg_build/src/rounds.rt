@@ -11,6 +11,7 @@ use crate::numbering::numbered_by_count;
 use crate::pairing::{LEAST_COUNT, Pair, count_pairs, is_short, replace};
 use crate::proposing::propose;
 use crate::shrinking::shrink;
+use crate::watching::Watcher;
 use std::alloc::{AllocError, Global};
 
 /// Returns a right symbol with which `left` makes a pair that may be made and occurs at least four times.
@@ -101,7 +102,12 @@ fn make_pair(paired: &mut Paired, pair: Pair) -> Result<(), AllocError>
 }
 
 /// Makes pairs without a proposal: counts all pairs again in each round.
-fn pair_slowly(alloc: Global, values: &[u16], rounds: u32) -> Result<Paired, AllocError>
+fn pair_slowly<V: Watcher>(
+    alloc: Global,
+    values: &[u16],
+    rounds: u32,
+    watcher: &mut V,
+) -> Result<Paired, AllocError>
     requires small { AllByRecursion (λ v. v ≤ 4095) values.now }
     requires different { length (different_values values.now) ≤ 4095 }
     ensures pairing { IfOk result (λ p. IsPairing values.now rounds p.entries.items p.symbols.items) }
@@ -109,6 +115,7 @@ fn pair_slowly(alloc: Global, values: &[u16], rounds: u32) -> Result<Paired, All
 {
     let mut paired = begin(alloc, values)?;
     for done in 0..rounds {
+        watcher.round(done, rounds);
         if paired.entries.len() == MAX_SYMBOLS {
             return Ok(paired);
         }
@@ -148,10 +155,11 @@ fn has_short_offsets(values: &[u16]) -> bool
 }
 
 /// Returns the proposed pairs. None if the proposal fails a test, or if there are 2^32 values or more.
-fn pair_by_proposal(
+fn pair_by_proposal<V: Watcher>(
     alloc: Global,
     values: &[u16],
     rounds: u32,
+    watcher: &mut V,
 ) -> Result<Option<Paired>, AllocError>
     requires small { AllByRecursion (λ v. v ≤ 4095) values.now }
     requires different { length (different_values values.now) ≤ 4095 }
@@ -161,7 +169,7 @@ fn pair_by_proposal(
     if !has_short_offsets(values) {
         return Ok(None);
     }
-    let proposal = propose(alloc, begin(alloc, values)?, rounds)?;
+    let proposal = propose(alloc, begin(alloc, values)?, rounds, watcher)?;
     let Some(paired) = accept(alloc, values, proposal)? else {
         return Ok(None);
     };
@@ -172,26 +180,32 @@ fn pair_by_proposal(
 }
 
 /// Makes pairs of the most frequent neighbours, at most `rounds` pairs.
-pub(crate) fn pair_up(alloc: Global, values: &[u16], rounds: u32) -> Result<Paired, AllocError>
+pub(crate) fn pair_up<V: Watcher>(
+    alloc: Global,
+    values: &[u16],
+    rounds: u32,
+    watcher: &mut V,
+) -> Result<Paired, AllocError>
     requires small { AllByRecursion (λ v. v ≤ 4095) values.now }
     requires different { length (different_values values.now) ≤ 4095 }
     ensures pairing { IfOk result (λ p. IsPairing values.now rounds p.entries.items p.symbols.items) }
     ensures lens { IfOk result (λ p. AreLens p.entries.items p.lens.items) }
 {
     if rounds > 0 {
-        if let Some(paired) = pair_by_proposal(alloc, values, rounds)? {
+        if let Some(paired) = pair_by_proposal(alloc, values, rounds, watcher)? {
             return Ok(paired);
         }
     }
-    pair_slowly(alloc, values, rounds)
+    pair_slowly(alloc, values, rounds, watcher)
 }
 
 /// Makes the pairs by which the subtable takes few bytes, and spells the values with them. Symbols are numbered by how
 /// often they occur in the text, the rarest first. `beside` is as in `cost_of`.
-pub(crate) fn pair_shortly(
+pub(crate) fn pair_shortly<V: Watcher>(
     alloc: Global,
     values: &[u16],
     beside: Option<u64>,
+    watcher: &mut V,
 ) -> Result<Paired, AllocError>
     requires small { AllByRecursion (λ v. v ≤ 4095) values.now }
     requires different { length (different_values values.now) ≤ 4095 }
@@ -202,7 +216,7 @@ pub(crate) fn pair_shortly(
     if !has_short_offsets(values) {
         return Ok(begun);
     }
-    let shrunk = shrink(alloc, begun, beside)?;
+    let shrunk = shrink(alloc, begun, beside, watcher)?;
     let proposal = numbered_by_count(alloc, shrunk)?;
     if let Some(paired) = accept(alloc, values, proposal)? {
         return Ok(paired);

@@ -9,6 +9,7 @@ use crate::leaves::{MAX_SYMBOLS, Paired};
 use crate::proposing::{Proposal, with_pairs};
 use crate::tries::{Best, Blend, bits, copy_of, counted};
 use crate::trimming::{polish, trim};
+use crate::watching::{Unwatched, Watcher};
 use std::alloc::{AllocError, Global};
 
 /// The number of nodes after which no more spellings are tried.
@@ -35,13 +36,14 @@ struct Bounds {
 }
 
 /// Drops more and more pairs, and keeps the best.
-fn drop_pairs(
+fn drop_pairs<V: Watcher>(
     alloc: Global,
     leaves: &[u16],
     start: Paired,
     bounds: Bounds,
     blend: Blend,
     best: &mut Best,
+    watcher: &mut V,
 ) -> Result<(), AllocError> {
     let mut paired = start;
     let mut least = bounds.first;
@@ -49,6 +51,7 @@ fn drop_pairs(
         if least > bounds.last || best.budget == 0 {
             break;
         }
+        watcher.attempt(best.tries, Some(best.bytes()));
         let rest = without_poor(alloc, counted(alloc, &paired)?, least)?;
         let next = best.spelled(alloc, leaves, rest, blend)?;
         best.offer(alloc, &next)?;
@@ -97,47 +100,76 @@ fn rounds_for(values: usize) -> u64 {
 }
 
 /// Begins with the best of the texts without pairs, with 256 pairs and with all of them. Returns the last one, too.
-fn begin_tries(
+fn begin_tries<V: Watcher>(
     alloc: Global,
     begun: Paired,
     beside: Option<u64>,
+    watcher: &mut V,
 ) -> Result<(Best, Paired), AllocError> {
     let values = begun.symbols.len() as u64;
     let mut best = Best::new(alloc, copy_of(alloc, &begun)?, values, beside, BUDGET)?;
-    let few = with_pairs(alloc, copy_of(alloc, &begun)?, FEW_PAIRS)?;
+    let few = with_pairs(alloc, copy_of(alloc, &begun)?, FEW_PAIRS, &mut Unwatched)?;
     best.offer(alloc, &few)?;
-    let all = with_pairs(alloc, begun, MAX_SYMBOLS as u32)?;
+    let all = with_pairs(alloc, begun, MAX_SYMBOLS as u32, watcher)?;
     best.offer(alloc, &all)?;
     Ok((best, all))
 }
 
 /// Adds pairs to the best text and drops pairs again, some times.
-fn add_pairs(alloc: Global, leaves: &[u16], best: &mut Best) -> Result<(), AllocError> {
+fn add_pairs<V: Watcher>(
+    alloc: Global,
+    leaves: &[u16],
+    best: &mut Best,
+    watcher: &mut V,
+) -> Result<(), AllocError> {
     for round in 1..rounds_for(leaves.len()) {
         if best.budget == 0 || best.paired.entries.len() > FEW_SYMBOLS {
             break;
         }
-        let more = with_pairs(alloc, copy_of(alloc, &best.paired)?, MAX_SYMBOLS as u32)?;
+        let more = with_pairs(
+            alloc,
+            copy_of(alloc, &best.paired)?,
+            MAX_SYMBOLS as u32,
+            &mut Unwatched,
+        )?;
         let bounds = later_bounds(round);
-        drop_pairs(alloc, leaves, more, bounds, blend_for(round), best)?;
+        drop_pairs(
+            alloc,
+            leaves,
+            more,
+            bounds,
+            blend_for(round),
+            best,
+            watcher,
+        )?;
     }
     Ok(())
 }
 
 /// Returns a dictionary and a text of a list of leaves, which is `begun` without any pairs. `beside` is as in `cost_of`.
-pub(crate) fn shrink(
+pub(crate) fn shrink<V: Watcher>(
     alloc: Global,
     begun: Paired,
     beside: Option<u64>,
+    watcher: &mut V,
 ) -> Result<Proposal, AllocError> {
     let leaves = begun.symbols.to_vec(alloc)?;
-    let (mut best, all) = begin_tries(alloc, begun, beside)?;
+    watcher.attempt(0, None);
+    let (mut best, all) = begin_tries(alloc, begun, beside, watcher)?;
     let first = bounds_for(leaves.len());
-    drop_pairs(alloc, &leaves, all, first, Blend { quarters: 2 }, &mut best)?;
-    add_pairs(alloc, &leaves, &mut best)?;
+    drop_pairs(
+        alloc,
+        &leaves,
+        all,
+        first,
+        Blend { quarters: 2 },
+        &mut best,
+        watcher,
+    )?;
+    add_pairs(alloc, &leaves, &mut best, watcher)?;
     let is_short = leaves.len() <= FEW_VALUES;
     if is_short && best.paired.entries.len() <= FEW_SYMBOLS {
-        trim(alloc, &leaves, TRIM_BUDGET, &mut best)?;
+        trim(alloc, &leaves, TRIM_BUDGET, &mut best, watcher)?;
     }
     let tries = if is_short { 4 } else { 1 };
     polish(alloc, &leaves, tries, &mut best)?;

@@ -8,6 +8,7 @@ ghost use Rattle.szg_build.specs.Plan.{different_values, greatest_value};
 ghost use Rattle.szg_build.specs.Rule.{constant_for};
 
 use crate::building::{Choice, build_pairs, build_short_pairs};
+use crate::watching::Watcher;
 use std::alloc::{AllocError, Global};
 use szg_block::Sub;
 use szg_values::Kind;
@@ -53,13 +54,14 @@ fn constant_byte(kind: Kind, values: &[u16]) -> Option<u8>
 }
 
 /// Builds the subtable of a list of values, with the plan's flags (0 in WDL). `beside` is as in `cost_of`.
-pub(crate) fn build_sub(
+pub(crate) fn build_sub<V: Watcher>(
     alloc: Global,
     kind: Kind,
     values: &[u16],
     flags: u8,
     choice: Choice,
     beside: Option<u64>,
+    watcher: &mut V,
 ) -> Result<Sub, AllocError>
     requires few { length values.now < 2 ^ 33 }
     requires small { AllByRecursion (λ v. v ≤ greatest_value kind) values.now }
@@ -75,7 +77,7 @@ pub(crate) fn build_sub(
         });
     }
     match choice {
-        Choice::Fixed(packing) => build_pairs(alloc, values, flags, packing),
-        Choice::Small => build_short_pairs(alloc, values, flags, beside),
+        Choice::Fixed(packing) => build_pairs(alloc, values, flags, packing, watcher),
+        Choice::Small => build_short_pairs(alloc, values, flags, beside, watcher),
     }
 }

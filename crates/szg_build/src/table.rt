@@ -18,6 +18,7 @@ use crate::copies::{copy_maps, copy_material, copy_parts};
 use crate::headers::bytes_beside;
 use crate::refusing::first_fault;
 use crate::subtables::build_sub;
+use crate::watching::{Unwatched, Watcher};
 use crate::{BuildFault, Plan, SmallPlan};
 use std::alloc::{AllocError, Global};
 use szg_block::Sub;
@@ -117,11 +118,12 @@ fn flags_at(flags: &[u8], n: usize) -> u8
 }
 
 /// Builds the subtables of lists of values.
-fn build_subs(
+fn build_subs<V: Watcher>(
     alloc: Global,
     plan: &Plan,
     choice: Choice,
     lists: &[&[u16]],
+    watcher: &mut V,
 ) -> Result<Vec<Sub>, AllocError>
     requires range { IsInRange (plan_seen plan.now) }
     requires choice { IsChoiceOf (plan_seen plan.now) choice }
@@ -131,26 +133,28 @@ fn build_subs(
     let beside = bytes_beside(plan, lists);
     let mut subs = Vec::new(alloc);
     'lists: for (n, list) in lists.iter().enumerate() {
+        watcher.subtable(n + 1, lists.len(), list.len());
         let flags = flags_at(&plan.flags, n);
-        let sub = build_sub(alloc, plan.kind, list, flags, choice, beside)?;
+        let sub = build_sub(alloc, plan.kind, list, flags, choice, beside, watcher)?;
         subs.push(sub)?;
     }
     Ok(subs)
 }
 
 /// Builds all of a table but its padding.
-fn build_fields(
+fn build_fields<V: Watcher>(
     alloc: Global,
     plan: &Plan,
     choice: Choice,
     lists: &[&[u16]],
+    watcher: &mut V,
 ) -> Result<Fields, AllocError>
     requires stands { Stands (plan_seen plan.now) (map (λ list. list.now) lists.now) }
     requires choice { IsChoiceOf (plan_seen plan.now) choice }
     ensures { IfOk result (λ fields. IsBuiltBare choice (plan_seen plan.now) (map (λ list. list.now) lists.now) (fields_shown fields).contents) }
 {
     maps_fit(&plan.maps);
-    let subs = build_subs(alloc, plan, choice, lists)?;
+    let subs = build_subs(alloc, plan, choice, lists, watcher)?;
     let parts = copy_parts(alloc, &plan.parts)?;
     let maps = copy_maps(alloc, &plan.maps)?;
     let last = end_bytes(&plan.last);
@@ -167,11 +171,12 @@ fn build_fields(
 }
 
 /// Builds the table of a plan and lists that are not refused.
-fn build_table(
+fn build_table<V: Watcher>(
     alloc: Global,
     plan: &Plan,
     choice: Choice,
     lists: &[&[u16]],
+    watcher: &mut V,
 ) -> Result<Table, AllocError>
     requires stands { Stands (plan_seen plan.now) (map (λ list. list.now) lists.now) }
     requires choice { IsChoiceOf (plan_seen plan.now) choice }
@@ -179,7 +184,7 @@ fn build_table(
     ensures accepted { IfOk result (λ t. IsAccepted t.contents t.filled) }
     ensures padding { IfOk result (λ t. AllByRecursion (λ byte. byte ≡ 0) t.filled) }
 {
-    let mut fields = build_fields(alloc, plan, choice, lists)?;
+    let mut fields = build_fields(alloc, plan, choice, lists, watcher)?;
     let asked = fields.fill_asked() as usize;
     let mut fill = Vec::new(alloc);
     pad(&mut fill, asked)?;
@@ -188,11 +193,12 @@ fn build_table(
 }
 
 /// Builds the table of a plan and lists, packed by `choice`. Errors: the first fault of the plan and lists.
-fn build_by(
+fn build_by<V: Watcher>(
     alloc: Global,
     plan: &Plan,
     choice: Choice,
     lists: &[&[u16]],
+    watcher: &mut V,
 ) -> Result<Table, BuildFault>
     requires { IsChoiceOf (plan_seen plan.now) choice }
     ensures refused { MatchOption (build_fault (plan_seen plan.now) (map (λ list. list.now) lists.now))
@@ -209,7 +215,7 @@ fn build_by(
     if let Some(fault) = first_fault(plan, sizes.as_slice(), lists) {
         return Err(fault);
     }
-    match build_table(alloc, plan, choice, lists) {
+    match build_table(alloc, plan, choice, lists, watcher) {
         Ok(table) => Ok(table),
         Err(_failed) => Err(BuildFault::Memory),
     }
@@ -239,12 +245,35 @@ pub fn build(alloc: Global, plan: &Plan, lists: &[&[u16]]) -> Result<Table, Buil
     ensures index { IfOk result (λ t. AllByRecursion (λ pair. HasSpanIndex pair.0.size pair.1) (subtables_in t.contents)) }
     ensures padding { IfOk result (λ t. AllByRecursion (λ byte. byte ≡ 0) t.filled) }
 {
+    build_watched(alloc, plan, lists, &mut Unwatched)
+}
+
+/// Builds a table as `build` does. `watcher` sees each subtable and each round, and the end.
+pub fn build_watched<V: Watcher>(
+    alloc: Global,
+    plan: &Plan,
+    lists: &[&[u16]],
+    watcher: &mut V,
+) -> Result<Table, BuildFault>
+    ensures refused { MatchOption (build_fault (plan_seen plan.now) (map (λ list. list.now) lists.now))
+        (IfErr result (λ fault. fault ≡ BuildFault.Memory))
+        (λ fault. result ≡ Err fault) }
+    ensures built { IfOk result (λ t. IsBuilt (plan_seen plan.now) (map (λ list. list.now) lists.now) t.contents) }
+    ensures accepted { IfOk result (λ t. IsAccepted t.contents t.filled) }
+    ensures byte4 { IfOk result (λ t. t.contents.byte4 ≡ byte4_for plan.now.material) }
+    ensures constants { IfOk result (λ t. map constant_in t.contents.subtables ≡ map (constant_for plan.now.kind) (map (λ list. list.now) lists.now)) }
+    ensures codes { IfOk result (λ t. AllByRecursion HasTruncatedBinary t.contents.subtables) }
+    ensures index { IfOk result (λ t. AllByRecursion (λ pair. HasSpanIndex pair.0.size pair.1) (subtables_in t.contents)) }
+    ensures padding { IfOk result (λ t. AllByRecursion (λ byte. byte ≡ 0) t.filled) }
+{
     let packing = Packing {
         block_bits: plan.block_bits,
         span_bits: plan.span_bits,
         rounds: plan.rounds,
     };
-    build_by(alloc, plan, Choice::Fixed(packing), lists)
+    let built = build_by(alloc, plan, Choice::Fixed(packing), lists, watcher);
+    watcher.end();
+    built
 }
 
 /// Builds a table from a plan and the values of its subtables, which are listed in file order, as small as the
@@ -254,6 +283,26 @@ pub fn build(alloc: Global, plan: &Plan, lists: &[&[u16]]) -> Result<Table, Buil
 /// bits with which it takes the fewest bytes. Errors: those of `build` without `Bits` and `Rounds`. A list of 2^32
 /// values or more gets no pairs.
 pub fn build_small(alloc: Global, plan: SmallPlan, lists: &[&[u16]]) -> Result<Table, BuildFault>
+    ensures refused { MatchOption (build_fault (small_seen plan) (map (λ list. list.now) lists.now))
+        (IfErr result (λ fault. fault ≡ BuildFault.Memory))
+        (λ fault. result ≡ Err fault) }
+    ensures built { IfOk result (λ t. IsBuiltSmall (small_seen plan) (map (λ list. list.now) lists.now) t.contents) }
+    ensures accepted { IfOk result (λ t. IsAccepted t.contents t.filled) }
+    ensures byte4 { IfOk result (λ t. t.contents.byte4 ≡ byte4_for plan.material) }
+    ensures constants { IfOk result (λ t. map constant_in t.contents.subtables ≡ map (constant_for plan.kind) (map (λ list. list.now) lists.now)) }
+    ensures index { IfOk result (λ t. AllByRecursion (λ pair. HasSpanIndex pair.0.size pair.1) (subtables_in t.contents)) }
+    ensures padding { IfOk result (λ t. AllByRecursion (λ byte. byte ≡ 0) t.filled) }
+{
+    build_small_watched(alloc, plan, lists, &mut Unwatched)
+}
+
+/// Builds a small table as `build_small` does. `watcher` sees each subtable, each round and each try, and the end.
+pub fn build_small_watched<V: Watcher>(
+    alloc: Global,
+    plan: SmallPlan,
+    lists: &[&[u16]],
+    watcher: &mut V,
+) -> Result<Table, BuildFault>
     ensures refused { MatchOption (build_fault (small_seen plan) (map (λ list. list.now) lists.now))
         (IfErr result (λ fault. fault ≡ BuildFault.Memory))
         (λ fault. result ≡ Err fault) }
@@ -276,5 +325,7 @@ pub fn build_small(alloc: Global, plan: SmallPlan, lists: &[&[u16]]) -> Result<T
         maps: plan.maps,
         last,
     };
-    build_by(alloc, &numbered, Choice::Small, lists)
+    let built = build_by(alloc, &numbered, Choice::Small, lists, watcher);
+    watcher.end();
+    built
 }

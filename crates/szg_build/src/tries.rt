@@ -5,7 +5,7 @@ use crate::costs::{FRACTION, bits_for};
 use crate::dropping::{Counted, without_unused};
 use crate::leaves::Paired;
 use crate::numbering::counts_of;
-use crate::sizing::{Words, choose_words, cost_of};
+use crate::sizing::{Words, bytes_at, choose_words, cost_of};
 use crate::spelling::spell;
 use std::alloc::{AllocError, Global};
 
@@ -26,6 +26,8 @@ pub(crate) struct Best {
     beside: Option<u64>,
     /// How many more nodes may be visited.
     pub budget: u64,
+    /// The number of texts so far.
+    pub tries: u64,
 }
 
 /// Returns bits with fractional bits.
@@ -67,7 +69,14 @@ impl Best {
             values,
             beside,
             budget,
+            tries: 1,
         })
+    }
+
+    /// Returns about how many bytes the best text takes: those of its subtable, with the table's other bytes if `beside`
+    /// says their number.
+    pub fn bytes(&self) -> u64 {
+        bytes_at(self.cost, self.beside)
     }
 
     /// Returns what a try costs.
@@ -77,6 +86,7 @@ impl Best {
 
     /// Keeps a copy of a try that costs less. Returns whether it does.
     pub fn offer(&mut self, alloc: Global, tried: &Paired) -> Result<bool, AllocError> {
+        self.tries = self.tries.saturating_add(1);
         let cost = self.cost_of(alloc, tried)?;
         if cost >= self.cost {
             return Ok(false);

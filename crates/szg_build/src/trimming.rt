@@ -4,17 +4,19 @@
 use crate::dropping::without_one;
 use crate::leaves::MAX_SYMBOLS;
 use crate::tries::{Best, Blend, counted};
+use crate::watching::Watcher;
 use std::alloc::{AllocError, Global};
 
 /// How often all pairs are tried, at most.
 const PASSES: u64 = 4;
 
 /// Drops single pairs, from the last to the first, and keeps what costs less. Returns whether anything does.
-fn drop_singly(
+fn drop_singly<V: Watcher>(
     alloc: Global,
     leaves: &[u16],
     blend: Blend,
     best: &mut Best,
+    watcher: &mut V,
 ) -> Result<bool, AllocError> {
     let count = best.paired.entries.len();
     let mut is_less = false;
@@ -22,6 +24,7 @@ fn drop_singly(
         if best.budget == 0 {
             break;
         }
+        watcher.attempt(best.tries, Some(best.bytes()));
         let symbol = (count - 1 - later).min(MAX_SYMBOLS) as u16;
         let dictionary = counted(alloc, &best.paired)?;
         if let Some(rest) = without_one(alloc, dictionary, symbol)? {
@@ -34,18 +37,19 @@ fn drop_singly(
 }
 
 /// Drops single pairs until none is left whose loss costs less, visiting at most `budget` nodes or a few more.
-pub(crate) fn trim(
+pub(crate) fn trim<V: Watcher>(
     alloc: Global,
     leaves: &[u16],
     budget: u64,
     best: &mut Best,
+    watcher: &mut V,
 ) -> Result<(), AllocError> {
     best.budget = budget;
     for pass in 0..PASSES {
         let blend = Blend {
             quarters: pass % 2 * 2,
         };
-        if !drop_singly(alloc, leaves, blend, best)? {
+        if !drop_singly(alloc, leaves, blend, best, watcher)? {
             break;
         }
     }

@@ -10,17 +10,21 @@ ghost use Rattle.szg_tool.specs.declared.refusal.Refusal.{Refusal};
 use crate::refusal::{Refusal, Stop};
 use crate::request::{Packing, Sizes};
 use std::alloc::{AllocError, Global};
-use szg_build::{BuildFault, Dump, DumpReadFault, Plan, SmallPlan, build, build_small, read_dump};
+use szg_build::{
+    BuildFault, Dump, DumpReadFault, Plan, SmallPlan, Watcher, build_small_watched, build_watched,
+    read_dump,
+};
 use szg_file::{Table, write};
 use szg_io::{Input, Output};
 
-/// Reads a dump, builds its table and writes the table's file, or returns why not; where it is refused nothing was
-/// written.
-pub fn build_told<R: Input, W: Output>(
+/// Reads a dump, builds its table, which `watcher` sees, and writes the table's file, or returns why not; where it is
+/// refused nothing was written.
+pub fn build_told<R: Input, W: Output, V: Watcher>(
     alloc: Global,
     packing: Packing,
     reader: &mut R,
     writer: &mut W,
+    watcher: &mut V,
 ) -> Result<(), Stop>
     // Just the text of a dump was read, and just the file of a table that is built of it was written.
     ensures told { OnOk result (IsMade R.Input W.Output packing reader.old reader.new writer.old writer.new) }
@@ -30,7 +34,7 @@ pub fn build_told<R: Input, W: Output>(
     ensures memory { IsErrOf result Stop.Memory → writer.new ≡ writer.old }
 {
     let dump = read_told(alloc, reader)?;
-    let table = table_of(alloc, dump, packing)?;
+    let table = table_of(alloc, dump, packing, watcher)?;
     match write(&table, writer) {
         Ok(()) => Ok(()),
         Err(_) => Err(Stop::Device),
@@ -56,20 +60,30 @@ fn read_told<R: Input>(alloc: Global, reader: &mut R) -> Result<Dump, Stop>
 }
 
 /// Builds the table of a dump.
-fn table_of(alloc: Global, dump: Dump, packing: Packing) -> Result<Table, Stop>
+fn table_of<V: Watcher>(
+    alloc: Global,
+    dump: Dump,
+    packing: Packing,
+    watcher: &mut V,
+) -> Result<Table, Stop>
     ensures built { IfOk result (λ t. IsBuiltIn packing (dump_seen dump) t.contents) }
     ensures accepted { IfOk result (λ t. IsAccepted t.contents t.filled) }
     ensures refused { (refusal : Refusal) → IsErrOf result (Stop.Refused refusal) → IsRefusedPlan (plan_in packing (dump_seen dump)) (dump_seen dump).lists refusal }
     ensures only { IsErrOf result Stop.Device → ⊥ }
 {
     match packing {
-        Packing::Fixed(sizes) => fixed_table_of(alloc, dump, sizes),
-        Packing::Small => small_table_of(alloc, dump),
+        Packing::Fixed(sizes) => fixed_table_of(alloc, dump, sizes, watcher),
+        Packing::Small => small_table_of(alloc, dump, watcher),
     }
 }
 
 /// Builds the table of a dump by numbers.
-fn fixed_table_of(alloc: Global, dump: Dump, sizes: Sizes) -> Result<Table, Stop>
+fn fixed_table_of<V: Watcher>(
+    alloc: Global,
+    dump: Dump,
+    sizes: Sizes,
+    watcher: &mut V,
+) -> Result<Table, Stop>
     ensures built { IfOk result (λ t. IsBuiltIn (Packing.Fixed sizes) (dump_seen dump) t.contents) }
     ensures accepted { IfOk result (λ t. IsAccepted t.contents t.filled) }
     ensures refused { (refusal : Refusal) → IsErrOf result (Stop.Refused refusal) → IsRefusedPlan (plan_in (Packing.Fixed sizes) (dump_seen dump)) (dump_seen dump).lists refusal }
@@ -87,14 +101,14 @@ fn fixed_table_of(alloc: Global, dump: Dump, sizes: Sizes) -> Result<Table, Stop
         last: dump.last,
     };
     let lists = lent(alloc, &dump.lists)?;
-    match build(alloc, &plan, &lists) {
+    match build_watched(alloc, &plan, &lists, watcher) {
         Ok(table) => Ok(table),
         Err(fault) => Err(stop_of(fault)),
     }
 }
 
 /// Builds the table of a dump as small as it can.
-fn small_table_of(alloc: Global, dump: Dump) -> Result<Table, Stop>
+fn small_table_of<V: Watcher>(alloc: Global, dump: Dump, watcher: &mut V) -> Result<Table, Stop>
     ensures built { IfOk result (λ t. IsBuiltIn Packing.Small (dump_seen dump) t.contents) }
     ensures accepted { IfOk result (λ t. IsAccepted t.contents t.filled) }
     ensures refused { (refusal : Refusal) → IsErrOf result (Stop.Refused refusal) → IsRefusedPlan (plan_in Packing.Small (dump_seen dump)) (dump_seen dump).lists refusal }
@@ -109,7 +123,7 @@ fn small_table_of(alloc: Global, dump: Dump) -> Result<Table, Stop>
         last: dump.last,
     };
     let lists = lent(alloc, &dump.lists)?;
-    match build_small(alloc, plan, &lists) {
+    match build_small_watched(alloc, plan, &lists, watcher) {
         Ok(table) => Ok(table),
         Err(fault) => Err(stop_of(fault)),
     }

@@ -25,7 +25,7 @@ use crate::saying::{say, say_line};
 use clap::Error;
 use clap::error::ErrorKind;
 use std::alloc::Global;
-use szg_build::{Dump, write_dump};
+use szg_build::{Dump, Unwatched, Watcher, write_dump};
 use szg_file::{ReadFault, Table, file_len, read, write};
 use szg_io::{Input, Output};
 use szg_values::Material;
@@ -55,16 +55,17 @@ pub fn run<R: Input, W: Output>(
     // Nothing was written, or, by `values`, a beginning of the answer.
     ensures memory { (result ≡ Outcome.Memory) → (writer.new ≡ writer.old) ⊎ ((task : Task) × AsksFor IsFoundByClap (map (λ word. word.now) words.now) task × IsBegunBy R.Input W.Output task reader.old reader.new writer.old writer.new) }
 {
-    run_by(alloc, &Clap, words, reader, writer)
+    run_by(alloc, &Clap, words, reader, writer, &mut Unwatched)
 }
 
-/// Runs a command line as `run` does, with what a finder finds in its words.
-pub fn run_by<F: Finder, R: Input, W: Output>(
+/// Runs a command line as `run` does, with what a finder finds in its words. `watcher` sees a build.
+pub fn run_by<F: Finder, R: Input, W: Output, V: Watcher>(
     alloc: Global,
     finder: &F,
     words: &[&str],
     reader: &mut R,
     writer: &mut W,
+    watcher: &mut V,
 ) -> Outcome
     // The request that the words ask for was answered: just the file of an accepted table was read, and just its answer
     // was written. Or a table was built: just the text of a dump was read, and just the file of an accepted table that is
@@ -83,7 +84,7 @@ pub fn run_by<F: Finder, R: Input, W: Output>(
         Ok(task) => task,
         Err(error) => return words_outcome(error),
     };
-    match carry_out(alloc, &task, reader, writer) {
+    match carry_out(alloc, &task, reader, writer, watcher) {
         Ok(()) => Outcome::Done,
         Err(Stop::Memory) => Outcome::Memory,
         Err(Stop::Device) => Outcome::Device,
@@ -122,12 +123,13 @@ pub fn refuse<W: Output>(alloc: Global, refusal: Refusal, writer: &mut W) -> Out
     }
 }
 
-/// Carries a task out, or returns why not; where it is refused nothing was written.
-pub fn carry_out<R: Input, W: Output>(
+/// Carries a task out, or returns why not; where it is refused nothing was written. `watcher` sees a build.
+pub fn carry_out<R: Input, W: Output, V: Watcher>(
     alloc: Global,
     task: &Task,
     reader: &mut R,
     writer: &mut W,
+    watcher: &mut V,
 ) -> Result<(), Stop>
     ensures told { OnOk result (IsCarriedOut R.Input W.Output task.now reader.old reader.new writer.old writer.new) }
     ensures calls { (bytes : List ℕ) × Takes R.Input reader.old reader.new bytes 1 }
@@ -137,7 +139,7 @@ pub fn carry_out<R: Input, W: Output>(
 {
     match task {
         Task::OnTable(request) => answer(alloc, request, reader, writer),
-        Task::Build(packing) => build_told(alloc, *packing, reader, writer),
+        Task::Build(packing) => build_told(alloc, *packing, reader, writer, watcher),
     }
 }
 

@@ -21,6 +21,7 @@ mod numbers;
 mod on_files;
 mod outcome;
 mod placements;
+mod progress;
 mod refusal;
 mod refusal_lines;
 mod request;
@@ -33,11 +34,13 @@ use finding::Clap;
 use meant::meant_name;
 use on_files::{Ending, FileFailure, run_words};
 use outcome::Outcome;
+use progress::ProgressLine;
 use std::alloc::{AllocError, Global};
-use std::io::{self, BufWriter, Read, Write};
+use std::io::{self, BufWriter, IsTerminal, Read, Write};
 use std::process::ExitCode;
 use std::rt::Files;
 use std::time::Clock;
+use szg_build::Watcher;
 use szg_files::{Disk, Monitored};
 use szg_io::Std;
 use szg_named::{Stop, Tally, fault_text};
@@ -48,7 +51,10 @@ use szg_named::{Stop, Tally, fault_text};
 /// of words and for help (both are printed on standard error), 3 where a stream failed, and 4 for want of memory.
 fn main(rt: HostRuntime) -> ExitCode {
     match words_given(&rt) {
-        Ok(words) => run_given(&rt, &rt, &words, rt.reader(), io::writer(&rt)),
+        Ok(words) => {
+            let mut line = ProgressLine::new(&rt, &rt, rt.stderr().is_terminal());
+            run_given(&rt, &rt, &words, rt.reader(), io::writer(&rt), &mut line)
+        }
         Err(error) => no_words_status(&rt, &error),
     }
 }
@@ -176,17 +182,26 @@ fn print_meant(rt: &(impl Eprint + AllocGlobal), texts: &[&str]) {
 }
 
 /// Runs the words of a command line on a machine's files, on an input and an output; faults are printed on standard error.
+/// `watcher` sees a build.
 fn run_given(
     rt: &(impl Eprint + AllocGlobal),
     machine: &(impl Files + Clock),
     words: &[String],
     input: impl Read + Drop,
     output: impl Write + Drop,
+    watcher: &mut impl Watcher,
 ) -> ExitCode {
     let Ok(texts) = texts_of(rt.alloc(), words) else {
         return status_of(rt, &Outcome::Memory);
     };
-    let (ending, is_closed) = run_on_streams(rt.alloc(), machine, texts.as_slice(), input, output);
+    let (ending, is_closed) = run_on_streams(
+        rt.alloc(),
+        machine,
+        texts.as_slice(),
+        input,
+        output,
+        watcher,
+    );
     if is_refused(&ending) && !is_closed {
         print_meant(rt, texts.as_slice());
     }
@@ -201,6 +216,7 @@ fn run_on_streams<'a, D: Files + Clock>(
     texts: &'a [&'a str],
     input: impl Read + Drop,
     output: impl Write + Drop,
+    watcher: &mut impl Watcher,
 ) -> (Ending<'a>, bool) {
     let Ok(mut writer) = BufWriter::new(alloc, Monitored::new(output)) else {
         return (Ending::Memory, false);
@@ -216,6 +232,7 @@ fn run_on_streams<'a, D: Files + Clock>(
         machine,
         &mut reader,
         &mut output,
+        watcher,
     );
     let flushed = writer.flush();
     let is_closed = match writer.get_ref().error() {

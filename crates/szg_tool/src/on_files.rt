@@ -24,6 +24,7 @@ use crate::streaming::{is_values, stream_from};
 use std::alloc::Global;
 use std::rt::Files;
 use std::time::Clock;
+use szg_build::Watcher;
 use szg_file::Ahead;
 use szg_files::{Draft, FileFault, FileSystem, Published, Reasons};
 use szg_io::{Input, Output};
@@ -50,12 +51,13 @@ pub enum FileStop<'a> {
 }
 
 /// Carries a task out on `input`, and writes its answer to the file at `target`: whole, or not at all.
-fn carry_out_into<'a, I: Input, R: Files>(
+fn carry_out_into<'a, I: Input, R: Files, V: Watcher>(
     alloc: Global,
     task: &Task,
     input: &mut I,
     files: &'a R,
     target: &'a str,
+    watcher: &mut V,
 ) -> Result<Published<'a>, FileStop<'a>>
     ensures told { IfOk result (λ published. IsPublishedBy I.Input task.now target.now input.old input.new published) }
     ensures refused { (refusal : Refusal) → IsErrOf result (FileStop.Refused refusal) → Meets I.Input task.now input.old input.new refusal }
@@ -64,7 +66,7 @@ fn carry_out_into<'a, I: Input, R: Files>(
         Ok(draft) => draft,
         Err(fault) => return Err(failed(target, fault)),
     };
-    match carry_out(alloc, task, input, &mut draft.file) {
+    match carry_out(alloc, task, input, &mut draft.file, watcher) {
         Ok(()) => published(draft, target),
         Err(Stop::Refused(refusal)) => {
             draft.discard();
@@ -120,13 +122,14 @@ fn published<'a, R: Files>(
 
 /// Carries a task out on `input`; its answer goes to the file at `target`, else to `writer`. Where it is refused nothing
 /// was written.
-fn carry_out_to<'a, I: Input, R: Files, W: Output>(
+fn carry_out_to<'a, I: Input, R: Files, W: Output, V: Watcher>(
     alloc: Global,
     task: &Task,
     input: &mut I,
     files: &'a R,
     target: Option<&'a str>,
     writer: &mut W,
+    watcher: &mut V,
 ) -> Result<Option<Published<'a>>, FileStop<'a>>
     ensures told { IfOk result (λ published. IsCarriedTo I.Input W.Output task.now (option_map (λ path. path.now) target.entry) input.old input.new writer.old writer.new published) }
     ensures refused { (refusal : Refusal) → IsErrOf result (FileStop.Refused refusal) → (writer.new ≡ writer.old) × Meets I.Input task.now input.old input.new refusal }
@@ -135,11 +138,11 @@ fn carry_out_to<'a, I: Input, R: Files, W: Output>(
     ensures memory { IsErrOf result FileStop.Memory → IsStarted I.Input W.Output task.now input.old input.new writer.old writer.new }
 {
     match target {
-        Some(target) => match carry_out_into(alloc, task, input, files, target) {
+        Some(target) => match carry_out_into(alloc, task, input, files, target, watcher) {
             Ok(published) => Ok(Some(published)),
             Err(stop) => Err(stop),
         },
-        None => match carry_out(alloc, task, input, writer) {
+        None => match carry_out(alloc, task, input, writer, watcher) {
             Ok(()) => Ok(None),
             Err(Stop::Refused(refusal)) => Err(FileStop::Refused(refusal)),
             Err(Stop::Device) => Err(FileStop::Device),
@@ -150,7 +153,7 @@ fn carry_out_to<'a, I: Input, R: Files, W: Output>(
 
 /// Carries a task out on the file at `source`; its answer goes to the file at `target`, else to `writer`. Where it is
 /// refused nothing was written.
-fn carry_out_from<'a, S: FileSystem, R: Files, W: Output>(
+fn carry_out_from<'a, S: FileSystem, R: Files, W: Output, V: Watcher>(
     alloc: Global,
     task: &Task,
     source: &'a str,
@@ -158,6 +161,7 @@ fn carry_out_from<'a, S: FileSystem, R: Files, W: Output>(
     system: &mut S,
     files: &'a R,
     writer: &mut W,
+    watcher: &mut V,
 ) -> Result<Option<Published<'a>>, FileStop<'a>>
     ensures told { IfOk result (λ published. IsCarriedFrom S.content S.failures S.File.Input W.Output task.now source.now (option_map (λ path. path.now) target.entry) system.old system.new writer.old writer.new published) }
     ensures refused { (refusal : Refusal) → IsErrOf result (FileStop.Refused refusal) → (writer.new ≡ writer.old)
@@ -170,7 +174,7 @@ fn carry_out_from<'a, S: FileSystem, R: Files, W: Output>(
         Ok(file) => file,
         Err(fault) => return Err(failed(source, fault)),
     };
-    match carry_out_to(alloc, task, &mut file, files, target, writer) {
+    match carry_out_to(alloc, task, &mut file, files, target, writer, watcher) {
         Ok(published) => Ok(published),
         Err(FileStop::Device) => match file.reason() {
             Some(error) => Err(failed(source, FileFault::System(error))),
@@ -183,7 +187,7 @@ fn carry_out_from<'a, S: FileSystem, R: Files, W: Output>(
 }
 
 /// Carries a task out on the file at `source`, as `carry_out_from`. Values for `writer` are written while the file is read.
-fn carry_out_file<'a, S: FileSystem, R: Files, W: Output>(
+fn carry_out_file<'a, S: FileSystem, R: Files, W: Output, V: Watcher>(
     alloc: Global,
     task: &Task,
     source: &'a str,
@@ -191,6 +195,7 @@ fn carry_out_file<'a, S: FileSystem, R: Files, W: Output>(
     system: &mut S,
     files: &'a R,
     writer: &mut W,
+    watcher: &mut V,
 ) -> Result<Option<Published<'a>>, FileStop<'a>>
 where
     S::File: Ahead,
@@ -210,7 +215,7 @@ where
             };
         }
     }
-    carry_out_from(alloc, task, source, target, system, files, writer)
+    carry_out_from(alloc, task, source, target, system, files, writer, watcher)
 }
 
 /// How a command line ended.
@@ -245,7 +250,7 @@ fn refused<'a, W: Output>(alloc: Global, refusal: Refusal, writer: &mut W) -> En
 }
 
 /// Runs a task on the file at `source`.
-fn run_from<'a, S: FileSystem, D: Files, W: Output>(
+fn run_from<'a, S: FileSystem, D: Files, W: Output, V: Watcher>(
     alloc: Global,
     task: &Task,
     source: &'a str,
@@ -253,6 +258,7 @@ fn run_from<'a, S: FileSystem, D: Files, W: Output>(
     system: &mut S,
     files: &'a D,
     writer: &mut W,
+    watcher: &mut V,
 ) -> Ending<'a>
 where
     S::File: Ahead,
@@ -261,7 +267,7 @@ where
         (IsListing task.now (Some source.now) target.entry ⊎ IsUnwritten W.Output writer.old writer.new)
         (IsListing task.now (Some source.now) target.entry ⊎ IsStartedFrom S.content S.failures S.File.Input W.Output task.now source.now system.old system.new writer.old writer.new) }
 {
-    match carry_out_file(alloc, task, source, target, system, files, writer) {
+    match carry_out_file(alloc, task, source, target, system, files, writer, watcher) {
         Ok(published) => Ending::Done(published),
         Err(FileStop::Refused(refusal)) => refused(alloc, refusal, writer),
         Err(FileStop::Failed(failure)) => Ending::Failed(failure),
@@ -271,19 +277,20 @@ where
 }
 
 /// Runs a task on the reader.
-fn run_to<'a, R: Input, D: Files, W: Output>(
+fn run_to<'a, R: Input, D: Files, W: Output, V: Watcher>(
     alloc: Global,
     task: &Task,
     target: Option<&'a str>,
     files: &'a D,
     reader: &mut R,
     writer: &mut W,
+    watcher: &mut V,
 ) -> Ending<'a>
     ensures { EndsTask result (λ published. IsCarriedTo R.Input W.Output task.now (option_map (λ path. path.now) target.entry) reader.old reader.new writer.old writer.new published)
         ((refusal : Refusal) × Meets R.Input task.now reader.old reader.new refusal × Gives W.Output writer.old writer.new (refusal_line refusal) 0)
         (IsUnwritten W.Output writer.old writer.new) (IsStarted R.Input W.Output task.now reader.old reader.new writer.old writer.new) }
 {
-    match carry_out_to(alloc, task, reader, files, target, writer) {
+    match carry_out_to(alloc, task, reader, files, target, writer, watcher) {
         Ok(published) => Ending::Done(published),
         Err(FileStop::Refused(refusal)) => refused(alloc, refusal, writer),
         Err(FileStop::Failed(failure)) => Ending::Failed(failure),
@@ -293,7 +300,7 @@ fn run_to<'a, R: Input, D: Files, W: Output>(
 }
 
 /// Runs a task on the file at `source`, else on the reader.
-fn run_task<'a, R: Input, W: Output, S: FileSystem, D: Files>(
+fn run_task<'a, R: Input, W: Output, S: FileSystem, D: Files, V: Watcher>(
     alloc: Global,
     task: &Task,
     source: Option<&'a str>,
@@ -302,6 +309,7 @@ fn run_task<'a, R: Input, W: Output, S: FileSystem, D: Files>(
     files: &'a D,
     reader: &mut R,
     writer: &mut W,
+    watcher: &mut V,
 ) -> Ending<'a>
 where
     S::File: Ahead,
@@ -311,8 +319,8 @@ where
         (IsListing task.now source.entry target.entry ⊎ IsShortOfMemory S.content S.failures S.File.Input R.Input W.Output task.now source.entry system.old system.new reader.old reader.new writer.old writer.new) }
 {
     match source {
-        Some(source) => run_from(alloc, task, source, target, system, files, writer),
-        None => run_to(alloc, task, target, files, reader, writer),
+        Some(source) => run_from(alloc, task, source, target, system, files, writer, watcher),
+        None => run_to(alloc, task, target, files, reader, writer, watcher),
     }
 }
 
@@ -354,8 +362,8 @@ fn run_look_up<'a, S: FileSystem, W: Output>(
 }
 
 /// Runs a command line: on the files of a system where it names these, else on the reader. Of the machine it writes files,
-/// and reads the clock.
-pub fn run_words<'a, P: Finder, R: Input, W: Output, S: FileSystem, D: Files + Clock>(
+/// and reads the clock. `watcher` sees a build.
+pub fn run_words<'a, P: Finder, R: Input, W: Output, S: FileSystem, D: Files + Clock, V: Watcher>(
     alloc: Global,
     finder: &P,
     words: &'a [&'a str],
@@ -363,6 +371,7 @@ pub fn run_words<'a, P: Finder, R: Input, W: Output, S: FileSystem, D: Files + C
     machine: &'a D,
     reader: &mut R,
     writer: &mut W,
+    watcher: &mut V,
 ) -> Ending<'a>
 where
     S::File: Ahead,
@@ -378,7 +387,7 @@ where
         return Ending::Checked(check_files(alloc, system, machine, options, paths, writer));
     }
     if !names_files(words) {
-        return Ending::Words(run_by(alloc, finder, words, reader, writer));
+        return Ending::Words(run_by(alloc, finder, words, reader, writer, watcher));
     }
     match parse_files(alloc, finder, words) {
         Ok(FileJob::Check { options, paths }) => {
@@ -391,7 +400,7 @@ where
                 target,
             },
         ) => run_task(
-            alloc, &task, source, target, system, machine, reader, writer,
+            alloc, &task, source, target, system, machine, reader, writer, watcher,
         ),
         Ok(FileJob::LookUp { request, source }) => {
             run_look_up(alloc, &request, source, system, writer)

@@ -1,5 +1,6 @@
 //! The program on an input and an output in memory: what it prints on either stream, and its status.
 use super::fixtures::kpvk_wdl_numbered;
+use crate::progress::ProgressLine;
 use crate::{no_words_status, run_given};
 use std::alloc::{AllocError, Global};
 use std::cell::RefCell;
@@ -65,7 +66,14 @@ fn run_line(
 ) -> Result<(ExitCode, String), Fail> {
     let words = words_of(rt.alloc(), line)?;
     let errors = (Errors::new(rt.alloc()), rt.alloc());
-    let status = run_given(&errors, rt, &words, input, output);
+    let status = run_given(
+        &errors,
+        rt,
+        &words,
+        input,
+        output,
+        &mut ProgressLine::new(&errors, rt, false),
+    );
     Ok((status, errors.0.take(rt.alloc())?))
 }
 

@@ -5,13 +5,13 @@ use Rattle.szg_build.proofs.SubLaws.{if_ok}
 use Rattle.szg_build.proofs.building.build_short_pairs.Goals as goal
 
 pub build_paired-requires-clause-pairing : goal.build_paired-requires-clause-pairing
-build_paired-requires-clause-pairing c =
+build_paired-requires-clause-pairing g c =
     let p = c.in_ok-paired.paired in
     let pairs : c.count_pairs_in-pairs.result ≡ length (pairs_in p.entries.items) = c.count_pairs_in-pairs.ensures.pairs ∙ ap (λ (z : List (List ℕ)). length (pairs_in z)) c.deref.ensures.value in
     as_made c.args.values.now p.entries.items p.symbols.items c.count_pairs_in-pairs.result pairs c.in_ok-paired.ensures.round
 
 pub returns-clause-made : goal.returns-clause-made
-returns-clause-made c =
+returns-clause-made g c =
     if_ok c.build_paired.result
     (λ sub h. record {
       block_bits = c.in_ok-sizes.sizes.block_bits;

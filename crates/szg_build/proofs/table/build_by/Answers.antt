@@ -7,7 +7,7 @@ use Rattle.szg_build.proofs.TableLaws.{order_told, all_stand, refused_as, passed
 use Rattle.szg_build.proofs.table.build_by.Goals as goal
 
 pub returns-in_default-clause-refused : goal.returns-in_default-clause-refused
-returns-in_default-clause-refused c =
+returns-in_default-clause-refused g c =
     let plan = plan_seen c.args.plan.now in
     let lists = map (λ list. list.now) c.args.lists.now in
     refused_as (Err fault.Order) (build_fault plan lists) fault.Order
@@ -15,7 +15,7 @@ returns-in_default-clause-refused c =
     (no_parts c.args.plan.now.material c.args.plan.now.kind c.deref-2.result.now c.args.plan.now.parts.items c.deref-2.ensures.value c.subtable_sizes.result c.in_default.not-Some c.subtable_sizes.ensures.none)) refl
 
 pub returns-in-Some-first_fault-clause-refused : goal.returns-in-Some-first_fault-clause-refused
-returns-in-Some-first_fault-clause-refused c =
+returns-in-Some-first_fault-clause-refused g c =
     let plan = plan_seen c.args.plan.now in
     let lists = map (λ list. list.now) c.args.lists.now in
     let same = c.as_slice.ensures.value ∙ c.in-Some.ensures.sizes in
@@ -23,7 +23,7 @@ returns-in-Some-first_fault-clause-refused c =
     (stands_as plan lists c.as_slice.result.now c.deref-2.result.now c.args.plan.now.parts.items c.deref-2.ensures.value refl c.in-Some.ensures.parts same ∙ sym c.in-Some-first_fault.ensures) refl
 
 pub build_table-requires-clause-stands : goal.build_table-requires-clause-stands
-build_table-requires-clause-stands c =
+build_table-requires-clause-stands g c =
     let plan = plan_seen c.args.plan.now in
     let lists = map (λ list. list.now) c.args.lists.now in
     let parts = parts_as c.args.plan.now.material c.args.plan.now.kind c.deref-2.result.now c.args.plan.now.parts.items c.deref-2.ensures.value c.in-Some.ensures.parts in
@@ -32,7 +32,7 @@ build_table-requires-clause-stands c =
     (sym c.first_fault.ensures ∙ no_fault c.first_fault.result c.in_default-first_fault.not-Some)
 
 pub returns-in-Ok-clause-refused : goal.returns-in-Ok-clause-refused
-returns-in-Ok-clause-refused c =
+returns-in-Ok-clause-refused g c =
     let plan = plan_seen c.args.plan.now in
     let lists = map (λ list. list.now) c.args.lists.now in
     let same = c.as_slice.ensures.value ∙ c.in-Some.ensures.sizes in
@@ -41,7 +41,7 @@ returns-in-Ok-clause-refused c =
     ∙ sym c.first_fault.ensures ∙ no_fault c.first_fault.result c.in_default-first_fault.not-Some) tt
 
 pub returns-in-Err-clause-refused : goal.returns-in-Err-clause-refused
-returns-in-Err-clause-refused c =
+returns-in-Err-clause-refused g c =
     let plan = plan_seen c.args.plan.now in
     let lists = map (λ list. list.now) c.args.lists.now in
     let same = c.as_slice.ensures.value ∙ c.in-Some.ensures.sizes in

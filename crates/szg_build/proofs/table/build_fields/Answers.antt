@@ -8,7 +8,7 @@ use Rattle.szg_build.proofs.TableLaws.{table_stands, table_copied}
 use Rattle.szg_build.proofs.table.build_fields.Goals as goal
 
 pub returns : goal.returns
-returns c =
+returns g c =
     let plan = plan_seen c.args.plan.now in
     let lists = map (λ list. list.now) c.args.lists.now in
     let subs = map subtable_of c.in_ok-subs.subs.items in

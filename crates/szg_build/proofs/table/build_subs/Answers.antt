@@ -10,25 +10,25 @@ use Rattle.szg_build.proofs.TableLaws.{built_next, lent_at}
 use Rattle.szg_build.proofs.table.build_subs.Goals as goal
 
 pub flags_at-flags-requires : goal.flags_at-flags-requires
-flags_at-flags-requires c = subst (λ (z : List ℕ). AllByRecursion (λ byte. byte < 32) z) (sym c.deref.ensures.value) c.requires.range.flags
+flags_at-flags-requires g c = subst (λ (z : List ℕ). AllByRecursion (λ byte. byte < 32) z) (sym c.deref.ensures.value) c.requires.range.flags
 
 pub build_sub-requires-clause-few : goal.build_sub-requires-clause-few
-build_sub-requires-clause-few c =
+build_sub-requires-clause-few g c =
     (lent_at (IsBuildable c.args.plan.now.kind) (λ list. list.now) c.args.lists.now c.lists.n _ c.lists-test.true c.requires.lists).few
 
 pub build_sub-requires-clause-small : goal.build_sub-requires-clause-small
-build_sub-requires-clause-small c =
+build_sub-requires-clause-small g c =
     (lent_at (IsBuildable c.args.plan.now.kind) (λ list. list.now) c.args.lists.now c.lists.n _ c.lists-test.true c.requires.lists).small
 
 pub build_sub-requires-clause-different : goal.build_sub-requires-clause-different
-build_sub-requires-clause-different c =
+build_sub-requires-clause-different g c =
     (lent_at (IsBuildable c.args.plan.now.kind) (λ list. list.now) c.args.lists.now c.lists.n _ c.lists-test.true c.requires.lists).different
 
 pub build_sub-requires-clause-choice : goal.build_sub-requires-clause-choice
-build_sub-requires-clause-choice c = choice_in_bounds (plan_seen c.args.plan.now) c.args.choice c.requires.range c.requires.choice
+build_sub-requires-clause-choice g c = choice_in_bounds (plan_seen c.args.plan.now) c.args.choice c.requires.range c.requires.choice
 
 pub lists-preserved : goal.lists-preserved
-lists-preserved c =
+lists-preserved g c =
     let plan = plan_seen c.args.plan.now in
     let flags : c.flags_at-flags.result ≡ get_or c.args.plan.now.flags.items c.lists.n 0 = c.flags_at-flags.ensures.flags ∙ ap (λ (z : List ℕ). get_or z c.lists.n 0) c.deref.ensures.value in
     subst (λ (z : List Subtable). AreBuilt c.args.choice plan c.args.plan.now.flags.items (map (λ list. list.now) (take (c.lists.n + 1) c.args.lists.now)) z)
@@ -37,6 +37,6 @@ lists-preserved c =
     c.lists-test.true c.lists.invariant flags c.in_ok-sub.ensures)
 
 pub returns : goal.returns
-returns c =
+returns g c =
     subst (λ z. AreBuilt c.args.choice (plan_seen c.args.plan.now) c.args.plan.now.flags.items (map (λ list. list.now) z) (map subtable_of c.lists.subs.items))
     (take_all c.lists.n c.args.lists.now (omega arith)) c.lists.invariant

@@ -4,13 +4,13 @@ use Rattle.szg_build.proofs.TableLaws.{all_zero, zeros_fit}
 use Rattle.szg_build.proofs.table.build_table.Goals as goal
 
 pub assemble-requires : goal.assemble-requires
-assemble-requires c =
+assemble-requires g c =
     let fill : List ℕ = c.pad.new.bytes.items in
     c.in_ok-fields.ensures.accepted fill
     (subst (λ n. AreBytes n fill) c.fill_asked-asked.ensures
     (zeros_fit c.fill_asked-asked.result fill (c.in_ok-pad.ensures ∙ ap (λ (z : List ℕ). z ++ replicate c.fill_asked-asked.result 0) c.new-fill.ensures.items)))
 
 pub returns-clause-padding : goal.returns-clause-padding
-returns-clause-padding c =
+returns-clause-padding g c =
     all_zero c.fill_asked-asked.result c.assemble.result.filled
     (ap (λ z. z.filled) c.assemble.ensures ∙ c.in_ok-pad.ensures ∙ ap (λ (z : List ℕ). z ++ replicate c.fill_asked-asked.result 0) c.new-fill.ensures.items)

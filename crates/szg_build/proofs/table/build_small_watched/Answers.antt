@@ -1,0 +1,20 @@
+use Rattle.std.proofs.Common.{map}
+use Rattle.szg_build.specs.Shown.{small_seen}
+use Rattle.szg_build.specs.declared.building.Choice.TheVariants.{Small}
+use Rattle.szg_build.proofs.SubLaws.{if_ok}
+use Rattle.szg_build.proofs.TableLaws.{small_is_built, constants_are}
+use Rattle.szg_build.proofs.table.build_small_watched.Goals as goal
+
+pub returns-clause-built : goal.returns-clause-built
+returns-clause-built g c =
+    if_ok c.build_by-built.result (λ t h. small_is_built (small_seen c.args.plan) (map (λ list. list.now) c.args.lists.now) t.contents h) c.build_by-built.ensures.built
+
+pub returns-clause-byte4 : goal.returns-clause-byte4
+returns-clause-byte4 g c = if_ok c.build_by-built.result (λ t h. h.byte4) c.build_by-built.ensures.built
+
+pub returns-clause-constants : goal.returns-clause-constants
+returns-clause-constants g c =
+    if_ok c.build_by-built.result (λ t h. constants_are c.args.plan.kind Small (map (λ list. list.now) c.args.lists.now) t.contents.subtables h.rule) c.build_by-built.ensures.built
+
+pub returns-clause-index : goal.returns-clause-index
+returns-clause-index g c = if_ok c.build_by-built.result (λ t h. h.index) c.build_by-built.ensures.built
