@@ -1,10 +1,9 @@
 -- What is known about a table opened by its front when a placement is probed in it.
 use Rattle.std.proofs.Common.{◌≡◌, ℕ, Bool, cond, refl, sym, ap, ◌∙◌, subst}
-use Rattle.std.specs.Prelude.{ℤ, Option, Some, None, IsNone, IsSome, IfOk, IsSomeAnd, Result, Ok, Err}
+use Rattle.std.specs.Prelude.{ℤ, IsNone, IsSome, IfOk, Result, Ok, Err}
 use Rattle.szg_values.specs.declared.Kind.{Kind}
 use Rattle.szg_values.specs.declared.Kind.TheVariants.{Dtz}
 use Rattle.szg_values.specs.Placement.{Board}
-use Rattle.szg_file.specs.Contents.{Slot}
 use Rattle.szg_file.specs.Index.{Index, slot_in}
 use Rattle.szg_file.specs.declared.fault.MapFault.{MapFault}
 use Rattle.szg_file.specs.declared.fetching.FetchFault.{FetchFault}

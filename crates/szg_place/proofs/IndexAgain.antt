@@ -4,7 +4,6 @@ use Rattle.std.specs.Prelude.{IsNone, IsSome, IfSome}
 use Rattle.szg_values.specs.Material.{IsMaterial}
 use Rattle.szg_file.specs.Index.{Index, IsIndex, slot_in}
 use Rattle.szg_place.specs.Laws.{IsAnswered}
-use Rattle.szg_place.specs.Layout.{nibbles_at}
 use Rattle.szg_place.specs.Spots.{board_at, place_fault, placement_refusal, spot_of}
 use Rattle.szg_place.specs.Tables.{numbering_in}
 use Rattle.szg_place.proofs.BoardTold.{spot_of_placement}

@@ -1,5 +1,5 @@
 -- What is known about a placement while its index is computed.
-use Rattle.std.proofs.Common.{◌≡◌, ℕ, ◌<◌, ◌≤◌, inl, inr, List, [], ◌∷◌, length, map, take, refl, sym, ap, ◌∙◌, subst, Bool, true, false, cond, arith, length-take}
+use Rattle.std.proofs.Common.{◌≡◌, ℕ, ◌<◌, ◌≤◌, inl, inr, List, [], ◌∷◌, length, take, refl, sym, ap, ◌∙◌, subst, Bool, true, false, cond, arith, length-take}
 use Rattle.std.specs.Prelude.{◌==◌, Option, Some, None, IsNone, IsSome, IfSome, IfOk, IsSomeAnd, Result, Ok, Err, slice_get, slice_index, unwrap_or}
 use Rattle.std.specs.List.{All, concat, list_all}
 use Rattle.std.proofs.lemmas.List.Elements.{All-head, All-tail}

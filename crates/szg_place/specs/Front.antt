@@ -1,5 +1,5 @@
 -- What a probe of a table opened by its front returns. The block that contains the value is fetched and verified.
-use Rattle.std.specs.Prelude.{◌≡◌, ℕ, ℤ, List, Option, Some, None, IfSome, Result, Ok, Err}
+use Rattle.std.specs.Prelude.{◌≡◌, ℕ, ℤ, List, Option, IfSome, Result, Ok, Err}
 use Rattle.szg_values.specs.Placement.{Board}
 use Rattle.szg_file.specs.Contents.{Slot, Subtable}
 use Rattle.szg_file.specs.Fetching.{NamesBadBlock}

@@ -1,11 +1,11 @@
-use Rattle.std.proofs.Common.{rules, ◌≡◌, ◌<◌, length, map, true, false, ℕ, Bool, Option, Some, None, sym, ◌∙◌, arith}
+use Rattle.std.proofs.Common.{rules, ◌≡◌, ◌<◌, length, true, false, Bool, Some, None, sym, ◌∙◌, arith}
 use Rattle.std.specs.Prelude.{IsTrue, IsFalse}
 use Rattle.std.proofs.lemmas.Grind.{common_steps}
 use Rattle.std.proofs.lemmas.List.{get_or-map, length-map}
 use Rattle.szg_values.specs.Placement.{PlacedMan}
 use Rattle.szg_values.proofs.Stood.{stood_more}
 use Rattle.szg_c.specs.declared.men.CodedMan.{CodedMan}
-use Rattle.szg_c.specs.Men.{is_told, standing_of}
+use Rattle.szg_c.specs.Men.{standing_of}
 use Rattle.szg_c.proofs.men.put_men.Goals as goal
 
 placed_is : (b : Bool) (p q : PlacedMan) → (IsTrue b → Some p ≡ Some q) → (IsFalse b → Some p ≡ None) → p ≡ q

@@ -1,6 +1,6 @@
 use Rattle.std.proofs.Common.{rules, ◌≡◌, ◌∙◌, ℕ, List, ap, true, sym, refl, Option}
 use Rattle.std.proofs.lemmas.Bool.{lt-ltb}
-use Rattle.std.specs.Prelude.{Result, Ok, Err, nat_lt, IfSome, IsNone, IsSome, length, map}
+use Rattle.std.specs.Prelude.{Result, Ok, nat_lt, IfSome, IsNone, IsSome, map}
 use Rattle.std.specs.declared.option.Option.TheVariants.{None, Some}
 use Rattle.std.specs.List.{list_all}
 use Rattle.szg_values.specs.Placement.{Board, placement_fault}

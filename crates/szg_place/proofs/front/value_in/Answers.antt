@@ -1,6 +1,4 @@
-use Rattle.std.proofs.Common.{◌≡◌, sym, ap, subst}
-use Rattle.std.specs.Prelude.{Result, Ok}
-use Rattle.szg_file.specs.declared.fault.MapFault.{MapFault}
+use Rattle.std.proofs.Common.{sym, ap, subst}
 use Rattle.szg_place.specs.Front.{IsBadAt, IsValueAt, at_spot}
 use Rattle.szg_place.specs.declared.Spot.{Spot}
 use Rattle.szg_place.proofs.FrontProbes.{placed_in}
