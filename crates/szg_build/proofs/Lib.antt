@@ -47,3 +47,6 @@ pub mod RefusalLaws
 pub mod TableLaws
 pub mod OwnDumps
 pub mod WordBits
+pub mod StreamLaws
+pub mod StreamSteps
+pub mod StreamedDumps

@@ -121,7 +121,7 @@ values_fit kind slot (pairs head sparse lengths packed) h = joined_fit (layout_o
 
 -- ---- an accepted subtable has a value at each index
 
-values_count : (kind : Kind) (slot : Slot) (subtable : Subtable) → IsSubtable slot subtable → length (values_in kind slot.size subtable) ≡ slot.size
+pub values_count : (kind : Kind) (slot : Slot) (subtable : Subtable) → IsSubtable slot subtable → length (values_in kind slot.size subtable) ≡ slot.size
 values_count kind slot (constant flags byte) h = length-replicate slot.size _
 values_count kind slot (pairs head sparse lengths packed) h =
     length-joined_values (layout_of head sparse lengths) packed slot.size (accepted_code head.code h.head_stands.code)
@@ -315,7 +315,7 @@ part_writable material kind number part named h =
 
 -- ---- the dump of a table
 
-abbrev own_dump : Contents → Dump
+abbrev pub own_dump : Contents → Dump
 own_dump t = record {
   material = t.material;
   kind = t.kind;

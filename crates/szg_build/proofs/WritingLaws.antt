@@ -411,7 +411,7 @@ front_apart form material kind last =
 
 -- ---- runs
 
-first_run : (v : ℕ) (found : List (ℕ × ℕ)) → (count : ℕ) × (others : List (ℕ × ℕ)) × (with_value v found ≡ (count, v) ∷ others)
+pub first_run : (v : ℕ) (found : List (ℕ × ℕ)) → (count : ℕ) × (others : List (ℕ × ℕ)) × (with_value v found ≡ (count, v) ∷ others)
 first_run v [] = (1, [], refl)
 first_run v ((count, w) ∷ others) =
     elim (bool_cases (v == w)) [
@@ -419,7 +419,7 @@ first_run v ((count, w) ∷ others) =
       | inr e ↦ (1, (count, w) ∷ others, with_value-other v count w others e)
     ]
 
-other_value : (v w : ℕ) → (w ≡ v → ⊥) → (v == w) ≡ false
+pub other_value : (v w : ℕ) → (w ≡ v → ⊥) → (v == w) ≡ false
 other_value v w h = elim (bool_cases (v == w)) [ inl e ↦ absurd (h (sym (eqb-true v w e))) | inr e ↦ e ]
 
 -- The values that are equal at the beginning are the first run.

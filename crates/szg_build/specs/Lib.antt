@@ -18,3 +18,4 @@ pub mod Held
 pub mod Fronts
 pub mod Rests
 pub mod Wholes
+pub mod Streaming

@@ -12,6 +12,8 @@ mod copies;
 mod costs;
 mod dropping;
 mod dump;
+mod dump_sink;
+mod dumping;
 mod dumpreading;
 mod headers;
 mod incoming;
@@ -35,6 +37,8 @@ mod shrinking;
 mod sizing;
 mod sparse;
 mod spelling;
+
+mod streaming;
 mod subreading;
 mod subtables;
 mod table;
@@ -46,6 +50,7 @@ mod writing;
 
 pub use dump::{Dump, DumpFault, DumpReadFault};
 pub use dumpreading::read_dump;
+pub use dumping::{StreamFault, stream_dump};
 use szg_file::{Map, PartBytes};
 use szg_values::{Kind, Material};
 pub use table::{build, build_small, build_small_watched, build_watched};

@@ -1,5 +1,5 @@
 //! Writes the text of a dump, line by line.
-ghost use Rattle.std.specs.Prelude.{◌≡◌, ℕ, ◌+◌, ◌-◌, ◌<◌, ◌≤◌, ◌^◌, ◌⊎◌, [], ◌∷◌, ◌++◌, length, map, take, drop, min, slice_index, codes, Option, Some, option_map, IfErr, OnOk, OnErr};
+ghost use Rattle.std.specs.Prelude.{◌≡◌, ℕ, ◌+◌, ◌-◌, ◌<◌, ◌≤◌, ◌^◌, ◌⊎◌, [], ◌∷◌, ◌++◌, length, map, take, drop, replicate, min, slice_index, codes, Option, Some, option_map, IfErr, OnOk, OnErr};
 ghost use Rattle.std.specs.Fmt.{decimal};
 ghost use Rattle.hex.specs.Hex.{encode_lower};
 ghost use Rattle.szg_io.specs.Device.{HasFailed};
@@ -49,7 +49,7 @@ fn add_number(line: &mut Line, number: u64)
 }
 
 /// Writes a line: fixed words with the space after them, and a decimal.
-fn put_number<W: Output>(
+pub(crate) fn put_number<W: Output>(
     front: &[u8],
     number: u64,
     output: &mut W,
@@ -66,7 +66,7 @@ fn put_number<W: Output>(
 }
 
 /// Writes a line: fixed words with the space after them, and two decimals.
-fn put_pair<W: Output>(
+pub(crate) fn put_pair<W: Output>(
     front: &[u8],
     first: u64,
     second: u64,
@@ -145,11 +145,12 @@ fn put_items<T: Item, W: Output>(
 }
 
 /// Returns how many values at the beginning are equal.
-fn run_length(values: &[u16]) -> usize
+pub(crate) fn run_length(values: &[u16]) -> usize
     requires { 0 < length values.now }
     ensures some { 0 < result }
     ensures within { result ≤ length values.now }
     ensures run { runs_of values.now ≡ (result, slice_index values.now 0) ∷ runs_of (drop result values.now) }
+    ensures same { take result values.now ≡ replicate result (slice_index values.now 0) }
 {
     'values: for (count, value) in values.iter().enumerate() {
         if *value != values[0] {
@@ -240,7 +241,7 @@ fn put_map<W: Output>(
 // ---- subtables
 
 /// Writes the line that names a subtable's part and side.
-fn put_place<W: Output>(
+pub(crate) fn put_place<W: Output>(
     place: (u8, u8),
     output: &mut W,
     outgoing: &mut Outgoing,
@@ -253,7 +254,7 @@ fn put_place<W: Output>(
 }
 
 /// Writes the flags and the map of a part of a DTZ table.
-fn put_flags_and_map<W: Output>(
+pub(crate) fn put_flags_and_map<W: Output>(
     flags: u8,
     map: &Option<Map>,
     output: &mut W,
@@ -347,7 +348,7 @@ fn put_part<W: Output>(
 }
 
 /// Writes the parts.
-fn put_parts<W: Output>(
+pub(crate) fn put_parts<W: Output>(
     material: &Material,
     parts: &[PartBytes],
     output: &mut W,
@@ -362,21 +363,23 @@ fn put_parts<W: Output>(
 }
 
 /// Writes form, name, kind and the last bytes.
-fn put_front<W: Output>(
+pub(crate) fn put_front<W: Output>(
     form: u8,
-    dump: &Dump,
+    material: &Material,
+    kind: Kind,
+    last: &[u8; 16],
     output: &mut W,
     outgoing: &mut Outgoing,
 ) -> Result<(), WriteFault>
     requires { (form ≡ 1) ⊎ (form ≡ 2) }
-    ensures { Writing (lines_text (front_lines (form_of form) dump.now.material dump.now.kind dump.now.last)) outgoing.old outgoing.new W.Output output.old output.new result }
+    ensures { Writing (lines_text (front_lines (form_of form) material.now kind last.now)) outgoing.old outgoing.new W.Output output.old output.new result }
 {
     put_number(b"szg-dump ", u64::from(form), output, outgoing)?;
-    let name = dump.material.name();
+    let name = material.name();
     put_word(b"name ", name.as_str().as_bytes(), output, outgoing)?;
-    put_word(b"kind ", kind_bytes(dump.kind), output, outgoing)?;
+    put_word(b"kind ", kind_bytes(kind), output, outgoing)?;
     put(b"end ", output, outgoing)?;
-    put_hex(&dump.last, output, outgoing)?;
+    put_hex(last, output, outgoing)?;
     put(b"\n", output, outgoing)
 }
 
@@ -404,7 +407,14 @@ fn put_dump<W: Output>(
     ensures text { Writing (dump_text (form_of form) (dump_seen dump.now)) outgoing.old outgoing.new W.Output output.old output.new result }
     ensures held { OnOk result (outgoing.new.held.items ≡ []) }
 {
-    put_front(form, dump, output, outgoing)?;
+    put_front(
+        form,
+        &dump.material,
+        dump.kind,
+        &dump.last,
+        output,
+        outgoing,
+    )?;
     put_parts(&dump.material, &dump.parts, output, outgoing)?;
     put_subs(form, dump, output, outgoing)?;
     flush(output, outgoing)

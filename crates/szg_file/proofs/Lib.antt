@@ -2,6 +2,7 @@ pub mod AssembledLaws
 pub mod BlockReads
 pub mod Bytes
 pub mod CompleteLaws
+pub mod Compared
 pub mod Counted
 pub mod CutLaws
 pub mod DecodedLaws
@@ -56,3 +57,4 @@ pub mod WholeLaws
 pub mod WholeReads
 pub mod WritingLaws
 pub mod WrittenFile
+pub mod StreamedRead

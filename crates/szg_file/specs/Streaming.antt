@@ -34,16 +34,16 @@ wanted_values wanted kind (pair ∷ others) = values_if (wanted pair.0.part pair
 abbrev pub wanted_of : (ℕ → ℕ → Bool) → Contents → List ℕ
 wanted_of wanted t = wanted_values wanted t.kind (slotted (slots t.material t.kind t.parts) t.subtables)
 
--- the result of reading a table, reduced to the table's index
-abbrev pub index_read : Result Shown ReadFault → Result Index ReadFault
-index_read (Ok t) = Ok (index_of t.contents)
+-- the result of reading a table, reduced to the table's index and the file's last bytes
+abbrev pub index_read : Result Shown ReadFault → Result (Index × List ℕ) ReadFault
+index_read (Ok t) = Ok (index_of t.contents, t.contents.last)
 index_read (Err fault) = Err fault
 
--- The result is the index of the table in `answer`, the result that reading the table would have. If the reader
--- specifies its remaining bytes, `answer` is the verdict on them; in any case it is the verdict on the bytes that were
+-- The result is the index and the last bytes of the table in `answer`, the result that reading the table would have. If
+-- the reader specifies its remaining bytes, `answer` is the verdict on them; in any case it is the verdict on the bytes that were
 -- read. The sink accepted just the values that it wants of the table.
 pub record IsStreamed {R K W : Type 0} (device : Ghosts R) (wanted : ℕ → ℕ → Bool) (accepts : K → W → List ℕ → K → W → Type 0) (material : Sides) (kind : Kind)
-    (old new : R) (sink : K) (out : W) (sink' : K) (out' : W) (result : Result Index ReadFault) : Type 0 where
+    (old new : R) (sink : K) (out : W) (sink' : K) (out' : W) (result : Result (Index × List ℕ) ReadFault) : Type 0 where
   pub answer : Result Shown ReadFault
   pub told : result ≡ index_read answer
   pub table : IfOk answer (IsTable material kind)

@@ -6,6 +6,7 @@ mod assembled;
 mod begun;
 mod blocks;
 mod checking;
+mod comparing;
 mod distances;
 mod dropping;
 mod fault;
@@ -44,6 +45,7 @@ mod wanted;
 mod writing;
 
 pub use assembled::{Fields, subtable_sizes};
+pub use begun::Slot;
 pub use checking::check;
 pub use fault::{MapFault, ReadFault, Reason, WriteFault};
 pub use fetching::FetchFault;

@@ -14,7 +14,8 @@ use szg_io::Input;
 use szg_values::{Kind, Material};
 
 /// Reads the file of a table of this material and kind, from the reader's first byte on, and hands the values that the
-/// sink wants to it, a block's values as soon as the block passed its check. Returns the table's index.
+/// sink wants to it, a block's values as soon as the block passed its check. Returns the table's index and the file's last
+/// sixteen bytes.
 ///
 /// It reads the bytes that `read` reads and refuses what `read` refuses, but keeps one block and its values in memory at
 /// a time. A refusal may come after the sink accepted values; `check` before says that none comes, if the bytes stay the
@@ -26,7 +27,7 @@ pub fn stream_values<R: Input + Ahead, W, K: ValueSink<W>>(
     input: &mut R,
     sink: &mut K,
     out: &mut W,
-) -> Result<TableIndex, ReadFault>
+) -> Result<(TableIndex, [u8; 16]), ReadFault>
     requires first { R.moved input.old ≡ [] }
     ensures streamed { IsStreamed R.Input (K.wanted sink.old) K.accepts material kind input.old input.new sink.old out.old sink.new out.new result }
     ensures device { IsErrOf result ReadFault.Device → HasFailed (R.failures input.old) (R.failures input.new) (R.interrupted input.new) }
@@ -40,9 +41,10 @@ pub fn stream_values<R: Input + Ahead, W, K: ValueSink<W>>(
         parts,
         subs,
         maps,
-        last: _,
+        last,
     } = read_outline(
         alloc, &material, kind, &mut block, input, &mut front, sink, out,
     )?;
-    Ok(index_of_placed(material, kind, parts, &subs, maps))
+    let index = index_of_placed(material, kind, parts, &subs, maps);
+    Ok((index, last))
 }

@@ -1,11 +1,12 @@
 //! The index of a table: which subtables it has, with their flags and maps.
-ghost use Rattle.std.specs.Prelude.{◌≡◌, ◌≢◌, ◌<◌, ◌≤◌, ◌↔◌, ◌≤ℤ◌, ℤ, pos, neg_ℤ, length, map, option_map, IsSome, MatchOption, Ok, Err, Some, None};
+ghost use Rattle.std.specs.Prelude.{◌≡◌, ◌≢◌, ◌<◌, ◌≤◌, ◌↔◌, ◌≤ℤ◌, ℤ, pos, neg_ℤ, length, map, option_map, IsSome, IsTrue, MatchOption, Ok, Err, Some, None};
 ghost use Rattle.szg_file.specs.Contents.{slots as slots_of};
 ghost use Rattle.szg_file.specs.Held.{part_of, map_of, subtable_of};
 ghost use Rattle.szg_file.specs.File.{flags_of as flags_byte};
 ghost use Rattle.szg_file.specs.Index.{Index, IsIndex, IsNumbered, index_with, number_in, slot_in, slot_number as number_of, slots_in};
 
 use crate::begun::Slot;
+use crate::comparing::{same_maps, same_parts};
 use crate::distances::{list_number, number_at};
 use crate::dropping::PlacedSub;
 use crate::fault::MapFault;
@@ -172,12 +173,21 @@ impl TableIndex {
         &self.maps
     }
 
-    /// Returns the slots of the subtables, in file order.
-    pub(crate) fn slots(&self) -> &[Slot]
+    /// Returns the part, side and number of positions of each subtable, in file order.
+    pub fn slots(&self) -> &[Slot]
         ensures slots { result.now ≡ slots_in self.now }
         ensures few { length result.now ≤ 8 }
     {
         self.parts.slots.as_slice()
+    }
+
+    /// Whether another index has the same parts, flags and maps.
+    pub fn has_same(&self, other: &TableIndex) -> bool
+        ensures { IsTrue result ↔ ((self.now.parts ≡ other.now.parts) × (self.now.flags ≡ other.now.flags) × (self.now.maps ≡ other.now.maps)) }
+    {
+        same_parts(&self.parts.bytes, &other.parts.bytes)
+            && self.flags.as_slice() == other.flags.as_slice()
+            && same_maps(&self.maps, &other.maps)
     }
 
     /// Finds the subtable of a part and side. None if the table has no such part or side.

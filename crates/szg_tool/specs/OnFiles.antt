@@ -7,7 +7,7 @@ use Rattle.szg_io.specs.Device.{HasFailed}
 use Rattle.szg_io.specs.Moved.{Takes, Gives}
 use Rattle.szg_file.specs.Accepted.{IsAccepted}
 use Rattle.szg_file.specs.Held.{Shown, file_bytes}
-use Rattle.szg_build.specs.Dump.{Dump}
+use Rattle.szg_build.specs.Dump as told
 use Rattle.szg_files.specs.Draft.{published_target, published_text}
 use Rattle.szg_files.specs.FileSystem.{IsOpened}
 use Rattle.szg_files.specs.declared.draft.Published.{Published}
@@ -32,7 +32,8 @@ use Rattle.szg_tool.specs.declared.on_files.Ending.{Ending}
 use Rattle.szg_tool.specs.declared.on_files.Ending.TheVariants as endings
 use Rattle.szg_tool.specs.declared.outcome.Outcome.{Outcome}
 use Rattle.szg_tool.specs.declared.outcome.Outcome.TheVariants as outcomes
-use Rattle.szg_tool.specs.declared.request.Action.TheVariants.{Values}
+use Rattle.szg_tool.specs.declared.request.Action.{Action}
+use Rattle.szg_tool.specs.declared.request.Action.TheVariants.{Dump, Values}
 use Rattle.szg_tool.specs.declared.request.Request.{Request}
 use Rattle.szg_tool.specs.declared.request.Task.{Task}
 use Rattle.szg_tool.specs.declared.request.Task.TheVariants.{OnTable, Build}
@@ -44,7 +45,7 @@ abbrev pub IsAnswerOf : {R : Type 0} → input.Ghosts R → Task → R → R →
 IsAnswerOf reading (OnTable request) reader reader' text =
     (table : Shown) × IsTableOf request table × Takes reading reader reader' (file_bytes table) 1 × IsAnswer request.action request.part request.side table text
 IsAnswerOf reading (Build packing) reader reader' text =
-    (dump : Dump) × IsTextOf reading reader reader' dump × (table : Shown) × IsBuiltIn packing dump table.contents
+    (dump : told.Dump) × IsTextOf reading reader reader' dump × (table : Shown) × IsBuiltIn packing dump table.contents
     × IsAccepted table.contents table.filled × (text ≡ file_bytes table)
 
 -- The file that was asked for has just the task's answer.
@@ -65,6 +66,11 @@ IsCarriedFrom {F = F} content failures reading writing task source target system
     (file : F) × (file' : F) × IsOpened content failures reading system system' source file
     × IsCarriedTo reading writing task target file file' writer writer' published
 
+-- The file that was asked for has just the task's answer on the file that the system opened at a path.
+abbrev pub IsPublishedFrom : {S F : Type 0} → (S → List ℕ → Option (List ℕ)) → (S → ℕ) → input.Ghosts F → Task → List ℕ → List ℕ → S → S → Published → Type 0
+IsPublishedFrom {F = F} content failures reading task source target system system' published =
+    (file : F) × (file' : F) × IsOpened content failures reading system system' source file × IsPublishedBy reading task target file file' published
+
 -- The task meets a refusal on the file that the system opened at a path.
 abbrev pub MeetsFrom : {S F : Type 0} → (S → List ℕ → Option (List ℕ)) → (S → ℕ) → input.Ghosts F → Task → List ℕ → S → S → Refusal → Type 0
 MeetsFrom {F = F} content failures reading task source system system' refusal =
@@ -83,9 +89,15 @@ IsStartedFrom {F = F} content failures reading writing task source system system
 abbrev pub IsUnwritten : {W : Type 0} → output.Ghosts W → W → W → Type 0
 IsUnwritten writing writer writer' = (writer' ≡ writer) ⊎ HasFailed (writing.failures writer) (writing.failures writer') (writing.interrupted writer')
 
+-- The action lists a table's values, as they are or as a dump.
+abbrev pub IsListed : Action → Type 0
+IsListed Values = Unit {0}
+IsListed (Dump form) = Unit {0}
+IsListed action = ⊥
+
 -- The task lists the values of a file for the writer: they are written while the file is read.
 abbrev pub IsListing : {S T : Type 0} → Task → Option S → Option T → Type 0
-IsListing task source target = (request : Request) × (task ≡ OnTable request) × (request.action ≡ Values) × IsSome source × (target ≡ None)
+IsListing task source target = (request : Request) × (task ≡ OnTable request) × IsListed request.action × IsSome source × (target ≡ None)
 
 -- ---- how a command line ends
 
@@ -177,7 +189,7 @@ HasRefused finds content failures filing reading writing words system system' re
     ⊎ ((request : Request) × (source : Bor (List ℕ)) × AsksForJob finds words (LookUp request source) × (reader' ≡ reader)
     × HasRefusedLookUp content failures filing writing request source.now system system' writer writer')
 
--- The words ask for the values of a file, for the writer: they are written while the file is read.
+-- The words ask for the values or the dump of a file, for the writer: they are written while the file is read.
 abbrev pub AsksToList : (CommandForm → List (List ℕ) → ArgMatches → Type 0) → List (List ℕ) → Type 0
 AsksToList finds words = (task : Task) × (source : Option (Bor (List ℕ))) × (target : Option (Bor (List ℕ))) × AsksForJob finds words (Run task source target) × IsListing task source target
 

@@ -6,10 +6,11 @@ ghost use Rattle.szg_io.specs.Moved.{Gives};
 ghost use Rattle.szg_named.specs.Asked.{files_asked};
 ghost use Rattle.szg_named.specs.Verdicts.{IsReport, plain_options};
 ghost use Rattle.szg_tool.specs.Fronts.{IsLookUp};
-ghost use Rattle.szg_tool.specs.OnFiles.{AreChecked, EndsTask, EndsWell, HasDoneTask, HasLookedUp, HasRefusedLookUp, HasRefusedTask, IsCarriedFrom, IsCarriedTo, IsListing, IsPublishedBy, IsShortOfMemory, IsStarted, IsStartedFrom, IsUnwritten, MeetsFrom};
+ghost use Rattle.szg_tool.specs.OnFiles.{AreChecked, EndsTask, EndsWell, HasDoneTask, HasLookedUp, HasRefusedLookUp, HasRefusedTask, IsCarriedFrom, IsCarriedTo, IsListed, IsListing, IsPublishedBy, IsPublishedFrom, IsShortOfMemory, IsStarted, IsStartedFrom, IsUnwritten, MeetsFrom};
 ghost use Rattle.szg_tool.specs.RefusalLines.{refusal_line};
 ghost use Rattle.szg_tool.specs.Requests.{Meets};
 ghost use Rattle.szg_tool.specs.declared.on_files.FileFailure.{FileFailure};
+ghost use Rattle.szg_tool.specs.declared.on_files.FileStop.{FileStop};
 ghost use Rattle.szg_tool.specs.declared.refusal.Refusal.{Refusal};
 
 use crate::commands::{carry_out, refuse, run_by, words_outcome};
@@ -20,7 +21,7 @@ use crate::outcome::Outcome;
 use crate::refusal::{Refusal, Stop};
 use crate::request::{Request, Task};
 use crate::saying::say;
-use crate::streaming::{is_values, stream_from};
+use crate::streaming::{is_listed, stream_from};
 use std::alloc::Global;
 use std::rt::Files;
 use std::time::Clock;
@@ -186,7 +187,69 @@ fn carry_out_from<'a, S: FileSystem, R: Files, W: Output, V: Watcher>(
     }
 }
 
-/// Carries a task out on the file at `source`, as `carry_out_from`. Values for `writer` are written while the file is read.
+/// Writes the values or the dump of the file at `source`, while it is read, to the file at `target`: whole, or not at all.
+fn stream_into<'a, S: FileSystem, R: Files>(
+    alloc: Global,
+    request: &Request,
+    source: &'a str,
+    target: &'a str,
+    system: &mut S,
+    files: &'a R,
+) -> Result<Published<'a>, FileStop<'a>>
+where
+    S::File: Ahead,
+    requires listed { IsListed request.now.action }
+    ensures told { IfOk result (λ published. IsPublishedFrom S.content S.failures S.File.Input (Task.OnTable request.now) source.now target.now system.old system.new published) }
+    ensures refused { (refusal : Refusal) → IsErrOf result (FileStop.Refused refusal) → MeetsFrom S.content S.failures S.File.Input (Task.OnTable request.now) source.now system.old system.new refusal }
+{
+    let mut draft = match Draft::create(alloc, files, target) {
+        Ok(draft) => draft,
+        Err(fault) => return Err(failed(target, fault)),
+    };
+    match stream_from(alloc, request, source, system, &mut draft.file) {
+        Ok(()) => published(draft, target),
+        Err(FileStop::Device) => match draft.abandon() {
+            Some(fault) => Err(failed(target, fault)),
+            None => Err(FileStop::Device),
+        },
+        Err(stop) => {
+            draft.discard();
+            Err(stop)
+        }
+    }
+}
+
+/// Writes the values or the dump of the file at `source`, while it is read, to the file at `target`, else to `writer`.
+fn stream_to<'a, S: FileSystem, R: Files, W: Output>(
+    alloc: Global,
+    request: &Request,
+    source: &'a str,
+    target: Option<&'a str>,
+    system: &mut S,
+    files: &'a R,
+    writer: &mut W,
+) -> Result<Option<Published<'a>>, FileStop<'a>>
+where
+    S::File: Ahead,
+    requires listed { IsListed request.now.action }
+    ensures told { IfOk result (λ published. IsCarriedFrom S.content S.failures S.File.Input W.Output (Task.OnTable request.now) source.now (option_map (λ path. path.now) target.entry) system.old system.new writer.old writer.new published) }
+    ensures refused { (refusal : Refusal) → IsErrOf result (FileStop.Refused refusal) → (writer.new ≡ writer.old)
+        × MeetsFrom S.content S.failures S.File.Input (Task.OnTable request.now) source.now system.old system.new refusal }
+    ensures stopped { (stop : FileStop) → IsErrOf result stop → (target.entry ≡ None) ⊎ (writer.new ≡ writer.old) }
+{
+    match target {
+        Some(target) => match stream_into(alloc, request, source, target, system, files) {
+            Ok(published) => Ok(Some(published)),
+            Err(stop) => Err(stop),
+        },
+        None => match stream_from(alloc, request, source, system, writer) {
+            Ok(()) => Ok(None),
+            Err(stop) => Err(stop),
+        },
+    }
+}
+
+/// Carries a task out on the file at `source`, as `carry_out_from`. Values and dumps are written while the file is read.
 fn carry_out_file<'a, S: FileSystem, R: Files, W: Output, V: Watcher>(
     alloc: Global,
     task: &Task,
@@ -207,12 +270,9 @@ where
     ensures device { IsErrOf result FileStop.Device → IsListing task.now (Some source.now) target.entry ⊎ IsUnwritten W.Output writer.old writer.new }
     ensures memory { IsErrOf result FileStop.Memory → IsListing task.now (Some source.now) target.entry ⊎ IsStartedFrom S.content S.failures S.File.Input W.Output task.now source.now system.old system.new writer.old writer.new }
 {
-    if let (Task::OnTable(request), None) = (task, target) {
-        if is_values(&request.action) {
-            return match stream_from(alloc, request, source, system, writer) {
-                Ok(()) => Ok(None),
-                Err(stop) => Err(stop),
-            };
+    if let Task::OnTable(request) = task {
+        if is_listed(&request.action) {
+            return stream_to(alloc, request, source, target, system, files, writer);
         }
     }
     carry_out_from(alloc, task, source, target, system, files, writer, watcher)

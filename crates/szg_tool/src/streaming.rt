@@ -1,23 +1,27 @@
-//! Values that are written while a file is read: each of one part and side on a line.
+//! Values that are written while a file is read: each of one part and side on a line, or all of them as a dump.
 
-ghost use Rattle.std.specs.Prelude.{◌≡◌, ℕ, List, [], ◌++◌, flat_map, replicate, None, OnOk, OnErr, Err, IsErrOf, true};
+ghost use Rattle.std.specs.Prelude.{◌≡◌, ℕ, List, [], ◌++◌, flat_map, replicate, None, OnOk, OnErr, Err, IfOk, IsErrOf, true};
 ghost use Rattle.szg_io.specs.Device.{HasFailed};
-ghost use Rattle.szg_io.specs.Moved.{Gives};
+ghost use Rattle.szg_io.specs.Moved.{Gives, Takes};
+ghost use Rattle.szg_values.specs.Material.{IsMaterial, name_of};
+ghost use Rattle.szg_file.specs.Held.{Shown, file_bytes};
+ghost use Rattle.szg_file.specs.Index.{index_of};
 ghost use Rattle.szg_tool.specs.Answers.{number_line};
-ghost use Rattle.szg_tool.specs.OnFiles.{IsCarriedFrom, MeetsFrom};
-ghost use Rattle.szg_tool.specs.Requests.{IsAnswered, Meets};
+ghost use Rattle.szg_tool.specs.OnFiles.{IsCarriedFrom, IsListed, MeetsFrom};
+ghost use Rattle.szg_tool.specs.Requests.{IsAnswered, IsTableOf, Meets};
 ghost use Rattle.szg_tool.specs.declared.refusal.Refusal.{Refusal};
 ghost use Rattle.szg_tool.specs.declared.request.Action.{Action};
 ghost use Rattle.szg_tool.specs.declared.request.Task.{Task};
 
 use crate::on_files::{FileStop, failed};
 use crate::refusal::{Refusal, Stop};
-use crate::request::{Action, Request};
+use crate::request::{Action, Form, Request};
 use crate::saying::say;
 use itoa::Buffer;
 use std::alloc::{AllocError, Global};
 use std::io::ErrorKind;
-use szg_file::{Ahead, NoSink, ReadFault, SinkFault, ValueSink, stream_values};
+use szg_build::{StreamFault, stream_dump};
+use szg_file::{Ahead, NoSink, ReadFault, SinkFault, TableIndex, ValueSink, stream_values};
 use szg_files::{FileFault, FileSystem, Reasons};
 use szg_io::{Input, Output};
 use szg_values::Material;
@@ -135,17 +139,23 @@ impl<W: Output> ValueSink<W> for LineSink {
 
 // ---- a file
 
-/// Whether an action lists values.
-pub fn is_values(action: &Action) -> bool
-    ensures { (result ≡ true) → action.now ≡ Action.Values }
+/// Whether an action lists a table's values, as they are or as a dump.
+pub fn is_listed(action: &Action) -> bool
+    ensures { (result ≡ true) → IsListed action.now }
 {
-    matches!(action, Action::Values)
+    matches!(action, Action::Values | Action::Dump(_))
 }
 
-/// Checks the file of the request's name and kind, and whether the table has the part and side. It keeps no block.
-fn check_part<F: Input + Ahead>(alloc: Global, request: &Request, file: &mut F) -> Result<(), Stop>
-    requires values { request.now.action ≡ Action.Values }
+/// Checks the file of the request's name and kind. Returns the table's index and the file's last sixteen bytes. It keeps
+/// no block.
+fn read_index<F: Input + Ahead>(
+    alloc: Global,
+    request: &Request,
+    file: &mut F,
+) -> Result<(TableIndex, [u8; 16]), Stop>
+    requires listed { IsListed request.now.action }
     requires first { F.moved file.old ≡ [] }
+    ensures table { IfOk result (λ told. (t : Shown) × IsTableOf request.now t × (told.0 ≡ index_of t.contents) × Takes F.Input file.old file.new (file_bytes t) 1) }
     ensures refused { (refusal : Refusal) → IsErrOf result (Stop.Refused refusal) → Meets F.Input (Task.OnTable request.now) file.old file.new refusal }
 {
     let material = match Material::parse(request.name) {
@@ -153,15 +163,25 @@ fn check_part<F: Input + Ahead>(alloc: Global, request: &Request, file: &mut F) 
         Err(fault) => return Err(Stop::Refused(Refusal::Name(fault))),
     };
     match stream_values(alloc, material, request.kind, file, &mut NoSink, &mut ()) {
-        Ok(index) => match index.size(request.part, request.side) {
-            Some(_) => Ok(()),
-            None => Err(Stop::Refused(Refusal::Part)),
-        },
+        Ok(told) => Ok(told),
         Err(ReadFault::Refused { place, reason }) => {
             Err(Stop::Refused(Refusal::At(place, reason)))
         }
         Err(ReadFault::Device) => Err(Stop::Device),
         Err(ReadFault::Memory) => Err(Stop::Memory),
+    }
+}
+
+/// Checks the file of the request's name and kind, and whether the table has the part and side.
+fn check_part<F: Input + Ahead>(alloc: Global, request: &Request, file: &mut F) -> Result<(), Stop>
+    requires values { request.now.action ≡ Action.Values }
+    requires first { F.moved file.old ≡ [] }
+    ensures refused { (refusal : Refusal) → IsErrOf result (Stop.Refused refusal) → Meets F.Input (Task.OnTable request.now) file.old file.new refusal }
+{
+    let (index, _last) = read_index(alloc, request, file)?;
+    match index.size(request.part, request.side) {
+        Some(_) => Ok(()),
+        None => Err(Stop::Refused(Refusal::Part)),
     }
 }
 
@@ -198,7 +218,7 @@ fn write_lines<F: Input + Ahead, W: Output>(
         failed: false,
     };
     match stream_values(alloc, material, request.kind, file, &mut sink, writer) {
-        Ok(index) => {
+        Ok((index, _last)) => {
             let Some(_) = index.size(request.part, request.side) else {
                 return Err(LinesStop::Changed);
             };
@@ -231,12 +251,26 @@ fn device_stop<'a, F: Reasons>(source: &'a str, file: &F) -> FileStop<'a>
     }
 }
 
+/// Why lines of a checked file stop a task.
+fn lines_failed<'a, F: Reasons>(source: &'a str, file: &F, stop: LinesStop) -> FileStop<'a>
+    ensures { (refusal : Refusal) → (result ≡ FileStop.Refused refusal) → ⊥ }
+{
+    match stop {
+        LinesStop::Changed => {
+            let changed = FileFault::System(ErrorKind::InvalidData.into());
+            failed(source, changed)
+        }
+        LinesStop::Device => device_stop(source, file),
+        LinesStop::Memory => FileStop::Memory,
+    }
+}
+
 /// Writes each value of a part and side of the file at `source` on a line. The file is read twice: the first time it is
 /// checked, and where it is refused nothing was written. The second time the values are written. It keeps one block and
 /// its values in memory, and what precedes the blocks.
 ///
 /// Errors: `Failed`, if the file changed between and is refused then; a part of the values may be written.
-pub fn stream_from<'a, S: FileSystem, W: Output>(
+fn values_from<'a, S: FileSystem, W: Output>(
     alloc: Global,
     request: &Request,
     source: &'a str,
@@ -282,11 +316,123 @@ where
     };
     match write_lines(alloc, request, &mut file, writer) {
         Ok(()) => Ok(()),
-        Err(LinesStop::Changed) => {
-            let changed = FileFault::System(ErrorKind::InvalidData.into());
-            Err(failed(source, changed))
-        }
-        Err(LinesStop::Device) => Err(device_stop(source, &file)),
-        Err(LinesStop::Memory) => Err(FileStop::Memory),
+        Err(stop) => Err(lines_failed(source, &file, stop)),
+    }
+}
+
+// ---- dumps
+
+/// Writes the dump of the table with this index and these last bytes, whose file was checked, a block's values as soon as
+/// the block was read and checked.
+fn write_dump_lines<F: Input + Ahead, W: Output>(
+    alloc: Global,
+    request: &Request,
+    form: Form,
+    index: &TableIndex,
+    last: &[u8; 16],
+    file: &mut F,
+    writer: &mut W,
+) -> Result<(), LinesStop>
+    requires dump { request.now.action ≡ Action.Dump form }
+    requires first { F.moved file.old ≡ [] }
+    requires material { IsMaterial index.now.material }
+    requires name { name_of index.now.material ≡ request.now.name.now }
+    requires kind { index.now.kind ≡ request.now.kind }
+    ensures told { OnOk result (IsAnswered F.Input W.Output request.now file.old file.new writer.old writer.new) }
+{
+    match stream_dump(alloc, index, last, form.number(), file, writer) {
+        Ok(()) => Ok(()),
+        Err(StreamFault::Changed) => Err(LinesStop::Changed),
+        Err(StreamFault::Input) | Err(StreamFault::Output) => Err(LinesStop::Device),
+        Err(StreamFault::Memory) => Err(LinesStop::Memory),
+    }
+}
+
+/// Writes the dump of the file at `source`, which was checked.
+fn write_dump_from<'a, S: FileSystem, W: Output>(
+    alloc: Global,
+    request: &Request,
+    form: Form,
+    index: &TableIndex,
+    last: &[u8; 16],
+    source: &'a str,
+    system: &mut S,
+    writer: &mut W,
+) -> Result<(), FileStop<'a>>
+where
+    S::File: Ahead,
+    requires dump { request.now.action ≡ Action.Dump form }
+    requires material { IsMaterial index.now.material }
+    requires name { name_of index.now.material ≡ request.now.name.now }
+    requires kind { index.now.kind ≡ request.now.kind }
+    ensures told { OnOk result (IsCarriedFrom S.content S.failures S.File.Input W.Output (Task.OnTable request.now) source.now None system.old system.new writer.old writer.new None) }
+    ensures only { (refusal : Refusal) → IsErrOf result (FileStop.Refused refusal) → ⊥ }
+{
+    let mut file = match system.open(source) {
+        Ok(file) => file,
+        Err(fault) => return Err(failed(source, fault)),
+    };
+    match write_dump_lines(alloc, request, form, index, last, &mut file, writer) {
+        Ok(()) => Ok(()),
+        Err(stop) => Err(lines_failed(source, &file, stop)),
+    }
+}
+
+/// Writes the dump of the file at `source`. The file is read twice: the first time it is checked, and where it is refused
+/// nothing was written. The second time the lines are written.
+///
+/// Errors: `Failed`, if the file changed between; a part of the dump may be written.
+fn dump_from<'a, S: FileSystem, W: Output>(
+    alloc: Global,
+    request: &Request,
+    form: Form,
+    source: &'a str,
+    system: &mut S,
+    writer: &mut W,
+) -> Result<(), FileStop<'a>>
+where
+    S::File: Ahead,
+    requires dump { request.now.action ≡ Action.Dump form }
+    ensures told { OnOk result (IsCarriedFrom S.content S.failures S.File.Input W.Output (Task.OnTable request.now) source.now None system.old system.new writer.old writer.new None) }
+    ensures refused { (refusal : Refusal) → IsErrOf result (FileStop.Refused refusal) → (writer.new ≡ writer.old)
+        × MeetsFrom S.content S.failures S.File.Input (Task.OnTable request.now) source.now system.old system.new refusal }
+{
+    let mut file = match system.open(source) {
+        Ok(file) => file,
+        Err(fault) => return Err(failed(source, fault)),
+    };
+    match read_index(alloc, request, &mut file) {
+        Ok((index, last)) => write_dump_from(
+            alloc, request, form, &index, &last, source, system, writer,
+        ),
+        Err(Stop::Refused(refusal)) => Err(FileStop::Refused(refusal)),
+        Err(Stop::Device) => Err(device_stop(source, &file)),
+        Err(Stop::Memory) => Err(FileStop::Memory),
+    }
+}
+
+/// Writes the values of a part and side, or the dump, of the file at `source`. The file is read twice: the first time it
+/// is checked, and where it is refused nothing was written. It keeps one block and its values in memory, and what precedes
+/// the blocks.
+///
+/// Errors: `Failed`, if the file changed between; a part of the text may be written.
+pub fn stream_from<'a, S: FileSystem, W: Output>(
+    alloc: Global,
+    request: &Request,
+    source: &'a str,
+    system: &mut S,
+    writer: &mut W,
+) -> Result<(), FileStop<'a>>
+where
+    S::File: Ahead,
+    requires listed { IsListed request.now.action }
+    ensures told { OnOk result (IsCarriedFrom S.content S.failures S.File.Input W.Output (Task.OnTable request.now) source.now None system.old system.new writer.old writer.new None) }
+    ensures refused { (refusal : Refusal) → IsErrOf result (FileStop.Refused refusal) → (writer.new ≡ writer.old)
+        × MeetsFrom S.content S.failures S.File.Input (Task.OnTable request.now) source.now system.old system.new refusal }
+{
+    match &request.action {
+        Action::Values => values_from(alloc, request, source, system, writer),
+        Action::Dump(form) => dump_from(alloc, request, *form, source, system, writer),
+        _ => unreachable!(),
     }
 }

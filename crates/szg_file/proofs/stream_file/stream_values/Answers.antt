@@ -27,8 +27,8 @@ returns-in_err-parts-clause-streamed g c =
     rw (p.1, p.2)
     (record { answer = Err fault; told = refl; table = tt; follows = follows; bytes = took.0; taken = took.1; took = took.2; accepted = tt })
 
-pub index_of_placed-requires-clause-stands : goal.index_of_placed-requires-clause-stands
-index_of_placed-requires-clause-stands g c =
+pub index_of_placed-index-requires-clause-stands : goal.index_of_placed-index-requires-clause-stands
+index_of_placed-index-requires-clause-stands g c =
     let m : Sides = c.args.material in
     let k : Kind = c.args.kind in
     let o : Outline = c.in_ok-parts.field-0 in
@@ -48,12 +48,12 @@ returns-clause-streamed g c =
     let t : Shown = record { contents = outlined m k bytes o; filled = c.read_outline.new.front.fill.items } in
     let h = c.in_ok-parts.ensures.outline in
     let w = whole_file m k t.contents c.new-front.result c.read_outline.new.front h.bytes c.new-front.ensures.place c.new-front.ensures.fill h.answer.0 in
-    let is : c.index_of_placed.result ≡ index_of t.contents =
-    c.index_of_placed.ensures ∙ ap (λ (l : List PlacedSub). index_with m k (map part_of o.parts.bytes.items) (map (λ held. flags_of (subtable_of held.sub)) l) (map (option_map map_of) o.maps.items)) c.deref.ensures.value
+    let is : c.index_of_placed-index.result ≡ index_of t.contents =
+    c.index_of_placed-index.ensures ∙ ap (λ (l : List PlacedSub). index_with m k (map part_of o.parts.bytes.items) (map (λ held. flags_of (subtable_of held.sub)) l) (map (option_map map_of) o.maps.items)) c.deref.ensures.value
     ∙ ap (λ (flags : List ℕ). index_with m k t.contents.parts flags t.contents.maps) (sym (flags_whole bytes o.subs.items)) in
     record {
       answer = Ok t;
-      told = ap (λ (x : Index). Ok x) is;
+      told = ap (λ (x : Index). Ok (x, o.last)) is;
       table = record { material_is = refl; kind_is = refl; accepted = w.accepted };
       follows = follows_good (file m k) t _ _ h.bytes h.taken.bytes_gone w.whole;
       bytes = h.bytes;

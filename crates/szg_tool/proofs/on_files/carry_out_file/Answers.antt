@@ -1,18 +1,31 @@
-use Rattle.std.proofs.Common.{inl, refl, rules}
+use Rattle.std.proofs.Common.{◌≡◌, inl, inr, refl, rules, true}
+use Rattle.szg_tool.specs.declared.on_files.FileStop.TheVariants.{Device, Failed, Memory}
 use Rattle.szg_tool.proofs.on_files.carry_out_file.Goals as goal
 
-pub returns-in-Ok-clause-told : goal.returns-in-Ok-clause-told
-returns-in-Ok-clause-told g c = rw (c.in-OnTable-None.is-0, c.in-OnTable-None.is-1) c.in-Ok.ensures.told
+pub returns-then-is_listed-clause-told : goal.returns-then-is_listed-clause-told
+returns-then-is_listed-clause-told g c = rw c.in-OnTable.is c.stream_to.ensures.told
 
-pub returns-in-Err-clause-refused : goal.returns-in-Err-clause-refused
-returns-in-Err-clause-refused g c = rw c.in-OnTable-None.is-0 (λ refusal is. c.in-Err.ensures.refused refusal (cc))
+pub returns-then-is_listed-clause-refused : goal.returns-then-is_listed-clause-refused
+returns-then-is_listed-clause-refused g c = rw c.in-OnTable.is c.stream_to.ensures.refused
 
 -- values that are written while the file is read
-pub returns-in-Err-clause-failed : goal.returns-in-Err-clause-failed
-returns-in-Err-clause-failed g c = λ failure is. inl (c.in-OnTable-None.request, c.in-OnTable-None.is-0, c.is_values.ensures (search rules), refl, c.in-OnTable-None.is-1)
+pub returns-then-is_listed-clause-failed : goal.returns-then-is_listed-clause-failed
+returns-then-is_listed-clause-failed g c = λ failure is.
+    elim (c.stream_to.ensures.stopped (Failed failure) is) [
+      | inl none ↦ inl (c.in-OnTable.request, c.in-OnTable.is, c.is_listed.ensures c.if-is_listed.true, refl, none)
+      | inr same ↦ inr (inl same)
+    ]
 
-pub returns-in-Err-clause-device : goal.returns-in-Err-clause-device
-returns-in-Err-clause-device g c = λ is. inl (c.in-OnTable-None.request, c.in-OnTable-None.is-0, c.is_values.ensures (search rules), refl, c.in-OnTable-None.is-1)
+pub returns-then-is_listed-clause-device : goal.returns-then-is_listed-clause-device
+returns-then-is_listed-clause-device g c = λ is.
+    elim (c.stream_to.ensures.stopped Device is) [
+      | inl none ↦ inl (c.in-OnTable.request, c.in-OnTable.is, c.is_listed.ensures c.if-is_listed.true, refl, none)
+      | inr same ↦ inr (inl same)
+    ]
 
-pub returns-in-Err-clause-memory : goal.returns-in-Err-clause-memory
-returns-in-Err-clause-memory g c = λ is. inl (c.in-OnTable-None.request, c.in-OnTable-None.is-0, c.is_values.ensures (search rules), refl, c.in-OnTable-None.is-1)
+pub returns-then-is_listed-clause-memory : goal.returns-then-is_listed-clause-memory
+returns-then-is_listed-clause-memory g c = λ is.
+    elim (c.stream_to.ensures.stopped Memory is) [
+      | inl none ↦ inl (c.in-OnTable.request, c.in-OnTable.is, c.is_listed.ensures c.if-is_listed.true, refl, none)
+      | inr same ↦ inr (inl same)
+    ]

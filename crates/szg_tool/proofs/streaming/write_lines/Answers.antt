@@ -5,14 +5,15 @@ use Rattle.szg_tool.specs.Answers.{IsAnswer, number_line}
 use Rattle.szg_tool.specs.Refusals.{size_at}
 use Rattle.szg_tool.specs.declared.request.Action.{Action}
 use Rattle.szg_tool.proofs.SinkLines.{accepted_lines, line_accepts}
-use Rattle.szg_tool.proofs.StreamedFiles.{is_table_of, lines_of_part, size_read, table_read}
+use Rattle.szg_tool.proofs.StreamedFiles.{is_table_of, lines_of_part, size_read}
+use Rattle.szg_file.proofs.StreamedRead.{table_read}
 use Rattle.szg_tool.proofs.streaming.write_lines.Goals as goal
 
 pub returns-in-Ok-say : goal.returns-in-Ok-say
 returns-in-Ok-say g c =
     let part = c.args.request.now.part in
     let side = c.args.request.now.side in
-    let read = table_read g.F.Input (only part side) (line_accepts g.W.Output) c.in-Ok.material c.args.request.now.kind c.args.file.now c.stream_values.new.input _ c.args.writer.now c.stream_values.new.sink c.stream_values.new.out c.in-Ok-stream_values.index c.in-Ok-stream_values.ensures.streamed in
+    let read = table_read g.F.Input (only part side) (line_accepts g.W.Output) c.in-Ok.material c.args.request.now.kind c.args.file.now c.stream_values.new.input _ c.args.writer.now c.stream_values.new.sink c.stream_values.new.out (c.in-Ok-stream_values.index, c.in-Ok-stream_values._last) c.in-Ok-stream_values.ensures.streamed in
     let t = read.table in
     let values : List ℕ = wanted_of (only part side) t.contents in
     let lines = accepted_lines g.W.Output values _ c.stream_values.new.sink c.args.writer.now c.stream_values.new.out read.accepted in

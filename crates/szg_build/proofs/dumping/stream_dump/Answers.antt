@@ -1,0 +1,39 @@
+use Rattle.std.proofs.Common.{◌≡◌, ℕ, List, Bool, true, sym, ap, ◌∙◌}
+use Rattle.szg_values.specs.Material.{Sides}
+use Rattle.szg_values.specs.declared.Kind.{Kind}
+use Rattle.szg_file.specs.Index.{Index, index_of}
+use Rattle.szg_file.specs.Streaming.{wanted_of}
+use Rattle.szg_file.proofs.StreamedRead.{table_read}
+use Rattle.szg_build.specs.Streaming.{Goes}
+use Rattle.szg_build.specs.declared.dump_sink.DumpSink.{DumpSink}
+use Rattle.szg_build.proofs.OwnDumps.{own_dump}
+use Rattle.szg_build.proofs.StreamLaws.{all_wanted}
+use Rattle.szg_build.proofs.StreamSteps.{accepted_goes}
+use Rattle.szg_build.proofs.StreamedDumps.{own_dump_is, same_index, streamed_text}
+use Rattle.szg_build.proofs.dumping.stream_dump.Goals as goal
+
+pub returns-clause-dumped : goal.returns-clause-dumped
+returns-clause-dumped g c =
+    let x : Index = c.args.index.now in
+    let sink : DumpSink = c.in_ok-sink.sink in
+    let material : c.copy_material-material.result ≡ x.material = c.copy_material-material.ensures ∙ c.material.ensures in
+    let kind : c.kind.result ≡ x.kind = c.kind.ensures in
+    let read = table_read g.R.Input all_wanted (λ s out values s' out'. Goes g.W.Output values s out s' out') c.copy_material-material.result c.kind.result c.args.input.now c.stream_values.new.input sink c.begin_dump.new.output c.stream_values.new.sink c.stream_values.new.out c.in-Ok.told c.in-Ok.ensures.streamed in
+    let t = read.table in
+    let yes : c.is_told.result ≡ true = c.if-not-is_told.false in
+    let is : x ≡ index_of t.contents =
+    same_index x (index_of t.contents) (sym (read.stands.material_is ∙ material)) (sym (read.stands.kind_is ∙ kind))
+    (sym (c.is_told.ensures.parts yes) ∙ ap (λ (y : Index). y.parts) read.index_is)
+    (sym (c.is_told.ensures.flags yes) ∙ ap (λ (y : Index). y.flags) read.index_is)
+    (sym (c.is_told.ensures.maps yes) ∙ ap (λ (y : Index). y.maps) read.index_is) in
+    let ends : c.args.last.now ≡ t.contents.last = sym (c.is_told.ensures.last yes) ∙ read.last_is in
+    let goes = accepted_goes g.W.Output (wanted_of all_wanted t.contents) sink c.begin_dump.new.output c.stream_values.new.sink c.stream_values.new.out read.accepted in (
+      t,
+      record { material_is = read.stands.material_is ∙ material; kind_is = read.stands.kind_is ∙ kind; accepted = read.stands.accepted },
+      is,
+      read.taken,
+      own_dump t.contents,
+      own_dump_is t,
+      streamed_text g.W.Output c.args.form x c.args.last.now t sink c.stream_values.new.sink c.args.output.now c.begin_dump.new.output c.stream_values.new.out c.end_dump.new.output
+          c.in_ok-sink.ensures.index c.in_ok-sink.ensures.begun c.in_ok-sink.ensures.given goes c.in_ok-end_dump.ensures is ends read.stands.accepted,
+    )

@@ -1,0 +1,98 @@
+//! Reads a file, and writes the dump of its table while it is read.
+ghost use Rattle.std.specs.Prelude.{◌≡◌, ◌⊎◌, [], IsErrOf, IsTrue, OnOk, true};
+ghost use Rattle.szg_io.specs.Device.{HasFailed};
+ghost use Rattle.szg_io.specs.Moved.{Gives, Takes};
+ghost use Rattle.szg_file.specs.Checked.{IsTable};
+ghost use Rattle.szg_file.specs.Held.{Shown, file_bytes};
+ghost use Rattle.szg_file.specs.Index.{index_of};
+ghost use Rattle.szg_build.specs.Built.{IsDumpOf};
+ghost use Rattle.szg_build.specs.Dump.{Dump};
+ghost use Rattle.szg_build.specs.Shown.{form_of};
+ghost use Rattle.szg_build.specs.Text.{dump_text};
+ghost use Rattle.szg_build.specs.declared.dumping.StreamFault.TheVariants.{Output};
+
+use crate::copies::copy_material;
+use crate::streaming::{begin_dump, end_dump};
+use std::alloc::Global;
+use szg_file::{Ahead, ReadFault, TableIndex, WriteFault, stream_values};
+use szg_io::{Input, Output};
+
+/// Why a dump was not written whole while its file was read. A beginning of its text may be written.
+#[derive(Clone, Copy, Debug, PartialEq, Eq, Drop)]
+pub enum StreamFault {
+    /// The file is refused, or it has another index or other last bytes than was said.
+    Changed,
+    /// The reader failed.
+    Input,
+    /// The writer failed.
+    Output,
+    /// Memory was refused.
+    Memory,
+}
+
+impl From<WriteFault> for StreamFault {
+    ghost from_gives = { λ _ fault. fault ≡ Output };
+
+    fn from(_fault: WriteFault) -> StreamFault {
+        StreamFault::Output
+    }
+}
+
+/// Reads the file of a table that has this index and these last sixteen bytes, from the reader's first byte on, and writes
+/// the text of its dump: in form 1 a line for each value, in form 2 a line for each longest run of equal values. The lines
+/// of a block's values are written once the block passed its check. It keeps one block and its values in memory.
+///
+/// `stream_values` with `NoSink` before returns the index and the last bytes. Errors: `Changed`, if the file is not such a
+/// table's; a part of the text may be written then.
+pub fn stream_dump<R: Input + Ahead, W: Output>(
+    alloc: Global,
+    index: &TableIndex,
+    last: &[u8; 16],
+    form: u8,
+    input: &mut R,
+    output: &mut W,
+) -> Result<(), StreamFault>
+    requires form { (form ≡ 1) ⊎ (form ≡ 2) }
+    requires first { R.moved input.old ≡ [] }
+    // just the file of a table with this index was read, and just the text of its dump was written
+    ensures dumped { OnOk result ((t : Shown) × IsTable index.now.material index.now.kind t × (index.now ≡ index_of t.contents) × Takes R.Input input.old input.new (file_bytes t) 1
+        × (dump : Dump) × IsDumpOf dump t.contents × Gives W.Output output.old output.new (dump_text (form_of form) dump) 0) }
+    ensures input { IsErrOf result StreamFault.Input → HasFailed (R.failures input.old) (R.failures input.new) (R.interrupted input.new) }
+    ensures may_fail { IsErrOf result StreamFault.Input → IsTrue (R.may_fail input.old) }
+{
+    let mut sink = begin_dump(index, last, form, output)?;
+    let material = copy_material(index.material());
+    match stream_values(alloc, material, index.kind(), input, &mut sink, output) {
+        Ok(told) => {
+            if !is_told(&told, index, last) {
+                return Err(StreamFault::Changed);
+            }
+        }
+        Err(fault) => return Err(stopped(fault, sink.failed)),
+    }
+    end_dump(&mut sink, output)?;
+    Ok(())
+}
+
+/// Whether a table of the same material and kind has this index and these last bytes.
+fn is_told(told: &(TableIndex, [u8; 16]), index: &TableIndex, last: &[u8; 16]) -> bool
+    ensures parts { (result ≡ true) → told.now.0.parts ≡ index.now.parts }
+    ensures flags { (result ≡ true) → told.now.0.flags ≡ index.now.flags }
+    ensures maps { (result ≡ true) → told.now.0.maps ≡ index.now.maps }
+    ensures last { (result ≡ true) → told.now.1 ≡ last.now }
+{
+    let (seen, end) = told;
+    seen.has_same(index) && end == last
+}
+
+/// Converts a fault of reading; `failed` is whether the writer failed.
+fn stopped(fault: ReadFault, failed: bool) -> StreamFault
+    ensures { (result ≡ StreamFault.Input) → fault ≡ ReadFault.Device }
+{
+    match fault {
+        ReadFault::Refused { .. } => StreamFault::Changed,
+        ReadFault::Device => StreamFault::Input,
+        ReadFault::Memory if failed => StreamFault::Output,
+        ReadFault::Memory => StreamFault::Memory,
+    }
+}
