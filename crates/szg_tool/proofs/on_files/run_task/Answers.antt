@@ -1,4 +1,4 @@
-use Rattle.std.proofs.Common.{inl, inr, refl}
+use Rattle.std.proofs.Common.{inr, refl}
 use Rattle.szg_tool.proofs.Endings.{EndsTask-then, listed_or}
 use Rattle.szg_tool.proofs.on_files.run_task.Goals as goal
 
