@@ -1,6 +1,11 @@
 -- A table that was read while a sink accepted its values.
 use Rattle.std.proofs.Common.{◌≡◌, ℕ, Bool, List, flat_map, sym, ap, subst, ◌∙◌, Option, Some, None, Result, Ok, Err}
-use Rattle.std.specs.Prelude.{IfOk, IfSome, IsSomeAnd, option_map}
+use Rattle.std.specs.Prelude.{IfSome, IsSomeAnd, OnOk, option_map}
+use Rattle.szg_io.specs.declared.device.Input as input
+use Rattle.szg_io.specs.declared.device.Output as output
+use Rattle.szg_tool.specs.OnFiles.{IsCarriedFrom}
+use Rattle.szg_tool.specs.declared.on_files.FileStop.{FileStop}
+use Rattle.szg_tool.specs.declared.request.Task.{Task}
 use Rattle.szg_values.specs.Material.{IsMaterial, Sides, name_of}
 use Rattle.szg_values.specs.declared.Kind.{Kind}
 use Rattle.szg_file.specs.Accepted.{IsAccepted}
@@ -40,3 +45,20 @@ lines_of_found t values text size (Some f) some is told = told ∙ ap (λ (z : L
 pub lines_of_part : (t : Contents) (part side size : ℕ) (text : List ℕ) → Some size ≡ size_at t part side → text ≡ flat_map number_line (wanted_of (only part side) t) →
     IsSomeAnd (subtable_at t part side) (λ f. text ≡ flat_map number_line (values_of t.kind f))
 lines_of_part t part side size text there told = lines_of_found t (wanted_of (only part side) t) text size (subtable_at t part side) there (only_one t part side) told
+
+-- a file that is opened once more, after the system opened it before
+pub carried_on : {S F W : Type 0} (content : S → List ℕ → Option (List ℕ)) (failures : S → ℕ) (reading : input.Ghosts F) (writing : output.Ghosts W) (task : Task) (source : List ℕ) (system between system' : S) (writer writer' : W) (r : Result (Unit {0}) FileStop) →
+    content between ≡ content system → failures between ≡ failures system →
+    OnOk r (IsCarriedFrom content failures reading writing task source None between system' writer writer' None) → OnOk r (IsCarriedFrom content failures reading writing task source None system system' writer writer' None)
+carried_on content failures reading writing task source system between system' writer writer' (Ok x) kept quiet h = (
+  h.0,
+  h.1,
+  record {
+    unread = h.2.unread;
+    coming = subst (λ (f : List ℕ → Option (List ℕ)). IfSome (f source) (λ bytes. reading.coming h.0 ≡ Some bytes)) kept h.2.coming;
+    kept = h.2.kept ∙ kept;
+    quiet = h.2.quiet ∙ quiet;
+  },
+  h.3,
+)
+carried_on content failures reading writing task source system between system' writer writer' (Err stop) kept quiet h = tt

@@ -1,6 +1,6 @@
 //! Values that are written while a file is read: each of one part and side on a line, or all of them as a dump.
 
-ghost use Rattle.std.specs.Prelude.{◌≡◌, ℕ, List, [], ◌++◌, flat_map, replicate, None, OnOk, OnErr, Err, IfOk, IsErrOf, true};
+ghost use Rattle.std.specs.Prelude.{◌≡◌, ℕ, List, [], ◌++◌, flat_map, replicate, None, Some, OnOk, OnErr, Err, IfOk, IsErrOf, true};
 ghost use Rattle.szg_io.specs.Device.{HasFailed};
 ghost use Rattle.szg_io.specs.Moved.{Gives, Takes};
 ghost use Rattle.szg_values.specs.Material.{IsMaterial, name_of};
@@ -8,7 +8,8 @@ ghost use Rattle.szg_file.specs.Held.{Shown, file_bytes};
 ghost use Rattle.szg_file.specs.Index.{index_of};
 ghost use Rattle.szg_tool.specs.Answers.{number_line};
 ghost use Rattle.szg_tool.specs.OnFiles.{IsCarriedFrom, IsListed, MeetsFrom};
-ghost use Rattle.szg_tool.specs.Requests.{IsAnswered, IsTableOf, Meets};
+ghost use Rattle.szg_tool.specs.Refusals.{part_refusal};
+ghost use Rattle.szg_tool.specs.Requests.{IsAnswered, IsTableOf, Meets, unplaced_refusal};
 ghost use Rattle.szg_tool.specs.declared.refusal.Refusal.{Refusal};
 ghost use Rattle.szg_tool.specs.declared.request.Action.{Action};
 ghost use Rattle.szg_tool.specs.declared.request.Task.{Task};
@@ -153,7 +154,7 @@ fn read_index<F: Input + Ahead>(
     request: &Request,
     file: &mut F,
 ) -> Result<(TableIndex, [u8; 16]), Stop>
-    requires listed { IsListed request.now.action }
+    requires placed { unplaced_refusal request.now.action ≡ None }
     requires first { F.moved file.old ≡ [] }
     ensures table { IfOk result (λ told. (t : Shown) × IsTableOf request.now t × (told.0 ≡ index_of t.contents) × Takes F.Input file.old file.new (file_bytes t) 1) }
     ensures refused { (refusal : Refusal) → IsErrOf result (Stop.Refused refusal) → Meets F.Input (Task.OnTable request.now) file.old file.new refusal }
@@ -178,8 +179,16 @@ fn check_part<F: Input + Ahead>(alloc: Global, request: &Request, file: &mut F) 
     requires first { F.moved file.old ≡ [] }
     ensures refused { (refusal : Refusal) → IsErrOf result (Stop.Refused refusal) → Meets F.Input (Task.OnTable request.now) file.old file.new refusal }
 {
-    let (index, _last) = read_index(alloc, request, file)?;
-    match index.size(request.part, request.side) {
+    let told = read_index(alloc, request, file)?;
+    let size = told.0.size(request.part, request.side);
+    part_found(size)
+}
+
+/// Refuses a part and side that the table doesn't have.
+fn part_found(size: Option<u64>) -> Result<(), Stop>
+    ensures { (refusal : Refusal) → IsErrOf result (Stop.Refused refusal) → part_refusal size ≡ Some refusal }
+{
+    match size {
         Some(_) => Ok(()),
         None => Err(Stop::Refused(Refusal::Part)),
     }
@@ -218,8 +227,8 @@ fn write_lines<F: Input + Ahead, W: Output>(
         failed: false,
     };
     match stream_values(alloc, material, request.kind, file, &mut sink, writer) {
-        Ok((index, _last)) => {
-            let Some(_) = index.size(request.part, request.side) else {
+        Ok(told) => {
+            let Some(_) = told.0.size(request.part, request.side) else {
                 return Err(LinesStop::Changed);
             };
             match say(writer, &sink.text) {
@@ -402,8 +411,8 @@ where
         Err(fault) => return Err(failed(source, fault)),
     };
     match read_index(alloc, request, &mut file) {
-        Ok((index, last)) => write_dump_from(
-            alloc, request, form, &index, &last, source, system, writer,
+        Ok(told) => write_dump_from(
+            alloc, request, form, &told.0, &told.1, source, system, writer,
         ),
         Err(Stop::Refused(refusal)) => Err(FileStop::Refused(refusal)),
         Err(Stop::Device) => Err(device_stop(source, &file)),

@@ -1,10 +1,22 @@
-use Rattle.std.proofs.Common.{◌≡◌, refl, sym, ap, subst, ◌∙◌, inr, Some, None}
-use Rattle.szg_tool.specs.Refusals.{IsRefused, part_refusal, size_at}
+use Rattle.std.proofs.Common.{◌≡◌, sym, ap, subst, ◌∙◌, inr}
+use Rattle.szg_tool.specs.Refusals.{IsRefused, part_refusal}
 use Rattle.szg_tool.specs.Requests.{unplaced_refusal}
-use Rattle.szg_tool.specs.declared.refusal.Refusal.TheVariants.{Part}
 use Rattle.szg_tool.specs.declared.request.Action.{Action}
 use Rattle.szg_tool.proofs.StreamedFiles.{size_read}
 use Rattle.szg_tool.proofs.streaming.check_part.Goals as goal
 
-pub returns-in-None : goal.returns-in-None
-returns-in-None g c = ?
+pub returns : goal.returns
+returns g c =
+    let request = c.args.request.now in
+    let read = c.in_ok-told.ensures.table in
+    let t = read.0 in
+    let sized = size_read c.in_ok-told.told.0 t c.size-size.result request.part request.side read.2 read.1.accepted c.size-size.ensures in
+    record {
+      refused = λ refusal is. inr (record {
+        placed = ap unplaced_refusal c.requires.values;
+        table = t;
+        asked = read.1;
+        taken = read.3;
+        refused = subst (λ (a : Action). IsRefused a request.part request.side t.contents refusal) (sym c.requires.values) (ap part_refusal (sym sized) ∙ c.part_found.ensures refusal is);
+      });
+    }

@@ -1,4 +1,6 @@
 use Rattle.std.proofs.Common.{refl}
+use Rattle.szg_tool.specs.declared.request.Task.TheVariants.{OnTable}
+use Rattle.szg_tool.proofs.StreamedFiles.{carried_on}
 use Rattle.szg_tool.proofs.streaming.dump_from.Goals as goal
 
 -- what is refused of the file that was opened first is refused of the file
@@ -12,3 +14,9 @@ returns-in-Err-Refused-clause-refused g c = λ refusal is. (
     c.in-Err-Refused.ensures.refused refusal (cc),
   ),
 )
+
+-- the file was opened twice
+pub returns-in-Ok-read_index-clause-told : goal.returns-in-Ok-read_index-clause-told
+returns-in-Ok-read_index-clause-told g c =
+    carried_on g.S.FileSystem.content g.S.FileSystem.failures g.S.File.Input g.W.Output (OnTable c.args.request.now) c.args.source.now c.args.system.now c.open.new.self c.write_dump_from.new.system c.args.writer.now c.write_dump_from.new.writer
+    c.write_dump_from.result c.in-Ok.ensures.content c.in-Ok.ensures.quiet c.write_dump_from.ensures.told

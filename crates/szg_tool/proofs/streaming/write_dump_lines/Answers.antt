@@ -17,10 +17,12 @@ returns-in-Ok g c =
     let dump = dumped.4 in
     let text : List ℕ = dump_text (form_of c.number.result) dump in
     record {
-      table = t;
-      asked = is_table_of request x.material t c.requires.material c.requires.name (subst (λ (k : Kind). IsTable x.material k t) c.requires.kind dumped.1);
-      taken = dumped.3;
-      text = text;
-      answers = subst (λ (a : Action). IsAnswer a request.part request.side t text) (sym c.requires.dump) (dump, dumped.5, ap (λ (n : ℕ). dump_text (form_of n) dump) c.number.ensures.number);
-      given = dumped.6;
+      told = record {
+        table = t;
+        asked = is_table_of request x.material t c.requires.material c.requires.name (subst (λ (k : Kind). IsTable x.material k t) c.requires.kind dumped.1);
+        taken = dumped.3;
+        text = text;
+        answers = subst (λ (a : Action). IsAnswer a request.part request.side t text) (sym c.requires.dump) (dump, dumped.5, ap (λ (n : ℕ). dump_text (form_of n) dump) c.number.ensures.number);
+        given = dumped.6;
+      };
     }

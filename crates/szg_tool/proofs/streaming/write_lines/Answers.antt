@@ -13,11 +13,11 @@ pub returns-in-Ok-say : goal.returns-in-Ok-say
 returns-in-Ok-say g c =
     let part = c.args.request.now.part in
     let side = c.args.request.now.side in
-    let read = table_read g.F.Input (only part side) (line_accepts g.W.Output) c.in-Ok.material c.args.request.now.kind c.args.file.now c.stream_values.new.input _ c.args.writer.now c.stream_values.new.sink c.stream_values.new.out (c.in-Ok-stream_values.index, c.in-Ok-stream_values._last) c.in-Ok-stream_values.ensures.streamed in
+    let read = table_read g.F.Input (only part side) (line_accepts g.W.Output) c.in-Ok.material c.args.request.now.kind c.args.file.now c.stream_values.new.input _ c.args.writer.now c.stream_values.new.sink c.stream_values.new.out c.in-Ok-stream_values.told c.in-Ok-stream_values.ensures.streamed in
     let t = read.table in
     let values : List ℕ = wanted_of (only part side) t.contents in
     let lines = accepted_lines g.W.Output values _ c.stream_values.new.sink c.args.writer.now c.stream_values.new.out read.accepted in
-    let there = sym c.in-Some.is ∙ size_read c.in-Ok-stream_values.index t c.size.result part side read.index_is read.stands.accepted c.size.ensures in
+    let there = sym c.in-Some.is ∙ size_read c.in-Ok-stream_values.told.0 t c.size.result part side read.index_is read.stands.accepted c.size.ensures in
     let text : List ℕ = lines.0 ++ c.deref.result.now in
     let told : text ≡ flat_map number_line values =
     ap (λ (z : List ℕ). lines.0 ++ z) c.deref.ensures.value ∙ lines.2 ∙ ap (λ (z : List ℕ). z ++ flat_map number_line values) c.new.ensures.items in
