@@ -159,11 +159,11 @@ subs_empty form kind (place ∷ places) [] = refl
 subs_empty form kind (place ∷ places) (head ∷ heads) =
     ap (λ (z : List ℕ). lines_text (head_lines kind place head) ++ z) (empty form head.size ∙ subs_empty form kind places heads)
     ∙ sym (lines-append (head_lines kind place head) (flat_map_beside (head_lines kind) places heads)) where
-  empty : (form : Form) (n : ℕ) → lines_text (value_lines form (take n [])) ++ subs_text form kind places heads (drop n []) ≡ subs_text form kind places heads []
-  empty single zero = refl
-  empty single (suc n) = refl
-  empty runs zero = refl
-  empty runs (suc n) = refl
+      empty : (form : Form) (n : ℕ) → lines_text (value_lines form (take n [])) ++ subs_text form kind places heads (drop n []) ≡ subs_text form kind places heads []
+      empty single zero = refl
+      empty single (suc n) = refl
+      empty runs zero = refl
+      empty runs (suc n) = refl
 
 -- the lines of subtable `s` come first
 pub heads_next : (kind : Kind) (places : List (ℕ × ℕ)) (heads : List SubHead) (s : ℕ) → s < length places → s < length heads →
@@ -261,9 +261,9 @@ sub_apart form kind place sub =
     ap (λ (z : List (List (List ℕ))). lines_text (first ∷ z)) (sym (append_assoc flags count (value_lines form sub.values)))
     ∙ ap (λ (z : List (List (List ℕ))). lines_text ((first ∷ (z ++ count)) ++ value_lines form sub.values)) (same_flags kind)
     ∙ lines-append (first ∷ (flags_lines kind (sub_of (record { flags = sub.flags; lists = sub.lists; size = length sub.values })) ++ count)) (value_lines form sub.values) where
-  same_flags : (kind : Kind) → flags_lines kind sub ≡ flags_lines kind (sub_of (record { flags = sub.flags; lists = sub.lists; size = length sub.values }))
-  same_flags Wdl = refl
-  same_flags Dtz = refl
+      same_flags : (kind : Kind) → flags_lines kind sub ≡ flags_lines kind (sub_of (record { flags = sub.flags; lists = sub.lists; size = length sub.values }))
+      same_flags Wdl = refl
+      same_flags Dtz = refl
 
 module _ (form : Form) (kind : Kind) (place : ℕ × ℕ) (places : List (ℕ × ℕ)) (sub : SubDump) (subs : List SubDump) (heads : List SubHead) (size : ℕ) (more : List ℕ) where
   -- one subtable before others

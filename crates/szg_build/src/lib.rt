@@ -37,7 +37,6 @@ mod shrinking;
 mod sizing;
 mod sparse;
 mod spelling;
-
 mod streaming;
 mod subreading;
 mod subtables;
@@ -49,8 +48,8 @@ mod word;
 mod writing;
 
 pub use dump::{Dump, DumpFault, DumpReadFault};
-pub use dumpreading::read_dump;
 pub use dumping::{StreamFault, stream_dump};
+pub use dumpreading::read_dump;
 use szg_file::{Map, PartBytes};
 use szg_values::{Kind, Material};
 pub use table::{build, build_small, build_small_watched, build_watched};

@@ -13,7 +13,9 @@ ghost use Rattle.szg_build.specs.Writing.{Writing};
 use crate::dump_sink::DumpSink;
 use crate::outgoing::{Outgoing, flush};
 use crate::places::places;
-use crate::writing::{put_flags_and_map, put_front, put_parts, put_number, put_pair, put_place, run_length};
+use crate::writing::{
+    put_flags_and_map, put_front, put_number, put_pair, put_parts, put_place, run_length,
+};
 use szg_file::{SinkFault, TableIndex, ValueSink, WriteFault};
 use szg_io::Output;
 use szg_values::Kind;
@@ -286,10 +288,7 @@ fn add_values<W: Output>(
 }
 
 /// Writes what is left where no values are to come, and the bytes that are still buffered.
-pub(crate) fn end_dump<W: Output>(
-    sink: &mut DumpSink<'_>,
-    output: &mut W,
-) -> Result<(), WriteFault>
+pub(crate) fn end_dump<W: Output>(sink: &mut DumpSink<'_>, output: &mut W) -> Result<(), WriteFault>
     ensures { OnOk result (Gives W.Output output.old output.new (sink.old.outgoing.held.items ++ text_left sink.old []) 0) }
 {
     put_equal(
