@@ -133,15 +133,7 @@ fn add_pairs<V: Watcher>(
             &mut Unwatched,
         )?;
         let bounds = later_bounds(round);
-        drop_pairs(
-            alloc,
-            leaves,
-            more,
-            bounds,
-            blend_for(round),
-            best,
-            watcher,
-        )?;
+        drop_pairs(alloc, leaves, more, bounds, blend_for(round), best, watcher)?;
     }
     Ok(())
 }
