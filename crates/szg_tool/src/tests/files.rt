@@ -10,6 +10,7 @@ use std::process::Abort;
 use std::rt::Files;
 use std::test::Fail;
 use std::time::Clock;
+use szg_build::Unwatched;
 use szg_files::{MemoryFile, MemoryFiles};
 use szg_io::Std;
 
@@ -32,6 +33,7 @@ fn check_on_files(
         rt,
         &mut reader,
         &mut writer,
+        &mut Unwatched,
     );
     assert_eq!(rt;
         writer.inner().as_slice(),
