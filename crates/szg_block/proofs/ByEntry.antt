@@ -108,11 +108,11 @@ module _ (sub : Sub) (layout : Layout) (is : layout_of sub ≡ Some layout) (siz
     (all : IfSome (layout_of sub) (λ layout. count ≡ layout.blocks)) (whole : IfSome (layout_of sub) (λ layout. (k : ℕ) → k < layout.blocks → length (bytes k) ≡ 2 ^ layout.block_bits))
     (sound : IsSoundOver sub (packed_blocks bytes count) size) (i : ℕ) (below : i < size) (j p : ℕ)
     (block : IfSome (layout_of sub) (λ layout. j ≡ (block_location layout i).list)) (item : IfSome (layout_of sub) (λ layout. p ≡ (block_location layout i).item)) where
-  pub stands : IsValueAt layout (packed_blocks bytes count) size i j p (bytes j)
-  stands = value_at layout size count bytes (rw is at head).1 accepted (rw is at all) (rw is at whole) (rw is at sound) i j p below (rw is at block) (rw is at item)
+  pub is_value : IsValueAt layout (packed_blocks bytes count) size i j p (bytes j)
+  is_value = value_at layout size count bytes (rw is at head).1 accepted (rw is at all) (rw is at whole) (rw is at sound) i j p below (rw is at block) (rw is at item)
 
   pub steps : (moves words pairs : ℕ) → IfSome (layout_of sub) (λ layout. moves ≡ move_count layout i)
       → words ≡ (word_at layout.code layout.entries (bits (bytes j)) p).list + 1 → pairs ≡ pairs_above layout.code layout.entries (bits (bytes j)) p
       → (let s : Steps = record { moves = moves; words = words; descents = pairs; fetches = 1 } in s) ≡ steps_from (Some layout) (packed_blocks bytes count) i
   steps moves words pairs em ew ep =
-      steps_are layout size count bytes (rw is at head).1 accepted (rw is at all) (rw is at whole) (rw is at sound) i j p moves words pairs stands.there (rw is at block) (rw is at item) (rw is at em) ew ep
+      steps_are layout size count bytes (rw is at head).1 accepted (rw is at all) (rw is at whole) (rw is at sound) i j p moves words pairs is_value.there (rw is at block) (rw is at item) (rw is at em) ew ep

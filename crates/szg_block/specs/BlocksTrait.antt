@@ -7,7 +7,7 @@ use Rattle.std.specs.List.{flat_map, range_with_len}
 abbrev pub raised : ℕ → ℕ → ℕ
 raised count more = min (count + more) (2 ^ 64 - 1)
 
--- a count increased by at least one, or is at the greatest 64-bit value
+-- the count rose by at least one, or is at the greatest 64-bit value
 abbrev pub Rose : ℕ → ℕ → Type 0
 Rose old new = raised old 1 ≤ new
 

@@ -17,7 +17,7 @@ use Rattle.szg_block.specs.Steps.{block_location, move_count, word_count, descen
 use Rattle.szg_block.specs.Subtable.{IsLayoutFault, steps_from}
 use Rattle.szg_block.specs.declared.SubFault.TheVariants.{ShortTotal, SparseEntry as BadEntry, Word}
 
--- a block has at most one list of m values
+-- the bits of a block determine its first m values
 abbrev pub OneListOfValues : Type 0
 OneListOfValues = (layout : Layout) → IsCode layout.code → (block : List ℕ) (m : ℕ) (xs ys : List ℕ) → HasValues layout block m xs → HasValues layout block m ys → xs ≡ ys
 

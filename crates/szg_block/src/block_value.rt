@@ -1,4 +1,5 @@
-//! The block that contains a value, and the value, decoded from block bytes that the caller provides.
+//! Look-ups in two steps: first the block that contains a value, then the value, decoded from block bytes that the
+//! caller provides.
 
 ghost use Rattle.std.specs.Prelude.{◌≡◌, ◌<◌, ◌^◌, IfErr, IfNone, IfOk, IfSome, IsSomeAnd, None, OnOk, Some, length, slice_get};
 ghost use Rattle.szg_block.specs.Block.{block_values};
@@ -29,9 +30,8 @@ pub fn find_block(sub: &Sub, size: u64, i: u64) -> Option<u32>
 
 /// Decodes value `i` of a sound subtable with `size` values from the bytes of its block.
 ///
-/// `block` may hold any bytes: the result is the value that their words spell at the index that value `i` has in its
-/// block. None if they spell too few values, if `block` does not have the length of a block, and in a constant
-/// subtable.
+/// `block` may hold any bytes: the result is decoded from them, at the index that value `i` has in its block. None if
+/// they decode to too few values, if `block` does not have the length of a block, and in a constant subtable.
 pub fn value_in_block(sub: &Sub, size: u64, i: u64, block: &[u8]) -> Option<u16>
     requires sound { IsSound sub.now size }
     requires below { i < size }

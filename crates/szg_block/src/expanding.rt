@@ -146,7 +146,7 @@ impl<'a, S: Source + Drop> Sound<'a, Paged<S>> {
         ensures requested { result.requested ≡ S.requested (source_of blocks) }
         ensures cost { result.cost ≡ size_of blocks }
     {
-        // a fact that look-ups need: no word of the code begins another
+        // for proofs alone: the code is accepted, so no word is a prefix of another, which look-ups require
         let _accepted = blocks_in(sub);
         Sound {
             sub,

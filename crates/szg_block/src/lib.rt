@@ -1,7 +1,9 @@
 //! Subtables of a Syzygy table: their shape, the check that accepts exactly the sound ones, and the values of a
 //! sound one.
 //!
-//! A subtable is a constant, or blocks of packed words with a sparse index and lengths, as in de Man's format.
+//! A subtable is constant, or has blocks of packed words with a sparse index and block lengths, as in de Man's format.
+//! It is sound if its blocks have enough values, each sparse entry leads to the middle of its span, and the bits of
+//! each block decode to all values that the block needs.
 #![tactic(auto)]
 
 ghost use Rattle.std.specs.Prelude.{◌≡◌, ◌<◌, ◌≤◌, ◌↔◌, ◌^◌, ◌/◌, ◌%◌, IsTrue, IfErr, IfNone, IfSome, IsSomeAnd, OnOk, length};
@@ -42,8 +44,7 @@ mod words;
 /// An entry of the sparse index.
 #[derive(Clone, Copy)]
 pub struct Entry {
-    /// The number of a block or of an extra length. If it equals the number of all lengths, it means the end after the
-    /// last one.
+    /// The number of a block or of an extra length; or the number of all lengths, for the end after the last one.
     pub block: u32,
     /// A number of values, counted from the start of that block.
     pub offset: u16,
@@ -91,7 +92,8 @@ pub enum SubFault {
     ShortTotal,
     /// The first entry of the sparse index that does not lead to the middle of its span.
     SparseEntry(u64),
-    /// The first block whose own bits do not spell the values that it needs.
+    /// The first block whose bits decode to fewer values than it needs: its length plus one, or fewer if the subtable
+    /// ends before.
     Word(u32),
 }
 
@@ -213,8 +215,8 @@ pub fn check_index(sub: &Sub, size: u64) -> Result<(), SubFault>
 /// Checks that the words of block `n`, whose bytes are `block`, spell the values that the block needs. The subtable
 /// has `size` values and is not constant, `n` is one of its blocks, and `block` has the length of its blocks.
 ///
-/// Errors: `Word(n)` if the block's own bits do not spell these values. Each call takes time proportional to `n`, since
-/// it adds the lengths of all blocks before `n`.
+/// Errors: `Word(n)` if the block's own bits do not spell these values. Each call also adds the lengths of all blocks
+/// before `n`, which takes time proportional to `n`.
 pub fn check_block(sub: &Sub, size: u64, n: u32, block: &[u8]) -> Result<(), SubFault>
     requires head { IsShapedHead sub.now size }
     requires there { IsSomeAnd (layout_of sub.now) (λ layout. n < layout.blocks) }

@@ -39,7 +39,7 @@ fn count_of(dict: &Dict, words: NextWords) -> u64
     }
 }
 
-/// Returns the value at `index` in one or two words.
+/// Returns the value at `index` among the values of one or two words.
 #[inline(always)]
 fn value_in(dict: &Dict, words: NextWords, index: u16) -> u16
     requires there { AreSymbols dict.now (symbols_of words) }
@@ -67,12 +67,12 @@ struct Reached<'a> {
     count: u64,
     /// The value's index among them.
     index: u64,
-    /// The reader after them.
+    /// The reader, moved past these words.
     bits: Bits<'a>,
 }
 
-/// Decodes one word, or with `TWO` one or two, moves the reader past them, and returns their symbols. None if the bits
-/// left do not begin with a word.
+/// Decodes one word, or if `TWO` one or two words, moves the reader past them, and returns their symbols. None if the
+/// bits left do not begin with a word.
 #[inline(always)]
 fn step<const TWO: bool>(code: &Code, bits: &mut Bits) -> Option<NextWords>
     ensures found { IfSome result (λ words. TakesWords code.now bits.old bits.new (symbols_of words)) }
@@ -123,7 +123,7 @@ fn reach_by<'a, const TWO: bool>(
     None
 }
 
-/// `reach_by`, with two words at a step if the code is worth it.
+/// `reach_by` with two words at a step if the code stores the first two words of each byte.
 #[inline(always)]
 fn reach<'a>(code: &Code, dict: &Dict, left: Bits<'a>, index: u64) -> Option<Reached<'a>>
     requires accepted { IsCode code.now }
@@ -218,8 +218,8 @@ pub fn find_in_block(code: &Code, dict: &Dict, block: &[u8], index: u64) -> Foun
 /// Appends the first `count` values of a symbol. The values of a pair are those of its left symbol, then those of
 /// its right symbol.
 ///
-/// It makes one call for each pair and each leaf that it expands. The recursion is as deep as pairs are nested,
-/// below 256.
+/// It makes one call for each pair and each leaf that it expands. Pairs are nested at most 255 deep, and so is the
+/// recursion.
 fn push_symbol(
     dict: &Dict,
     symbol: u16,

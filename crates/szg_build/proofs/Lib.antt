@@ -50,3 +50,5 @@ pub mod WordBits
 pub mod StreamLaws
 pub mod StreamSteps
 pub mod StreamedDumps
+pub mod StoredLaws
+pub mod TableDumps

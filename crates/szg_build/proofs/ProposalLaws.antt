@@ -1,4 +1,4 @@
--- What the tests of a proposal show, for each loop up to the item reached.
+-- What the tests of a proposal establish: the invariant of each of their loops.
 use Rattle.std.proofs.Common.{ℕ, zero, suc, ◌≡◌, ◌+◌, ◌<◌, ◌≤◌, Bool, true, false, cond, List, [], ◌∷◌, ◌++◌, Option, Some, None, length, take, drop, get_or, set, refl, sym, ap, subst, ◌∙◌, arith, inl, inr, length-append}
 use Rattle.std.specs.Prelude.{◌⊎◌, not, IfSome}
 use Rattle.std.specs.List.{slice_get, AllByRecursion}

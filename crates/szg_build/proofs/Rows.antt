@@ -1,4 +1,4 @@
--- Rows of dumps and of refusals, computed through the definitions.
+-- Examples of dumps and of refusals, computed through the definitions.
 use Rattle.std.proofs.Common.{◌≡◌, ℕ, List, [], ◌∷◌, ◌++◌, length, refl, take, replicate, Option, Some, None}
 use Rattle.std.specs.Prelude.{codes}
 use Rattle.szg_values.specs.Material.{Sides, parsed}

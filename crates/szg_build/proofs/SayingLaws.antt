@@ -1,4 +1,4 @@
--- The meaning of a line: if its words have their values, and if they do not.
+-- The meaning of a line, by whether its words follow the pattern and its values can be parsed.
 use Rattle.std.proofs.Common.{◌≡◌, ℕ, zero, suc, map, ◌+◌, ◌<◌, ◌≤◌, Bool, true, false, List, [], ◌∷◌, ◌++◌, length, get_or, refl, sym, ap, subst, ◌∙◌, arith, Option, Some, None, Ok, Err}
 use Rattle.std.specs.Prelude.{codes, bytes_eq, nat_le, ◌==◌, ◌||◌, Result}
 use Rattle.std.specs.Fmt.{decimal}

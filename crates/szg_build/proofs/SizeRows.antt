@@ -1,4 +1,4 @@
--- Rows of sizes: the subtables that the parts of a plan give, through the definitions of the layers below.
+-- Examples of sizes: the subtables that the parts of a plan give, through the definitions of the layers below.
 use Rattle.std.proofs.Common.{◌≡◌, ℕ, List, [], ◌∷◌, replicate, refl, ap, Some, None}
 use Rattle.std.specs.Prelude.{map}
 use Rattle.szg_values.specs.Material.{Sides}

@@ -1,5 +1,5 @@
 -- The text that is left of a dump, as its values come.
-use Rattle.std.proofs.Common.{◌≡◌, ℕ, zero, suc, ◌+◌, ◌-◌, ◌%◌, ◌<◌, ◌≤◌, Bool, true, false, List, [], ◌∷◌, ◌++◌, length, map, take, drop, replicate, get_or, min, flat_map, refl, sym, ap, subst, ◌∙◌, append_assoc, append-nil, arith, inl, inr, Option, None, Some}
+use Rattle.std.proofs.Common.{◌≡◌, ℕ, zero, suc, ◌+◌, ◌%◌, ◌<◌, ◌≤◌, Bool, true, false, List, [], ◌∷◌, ◌++◌, length, map, take, drop, replicate, get_or, min, flat_map, refl, sym, ap, ◌∙◌, append_assoc, append-nil, arith, inl, inr, Option, None}
 use Rattle.std.specs.Prelude.{◌⊎◌, ◌==◌, codes, slice_index}
 use Rattle.std.specs.Fmt.{decimal}
 use Rattle.std.proofs.lemmas.Bool.{eq-eqb}
@@ -17,7 +17,7 @@ use Rattle.szg_file.specs.Index.{index_of}
 use Rattle.szg_file.proofs.TableFinds.{side_lengths}
 use Rattle.szg_build.specs.Built.{plan_flags, value_lists}
 use Rattle.szg_build.specs.Dump.{SubDump, places_of, subs_of, mapped_subs}
-use Rattle.szg_build.specs.Text.{Form, single, runs, with_value, runs_of, line_text, lines_text, flat_map_beside, part_word, flags_lines, sub_lines, value_lines, values_lines}
+use Rattle.szg_build.specs.Text.{Form, single, runs, with_value, runs_of, line_text, lines_text, flat_map_beside, part_word, flags_lines, sub_lines, value_lines}
 use Rattle.szg_build.specs.Streaming.{SubHead, no_head, sub_of, mapped_heads, heads_of, heads_text, heads_with, head_lines, subs_text, rest_text}
 use Rattle.szg_build.proofs.OwnDumps.{values_count}
 use Rattle.szg_build.proofs.TableLaws.{flags_shown}

@@ -1,5 +1,5 @@
--- A sink of a dump goes on: what it wrote, what is buffered and what is left to write.
-use Rattle.std.proofs.Common.{◌≡◌, ℕ, ◌≤◌, List, [], ◌∷◌, ◌++◌, replicate, length, min, drop, flat_map, refl, sym, ap, subst, ◌∙◌, append_assoc, append-nil, Ok, Err}
+-- The steps of a dump's sink: what it wrote, what is buffered, and what is left to write.
+use Rattle.std.proofs.Common.{◌≡◌, ℕ, List, [], ◌∷◌, ◌++◌, replicate, drop, flat_map, refl, sym, ap, subst, ◌∙◌, append_assoc, append-nil, Ok, Err}
 use Rattle.std.specs.List.{FoldsTo}
 use Rattle.std.specs.Prelude.{Result, OnOk}
 use Rattle.szg_file.specs.declared.fault.WriteFault.{WriteFault}
@@ -10,7 +10,7 @@ use Rattle.szg_io.proofs.DeviceLaws.{Gives-none, Gives-on}
 use Rattle.szg_file.specs.Streaming.{Accepted}
 use Rattle.szg_build.specs.Dump.{places_of}
 use Rattle.szg_build.specs.Shown.{form_of}
-use Rattle.szg_build.specs.Streaming.{Goes, heads_of, IsDone, rest_text, subs_text, text_left}
+use Rattle.szg_build.specs.Streaming.{Goes, heads_of, IsDone, rest_text, text_left}
 use Rattle.szg_build.specs.Text.{lines_text, value_lines}
 use Rattle.szg_build.specs.Writing.{Writing}
 use Rattle.szg_build.specs.declared.dump_sink.DumpSink.{DumpSink}
@@ -18,7 +18,7 @@ use Rattle.szg_build.proofs.StreamLaws.{run_whole, subs_done}
 
 -- nothing was taken or written
 pub goes_none : {W : Type 0} (writing : output.Ghosts W) (s : DumpSink) (out : W) → Goes writing [] s out s out
-goes_none writing s out = record { bytes = []; given = Gives-none writing out 0; whole = λ rest. refl }
+goes_none writing s out = record { bytes = []; given = Gives-none writing out 0; quiet = refl; whole = λ rest. refl }
 
 -- one call after another
 pub goes_then : {W : Type 0} {writing : output.Ghosts W} (xs ys : List ℕ) {s : DumpSink} {out : W} {s' : DumpSink} {out' : W} {s'' : DumpSink} {out'' : W} →
@@ -26,6 +26,7 @@ pub goes_then : {W : Type 0} {writing : output.Ghosts W} (xs ys : List ℕ) {s :
 goes_then xs ys {s = s} {s' = s'} {s'' = s''} first second = record {
   bytes = first.bytes ++ second.bytes;
   given = Gives-on first.bytes second.bytes 0 first.given second.given;
+  quiet = second.quiet ∙ first.quiet;
   whole = λ rest.
       ap (λ (z : List ℕ). s.outgoing.held.items ++ text_left s z) (append_assoc xs ys rest)
       ∙ first.whole (ys ++ rest)
@@ -43,6 +44,7 @@ pub goes_written : {W : Type 0} {writing : output.Ghosts W} (values text : List 
 goes_written values text {s = s} {s' = s'} h left = record {
   bytes = h.bytes;
   given = h.given;
+  quiet = h.answer.1;
   whole = λ rest.
       ap (λ (z : List ℕ). s.outgoing.held.items ++ z) (left rest)
       ∙ sym (append_assoc s.outgoing.held.items text (text_left s' rest))
@@ -55,6 +57,7 @@ pub goes_beyond : {W : Type 0} (writing : output.Ghosts W) (values : List ℕ) (
 goes_beyond writing values s out done = record {
   bytes = [];
   given = Gives-none writing out 0;
+  quiet = refl;
   whole = λ rest. ap (λ (z : List ℕ). s.outgoing.held.items ++ z) (same (values ++ rest) ∙ sym (same rest));
 } where
   same : (values : List ℕ) → text_left s values ≡ text_left s []

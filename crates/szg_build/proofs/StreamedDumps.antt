@@ -58,6 +58,20 @@ whole_text form x last t is ends accepted =
     ∙ append_assoc front parts (lines_text (flat_map_beside (sub_lines (form_of form) c.kind) (places_of c.material c.kind) (subs_of c.kind (plan_flags c) c.maps (value_lists c))))
     ∙ sym (dump_apart (form_of form) (own_dump c))
 
+-- what was written before the subtables, what is buffered and what is left to write
+pub front_and_left : (form : ℕ) (x : Index) (last : List ℕ) (t : Shown) (s : DumpSink) (bytes values : List ℕ) →
+    s.index.now ≡ x → (s.form ≡ form) × (s.next ≡ 0) × (s.left ≡ 0) × (s.count ≡ 0) →
+    bytes ++ s.outgoing.held.items ≡ lines_text (front_lines (form_of form) x.material x.kind last) ++ lines_text (flat_map_beside part_lines (parts_of x.material) x.parts) →
+    values ≡ wanted_of all_wanted t.contents → x ≡ index_of t.contents → last ≡ t.contents.last → IsAccepted t.contents t.filled →
+    bytes ++ (s.outgoing.held.items ++ text_left s values) ≡ dump_text (form_of form) (own_dump t.contents)
+front_and_left form x last t s bytes values index begun front all is ends accepted =
+    let begin = lines_text (front_lines (form_of form) x.material x.kind last) ++ lines_text (flat_map_beside part_lines (parts_of x.material) x.parts) in
+    sym (append_assoc bytes s.outgoing.held.items (text_left s values))
+    ∙ ap (λ (z : List ℕ). z ++ text_left s values) front
+    ∙ ap (λ (z : List ℕ). begin ++ text_left s z) all
+    ∙ ap (λ (z : List ℕ). begin ++ z) (begun_text s form x (wanted_of all_wanted t.contents) index begun.0 begun.1 begun.2 begun.3)
+    ∙ whole_text form x last t is ends accepted
+
 -- what was written before the blocks, for their values and at the end
 pub streamed_text : {W : Type 0} (writing : output.Ghosts W) (form : ℕ) (x : Index) (last : List ℕ) (t : Shown) (s : DumpSink) (s' : DumpSink) (out out1 out2 out3 : W) →
     s.index.now ≡ x → (s.form ≡ form) × (s.next ≡ 0) × (s.left ≡ 0) × (s.count ≡ 0) →
@@ -68,12 +82,6 @@ pub streamed_text : {W : Type 0} (writing : output.Ghosts W) (form : ℕ) (x : I
 streamed_text writing form x last t s s' out out1 out2 out3 index begun front goes end is ends accepted =
     let all = wanted_of all_wanted t.contents in
     let last_text = s'.outgoing.held.items ++ text_left s' [] in
-    let begin = lines_text (front_lines (form_of form) x.material x.kind last) ++ lines_text (flat_map_beside part_lines (parts_of x.material) x.parts) in
     let told : front.0 ++ (goes.bytes ++ last_text) ≡ dump_text (form_of form) (own_dump t.contents) =
-    ap (λ (z : List ℕ). front.0 ++ z) (sym (goes.whole []))
-    ∙ sym (append_assoc front.0 s.outgoing.held.items (text_left s (all ++ [])))
-    ∙ ap (λ (z : List ℕ). z ++ text_left s (all ++ [])) front.2
-    ∙ ap (λ (z : List ℕ). begin ++ text_left s z) (append-nil all)
-    ∙ ap (λ (z : List ℕ). begin ++ z) (begun_text s form x all index begun.0 begun.1 begun.2 begun.3)
-    ∙ whole_text form x last t is ends accepted in
+    ap (λ (z : List ℕ). front.0 ++ z) (sym (goes.whole [])) ∙ front_and_left form x last t s front.0 (all ++ []) index begun front.2 (append-nil all) is ends accepted in
     subst (λ (z : List ℕ). Gives writing out out3 z 0) told (Gives-on front.0 (goes.bytes ++ last_text) 0 front.1 (Gives-on goes.bytes last_text 0 goes.given end))

@@ -1,4 +1,4 @@
--- A line of fixed words and values is cut into these words, whatever words the values are; no other text is cut into
+-- Cutting a line of fixed words and values returns these words, whatever the values are, and no other line is cut into
 -- them.
 use Rattle.std.proofs.Common.{◌≡◌, ℕ, zero, suc, Bool, true, false, List, [], ◌∷◌, ◌++◌, length, take, drop, get_or, Bor, refl, sym, ap, subst, ◌∙◌, arith, inl, inr, Option, Some, None}
 use Rattle.std.specs.Prelude.{◌==◌, ◌<◌, ◌+◌, MatchOption, bytes_eq, option_map, if◌then◌else◌}

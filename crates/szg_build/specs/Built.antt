@@ -28,7 +28,7 @@ subtables_in t = slotted (slots t.material t.kind t.parts) t.subtables
 abbrev pub value_lists : Contents → List (List ℕ)
 value_lists t = map (values_of t.kind) (subtables_in t)
 
--- the flags of a DTZ table's parts, without flag 128 (constant); a WDL table has none
+-- the flags 1, 2, 4, 8 and 16 of a DTZ table's parts; a WDL table has none
 abbrev pub plan_flags : Contents → List ℕ
 plan_flags t = elim t.kind [ Wdl ↦ [] | Dtz ↦ map (λ subtable. flags_of subtable % 32) t.subtables ]
 
@@ -43,8 +43,8 @@ flags_bytes flags [] = []
 flags_bytes [] (subtable ∷ subtables) = flags_byte 0 subtable ∷ flags_bytes [] subtables
 flags_bytes (first ∷ flags) (subtable ∷ subtables) = flags_byte first subtable ∷ flags_bytes flags subtables
 
--- a subtable that is not constant has the plan's block bits and span bits, and its pairs are those of the plan's
--- rounds
+-- a subtable that is not constant has the plan's block bits and span bits, and at most as many pairs as the plan has
+-- rounds, as IsPaired says
 abbrev pub IsPacked : Plan → Slot × Subtable → Type 0
 IsPacked plan pair = IfSome (layout_in pair.1) (λ layout.
     (layout.block_bits ≡ plan.block_bits) × (layout.span_bits ≡ plan.span_bits)
@@ -61,7 +61,7 @@ pub record IsBuilt (plan : Plan) (lists : List (List ℕ)) (t : Contents) : Type
   pub packed : AllByRecursion (IsPacked plan) (subtables_in t)
   pub values : value_lists t ≡ lists
 
--- a subtable that is not constant has the pairs of some number of rounds
+-- a subtable that is not constant has pairs as IsPaired says, for some number of rounds
 abbrev pub IsSmallPacked : Slot × Subtable → Type 0
 IsSmallPacked pair = IfSome (layout_in pair.1) (λ layout. (rounds : ℕ) × IsPaired layout (packed_in pair.1) pair.0.size rounds)
 

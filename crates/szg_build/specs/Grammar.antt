@@ -72,7 +72,7 @@ number_line pattern limit = do
   values ← line_of pattern
   number_at values 0 limit
 
--- `n` texts of one kind
+-- `count` texts, one after another
 abbrev pub repeated : {A : Type 0} → ℕ → Lines A → Lines (List A)
 repeated zero lines = means []
 repeated (suc count) lines = do

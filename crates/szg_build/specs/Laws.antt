@@ -60,8 +60,8 @@ pub record IsPartTold (number : ℕ) (part : Part) : Type 0 where
   pub men : AreNumbers 1 part.men
   pub short : length part.order + length part.men ≤ 31
 
--- a dump that has a text: the material has a name, and the numbers of parts, flags, maps and lists are those that
--- material and kind require
+-- a dump whose text is read back: the material has a name, and the numbers of parts, flags, maps and lists are those
+-- that material and kind require
 pub record IsTold (form : Form) (sizes : Sides → Kind → List Part → Option (List ℕ)) (dump : Dump) : Type 0 where
   pub material : IsMaterial dump.material
   pub last_bytes : AreNumbers 1 dump.last
@@ -94,7 +94,8 @@ abbrev pub OwnDumpIsRead : Type 0
 OwnDumpIsRead = (form : Form) (dump : Dump) (t : Contents) (fill rest : List ℕ) → IsMaterial t.material → IsAccepted t fill → IsDumpOf dump t →
     verdict dump_format 0 (dump_text form dump ++ rest) ≡ good dump (length (dump_lines form dump)) rest
 
--- two tables that differ in nothing but byte 4, the packing of their values and the second bytes of constant subtables
+-- two tables that are equal but for byte 4, flags that a dump leaves out, the packing of their values and the second
+-- bytes of constant subtables
 pub record HasSameValues (t other : Contents) : Type 0 where
   pub material : other.material ≡ t.material
   pub kind : other.kind ≡ t.kind

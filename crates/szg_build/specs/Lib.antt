@@ -19,3 +19,5 @@ pub mod Fronts
 pub mod Rests
 pub mod Wholes
 pub mod Streaming
+pub mod BlockValues
+pub mod Stored

@@ -51,7 +51,7 @@ abbrev pub words_of : List ℕ → List (List ℕ)
 words_of [] = [] ∷ []
 words_of (byte ∷ bytes) = elim (byte == 32) [ true ↦ [] ∷ words_of bytes | false ↦ with_byte byte (words_of bytes) ]
 
--- how many lines end in these bytes
+-- the number of line ends (0A) among these bytes
 abbrev pub line_ends : List ℕ → ℕ
 line_ends [] = 0
 line_ends (byte ∷ bytes) = elim (byte == 10) [ true ↦ suc (line_ends bytes) | false ↦ line_ends bytes ]

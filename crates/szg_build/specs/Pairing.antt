@@ -33,7 +33,7 @@ pairs_in entries = filter (λ entry. not (is_leaf entry)) entries
 abbrev pub values_of : List (List ℕ) → List ℕ → List ℕ
 values_of entries symbols = flat_map (expansion_of entries) symbols
 
--- the shortest list of symbols with at least m values whose words begin the block's own bits
+-- the shortest list of symbols that has at least m values and whose words are at the start of the block's bits
 pub record IsShortest (layout : Layout) (block : List ℕ) (m : ℕ) (symbols : List ℕ) : Type 0 where
   pub spelled : Spells layout.code (bits block) symbols
   pub enough : m ≤ length (values_of layout.entries symbols)
@@ -74,8 +74,8 @@ abbrev pub IsUsed : List (List ℕ) → List ℕ → Type 0
 IsUsed entries symbols = (s : ℕ) (entry : List ℕ) → slice_get entries s ≡ Some entry → is_leaf entry ≡ false → IsIn symbols s ⊎ IsInPair entries s
 
 -- The entries of a subtable: the pairs, and one leaf for each different value. `lists` are the shortest lists of
--- symbols for the needed values of the blocks. In these lists, joined, and in the pairs each pair is used, and no
--- more pairs are to be made.
+-- symbols for the needed values of the blocks. Each pair occurs in these lists or in another pair, and no more pairs
+-- are to be made.
 pub record IsPaired (layout : Layout) (packed : List ℕ) (size rounds : ℕ) : Type 0 where
   pub lists : List (List ℕ)
   pub count : length lists ≡ layout.blocks

@@ -28,7 +28,7 @@ plan_seen plan = record {
   last = plan.last;
 }
 
--- a small plan, with any numbers that are in their ranges
+-- a small plan; its block bits, span bits and rounds are in their ranges, and do not matter
 abbrev pub small_seen : SmallPlan → seen.Plan
 small_seen plan = record {
   material = plan.material;

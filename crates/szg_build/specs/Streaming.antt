@@ -1,4 +1,4 @@
--- The lines of a dump, where the values of its subtables come one after another.
+-- The lines of a dump that is written while the values of its subtables arrive.
 use Rattle.std.specs.Prelude.{◌≡◌, ℕ, ◌%◌, ◌≤◌, List, [], ◌∷◌, ◌++◌, length, min, map, take, drop, replicate, Option, None, codes}
 use Rattle.std.specs.Fmt.{decimal}
 use Rattle.szg_io.specs.Moved.{Gives}
@@ -35,7 +35,7 @@ abbrev pub heads_with : Kind → List Slot → List ℕ → List (Option Map) �
 heads_with Wdl slots flags maps = map (λ slot. record { flags = 0; lists = None; size = slot.size }) slots
 heads_with Dtz slots flags maps = mapped_heads slots flags maps
 
--- the same, of a table
+-- the subtables of a table, without their values, from its index
 abbrev pub heads_of : Index → List SubHead
 heads_of x = heads_with x.kind (slots_in x) x.flags x.maps
 
@@ -60,8 +60,8 @@ subs_text form kind (place ∷ places) (head ∷ heads) values =
     ++ (lines_text (value_lines form (take head.size values)) ++ subs_text form kind places heads (drop head.size values))
 subs_text form kind _ _ values = []
 
--- the text that is still to be written: of a run of `count` equal values, of `left` values more of the same subtable, and
--- of the subtables after it
+-- the text that is still to be written: of a run of `count` equal values, of `left` more values of the same subtable,
+-- and of the subtables after it
 unfoldable pub rest_text : Form → Kind → List (ℕ × ℕ) → List SubHead → ℕ → ℕ → ℕ → List ℕ → List ℕ
 rest_text form kind places heads count value left values =
     lines_text (value_lines form (replicate count value ++ take left values)) ++ subs_text form kind places heads (drop left values)
@@ -71,11 +71,12 @@ abbrev pub text_left : DumpSink → List ℕ → List ℕ
 text_left s values =
     rest_text (form_of s.form) s.index.now.kind (drop s.next (places_of s.index.now.material s.index.now.kind)) (drop s.next (heads_of s.index.now)) s.count s.value s.left values
 
--- A sink took these values. What was written then, what is buffered and what is left to write is what was buffered and left
--- before, whatever values come after them.
+-- A sink took these values, and no write failed. Whatever values follow, the bytes written meanwhile, then those buffered
+-- now and the text left now are the bytes buffered and the text left before.
 pub record Goes {W : Type 0} (writing : output.Ghosts W) (values : List ℕ) (s : DumpSink) (out : W) (s' : DumpSink) (out' : W) : Type 0 where
   pub bytes : List ℕ
   pub given : Gives writing out out' bytes 0
+  pub quiet : writing.failures out' ≡ writing.failures out
   pub whole : (rest : List ℕ) → s.outgoing.held.items ++ text_left s (values ++ rest) ≡ bytes ++ (s'.outgoing.held.items ++ text_left s' rest)
 
 -- each subtable is begun, and the last one is whole

@@ -43,7 +43,7 @@ AreBuilt choice plan [] (values ∷ lists) (subtable ∷ subtables) =
 AreBuilt choice plan (first ∷ flags) (values ∷ lists) (subtable ∷ subtables) =
     IsBuiltSub plan.kind first values choice subtable × AreBuilt choice plan flags lists subtables
 
--- a part's numbers are bytes
+-- the order bytes and man bytes of a part are below 256
 abbrev pub IsOfBytes : Part → Type 0
 IsOfBytes part = AreNumbers 1 part.order × AreNumbers 1 part.men
 

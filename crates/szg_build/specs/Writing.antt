@@ -10,7 +10,7 @@ use Rattle.szg_build.specs.declared.outgoing.Outgoing.{Outgoing}
 abbrev pub told : ℕ → ℕ
 told number = min number (2 ^ 64 - 1)
 
--- These bytes were written. They and the bytes buffered now are the bytes buffered before and the text.
+-- These bytes were written. Followed by the bytes buffered now, they are the bytes buffered before and then the text.
 pub record Writes (text : List ℕ) (old new : Outgoing) (bytes : List ℕ) : Type 0 where
   pub counts : (count : ℕ) → old.out ≡ told count → new.out ≡ told (count + length bytes)
   pub whole : bytes ++ new.held.items ≡ old.held.items ++ text

@@ -35,11 +35,11 @@ pub(crate) struct Packing {
 pub(crate) enum Choice {
     /// These numbers.
     Fixed(Packing),
-    /// The numbers that take the fewest bytes.
+    /// Numbers with which a subtable takes few bytes, chosen by trial.
     Small,
 }
 
-/// Creates the dictionary of entries that are accepted.
+/// Creates a dictionary from entries that are known to be accepted.
 fn dictionary(alloc: Global, entries: Vec<[u8; 3]>) -> Result<Dict, AllocError>
     requires few { length entries.items ≤ 4095 }
     requires accepted { IsDictionary entries.items }
@@ -158,8 +158,9 @@ pub(crate) fn build_pairs<V: Watcher>(
     build_paired(alloc, values, flags, paired, packing, false)
 }
 
-/// Builds a subtable that is not constant, as small as it gets: pairs while they pay, words by the symbols' counts,
-/// and the block bits and span bits that take the fewest bytes. `beside` is as in `cost_of`.
+/// Builds a subtable that is not constant with few bytes: the pairs are those of `pair_shortly`, the code is the
+/// cheaper of a Huffman code and the truncated binary code, and block bits and span bits are those of `choose_sizes`.
+/// `beside` is as in `cost_of`.
 pub(crate) fn build_short_pairs<V: Watcher>(
     alloc: Global,
     values: &[u16],

@@ -95,7 +95,7 @@ fn flags_byte(sub: &Sub) -> u8
     }
 }
 
-/// Copies the flags of a DTZ table's parts, without flag 128 (constant). A WDL table has none.
+/// Copies the flags 1, 2, 4, 8 and 16 of a DTZ table's parts. A WDL table has none.
 pub(crate) fn copy_flags(alloc: Global, table: &Table) -> Result<Vec<u8>, AllocError>
     ensures { IfOk result (λ flags. flags.items ≡ plan_flags table.now.contents) }
 {
@@ -106,14 +106,14 @@ pub(crate) fn copy_flags(alloc: Global, table: &Table) -> Result<Vec<u8>, AllocE
 }
 
 /// Returns part and side of each subtable of a table.
-fn table_places(table: &Table) -> &'static [(u8, u8)]
+pub(crate) fn table_places(table: &Table) -> &'static [(u8, u8)]
     ensures { map Some (subtables_in table.now.contents) ≡ map (λ place. subtable_at table.now.contents place.0 place.1) result.now }
 {
     let _fill = table.fill();
     places(table.material(), table.kind())
 }
 
-/// Copies the flags of all subtables, without flag 128 (constant).
+/// Copies the flags 1, 2, 4, 8 and 16 of all subtables.
 fn copy_dtz_flags(alloc: Global, table: &Table) -> Result<Vec<u8>, AllocError>
     ensures { IfOk result (λ flags. flags.items ≡ map (λ subtable. flags_of subtable % 32) table.now.contents.subtables) }
 {

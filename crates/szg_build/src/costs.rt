@@ -35,8 +35,8 @@ pub(crate) struct Totals {
     pub most: u64,
 }
 
-/// Returns the bits by which a text's words exceed its entropy because each word has a bit or more, fractional bits
-/// included: by its entropy a symbol that is more than half of the text has less than a bit.
+/// Returns the bits by which a text's words exceed its entropy because no word is shorter than one bit, times
+/// 2^`FRACTION`: a symbol that is more than half of the text carries less than one bit.
 fn excess(totals: Totals) -> u64 {
     let Totals { symbols, most } = totals;
     if most <= symbols / 2 {
@@ -47,7 +47,8 @@ fn excess(totals: Totals) -> u64 {
         .wrapping_sub(most.wrapping_mul(log2(symbols)))
 }
 
-/// Returns the totals of a text in which a pair is written as its halves, which then occur as often as told.
+/// Returns the totals of a text in which a pair that occurred `count` times is written as its halves, which then occur
+/// `left` and `right` times.
 fn unpaired(totals: Totals, count: u64, left: u64, right: u64) -> Totals {
     Totals {
         symbols: totals.symbols.saturating_add(count),
@@ -55,8 +56,9 @@ fn unpaired(totals: Totals, count: u64, left: u64, right: u64) -> Totals {
     }
 }
 
-/// Estimates the bits that a pair saves which occurs `count` times, without those of its entry, by how often its
-/// halves occur beside it and by the text's totals. Fractional bits are included.
+/// Estimates the bits that a pair saves, times 2^`FRACTION`; the bits of its dictionary entry are not deducted. The
+/// pair occurs `count` times, its halves occur `left` and `right` times outside of it, and `is_double` is whether the
+/// halves are equal.
 pub(crate) fn saved_by(count: u64, left: u64, right: u64, is_double: bool, totals: Totals) -> u64 {
     let total = totals.symbols;
     let longer = weighed(total.saturating_add(count));
@@ -85,12 +87,12 @@ pub(crate) fn saved_by(count: u64, left: u64, right: u64, is_double: bool, total
         .wrapping_sub(with.wrapping_sub(other))
         .wrapping_add(excess(before))
         .wrapping_sub(excess(totals));
-    // rounding can make a saving of about nothing negative
+    // a saving near 0 may be rounded to a negative number
     if saved > u64::MAX / 2 { 0 } else { saved }
 }
 
-/// Estimates the bits of a symbol that occurs `count` times in a text of `total` symbols, fractional bits included: one
-/// bit or more.
+/// Estimates the bits of a symbol that occurs `count` times in a text of `total` symbols, times 2^`FRACTION`; at least
+/// one bit.
 pub(crate) fn bits_for(count: u64, total: u64) -> u64 {
     log2(total.max(1))
         .saturating_sub(log2(count.max(1)))

@@ -1,6 +1,6 @@
 //! Drops the pairs of a dictionary that save too little, from the last to the first.
 //!
-//! Nothing is proved of what is dropped but that it is safe: what is left is only proposed, and a proposal is tested.
+//! Only the safety of this code is proved: its result is a proposal, and proposals are tested.
 use crate::costs::{Totals, saved_by};
 use crate::leaves::{MAX_SYMBOLS, Paired};
 use crate::numbering::{at, counts_of, renamed};
@@ -55,7 +55,8 @@ fn uses_of(alloc: Global, entries: &[[u8; 3]]) -> Result<Vec<u64>, AllocError> {
     Ok(uses)
 }
 
-/// Returns the bits that a pair saves in a text with these totals: 0 where it doesn't occur, and only there.
+/// Returns the bits that a pair saves in a text with these totals, plus one unit of the last fractional bit. It returns
+/// 0 only if the pair does not occur.
 fn saved(counts: &[u64], entry: [u8; 3], count: u64, totals: Totals) -> u64 {
     if count == 0 {
         return 0;
@@ -71,7 +72,7 @@ fn saved(counts: &[u64], entry: [u8; 3], count: u64, totals: Totals) -> u64 {
     .saturating_add(1)
 }
 
-/// Returns the totals of a text whose symbols occur as often as counted.
+/// Returns the totals of a text with these counts of symbols.
 fn totals_of(counts: &[u64]) -> Totals {
     let mut totals = Totals {
         symbols: 0,
@@ -84,14 +85,14 @@ fn totals_of(counts: &[u64]) -> Totals {
     totals
 }
 
-/// Writes each occurrence of a pair as its halves: raises their counts.
+/// Counts each occurrence of a pair as one of its left and one of its right symbol.
 fn split(counts: &mut [u64], entry: [u8; 3], count: u64) {
     raise(counts, left(entry), count);
     raise(counts, right(entry), count);
 }
 
-/// Returns whether each symbol is kept. A pair that is no half of a kept one and saves at most `least` bits is dropped;
-/// its halves then occur as often as it did.
+/// Returns, for each symbol, whether it is kept. A pair is dropped if it is no half of a kept pair and saves at most
+/// `least` bits; its count is added to the counts of its two halves.
 fn keep(
     alloc: Global,
     entries: &[[u8; 3]],
@@ -162,8 +163,8 @@ fn kept_of(
     Ok(left)
 }
 
-/// Drops the pairs that save at most `least` bits, fractional bits included. The counts are then those of a text in
-/// which each dropped pair is written as its halves.
+/// Drops the pairs that save at most `least` bits (times 2^`FRACTION`) and are no half of a kept pair. The counts are
+/// then those of a text in which each dropped pair is written as its halves.
 pub(crate) fn without_poor(
     alloc: Global,
     mut dictionary: Counted,
@@ -174,8 +175,8 @@ pub(crate) fn without_poor(
     kept_of(alloc, &dictionary, &kept, &numbers)
 }
 
-/// Drops one pair. The counts are then those of a text in which it is written as its halves. None if the symbol is a leaf
-/// or a half of a pair, or isn't there.
+/// Drops one pair. The counts are then those of a text in which it is written as its halves. None if `symbol` is a
+/// leaf, a half of a pair, or not in the dictionary.
 pub(crate) fn without_one(
     alloc: Global,
     mut dictionary: Counted,
@@ -198,7 +199,7 @@ pub(crate) fn without_one(
     Ok(Some(kept_of(alloc, &dictionary, &kept, &numbers)?))
 }
 
-/// Drops the pairs that neither the text nor another pair has.
+/// Drops the pairs that occur neither in the text nor in a kept pair.
 pub(crate) fn without_unused(alloc: Global, paired: Paired) -> Result<Paired, AllocError> {
     let Paired {
         entries,

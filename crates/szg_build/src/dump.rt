@@ -80,7 +80,7 @@ pub enum DumpFault {
 pub enum DumpReadFault {
     /// The first line that is refused. Lines are counted from 1, and the number saturates at the greatest 64-bit value.
     Line { line: u64, fault: DumpFault },
-    /// No table can be built from what the lines so far say.
+    /// The table that the lines so far describe cannot be built.
     Build(BuildFault),
     /// The reader failed.
     Device,

@@ -17,10 +17,10 @@ use std::alloc::Global;
 use szg_file::{Ahead, ReadFault, TableIndex, WriteFault, stream_values};
 use szg_io::{Input, Output};
 
-/// Why a dump was not written whole while its file was read. A beginning of its text may be written.
+/// Why a dump was not written whole while its file was read. A beginning of its text may have been written.
 #[derive(Clone, Copy, Debug, PartialEq, Eq, Drop)]
 pub enum StreamFault {
-    /// The file is refused, or it has another index or other last bytes than was said.
+    /// The file is refused, or its index or its last bytes are not those passed to `stream_dump`.
     Changed,
     /// The reader failed.
     Input,
@@ -38,12 +38,14 @@ impl From<WriteFault> for StreamFault {
     }
 }
 
-/// Reads the file of a table that has this index and these last sixteen bytes, from the reader's first byte on, and writes
-/// the text of its dump: in form 1 a line for each value, in form 2 a line for each longest run of equal values. The lines
-/// of a block's values are written once the block passed its check. It keeps one block and its values in memory.
+/// Reads the file of a table that has this index and these last sixteen bytes, from the reader's first byte on, and
+/// writes the text of its dump: in form 1 a line for each value, in form 2 a line for each longest run of equal values.
+/// The lines of a block's values are written once the block passed its check. Of the blocks, one at a time is kept in
+/// memory, with its values.
 ///
-/// `stream_values` with `NoSink` before returns the index and the last bytes. Errors: `Changed`, if the file is not such a
-/// table's; a part of the text may be written then.
+/// A first reading by `stream_values` with `NoSink` returns the index and the last bytes. Errors: `Changed` if the file
+/// is not that of such a table, `Input` if the reader failed, `Output` if the writer failed, `Memory` if memory was
+/// refused. A part of the text may have been written then.
 pub fn stream_dump<R: Input + Ahead, W: Output>(
     alloc: Global,
     index: &TableIndex,

@@ -153,13 +153,13 @@ fn read_text<R: Input>(
 
 /// Reads the text of a dump, in the form that its first line names. No byte after its last line is read.
 ///
-/// Errors: `Line` has the reason and the number of the first refused line, which counts from 1 and saturates at the
-/// greatest 64-bit value. First a whole line is read, at most 80 bytes and its 0A; then the number of its words and its
-/// fixed words are checked, and then its values from left to right. Only in form 2, `Build` means that no table can be
-/// built from the lines so far: `Order` after the first line `sub` if the parts are not valid, `Length` after a line
-/// `values` whose number is not the subtable's size. `Device` means that the reader failed, `Memory` that memory was
-/// refused. After a refused line more bytes may have been read. If memory was refused, no more bytes were read ahead
-/// than the shortest dump that begins with these lines still has. If a dump was read, no byte was read ahead.
+/// Errors: `Line` has the reason and the number of the first refused line, counted from 1; the number saturates at the
+/// greatest 64-bit value. A whole line is read first, at most 80 bytes and its 0A; then the number of its words and its
+/// fixed words are checked, and then its values from left to right. `Build`, in form 2 only: no table can be built from
+/// the lines so far, `Order` after the first line `sub` if the parts are not valid, `Length` after a line `values`
+/// whose number is not the subtable's size. `Device`: the reader failed. `Memory`: memory was refused. After a refused
+/// line more bytes may have been read. If memory was refused, at most as many bytes were read ahead as the shortest
+/// dump that begins with these lines still has. If a dump was read, no byte was read ahead.
 pub fn read_dump<R: Input>(alloc: Global, input: &mut R) -> Result<Dump, DumpReadFault>
     // If the bytes to come are known, the result is their verdict, however the reader splits them.
     ensures verdict { IfSome (R.coming input.old) (λ bytes. FollowsLines (verdict dump_format 0 bytes) result (R.coming input.new)) }

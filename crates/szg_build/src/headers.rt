@@ -1,6 +1,7 @@
-//! Counts the bytes of a table before its sparse indexes, which small subtables are padded with.
+//! Counts the bytes of a table before its sparse indexes, on which the padding before the blocks of a small subtable
+//! depends.
 //!
-//! Nothing is proved of the count but that it is safe: by it a small plan only compares its tries.
+//! Only the safety of this code is proved: the builder only compares its tries by the count.
 use crate::Plan;
 use szg_file::Map;
 use szg_values::Kind;
@@ -30,7 +31,7 @@ fn count_with_blocks(kind: Kind, lists: &[&[u16]]) -> u64 {
     count
 }
 
-/// Returns an offset, or the one after it if it is odd.
+/// Rounds an offset up to an even number.
 fn to_even(offset: u64) -> u64 {
     offset.saturating_add(offset % 2)
 }
@@ -59,8 +60,8 @@ fn after_map(offset: u64, map: &Map) -> u64 {
     }
 }
 
-/// Returns the bytes of a table before its sparse indexes, but for those of the one subtable that isn't constant. None if
-/// there are more of these, since then the padding depends on all of them.
+/// Returns the number of bytes of a table before its sparse indexes, without the header of the one subtable that is not
+/// constant. None if more than one is not constant, since the padding then depends on all of them.
 pub(crate) fn bytes_beside(plan: &Plan, lists: &[&[u16]]) -> Option<u64> {
     let with_blocks = count_with_blocks(plan.kind, lists);
     if with_blocks > 1 {

@@ -4,6 +4,7 @@
 
 mod accepting;
 mod bitbuf;
+mod block_values;
 mod blocks;
 mod building;
 mod cells;
@@ -23,6 +24,7 @@ mod leaves;
 mod lengths;
 mod line;
 mod lines;
+mod neighbours;
 mod numbering;
 mod occurrences;
 mod outgoing;
@@ -37,27 +39,33 @@ mod shrinking;
 mod sizing;
 mod sparse;
 mod spelling;
+mod stored;
 mod streaming;
 mod subreading;
 mod subtables;
 mod table;
+mod table_dump;
+mod tally;
 mod tries;
 mod trimming;
 mod watching;
 mod word;
 mod writing;
 
+pub use block_values::BlockValues;
 pub use dump::{Dump, DumpFault, DumpReadFault};
 pub use dumping::{StreamFault, stream_dump};
 pub use dumpreading::read_dump;
+pub use stored::{StoredValues, stored_values};
 use szg_file::{Map, PartBytes};
 use szg_values::{Kind, Material};
 pub use table::{build, build_small, build_small_watched, build_watched};
+pub use table_dump::{DumpWriteFault, dump_table};
 use thiserror::Error;
 pub use watching::{Unwatched, Watcher};
 pub use writing::write_dump;
 
-/// What a table is built from, beside its values.
+/// What a table is built from, besides its values.
 #[derive(Drop)]
 pub struct Plan {
     pub material: Material,
@@ -75,7 +83,7 @@ pub struct Plan {
     pub last: [u8; 16],
 }
 
-/// What a small table is built from, beside its values: a `Plan` without block bits, span bits and rounds.
+/// What a small table is built from, besides its values: a `Plan` without block bits, span bits and rounds.
 #[derive(Drop)]
 pub struct SmallPlan {
     pub material: Material,

@@ -27,9 +27,9 @@ fn line_len(held: &[u8]) -> Option<usize>
     None
 }
 
-/// Reads a line and its 0A. The caller expects at least `least` bytes for these and at least `behind` bytes after them,
-/// so at least that much may be read at once. If the line is not shorter, no more than `behind` bytes after it have
-/// been read.
+/// Reads a line and its 0A. A valid text still has at least `least` bytes for them and at least `behind` bytes after
+/// them, so up to that many bytes are read at once. If the line with its 0A has `least` bytes or more, at most `behind`
+/// bytes after it have been read.
 ///
 /// Errors: `Field` if the line has more than 80 bytes before its 0A, `Ended` if the bytes end before it, `Device` if
 /// the reader failed.

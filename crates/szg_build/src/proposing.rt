@@ -1,8 +1,13 @@
-//! Proposes pairs. The time of a round is proportional to what it replaces; no round passes over the whole text.
+//! Proposes pairs.
+//!
+//! Pairs that make up much of a text are replaced by passes over it. Then the offsets of the frequent pairs are listed, and
+//! the time of a round is proportional to what it replaces. When the text has shrunk to half, its pairs are counted and
+//! listed anew; likewise, once, when no listed pair is left. So all of it takes time linear in the text.
 use crate::cells::Cells;
 use crate::leaves::{MAX_SYMBOLS, Paired, entry};
 use crate::occurrences::Occurrences;
-use crate::pairing::LEAST_COUNT;
+use crate::pairing::{LEAST_COUNT, Pair};
+use crate::tally::Tally;
 use crate::watching::Watcher;
 use std::alloc::{AllocError, Global};
 
@@ -13,11 +18,131 @@ pub(crate) struct Proposal {
     pub symbols: Vec<u16>,
 }
 
-/// Returns a number above all symbols that the rounds can make. Each round makes the text at least `LEAST_COUNT`
-/// symbols shorter.
-fn width_for(leaves: usize, symbols: usize, rounds: u32) -> u16 {
-    let most = (symbols / LEAST_COUNT as usize).min(rounds as usize);
-    leaves.saturating_add(most).min(MAX_SYMBOLS) as u16
+/// A pair that occurs once or more for each `DENSE_PART` symbols of a text is replaced by a pass over the text.
+const DENSE_PART: u64 = 8;
+
+/// The least number of pairs with lists for each round that is left, if there are enough pairs.
+const LISTED_PAIRS: usize = 2;
+
+/// A dictionary and a text, while pairs are made.
+#[derive(Drop)]
+struct Making {
+    entries: Vec<[u8; 3]>,
+    /// Between two rounds each symbol has one cell, unless pairs have lists.
+    text: Cells,
+    /// The number of rounds made, and the greatest number of them.
+    done: u32,
+    rounds: u32,
+    /// Whether rare pairs are listed, too.
+    lists_rare: bool,
+}
+
+impl Making {
+    /// Returns the square of the number of symbols: the number of pairs that are counted.
+    fn table(&self) -> u64 {
+        let symbols = self.entries.len().min(MAX_SYMBOLS) as u64;
+        symbols * symbols
+    }
+
+    /// Returns how many more symbols there can be. Each round makes the text at least `LEAST_COUNT` symbols shorter.
+    fn symbols_to_come(&self) -> usize {
+        let most = self.text.count() / LEAST_COUNT as usize;
+        most.min(self.rounds.saturating_sub(self.done) as usize)
+    }
+
+    /// Returns a number above all symbols that the rounds can make.
+    fn width(&self) -> u16 {
+        let most = self.entries.len().saturating_add(self.symbols_to_come());
+        most.min(MAX_SYMBOLS) as u16
+    }
+
+    /// Makes a pair the next symbol. None if no more may be made.
+    fn add(&mut self, pair: Pair) -> Result<Option<u16>, AllocError> {
+        let new = self.entries.len();
+        let is_over = self.done >= self.rounds || new >= MAX_SYMBOLS;
+        if is_over || usize::from(pair.left) >= new || usize::from(pair.right) >= new {
+            return Ok(None);
+        }
+        self.entries.push(entry(pair.left, pair.right))?;
+        self.text.add_pair(pair)?;
+        self.done = self.done.saturating_add(1);
+        Ok(Some(new as u16))
+    }
+
+    /// Returns whether a pass over the text, and one over all counts, costs less than the pair's lists.
+    fn is_dense(&self, count: u32) -> bool {
+        let cost = (self.text.count() as u64).saturating_add(self.table());
+        u64::from(count) >= cost / DENSE_PART
+    }
+
+    /// Returns how often a pair must occur to get a list. If the text is short beside the counts of all pairs, each pair
+    /// that may be made gets one.
+    fn least_count(&self, tally: &Tally, most: u32) -> u32 {
+        let width = u64::from(self.width());
+        if self.lists_rare || width * width > self.text.count() as u64 {
+            return LEAST_COUNT;
+        }
+        let rounds = self.rounds.saturating_sub(self.done) as usize;
+        tally.count_reached_by(&self.text, rounds.saturating_mul(LISTED_PAIRS), most)
+    }
+
+    /// Counts all pairs and makes the most frequent one, or several by their lists. Returns whether there may be more.
+    fn make_some<V: Watcher>(
+        &mut self,
+        alloc: Global,
+        watcher: &mut V,
+    ) -> Result<bool, AllocError> {
+        if self.done >= self.rounds || self.entries.len() >= MAX_SYMBOLS {
+            return Ok(false);
+        }
+        watcher.round(self.done, self.rounds);
+        let tally = Tally::new(alloc, &self.text)?;
+        let Some(best) = tally.most_frequent(&self.text) else {
+            return Ok(false);
+        };
+        if !self.is_dense(best.count) {
+            return self.make_listed(alloc, tally, best.count, watcher);
+        }
+        let Some(new) = self.add(best.pair)? else {
+            return Ok(false);
+        };
+        self.text.join_everywhere(best.pair, new);
+        Ok(true)
+    }
+
+    /// Makes pairs by their lists, until no listed pair is left, or until the text has shrunk so far that it is better
+    /// counted again. Returns whether there may be more.
+    fn make_listed<V: Watcher>(
+        &mut self,
+        alloc: Global,
+        tally: Tally,
+        most: u32,
+        watcher: &mut V,
+    ) -> Result<bool, AllocError> {
+        let least = self.least_count(&tally, most);
+        let mut occurrences = Occurrences::new(alloc, &self.text, tally, least, self.width())?;
+        let mut symbols = self.text.count();
+        let mut is_more = true;
+        for _ in self.done..self.rounds {
+            watcher.round(self.done, self.rounds);
+            let Some(picked) = occurrences.pick()? else {
+                is_more = least > LEAST_COUNT;
+                self.lists_rare = true;
+                break;
+            };
+            let Some(new) = self.add(picked.pair)? else {
+                is_more = false;
+                break;
+            };
+            let made = occurrences.make(alloc, &mut self.text, picked, new)?;
+            symbols = symbols.saturating_sub(made);
+            if symbols <= self.text.count() / 2 && self.table() <= symbols as u64 {
+                break;
+            }
+        }
+        self.text.close_up();
+        Ok(is_more)
+    }
 }
 
 /// Makes pairs of the most frequent neighbours of a text, at most `rounds` of them. Each occurs at least four times.
@@ -29,30 +154,23 @@ pub(crate) fn with_pairs<V: Watcher>(
     watcher: &mut V,
 ) -> Result<Paired, AllocError> {
     let Paired {
-        mut entries,
+        entries,
         lens,
         symbols,
     } = begun;
-    let width = width_for(entries.len(), symbols.len(), rounds);
-    let mut text = Cells::new(alloc, symbols, lens)?;
-    let mut occurrences = Occurrences::new(alloc, &text, width)?;
-    for done in 0..rounds {
-        watcher.round(done, rounds);
-        let new = text.symbols();
-        if new >= MAX_SYMBOLS {
+    let mut making = Making {
+        entries,
+        text: Cells::new(alloc, symbols, lens)?,
+        done: 0,
+        rounds,
+        lists_rare: false,
+    };
+    for _ in 0..rounds {
+        if !making.make_some(alloc, watcher)? {
             break;
         }
-        let Some(picked) = occurrences.pick()? else {
-            break;
-        };
-        let pair = picked.pair;
-        if usize::from(pair.left) >= new || usize::from(pair.right) >= new {
-            break;
-        }
-        entries.push(entry(pair.left, pair.right))?;
-        text.add_pair(pair)?;
-        occurrences.make(alloc, &mut text, picked, new as u16)?;
     }
+    let Making { entries, text, .. } = making;
     let (symbols, lens) = text.into_symbols();
     Ok(Paired {
         entries,

@@ -199,7 +199,7 @@ pub(crate) fn pair_up<V: Watcher>(
     pair_slowly(alloc, values, rounds, watcher)
 }
 
-/// Makes the pairs by which the subtable takes few bytes, and spells the values with them. Symbols are numbered by how
+/// Chooses pairs with which the subtable takes few bytes, and spells the values with them. Symbols are numbered by how
 /// often they occur in the text, the rarest first. `beside` is as in `cost_of`.
 pub(crate) fn pair_shortly<V: Watcher>(
     alloc: Global,

@@ -1,9 +1,9 @@
 //! Chooses the pairs of a small subtable and spells its values with them: tries several choices and counts their bytes.
 //!
-//! The first tries are the text without pairs, and the texts that pairing leaves with 256 pairs and with all pairs. From
-//! all pairs those are dropped that save the fewest bits; the values are spelled anew with what is left, and so on, with
-//! a bound that rises. Then pairs are added to the best text, and pairs are dropped again; in the end single pairs are.
-//! Nothing is proved of the choice but that it is safe: it is only proposed, and a proposal is tested.
+//! The first tries are the text without pairs, with 256 pairs and with all pairs. Then, beginning with all pairs, the
+//! pairs that save the fewest bits are dropped and the values are spelled again, with a bound that rises at each try.
+//! After that pairs are added to the best text and dropped again, several times. At the end single pairs are dropped.
+//! Only the safety of this code is proved: its result is a proposal, and proposals are tested.
 use crate::dropping::without_poor;
 use crate::leaves::{MAX_SYMBOLS, Paired};
 use crate::proposing::{Proposal, with_pairs};
@@ -12,22 +12,23 @@ use crate::trimming::{polish, trim};
 use crate::watching::{Unwatched, Watcher};
 use std::alloc::{AllocError, Global};
 
-/// The number of nodes after which no more spellings are tried.
+/// The number of tree nodes visited after which no more spellings are tried.
 const BUDGET: u64 = 1 << 29;
 
-/// The number of nodes after which no more single pairs are dropped.
+/// The number of tree nodes visited after which no more single pairs are dropped.
 const TRIM_BUDGET: u64 = 1 << 28;
 
-/// Lists of more values are spelled a few times only.
+/// The greatest number of values of a list that is spelled many times; longer lists are spelled a few times only.
 const FEW_VALUES: usize = 1 << 17;
 
-/// Pairs are added to no text with more symbols than this.
+/// The greatest number of symbols of a dictionary to which more pairs are added, and of one that is trimmed.
 const FEW_SYMBOLS: usize = 1024;
 
-/// The number of pairs of a fixed plan, unless it says otherwise.
+/// The number of pairs of the second try. It is also the default of `szg build --rounds`.
 const FEW_PAIRS: u32 = 256;
 
-/// Which bounds are tried in one go, in bits with fractional bits.
+/// The bounds that one call of `drop_pairs` tries, times 2^`FRACTION`: `first`, then `step` more each time, up to
+/// `last`.
 #[derive(Clone, Copy)]
 struct Bounds {
     first: u64,
@@ -35,7 +36,8 @@ struct Bounds {
     last: u64,
 }
 
-/// Drops more and more pairs, and keeps the best.
+/// Drops the pairs that save the least bits, with a rising bound, and spells the values again after each step. Offers
+/// each text to `best`.
 fn drop_pairs<V: Watcher>(
     alloc: Global,
     leaves: &[u16],
@@ -87,19 +89,20 @@ fn later_bounds(round: u64) -> Bounds {
     }
 }
 
-/// Returns how symbols' costs are mixed after pairs were added `round` times.
+/// Returns the blend of costs for round `round` of adding pairs.
 fn blend_for(round: u64) -> Blend {
     Blend {
         quarters: round.wrapping_mul(2) % 5,
     }
 }
 
-/// Returns one more than the greatest number of times that pairs are added to the best text of `values` values.
+/// Returns the end of the range of rounds in which pairs are added to the best text of `values` values; the first round
+/// is 1.
 fn rounds_for(values: usize) -> u64 {
     if values > FEW_VALUES { 1 } else { 61 }
 }
 
-/// Begins with the best of the texts without pairs, with 256 pairs and with all of them. Returns the last one, too.
+/// Tries the texts without pairs, with 256 pairs and with all pairs. Returns the best of them, and the last one.
 fn begin_tries<V: Watcher>(
     alloc: Global,
     begun: Paired,
@@ -115,7 +118,7 @@ fn begin_tries<V: Watcher>(
     Ok((best, all))
 }
 
-/// Adds pairs to the best text and drops pairs again, some times.
+/// Adds pairs to the best text and drops pairs again, several times.
 fn add_pairs<V: Watcher>(
     alloc: Global,
     leaves: &[u16],
@@ -138,7 +141,8 @@ fn add_pairs<V: Watcher>(
     Ok(())
 }
 
-/// Returns a dictionary and a text of a list of leaves, which is `begun` without any pairs. `beside` is as in `cost_of`.
+/// Returns a dictionary and a text that expand to the leaves of `begun`, which has no pairs. `beside` is as in
+/// `cost_of`.
 pub(crate) fn shrink<V: Watcher>(
     alloc: Global,
     begun: Paired,

@@ -19,14 +19,14 @@ const KEPT: usize = 512;
 #[derive(Clone, Copy)]
 struct Node {
     leaf: u16,
-    /// The cheapest symbol that has just these leaves, if there is one.
+    /// The cheapest symbol that expands to exactly these leaves, if there is one.
     symbol: u16,
     cost: u64,
     child: u32,
     sibling: u32,
 }
 
-/// The expansions of a dictionary's symbols. The first nodes are those of the leaves alone.
+/// The tree of the expansions of a dictionary's symbols. Its first nodes are those of the single leaves.
 #[derive(Drop)]
 struct Tree {
     nodes: Vec<Node>,
@@ -44,7 +44,7 @@ fn bare(leaf: u16, sibling: u32) -> Node {
 }
 
 impl Tree {
-    /// Creates the tree of a dictionary whose symbols take `costs`.
+    /// Creates the tree of a dictionary in which symbol s costs `costs[s]`.
     fn new(alloc: Global, entries: &[[u8; 3]], costs: &[u64]) -> Result<Tree, AllocError> {
         let mut tree = Tree {
             nodes: Vec::new(alloc),
@@ -62,7 +62,7 @@ impl Tree {
         Ok(tree)
     }
 
-    /// Returns the child of a node for a leaf, by the node's first child.
+    /// Returns the child for `leaf` among `first`, a node's first child, and its siblings; `NO_NODE` if there is none.
     fn child(&self, first: u32, leaf: u16) -> usize {
         let mut next = first as usize;
         for _ in 0..self.nodes.len() {
@@ -78,7 +78,7 @@ impl Tree {
         NO_NODE as usize
     }
 
-    /// Returns the child of a node for a leaf, which is made if it isn't there.
+    /// Returns the child of `parent` for `leaf`; creates it if there is none.
     fn child_or_new(&mut self, parent: usize, leaf: u16) -> Result<usize, AllocError> {
         if parent >= self.nodes.len() {
             return Ok(NO_NODE as usize);
@@ -203,7 +203,7 @@ pub(crate) struct Spelling {
     pub steps: u64,
 }
 
-/// Spells leaves in the fewest bits, where each symbol takes its cost.
+/// Spells leaves with the least total cost, where symbol s costs `costs[s]`.
 pub(crate) fn spell(
     alloc: Global,
     leaves: &[u16],

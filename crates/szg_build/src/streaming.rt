@@ -22,14 +22,15 @@ use szg_values::Kind;
 
 // ---- runs
 
-/// Writes the line of a run, if it has a value.
+/// Writes the line of a run, unless the run is empty.
 fn put_run<W: Output>(
     count: u64,
     value: u16,
     output: &mut W,
     outgoing: &mut Outgoing,
 ) -> Result<(), WriteFault>
-    ensures { OnOk result (Writing {X = Unit {0}} (lines_text (value_lines (form_of 2) (replicate count value))) outgoing.old outgoing.new W.Output output.old output.new (Ok tt)) }
+    ensures written { OnOk result (Writing {X = Unit {0}} (lines_text (value_lines (form_of 2) (replicate count value))) outgoing.old outgoing.new W.Output output.old output.new (Ok tt)) }
+    ensures failed { OnErr result (HasFailed (W.failures output.old) (W.failures output.new) (W.interrupted output.new)) }
 {
     if count == 0 {
         return Ok(());
@@ -44,7 +45,8 @@ fn put_same<W: Output>(
     output: &mut W,
     outgoing: &mut Outgoing,
 ) -> Result<(), WriteFault>
-    ensures { OnOk result (Writing {X = Unit {0}} (lines_text (value_lines (form_of 1) (replicate count value))) outgoing.old outgoing.new W.Output output.old output.new (Ok tt)) }
+    ensures written { OnOk result (Writing {X = Unit {0}} (lines_text (value_lines (form_of 1) (replicate count value))) outgoing.old outgoing.new W.Output output.old output.new (Ok tt)) }
+    ensures failed { OnErr result (HasFailed (W.failures output.old) (W.failures output.new) (W.interrupted output.new)) }
 {
     'lines: for _done in 0..count {
         put_number(b"", u64::from(value), output, outgoing)?;
@@ -60,7 +62,8 @@ fn put_equal<W: Output>(
     output: &mut W,
     outgoing: &mut Outgoing,
 ) -> Result<(), WriteFault>
-    ensures { OnOk result (Writing {X = Unit {0}} (lines_text (value_lines (form_of form) (replicate count value))) outgoing.old outgoing.new W.Output output.old output.new (Ok tt)) }
+    ensures written { OnOk result (Writing {X = Unit {0}} (lines_text (value_lines (form_of form) (replicate count value))) outgoing.old outgoing.new W.Output output.old output.new (Ok tt)) }
+    ensures failed { OnErr result (HasFailed (W.failures output.old) (W.failures output.new) (W.interrupted output.new)) }
 {
     if form == 2 {
         put_run(count, value, output, outgoing)
@@ -71,7 +74,8 @@ fn put_equal<W: Output>(
 
 // ---- the lines before a subtable's values
 
-/// Returns the number of subtables of a table of which the index says something.
+/// Returns the number of subtables for which the index has a slot, and in DTZ also flags and an item in the list of
+/// maps.
 fn count_heads(index: &TableIndex) -> usize
     ensures { result ≡ length (heads_of index.now) }
 {
@@ -100,7 +104,8 @@ fn put_flags_of<W: Output>(
     outgoing: &mut Outgoing,
 ) -> Result<(), WriteFault>
     requires { s < length (heads_of index.now) }
-    ensures { OnOk result (Writing {X = Unit {0}} (lines_text (flags_lines index.now.kind (sub_of (get_or (heads_of index.now) s no_head)))) outgoing.old outgoing.new W.Output output.old output.new (Ok tt)) }
+    ensures written { OnOk result (Writing {X = Unit {0}} (lines_text (flags_lines index.now.kind (sub_of (get_or (heads_of index.now) s no_head)))) outgoing.old outgoing.new W.Output output.old output.new (Ok tt)) }
+    ensures failed { OnErr result (HasFailed (W.failures output.old) (W.failures output.new) (W.interrupted output.new)) }
 {
     match index.kind() {
         Kind::Wdl => Ok(()),
@@ -128,7 +133,8 @@ fn put_head<W: Output>(
     outgoing: &mut Outgoing,
 ) -> Result<(), WriteFault>
     requires { s < head_count index.now }
-    ensures { OnOk result (Writing {X = Unit {0}} (lines_text (head_lines index.now.kind (get_or (places_of index.now.material index.now.kind) s (0, 0)) (get_or (heads_of index.now) s no_head))) outgoing.old outgoing.new W.Output output.old output.new (Ok tt)) }
+    ensures written { OnOk result (Writing {X = Unit {0}} (lines_text (head_lines index.now.kind (get_or (places_of index.now.material index.now.kind) s (0, 0)) (get_or (heads_of index.now) s no_head))) outgoing.old outgoing.new W.Output output.old output.new (Ok tt)) }
+    ensures failed { OnErr result (HasFailed (W.failures output.old) (W.failures output.new) (W.interrupted output.new)) }
 {
     let places = places(index.material(), index.kind());
     put_place(places[s], output, outgoing)?;
@@ -143,7 +149,8 @@ fn put_heads<W: Output>(
     output: &mut W,
     outgoing: &mut Outgoing,
 ) -> Result<(), WriteFault>
-    ensures { OnOk result (Writing {X = Unit {0}} (heads_text index.now.kind (drop from (places_of index.now.material index.now.kind)) (drop from (heads_of index.now))) outgoing.old outgoing.new W.Output output.old output.new (Ok tt)) }
+    ensures written { OnOk result (Writing {X = Unit {0}} (heads_text index.now.kind (drop from (places_of index.now.material index.now.kind)) (drop from (heads_of index.now))) outgoing.old outgoing.new W.Output output.old output.new (Ok tt)) }
+    ensures failed { OnErr result (HasFailed (W.failures output.old) (W.failures output.new) (W.interrupted output.new)) }
 {
     'subtables: for s in from..count_subs(index) {
         put_head(index, s, output, outgoing)?;
@@ -165,6 +172,8 @@ pub(crate) fn begin_dump<'a, W: Output>(
     ensures begun { IfOk result (λ sink. (sink.form ≡ form) × (sink.next ≡ 0) × (sink.left ≡ 0) × (sink.count ≡ 0)) }
     ensures given { IfOk result (λ sink. (bytes : List ℕ) × Gives W.Output output.old output.new bytes 0
         × (bytes ++ sink.outgoing.held.items ≡ lines_text (front_lines (form_of form) index.now.material index.now.kind last.now) ++ lines_text (flat_map_beside part_lines (parts_of index.now.material) index.now.parts))) }
+    ensures failed { OnErr result (HasFailed (W.failures output.old) (W.failures output.new) (W.interrupted output.new)) }
+    ensures quiet { OnOk result (W.failures output.new ≡ W.failures output.old) }
 {
     let mut outgoing = Outgoing::new();
     let material = index.material();
@@ -188,6 +197,7 @@ fn begin_sub<W: Output>(sink: &mut DumpSink<'_>, output: &mut W) -> Result<(), W
     requires there { sink.old.next < head_count sink.old.index.now }
     ensures goes { OnOk result (Goes W.Output [] sink.old output.old sink.new output.new) }
     ensures next { OnOk result (sink.new.next ≡ sink.old.next + 1) }
+    ensures failed { OnErr result (HasFailed (W.failures output.old) (W.failures output.new) (W.interrupted output.new)) }
     ensures index { OnOk result (sink.new.index ≡ sink.old.index) }
 {
     put_equal(
@@ -209,6 +219,7 @@ fn find_room<W: Output>(sink: &mut DumpSink<'_>, output: &mut W) -> Result<bool,
     ensures goes { OnOk result (Goes W.Output [] sink.old output.old sink.new output.new) }
     ensures room { IfOk result (λ found. found ≡ true → 0 < sink.new.left) }
     ensures none { IfOk result (λ found. found ≡ false → IsDone sink.new) }
+    ensures failed { OnErr result (HasFailed (W.failures output.old) (W.failures output.new) (W.interrupted output.new)) }
 {
     'begun: while sink.left == 0 {
         if sink.next >= count_subs(sink.index) {
@@ -219,8 +230,8 @@ fn find_room<W: Output>(sink: &mut DumpSink<'_>, output: &mut W) -> Result<bool,
     Ok(true)
 }
 
-/// Takes `count` equal values that the current subtable needs. Writes the lines of the run before, if these values don't
-/// lengthen it.
+/// Adds `count` equal values, all of which the current subtable still needs. If they do not lengthen the current run,
+/// writes its lines first.
 fn add_run<W: Output>(
     sink: &mut DumpSink<'_>,
     value: u16,
@@ -229,7 +240,8 @@ fn add_run<W: Output>(
 ) -> Result<(), WriteFault>
     requires some { 0 < count }
     requires within { count ≤ sink.old.left }
-    ensures { OnOk result (Goes W.Output (replicate count value) sink.old output.old sink.new output.new) }
+    ensures goes { OnOk result (Goes W.Output (replicate count value) sink.old output.old sink.new output.new) }
+    ensures failed { OnErr result (HasFailed (W.failures output.old) (W.failures output.new) (W.interrupted output.new)) }
 {
     if sink.count > 0 && sink.value == value {
         sink.left -= count;
@@ -249,14 +261,15 @@ fn add_run<W: Output>(
     Ok(())
 }
 
-/// Takes a value `count` times.
-fn add_same<W: Output>(
+/// Adds a value `count` times.
+pub(crate) fn add_same<W: Output>(
     sink: &mut DumpSink<'_>,
     value: u16,
     count: u64,
     output: &mut W,
 ) -> Result<(), WriteFault>
-    ensures { OnOk result (Goes W.Output (replicate count value) sink.old output.old sink.new output.new) }
+    ensures goes { OnOk result (Goes W.Output (replicate count value) sink.old output.old sink.new output.new) }
+    ensures failed { OnErr result (HasFailed (W.failures output.old) (W.failures output.new) (W.interrupted output.new)) }
 {
     let mut more = count;
     'values: while more > 0 {
@@ -270,13 +283,14 @@ fn add_same<W: Output>(
     Ok(())
 }
 
-/// Takes values.
-fn add_values<W: Output>(
+/// Adds values to the dump. Values after those of the last subtable are ignored.
+pub(crate) fn add_values<W: Output>(
     sink: &mut DumpSink<'_>,
     values: &[u16],
     output: &mut W,
 ) -> Result<(), WriteFault>
-    ensures { OnOk result (Goes W.Output values.now sink.old output.old sink.new output.new) }
+    ensures goes { OnOk result (Goes W.Output values.now sink.old output.old sink.new output.new) }
+    ensures failed { OnErr result (HasFailed (W.failures output.old) (W.failures output.new) (W.interrupted output.new)) }
 {
     let mut from = 0;
     'runs: while from < values.len() {
@@ -287,9 +301,10 @@ fn add_values<W: Output>(
     Ok(())
 }
 
-/// Writes what is left where no values are to come, and the bytes that are still buffered.
+/// Writes the rest of the dump after the last values, and the bytes that are still buffered.
 pub(crate) fn end_dump<W: Output>(sink: &mut DumpSink<'_>, output: &mut W) -> Result<(), WriteFault>
-    ensures { OnOk result (Gives W.Output output.old output.new (sink.old.outgoing.held.items ++ text_left sink.old []) 0) }
+    ensures given { OnOk result (Gives W.Output output.old output.new (sink.old.outgoing.held.items ++ text_left sink.old []) 0) }
+    ensures failed { OnErr result (HasFailed (W.failures output.old) (W.failures output.new) (W.interrupted output.new)) }
 {
     put_equal(
         sink.form,

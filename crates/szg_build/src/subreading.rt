@@ -50,7 +50,8 @@ fn read_flags<R: Input>(
     }
 }
 
-/// Returns whether subtable `s` may have `count` values. In form 2 it must be its size, if the sizes are known.
+/// Returns whether subtable `s` may have `count` values. In form 2 `count` must be the subtable's size, if the sizes
+/// are known.
 fn may_have(form: u8, sizes: &Option<ArrayVec<u64, 8>>, s: usize, count: u64) -> bool
     ensures { length_check (form_of form) (option_map (λ list. list.items) sizes.now) s count ≡ demand result (Length s) }
 {

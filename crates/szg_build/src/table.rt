@@ -37,7 +37,7 @@ fn words_fit(list: &[u16])
     ensures { AreNumbers 2 list.now }
 {}
 
-/// Returns the sixteen bytes at the end. For proofs: they are bytes.
+/// Returns the last sixteen bytes. For proofs: each is below 256.
 fn end_bytes(last: &[u8; 16]) -> [u8; 16]
     ensures last { result ≡ last.now }
     ensures bytes { AreBytes 16 last.now }
@@ -46,7 +46,7 @@ fn end_bytes(last: &[u8; 16]) -> [u8; 16]
     *last
 }
 
-/// For proofs alone: the numbers of parts are bytes.
+/// For proofs alone: the order bytes and man bytes of parts are below 256.
 pub(crate) fn parts_fit(parts: &[PartBytes])
     ensures { AllByRecursion IsOfBytes (map part_of parts.now) }
 {
@@ -231,8 +231,9 @@ fn build_by<V: Watcher>(
 /// without a map or a map without flag 2, flag 16 on a map of bytes or a wide map without flag 16, or a list too long
 /// for its length field; in WDL any flags or maps at all), `Memory` (memory was refused).
 ///
-/// The time for a list is proportional to its number of values. A list of 2^32 values or more takes this time for
-/// each pair: its offsets do not fit four bytes, so all its pairs are counted again in each round.
+/// The time for a list grows about linearly with its number of values; a table of up to 4,095^2 counts is filled
+/// besides. A list of 2^32 values or more takes this time for each pair: its offsets do not fit four bytes, so all its
+/// pairs are counted again in each round.
 pub fn build(alloc: Global, plan: &Plan, lists: &[&[u16]]) -> Result<Table, BuildFault>
     ensures refused { MatchOption (build_fault (plan_seen plan.now) (map (λ list. list.now) lists.now))
         (IfErr result (λ fault. fault ≡ BuildFault.Memory))
@@ -276,12 +277,13 @@ pub fn build_watched<V: Watcher>(
     built
 }
 
-/// Builds a table from a plan and the values of its subtables, which are listed in file order, as small as the
-/// builder can make it.
+/// Builds a small table from a plan and the values of its subtables, which are listed in file order. How each subtable
+/// is packed is chosen by trial, within fixed budgets.
 ///
-/// Each subtable gets pairs as long as they save bytes, words by their symbols' counts, and the block bits and span
-/// bits with which it takes the fewest bytes. Errors: those of `build` without `Bits` and `Rounds`. A list of 2^32
-/// values or more gets no pairs.
+/// Each subtable gets pairs that are chosen by trial, a Huffman code or the truncated binary code, whichever takes
+/// fewer bytes, and the block bits and span bits with which it takes the fewest, among those with which half a span has
+/// at most 32 blocks on average. Errors: those of `build` without `Bits` and `Rounds`. A list of 2^32 values or more
+/// gets no pairs.
 pub fn build_small(alloc: Global, plan: SmallPlan, lists: &[&[u16]]) -> Result<Table, BuildFault>
     ensures refused { MatchOption (build_fault (small_seen plan) (map (λ list. list.now) lists.now))
         (IfErr result (λ fault. fault ≡ BuildFault.Memory))

@@ -1,6 +1,6 @@
-//! Tries of a small plan: dictionaries and texts of a list of values, of which the one that costs least is kept.
+//! Tries of a small plan: dictionaries and texts for one list of values. The one that costs least is kept.
 //!
-//! Nothing is proved of the tries but that they are safe: they are only proposed, and a proposal is tested.
+//! Only the safety of this code is proved: its result is a proposal, and proposals are tested.
 use crate::costs::{FRACTION, bits_for};
 use crate::dropping::{Counted, without_unused};
 use crate::leaves::Paired;
@@ -9,7 +9,8 @@ use crate::sizing::{Words, bytes_at, choose_words, cost_of};
 use crate::spelling::spell;
 use std::alloc::{AllocError, Global};
 
-/// What a symbol costs: so many quarters of its estimated bits, the others of its word's.
+/// How the cost of a symbol is mixed: `quarters` quarters of its estimated bits, and the other quarters of the bits of
+/// its word.
 #[derive(Clone, Copy)]
 pub(crate) struct Blend {
     pub quarters: u64,
@@ -24,13 +25,13 @@ pub(crate) struct Best {
     values: u64,
     /// As in `cost_of`.
     beside: Option<u64>,
-    /// How many more nodes may be visited.
+    /// How many more nodes of the trees of `spell` may be visited.
     pub budget: u64,
     /// The number of texts so far.
     pub tries: u64,
 }
 
-/// Returns bits with fractional bits.
+/// Returns `number` times 2^`FRACTION`: `number` bits as a cost.
 pub(crate) fn bits(number: u64) -> u64 {
     number.saturating_mul(1 << FRACTION)
 }
@@ -54,7 +55,7 @@ pub(crate) fn counted(alloc: Global, paired: &Paired) -> Result<Counted, AllocEr
 }
 
 impl Best {
-    /// Begins with a text of `values` values, with `budget` nodes to visit.
+    /// Creates the state from a first text of `values` values. `budget` is the number of nodes that may be visited.
     pub fn new(
         alloc: Global,
         paired: Paired,
@@ -73,8 +74,8 @@ impl Best {
         })
     }
 
-    /// Returns about how many bytes the best text takes: those of its subtable, with the table's other bytes if `beside`
-    /// says their number.
+    /// Returns about how many bytes the best text takes: those of its subtable, and if `beside` is known, with the
+    /// table's other bytes before the sparse indexes.
     pub fn bytes(&self) -> u64 {
         bytes_at(self.cost, self.beside)
     }
@@ -84,7 +85,7 @@ impl Best {
         cost_of(alloc, self.values, tried, self.beside)
     }
 
-    /// Keeps a copy of a try that costs less. Returns whether it does.
+    /// Copies `tried` into `paired` if it costs less than the best text. Returns whether it does.
     pub fn offer(&mut self, alloc: Global, tried: &Paired) -> Result<bool, AllocError> {
         self.tries = self.tries.saturating_add(1);
         let cost = self.cost_of(alloc, tried)?;
@@ -96,7 +97,8 @@ impl Best {
         Ok(true)
     }
 
-    /// Spells the values with a dictionary by the words that its counts make, and drops the pairs that the text doesn't need.
+    /// Spells the values with a dictionary. A symbol's cost follows from its word in the code chosen by `counts`, and
+    /// from its count, as `blend` mixes them. Drops the pairs that the text does not need.
     pub fn spelled(
         &mut self,
         alloc: Global,
@@ -122,7 +124,8 @@ impl Best {
     }
 }
 
-/// Returns the cost of each symbol, by its word and by how often it occurs.
+/// Returns the cost of each symbol, times 4 * 2^`FRACTION`: `4 - quarters` quarters of the bits of its word, and
+/// `quarters` quarters of its estimated bits.
 fn costs_of(
     alloc: Global,
     counts: &[u64],

@@ -1,16 +1,18 @@
-//! Mends the best try of a small plan: drops single pairs, and spells the values anew with the words that it has.
+//! Improves the best try of a small plan: drops single pairs, and spells the values again with the code of its own
+//! text.
 //!
-//! Nothing is proved of it but that it is safe: what comes out is only proposed, and a proposal is tested.
+//! Only the safety of this code is proved: its result is a proposal, and proposals are tested.
 use crate::dropping::without_one;
 use crate::leaves::MAX_SYMBOLS;
 use crate::tries::{Best, Blend, counted};
 use crate::watching::Watcher;
 use std::alloc::{AllocError, Global};
 
-/// How often all pairs are tried, at most.
+/// The greatest number of passes over all pairs.
 const PASSES: u64 = 4;
 
-/// Drops single pairs, from the last to the first, and keeps what costs less. Returns whether anything does.
+/// Drops each pair alone, from the last to the first, spells the values again, and keeps the result in `best` if it
+/// costs less. Returns whether any result was kept.
 fn drop_singly<V: Watcher>(
     alloc: Global,
     leaves: &[u16],
@@ -36,7 +38,8 @@ fn drop_singly<V: Watcher>(
     Ok(is_less)
 }
 
-/// Drops single pairs until none is left whose loss costs less, visiting at most `budget` nodes or a few more.
+/// Drops single pairs as `drop_singly` does, in at most `PASSES` passes, until a pass keeps nothing. Sets the budget of
+/// visited nodes to `budget`, which the last spelling may exceed.
 pub(crate) fn trim<V: Watcher>(
     alloc: Global,
     leaves: &[u16],
@@ -56,7 +59,7 @@ pub(crate) fn trim<V: Watcher>(
     Ok(())
 }
 
-/// Spells the values anew with the words of the best text, `tries` times, as long as it costs no more.
+/// Spells the values again with the code of the best text, at most `tries` times, and stops when the result costs more.
 pub(crate) fn polish(
     alloc: Global,
     leaves: &[u16],

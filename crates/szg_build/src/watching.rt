@@ -1,6 +1,6 @@
-//! How far a build has come, for those who watch it.
+//! Progress reports of a build.
 
-/// Watches a build. The calls come in the order of the work; none of them changes what the table has to be.
+/// Watches a build. The methods are called in the order of the work, and no call affects the table.
 pub trait Watcher {
     /// Subtable `number` of `count` is begun, counted from 1 in file order. It has `values` values.
     fn subtable(&mut self, number: usize, count: usize, values: usize);
@@ -8,15 +8,16 @@ pub trait Watcher {
     /// `done` rounds of at most `rounds` are done in this subtable. A round makes one pair.
     fn round(&mut self, done: u32, rounds: u32);
 
-    /// `done` choices of pairs were tried for this subtable of a small table. With the best of them it takes about `bytes`
-    /// bytes; if it is the only subtable with blocks, they are the file's. None before the first.
+    /// `done` choices of pairs were tried for this subtable of a small table. `bytes` is about the number of bytes that
+    /// the subtable takes with the best of them, or that the whole file takes if no other subtable has blocks; None
+    /// before the first try.
     fn attempt(&mut self, done: u64, bytes: Option<u64>);
 
     /// The build ended, with a table or with an error.
     fn end(&mut self);
 }
 
-/// A watcher that looks at nothing.
+/// A watcher that ignores all calls.
 #[derive(Clone, Copy)]
 pub struct Unwatched;
 

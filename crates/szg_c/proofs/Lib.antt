@@ -7,6 +7,7 @@ pub mod TableKind
 pub mod HeldValues
 pub mod FrontBlocks
 pub mod Indexes
+pub mod SoundMen
 pub mod Sizes
 pub mod Values
 mod Printing

@@ -1,8 +1,8 @@
 -- Placements as C passes them.
-use Rattle.std.specs.Prelude.{◌≡◌, ℕ, Bool, not, ◌&&◌, ◌==◌, nat_lt, List, ◌++◌, length, drop, map, Option, Some, None, Result, Ok, Err, if◌then◌else◌}
+use Rattle.std.specs.Prelude.{◌≡◌, ℕ, Bool, true, not, ◌&&◌, ◌==◌, nat_lt, List, ◌++◌, length, drop, map, Option, Some, None, Result, Ok, Err, if◌then◌else◌}
 use Rattle.std.specs.List.{list_all}
 use Rattle.szg_values.specs.Men.{code_of}
-use Rattle.szg_values.specs.Placement.{PlacedMan, Board, placement_fault}
+use Rattle.szg_values.specs.Placement.{PlacedMan, Board, AreStanding, men_key, placement_fault}
 use Rattle.szg_values.specs.declared.Man.{Man}
 use Rattle.szg_values.specs.declared.Man.TheVariants.{Pawn, Knight, Bishop, Rook, Queen, King}
 use Rattle.szg_values.specs.declared.Color.{Color}
@@ -48,6 +48,14 @@ unfoldable pub board_of : List CodedMan → ℕ → Result Board ℕ
 board_of men mover =
     if not (nat_lt mover 2 && list_all is_told men) then Err 6 else
     board_unless (placement_fault (map standing_of men)) (record { placed_men = map standing_of men; mover = color_of mover })
+
+-- men that are put on their squares into a list, with their key, and a side to move that has a number
+pub record ArePut (men : List CodedMan) (mover : ℕ) (placed_men : List PlacedMan) (key : ℕ) : Type 0 where
+  pub mover_told : nat_lt mover 2 ≡ true
+  pub told : list_all is_told men ≡ true
+  pub placed : placed_men ≡ map standing_of men
+  pub standing : AreStanding placed_men
+  pub key_is : key ≡ men_key placed_men
 
 -- ---- placements that C gets
 

@@ -3,11 +3,13 @@ ghost use Rattle.std.specs.Prelude.{◌≡◌, ◌<◌, ◌≤◌, ◌&&◌, IsT
 ghost use Rattle.std.specs.declared.option.Option.TheVariants.{None, Some};
 ghost use Rattle.std.specs.List.{list_all};
 ghost use Rattle.szg_values.specs.Placement.{AreStanding, men_key};
-ghost use Rattle.szg_c.specs.Men.{IsWritten, board_of, coded_man, color_code as color_number, color_of as color_told, with_room, is_told, man_told, placement_status, standing_of};
+ghost use Rattle.szg_c.specs.Men.{ArePut, IsWritten, board_of, coded_man, color_code as color_number, color_of as color_told, with_room, is_told, man_told, placement_status, standing_of};
 
 use crate::status::{DONE, MAN, MEN, PAWN_RANK, RANGE, SAME_SQUARE};
 use arrayvec::ArrayVec;
-use szg_values::{Color, MAX_MEN, Man, Placement, PlacementFault, Square, man_key, with_man};
+use szg_values::{
+    Color, MAX_MEN, Man, PlacedMen, Placement, PlacementFault, Square, man_key, with_man,
+};
 
 /// A man on a square, as three numbers.
 #[repr(C)]
@@ -28,17 +30,46 @@ pub struct CodedMan {
 pub fn sound_placement(men: &[CodedMan], mover: u8) -> Option<Placement>
     ensures { IfSome result (λ placement. board_of men.now mover ≡ Ok placement) }
 {
-    if mover >= 2 || men.len() > MAX_MEN {
-        return None;
-    }
     let mut placed_men = ArrayVec::new();
-    let key = put_men(men, &mut placed_men)?;
+    let key = standing_key(men, mover, &mut placed_men)?;
     Placement::of_standing(placed_men, color_of(mover), key)
 }
 
+/// Puts the men on their squares, into an empty list; returns their key. None if there is an error that a single man or two
+/// men show, or the side to move is no number of a colour: then `placement_or_fault` returns it.
+#[inline(always)]
+pub fn standing_key(
+    men: &[CodedMan],
+    mover: u8,
+    placed_men: &mut ArrayVec<(Man, Color, Square), MAX_MEN>,
+) -> Option<u64>
+    requires { placed_men.old.items ≡ [] }
+    ensures { IfSome result (λ key. ArePut men.now mover placed_men.new.items key) }
+{
+    if mover >= 2 || men.len() > MAX_MEN {
+        return None;
+    }
+    put_men(men, placed_men)
+}
+
+/// Returns the placement of men that `standing_key` put into a list, without a copy of the list. None if there is an error:
+/// then `placement_or_fault` returns it.
+#[inline(always)]
+pub fn sound_men<'a>(
+    men: &[CodedMan],
+    mover: u8,
+    placed_men: &'a ArrayVec<(Man, Color, Square), MAX_MEN>,
+    key: u64,
+) -> Option<PlacedMen<'a>>
+    requires { ArePut men.now mover placed_men.now.items key }
+    ensures { IfSome result (λ placement. board_of men.now mover ≡ Ok placement) }
+{
+    PlacedMen::of_standing(placed_men.as_slice(), color_of(mover), key)
+}
+
 /// Puts the men on their squares, into an empty list; returns their key. None if a man's numbers are invalid, two men are
-/// on one square, or a pawn is on rank 1 or 8. A call of its own, so that the list is filled in memory.
-#[inline(never)]
+/// on one square, or a pawn is on rank 1 or 8.
+#[inline(always)]
 fn put_men(
     men: &[CodedMan],
     placed_men: &mut ArrayVec<(Man, Color, Square), MAX_MEN>,

@@ -7,15 +7,16 @@ ghost use Rattle.szg_c.specs.Telling.{class_or_status, distance_or_status, spot_
 
 use crate::handle::{put, take};
 use crate::held_table::HeldTable;
-use crate::men::{CodedMan, placement_or_fault, sound_placement};
+use crate::men::{CodedMan, placement_or_fault, sound_men, sound_placement, standing_key};
 use crate::status::{
     CLOSED, DONE, DRAW, IRREGULAR, KINGS_TOUCH, NO_CLASS, OTHER_MATERIAL, OUTSIDE_MAP, RANGE,
     WRONG_SIDE,
 };
+use arrayvec::ArrayVec;
 use std::alloc::Global;
 use szg_file::MapFault;
 use szg_place::{PlaceFault, PreparedTable, ProbeFault, Spot};
-use szg_values::{Kind, Placement};
+use szg_values::{Kind, PlacedMen, Placement};
 
 /// The location of a placement in a table.
 #[repr(C)]
@@ -60,13 +61,18 @@ pub extern "C" fn szg_index(
 fn write_spot(table: &PreparedTable, men: &[CodedMan], mover: u8, spot: &mut FoundSpot) -> u32
     ensures { MatchResult (spot_told table.now.contents (board_of men.now mover)) (λ found. (result ≡ 0) × IsSpot spot.new found) (λ status. (result ≡ status) × (spot.new ≡ spot.old)) }
 {
-    match &sound_placement(men, mover) {
-        Some(placement) => write_spot_of(table, placement, spot),
-        None => write_spot_or_fault(table, men, mover, spot),
-    }
+    let mut placed_men = ArrayVec::new();
+    let Some(key) = standing_key(men, mover, &mut placed_men) else {
+        return write_spot_or_fault(table, men, mover, spot);
+    };
+    let Some(placement) = sound_men(men, mover, &placed_men, key) else {
+        return write_spot_or_fault(table, men, mover, spot);
+    };
+    write_spot_of(table, &placement, spot)
 }
 
 /// The same, by one check of the men after the other.
+#[cold]
 #[inline(never)]
 fn write_spot_or_fault(
     table: &PreparedTable,
@@ -77,17 +83,17 @@ fn write_spot_or_fault(
     ensures { MatchResult (spot_told table.now.contents (board_of men.now mover)) (λ found. (result ≡ 0) × IsSpot spot.new found) (λ status. (result ≡ status) × (spot.new ≡ spot.old)) }
 {
     match placement_or_fault(men, mover) {
-        Ok(placement) => write_spot_of(table, &placement, spot),
+        Ok(placement) => write_spot_of(table, &PlacedMen::of(&placement), spot),
         Err(status) => status,
     }
 }
 
 /// Writes the location of a placement in a table; returns the status.
 #[inline(always)]
-fn write_spot_of(table: &PreparedTable, placement: &Placement, spot: &mut FoundSpot) -> u32
+fn write_spot_of(table: &PreparedTable, placement: &PlacedMen<'_>, spot: &mut FoundSpot) -> u32
     ensures { MatchResult (spot_told table.now.contents (Ok placement.now)) (λ found. (result ≡ 0) × IsSpot spot.new found) (λ status. (result ≡ status) × (spot.new ≡ spot.old)) }
 {
-    match table.index_of(placement) {
+    match table.index_of_men(placement) {
         Ok(found) => {
             spot.part = found.part;
             spot.side = found.side;
@@ -152,6 +158,7 @@ fn outcome_in(table: &PreparedTable, men: &[CodedMan], mover: u8, class: i8) -> 
 }
 
 /// The same, by one check of the men after the other.
+#[cold]
 #[inline(never)]
 fn outcome_or_fault(
     table: &PreparedTable,

@@ -67,11 +67,11 @@ get_or-le-sum (x ∷ xs) (suc i) = let s = sum_by-cons (λ (n : ℕ). n) x xs in
 
 -- each group has at least one way
 pub ways_by-positive : (lead : ℕ) (other : Bool) (lengths : List ℕ) (i : ℕ) → 0 < lead → sum lengths ≤ 6 → 0 < ways_by lead other lengths i
-ways_by-positive lead other lengths i h k = turn (i == 0) (other && i == 1) where
-  turn : (b p : Bool) → 0 < cond b lead (choose (cond p 48 64 - sum (take i lengths)) (slice_index lengths i))
-  turn true p = h
-  turn false true = let a = sum_by-take-le (λ (n : ℕ). n) lengths i in let b = get_or-le-sum lengths i in choose-positive (48 - sum (take i lengths)) (slice_index lengths i) (omega (arith, a, b, k))
-  turn false false = let a = sum_by-take-le (λ (n : ℕ). n) lengths i in let b = get_or-le-sum lengths i in choose-positive (64 - sum (take i lengths)) (slice_index lengths i) (omega (arith, a, b, k))
+ways_by-positive lead other lengths i h k = by_group (i == 0) (other && i == 1) where
+  by_group : (b p : Bool) → 0 < cond b lead (choose (cond p 48 64 - sum (take i lengths)) (slice_index lengths i))
+  by_group true p = h
+  by_group false true = let a = sum_by-take-le (λ (n : ℕ). n) lengths i in let b = get_or-le-sum lengths i in choose-positive (48 - sum (take i lengths)) (slice_index lengths i) (omega (arith, a, b, k))
+  by_group false false = let a = sum_by-take-le (λ (n : ℕ). n) lengths i in let b = get_or-le-sum lengths i in choose-positive (64 - sum (take i lengths)) (slice_index lengths i) (omega (arith, a, b, k))
 
 pub ArePositive-map : (f : ℕ → ℕ) (a n : ℕ) → ((i : ℕ) → 0 < f i) → ArePositive (map f (range_with_len a n))
 ArePositive-map f a zero h = tt

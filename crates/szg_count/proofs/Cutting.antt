@@ -63,13 +63,13 @@ run_lengths-cons x (y ∷ ys) =
 
 -- ---- one step of the loop over runs
 
-pub runs_step : (x n : ℕ) (items rest behind all : List ℕ) → slice_get rest 0 ≡ Some x → n ≡ leading x rest → behind ≡ drop n rest →
-    items ++ run_lengths rest ≡ all → (items ++ n ∷ []) ++ run_lengths behind ≡ all
-runs_step x n items [] behind all e f g h = cc
-runs_step x n items (y ∷ ys) behind all e f g h =
+pub runs_step : (x n : ℕ) (items rest following all : List ℕ) → slice_get rest 0 ≡ Some x → n ≡ leading x rest → following ≡ drop n rest →
+    items ++ run_lengths rest ≡ all → (items ++ n ∷ []) ++ run_lengths following ≡ all
+runs_step x n items [] following all e f g h = cc
+runs_step x n items (y ∷ ys) following all e f g h =
     let same : y ≡ x = cc in
     let first : n ≡ leading y (y ∷ ys) = f ∙ ap (λ z. leading z (y ∷ ys)) (sym same) in
-    append_assoc items (n ∷ []) (run_lengths behind)
+    append_assoc items (n ∷ []) (run_lengths following)
     ∙ ap (λ l. items ++ n ∷ run_lengths l) g
     ∙ ap (λ m. items ++ m ∷ run_lengths (drop m (y ∷ ys))) first
     ∙ ap (λ l. items ++ l) (sym (run_lengths-cons y ys))
@@ -149,10 +149,10 @@ sum-lengths_of lead other men k =
     omega (arith, a, b, d, e, k)
 
 -- the lengths of the groups, joined from their parts
-pub cut_given : (lead other l o m : ℕ) (men front behind items : List ℕ) → lead ≡ l → other ≡ o → m ≡ lead + other →
-    front ≡ lead ∷ cond (nat_lt 0 other) (other ∷ []) [] → behind ≡ drop m men → items ≡ front ++ run_lengths behind → items ≡ lengths_of l o men
-cut_given lead other l o m men front behind items e f g h i j =
-    j ∙ ap (λ x. x ++ run_lengths behind) h ∙ ap (λ x. (lead ∷ cond (nat_lt 0 other) (other ∷ []) []) ++ run_lengths x) (i ∙ ap (λ n. drop n men) g)
+pub cut_given : (lead other l o m : ℕ) (men first following items : List ℕ) → lead ≡ l → other ≡ o → m ≡ lead + other →
+    first ≡ lead ∷ cond (nat_lt 0 other) (other ∷ []) [] → following ≡ drop m men → items ≡ first ++ run_lengths following → items ≡ lengths_of l o men
+cut_given lead other l o m men first following items e f g h i j =
+    j ∙ ap (λ x. x ++ run_lengths following) h ∙ ap (λ x. (lead ∷ cond (nat_lt 0 other) (other ∷ []) []) ++ run_lengths x) (i ∙ ap (λ n. drop n men) g)
     ∙ ap (λ n. lengths_of n other men) e ∙ ap (λ n. lengths_of l n men) f
 
 -- a run has at least one man

@@ -88,20 +88,20 @@ all_below (y ∷ ys) n e x (inl f) = let a = ltb-true y n (and_parts (nat_lt y n
 all_below (y ∷ ys) n e x (inr h) = all_below ys n (and_parts (nat_lt y n) (list_all (λ position. nat_lt position n) ys) e).1 x h
 
 -- different numbers below m, followed by the other numbers below m
-pub ordering_of : (told : List ℕ) (m : ℕ) → AllDiffer told → ((x : ℕ) → IsIn x told → x < m) →
-    IsOrdering (told ++ without told (range_with_len 0 m)) × (length (told ++ without told (range_with_len 0 m)) ≡ m)
-ordering_of told m d b =
+pub ordering_of : (fixed : List ℕ) (m : ℕ) → AllDiffer fixed → ((x : ℕ) → IsIn x fixed → x < m) →
+    IsOrdering (fixed ++ without fixed (range_with_len 0 m)) × (length (fixed ++ without fixed (range_with_len 0 m)) ≡ m)
+ordering_of fixed m d b =
     let range = range_with_len 0 m in
-    let free = free_count_law told range d (range-differs 0 m) (λ x h. let k = b x h in range-has 0 m x (omega arith) (omega (arith, k))) in
+    let free = free_count_law fixed range d (range-differs 0 m) (λ x h. let k = b x h in range-has 0 m x (omega arith) (omega (arith, k))) in
     let r = length-range 0 m in
-    let a = length-append told (without told range) in
-    let len : length (told ++ without told range) ≡ m = omega (arith, free, r, a) in (
+    let a = length-append fixed (without fixed range) in
+    let len : length (fixed ++ without fixed range) ≡ m = omega (arith, free, r, a) in (
       record {
-        differ = AllDiffer-append told (without told range) d (AllDiffer-filter (λ x. not (contains told x)) range (range-differs 0 m))
-            (λ x h k. not_both (contains told x) (IsIn-filter (λ y. not (contains told y)) range x k).1 (contains_it x told h));
-        below = λ x h. rw len (elim (IsIn-append x told (without told range) h) [
+        differ = AllDiffer-append fixed (without fixed range) d (AllDiffer-filter (λ x. not (contains fixed x)) range (range-differs 0 m))
+            (λ x h k. not_both (contains fixed x) (IsIn-filter (λ y. not (contains fixed y)) range x k).1 (contains_it x fixed h));
+        below = λ x h. rw len (elim (IsIn-append x fixed (without fixed range) h) [
           | inl l ↦ b x l
-          | inr k ↦ let q = range-below 0 m x (IsIn-filter (λ y. not (contains told y)) range x k).0 in omega (arith, q)
+          | inr k ↦ let q = range-below 0 m x (IsIn-filter (λ y. not (contains fixed y)) range x k).0 in omega (arith, q)
         ]);
       },
       len,

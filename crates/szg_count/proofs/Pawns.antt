@@ -118,29 +118,29 @@ first_leads-other sides f = not_leads (first_leads sides) (pawn_count sides.firs
 
 -- ---- the first slots
 
-told : (b : Bool) (k m lead other x y : ℕ) (men : List ℕ) → (b ≡ true → lead ≡ x) → (b ≡ true → other ≡ y) → (b ≡ false → k + m ≡ 0) →
+same_pawns : (b : Bool) (k m lead other x y : ℕ) (men : List ℕ) → (b ≡ true → lead ≡ x) → (b ≡ true → other ≡ y) → (b ≡ false → k + m ≡ 0) →
     (list_all (λ man. man == lead) (take k men) && list_all (λ man. man == other) (take m (drop k men)))
     ≡ (not b || (list_all (λ man. man == x) (take k men) && list_all (λ man. man == y) (take m (drop k men))))
-told true k m lead other x y men f g h = rw (f refl, g refl) refl
-told false k m lead other x y men f g h = let e = h refl in
+same_pawns true k m lead other x y men f g h = rw (f refl, g refl) refl
+same_pawns false k m lead other x y men f g h = let e = h refl in
     let i : k ≡ 0 = omega (arith, e) in let j : m ≡ 0 = omega (arith, e) in rw (i, j) refl
 
-pub pawns_first_given : (sides : Sides) (lead other k m : ℕ) (men front behind next : List ℕ) (a b : Bool) →
+pub pawns_first_given : (sides : Sides) (lead other k m : ℕ) (men first following next : List ℕ) (a b : Bool) →
     (has_pawns sides ≡ true → lead ≡ lead_pawn_code sides) → (has_pawns sides ≡ true → other ≡ other_pawn_code sides) →
     k ≡ lead_pawns sides → m ≡ other_pawns sides →
-    front ≡ take k men → behind ≡ drop k men → next ≡ take m behind →
-    a ≡ list_all (λ man. man == lead) front → b ≡ list_all (λ man. man == other) next →
+    first ≡ take k men → following ≡ drop k men → next ≡ take m following →
+    a ≡ list_all (λ man. man == lead) first → b ≡ list_all (λ man. man == other) next →
     (a && b) ≡ has_pawns_first sides men
-pawns_first_given sides lead other k m men front behind next a b f g kk mm x y z p q =
-    let t = told (has_pawns sides) (lead_pawns sides) (other_pawns sides) lead other (lead_pawn_code sides) (other_pawn_code sides) men f g (no_pawns sides) in
+pawns_first_given sides lead other k m men first following next a b f g kk mm x y z p q =
+    let t = same_pawns (has_pawns sides) (lead_pawns sides) (other_pawns sides) lead other (lead_pawn_code sides) (other_pawn_code sides) men f g (no_pawns sides) in
     let p' : a ≡ list_all (λ man. man == lead) (take (lead_pawns sides) men) = p ∙ ap (λ l. list_all (λ man. man == lead) l) (x ∙ ap (λ n. take n men) kk) in
     let q' : b ≡ list_all (λ man. man == other) (take (other_pawns sides) (drop (lead_pawns sides) men)) =
-    q ∙ ap (λ l. list_all (λ man. man == other) l) (z ∙ ap (λ n. take n behind) mm ∙ ap (λ l. take (other_pawns sides) l) (y ∙ ap (λ n. drop n men) kk)) in
+    q ∙ ap (λ l. list_all (λ man. man == other) l) (z ∙ ap (λ n. take n following) mm ∙ ap (λ l. take (other_pawns sides) l) (y ∙ ap (λ n. drop n men) kk)) in
     ap (λ c. c && b) p' ∙ ap (λ c. list_all (λ man. man == lead) (take (lead_pawns sides) men) && c) q' ∙ t
 
 other_same : (b : Bool) (k m : ℕ) → (b ≡ false → k + m ≡ 0) → nat_lt 0 m ≡ (b && nat_lt 0 m)
 other_same true k m h = refl
 other_same false k m h = let e = h refl in let f : m ≡ 0 = omega (arith, e) in rw f refl
 
-pub has_other_pawns-told : (sides : Sides) → nat_lt 0 (other_pawns sides) ≡ has_other_pawns sides
-has_other_pawns-told sides = other_same (has_pawns sides) (lead_pawns sides) (other_pawns sides) (no_pawns sides)
+pub has_other_pawns-counted : (sides : Sides) → nat_lt 0 (other_pawns sides) ≡ has_other_pawns sides
+has_other_pawns-counted sides = other_same (has_pawns sides) (lead_pawns sides) (other_pawns sides) (no_pawns sides)

@@ -33,23 +33,23 @@ length-positions_from b lead other count e =
 pub positions_from-more : (lead : ℕ) (other : Option ℕ) (position : ℕ) →
     positions_from lead other (position + 1) ≡ positions_from lead other position ++ cond (not (contains (lead ∷ option_to_list other) position)) (position ∷ []) []
 positions_from-more lead other position =
-    let told = lead ∷ option_to_list other in
-    let passes : ℕ → Bool = λ x. not (contains told x) in
-    let e : without told (range_with_len 0 (position + 1)) ≡ without told (range_with_len 0 position) ++ cond (passes position) (position ∷ []) [] =
-    ap (without told) (range-split 0 position 1) ∙ filter-append passes (range_with_len 0 position) (range_with_len (0 + position) 1)
+    let fixed = lead ∷ option_to_list other in
+    let passes : ℕ → Bool = λ x. not (contains fixed x) in
+    let e : without fixed (range_with_len 0 (position + 1)) ≡ without fixed (range_with_len 0 position) ++ cond (passes position) (position ∷ []) [] =
+    ap (without fixed) (range-split 0 position 1) ∙ filter-append passes (range_with_len 0 position) (range_with_len (0 + position) 1)
     ∙ ap (λ k. filter passes (range_with_len 0 position) ++ filter passes (k ∷ [])) (zero-add position) in
-    ap (λ l. told ++ l) e ∙ sym (append_assoc told (without told (range_with_len 0 position)) (cond (passes position) (position ∷ []) []))
+    ap (λ l. fixed ++ l) e ∙ sym (append_assoc fixed (without fixed (range_with_len 0 position)) (cond (passes position) (position ∷ []) []))
 
 positions_from-le : (lead : ℕ) (other : Option ℕ) (a b : ℕ) → length (positions_from lead other a) ≤ length (positions_from lead other (a + b))
 positions_from-le lead other a b =
-    let told = lead ∷ option_to_list other in
-    let passes : ℕ → Bool = λ x. not (contains told x) in
-    let e : without told (range_with_len 0 (a + b)) ≡ without told (range_with_len 0 a) ++ without told (range_with_len (0 + a) b) =
-    ap (without told) (range-split 0 a b) ∙ filter-append passes (range_with_len 0 a) (range_with_len (0 + a) b) in
+    let fixed = lead ∷ option_to_list other in
+    let passes : ℕ → Bool = λ x. not (contains fixed x) in
+    let e : without fixed (range_with_len 0 (a + b)) ≡ without fixed (range_with_len 0 a) ++ without fixed (range_with_len (0 + a) b) =
+    ap (without fixed) (range-split 0 a b) ∙ filter-append passes (range_with_len 0 a) (range_with_len (0 + a) b) in
     let f = ap length e in
-    let g = length-append (without told (range_with_len 0 a)) (without told (range_with_len (0 + a) b)) in
-    let h = length-append told (without told (range_with_len 0 a)) in
-    let i = length-append told (without told (range_with_len 0 (a + b))) in
+    let g = length-append (without fixed (range_with_len 0 a)) (without fixed (range_with_len (0 + a) b)) in
+    let h = length-append fixed (without fixed (range_with_len 0 a)) in
+    let i = length-append fixed (without fixed (range_with_len 0 (a + b))) in
     omega (arith, f, g, h, i)
 
 -- a remaining position fits into the list

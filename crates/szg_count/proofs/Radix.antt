@@ -194,9 +194,9 @@ one_digit s w d e r a b =
     let v : s / w + (d + e * r) ≡ d + e * r = omega arith in
     ap (λ n. n / w % e) x ∙ ap (λ n. n % e) (y ∙ v) ∙ t ∙ u
 
-digit-told : (k p : ℕ) (ps ws ds : List ℕ) → AllDiffer ps → length ws ≡ length ps → EachBelow ds ws →
+digit-decoded : (k p : ℕ) (ps ws ds : List ℕ) → AllDiffer ps → length ws ≡ length ps → EachBelow ds ws →
     sum_below (up k (suc p)) (λ q. ways_below q ps ws) ps ds / ways_below p ps ws % ways_at p ps ws ≡ digit_at p ps ds
-digit-told k p ps ws ds a l b =
+digit-decoded k p ps ws ds a l b =
     let h = sum-multiple k (suc p) ps ws ps ds in
     rw (h.1, sum-step p (λ q. ways_below q ps ws) ps ds, ways-step p ps ws)
     (one_digit (sum_below p (λ q. ways_below q ps ws) ps ds) (ways_below p ps ws) (digit_at p ps ds) (ways_at p ps ws) h.0
@@ -234,15 +234,15 @@ agrees (q ∷ ps) (w ∷ ws) (d ∷ ds) a l b =
       Agrees-more q w d ps ws ds ps ws ds a.0 (agrees ps ws ds a.1 m b.1),
     )
 
-told : (i : ℕ) (f : ℕ → ℕ) (ps ws ds qs us more : List ℕ) → ((p : ℕ) → IsIn p qs → i / f p % ways_at p ps ws ≡ digit_at p ps ds) →
+digits-decoded : (i : ℕ) (f : ℕ → ℕ) (ps ws ds qs us more : List ℕ) → ((p : ℕ) → IsIn p qs → i / f p % ways_at p ps ws ≡ digit_at p ps ds) →
     Agrees ps ws ds qs us more → decode_digits (map f qs) us i ≡ more
-told i f ps ws ds [] [] [] each h = refl
-told i f ps ws ds [] [] (d ∷ more) each h = absurd h
-told i f ps ws ds [] (w ∷ us) more each h = absurd h
-told i f ps ws ds (q ∷ qs) [] more each h = absurd h
-told i f ps ws ds (q ∷ qs) (w ∷ us) [] each h = absurd h
-told i f ps ws ds (q ∷ qs) (w ∷ us) (d ∷ more) each h =
-    rw (told i f ps ws ds qs us more (λ p k. each p (inr k)) h.2)
+digits-decoded i f ps ws ds [] [] [] each h = refl
+digits-decoded i f ps ws ds [] [] (d ∷ more) each h = absurd h
+digits-decoded i f ps ws ds [] (w ∷ us) more each h = absurd h
+digits-decoded i f ps ws ds (q ∷ qs) [] more each h = absurd h
+digits-decoded i f ps ws ds (q ∷ qs) (w ∷ us) [] each h = absurd h
+digits-decoded i f ps ws ds (q ∷ qs) (w ∷ us) (d ∷ more) each h =
+    rw (digits-decoded i f ps ws ds qs us more (λ p k. each p (inr k)) h.2)
     (ap (λ x. x ∷ more) (ap (λ x. i / f q % x) (sym h.0) ∙ each q (inl refl) ∙ h.1))
 
 past : (p n : ℕ) → p < n → up (n - suc p) (suc p) ≡ n
@@ -253,9 +253,9 @@ digits_again ps ws ds o l b =
     let n = length ps in let f : ℕ → ℕ = λ q. ways_below q ps ws in
     let each : (p : ℕ) → IsIn p ps → sum_below n f ps ds / f p % ways_at p ps ws ≡ digit_at p ps ds =
     λ p k. subst (λ (m : ℕ). sum_below m f ps ds / f p % ways_at p ps ws ≡ digit_at p ps ds) (past p n (o.below p k))
-    (digit-told (n - suc p) p ps ws ds o.differ l b) in
+    (digit-decoded (n - suc p) p ps ws ds o.differ l b) in
     rw (factors_of-below ps ws, ← sum-all n f ps ds o.below)
-    (told (sum_below n f ps ds) f ps ws ds ps ws ds each (agrees ps ws ds o.differ l b))
+    (digits-decoded (sum_below n f ps ds) f ps ws ds ps ws ds each (agrees ps ws ds o.differ l b))
 
 -- ---- encoding decoded digits
 
@@ -291,10 +291,10 @@ pos_right : (a b n : ℕ) → n ≡ a * b → 0 < n → 0 < b
 pos_right a zero n e h = absurd (omega (arith, e, h))
 pos_right a (suc b) n e h = omega arith
 
-sum-told : (p n i : ℕ) (ps ws : List ℕ) → AllDiffer ps → length ws ≡ length ps → p ≤ n → 0 < ways_below n ps ws →
+sum-decoded : (p n i : ℕ) (ps ws : List ℕ) → AllDiffer ps → length ws ≡ length ps → p ≤ n → 0 < ways_below n ps ws →
     sum_below p (λ q. ways_below q ps ws) ps (decode_digits (map (λ q. ways_below q ps ws) ps) ws i) ≡ i % ways_below p ps ws
-sum-told zero n i ps ws a l h v = rw (sum-none (λ q. ways_below q ps ws) ps (decode_digits (map (λ q. ways_below q ps ws) ps) ws i), ways-none ps ws) (sym (mod-one i))
-sum-told (suc p) n i ps ws a l h v =
+sum-decoded zero n i ps ws a l h v = rw (sum-none (λ q. ways_below q ps ws) ps (decode_digits (map (λ q. ways_below q ps ws) ps) ws i), ways-none ps ws) (sym (mod-one i))
+sum-decoded (suc p) n i ps ws a l h v =
     let f : ℕ → ℕ = λ q. ways_below q ps ws in let ds = decode_digits (map f ps) ws i in
     let lt : p < n = omega arith in let le : p ≤ n = omega arith in
     let m = ways-multiple (n - suc p) (suc p) ps ws in
@@ -302,7 +302,7 @@ sum-told (suc p) n i ps ws a l h v =
     let next : 0 < ways_below (suc p) ps ws = pos_left (ways_below (suc p) ps ws) m.0 (ways_below n ps ws) e v in
     let here : 0 < ways_below p ps ws = pos_left (ways_below p ps ws) (ways_at p ps ws) (ways_below (suc p) ps ws) (ways-step p ps ws) next in
     let at_p : 0 < ways_at p ps ws = pos_right (ways_below p ps ws) (ways_at p ps ws) (ways_below (suc p) ps ws) (ways-step p ps ws) next in
-    rw (sum-step p f ps ds, sum-told p n i ps ws a l le v, digits-at p i f ps ws a l, ways-step p ps ws)
+    rw (sum-step p f ps ds, sum-decoded p n i ps ws a l le v, digits-at p i f ps ws a l, ways-step p ps ws)
     (two_steps i (ways_below p ps ws) (ways_at p ps ws) here at_p)
 
 pub index_again : LawEncodeDecoded
@@ -312,4 +312,4 @@ index_again ps ws i o l h =
     let pos : 0 < ways_below n ps ws = omega (arith, v, h) in
     let le : n ≤ n = omega arith in
     rw (factors_of-below ps ws, ← sum-all n f ps (decode_digits (map f ps) ws i) o.below)
-    (sum-told n n i ps ws o.differ l le pos ∙ ap (λ z. i % z) v ∙ mod-eq_of_lt h)
+    (sum-decoded n n i ps ws o.differ l le pos ∙ ap (λ z. i % z) v ∙ mod-eq_of_lt h)

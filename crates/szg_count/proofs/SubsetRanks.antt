@@ -239,14 +239,14 @@ numbered : (xs : List ℕ) → map (slice_index (reverse xs)) (numbers_below (le
 unfolding numbers_below
 numbered [] = refl
 numbered (x ∷ xs) =
-    let turned : reverse (x ∷ xs) ≡ reverse xs ++ x ∷ [] = reverse_onto xs x [] in
+    let reversed : reverse (x ∷ xs) ≡ reverse xs ++ x ∷ [] = reverse_onto xs x [] in
     let size = length-reverse xs in
     let last : slice_index (reverse xs ++ x ∷ []) (length xs) ≡ x =
     ap (slice_index (reverse xs ++ x ∷ [])) (sym size) ∙ get_or-append_seam (reverse xs) x [] 0 in
-    let first : slice_index (reverse (x ∷ xs)) (length xs) ≡ x = ap (λ l. slice_index l (length xs)) turned ∙ last in
+    let first : slice_index (reverse (x ∷ xs)) (length xs) ≡ x = ap (λ l. slice_index l (length xs)) reversed ∙ last in
     let others : map (slice_index (reverse (x ∷ xs))) (numbers_below (length xs)) ≡ xs =
     named (length xs) (slice_index (reverse (x ∷ xs))) (slice_index (reverse xs))
-    (λ k h. ap (λ l. slice_index l k) turned ∙ get_or_append_left (reverse xs) (x ∷ []) 0 k (omega (arith, h, size)))
+    (λ k h. ap (λ l. slice_index l k) reversed ∙ get_or_append_left (reverse xs) (x ∷ []) 0 k (omega (arith, h, size)))
     ∙ numbered xs in
     (λ i. first i ∷ others i)
 

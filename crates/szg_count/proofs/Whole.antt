@@ -12,7 +12,7 @@ use Rattle.szg_count.specs.Groups.{Nibbles, IsPart, is_rearrangement, has_pawns_
 use Rattle.szg_count.specs.Views.{group_at, groups_in_slot_order}
 use Rattle.szg_count.specs.Steps.{are_valid_positions, positions_from, ways_by, group_from}
 use Rattle.szg_count.proofs.Sizes.{size_below}
-use Rattle.szg_count.proofs.Pawns.{has_other_pawns-told}
+use Rattle.szg_count.proofs.Pawns.{has_other_pawns-counted}
 use Rattle.szg_count.proofs.Counts.{group_ways-by, sum-take, length-at}
 use Rattle.szg_count.proofs.Positions.{length-positions_from, map-range-same}
 
@@ -61,11 +61,11 @@ unfolding order_fault
 order_fault-none sides n e f g = none_fails (is_rearrangement n.men (man_codes sides)) (has_pawns_first sides n.men) (has_valid_positions sides n) e f g
 
 -- valid positions in the code's terms
-pub has_valid_positions-told : (sides : Sides) (n : Nibbles) (other count : ℕ) → other ≡ other_pawns sides → count ≡ length (groups_of sides n.men) →
+pub has_valid_positions-counted : (sides : Sides) (n : Nibbles) (other count : ℕ) → other ≡ other_pawns sides → count ≡ length (groups_of sides n.men) →
     are_valid_positions (nat_lt 0 other) n.lead n.other count ≡ has_valid_positions sides n
-has_valid_positions-told sides n other count e f =
+has_valid_positions-counted sides n other count e f =
     ap (λ m. are_valid_positions (nat_lt 0 m) n.lead n.other count) e
-    ∙ ap (λ b. are_valid_positions b n.lead n.other count) (has_other_pawns-told sides)
+    ∙ ap (λ b. are_valid_positions b n.lead n.other count) (has_other_pawns-counted sides)
     ∙ ap (λ m. are_valid_positions (has_other_pawns sides) n.lead n.other m) f
 
 -- ---- the results

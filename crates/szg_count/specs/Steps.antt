@@ -32,7 +32,7 @@ are_valid_positions has_other lead other count = (if is_some other then has_othe
 
 -- the given positions, followed by the remaining ones
 abbrev pub positions_from : ℕ → Option ℕ → ℕ → List ℕ
-positions_from lead other count = let told = lead ∷ option_to_list other in told ++ without told (range_with_len 0 count)
+positions_from lead other count = let fixed = lead ∷ option_to_list other in fixed ++ without fixed (range_with_len 0 count)
 
 -- no number is 0
 abbrev pub ArePositive : List ℕ → Type 0

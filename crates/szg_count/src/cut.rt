@@ -48,9 +48,9 @@ pub fn has_pawns_first(material: &Material, codes: &[u8], men: &[u8]) -> bool
     ensures { result ≡ has_pawns_first material.now men.now }
 {
     let (lead, other) = pawn_codes(material, codes);
-    let (front, behind) = men.split_at(usize::from(material.lead_pawns()));
-    let (next, _) = behind.split_at(usize::from(material.other_pawns()));
-    are_all(lead, front) && are_all(other, next)
+    let (first, following) = men.split_at(usize::from(material.lead_pawns()));
+    let (next, _) = following.split_at(usize::from(material.other_pawns()));
+    are_all(lead, first) && are_all(other, next)
 }
 
 // Returns whether all these men have this code.
@@ -98,8 +98,8 @@ pub fn group_lengths(material: &Material, men: &[u8]) -> ArrayVec<u8, MAX_MEN>
     let lead = lead_length(material);
     let others = material.other_pawns();
     let mut lengths = leading_lengths(lead, others);
-    let (_, behind) = men.split_at(usize::from(lead + others));
-    push_runs(&mut lengths, behind);
+    let (_, following) = men.split_at(usize::from(lead + others));
+    push_runs(&mut lengths, following);
     lengths
 }
 
@@ -122,9 +122,9 @@ fn push_runs(lengths: &mut ArrayVec<u8, MAX_MEN>, men: &[u8])
 {
     let mut rest = men;
     while let Some(man) = rest.first() {
-        let (run, behind) = rest.split_at(leading(*man, rest));
+        let (run, following) = rest.split_at(leading(*man, rest));
         lengths.push(run.len() as u8);
-        rest = behind;
+        rest = following;
     }
 }
 

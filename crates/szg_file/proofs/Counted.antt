@@ -9,7 +9,7 @@ use Rattle.szg_file.specs.declared.reading.Pieces.{Pieces}
 use Rattle.szg_file.specs.FilePieces.{contents_of}
 use Rattle.szg_file.specs.Grown.{HasCounted, pieces_lengths}
 use Rattle.szg_file.specs.Held.{Shown, file_bytes, part_of, subtable_of, map_of}
-use Rattle.szg_file.specs.Lengths.{part_length}
+use Rattle.szg_file.specs.Grown.{part_length}
 use Rattle.szg_file.specs.WholeRead.{sub_lengths, map_lengths, list_lengths}
 use Rattle.szg_file.proofs.Grown.{sum_shown}
 

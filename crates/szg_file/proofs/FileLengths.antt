@@ -1,11 +1,11 @@
--- The length of an accepted table's file: the length of its fields plus its padding bytes, below 2 ^ 60.
+-- The length of a table's file, and its number of padding bytes: how they follow from the sections, and upper bounds.
 use Rattle.std.proofs.Common.{◌≡◌, ℕ, zero, suc, ◌+◌, ◌-◌, ◌*◌, ◌%◌, ◌^◌, ◌<◌, ◌≤◌, Bool, true, false, cond, ◌&&◌, List, [], ◌∷◌, ◌++◌, length, take, drop, map, refl, sym, ap, subst, ◌∙◌, arith, Option, Some, None}
 use Rattle.std.specs.Prelude.{flat_map, sum_by, IsTrue, replicate, nat_le}
 use Rattle.std.specs.List.{AllByRecursion}
 use Rattle.std.proofs.lemmas.List.{length-append, length-take, length-drop, length-map, length-replicate}
 use Rattle.std.proofs.lemmas.List.Sums.{sum_by-cons}
 use Rattle.std.proofs.lemmas.Bool.{leb-true}
-use Rattle.std.proofs.Math.Nat.{mod-le, div-le_self, mul-le-mul}
+use Rattle.std.proofs.Math.Nat.{mod-le, div-le_self, mul-le-mul, mul-le-mul_left}
 use Rattle.std.proofs.Math.Pow.{pow_mono}
 use Rattle.szg_values.specs.declared.Kind.{Kind}
 use Rattle.szg_values.specs.declared.Kind.TheVariants.{Wdl, Dtz}
@@ -18,99 +18,173 @@ use Rattle.szg_block.specs.Sound.{entry_count}
 use Rattle.szg_block.proofs.Deciding.{has_total-true}
 use Rattle.szg_file.specs.Contents.{Part, Head, Subtable, constant, pairs, layout_of, Map, narrow, wide, Contents, bytes_of, gap, part_numbers, side_numbers, order_bytes, order_of, Slot, slots, slots_from, part_slots}
 use Rattle.szg_file.specs.File.{magic_of}
-use Rattle.szg_file.specs.FileOf.{Section, written, padding, spare, joined, asked, part_sections, head_sections, list_sections, map_sections, maps_sections, sparse_sections, lengths_sections, blocks_sections, sections, file_of, fill_asked}
+use Rattle.szg_file.specs.FileOf.{Section, written, padding, spare, fill_of, bytes_with, joined, asked, part_sections, head_sections, list_sections, map_sections, maps_sections, sparse_sections, lengths_sections, blocks_sections, sections, file_of, fill_asked}
 use Rattle.szg_file.specs.Accepted.{SideBySide, AreNumbers, AreBytes, IsPart, IsSubtable, IsPacked, IsMapOf, AreMaps, IsAccepted}
-use Rattle.szg_file.specs.Lengths.{part_length, subtable_length, map_length, FileLength}
+use Rattle.szg_file.specs.Tally.{length_of, end_of, fill_from}
 
--- ---- sections
+-- ---- offsets
 
--- the number of bytes of sections, without padding bytes
-abbrev pub written_length : List Section → ℕ
-written_length [] = 0
-written_length (written bytes ∷ s) = length bytes + written_length s
-written_length (padding unit ∷ s) = written_length s
-written_length (spare size ∷ s) = written_length s
+-- the bytes of a section with enough padding bytes
+piece_length : (section : Section) (count : ℕ) (fill : List ℕ) → fill_of section count ≤ length fill →
+    length (bytes_with section (take (fill_of section count) fill)) ≡ length_of section + fill_of section count
+piece_length (written bytes) count fill h = omega arith
+piece_length (padding unit) count fill h = omega (arith, length-take (gap unit count) fill, h)
+piece_length (spare size) count fill h = omega (arith, length-take size fill, h)
 
--- an upper bound on the number of their padding bytes
-abbrev pub most_fill : List Section → ℕ
-most_fill [] = 0
-most_fill (written bytes ∷ s) = most_fill s
-most_fill (padding unit ∷ s) = unit + most_fill s
-most_fill (spare size ∷ s) = size + most_fill s
+-- the text ends at the offset that the sections lead to, if there are enough padding bytes
+joined-end : (s : List Section) (text fill : List ℕ) → fill_from (length text) s ≤ length fill → length (joined text s fill) ≡ end_of (length text) s
+joined-end [] text fill h = refl
+joined-end (section ∷ s) text fill h =
+    let count : ℕ = fill_of section (length text) in
+    let piece : List ℕ = bytes_with section (take count fill) in
+    let one : length piece ≡ length_of section + count = piece_length section (length text) fill (omega (arith, h)) in
+    let next : length (text ++ piece) ≡ length text + length_of section + count = omega (arith, one, length-append text piece) in
+    let left : fill_from (length (text ++ piece)) s ≤ length (drop count fill) =
+    subst (λ (p : ℕ). fill_from p s ≤ length (drop count fill)) (sym next) (omega (arith, h, length-drop count fill)) in
+    joined-end s (text ++ piece) (drop count fill) left ∙ ap (λ (p : ℕ). end_of p s) next
 
-written-append : (s t : List Section) → written_length (s ++ t) ≡ written_length s + written_length t
-written-append [] t = omega arith
-written-append (written bytes ∷ s) t = let h = written-append s t in omega (arith, h)
-written-append (padding unit ∷ s) t = written-append s t
-written-append (spare size ∷ s) t = written-append s t
+-- the bytes of a section whose padding bytes are zeros
+zeros_length : (section : Section) (count : ℕ) → length (bytes_with section (replicate (fill_of section count) 0)) ≡ length_of section + fill_of section count
+zeros_length (written bytes) count = omega arith
+zeros_length (padding unit) count = length-replicate {A = ℕ} (gap unit count) 0 ∙ omega arith
+zeros_length (spare size) count = length-replicate {A = ℕ} size 0 ∙ omega arith
 
-pub fill-append : (s t : List Section) → most_fill (s ++ t) ≡ most_fill s + most_fill t
-fill-append [] t = omega arith
-fill-append (written bytes ∷ s) t = fill-append s t
-fill-append (padding unit ∷ s) t = let h = fill-append s t in omega (arith, h)
-fill-append (spare size ∷ s) t = let h = fill-append s t in omega (arith, h)
+-- the number of padding bytes depends on lengths alone
+pub asked-from : (text : List ℕ) (s : List Section) → asked text s ≡ fill_from (length text) s
+asked-from text [] = refl
+asked-from text (section ∷ s) =
+    let count : ℕ = fill_of section (length text) in
+    let zeros : List ℕ = replicate count 0 in
+    let piece : List ℕ = bytes_with section zeros in
+    let next : length (text ++ piece) ≡ length text + length_of section + count = omega (arith, zeros_length section (length text), length-append text piece) in
+    ap (λ (n : ℕ). count + n) (asked-from (text ++ piece) s ∙ ap (λ (p : ℕ). fill_from p s) next)
 
-pub asked-fill : (text : List ℕ) (s : List Section) → asked text s ≤ most_fill s
-asked-fill text [] = omega arith
-asked-fill text (written bytes ∷ s) = let h = asked-fill (text ++ bytes) s in omega (arith, h)
-asked-fill text (padding unit ∷ s) =
-    let h = asked-fill (text ++ replicate (gap unit (length text)) 0) s in
-    omega (arith, h, mod-le (unit - length text % unit) unit)
-asked-fill text (spare size ∷ s) = let h = asked-fill (text ++ replicate size 0) s in omega (arith, h)
+-- ---- sums over sections
 
--- If there are enough padding bytes, the length of the text is that of its fields plus its padding bytes.
-joined-length : (s : List Section) (text text' fill : List ℕ) → length text ≡ length text' → asked text' s ≤ length fill →
-    length (joined text s fill) ≡ length text + written_length s + asked text' s
-joined-length [] text text' fill e h = omega arith
-joined-length (written bytes ∷ s) text text' fill e h =
-    let k = joined-length s (text ++ bytes) (text' ++ bytes) fill (omega (arith, e, length-append text bytes, length-append text' bytes)) (omega (arith, h)) in
-    omega (arith, k, length-append text bytes)
-joined-length (padding unit ∷ s) text text' fill e h =
-    let size : ℕ = gap unit (length text') in
-    let same : gap unit (length text) ≡ size = ap (gap unit) e in
-    let taken : length (take size fill) ≡ size = omega (arith, length-take size fill, h) in
-    let left : length (drop size fill) ≡ length fill - size = length-drop size fill in
-    let k = joined-length s (text ++ take size fill) (text' ++ replicate size 0) (drop size fill)
-    (omega (arith, e, taken, length-append text (take size fill), length-append text' (replicate size 0), length-replicate {A = ℕ} size 0)) (omega (arith, h, left)) in
-    ap (λ (n : ℕ). length (joined (text ++ take n fill) s (drop n fill))) same
-    ∙ omega (arith, k, taken, length-append text (take size fill))
-joined-length (spare size ∷ s) text text' fill e h =
-    let taken : length (take size fill) ≡ size = omega (arith, length-take size fill, h) in
-    let left : length (drop size fill) ≡ length fill - size = length-drop size fill in
-    let k = joined-length s (text ++ take size fill) (text' ++ replicate size 0) (drop size fill)
-    (omega (arith, e, taken, length-append text (take size fill), length-append text' (replicate size 0), length-replicate {A = ℕ} size 0)) (omega (arith, h, left)) in
-    omega (arith, k, taken, length-append text (take size fill))
+abbrev pub total_of : (Section → ℕ) → List Section → ℕ
+total_of of [] = 0
+total_of of (section ∷ s) = of section + total_of of s
 
--- ---- lists of items
+-- the most padding bytes that a section may have
+abbrev pub most_of : Section → ℕ
+most_of (written bytes) = 0
+most_of (padding unit) = unit
+most_of (spare size) = size
 
--- items in order, with a bound on the length of each
-pub record Lists {A : Type 0} (f : A → List Section) (len : A → ℕ) (most : ℕ) (fill : ℕ) (count : ℕ) (xs : List A) : Type 0 where
-  pub number : length xs ≡ count
-  pub written : written_length (flat_map f xs) ≡ sum_by len xs
-  pub below : sum_by len xs ≤ most * count
-  pub filled : most_fill (flat_map f xs) ≤ fill * count
+fill-most : (section : Section) (place : ℕ) → fill_of section place ≤ most_of section
+fill-most (written bytes) place = omega arith
+fill-most (padding unit) place = omega (arith, mod-le (unit - place % unit) unit)
+fill-most (spare size) place = omega arith
 
--- one item
-pub record Item {A : Type 0} (f : A → List Section) (len : A → ℕ) (most : ℕ) (fill : ℕ) (x : A) : Type 0 where
-  pub written : written_length (f x) ≡ len x
-  pub below : len x ≤ most
-  pub filled : most_fill (f x) ≤ fill
+fill_from-most : (s : List Section) (place : ℕ) → fill_from place s ≤ total_of most_of s
+fill_from-most [] place = omega arith
+fill_from-most (section ∷ s) place =
+    let rest = fill_from-most s (place + length_of section + fill_of section place) in
+    omega (arith, rest, fill-most section place)
 
-pub lists : {A B : Type 0} (P : B → A → Type 0) (f : A → List Section) (len : A → ℕ) (most fill : ℕ) → ((y : B) (x : A) → P y x → Item f len most fill x) →
-    (ys : List B) (xs : List A) → SideBySide P ys xs → Lists f len most fill (length ys) xs
-lists P f len most fill one [] [] h = record { number = refl; written = refl; below = omega arith; filled = omega arith }
-lists P f len most fill one [] (x ∷ xs) h = absurd h
-lists P f len most fill one (y ∷ ys) [] h = absurd h
-lists P f len most fill one (y ∷ ys) (x ∷ xs) h =
-    let i = one y x h.0 in
-    let r = lists P f len most fill one ys xs h.1 in
-    let total : sum_by len (x ∷ xs) ≡ len x + sum_by len xs = sum_by-cons len x xs in
-    record {
-      number = ap suc r.number;
-      written = omega (arith, written-append (f x) (flat_map f xs), i.written, r.written, total);
-      below = omega (arith, i.below, r.below, total);
-      filled = omega (arith, fill-append (f x) (flat_map f xs), i.filled, r.filled);
-    }
+end_of-total : (s : List Section) (place : ℕ) → end_of place s ≡ place + total_of length_of s + fill_from place s
+end_of-total [] place = omega arith
+end_of-total (section ∷ s) place =
+    let rest = end_of-total s (place + length_of section + fill_of section place) in
+    omega (arith, rest)
+
+module _ (of : Section → ℕ) where
+  total-append : (s t : List Section) → total_of of (s ++ t) ≡ total_of of s + total_of of t
+  total-append [] t = omega arith
+  total-append (section ∷ s) t = let rest = total-append s t in omega (arith, rest)
+
+  total_each : {A : Type 0} (f : A → List Section) (most : ℕ) → ((x : A) → total_of of (f x) ≤ most) → (xs : List A) → total_of of (flat_map f xs) ≤ most * length xs
+  total_each f most one [] = omega arith
+  total_each f most one (x ∷ xs) =
+      let here = one x in
+      let rest = total_each f most one xs in
+      let joint = total-append (f x) (flat_map f xs) in
+      let more : most * suc (length xs) ≡ most + most * length xs = omega arith in
+      omega (arith, here, rest, joint, more)
+
+  total_all : {A : Type 0} (P : A → Type 0) (f : A → List Section) (most : ℕ) → ((x : A) → P x → total_of of (f x) ≤ most) → (xs : List A) → AllByRecursion P xs →
+      total_of of (flat_map f xs) ≤ most * length xs
+  total_all P f most one [] h = omega arith
+  total_all P f most one (x ∷ xs) h =
+      let here = one x h.0 in
+      let rest = total_all P f most one xs h.1 in
+      let joint = total-append (f x) (flat_map f xs) in
+      let more : most * suc (length xs) ≡ most + most * length xs = omega arith in
+      omega (arith, here, rest, joint, more)
+
+  -- a section a part of a table
+  total_sections : (t : Contents) → total_of of (sections t) ≡
+      total_of of (written (magic_of t.kind) ∷ written (t.byte4 ∷ []) ∷ []) + total_of of (flat_map part_sections t.parts)
+      + total_of of (padding 2 ∷ []) + total_of of (flat_map head_sections t.subtables) + total_of of (maps_sections t.kind t.maps)
+      + total_of of (flat_map sparse_sections t.subtables) + total_of of (flat_map lengths_sections t.subtables)
+      + total_of of (flat_map blocks_sections t.subtables) + total_of of (padding 64 ∷ written t.last ∷ [])
+  total_sections t =
+      let parts : List Section = written (magic_of t.kind) ∷ written (t.byte4 ∷ []) ∷ flat_map part_sections t.parts in
+      let heads : List Section = padding 2 ∷ flat_map head_sections t.subtables in
+      let maps : List Section = maps_sections t.kind t.maps in
+      let indexes : List Section = flat_map sparse_sections t.subtables in
+      let lengths : List Section = flat_map lengths_sections t.subtables in
+      let blocks : List Section = flat_map blocks_sections t.subtables in
+      let ending : List Section = padding 64 ∷ written t.last ∷ [] in
+      omega (
+        arith,
+        total-append (((((parts ++ heads) ++ maps) ++ indexes) ++ lengths) ++ blocks) ending,
+        total-append ((((parts ++ heads) ++ maps) ++ indexes) ++ lengths) blocks,
+        total-append (((parts ++ heads) ++ maps) ++ indexes) lengths,
+        total-append ((parts ++ heads) ++ maps) indexes,
+        total-append (parts ++ heads) maps,
+        total-append parts heads,
+      )
+
+  total_maps : (kind : Kind) (maps : List (Option Map)) → total_of of (maps_sections kind maps) ≤ total_of of (flat_map map_sections maps) + of (padding 2)
+  total_maps Wdl maps = omega arith
+  total_maps Dtz maps = omega (arith, total-append (flat_map map_sections maps) (padding 2 ∷ []))
+
+-- ---- the number of padding bytes
+
+none_each : {A : Type 0} (f : A → List Section) → ((x : A) → total_of most_of (f x) ≡ 0) → (xs : List A) → total_of most_of (flat_map f xs) ≡ 0
+none_each f none xs = let most = total_each most_of f 0 (λ x. let here = none x in omega (arith, here)) xs in omega (arith, most)
+
+head_fill : (s : Subtable) → total_of most_of (head_sections s) ≤ 1
+head_fill (constant flags byte) = omega arith
+head_fill (pairs head sparse lengths packed) = let odd : length head.entries % 2 < 2 = omega arith in omega (arith, odd)
+
+sparse_fill : (s : Subtable) → total_of most_of (sparse_sections s) ≡ 0
+sparse_fill (constant flags byte) = refl
+sparse_fill (pairs head sparse lengths packed) = refl
+
+lengths_fill : (s : Subtable) → total_of most_of (lengths_sections s) ≡ 0
+lengths_fill (constant flags byte) = refl
+lengths_fill (pairs head sparse lengths packed) = refl
+
+blocks_fill : (s : Subtable) → total_of most_of (blocks_sections s) ≤ 64
+blocks_fill (constant flags byte) = omega arith
+blocks_fill (pairs head sparse lengths packed) = omega arith
+
+map_fill : (m : Option Map) → total_of most_of (map_sections m) ≤ 2
+map_fill None = omega arith
+map_fill (Some (narrow lists)) = let none = none_each (list_sections 1) (λ list. refl) lists in omega (arith, none)
+map_fill (Some (wide lists)) = let none = none_each (list_sections 2) (λ list. refl) lists in omega (arith, none)
+
+pub few_filled : (t : Contents) → fill_from 0 (sections t) ≤ 65 * length t.subtables + 2 * length t.maps + 68
+few_filled t = omega (
+  arith,
+  fill_from-most (sections t) 0,
+  total_sections most_of t,
+  none_each part_sections (λ part. refl) t.parts,
+  total_each most_of head_sections 1 head_fill t.subtables,
+  total_maps most_of t.kind t.maps,
+  total_each most_of map_sections 2 map_fill t.maps,
+  none_each sparse_sections sparse_fill t.subtables,
+  none_each lengths_sections lengths_fill t.subtables,
+  total_each most_of blocks_sections 64 blocks_fill t.subtables,
+)
+
+-- a list in memory whose items take at least 80 bytes each is short
+pub few_held : (count size bytes : ℕ) → bytes ≡ count * size → bytes < 2 ^ 64 → 80 ≤ size → 80 * count < 2 ^ 64
+few_held count size bytes e h large =
+    let most : count * 80 ≤ count * size = mul-le-mul_left count large in
+    omega (arith, most, e, h)
 
 -- ---- parts
 
@@ -129,12 +203,8 @@ few_men sides h =
 few_orders : (sides : Sides) → order_bytes sides ≤ 2
 few_orders sides = elim (has_other_pawns sides) as (λ b. cond b 2 1 ≤ 2) [ true ↦ omega arith | false ↦ omega arith ]
 
-part_item : (sides : Sides) (kind : Kind) → IsMaterial sides → (number : ℕ) (part : Part) → IsPart sides kind part → Item part_sections part_length 8 0 part
-part_item sides kind m number part h = record {
-  written = omega arith;
-  below = omega (arith, h.order.0, h.men.0, few_men sides m, few_orders sides);
-  filled = omega arith;
-}
+part_total : (sides : Sides) (kind : Kind) → IsMaterial sides → (number : ℕ) (part : Part) → IsPart sides kind part → total_of length_of (part_sections part) ≤ 8
+part_total sides kind m number part h = omega (arith, h.order.0, h.men.0, few_men sides m, few_orders sides)
 
 few_either : (b : Bool) (xs ys : List ℕ) (most : ℕ) → length xs ≤ most → length ys ≤ most → length (cond b xs ys) ≤ most
 few_either true xs ys most p q = p
@@ -204,112 +274,71 @@ packed-below blocks bits h k =
     let product : blocks * 2 ^ bits ≤ 2 ^ 32 * 2 ^ 18 = mul-le-mul most power in
     omega (arith, product)
 
--- all sections of a subtable
-abbrev pub sub_sections : Subtable → List Section
-sub_sections s = head_sections s ++ (sparse_sections s ++ (lengths_sections s ++ blocks_sections s))
+-- items side by side with others, with a bound on each
+beside-length : {A B : Type 0} (P : B → A → Type 0) (ys : List B) (xs : List A) → SideBySide P ys xs → length xs ≡ length ys
+beside-length P [] [] h = refl
+beside-length P [] (x ∷ xs) h = absurd h
+beside-length P (y ∷ ys) [] h = absurd h
+beside-length P (y ∷ ys) (x ∷ xs) h = ap suc (beside-length P ys xs h.1)
 
-sub_item : (slot : Slot) (s : Subtable) → IsSubtable slot s → Item sub_sections subtable_length (2 ^ 53) 65 s
-sub_item slot (constant flags byte) h = record { written = omega arith; below = omega arith; filled = omega arith }
-sub_item slot (pairs head sparse lengths packed) h =
-    let lowest = pairs-length head.code.lowest in
-    let entries = entries-length head.entries h.head_stands.entries in
-    let index = sparse-length sparse in
-    let list = pairs-length lengths in
-    let odd : length head.entries % 2 < 2 = omega arith in
+total_beside : {A B : Type 0} (P : B → A → Type 0) (f : A → List Section) (most : ℕ) → ((y : B) (x : A) → P y x → total_of length_of (f x) ≤ most) →
+    (ys : List B) (xs : List A) → SideBySide P ys xs → total_of length_of (flat_map f xs) ≤ most * length ys
+total_beside P f most one [] [] h = omega arith
+total_beside P f most one [] (x ∷ xs) h = absurd h
+total_beside P f most one (y ∷ ys) [] h = absurd h
+total_beside P f most one (y ∷ ys) (x ∷ xs) h =
+    let here = one y x h.0 in
+    let rest = total_beside P f most one ys xs h.1 in
+    let joint = total-append length_of (f x) (flat_map f xs) in
+    let more : most * suc (length ys) ≡ most + most * length ys = omega arith in
+    omega (arith, here, rest, joint, more)
+
+-- a table's file ends where its sections lead to
+pub file_length : (t : Contents) (fill : List ℕ) → IsAccepted t fill → length (file_of t fill) ≡ end_of 0 (sections t)
+unfolding file_of fill_asked
+file_length t fill h =
+    let enough : fill_from 0 (sections t) ≤ length fill = let due = h.fill_fits.0 in omega (arith, due, asked-from [] (sections t)) in
+    joined-end (sections t) [] fill enough
+
+head_total : (slot : Slot) (s : Subtable) → IsSubtable slot s → total_of length_of (head_sections s) ≤ 2 ^ 20
+head_total slot (constant flags byte) h = omega arith
+head_total slot (pairs head sparse lengths packed) h =
+    omega (arith, pairs-length head.code.lowest, entries-length head.entries h.head_stands.entries, h.head_stands.symbols_fit, h.head_stands.code.lengths, h.head_stands.code.longest)
+
+sparse_total : (slot : Slot) (s : Subtable) → IsSubtable slot s → total_of length_of (sparse_sections s) ≤ 2 ^ 52
+sparse_total slot (constant flags byte) h = omega arith
+sparse_total slot (pairs head sparse lengths packed) h =
     let size : slot.size ≤ 2 ^ 48 = size-below head sparse lengths packed slot.size h in
-    let spans : length sparse ≤ 2 ^ 49 = omega (arith, h.sparse_count, few_entries head.span_bits slot.size h.head_stands.span_bits size) in
-    let bytes : length packed ≤ 2 ^ 50 = omega (arith, h.packed_bytes.0, packed-below head.blocks head.block_bits h.head_stands.blocks h.head_stands.block_bits) in
-    record {
-      written = omega (arith, lowest, entries, index, list);
-      below = omega (arith, spans, bytes, h.lengths_count, h.head_stands.blocks, h.head_stands.extra, h.head_stands.symbols_fit, h.head_stands.code.lengths, h.head_stands.code.longest);
-      filled = omega (arith, odd);
-    }
+    omega (arith, sparse-length sparse, h.sparse_count, few_entries head.span_bits slot.size h.head_stands.span_bits size)
 
--- all headers, then all sparse indexes, then all block lengths, then all blocks
-apart-length : (subs : List Subtable) → written_length (flat_map head_sections subs) + written_length (flat_map sparse_sections subs)
-    + written_length (flat_map lengths_sections subs) + written_length (flat_map blocks_sections subs) ≡ written_length (flat_map sub_sections subs)
-apart-length [] = omega arith
-apart-length (s ∷ subs) =
-    let r = apart-length subs in
-    omega (
-      arith,
-      r,
-      written-append (head_sections s) (flat_map head_sections subs),
-      written-append (sparse_sections s) (flat_map sparse_sections subs),
-      written-append (lengths_sections s) (flat_map lengths_sections subs),
-      written-append (blocks_sections s) (flat_map blocks_sections subs),
-      written-append (sub_sections s) (flat_map sub_sections subs),
-      written-append (head_sections s) (sparse_sections s ++ (lengths_sections s ++ blocks_sections s)),
-      written-append (sparse_sections s) (lengths_sections s ++ blocks_sections s),
-      written-append (lengths_sections s) (blocks_sections s),
-    )
+lengths_total : (slot : Slot) (s : Subtable) → IsSubtable slot s → total_of length_of (lengths_sections s) ≤ 2 ^ 34
+lengths_total slot (constant flags byte) h = omega arith
+lengths_total slot (pairs head sparse lengths packed) h =
+    omega (arith, pairs-length lengths, h.lengths_count, h.head_stands.blocks, h.head_stands.extra)
 
-apart-fill : (subs : List Subtable) → most_fill (flat_map head_sections subs) + most_fill (flat_map sparse_sections subs)
-    + most_fill (flat_map lengths_sections subs) + most_fill (flat_map blocks_sections subs) ≡ most_fill (flat_map sub_sections subs)
-apart-fill [] = omega arith
-apart-fill (s ∷ subs) =
-    let r = apart-fill subs in
-    omega (
-      arith,
-      r,
-      fill-append (head_sections s) (flat_map head_sections subs),
-      fill-append (sparse_sections s) (flat_map sparse_sections subs),
-      fill-append (lengths_sections s) (flat_map lengths_sections subs),
-      fill-append (blocks_sections s) (flat_map blocks_sections subs),
-      fill-append (sub_sections s) (flat_map sub_sections subs),
-      fill-append (head_sections s) (sparse_sections s ++ (lengths_sections s ++ blocks_sections s)),
-      fill-append (sparse_sections s) (lengths_sections s ++ blocks_sections s),
-      fill-append (lengths_sections s) (blocks_sections s),
-    )
+blocks_total : (slot : Slot) (s : Subtable) → IsSubtable slot s → total_of length_of (blocks_sections s) ≤ 2 ^ 50
+blocks_total slot (constant flags byte) h = omega arith
+blocks_total slot (pairs head sparse lengths packed) h =
+    omega (arith, h.packed_bytes.0, packed-below head.blocks head.block_bits h.head_stands.blocks h.head_stands.block_bits)
 
 -- ---- maps
 
-narrow-lists : (lists : List (List ℕ)) → AllByRecursion (λ list. (length list < 256 ^ 1) × AreNumbers 1 list) lists →
-    (written_length (flat_map (list_sections 1) lists) ≡ sum_by (λ list. 1 + length list) lists)
-    × (sum_by (λ list. 1 + length list) lists ≤ 256 * length lists)
-    × (most_fill (flat_map (list_sections 1) lists) ≡ 0)
-narrow-lists [] h = (refl, omega arith, refl)
-narrow-lists (list ∷ lists) h =
-    let r = narrow-lists lists h.1 in
-    let short : length list < 256 = h.0.0 in
-    let total = sum_by-cons (λ (list : List ℕ). 1 + length list) list lists in
-    (omega (arith, r.0, total, ones-length list), omega (arith, r.1, total, short), r.2)
+map_total : (s : Subtable) (o : Option Map) → IsMapOf s o → total_of length_of (map_sections o) ≤ 2 ^ 20
+map_total s None h = omega arith
+map_total s (Some (narrow lists)) h =
+    let each = total_all length_of (λ list. (length list < 256 ^ 1) × AreNumbers 1 list) (list_sections 1) 256
+    (λ list fits. let short : length list < 256 = fits.0 in omega (arith, short, ones-length list)) lists h.2.1 in
+    omega (arith, each, h.2.0)
+map_total s (Some (wide lists)) h =
+    let each = total_all length_of (λ list. (length list < 256 ^ 2) × AreNumbers 2 list) (list_sections 2) 131072
+    (λ list fits. let short : length list < 65536 = fits.0 in omega (arith, short, pairs-length list)) lists h.2.1 in
+    omega (arith, each, h.2.0)
 
-wide-lists : (lists : List (List ℕ)) → AllByRecursion (λ list. (length list < 256 ^ 2) × AreNumbers 2 list) lists →
-    (written_length (flat_map (list_sections 2) lists) ≡ sum_by (λ list. 2 + 2 * length list) lists)
-    × (sum_by (λ list. 2 + 2 * length list) lists ≤ 131072 * length lists)
-    × (most_fill (flat_map (list_sections 2) lists) ≡ 0)
-wide-lists [] h = (refl, omega arith, refl)
-wide-lists (list ∷ lists) h =
-    let r = wide-lists lists h.1 in
-    let short : length list < 65536 = h.0.0 in
-    let total = sum_by-cons (λ (list : List ℕ). 2 + 2 * length list) list lists in
-    (omega (arith, r.0, total, pairs-length list), omega (arith, r.1, total, short), r.2)
-
-map_item : (s : Subtable) (o : Option Map) → IsMapOf s o → Item map_sections map_length (2 ^ 20) 2 o
-map_item s None h = record { written = refl; below = omega arith; filled = omega arith }
-map_item s (Some (narrow lists)) h =
-    let r = narrow-lists lists h.2.1 in
-    record { written = r.0; below = omega (arith, r.1, h.2.0); filled = omega (arith, r.2) }
-map_item s (Some (wide lists)) h =
-    let r = wide-lists lists h.2.1 in
-    record { written = r.0; below = omega (arith, r.1, h.2.0); filled = omega (arith, r.2) }
-
--- the maps of a file
-pub record Maps (kind : Kind) (maps : List (Option Map)) : Type 0 where
-  pub written : written_length (maps_sections kind maps) ≡ sum_by map_length maps
-  pub below : sum_by map_length maps ≤ 2 ^ 23
-  pub filled : most_fill (maps_sections kind maps) ≤ 18
-
-maps_of : (kind : Kind) (subs : List Subtable) (maps : List (Option Map)) → length subs ≤ 8 → AreMaps kind subs maps → Maps kind maps
-maps_of Wdl subs maps few h = subst (λ (z : List (Option Map)). Maps Wdl z) (sym h) (record { written = refl; below = omega arith; filled = omega arith })
-maps_of Dtz subs maps few h =
-    let r = lists IsMapOf map_sections map_length (2 ^ 20) 2 map_item subs maps h in
-    record {
-      written = omega (arith, r.written, written-append (flat_map map_sections maps) (padding 2 ∷ []));
-      below = omega (arith, r.below, few);
-      filled = omega (arith, r.filled, few, fill-append (flat_map map_sections maps) (padding 2 ∷ []));
-    }
+maps_total : (kind : Kind) (subs : List Subtable) (maps : List (Option Map)) → AreMaps kind subs maps →
+    (total_of length_of (flat_map map_sections maps) ≤ 2 ^ 20 * length subs) × (length maps ≤ length subs)
+maps_total Wdl subs maps h = subst (λ (z : List (Option Map)). (total_of length_of (flat_map map_sections z) ≤ 2 ^ 20 * length subs) × (length z ≤ length subs)) (sym h) (omega arith, omega arith)
+maps_total Dtz subs maps h =
+    (total_beside IsMapOf map_sections (2 ^ 20) map_total subs maps h, let same = beside-length IsMapOf subs maps h in omega (arith, same))
 
 -- ---- the whole file
 
@@ -317,71 +346,32 @@ magic-length : (kind : Kind) → length (magic_of kind) ≡ 4
 magic-length Wdl = refl
 magic-length Dtz = refl
 
-pub file_length : (t : Contents) (fill : List ℕ) → IsMaterial t.material → IsAccepted t fill → FileLength t fill
+pub short_file : (t : Contents) (fill : List ℕ) → IsMaterial t.material → IsAccepted t fill → length (file_of t fill) < 2 ^ 60
 unfolding file_of fill_asked
-file_length t fill material h =
-    let p = lists (λ (_ : ℕ) (part : Part). IsPart t.material t.kind part) part_sections part_length 8 0 (λ (n : ℕ) (part : Part) q. part_item t.material t.kind material n part q) (part_numbers t.material) t.parts h.parts in
-    let s = lists IsSubtable sub_sections subtable_length (2 ^ 53) 65 sub_item (slots t.material t.kind t.parts) t.subtables h.subtables in
-    let few : length (slots t.material t.kind t.parts) ≤ 8 =
-    omega (arith, few_slots t.material (side_numbers t.material t.kind) (few_sides t.material t.kind) 0 t.parts, p.number, few_parts t.material) in
-    let few_subs : length t.subtables ≤ 8 = omega (arith, few, s.number) in
-    let m = maps_of t.kind t.subtables t.maps few_subs h.maps in
-    let front : List Section = written (magic_of t.kind) ∷ written (t.byte4 ∷ []) ∷ flat_map part_sections t.parts in
-    let heads : List Section = padding 2 ∷ flat_map head_sections t.subtables in
-    let maps : List Section = maps_sections t.kind t.maps in
-    let indexes : List Section = flat_map sparse_sections t.subtables in
-    let lengths : List Section = flat_map lengths_sections t.subtables in
-    let blocks : List Section = flat_map blocks_sections t.subtables in
-    let ending : List Section = padding 64 ∷ written t.last ∷ [] in
-    let whole : written_length (sections t) ≡ 21 + sum_by part_length t.parts + sum_by subtable_length t.subtables + sum_by map_length t.maps =
+short_file t fill material h =
+    let places : List Slot = slots t.material t.kind t.parts in
+    let number = beside-length (λ (_ : ℕ) (part : Part). IsPart t.material t.kind part) (part_numbers t.material) t.parts h.parts in
+    let few : length places ≤ 8 = omega (arith, few_slots t.material (side_numbers t.material t.kind) (few_sides t.material t.kind) 0 t.parts, number, few_parts t.material) in
+    let subs = beside-length IsSubtable places t.subtables h.subtables in
+    let maps = maps_total t.kind t.subtables t.maps h.maps in
+    let whole = file_length t fill h in
     omega (
       arith,
+      whole,
+      few,
+      subs,
+      maps.0,
+      maps.1,
+      end_of-total (sections t) 0,
+      few_filled t,
+      total_sections length_of t,
       magic-length t.kind,
       h.last.0,
-      p.written,
-      s.written,
-      m.written,
-      apart-length t.subtables,
-      written-append (((((front ++ heads) ++ maps) ++ indexes) ++ lengths) ++ blocks) ending,
-      written-append ((((front ++ heads) ++ maps) ++ indexes) ++ lengths) blocks,
-      written-append (((front ++ heads) ++ maps) ++ indexes) lengths,
-      written-append ((front ++ heads) ++ maps) indexes,
-      written-append (front ++ heads) maps,
-      written-append front heads,
-    ) in
-    let most : most_fill (sections t) ≤ 1024 =
-    omega (
-      arith,
-      few,
+      total_beside (λ (_ : ℕ) (part : Part). IsPart t.material t.kind part) part_sections 8 (λ (n : ℕ) (part : Part) q. part_total t.material t.kind material n part q) (part_numbers t.material) t.parts h.parts,
       few_parts t.material,
-      p.filled,
-      s.filled,
-      m.filled,
-      apart-fill t.subtables,
-      fill-append (((((front ++ heads) ++ maps) ++ indexes) ++ lengths) ++ blocks) ending,
-      fill-append ((((front ++ heads) ++ maps) ++ indexes) ++ lengths) blocks,
-      fill-append (((front ++ heads) ++ maps) ++ indexes) lengths,
-      fill-append ((front ++ heads) ++ maps) indexes,
-      fill-append (front ++ heads) maps,
-      fill-append front heads,
-    ) in
-    let asked_is : length fill ≡ asked [] (sections t) = h.fill_fits.0 in
-    let joint = joined-length (sections t) [] [] fill refl (omega (arith, asked_is)) in
-    record {
-      is = omega (arith, joint, whole, asked_is);
-      parts = omega (arith, p.below, few_parts t.material);
-      subtables = omega (arith, s.below, few);
-      maps = m.below;
-      filled = omega (arith, asked_is, asked-fill [] (sections t), most);
-    }
-
-pub sum_by-map : {A B : Type 0} (f : B → ℕ) (v : A → B) (xs : List A) → sum_by f (map v xs) ≡ sum_by (λ x. f (v x)) xs
-sum_by-map f v [] = refl
-sum_by-map f v (x ∷ xs) =
-    sum_by-cons f (v x) (map v xs) ∙ ap (λ (n : ℕ). f (v x) + n) (sum_by-map f v xs) ∙ sym (sum_by-cons (λ x. f (v x)) x xs)
-
--- the sum over a list in memory is the sum over its view
-pub sum_held : {A B : Type 0} (f : B → ℕ) (view : A → B) (n : ℕ) (taken held : List A) (shown : List B) →
-    n ≡ sum_by (λ x. f (view x)) taken → taken ≡ held → map view held ≡ shown → n ≡ sum_by f shown
-sum_held f view n taken held shown sum same seen =
-    sum ∙ ap (λ (xs : List _). sum_by (λ x. f (view x)) xs) same ∙ sym (sum_by-map f view held) ∙ ap (λ (ys : List _). sum_by f ys) seen
+      total_maps length_of t.kind t.maps,
+      total_beside IsSubtable head_sections (2 ^ 20) head_total places t.subtables h.subtables,
+      total_beside IsSubtable sparse_sections (2 ^ 52) sparse_total places t.subtables h.subtables,
+      total_beside IsSubtable lengths_sections (2 ^ 34) lengths_total places t.subtables h.subtables,
+      total_beside IsSubtable blocks_sections (2 ^ 50) blocks_total places t.subtables h.subtables,
+    )

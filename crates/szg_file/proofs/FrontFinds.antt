@@ -1,8 +1,6 @@
 -- Look-ups in a table that was opened by its front: the subtable, the bytes of the value's block, and the value.
-use Rattle.std.proofs.Common.{◌≡◌, ℕ, ◌+◌, ◌-◌, ◌*◌, ◌^◌, ◌<◌, ◌≤◌, List, length, map, take, drop, refl, sym, ap, subst, ◌∙◌, arith, drop-drop, Option, Some, None, option_map}
-use Rattle.std.proofs.Common.{IsSome}
-use Rattle.std.specs.Prelude.{ℤ, Result, Ok, Err, ◌≢◌, ◌↔◌, IfOk, IfErr, IfSome, IsSomeAnd, MatchOption, position, slice_get, option_and_then}
-use Rattle.std.specs.List.{AllByRecursion}
+use Rattle.std.proofs.Common.{◌≡◌, ℕ, ◌+◌, ◌-◌, ◌*◌, ◌^◌, ◌<◌, ◌≤◌, List, length, take, drop, refl, sym, ap, subst, ◌∙◌, arith, drop-drop, Option, Some, None, option_map}
+use Rattle.std.specs.Prelude.{Result, Ok, Err, IfOk, IfErr, IfSome, MatchOption, position, slice_get, option_and_then}
 use Rattle.std.proofs.Math.Nat.{mul-le-mul_right}
 use Rattle.std.proofs.lemmas.List.{length-map, length-drop, length-take-le, take-take, drop-take}
 use Rattle.std.proofs.lemmas.Option.{slice_get-map}
@@ -24,7 +22,7 @@ use Rattle.szg_file.specs.Opened.{asked_after}
 use Rattle.szg_file.specs.Placed.{whole_sub, blocks_size, Fits, IsSlotted}
 use Rattle.szg_file.specs.Unread.{front_at, IsDecoded, IsUnread}
 use Rattle.szg_file.specs.Wanted.{IsSpelledBy, wanted_block}
-use Rattle.szg_file.specs.Values.{item, list_number, number_at, number_of_value, subtable_at, constant_value}
+use Rattle.szg_file.specs.Values.{subtable_at, constant_value}
 use Rattle.szg_file.specs.declared.dropping.PlacedSub.{PlacedSub}
 use Rattle.szg_file.specs.declared.fetching.FetchFault.{FetchFault}
 use Rattle.szg_file.specs.declared.fetching.FetchFault.TheVariants.{Block, Source}

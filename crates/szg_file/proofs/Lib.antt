@@ -41,6 +41,7 @@ pub mod ReadAnswers
 pub mod ReadingLaws
 pub mod RefusalLaws
 pub mod Rows
+pub mod SectionLaws
 pub mod SoundLaws
 pub mod Standing
 pub mod StepsFound

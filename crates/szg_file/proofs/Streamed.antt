@@ -28,7 +28,7 @@ use Rattle.szg_file.specs.Values.{constant_value, slotted, values_in, values_of}
 
 -- ---- chunks
 
-folds_then : {P A : Type 0} (R : P → A → P → Type 0) (xs ys : List A) (p q r : P) → FoldsTo R p xs q → FoldsTo R q ys r → FoldsTo R p (xs ++ ys) r
+pub folds_then : {P A : Type 0} (R : P → A → P → Type 0) (xs ys : List A) (p q r : P) → FoldsTo R p xs q → FoldsTo R q ys r → FoldsTo R p (xs ++ ys) r
 folds_then R [] ys p q r first second = subst (λ (z : _). FoldsTo R z ys r) (sym first) second
 folds_then R (x ∷ xs) ys p q r first second = (first.0, first.1, folds_then R xs ys first.0 q r first.2 second)
 
@@ -58,6 +58,14 @@ module _ {K W : Type 0} (accepts : K → W → List ℕ → K → W → Type 0) 
 
   pub accepted_unwanted : (wanted : Bool) (values : List ℕ) (sink : K) (out : W) → wanted ≡ false → Accepted accepts (values_if wanted values) sink out sink out
   accepted_unwanted wanted values sink out off = accepted_as [] (values_if wanted values) (ap (λ (b : Bool). values_if b values) (sym off)) (accepted_none sink out)
+
+pub values_if-append : (wanted : Bool) (xs ys : List ℕ) → values_if wanted xs ++ values_if wanted ys ≡ values_if wanted (xs ++ ys)
+values_if-append true xs ys = refl
+values_if-append false xs ys = refl
+
+pub values_if_none : (wanted : Bool) (xs : List ℕ) → xs ≡ [] → values_if wanted xs ≡ []
+values_if_none true xs none = none
+values_if_none false xs none = refl
 
 -- ---- a constant subtable
 

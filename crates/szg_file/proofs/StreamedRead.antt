@@ -1,5 +1,5 @@
 -- A table that was read while a sink accepted its values.
-use Rattle.std.proofs.Common.{◌≡◌, ℕ, Bool, List, sym, ap, subst, ◌∙◌, Result, Ok, Err}
+use Rattle.std.proofs.Common.{◌≡◌, ℕ, Bool, List, ap, subst, Result, Ok, Err}
 use Rattle.std.specs.Prelude.{IfOk}
 use Rattle.szg_io.specs.Moved.{Takes}
 use Rattle.szg_io.specs.declared.device.Input.{Ghosts}

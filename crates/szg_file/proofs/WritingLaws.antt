@@ -1,9 +1,9 @@
 -- Writers compose: two calls in sequence write their sections in sequence.
-use Rattle.std.proofs.Common.{◌≡◌, ℕ, suc, add-one, get_or, ◌+◌, ◌-◌, ◌%◌, ◌^◌, ◌<◌, ◌≤◌, List, [], ◌∷◌, ◌++◌, length, take, drop, map, refl, sym, ap, subst, ◌∙◌, append_assoc, append-nil, arith}
+use Rattle.std.proofs.Common.{◌≡◌, ℕ, suc, add-one, get_or, ◌+◌, ◌-◌, ◌%◌, ◌^◌, ◌<◌, ◌≤◌, List, [], ◌∷◌, ◌++◌, length, take, drop, map, refl, sym, ap, subst, ◌∙◌, append_assoc, append-nil, arith, rules}
 use Rattle.std.specs.Prelude.{Result, Ok, Err, flat_map}
 use Rattle.std.proofs.lemmas.List.{length-append, length-take, length-drop, take-append-drop, take_all}
 use Rattle.std.proofs.Math.Seq.{take-suc, drop-cons}
-use Rattle.std.specs.Int.{w64, to_le_bytes}
+use Rattle.std.specs.Int.{w32, w64, to_le_bytes}
 use Rattle.std.proofs.lemmas.Grind.{flat_map-append}
 use Rattle.std.proofs.lemmas.List.Folds.{flat_map-map}
 use Rattle.std.proofs.lemmas.Nat.Gcd.{dvd_of_mod-eq-zero}
@@ -451,12 +451,12 @@ Same-mapped h v xs = subst (λ (z : List ℕ). Same (flat_map (λ x. written (h 
 -- ---- numbers
 
 -- bytes as one-byte numbers
-pub ones_of : (list : List ℕ) → ((i : ℕ) → get_or list i 0 < 256) → flat_map (bytes_of 1) list ≡ list
+pub ones_of : (list : List ℕ) → ((i d : ℕ) → i < length list → get_or list i d < 256) → flat_map (bytes_of 1) list ≡ list
 ones_of [] small = refl
 ones_of (byte ∷ list) small =
-    let first : byte < 256 = small 0 in
+    let first : byte < 256 = small 0 0 (omega arith) in
     let low : byte % 256 ≡ byte = omega (arith, first) in
-    ap (λ (n : ℕ). n ∷ flat_map (bytes_of 1) list) low ∙ ap (λ (z : List ℕ). byte ∷ z) (ones_of list (λ i. small (suc i)))
+    ap (λ (n : ℕ). n ∷ flat_map (bytes_of 1) list) low ∙ ap (λ (z : List ℕ). byte ∷ z) (ones_of list (λ i d h. small (suc i) d (omega (arith, h))))
 
 -- one chunk written as two
 pub Same-joined : (x y : List ℕ) → Same (written x ∷ written y ∷ []) (written (x ++ y) ∷ [])
@@ -485,6 +485,9 @@ one_byte_of n = refl
 
 pub two_bytes_of : (n : ℕ) → take 2 (to_le_bytes w64 n) ≡ bytes_of 2 n
 two_bytes_of n = refl
+
+pub four_bytes_of : (n : ℕ) → to_le_bytes w32 n ≡ bytes_of 4 n
+four_bytes_of n = search rules
 
 -- Equal sections.
 pub writes_as : {X W : Type 0} {s t : List Section} {o n : Outgoing}

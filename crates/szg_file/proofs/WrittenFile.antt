@@ -1,15 +1,51 @@
 -- What writing all sections of a table implies for its file.
-use Rattle.std.proofs.Common.{◌≡◌, ℕ, ◌+◌, ◌^◌, ◌<◌, List, [], ◌++◌, length, take, sym, ap, subst, ◌∙◌, append-nil, arith}
+use Rattle.std.proofs.Common.{◌≡◌, ℕ, ◌+◌, ◌^◌, ◌<◌, List, [], ◌∷◌, ◌++◌, length, take, refl, sym, ap, subst, ◌∙◌, append-nil, arith}
 use Rattle.std.specs.Prelude.{Result, Ok, Err, IfErr, OnOk, OnErr}
+use Rattle.std.specs.List.{FoldsTo}
 use Rattle.std.proofs.lemmas.List.{length-append}
 use Rattle.szg_io.specs.Device.{HasFailed}
 use Rattle.szg_io.specs.Moved.{Gives}
 use Rattle.szg_file.specs.declared.outgoing.Outgoing.{Outgoing}
 use Rattle.szg_file.specs.declared.fault.WriteFault.{WriteFault}
 use Rattle.szg_file.specs.FileOf.{Section, joined}
-use Rattle.szg_file.specs.Writing.{Writing}
+use Rattle.szg_file.specs.declared.writer.Writer.{Writer}
+use Rattle.szg_file.specs.Sections.{Took}
+use Rattle.szg_file.specs.Writing.{Writing, WritesNext}
+use Rattle.szg_file.proofs.WritingLaws.{writes_nothing, writes_then, writes_stopped}
 use Rattle.szg_io.specs.declared.device.Output.{Ghosts}
 use Rattle.szg_file.proofs.FormatLaws.{take_front}
+
+-- ---- sections one after another
+
+writes_no_section : {W : Type 0} (dev : Ghosts W) (w : Writer) (o : W) (r : Result (Unit {0}) WriteFault) → w.result ≡ r → WritesNext dev r [] w o w o
+writes_no_section dev w o (Ok done) e = subst (λ (z : Result (Unit {0}) WriteFault). Writing [] w.outgoing w.outgoing dev o o z) (sym e) (writes_nothing done)
+writes_no_section dev w o (Err fault) e = (e, refl)
+
+writes_more_sections : {W : Type 0} (dev : Ghosts W) (section : Section) (s : List Section) (a b c : Writer) (o p q : W) (r rm : Result (Unit {0}) WriteFault) → b.result ≡ rm →
+    WritesNext dev r (section ∷ []) a o b p → WritesNext dev rm s b p c q → WritesNext dev r (section ∷ s) a o c q
+writes_more_sections dev section s a b c o p q (Err fault) (Ok done) e first second = absurd (let never : Err fault ≡ Ok done = sym first.0 ∙ e in cc)
+writes_more_sections dev section s a b c o p q (Err fault) (Err other) e first second = (second.0 ∙ sym e ∙ first.0, second.1 ∙ first.1)
+writes_more_sections dev section s a b c o p q (Ok done) (Ok more) e first second =
+    writes_then (section ∷ []) s more (subst (λ (z : Result (Unit {0}) WriteFault). Writing (section ∷ []) a.outgoing b.outgoing dev o p z) e first) second
+writes_more_sections dev section s a b c o p q (Ok done) (Err fault) e first second =
+    subst (λ (z : Result (Unit {0}) WriteFault). Writing (section ∷ s) a.outgoing c.outgoing dev o q z) (sym second.0)
+    (subst (λ (z : _). Writing {X = Unit {0}} (section ∷ s) a.outgoing c.outgoing dev o z (Err fault)) (sym second.1)
+    (writes_stopped {Y = Unit {0}} (section ∷ []) s {n' = c.outgoing} fault (subst (λ (z : Result (Unit {0}) WriteFault). Writing (section ∷ []) a.outgoing b.outgoing dev o p z) e first)))
+
+writes_steps : {W : Type 0} (dev : Ghosts W) (s : List Section) (p q : Writer × W) →
+    FoldsTo {P = Writer × W} (λ p section q. WritesNext dev p.0.result (section ∷ []) p.0 p.1 q.0 q.1) p s q → WritesNext dev p.0.result s p.0 p.1 q.0 q.1
+writes_steps dev [] p q h = subst (λ (z : Writer × _). WritesNext dev p.0.result [] p.0 p.1 z.0 z.1) h (writes_no_section dev p.0 p.1 p.0.result refl)
+writes_steps dev (section ∷ s) p q h =
+    writes_more_sections dev section s p.0 h.0.0 q.0 p.1 h.0.1 q.1 p.0.result h.0.0.result refl h.1 (writes_steps dev s h.0 q h.2)
+
+-- a writer without a failure wrote the sections that it took
+pub writes_taken : {W : Type 0} (dev : Ghosts W) (s : List Section) (a b : Writer) (o p : W) → a.result ≡ Ok tt →
+    Took (λ old output section new left. WritesNext dev old.result (section ∷ []) old output new left) s a o b p →
+    Writing s a.outgoing b.outgoing dev o p b.result
+writes_taken dev s a b o p well h =
+    subst (λ (r : Result (Unit {0}) WriteFault). WritesNext dev r s a o b p) well (writes_steps dev s (a, o) (b, p) h.steps)
+
+-- ---- the whole file
 
 -- the clauses of `write`
 pub record Clauses {W : Type 0} (file : List ℕ) (dev : Ghosts W) (i k : W) (r : Result (Unit {0}) WriteFault) : Type 0 where

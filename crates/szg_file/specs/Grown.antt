@@ -7,9 +7,9 @@ use Rattle.szg_file.specs.declared.reading.Opening.{Opening}
 use Rattle.szg_file.specs.declared.reading.Pieces.{Pieces}
 use Rattle.szg_file.specs.declared.table.PartBytes.{PartBytes}
 use Rattle.szg_file.specs.declared.table.Map.{Map}
+use Rattle.szg_file.specs.Contents.{Part}
 use Rattle.szg_file.specs.File.{Begun}
 use Rattle.szg_file.specs.Held.{part_of, subtable_of, map_of}
-use Rattle.szg_file.specs.Lengths.{part_length}
 use Rattle.szg_file.specs.WholeRead.{sub_lengths, map_lengths}
 
 -- The lists passed in have `before` items, and those returned `after`. They and the list of padding bytes have grown
@@ -18,6 +18,9 @@ abbrev pub HasCounted : Front → Front → ℕ → ℕ → Type 0
 HasCounted old new before after = old.growth + after + length new.fill.items ≤ new.growth + before + length old.fill.items
 
 -- ---- the total length of the lists in the items of a list
+
+abbrev pub part_length : Part → ℕ
+part_length part = length part.order + length part.men
 
 abbrev pub parts_lengths : List PartBytes → ℕ
 parts_lengths parts = sum_by (λ part. part_length (part_of part)) parts

@@ -15,10 +15,10 @@ pub mod HeadPieces
 pub mod Blocks
 pub mod FilePieces
 pub mod Writing
-pub mod Lengths
 pub mod Lookup
 pub mod Assembled
 pub mod Tally
+pub mod Sections
 pub mod Steps
 pub mod Forward
 pub mod Placed

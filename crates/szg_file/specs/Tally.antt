@@ -1,7 +1,5 @@
 -- The state of a count of a file's sections.
 use Rattle.std.specs.Prelude.{◌≡◌, ℕ, ◌+◌, ◌%◌, ◌^◌, List, [], ◌∷◌, length}
-use denote.Ref.{Bor, MutBor}
-use denote.Param.Members.{Shared}
 use Rattle.szg_file.specs.declared.tally.Tally.{Tally}
 use Rattle.szg_file.specs.FileOf.{Section, written, padding, spare, fill_of}
 
@@ -29,8 +27,3 @@ IsAlike a b = a % 2 ^ 64 ≡ b % 2 ^ 64
 pub record Counts (sections : List Section) (old new : Tally) : Type 0 where
   pub place : (place : ℕ) → IsAlike old.place place → IsAlike new.place (end_of place sections)
   pub fill : (place : ℕ) → IsAlike old.place place → IsAlike new.fill (old.fill + fill_from place sections)
-
--- Each call counts an item as these sections.
-abbrev pub CountsAs : {F T : Type 0} → Shared F (Bor T × (MutBor Tally × Unit {0})) (Unit {0} × (MutBor Tally × Unit {0})) → F → (T → List Section) → Type 0
-CountsAs {T = T} calls count sections =
-    (item : Bor T) (tally rest : MutBor Tally) → calls.post count (item, (tally, tt)) (tt, (rest, tt)) → Counts (sections item.now) tally.now rest.now

@@ -1,15 +1,14 @@
 -- What a call that writes a part of a file ensures about the writer, its state and the result.
-use Rattle.std.specs.Prelude.{◌≡◌, ℕ, ◌<◌, ◌%◌, ◌^◌, List, [], ◌∷◌, ◌++◌, length, flat_map, Result, Ok, Err}
+use Rattle.std.specs.Prelude.{◌≡◌, ℕ, ◌<◌, ◌%◌, ◌^◌, List, ◌++◌, length, Result, Ok, Err}
 use denote.Ref.{Bor, MutBor}
 use denote.Param.Members.{Shared}
 use Rattle.szg_io.specs.Device.{HasFailed}
 use Rattle.szg_io.specs.Moved.{Gives}
 use Rattle.szg_file.specs.declared.outgoing.Outgoing.{Outgoing}
 use Rattle.szg_file.specs.declared.fault.WriteFault.{WriteFault}
-use Rattle.szg_code.specs.Canonical.{CanonicalCode}
-use Rattle.szg_file.specs.Contents.{bytes_of}
+use Rattle.szg_file.specs.declared.writer.Writer.{Writer}
 use Rattle.szg_io.specs.declared.device.Output.{Ghosts}
-use Rattle.szg_file.specs.FileOf.{Section, written, spare, joined}
+use Rattle.szg_file.specs.FileOf.{Section, joined}
 
 -- The count is the length of this text, modulo 2^64.
 abbrev pub CountsOut : ℕ → List ℕ → Type 0
@@ -45,15 +44,6 @@ pub record Writing {X W : Type 0} (sections : List Section) (old new : Outgoing)
   pub given : Gives dev output output' bytes (turns_of result)
   pub answer : Answer sections old new (dev.failures output) (dev.failures output') (dev.interrupted output') bytes result
 
--- a code's greatest and least code length, and its lowest symbols
-abbrev pub code_sections : CanonicalCode → List Section
-code_sections code = written (code.max_length ∷ []) ∷ written (code.min_length ∷ []) ∷ written (flat_map (bytes_of 2) code.lowest) ∷ []
-
--- the number of entries, the entries, and a padding byte if their number is odd
-abbrev pub dictionary_sections : List (List ℕ) → List Section
-dictionary_sections entries =
-    written (bytes_of 2 (length entries)) ∷ written (flat_map (λ entry. entry) entries) ∷ spare (length entries % 2) ∷ []
-
 -- Each call writes an item as these sections.
 abbrev pub WritesAs : {F T W : Type 0} → Shared F (Bor T × (MutBor W × (MutBor Outgoing × Unit {0}))) (Result (Unit {0}) WriteFault × (MutBor W × (MutBor Outgoing × Unit {0}))) →
     Ghosts W → F → (T → List Section) → Type 0
@@ -61,3 +51,8 @@ WritesAs {T = T} {W = W} calls dev write sections =
     (item : Bor T) (output left : MutBor W) (outgoing rest : MutBor Outgoing) (result : Result (Unit {0}) WriteFault) →
     calls.post write (item, (output, (outgoing, tt))) (result, (left, (rest, tt))) →
     Writing (sections item.now) outgoing.now rest.now dev output.now left.now result
+
+-- What a writer does with sections: it writes them, unless it failed before. Then nothing changes.
+abbrev pub WritesNext : {W : Type 0} → Ghosts W → Result (Unit {0}) WriteFault → List Section → Writer → W → Writer → W → Type 0
+WritesNext dev (Ok done) sections old output new left = Writing sections old.outgoing new.outgoing dev output left new.result
+WritesNext dev (Err fault) sections old output new left = (new.result ≡ Err fault) × (left ≡ output)

@@ -7,17 +7,18 @@ ghost use Rattle.szg_file.specs.Contents.{slots, part_slots, part_numbers, side_
 ghost use Rattle.szg_file.specs.FileOf.{fill_asked};
 ghost use Rattle.szg_file.specs.Held.{part_of};
 ghost use Rattle.szg_file.specs.Parts.{part_with, slots_with};
+ghost use Rattle.szg_file.specs.Sections.{contents_in};
 ghost use Rattle.szg_count.specs.Groups as count;
 
 use crate::begun::Slot;
 use crate::parts::{Parts, SideSizes, man_count, order_count, part_count, part_sizes, push_slots};
-use crate::passing::{bytes_fit, end_bytes, maps_stand, subs_stand};
+use crate::passing::{maps_stand, subs_stand};
+use crate::sections::FieldsRef;
 use crate::start::{pawns_as, splits_as};
 use crate::table::{Map, PartBytes, Table};
 use crate::table_index::index_of_subs;
-use crate::tally::{
-    Tally, count_blocks, count_heads, count_indexes, count_lengths, count_maps, count_parts,
-};
+use crate::tally::Tally;
+use crate::typed::{bytes_fit, end_bytes};
 use arrayvec::ArrayVec;
 use std::mem::size_of_val;
 use szg_block::Sub;
@@ -43,28 +44,38 @@ pub struct Fields {
 }
 
 impl Fields {
+    /// Returns the fields of the file without its padding bytes.
+    fn borrowed(&self) -> FieldsRef<'_>
+        ensures { contents_in result ≡ (fields_shown self.now).contents }
+    {
+        FieldsRef {
+            material: &self.material,
+            kind: self.kind,
+            byte4: self.byte4,
+            parts: &self.parts,
+            subs: &self.subs,
+            maps: &self.maps,
+            last: &self.last,
+        }
+    }
+
     /// Returns the number of padding bytes in the file of these fields: those up to even offsets and to multiples of
     /// 64, and the one after each dictionary with an odd number of entries. Allocates nothing.
     pub fn fill_asked(&self) -> u64
         ensures { result ≡ fill_asked (fields_shown self.now).contents }
     {
-        // the sum does not overflow, because memory bounds the numbers of subtables and maps
-        let _held = (
+        self.bounded();
+        Tally::of(&self.borrowed()).fill
+    }
+
+    // For proofs alone: memory bounds the numbers of subtables and maps, and so the number of padding bytes.
+    fn bounded(&self)
+        ensures { fill_asked (fields_shown self.now).contents < 2 ^ 64 }
+    {
+        let _sizes = (
             size_of_val(self.subs.as_slice()),
             size_of_val(self.maps.as_slice()),
         );
-        let mut tally = Tally::new();
-        tally.field(5);
-        count_parts(&self.parts, &mut tally);
-        tally.padding(2);
-        count_heads(&self.subs, &mut tally);
-        count_maps(self.kind, &self.maps, &mut tally);
-        count_indexes(&self.subs, &mut tally);
-        count_lengths(&self.subs, &mut tally);
-        count_blocks(&self.subs, &mut tally);
-        tally.padding(64);
-        tally.field(16);
-        tally.fill()
     }
 
     /// Returns whether these fields, with these padding bytes, form a table that every check of the format accepts.

@@ -12,6 +12,7 @@ use crate::begun::Measured;
 use crate::fault::{ReadFault, Reason};
 use crate::front::{Front, append};
 use crate::taking::{take_fill, take_more};
+use crate::typed::code_fits;
 use std::alloc::Global;
 use szg_block::{Sub, check_block_from};
 use szg_io::Input;
@@ -101,8 +102,7 @@ fn take_packed<R: Input>(
     else {
         return Ok(packed);
     };
-    // a fact that the check of each block needs: no word of the code begins another
-    let _symbols = code.symbols();
+    code_fits(code);
     let mut before = 0;
     'each_block: for n in 0..*blocks {
         take_block(&mut packed, sub, size, n, before, input, front)?;

@@ -26,44 +26,24 @@ pub fn same_parts(parts: &[PartBytes], others: &[PartBytes]) -> bool
     true
 }
 
-/// Whether two lists of bytes are the same.
-fn same_byte_list(list: &Vec<u8>, other: &Vec<u8>) -> bool
+/// Whether two lists are the same.
+fn same_list<T: PartialEq>(list: &Vec<T>, other: &Vec<T>) -> bool
+    requires { (a b : T) → IsTrue (T.eq a b) ↔ (a ≡ b) }
     ensures { IsTrue result ↔ (list.now.items ≡ other.now.items) }
 {
     list == other
 }
 
-/// Whether lists of bytes are the same.
-fn same_bytes(lists: &[Vec<u8>], others: &[Vec<u8>]) -> bool
+/// Whether two lists of lists are the same.
+fn same_lists<T: PartialEq>(lists: &[Vec<T>], others: &[Vec<T>]) -> bool
+    requires { (a b : T) → IsTrue (T.eq a b) ↔ (a ≡ b) }
     ensures { IsTrue result ↔ (map (λ list. list.items) lists.now ≡ map (λ list. list.items) others.now) }
 {
     if lists.len() != others.len() {
         return false;
     }
     'lists: for n in 0..lists.len() {
-        if !same_byte_list(&lists[n], &others[n]) {
-            return false;
-        }
-    }
-    true
-}
-
-/// Whether two lists of two-byte numbers are the same.
-fn same_number_list(list: &Vec<u16>, other: &Vec<u16>) -> bool
-    ensures { IsTrue result ↔ (list.now.items ≡ other.now.items) }
-{
-    list == other
-}
-
-/// Whether lists of two-byte numbers are the same.
-fn same_numbers(lists: &[Vec<u16>], others: &[Vec<u16>]) -> bool
-    ensures { IsTrue result ↔ (map (λ list. list.items) lists.now ≡ map (λ list. list.items) others.now) }
-{
-    if lists.len() != others.len() {
-        return false;
-    }
-    'lists: for n in 0..lists.len() {
-        if !same_number_list(&lists[n], &others[n]) {
+        if !same_list(&lists[n], &others[n]) {
             return false;
         }
     }
@@ -76,8 +56,8 @@ fn same_map(map: &Option<Map>, other: &Option<Map>) -> bool
 {
     match (map, other) {
         (None, None) => true,
-        (Some(Map::Bytes(lists)), Some(Map::Bytes(others))) => same_bytes(lists, others),
-        (Some(Map::Wide(lists)), Some(Map::Wide(others))) => same_numbers(lists, others),
+        (Some(Map::Bytes(lists)), Some(Map::Bytes(others))) => same_lists(lists, others),
+        (Some(Map::Wide(lists)), Some(Map::Wide(others))) => same_lists(lists, others),
         _ => false,
     }
 }

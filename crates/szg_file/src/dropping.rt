@@ -114,42 +114,6 @@ fn make_room(buffer: &mut Vec<u8>, size: usize) -> Result<(), ReadFault>
     Ok(())
 }
 
-/// Reads the blocks of a subtable in order, each with its check, into a buffer of a block's length.
-pub fn pass_blocks<R: Input>(
-    buffer: &mut [u8],
-    sub: &Sub,
-    size: u64,
-    input: &mut R,
-    front: &mut Front,
-) -> Result<(), ReadFault>
-    requires place { front.old.place < 2 ^ 61 }
-    requires room { IfSome (layout_of sub.now) (λ layout. length buffer.old ≡ 2 ^ layout.block_bits) }
-    requires short { length buffer.old ≤ 2 ^ 18 }
-    requires shaped { IsShapedHead sub.now size }
-    ensures blocks { IfSome (layout_of sub.now) (λ layout. Reading (blocks_from layout size 0 layout.blocks) (λ _. since (R.moved input.old) (R.moved input.new)) front.old front.new R.Input input.old input.new result) }
-    ensures count { IfSome (layout_of sub.now) (λ layout. OnOk result (front.new.place ≡ front.old.place + layout.blocks * 2 ^ layout.block_bits)) }
-    ensures place { OnOk result (front.new.place ≤ front.old.place + 2 ^ 50) }
-    ensures growth { OnOk result (front.new.growth ≡ front.old.growth) }
-{
-    let Sub::Pairs {
-        blocks,
-        code,
-        lengths,
-        ..
-    } = sub
-    else {
-        return Ok(());
-    };
-    // a fact that the check of each block needs: no word of the code begins another
-    let _symbols = code.symbols();
-    let mut before = 0;
-    'each_block: for n in 0..*blocks {
-        pass_block(buffer, sub, size, n, before, input, front)?;
-        before += lengths[n as usize] as u64 + 1;
-    }
-    Ok(())
-}
-
 /// Reads block `n` into a buffer of a block's length and checks it there. `before` is the number of values in the
 /// blocks before it.
 pub fn pass_block<R: Input>(

@@ -20,7 +20,6 @@ mod heads;
 mod in_memory;
 mod index;
 pub mod laws;
-mod lengths;
 mod lookup;
 mod maps;
 mod opened;
@@ -41,7 +40,9 @@ mod table;
 mod table_index;
 mod taking;
 mod tally;
+mod typed;
 mod wanted;
+mod writer;
 mod writing;
 
 pub use assembled::{Fields, subtable_sizes};

@@ -18,7 +18,7 @@ use std::alloc::Global;
 use szg_io::Input;
 use szg_values::Kind;
 
-/// Reads the maps of a DTZ file, one item per part. A WDL file has none.
+/// Reads the maps of a DTZ file, one item per part, and the padding after them. A WDL file has none.
 pub fn read_maps<R: Input>(
     alloc: Global,
     kind: Kind,
@@ -36,28 +36,12 @@ pub fn read_maps<R: Input>(
 {
     match kind {
         Kind::Wdl => Ok(Vec::new(alloc)),
-        Kind::Dtz => read_dtz_maps(alloc, heads, input, front),
+        Kind::Dtz => {
+            let maps = read_each(alloc, heads, input, front)?;
+            take_fill(alloc, 2, input, front)?;
+            Ok(maps)
+        }
     }
-}
-
-/// Reads the maps of a DTZ file and the padding after them.
-fn read_dtz_maps<R: Input>(
-    alloc: Global,
-    heads: &[Begun],
-    input: &mut R,
-    front: &mut Front,
-) -> Result<Vec<Option<Map>>, ReadFault>
-    requires place { front.old.place < 2 ^ 60 }
-    requires few { length heads.now ≤ 8 }
-    requires paid { front.old.growth ≤ 2 * front.old.place + 2 ^ 14 }
-    ensures maps { Reading (maps_field Kind.Dtz (map (λ begun. begun.subtable) heads.now)) (λ list. map (option_map map_of) list.items) front.old front.new R.Input input.old input.new result }
-    ensures place { OnOk result (front.new.place ≤ front.old.place + 2 ^ 23) }
-    ensures growth { OnOk result (front.new.growth + 2 * front.old.place ≤ front.old.growth + 2 * front.new.place + 8) }
-    ensures grown { IfOk result (λ list. HasCounted front.old front.new 0 (length list.items + maps_lengths list.items)) }
-{
-    let maps = read_each(alloc, heads, input, front)?;
-    take_fill(alloc, 2, input, front)?;
-    Ok(maps)
 }
 
 /// Reads the map of each part that has one.

@@ -1,12 +1,16 @@
-ghost use Rattle.std.specs.Prelude.{◌≡◌, ℕ, ◌+◌, ◌<◌, ◌≤◌, ◌%◌, ◌^◌, ◌↔◌, [], ◌∷◌, ◌++◌, true, false, IsTrue, length, take, IfOk, IfErr, OnOk, OnErr};
+ghost use Rattle.std.specs.Prelude.{◌≡◌, ℕ, ◌+◌, ◌<◌, ◌≤◌, ◌%◌, ◌^◌, ◌↔◌, List, [], ◌∷◌, ◌++◌, true, false, IsTrue, length, take, map, flat_map, IfOk, IfErr, OnOk, OnErr};
 ghost use Rattle.szg_io.specs.Device.{HasFailed};
 ghost use Rattle.szg_io.specs.Moved.{Gives};
-ghost use Rattle.szg_file.specs.FileOf.{written, padding, spare};
-ghost use Rattle.szg_file.specs.Writing.{Writing};
+ghost use Rattle.szg_file.specs.Contents.{bytes_of};
+ghost use Rattle.szg_file.specs.FileOf.{Section, written, padding, spare};
+ghost use Rattle.szg_file.specs.Held.{sparse_of};
+ghost use Rattle.szg_file.specs.Writing.{Writing, WritesAs};
 
 use crate::fault::WriteFault;
 use arrayvec::ArrayVec;
+use szg_block::Entry;
 use szg_io::{Output, give_whole};
+use szg_pairs::Dict;
 
 /// The state of a writer.
 #[derive(Drop)]
@@ -118,4 +122,96 @@ pub fn put_padding<W: Output>(
 {
     let place = outgoing.out.wrapping_add(outgoing.held.len() as u64);
     put_spare((unit - place % unit) % unit, output, outgoing)
+}
+
+// ---- lists
+
+/// Writes the items in order, each by a call of `write`.
+fn write_each<T, W: Output, F: Fn(&T, &mut W, &mut Outgoing) -> Result<(), WriteFault>>(
+    items: &[T],
+    write: F,
+    output: &mut W,
+    outgoing: &mut Outgoing,
+) -> Result<(), WriteFault>
+    requires { F.IsAlwaysCallable write }
+    ensures { (sections : T → List Section) → WritesAs F.Fn W.Output write sections → Writing (flat_map sections items.now) outgoing.old outgoing.new W.Output output.old output.new result }
+{
+    'items: for item in items {
+        write(item, output, outgoing)?;
+    }
+    Ok(())
+}
+
+/// Writes a two-byte number, least byte first.
+fn put_u16<W: Output>(
+    number: u16,
+    output: &mut W,
+    outgoing: &mut Outgoing,
+) -> Result<(), WriteFault>
+    ensures { Writing (written (bytes_of 2 number) ∷ []) outgoing.old outgoing.new W.Output output.old output.new result }
+{
+    put(&number.to_le_bytes(), output, outgoing)
+}
+
+/// Writes a four-byte number, least byte first.
+fn put_u32<W: Output>(
+    number: u32,
+    output: &mut W,
+    outgoing: &mut Outgoing,
+) -> Result<(), WriteFault>
+    ensures { Writing (written (bytes_of 4 number) ∷ []) outgoing.old outgoing.new W.Output output.old output.new result }
+{
+    put(&number.to_le_bytes(), output, outgoing)
+}
+
+/// Writes two-byte numbers.
+pub fn put_numbers<W: Output>(
+    list: &[u16],
+    output: &mut W,
+    outgoing: &mut Outgoing,
+) -> Result<(), WriteFault>
+    ensures { Writing (written (flat_map (bytes_of 2) list.now) ∷ []) outgoing.old outgoing.new W.Output output.old output.new result }
+{
+    write_each(
+        list,
+        |number, output, outgoing| put_u16(*number, output, outgoing),
+        output,
+        outgoing,
+    )
+}
+
+/// Writes the entries of a dictionary.
+pub fn put_symbols<W: Output>(
+    dict: &Dict,
+    output: &mut W,
+    outgoing: &mut Outgoing,
+) -> Result<(), WriteFault>
+    ensures { Writing (written (flat_map (λ entry. entry) dict.now) ∷ []) outgoing.old outgoing.new W.Output output.old output.new result }
+{
+    'symbols: for symbol in 0..dict.symbols() {
+        put(&dict.entry(symbol), output, outgoing)?;
+    }
+    Ok(())
+}
+
+fn put_entry<W: Output>(
+    entry: &Entry,
+    output: &mut W,
+    outgoing: &mut Outgoing,
+) -> Result<(), WriteFault>
+    ensures { Writing (written (bytes_of 4 entry.now.block ++ bytes_of 2 entry.now.offset) ∷ []) outgoing.old outgoing.new W.Output output.old output.new result }
+{
+    put_u32(entry.block, output, outgoing)?;
+    put_u16(entry.offset, output, outgoing)
+}
+
+/// Writes a sparse index.
+pub fn put_sparse<W: Output>(
+    sparse: &[Entry],
+    output: &mut W,
+    outgoing: &mut Outgoing,
+) -> Result<(), WriteFault>
+    ensures { Writing (written (flat_map (λ entry. bytes_of 4 entry.block ++ bytes_of 2 entry.offset) (map sparse_of sparse.now)) ∷ []) outgoing.old outgoing.new W.Output output.old output.new result }
+{
+    write_each(sparse, put_entry, output, outgoing)
 }

@@ -10,7 +10,7 @@ ghost use Rattle.szg_file.specs.Held.{part_of};
 ghost use Rattle.szg_file.specs.Parts.{part_with, slots_with};
 ghost use Rattle.szg_file.specs.Reading.{Reading, Checks};
 ghost use Rattle.szg_file.specs.Grown.{HasCounted, parts_lengths};
-ghost use Rattle.szg_file.specs.Lengths.{part_length};
+ghost use Rattle.szg_file.specs.Grown.{part_length};
 
 use crate::begun::Slot;
 use crate::fault::{ReadFault, Reason};

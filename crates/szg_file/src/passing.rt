@@ -1,98 +1,14 @@
 //! Checks of assembled subtables and maps, as a reader makes them.
 ghost use Rattle.std.specs.Prelude.{◌≡◌, ◌<◌, ◌^◌, ◌↔◌, IsTrue, length, map, option_map};
-ghost use Rattle.std.specs.List.{AllByRecursion};
-ghost use Rattle.szg_file.specs.Accepted.{SideBySide, AreNumbers, AreBytes, IsEntry, IsSubtable, AreLists, IsMapOf, AreMaps};
-ghost use Rattle.szg_file.specs.Assembled.{IsTyped};
-ghost use Rattle.szg_file.specs.Held.{sparse_of, subtable_of, map_of};
+ghost use Rattle.szg_file.specs.Accepted.{SideBySide, AreNumbers, IsSubtable, AreLists, IsMapOf, AreMaps};
+ghost use Rattle.szg_file.specs.Held.{subtable_of, map_of};
 
 use crate::begun::Slot;
 use crate::flags::{flags_of, has_bit};
 use crate::table::Map;
-use szg_block::{Entry, Sub, check, shaped};
-use szg_pairs::Dict;
+use crate::typed::sub_fits;
+use szg_block::{Sub, check, shaped};
 use szg_values::Kind;
-
-// ---- bounds by types
-
-/// For proofs alone: bytes are below 256. It does nothing.
-pub fn bytes_fit(list: &[u8])
-    ensures { AreNumbers 1 list.now }
-{}
-
-/// For proofs alone: two-byte numbers are below 2^16. It does nothing.
-fn words_fit(list: &[u16])
-    ensures { AreNumbers 2 list.now }
-{}
-
-/// For proofs alone: numbers of one byte and of four bytes fit their types. It does nothing.
-fn numbers_fit(flags: u8, extra: u8, blocks: u32)
-    ensures flags { flags < 256 }
-    ensures extra { extra < 256 }
-    ensures blocks { blocks < 2 ^ 32 }
-{}
-
-/// For proofs alone: block and offset of an entry of a sparse index fit their types. It does nothing.
-fn entry_fits(block: u32, offset: u16)
-    ensures block { block < 2 ^ 32 }
-    ensures offset { offset < 2 ^ 16 }
-{}
-
-/// For proofs alone: the entries of a sparse index fit their types.
-fn sparse_fits(sparse: &[Entry])
-    ensures { AllByRecursion IsEntry (map sparse_of sparse.now) }
-{
-    'entries: for entry in sparse {
-        entry_fits(entry.block, entry.offset);
-    }
-}
-
-/// For proofs alone: the entries of a dictionary have three bytes each.
-fn entries_fit(dict: &Dict)
-    ensures { AllByRecursion (AreBytes 3) dict.now }
-{
-    'symbols: for symbol in 0..dict.symbols() {
-        let entry = dict.entry(symbol);
-        bytes_fit(&entry);
-    }
-}
-
-/// For proofs alone: the numbers of a subtable fit their types, and its code and its dictionary are accepted.
-fn typed(sub: &Sub)
-    ensures { IsTyped (subtable_of sub.now) }
-{
-    match sub {
-        Sub::Constant { flags, byte } => {
-            let _numbers = (*flags, *byte);
-        }
-        Sub::Pairs {
-            flags,
-            extra,
-            blocks,
-            code,
-            dict,
-            sparse,
-            lengths,
-            packed,
-            ..
-        } => {
-            numbers_fit(*flags, *extra, *blocks);
-            let _symbols = (code.symbols(), dict.symbols());
-            words_fit(code.lowest());
-            entries_fit(dict);
-            sparse_fits(sparse);
-            words_fit(lengths);
-            bytes_fit(packed);
-        }
-    }
-}
-
-/// Returns the last sixteen bytes unchanged. For proofs: they and byte 4 are bytes.
-pub fn end_bytes(byte4: u8, last: &[u8; 16]) -> [u8; 16]
-    ensures byte4 { byte4 < 256 }
-    ensures last { result ≡ last.now }
-{
-    *last
-}
 
 // ---- subtables
 
@@ -100,7 +16,7 @@ pub fn end_bytes(byte4: u8, last: &[u8; 16]) -> [u8; 16]
 fn sub_stands(slot: &Slot, sub: &Sub) -> bool
     ensures { IsTrue result ↔ IsSubtable slot.now (subtable_of sub.now) }
 {
-    typed(sub);
+    sub_fits(sub);
     if !shaped(sub, slot.size) {
         return false;
     }

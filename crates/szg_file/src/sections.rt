@@ -1,173 +1,138 @@
-//! Writers of the sections of a table.
-ghost use Rattle.std.specs.Prelude.{◌≡◌, ◌+◌, ◌%◌, List, [], ◌∷◌, ◌++◌, length, map, flat_map, option_map, Some};
+//! The sections of a table's file, in file order: one walk, for a sink that writes them or counts them.
+ghost use Rattle.std.specs.Prelude.{◌≡◌, ◌<◌, ◌%◌, ◌^◌, ◌++◌, List, map, flat_map, option_map, Some};
 ghost use Rattle.szg_file.specs.Contents.{bytes_of};
-ghost use Rattle.szg_file.specs.File.{magic_of};
-ghost use Rattle.szg_file.specs.FileOf.{Section, written, padding, spare, part_sections, head_sections, list_sections, map_sections, maps_sections, sparse_sections, lengths_sections, blocks_sections};
+ghost use Rattle.szg_file.specs.FileOf.{Section, written, padding, spare, part_sections, head_sections, list_sections, map_sections, maps_sections, sparse_sections, lengths_sections, blocks_sections, sections};
 ghost use Rattle.szg_file.specs.Held.{part_of, sparse_of, subtable_of, map_of};
-ghost use Rattle.szg_file.specs.Writing.{Writing, WritesAs, code_sections, dictionary_sections};
+ghost use Rattle.szg_file.specs.Sections.{Took, TakesAs, contents_in, code_sections, dictionary_sections};
 
-use crate::fault::WriteFault;
-use crate::outgoing::{Outgoing, put, put_padding, put_spare};
 use crate::start::magic;
 use crate::table::{Map, PartBytes};
 use szg_block::{Entry, Sub};
 use szg_code::Code;
-use szg_io::Output;
 use szg_pairs::Dict;
-use szg_values::Kind;
+use szg_values::{Kind, Material};
 
-/// Writes the items in order, each by a call of `write`.
-fn write_each<T, W: Output, F: Fn(&T, &mut W, &mut Outgoing) -> Result<(), WriteFault>>(
+/// Takes the sections of a file in order. What it makes of them goes to `out`.
+pub trait SectionSink<W> {
+    /// What it does with a section: the sink and its output before, the section, and both after.
+    ghost takes: { Self → W → Section → Self → W → Type 0 };
+
+    /// Takes a field of bytes.
+    fn bytes(&mut self, bytes: &[u8], out: &mut W)
+        ensures { takes self.old out.old (written bytes.now) self.new out.new };
+
+    /// Takes a field of two-byte numbers, least byte first.
+    fn numbers(&mut self, list: &[u16], out: &mut W)
+        ensures { takes self.old out.old (written (flat_map (bytes_of 2) list.now)) self.new out.new };
+
+    /// Takes a sparse index, six bytes an entry.
+    fn entries(&mut self, sparse: &[Entry], out: &mut W)
+        ensures { takes self.old out.old (written (flat_map (λ entry. bytes_of 4 entry.block ++ bytes_of 2 entry.offset) (map sparse_of sparse.now))) self.new out.new };
+
+    /// Takes the entries of a dictionary, three bytes each.
+    fn symbols(&mut self, dict: &Dict, out: &mut W)
+        ensures { takes self.old out.old (written (flat_map (λ entry. entry) dict.now)) self.new out.new };
+
+    /// Takes `count` padding bytes.
+    fn spare(&mut self, count: u64, out: &mut W)
+        requires { count < 2 ^ 32 }
+        ensures { takes self.old out.old (spare count) self.new out.new };
+
+    /// Takes the padding up to a multiple of `unit`, which is 2 or 64.
+    fn padding(&mut self, unit: u64, out: &mut W)
+        requires some { 0 < unit }
+        requires most { unit < 2 ^ 32 }
+        requires whole { 2 ^ 64 % unit ≡ 0 }
+        ensures { takes self.old out.old (padding unit) self.new out.new };
+}
+
+/// The fields of a table's file except its padding bytes, borrowed.
+#[derive(Clone, Copy)]
+pub struct FieldsRef<'a> {
+    pub material: &'a Material,
+    pub kind: Kind,
+    pub byte4: u8,
+    pub parts: &'a [PartBytes],
+    pub subs: &'a [Sub],
+    pub maps: &'a [Option<Map>],
+    pub last: &'a [u8; 16],
+}
+
+/// Hands all sections of a table's file to a sink.
+pub fn put_sections<W, S: SectionSink<W>>(fields: &FieldsRef, sink: &mut S, out: &mut W)
+    ensures { Took S.takes (sections (contents_in fields.now)) sink.old out.old sink.new out.new }
+{
+    let FieldsRef {
+        kind,
+        byte4,
+        parts,
+        subs,
+        maps,
+        last,
+        ..
+    } = *fields;
+    sink.bytes(&magic(kind), out);
+    sink.bytes(&[byte4], out);
+    put_each(parts, put_part, sink, out);
+    sink.padding(2, out);
+    put_each(subs, put_head, sink, out);
+    put_maps(kind, maps, sink, out);
+    put_each(subs, put_index, sink, out);
+    put_each(subs, put_lengths, sink, out);
+    put_each(subs, put_blocks, sink, out);
+    sink.padding(64, out);
+    sink.bytes(last, out);
+}
+
+/// Hands the sections of items to a sink, item by item.
+fn put_each<T, W, S: SectionSink<W>, F: Fn(&T, &mut S, &mut W)>(
     items: &[T],
-    write: F,
-    output: &mut W,
-    outgoing: &mut Outgoing,
-) -> Result<(), WriteFault>
-    requires { F.IsAlwaysCallable write }
-    ensures { (sections : T → List Section) → WritesAs F.Fn W.Output write sections → Writing (flat_map sections items.now) outgoing.old outgoing.new W.Output output.old output.new result }
+    put: F,
+    sink: &mut S,
+    out: &mut W,
+)
+    requires { F.IsAlwaysCallable put }
+    ensures { (sections : T → List Section) → TakesAs F.Fn S.takes put sections → Took S.takes (flat_map sections items.now) sink.old out.old sink.new out.new }
 {
     'items: for item in items {
-        write(item, output, outgoing)?;
+        put(item, sink, out);
     }
-    Ok(())
 }
 
-// ---- lists
-
-/// Writes a two-byte number, least byte first.
-fn put_u16<W: Output>(
-    number: u16,
-    output: &mut W,
-    outgoing: &mut Outgoing,
-) -> Result<(), WriteFault>
-    ensures { Writing (written (bytes_of 2 number) ∷ []) outgoing.old outgoing.new W.Output output.old output.new result }
+fn put_part<W, S: SectionSink<W>>(part: &PartBytes, sink: &mut S, out: &mut W)
+    ensures { Took S.takes (part_sections (part_of part.now)) sink.old out.old sink.new out.new }
 {
-    put(&number.to_le_bytes(), output, outgoing)
-}
-
-/// Writes a four-byte number, least byte first.
-fn put_u32<W: Output>(
-    number: u32,
-    output: &mut W,
-    outgoing: &mut Outgoing,
-) -> Result<(), WriteFault>
-    ensures { Writing (written (bytes_of 4 number) ∷ []) outgoing.old outgoing.new W.Output output.old output.new result }
-{
-    put(&number.to_le_bytes(), output, outgoing)
-}
-
-/// Writes two-byte numbers.
-fn put_numbers<W: Output>(
-    list: &[u16],
-    output: &mut W,
-    outgoing: &mut Outgoing,
-) -> Result<(), WriteFault>
-    ensures { Writing (written (flat_map (bytes_of 2) list.now) ∷ []) outgoing.old outgoing.new W.Output output.old output.new result }
-{
-    write_each(
-        list,
-        |number, output, outgoing| put_u16(*number, output, outgoing),
-        output,
-        outgoing,
-    )
-}
-
-/// Writes a list's length as one byte, and its items as one byte each.
-fn put_short_list<W: Output>(
-    list: &[u8],
-    output: &mut W,
-    outgoing: &mut Outgoing,
-) -> Result<(), WriteFault>
-    ensures { Writing (list_sections 1 list.now) outgoing.old outgoing.new W.Output output.old output.new result }
-{
-    put(&(list.len() as u64).to_le_bytes()[..1], output, outgoing)?;
-    put(list, output, outgoing)
-}
-
-/// Writes a list's length as two bytes, and its items as two bytes each.
-fn put_wide_list<W: Output>(
-    list: &[u16],
-    output: &mut W,
-    outgoing: &mut Outgoing,
-) -> Result<(), WriteFault>
-    ensures { Writing (list_sections 2 list.now) outgoing.old outgoing.new W.Output output.old output.new result }
-{
-    put(&(list.len() as u64).to_le_bytes()[..2], output, outgoing)?;
-    put_numbers(list, output, outgoing)
-}
-
-// ---- parts
-
-fn put_part<W: Output>(
-    part: &PartBytes,
-    output: &mut W,
-    outgoing: &mut Outgoing,
-) -> Result<(), WriteFault>
-    ensures { Writing (part_sections (part_of part.now)) outgoing.old outgoing.new W.Output output.old output.new result }
-{
-    put(&part.order, output, outgoing)?;
-    put(&part.men, output, outgoing)
-}
-
-/// Writes the magic, byte 4 and the parts.
-pub fn write_start_and_parts<W: Output>(
-    kind: Kind,
-    byte4: u8,
-    parts: &[PartBytes],
-    output: &mut W,
-    outgoing: &mut Outgoing,
-) -> Result<(), WriteFault>
-    ensures { Writing (written (magic_of kind) ∷ written (byte4 ∷ []) ∷ flat_map part_sections (map part_of parts.now)) outgoing.old outgoing.new W.Output output.old output.new result }
-{
-    put(&magic(kind), output, outgoing)?;
-    put(&[byte4], output, outgoing)?;
-    write_each(parts, put_part, output, outgoing)
+    sink.bytes(&part.order, out);
+    sink.bytes(&part.men, out);
 }
 
 // ---- headers
 
-fn put_code<W: Output>(
-    code: &Code,
-    output: &mut W,
-    outgoing: &mut Outgoing,
-) -> Result<(), WriteFault>
-    ensures { Writing (code_sections code.now) outgoing.old outgoing.new W.Output output.old output.new result }
+fn put_code<W, S: SectionSink<W>>(code: &Code, sink: &mut S, out: &mut W)
+    ensures { Took S.takes (code_sections code.now) sink.old out.old sink.new out.new }
 {
-    put(&[code.max(), code.min()], output, outgoing)?;
-    put_numbers(code.lowest(), output, outgoing)
+    sink.bytes(&[code.max()], out);
+    sink.bytes(&[code.min()], out);
+    sink.numbers(code.lowest(), out);
 }
 
-fn put_entries<W: Output>(
-    dict: &Dict,
-    output: &mut W,
-    outgoing: &mut Outgoing,
-) -> Result<(), WriteFault>
-    ensures { Writing (written (flat_map (λ entry. entry) dict.now) ∷ []) outgoing.old outgoing.new W.Output output.old output.new result }
+fn put_dictionary<W, S: SectionSink<W>>(dict: &Dict, sink: &mut S, out: &mut W)
+    ensures { Took S.takes (dictionary_sections dict.now) sink.old out.old sink.new out.new }
 {
-    'symbols: for symbol in 0..dict.symbols() {
-        put(&dict.entry(symbol), output, outgoing)?;
-    }
-    Ok(())
+    let count = dict.symbols();
+    sink.bytes(&count.to_le_bytes(), out);
+    sink.symbols(dict, out);
+    sink.spare((count % 2) as u64, out);
 }
 
-fn put_dictionary<W: Output>(
-    dict: &Dict,
-    output: &mut W,
-    outgoing: &mut Outgoing,
-) -> Result<(), WriteFault>
-    ensures { Writing (dictionary_sections dict.now) outgoing.old outgoing.new W.Output output.old output.new result }
-{
-    let symbols = dict.symbols();
-    put_u16(symbols, output, outgoing)?;
-    put_entries(dict, output, outgoing)?;
-    put_spare((symbols % 2) as u64, output, outgoing)
-}
-
-fn put_head<W: Output>(sub: &Sub, output: &mut W, outgoing: &mut Outgoing) -> Result<(), WriteFault>
-    ensures { Writing (head_sections (subtable_of sub.now)) outgoing.old outgoing.new W.Output output.old output.new result }
+fn put_head<W, S: SectionSink<W>>(sub: &Sub, sink: &mut S, out: &mut W)
+    ensures { Took S.takes (head_sections (subtable_of sub.now)) sink.old out.old sink.new out.new }
 {
     match sub {
-        Sub::Constant { flags, byte } => put(&[*flags, *byte], output, outgoing),
+        Sub::Constant { flags, byte } => {
+            sink.bytes(&[*flags], out);
+            sink.bytes(&[*byte], out);
+        }
         Sub::Pairs {
             flags,
             block_bits,
@@ -178,211 +143,97 @@ fn put_head<W: Output>(sub: &Sub, output: &mut W, outgoing: &mut Outgoing) -> Re
             dict,
             ..
         } => {
-            put(&[*flags, *block_bits, *span_bits, *extra], output, outgoing)?;
-            put_u32(*blocks, output, outgoing)?;
-            put_code(code, output, outgoing)?;
-            put_dictionary(dict, output, outgoing)
+            sink.bytes(&[*flags], out);
+            sink.bytes(&[*block_bits], out);
+            sink.bytes(&[*span_bits], out);
+            sink.bytes(&[*extra], out);
+            sink.bytes(&blocks.to_le_bytes(), out);
+            put_code(code, sink, out);
+            put_dictionary(dict, sink, out);
         }
     }
-}
-
-/// Writes the padding after the parts, and the subtables' headers.
-pub fn write_heads<W: Output>(
-    subs: &[Sub],
-    output: &mut W,
-    outgoing: &mut Outgoing,
-) -> Result<(), WriteFault>
-    ensures { Writing (padding 2 ∷ flat_map head_sections (map subtable_of subs.now)) outgoing.old outgoing.new W.Output output.old output.new result }
-{
-    put_padding(2, output, outgoing)?;
-    write_each(subs, put_head, output, outgoing)
 }
 
 // ---- maps
 
-fn put_short_lists<W: Output>(
-    lists: &[Vec<u8>; 4],
-    output: &mut W,
-    outgoing: &mut Outgoing,
-) -> Result<(), WriteFault>
-    ensures { Writing (flat_map (list_sections 1) (map (λ list. list.items) lists.now)) outgoing.old outgoing.new W.Output output.old output.new result }
+/// Hands a list's length as one byte, and its items as one byte each.
+fn put_short_list<W, S: SectionSink<W>>(list: &Vec<u8>, sink: &mut S, out: &mut W)
+    ensures { Took S.takes (list_sections 1 list.now.items) sink.old out.old sink.new out.new }
 {
-    write_each(
-        lists,
-        |list, output, outgoing| put_short_list(list, output, outgoing),
-        output,
-        outgoing,
-    )
+    sink.bytes(&(list.len() as u64).to_le_bytes()[..1], out);
+    sink.bytes(list, out);
 }
 
-fn put_wide_lists<W: Output>(
-    lists: &[Vec<u16>; 4],
-    output: &mut W,
-    outgoing: &mut Outgoing,
-) -> Result<(), WriteFault>
-    ensures { Writing (flat_map (list_sections 2) (map (λ list. list.items) lists.now)) outgoing.old outgoing.new W.Output output.old output.new result }
+/// Hands a list's length as two bytes, and its items as two bytes each.
+fn put_wide_list<W, S: SectionSink<W>>(list: &Vec<u16>, sink: &mut S, out: &mut W)
+    ensures { Took S.takes (list_sections 2 list.now.items) sink.old out.old sink.new out.new }
 {
-    write_each(
-        lists,
-        |list, output, outgoing| put_wide_list(list, output, outgoing),
-        output,
-        outgoing,
-    )
+    sink.bytes(&(list.len() as u64).to_le_bytes()[..2], out);
+    sink.numbers(list, out);
 }
 
-fn put_lists<W: Output>(
-    map: &Map,
-    output: &mut W,
-    outgoing: &mut Outgoing,
-) -> Result<(), WriteFault>
-    ensures { Writing (map_sections (Some (map_of map.now))) outgoing.old outgoing.new W.Output output.old output.new result }
+fn put_lists<W, S: SectionSink<W>>(map: &Map, sink: &mut S, out: &mut W)
+    ensures { Took S.takes (map_sections (Some (map_of map.now))) sink.old out.old sink.new out.new }
 {
     match map {
-        Map::Bytes(lists) => put_short_lists(lists, output, outgoing),
+        Map::Bytes(lists) => put_each(lists, put_short_list, sink, out),
         Map::Wide(lists) => {
-            put_padding(2, output, outgoing)?;
-            put_wide_lists(lists, output, outgoing)
+            sink.padding(2, out);
+            put_each(lists, put_wide_list, sink, out);
         }
     }
 }
 
-fn put_map<W: Output>(
-    map: &Option<Map>,
-    output: &mut W,
-    outgoing: &mut Outgoing,
-) -> Result<(), WriteFault>
-    ensures { Writing (map_sections (option_map map_of map.now)) outgoing.old outgoing.new W.Output output.old output.new result }
+fn put_map<W, S: SectionSink<W>>(map: &Option<Map>, sink: &mut S, out: &mut W)
+    ensures { Took S.takes (map_sections (option_map map_of map.now)) sink.old out.old sink.new out.new }
 {
     match map {
-        None => Ok(()),
-        Some(map) => put_lists(map, output, outgoing),
+        None => {}
+        Some(map) => put_lists(map, sink, out),
     }
 }
 
-/// Writes the maps of a DTZ table and the padding after them.
-pub fn write_maps<W: Output>(
-    kind: Kind,
-    maps: &[Option<Map>],
-    output: &mut W,
-    outgoing: &mut Outgoing,
-) -> Result<(), WriteFault>
-    ensures { Writing (maps_sections kind (map (option_map map_of) maps.now)) outgoing.old outgoing.new W.Output output.old output.new result }
+/// Hands the maps of a DTZ table and the padding after them to a sink.
+fn put_maps<W, S: SectionSink<W>>(kind: Kind, maps: &[Option<Map>], sink: &mut S, out: &mut W)
+    ensures { Took S.takes (maps_sections kind (map (option_map map_of) maps.now)) sink.old out.old sink.new out.new }
 {
     match kind {
-        Kind::Wdl => Ok(()),
+        Kind::Wdl => {}
         Kind::Dtz => {
-            write_each(maps, put_map, output, outgoing)?;
-            put_padding(2, output, outgoing)
+            put_each(maps, put_map, sink, out);
+            sink.padding(2, out);
         }
     }
 }
 
 // ---- sparse indexes, block lengths, blocks
 
-fn put_entry<W: Output>(
-    entry: &Entry,
-    output: &mut W,
-    outgoing: &mut Outgoing,
-) -> Result<(), WriteFault>
-    ensures { Writing (written (bytes_of 4 entry.now.block ++ bytes_of 2 entry.now.offset) ∷ []) outgoing.old outgoing.new W.Output output.old output.new result }
-{
-    put_u32(entry.block, output, outgoing)?;
-    put_u16(entry.offset, output, outgoing)
-}
-
-fn put_sparse<W: Output>(
-    sparse: &[Entry],
-    output: &mut W,
-    outgoing: &mut Outgoing,
-) -> Result<(), WriteFault>
-    ensures { Writing (written (flat_map (λ entry. bytes_of 4 entry.block ++ bytes_of 2 entry.offset) (map sparse_of sparse.now)) ∷ []) outgoing.old outgoing.new W.Output output.old output.new result }
-{
-    write_each(sparse, put_entry, output, outgoing)
-}
-
-fn put_index<W: Output>(
-    sub: &Sub,
-    output: &mut W,
-    outgoing: &mut Outgoing,
-) -> Result<(), WriteFault>
-    ensures { Writing (sparse_sections (subtable_of sub.now)) outgoing.old outgoing.new W.Output output.old output.new result }
+fn put_index<W, S: SectionSink<W>>(sub: &Sub, sink: &mut S, out: &mut W)
+    ensures { Took S.takes (sparse_sections (subtable_of sub.now)) sink.old out.old sink.new out.new }
 {
     match sub {
-        Sub::Constant { .. } => Ok(()),
-        Sub::Pairs { sparse, .. } => put_sparse(sparse, output, outgoing),
+        Sub::Constant { .. } => {}
+        Sub::Pairs { sparse, .. } => sink.entries(sparse, out),
     }
 }
 
-/// Writes the subtables' sparse indexes.
-pub fn write_indexes<W: Output>(
-    subs: &[Sub],
-    output: &mut W,
-    outgoing: &mut Outgoing,
-) -> Result<(), WriteFault>
-    ensures { Writing (flat_map sparse_sections (map subtable_of subs.now)) outgoing.old outgoing.new W.Output output.old output.new result }
-{
-    write_each(subs, put_index, output, outgoing)
-}
-
-fn put_lengths<W: Output>(
-    sub: &Sub,
-    output: &mut W,
-    outgoing: &mut Outgoing,
-) -> Result<(), WriteFault>
-    ensures { Writing (lengths_sections (subtable_of sub.now)) outgoing.old outgoing.new W.Output output.old output.new result }
+fn put_lengths<W, S: SectionSink<W>>(sub: &Sub, sink: &mut S, out: &mut W)
+    ensures { Took S.takes (lengths_sections (subtable_of sub.now)) sink.old out.old sink.new out.new }
 {
     match sub {
-        Sub::Constant { .. } => Ok(()),
-        Sub::Pairs { lengths, .. } => put_numbers(lengths, output, outgoing),
+        Sub::Constant { .. } => {}
+        Sub::Pairs { lengths, .. } => sink.numbers(lengths, out),
     }
 }
 
-/// Writes the block lengths of the subtables.
-pub fn write_lengths<W: Output>(
-    subs: &[Sub],
-    output: &mut W,
-    outgoing: &mut Outgoing,
-) -> Result<(), WriteFault>
-    ensures { Writing (flat_map lengths_sections (map subtable_of subs.now)) outgoing.old outgoing.new W.Output output.old output.new result }
-{
-    write_each(subs, put_lengths, output, outgoing)
-}
-
-fn put_blocks<W: Output>(
-    sub: &Sub,
-    output: &mut W,
-    outgoing: &mut Outgoing,
-) -> Result<(), WriteFault>
-    ensures { Writing (blocks_sections (subtable_of sub.now)) outgoing.old outgoing.new W.Output output.old output.new result }
+fn put_blocks<W, S: SectionSink<W>>(sub: &Sub, sink: &mut S, out: &mut W)
+    ensures { Took S.takes (blocks_sections (subtable_of sub.now)) sink.old out.old sink.new out.new }
 {
     match sub {
-        Sub::Constant { .. } => Ok(()),
+        Sub::Constant { .. } => {}
         Sub::Pairs { packed, .. } => {
-            put_padding(64, output, outgoing)?;
-            put(packed, output, outgoing)
+            sink.padding(64, out);
+            sink.bytes(packed, out);
         }
     }
-}
-
-/// Writes the blocks of the subtables, each after its padding.
-pub fn write_blocks<W: Output>(
-    subs: &[Sub],
-    output: &mut W,
-    outgoing: &mut Outgoing,
-) -> Result<(), WriteFault>
-    ensures { Writing (flat_map blocks_sections (map subtable_of subs.now)) outgoing.old outgoing.new W.Output output.old output.new result }
-{
-    write_each(subs, put_blocks, output, outgoing)
-}
-
-/// Writes the padding after the blocks, and the last sixteen bytes.
-pub fn write_end<W: Output>(
-    last: &[u8; 16],
-    output: &mut W,
-    outgoing: &mut Outgoing,
-) -> Result<(), WriteFault>
-    ensures { Writing (padding 64 ∷ written last.now ∷ []) outgoing.old outgoing.new W.Output output.old output.new result }
-{
-    put_padding(64, output, outgoing)?;
-    put(last, output, outgoing)
 }

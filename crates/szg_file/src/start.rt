@@ -22,13 +22,6 @@ pub fn magic(kind: Kind) -> [u8; 4]
     }
 }
 
-/// Returns whether two byte strings are equal.
-fn same(a: &[u8], b: &[u8]) -> bool
-    ensures { result ≡ bytes_eq a.now b.now }
-{
-    a == b
-}
-
 fn read_magic<R: Input>(kind: Kind, input: &mut R, front: &mut Front) -> Result<(), ReadFault>
     requires { front.old.place ≡ 0 }
     ensures magic { Reading (magic_field kind) (λ _. tt) front.old front.new R.Input input.old input.new result }
@@ -38,7 +31,7 @@ fn read_magic<R: Input>(kind: Kind, input: &mut R, front: &mut Front) -> Result<
 {
     let mut piece = [0; 4];
     take_field(input, front, &mut piece)?;
-    if !same(&piece, &magic(kind)) {
+    if piece != magic(kind) {
         return Err(ReadFault::Refused {
             place: 0,
             reason: Reason::Magic,

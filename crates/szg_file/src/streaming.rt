@@ -13,19 +13,22 @@ ghost use Rattle.szg_file.specs.Streaming.{Accepted, values_if};
 ghost use Rattle.szg_file.specs.Values.{values_in};
 
 use crate::begun::Slot;
-use crate::dropping::{pass_block, pass_blocks};
+use crate::dropping::pass_block;
 use crate::fault::ReadFault;
 use crate::front::Front;
 use crate::lookup::constant_value;
 use crate::sink::ValueSink;
+use crate::typed::code_fits;
 use std::alloc::Global;
 use szg_block::{Sub, decode_block};
 use szg_io::Input;
 use szg_values::Kind;
 
-/// Hands the values that block `n` needs to a sink. `block` has the block's bytes, which passed their check; `before`
-/// values come before it. Errors: `Memory`; the sink takes no more values, or an allocation was refused.
+/// Hands the values that block `n` needs to a sink, if they are wanted. `block` has the block's bytes, which passed
+/// their check; `before` values come before it. Errors: `Memory`; the sink takes no more values, or an allocation was
+/// refused.
 fn put_block<W, K: ValueSink<W>>(
+    wanted: bool,
     values: &mut Vec<u16>,
     sub: &Sub,
     size: u64,
@@ -40,10 +43,13 @@ fn put_block<W, K: ValueSink<W>>(
     requires before { IsSomeAnd (layout_of sub.now) (λ layout. before ≡ start layout.lengths n) }
     requires whole { IsSomeAnd (layout_of sub.now) (λ layout. length block.now ≡ 2 ^ layout.block_bits) }
     requires spelled { IsSomeAnd (layout_of sub.now) (λ layout. SpellsNeeded layout size n block.now) }
-    ensures accepted { OnOk result (IfSome (layout_of sub.now) (λ layout. K.accepts sink.old out.old (take (needed layout.lengths size n) (block_values layout block.now)) sink.new out.new)) }
+    ensures accepted { OnOk result (IfSome (layout_of sub.now) (λ layout. Accepted K.accepts (values_if wanted (take (needed layout.lengths size n) (block_values layout block.now))) sink.old out.old sink.new out.new)) }
     ensures wanted { K.wanted sink.new ≡ K.wanted sink.old }
     ensures memory { OnErr result (result ≡ Err ReadFault.Memory) }
 {
+    if !wanted {
+        return Ok(());
+    }
     values.clear();
     if decode_block(sub, size, n, before, block, values).is_err() {
         return Err(ReadFault::Memory);
@@ -54,9 +60,10 @@ fn put_block<W, K: ValueSink<W>>(
     }
 }
 
-/// Reads the blocks of a subtable in order, each with its check, into a buffer of a block's length. Decodes each into
-/// `values`, and hands its values to a sink.
+/// Reads the blocks of a subtable in order, each with its check, into a buffer of a block's length. If their values are
+/// wanted, decodes each block into `values` and hands its values to a sink.
 fn stream_blocks<R: Input, W, K: ValueSink<W>>(
+    wanted: bool,
     buffer: &mut [u8],
     values: &mut Vec<u16>,
     sub: &Sub,
@@ -74,7 +81,7 @@ fn stream_blocks<R: Input, W, K: ValueSink<W>>(
     ensures count { IfSome (layout_of sub.now) (λ layout. OnOk result (front.new.place ≡ front.old.place + layout.blocks * 2 ^ layout.block_bits)) }
     ensures place { OnOk result (front.new.place ≤ front.old.place + 2 ^ 50) }
     ensures growth { OnOk result (front.new.growth ≡ front.old.growth) }
-    ensures accepted { IfSome (layout_of sub.now) (λ layout. OnOk result (Accepted K.accepts (joined_values layout (since (R.moved input.old) (R.moved input.new)) size) sink.old out.old sink.new out.new)) }
+    ensures accepted { IfSome (layout_of sub.now) (λ layout. OnOk result (Accepted K.accepts (values_if wanted (joined_values layout (since (R.moved input.old) (R.moved input.new)) size)) sink.old out.old sink.new out.new)) }
     ensures wanted { K.wanted sink.new ≡ K.wanted sink.old }
 {
     let Sub::Pairs {
@@ -86,12 +93,11 @@ fn stream_blocks<R: Input, W, K: ValueSink<W>>(
     else {
         return Ok(());
     };
-    // a fact that the check of each block needs: no word of the code begins another
-    let _symbols = code.symbols();
+    code_fits(code);
     let mut before = 0;
     'each_block: for n in 0..*blocks {
         pass_block(buffer, sub, size, n, before, input, front)?;
-        put_block(values, sub, size, n, before, buffer, sink, out)?;
+        put_block(wanted, values, sub, size, n, before, buffer, sink, out)?;
         before += lengths[n as usize] as u64 + 1;
     }
     Ok(())
@@ -120,13 +126,20 @@ pub fn pass_blocks_to<R: Input, W, K: ValueSink<W>>(
     ensures accepted { IfSome (layout_of sub.now) (λ layout. OnOk result (Accepted K.accepts (values_if (K.wanted sink.old slot.part slot.side) (joined_values layout (since (R.moved input.old) (R.moved input.new)) slot.size)) sink.old out.old sink.new out.new)) }
     ensures wanted { K.wanted sink.new ≡ K.wanted sink.old }
 {
+    let wanted = sink.wants(slot.part, slot.side);
+    let mut values = Vec::new(alloc);
     let size = slot.size;
-    if sink.wants(slot.part, slot.side) {
-        let mut values = Vec::new(alloc);
-        stream_blocks(buffer, &mut values, sub, size, input, front, sink, out)
-    } else {
-        pass_blocks(buffer, sub, size, input, front)
-    }
+    stream_blocks(
+        wanted,
+        buffer,
+        &mut values,
+        sub,
+        size,
+        input,
+        front,
+        sink,
+        out,
+    )
 }
 
 /// Hands the values of a constant subtable to the sink, if it wants those of this part and side. Errors: `Memory`;

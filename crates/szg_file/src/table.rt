@@ -2,6 +2,7 @@ ghost use Rattle.std.specs.Prelude.{◌≡◌};
 
 use crate::fault::MapFault;
 use crate::lookup::{Found, constant_value};
+use crate::sections::FieldsRef;
 use crate::table_index::{Numbered, TableIndex};
 use std::alloc::{AllocError, Global};
 use std::marker::Model;
@@ -57,6 +58,7 @@ impl Table {
     ghost use Rattle.szg_block.specs.Subtable.{packed_of, IsShaped, IsSoundOver};
     ghost use Rattle.szg_file.specs.Index.{index_of};
     ghost use Rattle.szg_file.specs.Lookup.{IsFound};
+    ghost use Rattle.szg_file.specs.Sections.{contents_in};
     ghost use Rattle.szg_file.specs.Steps.{steps_of};
     ghost use Rattle.szg_file.specs.Values.{subtable_at, values_of, item, number_of_value};
 
@@ -118,6 +120,21 @@ impl Table {
         ensures { result.now ≡ self.now.contents.last }
     {
         &self.last
+    }
+
+    // Returns the fields of the table's file, without its padding bytes.
+    pub(crate) fn fields(&self) -> FieldsRef<'_>
+        ensures { contents_in result ≡ self.now.contents }
+    {
+        FieldsRef {
+            material: self.index.material(),
+            kind: self.index.kind(),
+            byte4: self.byte4,
+            parts: self.index.parts(),
+            subs: &self.subs,
+            maps: self.index.maps(),
+            last: &self.last,
+        }
     }
 
     // Finds a part's side. None if there is no such side.

@@ -14,6 +14,7 @@ use crate::flags::flags_of;
 use crate::lookup::slot_number;
 use crate::parts::Parts;
 use crate::table::{Map, PartBytes};
+use crate::typed::parts_fit;
 use arrayvec::ArrayVec;
 use std::marker::Model;
 use szg_block::Sub;
@@ -57,8 +58,7 @@ pub fn index_of_subs(
     requires slots { parts.slots.items ≡ slots_of material kind (map part_of parts.bytes.items) }
     ensures { result ≡ index_with material kind (map part_of parts.bytes.items) (map flags_byte (map subtable_of subs.now)) (map (option_map map_of) maps.items) }
 {
-    // there is a slot for each subtable, at most eight
-    let _slots = parts.slots.as_slice();
+    parts_fit(&parts);
     let flags = flags_of_all(subs);
     TableIndex::new(material, kind, parts, flags, maps)
 }
@@ -75,8 +75,7 @@ pub fn index_of_placed(
     requires slots { parts.slots.items ≡ slots_of material kind (map part_of parts.bytes.items) }
     ensures { result ≡ index_with material kind (map part_of parts.bytes.items) (map (λ placed. flags_byte (subtable_of placed.sub)) subs.now) (map (option_map map_of) maps.items) }
 {
-    // there is a slot for each subtable, at most eight
-    let _slots = parts.slots.as_slice();
+    parts_fit(&parts);
     let flags = flags_of_placed(subs);
     TableIndex::new(material, kind, parts, flags, maps)
 }

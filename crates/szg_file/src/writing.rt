@@ -1,19 +1,15 @@
-ghost use Rattle.std.specs.Prelude.{◌≡◌, ◌<◌, [], length, take, IfErr, OnOk, OnErr};
+ghost use Rattle.std.specs.Prelude.{◌≡◌, ◌<◌, ◌^◌, length, take, IfErr, OnOk, OnErr};
 ghost use Rattle.szg_io.specs.Device.{HasFailed};
 ghost use Rattle.szg_io.specs.Moved.{Gives};
-ghost use Rattle.szg_file.specs.FileOf.{sections};
+ghost use Rattle.szg_file.specs.Accepted.{IsAccepted};
 ghost use Rattle.szg_file.specs.Held.{file_bytes};
-ghost use Rattle.szg_file.specs.Lengths.{FileLength};
-ghost use Rattle.szg_file.specs.Writing.{Writing};
 
 use crate::fault::WriteFault;
-use crate::lengths::{maps_len, parts_len, subs_len};
-use crate::outgoing::{Outgoing, flush};
-use crate::sections::{
-    write_blocks, write_end, write_heads, write_indexes, write_lengths, write_maps,
-    write_start_and_parts,
-};
+use crate::outgoing::flush;
+use crate::sections::put_sections;
 use crate::table::Table;
+use crate::tally::Tally;
+use crate::writer::Writer;
 use szg_io::Output;
 
 /// Writes the table's file. Errors: the writer failed, with the number of bytes of the file that were written.
@@ -25,39 +21,10 @@ pub fn write<W: Output>(table: &Table, output: &mut W) -> Result<(), WriteFault>
     ensures quiet { OnOk result (W.failures output.new ≡ W.failures output.old) }
 {
     bounded(table);
-    let mut outgoing = Outgoing::new(&table.filled);
-    write_whole(table, output, &mut outgoing)
-}
-
-/// Writes the sections of a table, and flushes the buffer.
-fn write_whole<W: Output>(
-    table: &Table,
-    output: &mut W,
-    outgoing: &mut Outgoing,
-) -> Result<(), WriteFault>
-    ensures whole { Writing (sections table.now.contents) outgoing.old outgoing.new W.Output output.old output.new result }
-    ensures held { OnOk result (outgoing.new.held.items ≡ []) }
-{
-    write_table(table, output, outgoing)?;
-    flush(output, outgoing)
-}
-
-/// Writes the sections of a table.
-fn write_table<W: Output>(
-    table: &Table,
-    output: &mut W,
-    outgoing: &mut Outgoing,
-) -> Result<(), WriteFault>
-    ensures { Writing (sections table.now.contents) outgoing.old outgoing.new W.Output output.old output.new result }
-{
-    let (kind, parts, maps) = (table.index.kind(), table.index.parts(), table.index.maps());
-    write_start_and_parts(kind, table.byte4, parts, output, outgoing)?;
-    write_heads(&table.subs, output, outgoing)?;
-    write_maps(kind, maps, output, outgoing)?;
-    write_indexes(&table.subs, output, outgoing)?;
-    write_lengths(&table.subs, output, outgoing)?;
-    write_blocks(&table.subs, output, outgoing)?;
-    write_end(&table.last, output, outgoing)
+    let mut writer = Writer::new(&table.filled);
+    put_sections(&table.fields(), &mut writer, output);
+    writer.result?;
+    flush(output, &mut writer.outgoing)
 }
 
 /// Returns the number of bytes of the table's file.
@@ -65,14 +32,13 @@ pub fn file_len(table: &Table) -> u64
     ensures { result ≡ length (file_bytes table.now) }
 {
     bounded(table);
-    let (parts, maps) = (table.index.parts(), table.index.maps());
-    let fields = parts_len(parts) + subs_len(&table.subs) + maps_len(maps);
-    21 + fields + table.filled.len() as u64
+    Tally::of(&table.fields()).place
 }
 
 /// For proofs alone: a table's file is short, because a material has few men.
 fn bounded(table: &Table)
-    ensures { FileLength table.now.contents table.now.filled }
+    ensures accepted { IsAccepted table.now.contents table.now.filled }
+    ensures short { length (file_bytes table.now) < 2 ^ 60 }
 {
     let _men = table.index.material().men();
 }

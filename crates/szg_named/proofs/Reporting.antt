@@ -15,18 +15,18 @@ pub reports_more : {S F : Type 0} (content : S → List ℕ → Option (List ℕ
     (paths : List (List ℕ)) (verdicts : List FileVerdict) (path : List ℕ) (verdict : FileVerdict) (first mid last : S) (text line : List ℕ) →
     Reports content failures device options paths verdicts first mid text → IsFileVerdict content failures device options.naming path mid last verdict → IsReportLine options.format options.allow_trailing path verdict line →
     Reports content failures device options (paths ++ path ∷ []) (verdicts ++ verdict ∷ []) first last (text ++ line)
-reports_more content failures device options [] [] path verdict first mid last text line h one told =
-    (last, subst (λ (s : _). IsFileVerdict content failures device options.naming path s last verdict) h.0 one, line, told, [], ap (λ (z : List ℕ). z ++ line) h.1 ∙ sym (append-nil line), (refl, refl))
-reports_more content failures device options [] (f ∷ fs) path verdict first mid last text line h one told = absurd h
-reports_more content failures device options (p ∷ ps) [] path verdict first mid last text line h one told = absurd h
-reports_more content failures device options (p ∷ ps) (f ∷ fs) path verdict first mid last text line h one told = (
+reports_more content failures device options [] [] path verdict first mid last text line h one report =
+    (last, subst (λ (s : _). IsFileVerdict content failures device options.naming path s last verdict) h.0 one, line, report, [], ap (λ (z : List ℕ). z ++ line) h.1 ∙ sym (append-nil line), (refl, refl))
+reports_more content failures device options [] (f ∷ fs) path verdict first mid last text line h one report = absurd h
+reports_more content failures device options (p ∷ ps) [] path verdict first mid last text line h one report = absurd h
+reports_more content failures device options (p ∷ ps) (f ∷ fs) path verdict first mid last text line h one report = (
   h.0,
   h.1,
   h.2,
   h.3,
   h.4 ++ line,
   ap (λ (z : List ℕ). z ++ line) h.5 ∙ append_assoc h.2 h.4 line,
-  reports_more content failures device options ps fs path verdict h.0 mid last h.4 line h.6 one told,
+  reports_more content failures device options ps fs path verdict h.0 mid last h.4 line h.6 one report,
 )
 
 -- each file is counted once
@@ -56,8 +56,8 @@ pub reports_next : {S F : Type 0} (content : S → List ℕ → Option (List ℕ
     (paths : List (Bor (List ℕ))) (i : ℕ) (d : Bor (List ℕ)) (verdicts : List FileVerdict) (verdict : FileVerdict) (first mid last : S) (text line : List ℕ) → i < length paths →
     Reports content failures device options (map (λ path. path.now) (take i paths)) verdicts first mid text → IsFileVerdict content failures device options.naming (get_or paths i d).now mid last verdict → IsReportLine options.format options.allow_trailing (get_or paths i d).now verdict line →
     Reports content failures device options (map (λ path. path.now) (take (i + 1) paths)) (verdicts ++ verdict ∷ []) first last (text ++ line)
-reports_next content failures device options paths i d verdicts verdict first mid last text line below h one told =
+reports_next content failures device options paths i d verdicts verdict first mid last text line below h one report =
     let more : map (λ (path : Bor (List ℕ)). path.now) (take (i + 1) paths) ≡ map (λ path. path.now) (take i paths) ++ (get_or paths i d).now ∷ [] =
     ap (map (λ (path : Bor (List ℕ)). path.now)) (take_more paths i d below) ∙ map-append (λ (path : Bor (List ℕ)). path.now) (take i paths) (get_or paths i d ∷ []) in
     subst (λ (z : List (List ℕ)). Reports content failures device options z (verdicts ++ verdict ∷ []) first last (text ++ line)) (sym more)
-    (reports_more content failures device options (map (λ path. path.now) (take i paths)) verdicts (get_or paths i d).now verdict first mid last text line h one told)
+    (reports_more content failures device options (map (λ path. path.now) (take i paths)) verdicts (get_or paths i d).now verdict first mid last text line h one report)

@@ -39,7 +39,7 @@ IsRead {F = F} content failures device path material kind system system' verdict
 -- The verdict by a kind and a parsed name. If the name is not a material's, the system is unchanged; otherwise the
 -- file was opened, or could not be.
 abbrev pub IsNamedVerdict : {S F : Type 0} → (S → List ℕ → Option (List ℕ)) → (S → ℕ) → input.Ghosts F → List ℕ → Kind → Result Sides NameFault → S → S → FileVerdict → Type 0
-IsNamedVerdict content failures device path kind (Err fault) system system' (Name told) = (told ≡ fault) × (system' ≡ system)
+IsNamedVerdict content failures device path kind (Err fault) system system' (Name found) = (found ≡ fault) × (system' ≡ system)
 IsNamedVerdict content failures device path kind (Err fault) system system' verdict = ⊥
 IsNamedVerdict content failures device path kind (Ok material) system system' (Unopened fault) = failures system' ≡ raised (failures system)
 IsNamedVerdict content failures device path kind (Ok material) system system' verdict = IsRead content failures device path material kind system system' verdict

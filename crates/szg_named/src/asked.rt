@@ -17,7 +17,7 @@ fn are_named(paths: &[&str]) -> bool
 }
 
 /// Whether the command is `check`.
-fn asks_to_check(words: &[&str]) -> bool
+fn is_check_command(words: &[&str]) -> bool
     ensures { result ≡ is_check (option_map (λ word. word.now) (slice_get words.now 1)) }
 {
     match words.get(1) {
@@ -35,7 +35,7 @@ pub fn files_asked<'w, 'a>(words: &'w [&'a str]) -> Option<&'w [&'a str]>
     if words.len() < 3 {
         return None;
     }
-    if !asks_to_check(words) {
+    if !is_check_command(words) {
         return None;
     }
     let paths = &words[2..];

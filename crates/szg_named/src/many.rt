@@ -98,8 +98,8 @@ fn report_path<S: FileSystem, C: Clock>(
 ) -> Result<Reported, Stop>
 where
     S::File: Ahead,
-    ensures verdict { IfOk result (λ told. IsFileVerdict S.content S.failures S.File.Input options.entry.naming path.now system.old system.new told.verdict) }
-    ensures line { IfOk result (λ told. IsReportLine options.entry.format options.entry.allow_trailing path.now told.verdict told.line.items) }
+    ensures verdict { IfOk result (λ reported. IsFileVerdict S.content S.failures S.File.Input options.entry.naming path.now system.old system.new reported.verdict) }
+    ensures line { IfOk result (λ reported. IsReportLine options.entry.format options.entry.allow_trailing path.now reported.verdict reported.line.items) }
     ensures only { IsErrOf result Stop.Device → ⊥ }
 {
     let started = time_now(clock, options.format);
@@ -147,11 +147,11 @@ where
         unread: 0,
     };
     'paths: for path in paths {
-        let told = report_path(alloc, system, clock, options, path)?;
-        if give_whole(writer, &told.line).is_err() {
+        let reported = report_path(alloc, system, clock, options, path)?;
+        if give_whole(writer, &reported.line).is_err() {
             return Err(Stop::Device);
         }
-        tally = tally.with(&told.verdict, options.allow_trailing);
+        tally = tally.with(&reported.verdict, options.allow_trailing);
     }
     let end = report_end(alloc, options.format, paths.len(), &tally)?;
     if give_whole(writer, end.as_bytes()).is_err() {

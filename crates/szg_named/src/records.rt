@@ -110,7 +110,7 @@ fn quoted(alloc: Global, text: &str) -> Result<Vec<u8>, AllocError>
 
 /// A reason as a TSV field: nothing if there is none.
 fn tsv_reason(alloc: Global, reason: &Option<String>) -> Result<Vec<u8>, AllocError>
-    ensures { IfOk result (λ text. text.items ≡ tsv_reason (option_map (λ told. string_bytes told) reason.now)) }
+    ensures { IfOk result (λ text. text.items ≡ tsv_reason (option_map (λ text. string_bytes text) reason.now)) }
 {
     match reason {
         Some(reason) => escaped_in(alloc, ReportFormat::Tsv, reason.as_str()),
@@ -120,7 +120,7 @@ fn tsv_reason(alloc: Global, reason: &Option<String>) -> Result<Vec<u8>, AllocEr
 
 /// A reason as a JSON value: `null` if there is none.
 fn json_reason(alloc: Global, reason: &Option<String>) -> Result<Vec<u8>, AllocError>
-    ensures { IfOk result (λ text. text.items ≡ json_reason (option_map (λ told. string_bytes told) reason.now)) }
+    ensures { IfOk result (λ text. text.items ≡ json_reason (option_map (λ text. string_bytes text) reason.now)) }
 {
     match reason {
         Some(reason) => quoted(alloc, reason.as_str()),
@@ -140,7 +140,7 @@ struct Fields {
 
 /// The fields of a TSV record in a line, separated by tabs.
 fn tsv_text(alloc: Global, path: &str, fields: &Fields) -> Result<Vec<u8>, AllocError>
-    ensures { IfOk result (λ line. line.items ≡ tsv_text path.now fields.now.word.now fields.now.bytes (option_map (λ told. string_bytes told) fields.now.reason) fields.now.offset (option_map (λ d. as_nanos d) fields.now.elapsed)) }
+    ensures { IfOk result (λ line. line.items ≡ tsv_text path.now fields.now.word.now fields.now.bytes (option_map (λ text. string_bytes text) fields.now.reason) fields.now.offset (option_map (λ d. as_nanos d) fields.now.elapsed)) }
 {
     let tab = "\t".as_bytes();
     let path = escaped_in(alloc, ReportFormat::Tsv, path)?;
@@ -169,7 +169,7 @@ fn tsv_text(alloc: Global, path: &str, fields: &Fields) -> Result<Vec<u8>, Alloc
 
 /// The fields of a record as a JSON object in a line.
 fn json_text(alloc: Global, path: &str, fields: &Fields) -> Result<Vec<u8>, AllocError>
-    ensures { IfOk result (λ line. line.items ≡ json_text path.now fields.now.word.now fields.now.bytes (option_map (λ told. string_bytes told) fields.now.reason) fields.now.offset (option_map (λ d. as_nanos d) fields.now.elapsed)) }
+    ensures { IfOk result (λ line. line.items ≡ json_text path.now fields.now.word.now fields.now.bytes (option_map (λ text. string_bytes text) fields.now.reason) fields.now.offset (option_map (λ d. as_nanos d) fields.now.elapsed)) }
 {
     let path = quoted(alloc, path)?;
     let bytes = number_or(alloc, fields.bytes, "null")?;

@@ -1,4 +1,4 @@
--- An index, group by group.
+-- An index as a sum over the groups.
 use Rattle.std.proofs.Common.{◌≡◌, ℕ, zero, suc, ◌+◌, ◌*◌, ◌<◌, ◌≤◌, inl, inr, List, [], ◌∷◌, ◌++◌, length, map, get_or, take, drop, refl, sym, ap, ◌∙◌, subst, Bool, true, false, cond, arith, append_assoc, drop-cons, add-one, length-append}
 use Rattle.std.specs.Prelude.{Some, None, slice_get, unwrap_or, ◌==◌, ◌&&◌, ◌^◌}
 use Rattle.std.specs.List.{zip, concat, range_with_len}

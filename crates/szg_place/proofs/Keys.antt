@@ -155,34 +155,36 @@ record IsManKey (man : Man) (color : Color) (white black : ℕ) : Type 0 where
   plain : 8 ^ colored_code man (exchanged_color false color) ≡ white + 16777216 * black
   turned : 8 ^ colored_code man (exchanged_color true color) ≡ black + 16777216 * white
   small : white ≤ 262144
+  other : black ≤ 262144
 
 man_key : (man : Man) (color : Color) → (white : ℕ) × ((black : ℕ) × IsManKey man color white black)
-man_key Pawn White = (8, (0, record { plain = refl; turned = refl; small = omega arith }))
-man_key Knight White = (64, (0, record { plain = refl; turned = refl; small = omega arith }))
-man_key Bishop White = (512, (0, record { plain = refl; turned = refl; small = omega arith }))
-man_key Rook White = (4096, (0, record { plain = refl; turned = refl; small = omega arith }))
-man_key Queen White = (32768, (0, record { plain = refl; turned = refl; small = omega arith }))
-man_key King White = (262144, (0, record { plain = refl; turned = refl; small = omega arith }))
-man_key Pawn Black = (0, (8, record { plain = refl; turned = refl; small = omega arith }))
-man_key Knight Black = (0, (64, record { plain = refl; turned = refl; small = omega arith }))
-man_key Bishop Black = (0, (512, record { plain = refl; turned = refl; small = omega arith }))
-man_key Rook Black = (0, (4096, record { plain = refl; turned = refl; small = omega arith }))
-man_key Queen Black = (0, (32768, record { plain = refl; turned = refl; small = omega arith }))
-man_key King Black = (0, (262144, record { plain = refl; turned = refl; small = omega arith }))
+man_key Pawn White = (8, (0, record { plain = refl; turned = refl; small = omega arith; other = omega arith }))
+man_key Knight White = (64, (0, record { plain = refl; turned = refl; small = omega arith; other = omega arith }))
+man_key Bishop White = (512, (0, record { plain = refl; turned = refl; small = omega arith; other = omega arith }))
+man_key Rook White = (4096, (0, record { plain = refl; turned = refl; small = omega arith; other = omega arith }))
+man_key Queen White = (32768, (0, record { plain = refl; turned = refl; small = omega arith; other = omega arith }))
+man_key King White = (262144, (0, record { plain = refl; turned = refl; small = omega arith; other = omega arith }))
+man_key Pawn Black = (0, (8, record { plain = refl; turned = refl; small = omega arith; other = omega arith }))
+man_key Knight Black = (0, (64, record { plain = refl; turned = refl; small = omega arith; other = omega arith }))
+man_key Bishop Black = (0, (512, record { plain = refl; turned = refl; small = omega arith; other = omega arith }))
+man_key Rook Black = (0, (4096, record { plain = refl; turned = refl; small = omega arith; other = omega arith }))
+man_key Queen Black = (0, (32768, record { plain = refl; turned = refl; small = omega arith; other = omega arith }))
+man_key King Black = (0, (262144, record { plain = refl; turned = refl; small = omega arith; other = omega arith }))
 
 record AreKeys (men : List PlacedMan) (white black : ℕ) : Type 0 where
   plain : men_key false men ≡ white + 16777216 * black
   turned : men_key true men ≡ black + 16777216 * white
   small : white ≤ 262144 * length men
+  other : black ≤ 262144 * length men
 
 are_keys : (men : List PlacedMan) → (white : ℕ) × ((black : ℕ) × AreKeys men white black)
-are_keys [] = (0, (0, record { plain = refl; turned = refl; small = omega arith }))
+are_keys [] = (0, (0, record { plain = refl; turned = refl; small = omega arith; other = omega arith }))
 are_keys (s ∷ men) =
     let h = man_key s.0 s.1 in let r = are_keys men in
     let a = h.1.1.plain in let b = r.1.1.plain in let p = sum_by-cons (λ (x : PlacedMan). 8 ^ colored_code x.0 (exchanged_color false x.1)) s men in
     let c = h.1.1.turned in let d = r.1.1.turned in let q = sum_by-cons (λ (x : PlacedMan). 8 ^ colored_code x.0 (exchanged_color true x.1)) s men in
-    let e = h.1.1.small in let f = r.1.1.small in
-    (h.0 + r.0, (h.1.0 + r.1.0, record { plain = omega (arith, a, b, p); turned = omega (arith, c, d, q); small = omega (arith, e, f) }))
+    let e = h.1.1.small in let f = r.1.1.small in let g = h.1.1.other in let k = r.1.1.other in
+    (h.0 + r.0, (h.1.0 + r.1.0, record { plain = omega (arith, a, b, p); turned = omega (arith, c, d, q); small = omega (arith, e, f); other = omega (arith, g, k) }))
 
 halves : (key other white black : ℕ) → key ≡ white + 16777216 * black → other ≡ black + 16777216 * white → white < 16777216 → other ≡ with_exchanged_halves key
 halves key other white black e f h =
@@ -193,6 +195,13 @@ pub exchanged_key : (men : List PlacedMan) → length men ≤ 6 → men_key true
 exchanged_key men few =
     let r = are_keys men in let h = r.1.1 in let s = h.small in
     halves (men_key false men) (men_key true men) r.0 r.1.0 h.plain h.turned (omega (arith, s, few))
+
+pub men_key-small : (men : List PlacedMan) → length men ≤ 6 → men_key false men < 281474976710656
+men_key-small men few = let r = are_keys men in let h = r.1.1 in let p = h.plain in let a = h.small in let b = h.other in omega (arith, p, a, b, few)
+
+-- colours exchanged twice
+pub exchanged_twice : (key : ℕ) → key < 281474976710656 → with_exchanged_halves (with_exchanged_halves key) ≡ key
+exchanged_twice key h = sym (halves (with_exchanged_halves key) key (key / 16777216) (key % 16777216) (omega arith) (omega arith) (omega (arith, h)))
 
 -- ---- the sides
 

@@ -8,6 +8,7 @@ mod TurnTable
 mod FirstAbove
 pub mod Flips
 pub mod PawnLead
+pub mod Carried
 pub mod Codes
 pub mod Standing
 pub mod Normals

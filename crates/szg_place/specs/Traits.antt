@@ -1,5 +1,5 @@
 -- Facts about a material, computed once for many placements.
-use Rattle.std.specs.Prelude.{◌≡◌, ℕ, ◌+◌, ◌*◌, ◌/◌, ◌%◌, ◌^◌, Bool, List}
+use Rattle.std.specs.Prelude.{◌≡◌, ◌<◌, ◌∷◌, [], ℕ, ◌+◌, ◌*◌, ◌/◌, ◌%◌, ◌^◌, Bool, List}
 use Rattle.std.specs.List.{sum_by}
 use Rattle.szg_values.specs.Material.{Sides, IsMaterial, is_symmetric, has_pawns, lead_pawns, other_pawns, lead_pawn_code, has_single_lead, man_codes}
 use Rattle.szg_values.specs.Placement.{PlacedMan}
@@ -18,7 +18,7 @@ abbrev pub with_exchanged_halves : ℕ → ℕ
 with_exchanged_halves key = key / 16777216 + key % 16777216 * 16777216
 
 -- the facts that `Traits` stores of a material
-pub record AreTraits (sides : Sides) (symmetric pawns single : Bool) (lead other code key : ℕ) : Type 0 where
+pub record AreTraits (sides : Sides) (symmetric pawns single : Bool) (lead other code : ℕ) (keys : List ℕ) : Type 0 where
   pub material : IsMaterial sides
   pub symmetric_is : symmetric ≡ is_symmetric sides
   pub pawns_is : pawns ≡ has_pawns sides
@@ -26,4 +26,5 @@ pub record AreTraits (sides : Sides) (symmetric pawns single : Bool) (lead other
   pub lead_is : lead ≡ lead_pawns sides
   pub other_is : other ≡ other_pawns sides
   pub code_is : code ≡ lead_pawn_code sides
-  pub key_is : key ≡ key_of (man_codes sides)
+  pub keys_are : keys ≡ key_of (man_codes sides) ∷ with_exchanged_halves (key_of (man_codes sides)) ∷ []
+  pub small : key_of (man_codes sides) < 281474976710656

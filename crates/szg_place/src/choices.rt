@@ -34,22 +34,6 @@ const CHOICES: [u32; 448] = [
     50063860, 55525372, 61474519, 67945521,
 ];
 
-/// Returns the rank of a set of numbers, the greatest first, in the ordered list of the sets of its size. It is what
-/// `rank_subset` of `szg_count` computes.
-pub fn place_of_set(set: &[u8]) -> u64
-    requires few { length set.now ≤ 6 }
-    requires falling { IsFallingBelow 64 set.now }
-    ensures { (n : ℕ) → IsFallingBelow n set.now → slice_get (subsets n (length set.now)) result ≡ Some set.now }
-{
-    let mut place = 0;
-    let mut left = set.len();
-    for number in set {
-        place += choices(*number, left);
-        left -= 1;
-    }
-    place
-}
-
 /// Returns `choose(n, k)`, the number of sets of `k` things out of `n`.
 pub fn choices(n: u8, k: usize) -> u64
     requires things { n < 64 }

@@ -2,11 +2,11 @@
 
 ghost use Rattle.std.specs.Prelude.{◌≡◌, ◌<◌, ◌≤◌, ◌^◌, ◌+◌, ◌-◌, ◌*◌, ◌∷◌, ℕ, [], length, map, Some, slice_get, slice_index};
 ghost use Rattle.arrayvec.specs.ArrayVec.{array_vec_len};
-ghost use Rattle.szg_count.specs.Sets.{choose};
+ghost use Rattle.szg_count.specs.Sets.{choose, subsets, IsFallingBelow};
 ghost use Rattle.szg_count.specs.Leads.{lead_pawn_sets};
 ghost use Rattle.szg_count.specs.Laws.{IsIn};
 
-use crate::choices::place_of_set;
+use crate::choices::choices;
 use arrayvec::ArrayVec;
 use szg_count::unrank_subset;
 use szg_values::MAX_MEN;
@@ -35,6 +35,7 @@ const WAYS_BEFORE: [u32; 96] = [
 ];
 
 /// Returns the rank of lead pawns in the ordered list of their file.
+#[inline(always)]
 pub fn lead_pawns_place(squares: &[u8], file: u8) -> u64
     requires some { 0 < length squares.now }
     requires few { length squares.now ≤ 4 }
@@ -44,12 +45,10 @@ pub fn lead_pawns_place(squares: &[u8], file: u8) -> u64
 {
     let first = squares[0];
     let before = ways_before(squares.len(), file, first / 8);
-    let mut numbers = ArrayVec::new();
-    pawn_numbers(&squares[1..], &mut numbers);
-    before + place_of_set(numbers.as_slice())
+    before + place_of_pawns(&squares[1..])
 }
 
-// Returns the number of sets whose first pawn is on a lower rank of its file.
+// Returns the number of sets whose first pawn is on a lower rank of its file. For one pawn it is the number of those ranks.
 fn ways_before(pawns: usize, file: u8, rank: u8) -> u64
     requires some { 0 < pawns }
     requires few { pawns ≤ 4 }
@@ -59,19 +58,35 @@ fn ways_before(pawns: usize, file: u8, rank: u8) -> u64
     ensures ways { result ≡ slice_index WAYS_BEFORE (24 * (pawns - 1) + 6 * file + (rank - 1)) }
     ensures small { result < 2 ^ 32 }
 {
+    if pawns == 1 {
+        return u64::from(rank - 1);
+    }
     u64::from(WAYS_BEFORE[24 * (pawns - 1) + 6 * usize::from(file) + usize::from(rank - 1)])
 }
 
-// Lists the values P of squares.
-fn pawn_numbers(squares: &[u8], numbers: &mut ArrayVec<u8, MAX_MEN>)
+// Returns the rank of pawns by their values P, the greatest first, in the ordered list of the sets of their number.
+#[inline(always)]
+fn place_of_pawns(squares: &[u8]) -> u64
     requires few { length squares.now ≤ 6 }
     requires inside { (k : ℕ) → k < length squares.now → slice_index squares.now k < 64 }
-    requires empty { numbers.old.items ≡ [] }
-    ensures { numbers.new.items ≡ map (λ square. slice_index PAWN_NUMBERS square) squares.now }
+    requires falling { IsFallingBelow 64 (map (λ square. slice_index PAWN_NUMBERS square) squares.now) }
+    ensures { (n : ℕ) → IsFallingBelow n (map (λ square. slice_index PAWN_NUMBERS square) squares.now) → slice_get (subsets n (length squares.now)) result ≡ Some (map (λ square. slice_index PAWN_NUMBERS square) squares.now) }
 {
+    let mut place = 0;
+    let mut left = squares.len();
     for square in squares {
-        numbers.push(PAWN_NUMBERS[usize::from(*square)]);
+        place += choices(pawn_number(*square), left);
+        left -= 1;
     }
+    place
+}
+
+// Returns the value P of a square.
+fn pawn_number(square: u8) -> u8
+    requires { square < 64 }
+    ensures { result ≡ slice_index PAWN_NUMBERS square }
+{
+    PAWN_NUMBERS[usize::from(square)]
 }
 
 /// Returns the squares of the lead pawns with rank `place` in the ordered list of their file.
@@ -103,8 +118,7 @@ fn squares_from(first: u8, numbers: &[u8]) -> ArrayVec<u8, MAX_MEN>
     squares
 }
 
-// Returns the rank of the board, 1 to 6 counted from 0, of the first pawn of the set with rank `place` in the ordered
-// list.
+// Returns the rank on the board (1 to 6, counted from 0) of the first pawn in item `place` of the ordered list.
 fn first_rank(pawns: u8, file: u8, place: u64) -> u8
     requires some { 0 < pawns }
     requires few { pawns ≤ 4 }

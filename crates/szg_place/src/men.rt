@@ -1,7 +1,7 @@
 //! The men of a placement as a file codes them: which colour is the name's first side, and each man's code and
 //! square.
 
-ghost use Rattle.std.specs.Prelude.{◌≡◌, ◌≤◌, ◌<◌, ◌↔◌, ◌&&◌, IsTrue, true, false, IfNone, IfSome, [], length, map, if◌then◌else◌};
+ghost use Rattle.std.specs.Prelude.{◌≡◌, ◌≢◌, ◌≤◌, ◌<◌, ◌↔◌, ◌&&◌, true, false, IfNone, IfSome, [], length, map, if◌then◌else◌};
 ghost use Rattle.szg_values.specs.Men.{is_color};
 ghost use Rattle.szg_values.specs.Material.{has_pawns, is_symmetric, count_of};
 ghost use Rattle.szg_place.specs.Normal.{is_exchanged, exchanged_color, colored_code, flip_rank, pieces_of};
@@ -10,11 +10,7 @@ ghost use Rattle.szg_place.specs.Spots.{is_of_material};
 ghost use Rattle.szg_place.specs.Traits.{with_exchanged_halves};
 
 use crate::traits::Traits;
-use arrayvec::ArrayVec;
-use szg_values::{Color, MAX_MEN, Man, Placement, Square};
-
-/// Added to the code of a man's kind if the man belongs to the name's second side.
-const SECOND_SIDE: u8 = 8;
+use szg_values::{Color, Man, PlacedMen, Square};
 
 /// A man as a file codes it, and its square.
 #[derive(Clone, Copy, Debug, Default, PartialEq, Eq)]
@@ -26,8 +22,10 @@ pub struct Piece {
 }
 
 /// Returns whether colours are exchanged: if both sides have the same men, when Black moves; otherwise, when White is
-/// not the name's first side. None if the men are not the material's.
-pub fn exchange_of(material: &Traits, placement: &Placement) -> Option<bool>
+/// not the name's first side. None if the men are not the material's. Nothing branches on the exchange, which no processor
+/// can predict.
+#[inline(always)]
+pub fn exchange_of(material: &Traits, placement: &PlacedMen<'_>) -> Option<bool>
     ensures other { IfNone result (is_of_material material.now placement.now ≡ false) }
     ensures men { IfSome result (λ exchanged. is_of_material material.now placement.now ≡ true) }
     ensures exchanged { IfSome result (λ exchanged. exchanged ≡ is_exchanged material.now placement.now) }
@@ -37,25 +35,31 @@ pub fn exchange_of(material: &Traits, placement: &Placement) -> Option<bool>
     let _material = material.material();
     let key = placement.key();
     let own = material.key();
-    if key == own {
-        return Some(is_twin(material, placement));
+    if key != material.key_if(key != own) {
+        return None;
     }
-    let exchanged_key = with_exchanged_halves(key);
-    if exchanged_key == own {
-        return Some(true);
-    }
-    None
+    let twin = is_twin(material, placement);
+    Some(is_turned(key, own, twin))
 }
 
-// Returns the key of the same men with colours exchanged: White's eight digits and Black's eight digits are swapped.
-fn with_exchanged_halves(key: u64) -> u64
+// Returns whether colours are exchanged, for a placement that has the material's men: its key is not the material's, or
+// both sides have the same men and Black moves.
+fn is_turned(key: u64, own: u64, twin: bool) -> bool
+    ensures same { key ≡ own → result ≡ twin }
+    ensures other { key ≢ own → result ≡ true }
+{
+    key != own || twin
+}
+
+/// Returns the key of the same men with colours exchanged: White's eight digits and Black's eight digits are swapped.
+pub(crate) fn with_exchanged_halves(key: u64) -> u64
     ensures { result ≡ with_exchanged_halves key }
 {
     key / 16777216 + key % 16777216 * 16777216
 }
 
 // Returns whether both sides have the same men and Black moves.
-fn is_twin(material: &Traits, placement: &Placement) -> bool
+fn is_twin(material: &Traits, placement: &PlacedMen<'_>) -> bool
     ensures { result ≡ (is_symmetric material.now && is_color Color.Black placement.now.mover) }
 {
     material.symmetric() && placement.mover() == Color::Black
@@ -101,27 +105,24 @@ pub(crate) fn flips_ranks(material: &Traits, exchanged: bool) -> bool
 pub(crate) fn piece_of(man: &(Man, Color, Square), exchanged: bool, flips: bool) -> Piece
     ensures { result ≡ piece_from exchanged flips man.now }
 {
-    let square = man.2.number();
     Piece {
-        code: colored_code(man.0, exchanged_color(exchanged, man.1)),
-        square: ranked_if(flips, square),
+        code: code_from(man.0, man.1, exchanged),
+        square: ranked_if(flips, man.2.number()),
     }
 }
 
-// Returns a square, its rank flipped if `flips`.
+// Returns a square, its rank flipped if `flips`, without a branch.
 fn ranked_if(flips: bool, square: u8) -> u8
     requires { square < 64 }
     ensures { result ≡ (if flips then flip_rank square else square) }
 {
-    if flips { square ^ 56 } else { square }
+    square ^ 56 * u8::from(flips)
 }
 
-/// Returns a man's code: that of its kind, plus 8 for Black, which is the name's second side here.
-pub fn colored_code(man: Man, color: Color) -> u8
-    ensures { result ≡ colored_code man color }
+// Returns a man's code, with colours exchanged if `exchanged`: that of its kind, plus 8 for the name's second side. The
+// colours' numbers are 0 and 1.
+fn code_from(man: Man, color: Color, exchanged: bool) -> u8
+    ensures { result ≡ colored_code man (exchanged_color exchanged color) }
 {
-    match color {
-        Color::White => man.code(),
-        Color::Black => SECOND_SIDE + man.code(),
-    }
+    man.code() + 8 * (color as u8 ^ u8::from(exchanged))
 }

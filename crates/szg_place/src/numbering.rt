@@ -201,8 +201,8 @@ fn are_counted(codes: &[u8], men: &[u8], number: usize) -> bool
     codes.iter().all(|code| code_count(*code, men) == number)
 }
 
-/// Returns whether a DTZ subtable stores the other side than `asked`. False if both sides have the same men and
-/// there are no pawns.
+/// Returns whether a DTZ subtable stores a side other than `asked`. False in WDL, and if both sides have the same men
+/// and there are no pawns.
 pub fn is_wrong_side(material: &Traits, kind: Kind, flags: &[u8], part: u8, asked: u8) -> bool
     ensures { result ≡ is_wrong_side (layout_in kind material.now [] flags.now) part asked }
 {

@@ -139,8 +139,8 @@ fn color_at(code: u8) -> Color
     if code < 8 { Color::White } else { Color::Black }
 }
 
-// Returns whether a DTZ subtable stores Black although both sides have the same men and there are pawns. No
-// placement has an index in it: one with Black to move is color-flipped first, so side 0 is asked.
+// Returns whether a DTZ subtable stores Black although both sides have the same men and there are pawns. No placement
+// has an index in it: if Black is to move, the colours are exchanged first, so the asked side is always 0.
 fn is_untold(material: &Material, kind: Kind, stored: u8) -> bool
     ensures { result ≡ (is_dtz kind && is_symmetric material.now && has_pawns material.now && stored == 1) }
 {

@@ -14,10 +14,10 @@ use crate::{PlaceFault, ProbeFault, Spot};
 use arrayvec::ArrayVec;
 use std::marker::Model;
 use szg_file::Table;
-use szg_values::{Kind, Placement};
+use szg_values::{Kind, PlacedMen, Placement};
 
-/// A table with what an index of a placement requires of it: facts about its material, and the groups of each side of
-/// each part. These depend on the table alone and are computed once.
+/// A table and what `index_of` derives from it for every placement: facts about its material, and the groups of each
+/// side of each part. They are computed once.
 #[derive(Drop)]
 pub struct PreparedTable {
     table: Table,
@@ -63,8 +63,18 @@ impl PreparedTable {
     }
 
     /// Returns what `index_of` returns for the table. Nothing that depends on the table alone is computed again.
-    #[inline(always)]
     pub fn index_of(&self, placement: &Placement) -> Result<Spot, PlaceFault>
+        ensures refused { IfSome (place_fault (numbering_of self.now.contents) placement.now) (λ fault. result ≡ Err fault) }
+        ensures spot { IsNone (place_fault (numbering_of self.now.contents) placement.now) → result ≡ Ok (spot_of (numbering_of self.now.contents) placement.now) }
+        // The table has a value at the spot.
+        ensures below { IfOk result (λ spot. IsSomeAnd (subtable_at self.now.contents spot.part spot.side) (λ found. spot.index < found.0.size)) }
+    {
+        self.index_of_men(&PlacedMen::of(placement))
+    }
+
+    /// `index_of` for men in a list of the caller's.
+    #[inline(always)]
+    pub fn index_of_men(&self, placement: &PlacedMen<'_>) -> Result<Spot, PlaceFault>
         ensures refused { IfSome (place_fault (numbering_of self.now.contents) placement.now) (λ fault. result ≡ Err fault) }
         ensures spot { IsNone (place_fault (numbering_of self.now.contents) placement.now) → result ≡ Ok (spot_of (numbering_of self.now.contents) placement.now) }
         // The table has a value at the spot.

@@ -5,7 +5,7 @@ ghost use Rattle.szg_count.specs.Laws.{IsIn};
 ghost use Rattle.szg_values.specs.Material.{count_of};
 ghost use Rattle.szg_place.specs.Traits.{key_of};
 
-use crate::men::code_count;
+use crate::men::{code_count, with_exchanged_halves};
 use std::marker::Model;
 use szg_values::Material;
 
@@ -39,7 +39,8 @@ pub struct Traits {
     lead: u8,
     other: u8,
     code: u8,
-    key: u64,
+    // the key of the material's men, and of the same men with colours exchanged
+    keys: [u64; 2],
 }
 
 impl Model for Traits {
@@ -50,13 +51,13 @@ impl Model for Traits {
 
     ghost view = { λ t. t.material };
 
-    ghost invariant = { λ t. AreTraits t.material t.symmetric t.pawns t.single t.lead t.other t.code t.key };
+    ghost invariant = { λ t. AreTraits t.material t.symmetric t.pawns t.single t.lead t.other t.code t.keys };
 }
 
 impl Traits {
-    ghost use Rattle.std.specs.Prelude.{◌≡◌};
+    ghost use Rattle.std.specs.Prelude.{◌≡◌, ◌<◌, if◌then◌else◌};
     ghost use Rattle.szg_values.specs.Material.{IsMaterial, is_symmetric, has_pawns, lead_pawns, other_pawns, lead_pawn_code, has_single_lead, man_codes};
-    ghost use Rattle.szg_place.specs.Traits.{key_of};
+    ghost use Rattle.szg_place.specs.Traits.{key_of, with_exchanged_halves};
 
     /// Computes the facts about a material.
     pub fn of(material: &Material) -> Traits
@@ -64,6 +65,7 @@ impl Traits {
         ensures named { IsMaterial material.now }
     {
         let codes = material.men();
+        let key = codes_key(codes.as_slice());
         Traits {
             material: material.copy(),
             symmetric: material.symmetric(),
@@ -72,7 +74,7 @@ impl Traits {
             lead: material.lead_pawns(),
             other: material.other_pawns(),
             code: lead_pawn_code(codes.as_slice()),
-            key: codes_key(codes.as_slice()),
+            keys: [key, with_exchanged_halves(key)],
         }
     }
 
@@ -126,11 +128,20 @@ impl Traits {
         self.code
     }
 
-    /// Returns the key of the material's men.
+    /// Returns the key of the material's men: a number with an octal digit for each man code, the number of men of that
+    /// code.
     pub fn key(&self) -> u64
-        ensures { result ≡ key_of (man_codes self.now) }
+        ensures key { result ≡ key_of (man_codes self.now) }
+        ensures small { result < 281474976710656 }
     {
-        self.key
+        self.keys[0]
+    }
+
+    /// Returns the key of the material's men, with colours exchanged if `exchanged`. It is found without a branch.
+    pub fn key_if(&self, exchanged: bool) -> u64
+        ensures { result ≡ (if exchanged then with_exchanged_halves (key_of (man_codes self.now)) else key_of (man_codes self.now)) }
+    {
+        self.keys[usize::from(exchanged)]
     }
 }
 
@@ -159,7 +170,8 @@ fn is_first_leading(first: usize, second: usize) -> bool
 fn codes_key(codes: &[u8]) -> u64
     requires few { length codes.now ≤ 6 }
     requires small { (code : ℕ) → IsIn code codes.now → code < 16 }
-    ensures { result ≡ key_of codes.now }
+    ensures key { result ≡ key_of codes.now }
+    ensures small { result < 281474976710656 }
 {
     let mut key = 0;
     for code in codes {
@@ -172,7 +184,7 @@ fn codes_key(codes: &[u8]) -> u64
 fn code_key(code: u8) -> u64
     requires { code < 16 }
     ensures key { result ≡ 8 ^ code }
-    ensures small { result < 2 ^ 60 }
+    ensures small { result ≤ 2 ^ 45 }
 {
     KEYS[usize::from(code)]
 }

@@ -1,4 +1,4 @@
-//! Codes: words, refusals, reading and writing with small codes, and `next` compared with a reader of single bits.
+//! Codes: words, refusals, reading and writing with small codes.
 use crate::files::made;
 use std::alloc::Global;
 use std::process::Abort;
@@ -154,89 +154,5 @@ fn refused_growth(rt: HostRuntime) {
     }
     for (at, byte) in buffer.bytes().iter().enumerate() {
         assert!(rt; *byte == (at % 4 == 3) as u8, "at {at}");
-    }
-}
-
-/// Decodes the word at offset `place`, bit by bit; returns its symbol and its length. None if there is no word.
-fn next_by_bits(code: &Code, bytes: &[u8], place: u64) -> Option<(u16, u64)> {
-    let mut number = 0u64;
-    for length in 1..=code.max() {
-        let at = place.wrapping_add(u64::from(length) - 1);
-        let byte = u64::from(*bytes.get((at / 8) as usize)?);
-        number = number
-            .wrapping_mul(2)
-            .wrapping_add(byte >> (7 - at % 8) & 1);
-        let base = base_of(code, length);
-        if length >= code.min() && number >= base {
-            let lowest = lowest_of(code, length);
-            let symbol = lowest.wrapping_add(number - base);
-            return if symbol < u64::from(code.symbols()) {
-                Some((symbol as u16, u64::from(length)))
-            } else {
-                None
-            };
-        }
-    }
-    None
-}
-
-fn lowest_of(code: &Code, length: u8) -> u64 {
-    let place = usize::from(length.wrapping_sub(code.min()));
-    u64::from(code.lowest().get(place).copied().unwrap_or(0))
-}
-
-fn base_of(code: &Code, length: u8) -> u64 {
-    let mut base = 0u64;
-    for below in 1..=code.max().wrapping_sub(length) {
-        let here = code.max().wrapping_sub(below);
-        base = base
-            .wrapping_add(lowest_of(code, here))
-            .wrapping_sub(lowest_of(code, here.wrapping_add(1)))
-            / 2;
-    }
-    base
-}
-
-/// Bytes of which about a quarter are not 0, from a generator's state, which it advances.
-fn sparse_bytes(state: &mut u64) -> [u8; 48] {
-    let mut bytes = [0u8; 48];
-    for byte in bytes.iter_mut() {
-        *state = state
-            .wrapping_mul(6364136223846793005)
-            .wrapping_add(1442695040888963407);
-        *byte = (*state >> 56) as u8 & if *state >> 40 & 3 == 0 { 255 } else { 0 };
-    }
-    bytes
-}
-
-/// Up to the first offset where no word begins, `next` decodes the words that the reader of single bits decodes.
-fn check_agrees(rt: &impl Abort, code: &Code, bytes: &[u8]) {
-    assert!(rt; bytes.len() <= 48);
-    let mut bits = Bits::new(bytes);
-    for _ in 0..400 {
-        let place = bits.place();
-        let want = next_by_bits(code, bytes, place);
-        let found = next(code, &mut bits);
-        let word = found.map(|symbol| (symbol, bits.place().wrapping_sub(place)));
-        assert!(rt; word == want, "at {place}");
-        if found.is_none() {
-            return;
-        }
-    }
-}
-
-#[test]
-fn agrees_with_single_bits(rt: HostRuntime) {
-    let codes = [
-        code(&rt, 1, 2, &[1, 0], 2),
-        code(&rt, 31, 32, &[2, 0], 3),
-        code(&rt, 1, 32, &[0; 32], 2),
-        code(&rt, 3, 7, &[40, 37, 30, 20, 0], 45),
-    ];
-    for code in &codes {
-        let mut state = 1;
-        for length in 0..48usize {
-            check_agrees(&rt, code, &sparse_bytes(&mut state)[..length]);
-        }
     }
 }

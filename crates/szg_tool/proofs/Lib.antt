@@ -6,5 +6,4 @@ mod Digits
 mod MenWords
 pub mod FrontFacts
 pub mod Endings
-pub mod Constants
 pub mod Words

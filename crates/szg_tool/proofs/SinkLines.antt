@@ -43,7 +43,7 @@ same_on start value i out held out' held' so_far now =
 
 -- what went out, what is held and the lines of the other numbers are the lines of all
 module _ (start out held : List ℕ) where
-  begun : (before after all : List ℕ) → before ++ after ≡ all → out ++ held ≡ start ++ flat_map number_line before →
+  pub begun : (before after all : List ℕ) → before ++ after ≡ all → out ++ held ≡ start ++ flat_map number_line before →
       out ++ (held ++ flat_map number_line after) ≡ start ++ flat_map number_line all
   begun before after all is so_far =
       sym (append_assoc out held (flat_map number_line after))
@@ -66,7 +66,7 @@ abbrev pub line_accepts : {W : Type 0} → output.Ghosts W → LineSink → W �
 line_accepts writing sink out values sink' out' =
     (text : List ℕ) × Gives writing out out' text 0 × (text ++ sink'.text.items ≡ sink.text.items ++ flat_map number_line values)
 
-joined_lines : (chunk rest start text held text' held' : List ℕ) → text ++ held ≡ start ++ flat_map number_line chunk → text' ++ held' ≡ held ++ flat_map number_line rest →
+pub joined_lines : (chunk rest start text held text' held' : List ℕ) → text ++ held ≡ start ++ flat_map number_line chunk → text' ++ held' ≡ held ++ flat_map number_line rest →
     (text ++ text') ++ held' ≡ start ++ flat_map number_line (chunk ++ rest)
 joined_lines chunk rest start text held text' held' first second =
     append_assoc text text' held'
@@ -75,6 +75,19 @@ joined_lines chunk rest start text held text' held' first second =
     ∙ ap (λ (z : List ℕ). z ++ flat_map number_line rest) first
     ∙ append_assoc start (flat_map number_line chunk) (flat_map number_line rest)
     ∙ ap (λ (z : List ℕ). start ++ z) (sym (flat_map-append number_line chunk rest))
+
+-- where the writer took a beginning of what is held and of a chunk's lines, the rest and the lines of the other values are left
+pub lines_cut : (done here left whole out held out' rest' : List ℕ) → done ++ (here ++ left) ≡ whole → out ++ held ≡ flat_map number_line done → out' ++ rest' ≡ held ++ flat_map number_line here →
+    (out ++ out') ++ (rest' ++ flat_map number_line left) ≡ flat_map number_line whole
+lines_cut done here left whole out held out' rest' all so_far now =
+    let lines : List ℕ → List ℕ = flat_map number_line in
+    append_assoc out out' (rest' ++ lines left)
+    ∙ ap (λ (z : List ℕ). out ++ z) (sym (append_assoc out' rest' (lines left)) ∙ ap (λ (z : List ℕ). z ++ lines left) now ∙ append_assoc held (lines here) (lines left))
+    ∙ sym (append_assoc out held (lines here ++ lines left))
+    ∙ ap (λ (z : List ℕ). z ++ (lines here ++ lines left)) so_far
+    ∙ ap (λ (z : List ℕ). lines done ++ z) (sym (flat_map-append number_line here left))
+    ∙ sym (flat_map-append number_line done (here ++ left))
+    ∙ ap lines all
 
 fold_lines : {W : Type 0} (writing : output.Ghosts W) (chunks : List (List ℕ)) (p q : LineSink × W) → FoldsTo {P = LineSink × W} (λ p chunk q. line_accepts writing p.0 p.1 chunk q.0 q.1) p chunks q →
     line_accepts writing p.0 p.1 (flat_map (λ chunk. chunk) chunks) q.0 q.1

@@ -1,5 +1,5 @@
 -- A table that was read while a sink accepted its values.
-use Rattle.std.proofs.Common.{◌≡◌, ℕ, Bool, List, flat_map, sym, ap, subst, ◌∙◌, Option, Some, None, Result, Ok, Err}
+use Rattle.std.proofs.Common.{◌≡◌, ℕ, List, flat_map, sym, ap, subst, ◌∙◌, Option, Some, None, Result, Ok, Err}
 use Rattle.std.specs.Prelude.{IfSome, IsSomeAnd, OnOk, option_map}
 use Rattle.szg_io.specs.declared.device.Input as input
 use Rattle.szg_io.specs.declared.device.Output as output
@@ -7,7 +7,6 @@ use Rattle.szg_tool.specs.OnFiles.{IsCarriedFrom}
 use Rattle.szg_tool.specs.declared.on_files.FileStop.{FileStop}
 use Rattle.szg_tool.specs.declared.request.Task.{Task}
 use Rattle.szg_values.specs.Material.{IsMaterial, Sides, name_of}
-use Rattle.szg_values.specs.declared.Kind.{Kind}
 use Rattle.szg_file.specs.Accepted.{IsAccepted}
 use Rattle.szg_file.specs.Checked.{IsTable}
 use Rattle.szg_file.specs.Contents.{Contents, Slot, Subtable}

@@ -22,7 +22,7 @@ use Rattle.szg_tool.specs.Chosen.{AsksFor, AsksForJob, AsksForNoJob, AsksForNone
 use Rattle.szg_tool.specs.Fronts.{AnswersIn, MeetsIn}
 use Rattle.szg_tool.specs.Outcome.{OnDone, OnRefused, OnWords}
 use Rattle.szg_tool.specs.RefusalLines.{refusal_line}
-use Rattle.szg_tool.specs.Requests.{IsBegunBy, IsCarriedOut, IsRefusedWith, IsTableOf, Meets}
+use Rattle.szg_tool.specs.Requests.{IsBegunBy, IsCarriedOut, IsListed, IsRefusedWith, IsTableOf, Meets}
 use Rattle.clap.specs.declared.parser.matches.ArgMatches.{ArgMatches}
 use Rattle.szg_tool.specs.declared.command_line.CommandForm.{CommandForm}
 use Rattle.szg_tool.specs.declared.file_words.FileJob.{FileJob}
@@ -32,8 +32,6 @@ use Rattle.szg_tool.specs.declared.on_files.Ending.{Ending}
 use Rattle.szg_tool.specs.declared.on_files.Ending.TheVariants as endings
 use Rattle.szg_tool.specs.declared.outcome.Outcome.{Outcome}
 use Rattle.szg_tool.specs.declared.outcome.Outcome.TheVariants as outcomes
-use Rattle.szg_tool.specs.declared.request.Action.{Action}
-use Rattle.szg_tool.specs.declared.request.Action.TheVariants.{Dump, Values}
 use Rattle.szg_tool.specs.declared.request.Request.{Request}
 use Rattle.szg_tool.specs.declared.request.Task.{Task}
 use Rattle.szg_tool.specs.declared.request.Task.TheVariants.{OnTable, Build}
@@ -88,12 +86,6 @@ IsStartedFrom {F = F} content failures reading writing task source system system
 -- Nothing was written, or the writer failed.
 abbrev pub IsUnwritten : {W : Type 0} → output.Ghosts W → W → W → Type 0
 IsUnwritten writing writer writer' = (writer' ≡ writer) ⊎ HasFailed (writing.failures writer) (writing.failures writer') (writing.interrupted writer')
-
--- The action lists a table's values, as they are or as a dump.
-abbrev pub IsListed : Action → Type 0
-IsListed Values = Unit {0}
-IsListed (Dump form) = Unit {0}
-IsListed action = ⊥
 
 -- The task lists the values of a file for the writer: they are written while the file is read.
 abbrev pub IsListing : {S T : Type 0} → Task → Option S → Option T → Type 0

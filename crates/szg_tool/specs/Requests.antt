@@ -18,7 +18,7 @@ use Rattle.szg_tool.specs.Refusals.{IsRefused}
 use Rattle.szg_tool.specs.declared.refusal.Refusal.{Refusal}
 use Rattle.szg_tool.specs.declared.refusal.Refusal.TheVariants as why
 use Rattle.szg_tool.specs.declared.request.Action.{Action}
-use Rattle.szg_tool.specs.declared.request.Action.TheVariants.{Unplaced, Values}
+use Rattle.szg_tool.specs.declared.request.Action.TheVariants.{Dump, Unplaced, Values}
 use Rattle.szg_tool.specs.declared.request.Request.{Request}
 use Rattle.szg_tool.specs.declared.request.Task.{Task}
 use Rattle.szg_tool.specs.declared.request.Task.TheVariants.{OnTable, Build}
@@ -40,17 +40,22 @@ pub record IsAnswered {R W : Type 0} (reading : input.Ghosts R) (writing : outpu
   pub answers : IsAnswer request.action request.part request.side table text
   pub given : Gives writing writer writer' text 0
 
--- The file of such a table was taken from the reader, and the values asked for are listed: of them a beginning was given to
--- the writer.
+-- The action lists a table's values, as they are or as a dump.
+abbrev pub IsListed : Action → Type 0
+IsListed Values = Unit {0}
+IsListed (Dump form) = Unit {0}
+IsListed action = ⊥
+
+-- The file of such a table was taken from the reader, and the answer lists values: of it a beginning was given to the writer.
 pub record IsBegun {R W : Type 0} (reading : input.Ghosts R) (writing : output.Ghosts W) (request : Request)
     (reader reader' : R) (writer writer' : W) : Type 0 where
   pub table : Shown
   pub asked : IsTableOf request table
   pub taken : Takes reading reader reader' (file_bytes table) 1
-  pub listed : request.action ≡ Values
+  pub listed : IsListed request.action
   pub text : List ℕ
   pub rest : List ℕ
-  pub answers : IsAnswer Values request.part request.side table (text ++ rest)
+  pub answers : IsAnswer request.action request.part request.side table (text ++ rest)
   pub given : Gives writing writer writer' text 0
 
 -- Why a request is refused before anything is read: its name is none, or its words make no placement.

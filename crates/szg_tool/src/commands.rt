@@ -8,7 +8,7 @@ ghost use Rattle.szg_tool.specs.Chosen.{AsksFor, AsksForNone, IsFoundByClap, IsR
 ghost use Rattle.szg_tool.specs.Outcome.{OnDone, OnRefused, OnWords};
 ghost use Rattle.szg_tool.specs.RefusalLines.{refusal_line};
 ghost use Rattle.szg_tool.specs.Refusals.{IsRefused};
-ghost use Rattle.szg_tool.specs.Requests.{IsAnswered, IsBegun, IsBegunBy, IsCarriedOut, IsRefusedWith, IsTableOf, IsUnread, IsRefusedOf, Meets, unplaced_refusal};
+ghost use Rattle.szg_tool.specs.Requests.{IsAnswered, IsBegun, IsBegunBy, IsCarriedOut, IsListed, IsRefusedWith, IsTableOf, IsUnread, IsRefusedOf, Meets, unplaced_refusal};
 ghost use Rattle.szg_tool.specs.declared.refusal.Refusal.{Refusal};
 ghost use Rattle.szg_tool.specs.declared.request.Task.{Task};
 
@@ -25,7 +25,7 @@ use crate::saying::{say, say_line};
 use clap::Error;
 use clap::error::ErrorKind;
 use std::alloc::Global;
-use szg_build::{Dump, Unwatched, Watcher, write_dump};
+use szg_build::{DumpWriteFault, Unwatched, Watcher, dump_table};
 use szg_file::{ReadFault, Table, file_len, read, write};
 use szg_io::{Input, Output};
 use szg_values::Material;
@@ -52,7 +52,7 @@ pub fn run<R: Input, W: Output>(
     // Whatever the outcome: bytes were taken with at most 1,001 calls for each of them and for one more.
     ensures calls { (bytes : List ℕ) × Takes R.Input reader.old reader.new bytes 1 }
     ensures device { (result ≡ Outcome.Device) → (HasFailed (R.failures reader.old) (R.failures reader.new) (R.interrupted reader.new) × (writer.new ≡ writer.old)) ⊎ HasFailed (W.failures writer.old) (W.failures writer.new) (W.interrupted writer.new) }
-    // Nothing was written, or, by `values`, a beginning of the answer.
+    // Nothing was written, or, by `values` and `dump`, a beginning of the answer.
     ensures memory { (result ≡ Outcome.Memory) → (writer.new ≡ writer.old) ⊎ ((task : Task) × AsksFor IsFoundByClap (map (λ word. word.now) words.now) task × IsBegunBy R.Input W.Output task reader.old reader.new writer.old writer.new) }
 {
     run_by(alloc, &Clap, words, reader, writer, &mut Unwatched)
@@ -77,7 +77,7 @@ pub fn run_by<F: Finder, R: Input, W: Output, V: Watcher>(
     // Whatever the outcome: bytes were taken with at most 1,001 calls for each of them and for one more.
     ensures calls { (bytes : List ℕ) × Takes R.Input reader.old reader.new bytes 1 }
     ensures device { (result ≡ Outcome.Device) → (HasFailed (R.failures reader.old) (R.failures reader.new) (R.interrupted reader.new) × (writer.new ≡ writer.old)) ⊎ HasFailed (W.failures writer.old) (W.failures writer.new) (W.interrupted writer.new) }
-    // Nothing was written, or, by `values`, a beginning of the answer.
+    // Nothing was written, or, by `values` and `dump`, a beginning of the answer.
     ensures memory { (result ≡ Outcome.Memory) → (writer.new ≡ writer.old) ⊎ ((task : Task) × AsksFor F.finds (map (λ word. word.now) words.now) task × IsBegunBy R.Input W.Output task reader.old reader.new writer.old writer.new) }
 {
     let task = match parse(alloc, finder, words) {
@@ -198,7 +198,7 @@ fn tell<W: Output>(
     ensures told { OnOk result ((text : List ℕ) × IsAnswer request.now.action request.now.part request.now.side table.now text × Gives W.Output writer.old writer.new text 0) }
     ensures device { IsErrOf result Stop.Device → HasFailed (W.failures writer.old) (W.failures writer.new) (W.interrupted writer.new) }
     ensures refused { (refusal : Refusal) → IsErrOf result (Stop.Refused refusal) → (writer.new ≡ writer.old) × IsRefused request.now.action request.now.part request.now.side table.now.contents refusal }
-    ensures memory { IsErrOf result Stop.Memory → (writer.new ≡ writer.old) ⊎ ((request.now.action ≡ Action.Values) × (text : List ℕ) × (rest : List ℕ) × IsAnswer Action.Values request.now.part request.now.side table.now (text ++ rest) × Gives W.Output writer.old writer.new text 0) }
+    ensures memory { IsErrOf result Stop.Memory → (writer.new ≡ writer.old) ⊎ (IsListed request.now.action × (text : List ℕ) × (rest : List ℕ) × IsAnswer request.now.action request.now.part request.now.side table.now (text ++ rest) × Gives W.Output writer.old writer.new text 0) }
 {
     match &request.action {
         Action::Check => {
@@ -233,7 +233,7 @@ fn tell<W: Output>(
     }
 }
 
-/// Writes the table's dump.
+/// Writes the table's dump, a block's values at a time.
 fn tell_dump<W: Output>(
     alloc: Global,
     table: &Table,
@@ -243,11 +243,12 @@ fn tell_dump<W: Output>(
     ensures told { OnOk result ((text : List ℕ) × IsDumpText form table.now.contents text × Gives W.Output writer.old writer.new text 0) }
     ensures device { IsErrOf result Stop.Device → HasFailed (W.failures writer.old) (W.failures writer.new) (W.interrupted writer.new) }
     ensures only { (refusal : Refusal) → IsErrOf result (Stop.Refused refusal) → ⊥ }
-    ensures memory { IsErrOf result Stop.Memory → writer.new ≡ writer.old }
+    // a beginning of the answer was written
+    ensures memory { IsErrOf result Stop.Memory → (text : List ℕ) × (rest : List ℕ) × IsDumpText form table.now.contents (text ++ rest) × Gives W.Output writer.old writer.new text 0 }
 {
-    let dump = Dump::of(alloc, table)?;
-    match write_dump(&dump, form.number(), writer) {
+    match dump_table(alloc, table, form.number(), writer) {
         Ok(()) => Ok(()),
-        Err(_) => Err(Stop::Device),
+        Err(DumpWriteFault::Output) => Err(Stop::Device),
+        Err(DumpWriteFault::Memory) => Err(Stop::Memory),
     }
 }

@@ -13,10 +13,10 @@ use crate::request::{Action, Request};
 use crate::saying::say;
 use crate::streaming::{add_lines, add_same};
 use std::alloc::{AllocError, Global};
-use szg_block::{Steps, Sub};
+use szg_block::Steps;
+use szg_build::{BlockValues, StoredValues, stored_values};
 use szg_file::Table;
 use szg_io::Output;
-use szg_values::Kind;
 
 /// Whether the table has the index: `Part` where there is no such part or side, `Index` where it has fewer positions.
 pub fn check_index(table: &Table, request: &Request, index: u64) -> Result<(), Refusal>
@@ -80,7 +80,7 @@ fn counted_line(alloc: Global, value: u16, steps: Steps) -> Result<String, Alloc
     format!(in alloc; "{value} moves {moves} words {words} descents {descents} fetches {fetches}\n")
 }
 
-/// Writes each value of a subtable on a line.
+/// Writes each value of a subtable on a line, a block's values at a time.
 pub fn tell_values<W: Output>(
     alloc: Global,
     table: &Table,
@@ -93,26 +93,12 @@ pub fn tell_values<W: Output>(
     // a beginning of the answer was written
     ensures memory { IsErrOf result Stop.Memory → (writer.new ≡ writer.old) ⊎ ((text : List ℕ) × (rest : List ℕ) × IsAnswer Action.Values request.now.part request.now.side table.now (text ++ rest) × Gives W.Output writer.old writer.new text 0) }
 {
-    let Some(size) = table.size(request.part, request.side) else {
+    let Some(stored) = stored_values(table, request.part, request.side) else {
         return Err(Stop::Refused(Refusal::Part));
     };
-    if let Some(value) = constant_of(table, request.part, request.side) {
-        return say_same(alloc, size, value, writer);
-    }
-    let values = table.values(alloc, request.part, request.side)?;
-    say_lines(alloc, &values, writer)
-}
-
-/// The value of a constant subtable. None for another subtable.
-fn constant_of(table: &Table, part: u8, side: u8) -> Option<u16>
-    ensures { IfSome result (λ value. IsSomeAnd (subtable_at table.now.contents part side) (λ found. values_of table.now.contents.kind found ≡ replicate found.0.size value)) }
-{
-    match table.sub(part, side) {
-        Some(Sub::Constant { byte, .. }) => match table.kind() {
-            Kind::Wdl => Some(u16::from(*byte)),
-            Kind::Dtz => Some(0),
-        },
-        _ => None,
+    match stored {
+        StoredValues::Same { value, count } => say_same(alloc, count, value, writer),
+        StoredValues::Blocks(mut blocks) => say_blocks(alloc, &mut blocks, writer),
     }
 }
 
@@ -128,14 +114,21 @@ fn say_same<W: Output>(alloc: Global, count: u64, value: u16, writer: &mut W) ->
     say(writer, &text)
 }
 
-/// Writes each value on a line, in large pieces.
-fn say_lines<W: Output>(alloc: Global, values: &[u16], writer: &mut W) -> Result<(), Stop>
-    ensures given { OnOk result (Gives W.Output writer.old writer.new (flat_map number_line values.now) 0) }
+/// Writes each value of blocks on a line, in large pieces. It takes memory for the values of one block.
+fn say_blocks<W: Output>(
+    alloc: Global,
+    blocks: &mut BlockValues<'_>,
+    writer: &mut W,
+) -> Result<(), Stop>
+    ensures given { OnOk result (Gives W.Output writer.old writer.new (flat_map number_line blocks.old.values) 0) }
     ensures device { IsErrOf result Stop.Device → HasFailed (W.failures writer.old) (W.failures writer.new) (W.interrupted writer.new) }
     ensures only { (refusal : Refusal) → IsErrOf result (Stop.Refused refusal) → ⊥ }
-    ensures memory { IsErrOf result Stop.Memory → (text : List ℕ) × (rest : List ℕ) × (text ++ rest ≡ flat_map number_line values.now) × Gives W.Output writer.old writer.new text 0 }
+    ensures memory { IsErrOf result Stop.Memory → (text : List ℕ) × (rest : List ℕ) × (text ++ rest ≡ flat_map number_line blocks.old.values) × Gives W.Output writer.old writer.new text 0 }
 {
+    let mut values = Vec::new(alloc);
     let mut text = Vec::new(alloc);
-    add_lines(&mut text, values, writer)?;
+    'each: while blocks.decode_next(&mut values)? {
+        add_lines(&mut text, &values, writer)?;
+    }
     say(writer, &text)
 }

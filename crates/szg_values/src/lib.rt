@@ -14,9 +14,11 @@ pub mod laws;
 mod materials;
 mod men;
 mod parsing;
+mod placed;
 mod placements;
 mod squares;
 
+pub use placed::PlacedMen;
 pub use placements::{man_key, with_man};
 
 /// The greatest number of men of a material.

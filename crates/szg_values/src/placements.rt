@@ -145,8 +145,8 @@ fn sound_key(men: &[(Man, Color, Square)]) -> Option<u64>
     if has_kings(key) { Some(key) } else { None }
 }
 
-/// Whether there are three to six men, by their number, with one king of each colour, by their key.
-fn are_complete(count: usize, key: u64) -> bool
+/// Returns whether there are three to six men, by their number, with exactly one king of each colour, by their key.
+pub(crate) fn are_complete(count: usize, key: u64) -> bool
     ensures { result ≡ (is_count count && (key / 262144 % 8 == 1 && key / 4398046511104 == 1)) }
 {
     is_count(count) && has_kings(key)
@@ -229,15 +229,12 @@ pub fn man_key(man: Man, color: Color) -> u64
     KEYS[usize::from(colored_code(man, color))]
 }
 
-/// Returns a man's code: that of his kind, plus 8 for Black.
+/// Returns a man's code: that of his kind, plus 8 for Black. The colours' numbers are 0 and 1, so nothing branches.
 fn colored_code(man: Man, color: Color) -> u8
     ensures same { result ≡ colored_code man color }
     ensures below { result < 16 }
 {
-    match color {
-        Color::White => man.code(),
-        Color::Black => 8 + man.code(),
-    }
+    man.code() + 8 * (color as u8)
 }
 
 /// Returns whether the bit of a square is set in `taken`.

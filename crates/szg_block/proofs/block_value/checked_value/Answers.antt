@@ -3,7 +3,7 @@ use Rattle.std.specs.List.{slice_index}
 use Rattle.std.proofs.lemmas.List.{get_or_read}
 use Rattle.szg_block.specs.Block.{needed}
 use Rattle.szg_block.specs.Subtable.{layout_of, layout_from}
-use Rattle.szg_block.proofs.Parts.{needed_spelled, spelled_needed, wanted-needed}
+use Rattle.szg_block.proofs.Parts.{needed_spelled, spelled_needed, count-needed}
 use Rattle.szg_block.proofs.BlockValueLaws.{held_at, held_within, spelled_at}
 use Rattle.szg_block.proofs.block_value.checked_value.Goals as goal
 
@@ -26,7 +26,7 @@ find_verified-requires-clause-within c =
     let r : c.index.result.now ≡ slice_index c.in-Pairs.lengths.items c.args.location.block = get_or_read c.in-Pairs.lengths.items _ _ (omega (arith, shape.1.lengths, held.there)) c.index.ensures 0 in
     let e : c.needed_from-needed.result ≡ min (slice_index c.in-Pairs.lengths.items c.args.location.block + 1) (c.args.size - (c.args.i - c.args.location.item)) = c.needed_from-needed.ensures ∙ ap (λ k. min (k + 1) (c.args.size - (c.args.i - c.args.location.item))) r in
     let needs : c.needed_from-needed.result ≡ needed c.in-Pairs.lengths.items c.args.size c.args.location.block =
-    wanted-needed c.in-Pairs.code c.in-Pairs.dict c.in-Pairs.lengths.items c.args.size c.args.location.block (c.args.i - c.args.location.item) c.needed_from-needed.result c.args.block.now c.args.block.now e held.before refl in
+    count-needed c.in-Pairs.code c.in-Pairs.dict c.in-Pairs.lengths.items c.args.size c.args.location.block (c.args.i - c.args.location.item) c.needed_from-needed.result c.args.block.now c.args.block.now e held.before refl in
     omega (arith, needs, held.inside)
 
 pub returns-in-Some-clause-verified : goal.returns-in-Some-clause-verified
@@ -37,7 +37,7 @@ returns-in-Some-clause-verified c =
     let r : c.index.result.now ≡ slice_index c.in-Pairs.lengths.items c.args.location.block = get_or_read c.in-Pairs.lengths.items _ _ (omega (arith, shape.1.lengths, held.there)) c.index.ensures 0 in
     let e : c.needed_from-needed.result ≡ min (slice_index c.in-Pairs.lengths.items c.args.location.block + 1) (c.args.size - (c.args.i - c.args.location.item)) = c.needed_from-needed.ensures ∙ ap (λ k. min (k + 1) (c.args.size - (c.args.i - c.args.location.item))) r in
     let needs : c.needed_from-needed.result ≡ needed c.in-Pairs.lengths.items c.args.size c.args.location.block =
-    wanted-needed c.in-Pairs.code c.in-Pairs.dict c.in-Pairs.lengths.items c.args.size c.args.location.block (c.args.i - c.args.location.item) c.needed_from-needed.result c.args.block.now c.args.block.now e held.before refl in
+    count-needed c.in-Pairs.code c.in-Pairs.dict c.in-Pairs.lengths.items c.args.size c.args.location.block (c.args.i - c.args.location.item) c.needed_from-needed.result c.args.block.now c.args.block.now e held.before refl in
     let enough = c.in-Some.ensures.enough in
     let at = rw c.in-Pairs.is at c.requires.at_block in
     rw (c.in-Pairs.is, ← at) (needed_spelled layout c.args.size c.args.location.block c.args.block.now (omega (arith, needs, enough)))
@@ -55,6 +55,6 @@ returns-in-None-clause-fault c =
     let r : c.index.result.now ≡ slice_index c.in-Pairs.lengths.items c.args.location.block = get_or_read c.in-Pairs.lengths.items _ _ (omega (arith, shape.1.lengths, held.there)) c.index.ensures 0 in
     let e : c.needed_from-needed.result ≡ min (slice_index c.in-Pairs.lengths.items c.args.location.block + 1) (c.args.size - (c.args.i - c.args.location.item)) = c.needed_from-needed.ensures ∙ ap (λ k. min (k + 1) (c.args.size - (c.args.i - c.args.location.item))) r in
     let needs : c.needed_from-needed.result ≡ needed c.in-Pairs.lengths.items c.args.size c.args.location.block =
-    wanted-needed c.in-Pairs.code c.in-Pairs.dict c.in-Pairs.lengths.items c.args.size c.args.location.block (c.args.i - c.args.location.item) c.needed_from-needed.result c.args.block.now c.args.block.now e held.before refl in
+    count-needed c.in-Pairs.code c.in-Pairs.dict c.in-Pairs.lengths.items c.args.size c.args.location.block (c.args.i - c.args.location.item) c.needed_from-needed.result c.args.block.now c.args.block.now e held.before refl in
     let at = rw c.in-Pairs.is at c.requires.at_block in
     rw (c.in-Pairs.is, ← at) (refl, λ h. c.in-None.ensures.few (omega (arith, needs, spelled_needed layout c.args.size c.args.location.block c.args.block.now c.symbols.ensures.accepted h)))

@@ -1,16 +1,16 @@
 use Rattle.std.proofs.Common.{ap, ◌∙◌}
 use Rattle.szg_block.specs.Subtable.{layout_of}
-use Rattle.szg_block.proofs.ByEntry.{stands, steps}
+use Rattle.szg_block.proofs.ByEntry.{is_value, steps}
 use Rattle.szg_block.proofs.probing.look_up.Goals as goal
 
 pub find_in_block-found-requires-clause-within : goal.find_in_block-found-requires-clause-within
 find_in_block-found-requires-clause-within g c =
-    let v = stands _ _ (ap layout_of c.in-Pairs.is) _ _ _ c.requires.head c.symbols.ensures.accepted c.requires.all c.requires.whole c.requires.sound c.args.i c.requires.below _ _ c.in-Some.ensures.block c.in-Some.ensures.item in
+    let v = is_value _ _ (ap layout_of c.in-Pairs.is) _ _ _ c.requires.head c.symbols.ensures.accepted c.requires.all c.requires.whole c.requires.sound c.args.i c.requires.below _ _ c.in-Some.ensures.block c.in-Some.ensures.item in
     rw c.in_ok-block.ensures.block v.within
 
 pub returns-clause-value : goal.returns-clause-value
 returns-clause-value g c =
-    let v = stands _ _ (ap layout_of c.in-Pairs.is) _ _ _ c.requires.head c.symbols.ensures.accepted c.requires.all c.requires.whole c.requires.sound c.args.i c.requires.below _ _ c.in-Some.ensures.block c.in-Some.ensures.item in
+    let v = is_value _ _ (ap layout_of c.in-Pairs.is) _ _ _ c.requires.head c.symbols.ensures.accepted c.requires.all c.requires.whole c.requires.sound c.args.i c.requires.below _ _ c.in-Some.ensures.block c.in-Some.ensures.item in
     let r = rw c.in_ok-block.ensures.block at c.find_in_block-found.ensures.value in
     rw c.in-Pairs.is (v.same ∙ r)
 

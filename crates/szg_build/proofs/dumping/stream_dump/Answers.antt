@@ -1,6 +1,4 @@
-use Rattle.std.proofs.Common.{◌≡◌, ℕ, List, Bool, true, sym, ap, ◌∙◌}
-use Rattle.szg_values.specs.Material.{Sides}
-use Rattle.szg_values.specs.declared.Kind.{Kind}
+use Rattle.std.proofs.Common.{◌≡◌, true, sym, ap, ◌∙◌}
 use Rattle.szg_file.specs.Index.{Index, index_of}
 use Rattle.szg_file.specs.Streaming.{wanted_of}
 use Rattle.szg_file.proofs.StreamedRead.{table_read}
@@ -35,5 +33,5 @@ returns-clause-dumped g c =
       own_dump t.contents,
       own_dump_is t,
       streamed_text g.W.Output c.args.form x c.args.last.now t sink c.stream_values.new.sink c.args.output.now c.begin_dump.new.output c.stream_values.new.out c.end_dump.new.output
-          c.in_ok-sink.ensures.index c.in_ok-sink.ensures.begun c.in_ok-sink.ensures.given goes c.in_ok-end_dump.ensures is ends read.stands.accepted,
+          c.in_ok-sink.ensures.index c.in_ok-sink.ensures.begun c.in_ok-sink.ensures.given goes c.in_ok-end_dump.ensures.given is ends read.stands.accepted,
     )

@@ -22,18 +22,18 @@ values-preserved g c =
     record {
       within = omega (arith, c.values.invariant.within);
       goes = goes_as ((replicate done v ++ []) ++ replicate now v) (replicate (c.args.count - (c.values.more - now)) v) (more_of done now (c.args.count - (c.values.more - now)) v (omega (arith, few, c.values.invariant.within)))
-          (goes_then (replicate done v ++ []) (replicate now v) (goes_then (replicate done v) [] c.values.invariant.goes c.in_ok-find_room.ensures.goes) c.in_ok-add_run.ensures);
+          (goes_then (replicate done v ++ []) (replicate now v) (goes_then (replicate done v) [] c.values.invariant.goes c.in_ok-find_room.ensures.goes) c.in_ok-add_run.ensures.goes);
     }
 
-pub returns-then-not-branch : goal.returns-then-not-branch
-returns-then-not-branch g c =
+pub returns-then-not-branch-clause-goes : goal.returns-then-not-branch-clause-goes
+returns-then-not-branch-clause-goes g c =
     let v = c.args.value in
     let done = c.args.count - c.values.more in
     goes_as ((replicate done v ++ []) ++ replicate c.values.more v) (replicate c.args.count v) (more_of done c.values.more c.args.count v (omega (arith, c.values.invariant.within)))
     (goes_then (replicate done v ++ []) (replicate c.values.more v) (goes_then (replicate done v) [] c.values.invariant.goes c.in_ok-find_room.ensures.goes)
     (goes_beyond g.W.Output (replicate c.values.more v) c.find_room.new.sink c.find_room.new.output (c.in_ok-find_room.ensures.none c.if-not-branch.true)))
 
-pub returns : goal.returns
-returns g c =
+pub returns-clause-goes : goal.returns-clause-goes
+returns-clause-goes g c =
     let all : c.args.count - c.values.more ≡ c.args.count = omega (arith, c.values-test.false) in
     goes_as (replicate (c.args.count - c.values.more) c.args.value) (replicate c.args.count c.args.value) (ap (λ (n : ℕ). replicate n c.args.value) all) c.values.invariant.goes

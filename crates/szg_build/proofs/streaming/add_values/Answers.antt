@@ -1,4 +1,4 @@
-use Rattle.std.proofs.Common.{◌≡◌, ◌≤◌, ◌-◌, ◌+◌, ◌++◌, ℕ, [], length, drop, get_or, replicate, take, ap, arith}
+use Rattle.std.proofs.Common.{◌-◌, ◌+◌, ◌++◌, length, drop, get_or, replicate, take, ap, arith}
 use Rattle.std.proofs.lemmas.List.{take_rest}
 use Rattle.szg_build.proofs.StreamLaws.{run_on}
 use Rattle.szg_build.proofs.StreamSteps.{goes_as, goes_none, goes_then}
@@ -16,5 +16,5 @@ runs-preserved g c =
     record {
       within = omega (arith, c.run_length-count.ensures.within, ap length (take_rest values from));
       goes = goes_as (take from values ++ replicate n (get_or values from 0)) (take (from + n) values) same
-          (goes_then (take from values) (replicate n (get_or values from 0)) c.runs.invariant.goes c.in_ok-add_same.ensures);
+          (goes_then (take from values) (replicate n (get_or values from 0)) c.runs.invariant.goes c.in_ok-add_same.ensures.goes);
     }

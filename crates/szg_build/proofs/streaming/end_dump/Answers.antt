@@ -8,8 +8,8 @@ use Rattle.szg_build.proofs.StreamSteps.{end_given}
 use Rattle.szg_build.proofs.WritingLaws.{writes_then}
 use Rattle.szg_build.proofs.streaming.end_dump.Goals as goal
 
-pub returns : goal.returns
-returns g c =
+pub returns-clause-given : goal.returns-clause-given
+returns-clause-given g c =
     let s = c.args.sink.now in
     let x = s.index.now in
     let form = form_of s.form in
@@ -20,4 +20,4 @@ returns g c =
     end_given (run ++ (others ++ [])) (text_left s []) c.flush.result
     (ap (λ (z : List ℕ). run ++ z) (append-nil others ∙ sym (subs_empty form x.kind places heads)) ∙ sym (run_last form x.kind places heads s.count s.value s.left))
     c.flush.ensures.held
-    (writes_then run (others ++ []) tt c.in_ok-put_equal.ensures (writes_then others [] tt c.in_ok-put_heads.ensures c.flush.ensures.none))
+    (writes_then run (others ++ []) tt c.in_ok-put_equal.ensures.written (writes_then others [] tt c.in_ok-put_heads.ensures.written c.flush.ensures.none))

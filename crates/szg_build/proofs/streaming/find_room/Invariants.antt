@@ -1,4 +1,4 @@
-use Rattle.std.proofs.Common.{◌≡◌, ◌-◌, [], length}
+use Rattle.std.proofs.Common.{◌≡◌, ◌-◌, []}
 use Rattle.szg_build.specs.Streaming.{Goes, head_count}
 use Rattle.szg_build.proofs.streaming.find_room.Given as goal
 

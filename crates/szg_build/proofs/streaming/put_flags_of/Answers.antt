@@ -1,4 +1,4 @@
-use Rattle.std.proofs.Common.{◌≡◌, ◌%◌, ◌<◌, ℕ, length, map, get_or, option_map, ap, sym, ◌∙◌, arith, None, Option, List, []}
+use Rattle.std.proofs.Common.{◌≡◌, ◌%◌, ◌<◌, ℕ, length, get_or, option_map, ap, sym, ◌∙◌, arith, None, Option, List, []}
 use Rattle.std.proofs.lemmas.List.{length-map}
 use Rattle.szg_values.specs.declared.Kind.TheVariants.{Dtz}
 use Rattle.szg_file.specs.Contents.{Map}
@@ -10,8 +10,8 @@ use Rattle.szg_build.proofs.StreamSteps.{ok_as}
 use Rattle.szg_build.proofs.WritingLaws.{mapped_item}
 use Rattle.szg_build.proofs.streaming.put_flags_of.Goals as goal
 
-pub returns-in-Dtz : goal.returns-in-Dtz
-returns-in-Dtz g c =
+pub returns-in-Dtz-clause-written : goal.returns-in-Dtz-clause-written
+returns-in-Dtz-clause-written g c =
     let x = c.args.index.now in
     let dtz : x.kind ≡ Dtz = sym c.kind.ensures ∙ c.in-Dtz.is in
     let at = flags_at x.kind (slots_in x) x.flags x.maps c.args.s dtz c.requires in

@@ -16,8 +16,8 @@ first place = line_text (codes "sub" ∷ part_word place.0 ∷ decimal place.1 �
 abbrev count : ℕ → List ℕ
 count size = line_text (codes "values" ∷ decimal size ∷ [])
 
-pub returns : goal.returns
-returns g c =
+pub returns-clause-written : goal.returns-clause-written
+returns-clause-written g c =
     let x = c.args.index.now in
     let s = c.args.s in
     let head = get_or (heads_of x) s no_head in
@@ -32,4 +32,4 @@ returns g c =
     ∙ ap (λ (z : List ℕ). first (get_or (places_of x.material x.kind) s (0, 0)) ++ z)
     (ap (λ (z : List ℕ). lines_text flags ++ z) (sym (append-nil (count head.size))) ∙ sym (lines-append flags ((codes "values" ∷ decimal head.size ∷ []) ∷ [])))
     )
-    (writes_then (first place) (lines_text flags ++ count c.size_of.result) tt c.in_ok-put_place.ensures (writes_then (lines_text flags) (count c.size_of.result) tt c.in_ok-put_flags_of.ensures c.put_number.ensures))
+    (writes_then (first place) (lines_text flags ++ count c.size_of.result) tt c.in_ok-put_place.ensures (writes_then (lines_text flags) (count c.size_of.result) tt c.in_ok-put_flags_of.ensures.written c.put_number.ensures))

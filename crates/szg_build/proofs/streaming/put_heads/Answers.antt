@@ -1,4 +1,4 @@
-use Rattle.std.proofs.Common.{◌≡◌, ◌<◌, ◌+◌, ℕ, List, [], ◌++◌, length, drop, get_or, ap, sym, refl, ◌∙◌, append_assoc, append-nil, arith}
+use Rattle.std.proofs.Common.{◌+◌, ℕ, List, [], ◌++◌, drop, get_or, ap, sym, refl, ◌∙◌, append_assoc, append-nil, arith}
 use Rattle.szg_build.specs.Dump.{places_of}
 use Rattle.szg_build.specs.Streaming.{head_lines, heads_of, heads_text, no_head}
 use Rattle.szg_build.specs.Text.{lines_text}
@@ -19,12 +19,12 @@ subtables-preserved g c =
     let next = heads_next x.kind places heads s (omega (arith, c.subtables-test.true, c.count_subs-s-end.ensures)) (omega (arith, c.subtables-test.true, c.count_subs-s-end.ensures)) in
     record {
       text = c.subtables.invariant.text ++ here;
-      wrote = writes_then c.subtables.invariant.text here tt c.subtables.invariant.wrote c.in_ok-put_head.ensures;
+      wrote = writes_then c.subtables.invariant.text here tt c.subtables.invariant.wrote c.in_ok-put_head.ensures.written;
       left = c.subtables.invariant.left ∙ ap (λ (z : List ℕ). c.subtables.invariant.text ++ z) next ∙ sym (append_assoc c.subtables.invariant.text here (heads_text x.kind (drop (s + 1) places) (drop (s + 1) heads)));
     }
 
-pub returns : goal.returns
-returns g c =
+pub returns-clause-written : goal.returns-clause-written
+returns-clause-written g c =
     let x = c.args.index.now in
     let none = heads_done x.kind (places_of x.material x.kind) (heads_of x) c.subtables.s (omega (arith, c.subtables-test.false, c.count_subs-s-end.ensures)) in
     writes_as (c.subtables.invariant.left ∙ ap (λ (z : List ℕ). c.subtables.invariant.text ++ z) none ∙ append-nil c.subtables.invariant.text) c.subtables.invariant.wrote

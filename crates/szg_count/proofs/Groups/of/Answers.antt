@@ -6,7 +6,7 @@ use Rattle.szg_count.specs.declared.OrderFault.TheVariants as fault
 use Rattle.szg_count.specs.Groups.{order_fault, groups_of, product, lead_ways, has_other_pawns}
 use Rattle.szg_count.specs.Views.{nibbles_in}
 use Rattle.szg_count.specs.Steps.{group_from, ways_by, positions_from, are_valid_positions}
-use Rattle.szg_count.proofs.Whole.{order_fault-pieces, order_fault-pawns, order_fault-position, order_fault-none, has_valid_positions-told, counts, counts-fit, groups_in_slot_order-from, rearranged, pawns_first, groups_many, lengths_same, not_none}
+use Rattle.szg_count.proofs.Whole.{order_fault-pieces, order_fault-pawns, order_fault-position, order_fault-none, has_valid_positions-counted, counts, counts-fit, groups_in_slot_order-from, rearranged, pawns_first, groups_many, lengths_same, not_none}
 use Rattle.szg_count.proofs.Positions.{length-positions_from}
 use Rattle.szg_count.proofs.Groups.of.Goals as goal
 
@@ -47,7 +47,7 @@ returns-then-not-are_valid_positions-clause-ordered c h =
     (c.as_slice.ensures.value ∙ c.men-codes.ensures.codes) c.is_rearrangement.ensures c.if-not-is_rearrangement.false in
     let b = pawns_first sides n.men c.as_slice-men.result.now c.has_pawns_first.result true c.as_slice-men.ensures.value c.has_pawns_first.ensures c.if-not-has_pawns_first.false in
     let many = groups_many sides n.men c.as_slice-men.result.now c.group_lengths-lengths.result.items c.len.result c.as_slice-men.ensures.value c.group_lengths-lengths.ensures.lengths c.len.ensures.value in
-    let d = sym (has_valid_positions-told sides n c.other_pawns-has_other.result c.len.result c.other_pawns-has_other.ensures many) ∙ sym c.are_valid_positions.ensures ∙ c.if-not-are_valid_positions.true in
+    let d = sym (has_valid_positions-counted sides n c.other_pawns-has_other.result c.len.result c.other_pawns-has_other.ensures many) ∙ sym c.are_valid_positions.ensures ∙ c.if-not-are_valid_positions.true in
     not_none (order_fault sides n) fault.OrderPlace (order_fault-position sides n a b d) h
 
 pub returns-then-not-are_valid_positions-clause-refused : goal.returns-then-not-are_valid_positions-clause-refused
@@ -57,7 +57,7 @@ returns-then-not-are_valid_positions-clause-refused c =
     (c.as_slice.ensures.value ∙ c.men-codes.ensures.codes) c.is_rearrangement.ensures c.if-not-is_rearrangement.false in
     let b = pawns_first sides n.men c.as_slice-men.result.now c.has_pawns_first.result true c.as_slice-men.ensures.value c.has_pawns_first.ensures c.if-not-has_pawns_first.false in
     let many = groups_many sides n.men c.as_slice-men.result.now c.group_lengths-lengths.result.items c.len.result c.as_slice-men.ensures.value c.group_lengths-lengths.ensures.lengths c.len.ensures.value in
-    let d = sym (has_valid_positions-told sides n c.other_pawns-has_other.result c.len.result c.other_pawns-has_other.ensures many) ∙ sym c.are_valid_positions.ensures ∙ c.if-not-are_valid_positions.true in
+    let d = sym (has_valid_positions-counted sides n c.other_pawns-has_other.result c.len.result c.other_pawns-has_other.ensures many) ∙ sym c.are_valid_positions.ensures ∙ c.if-not-are_valid_positions.true in
     rw (order_fault-position sides n a b d) refl
 
 pub assembled-requires-clause-ways : goal.assembled-requires-clause-ways
@@ -70,10 +70,10 @@ assembled-requires-clause-ways c =
 pub assembled-requires-clause-positions : goal.assembled-requires-clause-positions
 assembled-requires-clause-positions c =
     let same : c.len.result ≡ c.len-2.result = cc in
-    let stand : are_valid_positions (nat_lt 0 c.other_pawns-has_other.result) c.args.order.now.lead c.args.order.now.other c.len-2.result ≡ true =
+    let valid : are_valid_positions (nat_lt 0 c.other_pawns-has_other.result) c.args.order.now.lead c.args.order.now.other c.len-2.result ≡ true =
     ap (λ m. are_valid_positions (nat_lt 0 c.other_pawns-has_other.result) c.args.order.now.lead c.args.order.now.other m) (sym same) ∙ sym c.are_valid_positions.ensures ∙ c.if-not-are_valid_positions.false in
     ap length (c.as_slice-6.ensures.value ∙ c.positions_of-positions.ensures)
-    ∙ length-positions_from (nat_lt 0 c.other_pawns-has_other.result) c.args.order.now.lead c.args.order.now.other c.len-2.result stand
+    ∙ length-positions_from (nat_lt 0 c.other_pawns-has_other.result) c.args.order.now.lead c.args.order.now.other c.len-2.result valid
     ∙ c.len-2.ensures.value ∙ ap length (sym c.as_slice-4.ensures.value)
 
 pub assembled-requires-clause-fits : goal.assembled-requires-clause-fits
@@ -83,7 +83,7 @@ assembled-requires-clause-fits c =
     (c.as_slice.ensures.value ∙ c.men-codes.ensures.codes) c.is_rearrangement.ensures c.if-not-is_rearrangement.false in
     let b = pawns_first sides n.men c.as_slice-men.result.now c.has_pawns_first.result true c.as_slice-men.ensures.value c.has_pawns_first.ensures c.if-not-has_pawns_first.false in
     let many = groups_many sides n.men c.as_slice-men.result.now c.group_lengths-lengths.result.items c.len.result c.as_slice-men.ensures.value c.group_lengths-lengths.ensures.lengths c.len.ensures.value in
-    let d = sym (has_valid_positions-told sides n c.other_pawns-has_other.result c.len.result c.other_pawns-has_other.ensures many) ∙ sym c.are_valid_positions.ensures ∙ c.if-not-are_valid_positions.false in
+    let d = sym (has_valid_positions-counted sides n c.other_pawns-has_other.result c.len.result c.other_pawns-has_other.ensures many) ∙ sym c.are_valid_positions.ensures ∙ c.if-not-are_valid_positions.false in
     let ls = lengths_same sides n.men c.as_slice-men.result.now c.group_lengths-lengths.result.items c.as_slice-men.ensures.value c.group_lengths-lengths.ensures.lengths in
     let ws = c.as_slice-5.ensures.value ∙ c.group_ways-ways.ensures.ways ∙ ap (λ l. counts sides c.args.part l) (c.as_slice-3.ensures.value ∙ ls) in
     subst (λ (l : List ℕ). product l < 2 ^ 33) (sym ws) (counts-fit sides c.args.part n c.men-codes.ensures.material c.requires (order_fault-none sides n a b d))
@@ -93,7 +93,7 @@ returns-clause-ordered c h =
     let sides = c.args.material.now in let n = nibbles_in c.args.order.now in
     let many = groups_many sides n.men c.as_slice-men.result.now c.group_lengths-lengths.result.items c.len.result c.as_slice-men.ensures.value c.group_lengths-lengths.ensures.lengths c.len.ensures.value in
     let again = groups_many sides n.men c.as_slice-men.result.now c.group_lengths-lengths.result.items c.len-2.result c.as_slice-men.ensures.value c.group_lengths-lengths.ensures.lengths c.len-2.ensures.value in
-    let d = sym (has_valid_positions-told sides n c.other_pawns-has_other.result c.len.result c.other_pawns-has_other.ensures many) ∙ sym c.are_valid_positions.ensures ∙ c.if-not-are_valid_positions.false in
+    let d = sym (has_valid_positions-counted sides n c.other_pawns-has_other.result c.len.result c.other_pawns-has_other.ensures many) ∙ sym c.are_valid_positions.ensures ∙ c.if-not-are_valid_positions.false in
     let items = lengths_same sides n.men c.as_slice-men.result.now c.group_lengths-lengths.result.items c.as_slice-men.ensures.value c.group_lengths-lengths.ensures.lengths in
     let ls = c.as_slice-4.ensures.value ∙ items in
     let ws = c.as_slice-5.ensures.value ∙ c.group_ways-ways.ensures.ways ∙ ap (λ l. counts sides c.args.part l) (c.as_slice-3.ensures.value ∙ items) in
@@ -112,5 +112,5 @@ returns-clause-refused c =
     (c.as_slice.ensures.value ∙ c.men-codes.ensures.codes) c.is_rearrangement.ensures c.if-not-is_rearrangement.false in
     let b = pawns_first sides n.men c.as_slice-men.result.now c.has_pawns_first.result true c.as_slice-men.ensures.value c.has_pawns_first.ensures c.if-not-has_pawns_first.false in
     let many = groups_many sides n.men c.as_slice-men.result.now c.group_lengths-lengths.result.items c.len.result c.as_slice-men.ensures.value c.group_lengths-lengths.ensures.lengths c.len.ensures.value in
-    let d = sym (has_valid_positions-told sides n c.other_pawns-has_other.result c.len.result c.other_pawns-has_other.ensures many) ∙ sym c.are_valid_positions.ensures ∙ c.if-not-are_valid_positions.false in
+    let d = sym (has_valid_positions-counted sides n c.other_pawns-has_other.result c.len.result c.other_pawns-has_other.ensures many) ∙ sym c.are_valid_positions.ensures ∙ c.if-not-are_valid_positions.false in
     rw (order_fault-none sides n a b d) tt

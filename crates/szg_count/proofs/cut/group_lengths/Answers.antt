@@ -7,10 +7,10 @@ use Rattle.szg_count.proofs.Pawns.{peopled, lead_length-fits, rearranged-length,
 use Rattle.szg_count.proofs.Cutting.{lengths_given, length-prefix, length-lengths_of-le, sum-lengths_of, cut_given}
 use Rattle.szg_count.proofs.cut.group_lengths.Goals as goal
 
-told : (sides : Sides) (men : List ℕ) → lead_length sides + other_pawns sides ≤ length men →
+cut_lengths : (sides : Sides) (men : List ℕ) → lead_length sides + other_pawns sides ≤ length men →
     map (λ group. length group) (groups_of sides men) ≡ lengths_of (lead_length sides) (other_pawns sides) men
 unfolding groups_of
-told sides men h = lengths_given (has_pawns sides) (lead_length sides) (other_pawns sides) men (λ e. let n = no_pawns sides e in omega (arith, n)) h
+cut_lengths sides men h = lengths_given (has_pawns sides) (lead_length sides) (other_pawns sides) men (λ e. let n = no_pawns sides e in omega (arith, n)) h
 
 pub overflow_add-lead : goal.overflow_add-lead
 overflow_add-lead c =
@@ -38,7 +38,7 @@ returns-clause-lengths c =
     cut_given c.lead_length-lead.result c.other_pawns-others.result (lead_length c.args.material.now) (other_pawns c.args.material.now) c.from.result
     c.args.men.now c.leading_lengths-lengths.result.items c.split_at.result.1.now c.push_runs.new.lengths.items
     c.lead_length-lead.ensures c.other_pawns-others.ensures c.from.ensures c.leading_lengths-lengths.ensures c.split_at.ensures.back c.push_runs.ensures
-    ∙ sym (told c.args.material.now c.args.men.now (omega arith))
+    ∙ sym (cut_lengths c.args.material.now c.args.men.now (omega arith))
 
 pub returns-clause-few : goal.returns-clause-few
 returns-clause-few c =

@@ -9,11 +9,11 @@ pub loop-man-preserved : goal.loop-man-preserved
 loop-man-preserved c =
     let now : slice_get c.loop-man.rest.now 0 ≡ Some c.in-Some.man.now = sym c.in-Some.ensures.value in
     let run : length c.split_at.result.0.now ≡ leading c.in-Some.man.now c.loop-man.rest.now = cc in
-    let behind : c.split_at.result.1.now ≡ drop (length c.split_at.result.0.now) c.loop-man.rest.now = cc in
+    let following : c.split_at.result.1.now ≡ drop (length c.split_at.result.0.now) c.loop-man.rest.now = cc in
     let some = leading-first c.in-Some.man.now c.loop-man.rest.now now in
     record {
       all = ap (λ l. l ++ run_lengths c.split_at.result.1.now) c.push.ensures.items
-          ∙ runs_step c.in-Some.man.now (length c.split_at.result.0.now) c.loop-man.lengths.items c.loop-man.rest.now c.split_at.result.1.now _ now run behind c.loop-man.invariant.all;
+          ∙ runs_step c.in-Some.man.now (length c.split_at.result.0.now) c.loop-man.lengths.items c.loop-man.rest.now c.split_at.result.1.now _ now run following c.loop-man.invariant.all;
       room = omega arith;
     }
 

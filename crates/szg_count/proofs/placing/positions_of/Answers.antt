@@ -27,9 +27,9 @@ loop-position-preserved c =
           ∙ ap (λ b. positions_from c.args.lead c.args.other c.loop-position.position ++ cond (not b) (c.loop-position.position ∷ []) []) (sym left)
           ∙ sym more
       | else-not-is_assigned w ↦
-          let told : contains (c.args.lead ∷ option_to_list c.args.other) c.loop-position.position ≡ true = cc in
+          let is_fixed : contains (c.args.lead ∷ option_to_list c.args.other) c.loop-position.position ≡ true = cc in
           let items : c.if-not-is_assigned.positions.items ≡ c.loop-position.positions.items = cc in
           items ∙ c.loop-position.invariant
-          ∙ sym (more ∙ ap (λ b. positions_from c.args.lead c.args.other c.loop-position.position ++ cond (not b) (c.loop-position.position ∷ []) []) told
+          ∙ sym (more ∙ ap (λ b. positions_from c.args.lead c.args.other c.loop-position.position ++ cond (not b) (c.loop-position.position ∷ []) []) is_fixed
           ∙ append-nil (positions_from c.args.lead c.args.other c.loop-position.position))
     ]

@@ -38,7 +38,7 @@ loop-number-preserved-then-without-rank c =
     let d : i - choose (m - 1) r ≡ i - c.choose-without.result = ap (λ n. i - n) (sym e) in
     record {
       below = subst (λ (n : ℕ). n < choose (m - 1) (r - 1)) d (below_with m r i h below k);
-      told = λ rest g. c.loop-number.invariant.told ((m - 1) ∷ rest)
+      ranked = λ rest g. c.loop-number.invariant.ranked ((m - 1) ∷ rest)
           (step_with m r i rest h some k (subst (λ (n : ℕ). slice_get (subsets (m - 1) (r - 1)) n ≡ Some rest) (sym d) g))
           ∙ ap Some (sym (append_assoc set ((m - 1) ∷ []) rest) ∙ ap (λ l. l ++ rest) (sym pushed));
       left = let n = ap length pushed ∙ length-append set ((m - 1) ∷ []) in omega (arith, n, left, some);
@@ -52,24 +52,24 @@ loop-number-preserved c =
     let fewer : i < choose (m - 1) r = omega (arith, e, f) in
     record {
       below = fewer;
-      told = λ set e. c.loop-number.invariant.told set (step_without m r i set h e);
+      ranked = λ set e. c.loop-number.invariant.ranked set (step_without m r i set h e);
       left = c.loop-number.invariant.left;
     }
 
 -- if no number remains, the set is complete
-told : (c : goal.After-loop-number) → slice_get (subsets c.args.numbers c.args.chosen) c.args.rank ≡ Some c.loop-number.set.items
-told c =
+unranked : (c : goal.After-loop-number) → slice_get (subsets c.args.numbers c.args.chosen) c.args.rank ≡ Some c.loop-number.set.items
+unranked c =
     let none : c.loop-number.number ≡ 0 = omega (arith, c.loop-number-test.false) in
     let below : c.loop-number.rank < choose 0 c.loop-number.left = subst (λ (n : ℕ). c.loop-number.rank < choose n c.loop-number.left) none c.loop-number.invariant.below in
     let empty = none_left c.loop-number.left c.loop-number.rank below in
-    c.loop-number.invariant.told [] (subst (λ (n : ℕ). slice_get (subsets n c.loop-number.left) c.loop-number.rank ≡ Some []) (sym none) empty)
+    c.loop-number.invariant.ranked [] (subst (λ (n : ℕ). slice_get (subsets n c.loop-number.left) c.loop-number.rank ≡ Some []) (sym none) empty)
     ∙ ap Some (append-nil c.loop-number.set.items)
 
 pub returns-clause-set : goal.returns-clause-set
-returns-clause-set c = told c
+returns-clause-set c = unranked c
 
 pub returns-clause-size : goal.returns-clause-size
-returns-clause-size c = (falls-at c.args.numbers c.args.chosen c.args.rank c.loop-number.set.items (told c)).0
+returns-clause-size c = (falls-at c.args.numbers c.args.chosen c.args.rank c.loop-number.set.items (unranked c)).0
 
 pub returns-clause-falling : goal.returns-clause-falling
-returns-clause-falling c = (falls-at c.args.numbers c.args.chosen c.args.rank c.loop-number.set.items (told c)).1
+returns-clause-falling c = (falls-at c.args.numbers c.args.chosen c.args.rank c.loop-number.set.items (unranked c)).1

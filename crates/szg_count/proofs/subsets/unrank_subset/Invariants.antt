@@ -7,6 +7,6 @@ use Rattle.szg_count.proofs.subsets.unrank_subset.Given as goal
 abbrev pub invariant-loop-number : goal.invariant-loop-number
 invariant-loop-number l = record {
   below : l.rank < choose l.number l.left;
-  told : (set : List ℕ) → slice_get (subsets l.number l.left) l.rank ≡ Some set → slice_get (subsets l.numbers l.chosen) l.fn.rank ≡ Some (l.set.items ++ set);
+  ranked : (set : List ℕ) → slice_get (subsets l.number l.left) l.rank ≡ Some set → slice_get (subsets l.numbers l.chosen) l.fn.rank ≡ Some (l.set.items ++ set);
   left : length l.set.items + l.left ≡ l.chosen;
 }

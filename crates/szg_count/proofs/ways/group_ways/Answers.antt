@@ -5,7 +5,7 @@ use Rattle.std.specs.List.{range_with_len}
 use Rattle.std.proofs.lemmas.List.Sums.{sum_by_more}
 use Rattle.std.proofs.lemmas.List.FromFn.{map-range_with_len_more, length-map-range_with_len}
 use Rattle.szg_count.specs.Steps.{ArePositive, ways_by}
-use Rattle.szg_count.proofs.Pawns.{has_other_pawns-told}
+use Rattle.szg_count.proofs.Pawns.{has_other_pawns-counted}
 use Rattle.szg_count.proofs.Counts.{lead_ways-positive, ways_by-positive, ArePositive-map}
 use Rattle.szg_count.proofs.ways.group_ways.Goals as goal
 
@@ -18,12 +18,12 @@ push-requires c =
 pub loop-i-preserved : goal.loop-i-preserved
 loop-i-preserved c =
     let counts = ways_by c.ways_of_lead-lead.result (nat_lt 0 c.other_pawns-has_other.result) c.args.lengths.now in
-    let turn : c.ways_of_next.result ≡ counts c.loop-i.i = cc in
+    let here : c.ways_of_next.result ≡ counts c.loop-i.i = cc in
     let more = sum_by_more (λ (n : ℕ). n) c.args.lengths.now c.loop-i.i 0 (omega arith) in
     let before = c.loop-i.invariant.before in let length = c.from-length.ensures in
     record {
       ways = c.push.ensures.items ∙ ap (λ l. l ++ c.ways_of_next.result ∷ []) c.loop-i.invariant.ways
-          ∙ ap (λ n. map counts (range_with_len 0 c.loop-i.i) ++ n ∷ []) turn
+          ∙ ap (λ n. map counts (range_with_len 0 c.loop-i.i) ++ n ∷ []) here
           ∙ sym (map-range_with_len_more counts 0 c.loop-i.i c.loop-i.i (omega arith));
       before = omega (arith, more, before, length);
     }
@@ -31,7 +31,7 @@ loop-i-preserved c =
 pub returns-clause-ways : goal.returns-clause-ways
 returns-clause-ways c =
     let all : c.loop-i.i ≡ length c.args.lengths.now = omega arith in
-    let other = ap (λ n. nat_lt 0 n) c.other_pawns-has_other.ensures ∙ has_other_pawns-told c.args.material.now in
+    let other = ap (λ n. nat_lt 0 n) c.other_pawns-has_other.ensures ∙ has_other_pawns-counted c.args.material.now in
     c.loop-i.invariant.ways
     ∙ ap (λ n. map (ways_by c.ways_of_lead-lead.result (nat_lt 0 c.other_pawns-has_other.result) c.args.lengths.now) (range_with_len 0 n)) all
     ∙ ap (λ b. map (ways_by c.ways_of_lead-lead.result b c.args.lengths.now) (range_with_len 0 (length c.args.lengths.now))) other

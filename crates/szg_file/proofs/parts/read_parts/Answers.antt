@@ -17,7 +17,7 @@ use Rattle.szg_file.proofs.ReadingLaws.{reads_nothing, reads_more, reads_more_st
 use Rattle.szg_file.proofs.LoopReads.{reads_lacking}
 use Rattle.szg_file.proofs.Taken.{reads_as, reads_equal}
 use Rattle.szg_file.proofs.PartLaws.{slots_few, slots-more, numbers-more, numbers-split}
-use Rattle.szg_file.specs.Lengths.{part_length}
+use Rattle.szg_file.specs.Grown.{part_length}
 use Rattle.szg_file.proofs.Grown.{none_yet, one_more}
 use Rattle.szg_file.proofs.parts.read_parts.Goals as goal
 

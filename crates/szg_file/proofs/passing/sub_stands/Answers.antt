@@ -15,7 +15,7 @@ returns-then-not-shaped c =
 pub returns-in-Ok : goal.returns-in-Ok
 returns-in-Ok c =
     let size : c.slot.inside.size ≡ c.args.slot.now.size = ap (λ slot. slot.size) c.slot.view_is in (
-      λ h. sub_standing c.args.slot.now c.args.sub.now c.typed.ensures
+      λ h. sub_standing c.args.slot.now c.args.sub.now c.sub_fits.ensures
           (subst (λ (k : ℕ). IsShaped c.args.sub.now k) size (c.if-not-shaped.ensures.0 refl))
           (subst (λ (k : ℕ). IsSoundOver c.args.sub.now (packed_of c.args.sub.now) k) size c.in-Ok.ensures.ok),
       λ h. refl,

@@ -1,4 +1,4 @@
-use Rattle.std.proofs.Common.{◌≡◌, ℕ, suc, ◌+◌, ◌*◌, ◌^◌, ◌<◌, ◌++◌, [], List, length, take, refl, sym, ap, ◌∙◌, arith, Ok}
+use Rattle.std.proofs.Common.{◌≡◌, ℕ, suc, ◌+◌, ◌*◌, ◌^◌, ◌<◌, ◌++◌, Bool, [], List, length, take, refl, sym, ap, ◌∙◌, arith, Ok}
 use Rattle.std.specs.Prelude.{slice_index}
 use Rattle.std.proofs.lemmas.List.{get_or_read}
 use Rattle.std.proofs.lemmas.Result.{err_from_is_err_and}
@@ -11,11 +11,12 @@ use Rattle.szg_file.specs.declared.fault.ReadFault.TheVariants.{Memory}
 use Rattle.szg_file.specs.File.{block_field, blocks_from}
 use Rattle.szg_file.specs.Format.{means}
 use Rattle.szg_file.specs.Placed.{since}
+use Rattle.szg_file.specs.Streaming.{values_if}
 use Rattle.szg_file.proofs.BlockReads.{reads_blocks_more, reads_blocks_stopped}
 use Rattle.szg_file.proofs.LoopReads.{reads_lacking}
 use Rattle.szg_file.proofs.PassedBlocks.{since_none, since_on}
 use Rattle.szg_file.proofs.ReadingLaws.{reads_nothing}
-use Rattle.szg_file.proofs.Streamed.{accepted_as, accepted_none, accepted_then, accepted_one, blocks_long, first_none, first_more, first_all, first_values}
+use Rattle.szg_file.proofs.Streamed.{accepted_as, accepted_none, accepted_then, values_if_none, values_if-append, blocks_long, first_none, first_more, first_all, first_values}
 use Rattle.szg_file.proofs.Taken.{reads_equal}
 use Rattle.szg_file.proofs.streaming.stream_blocks.Goals as goal
 
@@ -30,7 +31,7 @@ each_block-init g c =
       count = rw c.in-Pairs.is (omega arith);
       place = omega arith;
       growth = refl;
-      accepted = rw c.in-Pairs.is (accepted_as g.K.ValueSink.accepts [] _ (sym (first_none _ (since moved moved) c.args.size)) (accepted_none g.K.ValueSink.accepts c.args.sink.now c.args.out.now));
+      accepted = rw c.in-Pairs.is (accepted_as g.K.ValueSink.accepts [] _ (sym (values_if_none c.args.wanted _ (first_none _ (since moved moved) c.args.size))) (accepted_none g.K.ValueSink.accepts c.args.sink.now c.args.out.now));
       wanted = refl;
     }
 
@@ -75,6 +76,7 @@ each_block-preserved g c =
     let accepted = rw c.in-Pairs.is at c.each_block.invariant.accepted in
     let put = rw c.in-Pairs.is at c.in_ok-put_block.ensures.accepted in
     let old : List ℕ = first_values layout (since first here) c.args.size c.each_block.n in
+    let w : Bool = c.args.wanted in
     let values : List ℕ → List ℕ = λ z. take (needed c.in-Pairs.lengths.items c.args.size c.each_block.n) (block_values layout z) in
     let some : List ℕ = values c.pass_block.new.buffer in
     let same : old ++ some ≡ first_values layout (since first next) c.args.size (c.each_block.n + 1) =
@@ -88,8 +90,8 @@ each_block-preserved g c =
       count = rw c.in-Pairs.is (omega (arith, count, room, c.in_ok-pass_block.ensures.place, c.each_block.auto.buffer));
       place = omega (arith, c.each_block.invariant.place, c.in_ok-pass_block.ensures.place, c.requires.short, c.each_block.auto.buffer);
       growth = c.in_ok-pass_block.ensures.growth ∙ c.each_block.invariant.growth;
-      accepted = rw c.in-Pairs.is (accepted_as g.K.ValueSink.accepts (old ++ some) (first_values layout (since first next) c.args.size (c.each_block.n + 1)) same
-          (accepted_then g.K.ValueSink.accepts old some accepted (accepted_one g.K.ValueSink.accepts some put)));
+      accepted = rw c.in-Pairs.is (accepted_as g.K.ValueSink.accepts (values_if w old ++ values_if w some) (values_if w (first_values layout (since first next) c.args.size (c.each_block.n + 1)))
+          (values_if-append w old some ∙ ap (values_if w) same) (accepted_then g.K.ValueSink.accepts (values_if w old) (values_if w some) accepted put));
       wanted = c.put_block.ensures.wanted ∙ c.each_block.invariant.wanted;
     }
 
@@ -106,4 +108,7 @@ returns-clause-accepted g c =
     let n : c.each_block.n ≡ c.in-Pairs.blocks = omega arith in
     let bytes : List ℕ = since (g.R.Input.moved c.args.input.now) (g.R.Input.moved c.each_block.input) in
     let accepted = rw c.in-Pairs.is at c.each_block.invariant.accepted in
-    rw c.in-Pairs.is (accepted_as g.K.ValueSink.accepts _ (joined_values layout bytes c.args.size) (ap (λ (k : ℕ). first_values layout bytes c.args.size k) n ∙ first_all layout bytes c.args.size) accepted)
+    let whole : first_values layout bytes c.args.size c.each_block.n ≡ joined_values layout bytes c.args.size =
+    ap (λ (k : ℕ). first_values layout bytes c.args.size k) n ∙ first_all layout bytes c.args.size in
+    rw c.in-Pairs.is (accepted_as g.K.ValueSink.accepts _ (values_if c.args.wanted (joined_values layout bytes c.args.size))
+    (ap (values_if c.args.wanted) whole) accepted)

@@ -5,7 +5,7 @@ use Rattle.szg_block.specs.Subtable.{layout_of}
 use Rattle.szg_file.specs.File.{blocks_from}
 use Rattle.szg_file.specs.Placed.{since}
 use Rattle.szg_file.specs.Reading.{Reading}
-use Rattle.szg_file.specs.Streaming.{Accepted}
+use Rattle.szg_file.specs.Streaming.{Accepted, values_if}
 use Rattle.szg_file.proofs.Streamed.{first_values}
 use Rattle.szg_file.proofs.streaming.stream_blocks.Given as goal
 
@@ -17,6 +17,6 @@ invariant-each_block g l = record {
   count : IfSome (layout_of l.sub) (λ layout. l.front.place ≡ l.fn.front.place + l.n * 2 ^ layout.block_bits);
   place : l.front.place ≤ l.fn.front.place + l.n * 2 ^ 18;
   growth : l.front.growth ≡ l.fn.front.growth;
-  accepted : IfSome (layout_of l.sub) (λ layout. Accepted g.K.ValueSink.accepts (first_values layout (since (g.R.Input.moved l.fn.input) (g.R.Input.moved l.input)) l.size l.n) l.fn.sink l.fn.out l.sink l.out);
+  accepted : IfSome (layout_of l.sub) (λ layout. Accepted g.K.ValueSink.accepts (values_if l.wanted (first_values layout (since (g.R.Input.moved l.fn.input) (g.R.Input.moved l.input)) l.size l.n)) l.fn.sink l.fn.out l.sink l.out);
   wanted : g.K.ValueSink.wanted l.sink ≡ g.K.ValueSink.wanted l.fn.sink;
 }

@@ -18,15 +18,15 @@ paths-init g c = record {
 pub paths-preserved : goal.paths-preserved
 paths-preserved g c =
     let h = c.paths.invariant in
-    let line : List ℕ = c.in_ok-told.told.line.items in
+    let line : List ℕ = c.in_ok-reported.reported.line.items in
     let below : c.paths.path-index < length c.args.paths.now = omega arith in
     let gave : Gives g.W.Output c.paths.writer c.give_whole.new.output line 0 = search rules in
     record {
       quiet = search rules;
-      verdicts = h.verdicts ++ c.in_ok-told.told.verdict ∷ [];
+      verdicts = h.verdicts ++ c.in_ok-reported.reported.verdict ∷ [];
       text = h.text ++ line;
-      reports = reports_next _ _ _ _ c.args.paths.now c.paths.path-index _ h.verdicts c.in_ok-told.told.verdict _ c.paths.system _ h.text line below h.reports c.in_ok-told.ensures.verdict c.in_ok-told.ensures.line;
+      reports = reports_next _ _ _ _ c.args.paths.now c.paths.path-index _ h.verdicts c.in_ok-reported.reported.verdict _ c.paths.system _ h.text line below h.reports c.in_ok-reported.ensures.verdict c.in_ok-reported.ensures.line;
       given = Gives-on h.text line 0 h.given gave;
-      counts = counts_more _ h.verdicts c.in_ok-told.told.verdict c.paths.tally c.with-tally.result h.counts c.with-tally.ensures.good c.with-tally.ensures.refused c.with-tally.ensures.unread;
-      all = let once = counts_once c.args.options.allow_trailing c.in_ok-told.told.verdict in omega (arith, once, h.all, c.with-tally.ensures.good, c.with-tally.ensures.refused, c.with-tally.ensures.unread);
+      counts = counts_more _ h.verdicts c.in_ok-reported.reported.verdict c.paths.tally c.with-tally.result h.counts c.with-tally.ensures.good c.with-tally.ensures.refused c.with-tally.ensures.unread;
+      all = let once = counts_once c.args.options.allow_trailing c.in_ok-reported.reported.verdict in omega (arith, once, h.all, c.with-tally.ensures.good, c.with-tally.ensures.refused, c.with-tally.ensures.unread);
     }

@@ -1,5 +1,6 @@
-use Rattle.std.proofs.Common.{◌≡◌, ℕ, refl}
-use Rattle.std.specs.Prelude.{Bool, true, ◌==◌, bit_xor}
+use Rattle.std.proofs.Common.{◌≡◌, ℕ, ◌<◌, ◌*◌, refl}
+use Rattle.std.specs.Prelude.{Bool, true, false, ◌==◌, bit_xor, if◌then◌else◌}
+use mir.Val.{bool_byte}
 use Rattle.std.specs.List.{list_all, range_with_len}
 use Rattle.std.proofs.lemmas.Bool.{eqb-true}
 use Rattle.szg_place.specs.Normal.{flip_rank}
@@ -12,5 +13,15 @@ is_flipped square = bit_xor square 56 == flip_rank square
 all_flipped : list_all is_flipped (range_with_len 0 64) ≡ true
 all_flipped = refl
 
-pub returns-then-flips : goal.returns-then-flips
-returns-then-flips c = rw c.if-flips.true (eqb-true (bit_xor c.args.square 56) (flip_rank c.args.square) (tested is_flipped 64 c.args.square all_flipped c.requires))
+abbrev is_same : ℕ → Bool
+is_same square = bit_xor square 0 == square
+
+all_same : list_all is_same (range_with_len 0 64) ≡ true
+all_same = refl
+
+by_mask : (flips : Bool) (square mask : ℕ) → square < 64 → mask ≡ bool_byte flips → bit_xor square (56 * mask) ≡ (if flips then flip_rank square else square)
+by_mask true square mask h e = rw e (eqb-true (bit_xor square 56) (flip_rank square) (tested is_flipped 64 square all_flipped h))
+by_mask false square mask h e = rw e (eqb-true (bit_xor square 0) square (tested is_same 64 square all_same h))
+
+pub returns : goal.returns
+returns c = by_mask c.args.flips c.args.square c.from.result c.requires c.from.ensures

@@ -1,4 +1,4 @@
-use Rattle.std.proofs.Common.{◌≡◌, inl, inr, refl, rules, true}
+use Rattle.std.proofs.Common.{inl, inr, refl}
 use Rattle.szg_tool.specs.declared.on_files.FileStop.TheVariants.{Device, Failed, Memory}
 use Rattle.szg_tool.proofs.on_files.carry_out_file.Goals as goal
 

@@ -1,4 +1,4 @@
-use Rattle.std.proofs.Common.{◌≡◌, sym, ap, subst, ◌∙◌, inr}
+use Rattle.std.proofs.Common.{sym, ap, subst, ◌∙◌, inr}
 use Rattle.szg_tool.specs.Refusals.{IsRefused, part_refusal}
 use Rattle.szg_tool.specs.Requests.{unplaced_refusal}
 use Rattle.szg_tool.specs.declared.request.Action.{Action}

@@ -1,4 +1,3 @@
-use Rattle.std.proofs.Common.{◌≡◌, rules}
 use Rattle.szg_file.proofs.StreamedRead.{table_read}
 use Rattle.szg_tool.proofs.StreamedFiles.{is_table_of}
 use Rattle.szg_tool.proofs.streaming.read_index.Goals as goal

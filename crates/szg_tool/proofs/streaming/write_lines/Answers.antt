@@ -1,8 +1,7 @@
-use Rattle.std.proofs.Common.{◌≡◌, ℕ, List, [], ◌++◌, flat_map, refl, sym, ap, subst, ◌∙◌, Some}
+use Rattle.std.proofs.Common.{◌≡◌, ℕ, List, ◌++◌, flat_map, sym, ap, subst, ◌∙◌}
 use Rattle.szg_io.proofs.DeviceLaws.{Gives-on}
 use Rattle.szg_file.specs.Streaming.{only, wanted_of}
 use Rattle.szg_tool.specs.Answers.{IsAnswer, number_line}
-use Rattle.szg_tool.specs.Refusals.{size_at}
 use Rattle.szg_tool.specs.declared.request.Action.{Action}
 use Rattle.szg_tool.proofs.SinkLines.{accepted_lines, line_accepts}
 use Rattle.szg_tool.proofs.StreamedFiles.{is_table_of, lines_of_part, size_read}

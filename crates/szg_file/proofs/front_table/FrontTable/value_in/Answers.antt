@@ -1,4 +1,4 @@
-use Rattle.std.proofs.Common.{◌≡◌, length, ◌+◌, ◌≤◌, ◌<◌, ◌∙◌, ap, refl, sym, subst, arith, Option}
+use Rattle.std.proofs.Common.{◌≡◌, length, ◌<◌, ◌∙◌, ap, refl, subst, arith, Option}
 use Rattle.std.specs.Prelude.{◌≢◌, ◌↔◌, ℕ, Result, Err, IsSomeAnd}
 use Rattle.szg_values.specs.declared.Kind.{Kind}
 use Rattle.szg_file.specs.Contents.{Slot}

@@ -1,7 +1,0 @@
-use Rattle.std.proofs.Common.{rules}
-use Rattle.szg_file.specs.FileOf.{list_sections}
-use Rattle.szg_file.proofs.TallyLaws.{counts_mapped}
-use Rattle.szg_file.proofs.tally.add_short_lists.Goals as goal
-
-pub returns : goal.returns
-returns c = counts_mapped (list_sections 1) (λ list. list.items) c.args.lists.now (c.count_each.ensures (λ list. list_sections 1 list.items) (λ item tally rest said. search rules))

@@ -1,7 +1,0 @@
-use Rattle.szg_file.specs.FileOf.{sparse_sections}
-use Rattle.szg_file.specs.Held.{subtable_of}
-use Rattle.szg_file.proofs.TallyLaws.{counts_mapped}
-use Rattle.szg_file.proofs.tally.count_indexes.Goals as goal
-
-pub returns : goal.returns
-returns c = counts_mapped sparse_sections subtable_of c.args.subs.now (c.count_each.ensures (λ item. sparse_sections (subtable_of item)) (λ item tally rest said. said))

@@ -1,5 +1,0 @@
-use Rattle.szg_place.proofs.seats.seated_exchanged.Given as goal
-
--- the order of the men
-abbrev pub ghost-seated : goal.ghost-seated
-ghost-seated g a = g.order

@@ -1,0 +1,22 @@
+use Rattle.std.proofs.Common.{rules, ◌≡◌, ◌∙◌, ◌/◌, ◌%◌, ◌^◌, ap, ℕ, Bool, true, false, sym, Some, None}
+use Rattle.std.specs.Prelude.{◌&&◌, ◌==◌, length, IsSome, IsNone}
+use Rattle.szg_values.specs.Material.{is_count}
+use Rattle.szg_values.specs.Placement.{placement_fault, men_key}
+use Rattle.szg_values.specs.declared.PlacementFault.TheVariants as fault
+use Rattle.szg_values.proofs.Complete.{complete_fault, incomplete_fault}
+use Rattle.szg_values.proofs.placed.PlacedMen.of_standing.Goals as goal
+
+pub invariant_of-result : goal.invariant_of-result
+invariant_of-result c =
+    let none = complete_fault c.args.men.now c.args.key c.requires.standing c.requires.key (sym c.are_complete.ensures ∙ c.if-are_complete.true) in
+    record { placed = record { no_fault = rw none (search rules); on_board = c.requires.standing.on_board }; key_is = c.requires.key }
+
+pub returns-then-are_complete-clause-refused : goal.returns-then-are_complete-clause-refused
+returns-then-are_complete-clause-refused c =
+    let none = complete_fault c.args.men.now c.args.key c.requires.standing c.requires.key (sym c.are_complete.ensures ∙ c.if-are_complete.true) in
+    λ some. let h = rw none at some in cc
+
+pub returns-else-are_complete-clause-accepted : goal.returns-else-are_complete-clause-accepted
+returns-else-are_complete-clause-accepted c =
+    let some = incomplete_fault c.args.men.now c.args.key c.requires.standing c.requires.key (sym c.are_complete.ensures ∙ c.if-are_complete.false) in
+    λ none. let h = rw some at none in cc
