@@ -61,6 +61,7 @@ const BINOMIALS: [u32; 520] = [
 ];
 
 /// Returns the number of sets of `k` of `n` things, for `n` up to 64 and `k` up to 6; 0 if `k` is above `n`.
+#[inline(always)]
 pub fn choose(n: u64, k: u64) -> u64
     requires things { n ≤ 64 }
     requires chosen { k ≤ 6 }

@@ -1,9 +1,7 @@
 -- Readers of headers: readings with other views, and the checks of codes
 -- and dictionaries.
-use Rattle.std.proofs.Common.{◌≡◌, ℕ, zero, suc, ◌+◌, ◌*◌, List, [], length, map, take, drop, refl, sym, ap, subst, ◌∙◌, inl, inr, Option, Some, None, Ok, Err}
+use Rattle.std.proofs.Common.{◌≡◌, ℕ, ◌+◌, ◌*◌, List, refl, sym, ap, subst, ◌∙◌, inl, inr, Option, Some, None, Ok, Err}
 use Rattle.std.specs.Prelude.{Result}
-use Rattle.std.proofs.lemmas.Bool.{cases_lt}
-use Rattle.std.proofs.lemmas.List.{length-map}
 use Rattle.szg_code.specs.Canonical.{CanonicalCode}
 use Rattle.szg_code.specs.Acceptance.{HasLengths, IsCode, IsCodeFault}
 use Rattle.szg_code.specs.FirstFault.{first_rise, first_overfull}
@@ -21,14 +19,11 @@ use Rattle.szg_file.specs.declared.front.Front.{Front}
 use Rattle.szg_file.specs.declared.fault.Reason.TheVariants as reason
 use Rattle.szg_file.specs.declared.fault.ReadFault.{ReadFault}
 use Rattle.szg_file.specs.declared.fault.ReadFault.TheVariants.{Refused, Device, Memory}
-use Rattle.szg_file.specs.Format.{Format, means, good, truncated, verdict, ◌>>=◌, ◌>>◌}
-use Rattle.szg_file.specs.Contents.{items, number_of}
+use Rattle.szg_file.specs.Format.{Format, means, ◌>>=◌, ◌>>◌}
 use Rattle.szg_file.specs.File.{rows_field, none_fails, lowest_check, entries_check}
-use Rattle.szg_file.specs.Held.{numbers_field}
 use Rattle.szg_file.specs.HeadPieces.{Refuses, entries_field, lowest_refusal, entries_refusal}
 use Rattle.szg_file.specs.Reading.{Reading}
 use Rattle.szg_io.specs.declared.device.Input.{Ghosts}
-use Rattle.szg_file.proofs.FormatLaws.{field-short, field-whole}
 use Rattle.szg_file.proofs.ReadingLaws.{reads_then, reads_stopped, reads_refused}
 use Rattle.szg_file.proofs.Taken.{reads_like}
 use Rattle.szg_file.proofs.LoopReads.{reads_lacking}

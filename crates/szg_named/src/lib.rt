@@ -13,7 +13,7 @@ mod stop;
 
 pub use asked::files_asked;
 pub use file_verdict::FileVerdict;
-pub use lines::{error_text, fault_text, summary_line, verdict_line};
+pub use lines::{error_text, fault_text, name_word, reason_word, summary_line, verdict_line};
 pub use many::{CheckOptions, check_files};
 pub use named::{Naming, named_as, named_by};
 pub use one::check_path;

@@ -173,7 +173,7 @@ pub fn error_text(alloc: Global, error: &Option<Error>) -> Result<String, AllocE
     }
 }
 
-/// Returns the word for a fault of a name.
+/// Returns the word for a fault of a name: the name of its variant.
 pub fn name_word(fault: NameFault) -> &'static str
     ensures { result.now ≡ name_word fault }
 {
@@ -186,7 +186,7 @@ pub fn name_word(fault: NameFault) -> &'static str
     }
 }
 
-/// Returns the word for a failing check of a file.
+/// Returns the word for a failing check of a file: the name of its variant.
 pub fn reason_word(reason: Reason) -> &'static str
     ensures { result.now ≡ reason_word reason }
 {

@@ -1,6 +1,6 @@
 -- Keys hold the number of men of each kind and colour, and so decide whether men are a material's.
 use Rattle.std.proofs.Common.{◌≡◌, ℕ, zero, suc, ◌+◌, ◌*◌, ◌/◌, ◌%◌, ◌^◌, ◌<◌, ◌≤◌, inl, inr, List, [], ◌∷◌, length, map, refl, sym, ap, ◌∙◌, subst, Bool, true, false, cond, pow-suc, arith}
-use Rattle.std.specs.Prelude.{◌==◌, nat_lt, count_by, None, IsNone, slice_index}
+use Rattle.std.specs.Prelude.{◌==◌, nat_lt, count_by, None, IsNone}
 use Rattle.std.specs.List.{list_all, sum_by, range_with_len}
 use Rattle.std.proofs.Math.Bool.{not, ◌&&◌, ◌||◌}
 use Rattle.std.proofs.lemmas.Bool.{cases_Bool, cases_order, eq-eqb, ne_eqb, eqb-true, and_from, and_parts, false_from_ne_true}
@@ -22,7 +22,6 @@ use Rattle.szg_count.proofs.Pawns.{peopled}
 use Rattle.szg_place.specs.Normal.{colored_code, exchanged_color, is_exchanged}
 use Rattle.szg_place.specs.Spots.{is_of_material, man_at}
 use Rattle.szg_place.specs.Traits.{key_of, men_key, with_exchanged_halves}
-use Rattle.szg_place.specs.declared.traits.TheConstants.{KEYS}
 use Rattle.szg_place.proofs.Lists.{tested, IsIn-map}
 use Rattle.szg_place.proofs.Slotted.{few_men}
 use Rattle.szg_place.proofs.Spotted.{none_is}
@@ -142,11 +141,11 @@ codes_some sides c i = elim (IsIn-append c (map code_of sides.first) (map (λ ma
 
 -- ---- what a man adds to a key
 
-keys_test : list_all (λ c. slice_index KEYS c == 8 ^ c) (range_with_len 0 16) ≡ true
+keys_test : list_all (λ c. (1 * 2 ^ (3 * c)) % 2 ^ 64 == 8 ^ c) (range_with_len 0 16) ≡ true
 keys_test = refl
 
-pub key_told : (c : ℕ) → c < 16 → slice_index KEYS c ≡ 8 ^ c
-key_told c h = eqb-true (slice_index KEYS c) (8 ^ c) (tested (λ c. slice_index KEYS c == 8 ^ c) 16 c keys_test h)
+pub key_told : (c : ℕ) → c < 16 → (1 * 2 ^ (3 * c)) % 2 ^ 64 ≡ 8 ^ c
+key_told c h = eqb-true ((1 * 2 ^ (3 * c)) % 2 ^ 64) (8 ^ c) (tested (λ c. (1 * 2 ^ (3 * c)) % 2 ^ 64 == 8 ^ c) 16 c keys_test h)
 
 -- ---- colours exchanged
 

@@ -37,7 +37,6 @@ pub mod FrontProbes
 pub mod Placed
 pub mod IndexAgain
 pub mod Keys
-pub mod Binomials
 pub mod Turns
 pub mod SortedSeats
 pub mod SlotCodes

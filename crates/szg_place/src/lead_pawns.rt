@@ -6,9 +6,8 @@ ghost use Rattle.szg_count.specs.Sets.{choose, subsets, IsFallingBelow};
 ghost use Rattle.szg_count.specs.Leads.{lead_pawn_sets};
 ghost use Rattle.szg_count.specs.Laws.{IsIn};
 
-use crate::choices::choices;
 use arrayvec::ArrayVec;
-use szg_count::unrank_subset;
+use szg_count::{choose, unrank_subset};
 use szg_values::MAX_MEN;
 
 /// The value P of a square (`ptwist` in the probing code): the number of squares after it in the order of pawn squares.
@@ -73,9 +72,9 @@ fn place_of_pawns(squares: &[u8]) -> u64
     ensures { (n : ℕ) → IsFallingBelow n (map (λ square. slice_index PAWN_NUMBERS square) squares.now) → slice_get (subsets n (length squares.now)) result ≡ Some (map (λ square. slice_index PAWN_NUMBERS square) squares.now) }
 {
     let mut place = 0;
-    let mut left = squares.len();
+    let mut left = squares.len() as u64;
     for square in squares {
-        place += choices(pawn_number(*square), left);
+        place += choose(u64::from(pawn_number(*square)), left);
         left -= 1;
     }
     place

@@ -5,7 +5,6 @@
 use szg_file::{FetchFault, MapFault};
 use thiserror::Error;
 
-mod choices;
 pub mod free_squares;
 mod front;
 pub mod index;
@@ -29,7 +28,7 @@ pub use front::{probe_dtz_front, probe_dtz_front_in, probe_wdl_front, probe_wdl_
 pub use numbering::SideGroups;
 pub use placement::{placement_in, placement_of};
 pub use prepared::PreparedTable;
-pub use probes::{probe_dtz, probe_wdl};
+pub use probes::{class_of, probe_dtz, probe_wdl};
 pub use spots::{index_in, index_of};
 
 /// Why a table has no index for a placement: the first check that fails, in this order.

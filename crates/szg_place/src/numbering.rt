@@ -3,7 +3,7 @@
 ghost use Rattle.std.specs.Prelude.{◌≡◌, ◌≤◌, ◌<◌, ◌%◌, ◌==◌, ◌&&◌, ◌||◌, not, [], length, map, None, IsSome, drop, slice_index, slice_index_or, if◌then◌else◌};
 ghost use Rattle.std.specs.List.{list_all};
 ghost use Rattle.szg_values.specs.Material.{count_of, has_pawns, is_symmetric};
-ghost use Rattle.szg_count.specs.Groups.{IsPart, nibble, nibbles_of, order_fault, counted, groups_of};
+ghost use Rattle.szg_count.specs.Groups.{IsPart, order_fault, counted, groups_of};
 ghost use Rattle.szg_count.specs.Views.{nibbles_in, groups_in_slot_order};
 ghost use Rattle.szg_file.specs.Held.{part_of};
 ghost use Rattle.szg_file.specs.Index.{slot_in};
@@ -15,7 +15,6 @@ ghost use Rattle.szg_place.specs.Tables.{numbering_in};
 use crate::men::code_count;
 use crate::seats::first_slots;
 use crate::traits::Traits;
-use arrayvec::ArrayVec;
 use szg_count::{Groups, Order};
 use szg_file::{PartBytes, TableIndex};
 use szg_values::{Kind, Material};
@@ -38,7 +37,7 @@ pub fn order_in(parts: &[PartBytes], part: u8, side: u8) -> Order
     ensures { nibbles_in result ≡ nibbles_in_part (map part_of parts.now) part side }
 {
     let bytes = &parts[usize::from(part)];
-    order_of(side, &bytes.order, &bytes.men)
+    Order::of_side(side, &bytes.order, &bytes.men)
 }
 
 /// Returns the nibbles of a side of a part that the table has.
@@ -53,40 +52,11 @@ pub fn order_at(index: &TableIndex, part: u8, side: u8) -> Order
     order_in(index.parts(), part, side)
 }
 
-fn order_of(side: u8, order: &[u8], men: &[u8]) -> Order
-    requires side { side < 2 }
-    requires men { length men.now ≤ 6 }
-    ensures { nibbles_in result ≡ nibbles_of side order.now men.now }
-{
-    let other = if order.len() > 1 {
-        Some(nibble_of(side, order[1]))
-    } else {
-        None
-    };
-    let mut used = ArrayVec::new();
-    'men: for man in men {
-        used.push(nibble_of(side, *man));
-    }
-    Order {
-        lead: nibble_of(side, byte_at(order, 0)),
-        other,
-        men: used,
-    }
-}
-
 // Returns byte `i` of a list; 0 after its end.
 fn byte_at(bytes: &[u8], i: usize) -> u8
     ensures { result ≡ slice_index bytes.now i }
 {
     if i < bytes.len() { bytes[i] } else { 0 }
-}
-
-// Returns a side's nibble of a byte: the low one for side 0, the high one for side 1.
-fn nibble_of(side: u8, byte: u8) -> u8
-    requires { side < 2 }
-    ensures { result ≡ nibble side byte }
-{
-    if side == 0 { byte % 16 } else { byte / 16 }
 }
 
 /// Returns the groups of an order that has no fault.

@@ -26,8 +26,9 @@ pub fn probe_wdl(table: &Table, placement: &Placement) -> Result<Option<i8>, Pla
     }
 }
 
-// Returns the class of a WDL value: the value less two. None if it is above 4.
-pub(crate) fn class_of(value: u16) -> Option<i8>
+/// Returns the class of a WDL value: the value less two (2 win, 1 cursed win, 0 draw, -1 blessed loss, -2 loss). None if
+/// it is above 4.
+pub fn class_of(value: u16) -> Option<i8>
     ensures { result ≡ class_of value }
 {
     if value < 5 {

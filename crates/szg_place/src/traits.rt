@@ -9,26 +9,6 @@ use crate::men::{code_count, with_exchanged_halves};
 use std::marker::Model;
 use szg_values::Material;
 
-/// The summand of a man in a key, at the index of the man's code: 8 to the power of the code.
-const KEYS: [u64; 16] = [
-    1,
-    8,
-    64,
-    512,
-    4096,
-    32768,
-    262144,
-    2097152,
-    16777216,
-    134217728,
-    1073741824,
-    8589934592,
-    68719476736,
-    549755813888,
-    4398046511104,
-    35184372088832,
-];
-
 /// A material and facts about it.
 #[derive(Drop)]
 pub struct Traits {
@@ -180,11 +160,11 @@ fn codes_key(codes: &[u8]) -> u64
     key
 }
 
-// Returns what a man of a code adds to a key.
+// Returns what a man of a code adds to a key: 8 to the power of the code.
 fn code_key(code: u8) -> u64
     requires { code < 16 }
     ensures key { result ≡ 8 ^ code }
     ensures small { result ≤ 2 ^ 45 }
 {
-    KEYS[usize::from(code)]
+    1 << (3 * code)
 }

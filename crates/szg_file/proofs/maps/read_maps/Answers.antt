@@ -1,4 +1,4 @@
-use Rattle.std.proofs.Common.{◌≡◌, refl, ◌<◌, ◌∷◌, ◌++◌, [], length, map, take, arith, List, ℕ, Option, option_map, sym, ap, ◌∙◌, get_or, Ok, Vec, Global}
+use Rattle.std.proofs.Common.{◌≡◌, refl, ◌<◌, ◌∷◌, ◌++◌, [], length, map, arith, List, ℕ, Option, option_map, sym, ap, ◌∙◌, get_or, Ok, Vec, Global}
 use Rattle.std.proofs.lemmas.List.{map-append, length-map, get_or-map, take_all}
 use Rattle.std.proofs.lemmas.Result.{err_from_is_err_and}
 use Rattle.szg_values.specs.declared.Kind.TheVariants.{Wdl}

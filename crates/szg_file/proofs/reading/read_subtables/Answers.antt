@@ -1,8 +1,7 @@
 use Rattle.std.proofs.Common.{map}
 use Rattle.std.proofs.lemmas.Result.{err_from_is_err_and}
 use Rattle.szg_file.specs.File.{each, blocks_field}
-use Rattle.szg_file.specs.FilePieces.{measured_field, packed_field}
-use Rattle.szg_file.specs.Format.{◌>>=◌}
+use Rattle.szg_file.specs.FilePieces.{measured_field}
 use Rattle.szg_file.specs.Held.{subtable_of}
 use Rattle.szg_file.proofs.ReadingLaws.{reads_then, reads_stopped}
 use Rattle.szg_file.proofs.WholeReads.{packed_steps}

@@ -28,16 +28,17 @@ step squares i n left added h e l a =
     ∙ ap (λ (m : ℕ). choose m left + binomial_sum (drop (i + 1) set)) (number_at squares i h ∙ sym e)
     ∙ ap (λ (k : ℕ). k + binomial_sum (drop (i + 1) set)) (sym a)
 
-pub choices-place-requires-clause-things : goal.choices-place-requires-clause-things
-choices-place-requires-clause-things c =
+pub choose-place-requires-clause-things : goal.choose-place-requires-clause-things
+choose-place-requires-clause-things c =
     let below = number_below c.args.squares.now c.loop-square.square-index (omega arith) c.requires.falling in
-    subst (λ (n : ℕ). n < 64) (sym c.pawn_number.ensures) below
+    let small = subst (λ (n : ℕ). n < 64) (sym c.pawn_number.ensures) below in
+    omega (arith, small, c.from.ensures)
 
 pub overflow_add-place : goal.overflow_add-place
 overflow_add-place c =
     let set = map pawn_number c.args.squares.now in
-    let here = step c.args.squares.now c.loop-square.square-index c.pawn_number.result c.loop-square.left c.choices-place.result
-    (omega arith) c.pawn_number.ensures c.loop-square.invariant.left c.choices-place.ensures in
+    let here = step c.args.squares.now c.loop-square.square-index c.from.result c.loop-square.left c.choose-place.result
+    (omega arith) (c.from.ensures ∙ c.pawn_number.ensures) c.loop-square.invariant.left c.choose-place.ensures.count in
     let long = length-map c.args.squares.now pawn_number in
     let few = c.requires.few in let now = c.loop-square.invariant.place in
     let bound = binomial_sum-bound 64 set (omega arith) c.requires.falling (omega (arith, few, long)) in
@@ -46,8 +47,8 @@ overflow_add-place c =
 
 pub loop-square-preserved : goal.loop-square-preserved
 loop-square-preserved c =
-    let here = step c.args.squares.now c.loop-square.square-index c.pawn_number.result c.loop-square.left c.choices-place.result
-    (omega arith) c.pawn_number.ensures c.loop-square.invariant.left c.choices-place.ensures in
+    let here = step c.args.squares.now c.loop-square.square-index c.from.result c.loop-square.left c.choose-place.result
+    (omega arith) (c.from.ensures ∙ c.pawn_number.ensures) c.loop-square.invariant.left c.choose-place.ensures.count in
     let now = c.loop-square.invariant.place in
     record { place = omega (arith, now, here); left = omega arith }
 

@@ -1,8 +1,14 @@
-use Rattle.std.proofs.Common.{ap, ◌∙◌}
-use Rattle.std.specs.Prelude.{slice_index}
-use Rattle.szg_place.specs.declared.traits.TheConstants.{KEYS}
+use Rattle.std.proofs.Common.{◌*◌, ◌≤◌, ◌^◌, arith}
+use Rattle.std.proofs.Math.Nat.{mod-le}
+use Rattle.std.proofs.Math.Pow.{pow_mono}
 use Rattle.szg_place.proofs.Keys.{key_told}
 use Rattle.szg_place.proofs.traits.code_key.Goals as goal
 
 pub returns-clause-key : goal.returns-clause-key
-returns-clause-key c = ap (λ x. slice_index KEYS x) c.from.ensures ∙ key_told c.args.code c.requires
+returns-clause-key c = key_told c.args.code c.requires
+
+pub returns-clause-small : goal.returns-clause-small
+returns-clause-small c =
+    let few : 3 * c.args.code ≤ 45 = omega (arith, c.requires) in
+    let small : 2 ^ (3 * c.args.code) ≤ 2 ^ 45 = pow_mono few in
+    omega (arith, small, mod-le (1 * 2 ^ (3 * c.args.code)) 18446744073709551616)
