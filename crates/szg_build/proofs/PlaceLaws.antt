@@ -1,5 +1,5 @@
 -- Each part and side of a table, in file order, has its subtable.
-use Rattle.std.proofs.Common.{◌≡◌, ℕ, zero, suc, ◌+◌, ◌%◌, ◌<◌, Bool, List, [], ◌∷◌, ◌++◌, length, map, take, get_or, refl, sym, ap, subst, ◌∙◌, add-one, arith, inl, inr, Some, None}
+use Rattle.std.proofs.Common.{◌≡◌, ℕ, zero, suc, ◌+◌, ◌<◌, Bool, List, [], ◌∷◌, ◌++◌, length, map, take, get_or, refl, sym, ap, subst, ◌∙◌, add-one, arith, inl, inr, Some, None}
 use Rattle.std.specs.Prelude.{◌⊎◌, if◌then◌else◌}
 use Rattle.std.specs.List.{flat_map}
 use Rattle.std.proofs.lemmas.List.{length-map, map-append}
@@ -9,7 +9,6 @@ use Rattle.szg_values.specs.declared.Kind.{Kind}
 use Rattle.szg_values.specs.declared.Kind.TheVariants.{Wdl, Dtz}
 use Rattle.szg_file.specs.Contents.{Part, Subtable, constant, Contents, Slot, slots, slots_from, part_numbers, side_numbers}
 use Rattle.szg_file.specs.Values.{slotted, found, subtable_at}
-use Rattle.szg_file.specs.File.{flags_of}
 use Rattle.szg_file.specs.Accepted.{IsSubtable, IsPart, IsAccepted}
 use Rattle.szg_file.proofs.TableFinds.{side_lengths}
 use Rattle.szg_build.specs.Dump.{places_of}
@@ -122,15 +121,6 @@ place_at t places i d stand below =
     sym (mapped_at (λ (place : ℕ × ℕ). subtable_at t place.0 place.1) places i d None below)
     ∙ ap (λ z. get_or z i None) (sym stand)
     ∙ mapped_at Some (subtables_in t) i no_pair None inside
-
-flags_beside : (slots : List Slot) (subs : List Subtable) → length slots ≡ length subs → map (λ (pair : Slot × Subtable). flags_of pair.1 % 32) (slotted slots subs) ≡ map (λ subtable. flags_of subtable % 32) subs
-flags_beside [] [] h = refl
-flags_beside [] (y ∷ subs) h = absurd (omega (arith, h))
-flags_beside (x ∷ slots) [] h = absurd (omega (arith, h))
-flags_beside (x ∷ slots) (y ∷ subs) h = ap (λ z. (flags_of y % 32) ∷ z) (flags_beside slots subs (omega (arith, h)))
-
-pub flags_in_order : (t : Contents) (fill : List ℕ) → IsAccepted t fill → map (λ (pair : Slot × Subtable). flags_of pair.1 % 32) (subtables_in t) ≡ map (λ subtable. flags_of subtable % 32) t.subtables
-flags_in_order t fill h = flags_beside (slots t.material t.kind t.parts) t.subtables (side_lengths IsSubtable (slots t.material t.kind t.parts) t.subtables h.subtables)
 
 -- One more item of a list that is made from pairs of slots and subtables.
 pub pairs_more : {B : Type 0} (f : Slot × Subtable → B) (pairs : List (Slot × Subtable)) (i : ℕ) (told : List B) (b : B) → i < length pairs → told ≡ map f (take i pairs) → b ≡ f (get_or pairs i no_pair) →

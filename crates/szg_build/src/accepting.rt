@@ -9,10 +9,10 @@ ghost use Rattle.szg_file.specs.Accepted.{AreBytes};
 ghost use Rattle.szg_build.specs.Building.{AreLens, IsRound, IsSymbolAt};
 ghost use Rattle.szg_build.specs.Pairing.{IsInPair, IsUsed, pairs_in, values_of};
 
-use crate::blocks::fit_one_byte;
 use crate::leaves::{MAX_SYMBOLS, Paired, count_different};
 use crate::proposing::Proposal;
 use std::alloc::{AllocError, Global};
+use szg_file::typed::bytes_fit;
 use szg_pairs::entry::{is_leaf, left, right};
 use szg_pairs::{Dict, DictFault};
 
@@ -184,7 +184,7 @@ fn fit_three_bytes(entries: &[[u8; 3]])
     ensures { AllByRecursion (AreBytes 3) entries.now }
 {
     for entry in entries {
-        fit_one_byte(entry);
+        bytes_fit(entry);
     }
 }
 

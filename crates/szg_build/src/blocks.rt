@@ -6,12 +6,12 @@ ghost use Rattle.szg_code.specs.Acceptance.{IsCode};
 ghost use Rattle.szg_code.specs.Bits.{bits_of_number};
 ghost use Rattle.szg_code.specs.Canonical.{IsWord};
 ghost use Rattle.szg_pairs.specs.Expansion.{expansion_of};
-ghost use Rattle.szg_file.specs.Accepted.{AreNumbers};
 ghost use Rattle.szg_build.specs.Building.{IsBlockOf, IsChosen, IsCut, IsFilling};
 
 use crate::bitbuf::WordBits;
 use std::alloc::{AllocError, Global};
 use szg_code::{Code, Word, word};
+use szg_file::typed::{bytes_fit, words_fit};
 use szg_pairs::Dict;
 
 /// The greatest number of values of a block.
@@ -138,16 +138,6 @@ fn add(
     Ok(())
 }
 
-/// For proofs alone: each `u16` fits two bytes. It does nothing.
-pub(crate) fn fit_two_bytes(numbers: &[u16])
-    ensures { AreNumbers 2 numbers.now }
-{}
-
-/// For proofs alone: each `u8` fits one byte. It does nothing.
-pub(crate) fn fit_one_byte(numbers: &[u8])
-    ensures { AreNumbers 1 numbers.now }
-{}
-
 /// Fills blocks with the words of symbols.
 pub(crate) fn fill_blocks(
     alloc: Global,
@@ -179,7 +169,7 @@ pub(crate) fn fill_blocks(
         packed,
         ..
     } = filling;
-    fit_two_bytes(&lengths);
-    fit_one_byte(&packed);
+    words_fit(&lengths);
+    bytes_fit(&packed);
     Ok(Cut { lengths, packed })
 }

@@ -1,28 +1,15 @@
 //! Copies the fields that a dump shares with its table.
 ghost use Rattle.std.specs.Prelude.{◌≡◌, ◌%◌, map, Some, option_map, IfOk};
-ghost use Rattle.szg_values.specs.Material.{IsMaterial};
 ghost use Rattle.szg_file.specs.File.{flags_of};
-ghost use Rattle.szg_file.specs.Held.{part_of, map_of, subtable_of};
+ghost use Rattle.szg_file.specs.Held.{part_of, map_of};
 ghost use Rattle.szg_file.specs.Values.{subtable_at};
 ghost use Rattle.szg_build.specs.Built.{plan_flags, subtables_in, value_lists};
 
 use crate::places::places;
 use std::alloc::{AllocError, Global};
-use szg_block::Sub;
+use szg_file::typed::table_fits;
 use szg_file::{Map, PartBytes, Table};
-use szg_values::{Kind, Material};
-
-/// Copies a material.
-pub(crate) fn copy_material(material: &Material) -> Material
-    ensures { result ≡ material.now }
-{
-    let _men = material.men();
-    let name = material.name();
-    let Ok(same) = Material::parse(name.as_str()) else {
-        unreachable!()
-    };
-    same
-}
+use szg_values::Kind;
 
 /// Copies a part.
 fn copy_part(alloc: Global, part: &PartBytes) -> Result<PartBytes, AllocError>
@@ -86,15 +73,6 @@ pub(crate) fn copy_maps(alloc: Global, maps: &[Option<Map>]) -> Result<Vec<Optio
     Ok(copies)
 }
 
-/// Returns the flags byte of a subtable.
-fn flags_byte(sub: &Sub) -> u8
-    ensures { result ≡ flags_of (subtable_of sub.now) }
-{
-    match sub {
-        Sub::Constant { flags, .. } | Sub::Pairs { flags, .. } => *flags,
-    }
-}
-
 /// Copies the flags 1, 2, 4, 8 and 16 of a DTZ table's parts. A WDL table has none.
 pub(crate) fn copy_flags(alloc: Global, table: &Table) -> Result<Vec<u8>, AllocError>
     ensures { IfOk result (λ flags. flags.items ≡ plan_flags table.now.contents) }
@@ -109,7 +87,7 @@ pub(crate) fn copy_flags(alloc: Global, table: &Table) -> Result<Vec<u8>, AllocE
 pub(crate) fn table_places(table: &Table) -> &'static [(u8, u8)]
     ensures { map Some (subtables_in table.now.contents) ≡ map (λ place. subtable_at table.now.contents place.0 place.1) result.now }
 {
-    let _fill = table.fill();
+    table_fits(table);
     places(table.material(), table.kind())
 }
 
@@ -117,13 +95,10 @@ pub(crate) fn table_places(table: &Table) -> &'static [(u8, u8)]
 fn copy_dtz_flags(alloc: Global, table: &Table) -> Result<Vec<u8>, AllocError>
     ensures { IfOk result (λ flags. flags.items ≡ map (λ subtable. flags_of subtable % 32) table.now.contents.subtables) }
 {
-    let _fill = table.fill();
+    let bytes = table.flags();
     let mut flags = Vec::new(alloc);
-    'places: for place in table_places(table) {
-        let Some(sub) = table.sub(place.0, place.1) else {
-            unreachable!()
-        };
-        flags.push(flags_byte(sub) % 32)?;
+    for byte in bytes.as_slice() {
+        flags.push(*byte % 32)?;
     }
     Ok(flags)
 }

@@ -3,7 +3,7 @@ ghost use Rattle.std.specs.Prelude.{◌≡◌};
 ghost use Rattle.szg_build.specs.declared.dump.DumpReadFault.TheVariants.{Memory};
 
 use crate::BuildFault;
-use crate::copies::{copy_flags, copy_maps, copy_material, copy_parts, copy_values};
+use crate::copies::{copy_flags, copy_maps, copy_parts, copy_values};
 use std::alloc::{AllocError, AllocFailed, Global};
 use szg_file::{Map, PartBytes, Table};
 use szg_values::{Kind, Material};
@@ -38,7 +38,7 @@ impl Dump {
         let maps = copy_maps(alloc, table.maps())?;
         let lists = copy_values(alloc, table)?;
         Ok(Dump {
-            material: copy_material(table.material()),
+            material: table.material().copy(),
             kind: table.kind(),
             parts,
             flags,

@@ -11,7 +11,6 @@ ghost use Rattle.szg_build.specs.Shown.{form_of};
 ghost use Rattle.szg_build.specs.Text.{dump_text};
 ghost use Rattle.szg_build.specs.declared.dumping.StreamFault.TheVariants.{Output};
 
-use crate::copies::copy_material;
 use crate::streaming::{begin_dump, end_dump};
 use std::alloc::Global;
 use szg_file::{Ahead, ReadFault, TableIndex, WriteFault, stream_values};
@@ -63,7 +62,7 @@ pub fn stream_dump<R: Input + Ahead, W: Output>(
     ensures may_fail { IsErrOf result StreamFault.Input → IsTrue (R.may_fail input.old) }
 {
     let mut sink = begin_dump(index, last, form, output)?;
-    let material = copy_material(index.material());
+    let material = index.material().copy();
     match stream_values(alloc, material, index.kind(), input, &mut sink, output) {
         Ok(told) => {
             if !is_told(&told, index, last) {

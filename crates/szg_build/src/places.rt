@@ -1,9 +1,8 @@
 //! The parts and sides of a table's subtables, in file order.
-ghost use Rattle.std.specs.Prelude.{◌≡◌, ◌≤◌, ◌<◌, [], ◌∷◌, length, All, if◌then◌else◌};
-ghost use Rattle.std.specs.List.{range_with_len};
-ghost use Rattle.szg_file.specs.Contents.{part_numbers, side_numbers};
+ghost use Rattle.std.specs.Prelude.{◌≡◌, ◌≤◌, ◌<◌, length, All};
 ghost use Rattle.szg_build.specs.Dump.{places_of};
 
+use szg_file::has_two_sides;
 use szg_values::{Kind, Material};
 
 /// Part and side of each subtable, for one part with one side. The constants below are for more sides and parts.
@@ -23,25 +22,6 @@ const EIGHT: &[(u8, u8)] = &[
     (3, 0),
     (3, 1),
 ];
-
-/// Returns the number of parts of a table: four with pawns, else one.
-pub(crate) fn part_count(material: &Material) -> u8
-    ensures numbers { part_numbers material.now ≡ range_with_len 0 result }
-    ensures few { result ≤ 4 }
-    ensures some { 0 < result }
-{
-    if material.has_pawns() { 4 } else { 1 }
-}
-
-/// Returns whether each part has two sides.
-fn has_two_sides(material: &Material, kind: Kind) -> bool
-    ensures { side_numbers material.now kind ≡ (if result then 0 ∷ 1 ∷ [] else 0 ∷ []) }
-{
-    match kind {
-        Kind::Wdl => !material.symmetric(),
-        Kind::Dtz => false,
-    }
-}
 
 /// Returns part and side of each subtable.
 pub(crate) fn places(material: &Material, kind: Kind) -> &'static [(u8, u8)]

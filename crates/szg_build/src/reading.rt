@@ -12,11 +12,10 @@ use crate::dump::DumpReadFault;
 use crate::incoming::Incoming;
 use crate::item::Item;
 use crate::lines::{read_number, read_part, read_run};
-use crate::places::part_count;
 use crate::refusing::{is_mapped, is_wide};
 use crate::saying::GREATEST_COUNT;
 use std::alloc::{AllocError, AllocFailed, Global};
-use szg_file::{Map, PartBytes};
+use szg_file::{Map, PartBytes, part_count};
 use szg_io::Input;
 use szg_values::Material;
 

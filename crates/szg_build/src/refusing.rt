@@ -7,9 +7,8 @@ ghost use Rattle.szg_build.specs.Plan.{different_values, fault_for, greatest_val
 ghost use Rattle.szg_build.specs.Shown.{plan_seen};
 
 use crate::leaves::count_different;
-use crate::places::part_count;
 use crate::{BuildFault, Plan};
-use szg_file::Map;
+use szg_file::{Map, part_count};
 use szg_values::Kind;
 
 /// The greatest number of rounds of a plan.

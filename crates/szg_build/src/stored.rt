@@ -6,6 +6,7 @@ ghost use Rattle.szg_build.specs.Stored.{shown_values};
 use crate::block_values::{BlockValues, blocks_from};
 use szg_block::Sub;
 use szg_file::Table;
+use szg_file::typed::table_fits;
 use szg_values::Kind;
 
 /// The values of a table's subtable.
@@ -37,8 +38,8 @@ pub fn stored_values(table: &Table, part: u8, side: u8) -> Option<StoredValues<'
     ensures { MatchOption result (subtable_at table.now.contents part side ≡ None)
         (λ stored. IsSomeAnd (subtable_at table.now.contents part side) (λ found. shown_values stored ≡ values_of table.now.contents.kind found)) }
 {
-    // a fact that decoding needs: the table passed every check
-    let _accepted = table.fill();
+    // for proofs alone: decoding needs that the table passed every check
+    table_fits(table);
     let size = table.size(part, side)?;
     let sub = table.sub(part, side)?;
     match sub {

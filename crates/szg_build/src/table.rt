@@ -2,7 +2,7 @@
 ghost use Rattle.std.specs.Prelude.{◌≡◌, ◌<◌, not, length, map, option_map, slice_index, Err, IfOk, IfErr, MatchOption};
 ghost use Rattle.std.specs.List.{AllByRecursion};
 ghost use Rattle.szg_values.specs.Material.{has_pawns, is_symmetric};
-ghost use Rattle.szg_file.specs.Accepted.{AreNumbers, AreBytes, IsAccepted};
+ghost use Rattle.szg_file.specs.Accepted.{AreNumbers, IsAccepted};
 ghost use Rattle.szg_file.specs.Assembled.{fields_shown};
 ghost use Rattle.szg_file.specs.Contents.{has_bit};
 ghost use Rattle.szg_file.specs.Held.{map_of, part_of, subtable_of};
@@ -14,7 +14,7 @@ ghost use Rattle.szg_build.specs.Tabling.{AreBuilt, IsBuildable, IsBuiltBare, Is
 
 use crate::blocks::pad;
 use crate::building::{Choice, Packing};
-use crate::copies::{copy_maps, copy_material, copy_parts};
+use crate::copies::{copy_maps, copy_parts};
 use crate::headers::bytes_beside;
 use crate::refusing::first_fault;
 use crate::subtables::build_sub;
@@ -22,29 +22,11 @@ use crate::watching::{Unwatched, Watcher};
 use crate::{BuildFault, Plan, SmallPlan};
 use std::alloc::{AllocError, Global};
 use szg_block::Sub;
+use szg_file::typed::{bytes_fit, end_bytes, words_fit};
 use szg_file::{Fields, Map, PartBytes, Table, subtable_sizes};
 use szg_values::Material;
 
 // ---- for proofs alone: what types ensure
-
-/// For proofs alone: bytes are below 256. It does nothing.
-pub(crate) fn bytes_fit(list: &[u8])
-    ensures { AreNumbers 1 list.now }
-{}
-
-/// For proofs alone: each `u16` fits two bytes. It does nothing.
-fn words_fit(list: &[u16])
-    ensures { AreNumbers 2 list.now }
-{}
-
-/// Returns the last sixteen bytes. For proofs: each is below 256.
-fn end_bytes(last: &[u8; 16]) -> [u8; 16]
-    ensures last { result ≡ last.now }
-    ensures bytes { AreBytes 16 last.now }
-{
-    bytes_fit(last);
-    *last
-}
 
 /// For proofs alone: the order bytes and man bytes of parts are below 256.
 pub(crate) fn parts_fit(parts: &[PartBytes])
@@ -157,11 +139,12 @@ fn build_fields<V: Watcher>(
     let subs = build_subs(alloc, plan, choice, lists, watcher)?;
     let parts = copy_parts(alloc, &plan.parts)?;
     let maps = copy_maps(alloc, &plan.maps)?;
-    let last = end_bytes(&plan.last);
+    let byte4 = byte4_of(&plan.material);
+    let last = end_bytes(byte4, &plan.last);
     Ok(Fields {
-        material: copy_material(&plan.material),
+        material: plan.material.copy(),
         kind: plan.kind,
-        byte4: byte4_of(&plan.material),
+        byte4,
         parts,
         subs,
         maps,

@@ -4,9 +4,9 @@ ghost use Rattle.szg_build.specs.Fronts.{IsWord};
 ghost use Rattle.hex.specs.Hex.{encode_lower};
 ghost use Rattle.szg_build.specs.Grammar.{bytes_in, number_in};
 
-use crate::table::bytes_fit;
 use arrayvec::ArrayVec;
 use itoa::Buffer;
+use szg_file::typed::bytes_fit;
 
 // ---- cutting
 

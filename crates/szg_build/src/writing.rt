@@ -15,10 +15,10 @@ ghost use Rattle.szg_build.specs.Shown.{dump_seen, form_of, sub_in, sub_count, s
 use crate::dump::Dump;
 use crate::item::Item;
 use crate::outgoing::{Outgoing, flush, put};
-use crate::places::{part_count, places};
+use crate::places::places;
 use arrayvec::ArrayVec;
 use itoa::Buffer;
-use szg_file::{Map, PartBytes, WriteFault};
+use szg_file::{Map, PartBytes, WriteFault, part_count};
 use szg_io::Output;
 use szg_values::{Kind, Material};
 

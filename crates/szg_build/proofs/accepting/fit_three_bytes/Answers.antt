@@ -7,7 +7,7 @@ use Rattle.szg_build.proofs.accepting.fit_three_bytes.Goals as goal
 
 pub loop-entry-preserved : goal.loop-entry-preserved
 loop-entry-preserved c =
-    triples_more c.args.entries.now c.loop-entry.entry-index c.loop-entry-test.true (c.told-entries c.loop-entry.entry-index c.loop-entry-test.true) c.fit_one_byte.ensures c.loop-entry.invariant
+    triples_more c.args.entries.now c.loop-entry.entry-index c.loop-entry-test.true (c.told-entries c.loop-entry.entry-index c.loop-entry-test.true) c.bytes_fit.ensures c.loop-entry.invariant
 
 pub returns : goal.returns
 returns c = subst (λ (z : List (List ℕ)). AllByRecursion (AreBytes 3) z) (take_all c.loop-entry.entry-index c.args.entries.now (omega arith)) c.loop-entry.invariant

@@ -20,5 +20,5 @@ returns c =
     let block = c.in_ok-close.ensures.block in
     filling_done c.args.code.now c.args.dict.now c.args.block_bits c.args.symbols.now f.lengths.items f.packed.items f.buffer f.values block.0 c.close.new.filling.lengths.items c.close.new.filling.packed.items
     filling block.1 some c.requires.few c.in_ok-close.ensures.lengths block.2
-    (subst (λ (z : List ℕ). AreNumbers 1 z) c.deref-2.ensures.value c.fit_one_byte.ensures)
-    (subst (λ (z : List ℕ). AreNumbers 2 z) c.deref.ensures.value c.fit_two_bytes.ensures)
+    (subst (λ (z : List ℕ). AreNumbers 1 z) c.deref-2.ensures.value c.bytes_fit.ensures)
+    (subst (λ (z : List ℕ). AreNumbers 2 z) c.deref.ensures.value c.words_fit.ensures)

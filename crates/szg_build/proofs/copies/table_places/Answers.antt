@@ -8,4 +8,4 @@ pub returns : goal.returns
 returns c =
     let t = c.args.table.now.contents in
     let same = c.places.ensures.places ∙ ap (λ m. places_of m c.kind.result) c.material.ensures ∙ ap (λ k. places_of t.material k) c.kind.ensures in
-    places_stand t c.args.table.now.filled c.fill-fill.ensures.accepted ∙ ap (map (λ (place : ℕ × ℕ). subtable_at t place.0 place.1)) (sym same)
+    places_stand t c.args.table.now.filled c.table_fits.ensures ∙ ap (map (λ (place : ℕ × ℕ). subtable_at t place.0 place.1)) (sym same)

@@ -14,9 +14,9 @@ pub returns-clause-dumped : goal.returns-clause-dumped
 returns-clause-dumped g c =
     let x : Index = c.args.index.now in
     let sink : DumpSink = c.in_ok-sink.sink in
-    let material : c.copy_material-material.result ≡ x.material = c.copy_material-material.ensures ∙ c.material.ensures in
+    let material : c.copy-material.result ≡ x.material = c.copy-material.ensures ∙ c.material.ensures in
     let kind : c.kind.result ≡ x.kind = c.kind.ensures in
-    let read = table_read g.R.Input all_wanted (λ s out values s' out'. Goes g.W.Output values s out s' out') c.copy_material-material.result c.kind.result c.args.input.now c.stream_values.new.input sink c.begin_dump.new.output c.stream_values.new.sink c.stream_values.new.out c.in-Ok.told c.in-Ok.ensures.streamed in
+    let read = table_read g.R.Input all_wanted (λ s out values s' out'. Goes g.W.Output values s out s' out') c.copy-material.result c.kind.result c.args.input.now c.stream_values.new.input sink c.begin_dump.new.output c.stream_values.new.sink c.stream_values.new.out c.in-Ok.told c.in-Ok.ensures.streamed in
     let t = read.table in
     let yes : c.is_told.result ≡ true = c.if-not-is_told.false in
     let is : x ≡ index_of t.contents =

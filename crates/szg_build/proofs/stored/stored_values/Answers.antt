@@ -6,11 +6,11 @@ use Rattle.szg_build.proofs.stored.stored_values.Goals as goal
 
 pub blocks_from-requires-clause-shaped : goal.blocks_from-requires-clause-shaped
 blocks_from-requires-clause-shaped c =
-    (sound_there c.args.table.now.contents c.args.table.now.filled c.args.part c.args.side c.in_ok-size.size c.in_ok-sub.sub.now c.fill-accepted.ensures.accepted c.in_ok-size.ensures c.in_ok-sub.ensures).0
+    (sound_there c.args.table.now.contents c.args.table.now.filled c.args.part c.args.side c.in_ok-size.size c.in_ok-sub.sub.now c.table_fits.ensures c.in_ok-size.ensures c.in_ok-sub.ensures).0
 
 pub blocks_from-requires-clause-sound : goal.blocks_from-requires-clause-sound
 blocks_from-requires-clause-sound c =
-    (sound_there c.args.table.now.contents c.args.table.now.filled c.args.part c.args.side c.in_ok-size.size c.in_ok-sub.sub.now c.fill-accepted.ensures.accepted c.in_ok-size.ensures c.in_ok-sub.ensures).1
+    (sound_there c.args.table.now.contents c.args.table.now.filled c.args.part c.args.side c.in_ok-size.size c.in_ok-sub.sub.now c.table_fits.ensures c.in_ok-size.ensures c.in_ok-sub.ensures).1
 
 pub returns-in-Pairs : goal.returns-in-Pairs
 returns-in-Pairs c =

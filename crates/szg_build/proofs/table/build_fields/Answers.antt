@@ -12,7 +12,7 @@ returns g c =
     let plan = plan_seen c.args.plan.now in
     let lists = map (λ list. list.now) c.args.lists.now in
     let subs = map subtable_of c.in_ok-subs.subs.items in
-    table_copied c.args.choice plan lists c.byte4_of.result subs c.copy_material.result (map part_of c.in_ok-parts.parts.items) (map (option_map map_of) c.in_ok-maps.maps.items) c.end_bytes-last.result
-    c.copy_material.ensures (c.in_ok-parts.ensures ∙ ap (map part_of) c.deref-2.ensures.value) (c.in_ok-maps.ensures ∙ ap (map (option_map map_of)) c.deref-3.ensures.value) c.end_bytes-last.ensures.last
-    (table_stands c.args.choice plan c.byte4_of.result lists subs (omega (arith, c.byte4_of.type_inv)) c.byte4_of.ensures.split c.byte4_of.ensures.pawns c.byte4_of.ensures.rule c.end_bytes-last.ensures.bytes
+    table_copied c.args.choice plan lists c.byte4_of-byte4.result subs c.copy.result (map part_of c.in_ok-parts.parts.items) (map (option_map map_of) c.in_ok-maps.maps.items) c.end_bytes-last.result
+    c.copy.ensures (c.in_ok-parts.ensures ∙ ap (map part_of) c.deref-2.ensures.value) (c.in_ok-maps.ensures ∙ ap (map (option_map map_of)) c.deref-3.ensures.value) c.end_bytes-last.ensures.last
+    (table_stands c.args.choice plan c.byte4_of-byte4.result lists subs (omega (arith, c.byte4_of-byte4.type_inv)) c.byte4_of-byte4.ensures.split c.byte4_of-byte4.ensures.pawns c.byte4_of-byte4.ensures.rule c.end_bytes-last.ensures.bytes
     (subst (λ z. AllByRecursion IsOfItems (map (option_map map_of) z)) c.deref.ensures.value c.maps_fit.ensures) c.requires.stands c.in_ok-subs.ensures)

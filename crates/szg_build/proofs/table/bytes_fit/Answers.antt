@@ -1,5 +1,0 @@
-use Rattle.szg_file.proofs.Bytes.{are_bytes}
-use Rattle.szg_build.proofs.table.bytes_fit.Goals as goal
-
-pub returns : goal.returns
-returns c = are_bytes c.args.list.now c.type_inv.list

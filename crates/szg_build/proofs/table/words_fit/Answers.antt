@@ -1,5 +1,0 @@
-use Rattle.szg_file.proofs.Bytes.{are_words}
-use Rattle.szg_build.proofs.table.words_fit.Goals as goal
-
-pub returns : goal.returns
-returns c = are_words c.args.list.now c.type_inv.list
