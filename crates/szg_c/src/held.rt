@@ -13,6 +13,7 @@ use crate::shared::Shared;
 use crate::status::{CLOSED, DONE, MEMORY, RANGE};
 use std::alloc::Global;
 use szg_file::Table;
+use szg_file::typed::table_fits;
 use szg_place::PreparedTable;
 use szg_values::Kind;
 
@@ -160,9 +161,8 @@ pub fn values_in(alloc: Global, table: &Table, part: u8, side: u8, values: &mut 
     ensures other_length { IfSome (subtable_at table.now.contents part side) (λ found. length values.old ≢ found.0.size → result ≡ 4) }
     ensures stays { (result ≡ 0 → ⊥) → values.new ≡ values.old }
 {
-    // For proofs: its padding shows that this is an accepted table, so the number of values is the number of
-    // positions.
-    let _fill = table.fill();
+    // for proofs alone: in an accepted table the number of values is the number of positions
+    table_fits(table);
     let Some(size) = table.size(part, side) else {
         return RANGE;
     };
