@@ -1,13 +1,10 @@
 -- The line of a refusal.
 use Rattle.std.specs.Prelude.{ℕ, List, [], ◌∷◌, ◌++◌, codes, decimal}
-use Rattle.szg_values.specs.declared.NameFault.{NameFault}
-use Rattle.szg_values.specs.declared.NameFault.TheVariants as names
 use Rattle.szg_values.specs.declared.PlacementFault.{PlacementFault}
 use Rattle.szg_values.specs.declared.PlacementFault.TheVariants as placements
 use Rattle.szg_file.specs.declared.fault.MapFault.{MapFault}
 use Rattle.szg_file.specs.declared.fault.MapFault.TheVariants as maps
-use Rattle.szg_file.specs.declared.fault.Reason.{Reason}
-use Rattle.szg_file.specs.declared.fault.Reason.TheVariants as reasons
+use Rattle.szg_named.specs.Lines.{name_word, reason_word}
 use Rattle.szg_place.specs.declared.PlaceFault.{PlaceFault}
 use Rattle.szg_place.specs.declared.PlaceFault.TheVariants as places
 use Rattle.szg_build.specs.declared.BuildFault.{BuildFault}
@@ -17,37 +14,10 @@ use Rattle.szg_build.specs.declared.dump.DumpFault.TheVariants as dumps
 use Rattle.szg_tool.specs.declared.refusal.Refusal.{Refusal}
 use Rattle.szg_tool.specs.declared.refusal.Refusal.TheVariants as why
 
-abbrev pub name_word : NameFault → List ℕ
-name_word names.Letter = codes "Letter"
-name_word names.King = codes "King"
-name_word names.Order = codes "Order"
-name_word names.Sides = codes "Sides"
-name_word names.Men = codes "Men"
-
 abbrev pub placement_word : PlacementFault → List ℕ
 placement_word placements.Men = codes "Men"
 placement_word placements.SameSquare = codes "SameSquare"
 placement_word placements.PawnRank = codes "PawnRank"
-
-abbrev pub reason_word : Reason → List ℕ
-reason_word reasons.Truncated = codes "Truncated"
-reason_word reasons.Magic = codes "Magic"
-reason_word reasons.SplitBit = codes "SplitBit"
-reason_word reasons.PawnBit = codes "PawnBit"
-reason_word reasons.Pieces = codes "Pieces"
-reason_word reasons.PawnsFirst = codes "PawnsFirst"
-reason_word reasons.OrderPlace = codes "OrderPlace"
-reason_word reasons.BlockBits = codes "BlockBits"
-reason_word reasons.SpanBits = codes "SpanBits"
-reason_word reasons.CodeLengths = codes "CodeLengths"
-reason_word reasons.LowestOrder = codes "LowestOrder"
-reason_word reasons.TooFull = codes "TooFull"
-reason_word reasons.Child = codes "Child"
-reason_word reasons.Cycle = codes "Cycle"
-reason_word reasons.LongSymbol = codes "LongSymbol"
-reason_word reasons.ShortTotal = codes "ShortTotal"
-reason_word reasons.SparseEntry = codes "SparseEntry"
-reason_word reasons.Word = codes "Word"
 
 abbrev pub dump_word : DumpFault → List ℕ
 dump_word dumps.Version = codes "Version"

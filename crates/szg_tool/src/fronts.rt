@@ -5,7 +5,7 @@ ghost use Rattle.szg_file.specs.Index.{slot_in};
 ghost use Rattle.szg_file.specs.Unread.{front_in};
 ghost use Rattle.szg_place.specs.Front.{as_number};
 ghost use Rattle.szg_place.specs.Spots.{place_fault, spot_of};
-ghost use Rattle.szg_place.specs.Tables.{class_of, numbering_in};
+ghost use Rattle.szg_place.specs.Tables.{numbering_in};
 ghost use Rattle.szg_tool.specs.Answers.{number_of_class, spot_line};
 ghost use Rattle.szg_tool.specs.Fronts.{AnswersIn, IsBadBlockAt, IsBlockRead, IsDecodedAt, IsFetchedIn, IsFrontTaken, IsLookUp, IsLookUpAnswer, IsLookUpRefused, IsMapRefusal, IsMeaningLine, IsUnfetched, IsUnhad, IsUnopened, MeetsIn};
 ghost use Rattle.szg_tool.specs.Refusals.{index_refusal, place_refusal};
@@ -20,7 +20,7 @@ use std::io::ErrorKind;
 use szg_file::{FetchFault, FrontTable, MapFault, ReadFault, TableIndex, Wanted, read_front_table};
 use szg_files::{FileFault, FileSystem, RangeFault, Reasons, read_range};
 use szg_io::Input;
-use szg_place::{Spot, index_in};
+use szg_place::{Spot, class_of, index_in};
 use szg_values::{Kind, Material, Placement};
 
 /// A table opened by its front.
@@ -167,17 +167,6 @@ fn spot_asked(front: &FrontTable, part: u8, side: u8, index: u64) -> Result<Spot
         Ok(Spot { part, side, index })
     } else {
         Err(Refusal::Index)
-    }
-}
-
-/// The class of a WDL value.
-fn class_of(value: u16) -> Option<i8>
-    ensures { result ≡ class_of value }
-{
-    if value < 5 {
-        Some(value as i8 - 2)
-    } else {
-        None
     }
 }
 

@@ -1,13 +1,14 @@
 //! The line of a refusal.
 ghost use Rattle.std.specs.Prelude.{◌≡◌, IfOk, string_bytes};
-ghost use Rattle.szg_tool.specs.RefusalLines.{block_line, build_word, dump_word, map_word, name_word, numbered_line, place_word, placement_word, reason_word, refusal_line, worded_line};
+ghost use Rattle.szg_tool.specs.RefusalLines.{block_line, build_word, dump_word, map_word, numbered_line, place_word, placement_word, refusal_line, worded_line};
 
 use crate::refusal::Refusal;
 use std::alloc::{AllocError, Global};
 use szg_build::{BuildFault, DumpFault};
-use szg_file::{MapFault, Reason};
+use szg_file::MapFault;
+use szg_named::{name_word, reason_word};
 use szg_place::PlaceFault;
-use szg_values::{NameFault, PlacementFault};
+use szg_values::PlacementFault;
 
 /// Returns the line of a refusal.
 pub fn refusal_line(alloc: Global, refusal: Refusal) -> Result<String, AllocError>
@@ -49,19 +50,6 @@ fn block_line(alloc: Global, number: u32, offset: u64) -> Result<String, AllocEr
     format!(in alloc; "refused block {number} at {offset}\n")
 }
 
-/// Why a name is none.
-fn name_word(fault: NameFault) -> &'static str
-    ensures { result.now ≡ name_word fault }
-{
-    match fault {
-        NameFault::Letter => "Letter",
-        NameFault::King => "King",
-        NameFault::Order => "Order",
-        NameFault::Sides => "Sides",
-        NameFault::Men => "Men",
-    }
-}
-
 /// Why men are no placement.
 fn placement_word(fault: PlacementFault) -> &'static str
     ensures { result.now ≡ placement_word fault }
@@ -70,32 +58,6 @@ fn placement_word(fault: PlacementFault) -> &'static str
         PlacementFault::Men => "Men",
         PlacementFault::SameSquare => "SameSquare",
         PlacementFault::PawnRank => "PawnRank",
-    }
-}
-
-/// The check of a file that fails.
-fn reason_word(reason: Reason) -> &'static str
-    ensures { result.now ≡ reason_word reason }
-{
-    match reason {
-        Reason::Truncated => "Truncated",
-        Reason::Magic => "Magic",
-        Reason::SplitBit => "SplitBit",
-        Reason::PawnBit => "PawnBit",
-        Reason::Pieces => "Pieces",
-        Reason::PawnsFirst => "PawnsFirst",
-        Reason::OrderPlace => "OrderPlace",
-        Reason::BlockBits => "BlockBits",
-        Reason::SpanBits => "SpanBits",
-        Reason::CodeLengths => "CodeLengths",
-        Reason::LowestOrder => "LowestOrder",
-        Reason::TooFull => "TooFull",
-        Reason::Child => "Child",
-        Reason::Cycle => "Cycle",
-        Reason::LongSymbol => "LongSymbol",
-        Reason::ShortTotal => "ShortTotal",
-        Reason::SparseEntry => "SparseEntry",
-        Reason::Word => "Word",
     }
 }
 
