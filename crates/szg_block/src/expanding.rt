@@ -11,7 +11,7 @@ use crate::blocks::{Blocks, SourceFault, Whole, blocks_in};
 use crate::lengths::needed_from;
 use crate::packed::block_of;
 use crate::paged::Paged;
-use crate::probing::{Steps, look_up};
+use crate::probing::{Steps, find_value, look_up};
 use crate::source::Source;
 use crate::words::push_values;
 use std::alloc::{AllocError, Global};
@@ -78,8 +78,8 @@ impl<'a> Sound<'a, Whole<'a>> {
         ensures { slice_get (values_shown self.now) i ≡ Some result }
     {
         let mut blocks = self.blocks;
-        match look_up(self.sub, self.size, self.constant, i, &mut blocks) {
-            Ok((value, _)) => value,
+        match find_value(self.sub, self.size, self.constant, i, &mut blocks) {
+            Ok(value) => value,
             Err(_) => unreachable!(),
         }
     }

@@ -11,7 +11,7 @@ ghost use Rattle.szg_code.specs.Spelling.{BeginsWithNoWord};
 ghost use Rattle.szg_block.specs.Spelled.{AreSymbols, values_of, values_spelled, word_at, pairs_above};
 
 use std::alloc::AllocError;
-use szg_code::{Bits, Code, NextWords, next, next_words};
+use szg_code::{Bits, Code, NextWords, WordReader, next, next_word, next_words};
 use szg_pairs::Dict;
 use szg_pairs::entry::{is_leaf, left, right};
 
@@ -172,6 +172,43 @@ pub fn find_verified(code: &Code, dict: &Dict, block: &[u8], index: u64, needed:
         return None;
     }
     Some(value_in(dict, reached.words, reached.index as u16))
+}
+
+/// Returns the value at `index` in a block whose own bits spell more than `index` values.
+pub fn value_at(code: &Code, dict: &Dict, block: &[u8], index: u64) -> u16
+    requires accepted { IsCode code.now }
+    requires symbols { code.now.symbols ≡ length dict.now }
+    requires size { length block.now ≤ 2 ^ 60 }
+    requires within { index < length (values_spelled code.now dict.now (bits block.now)) }
+    ensures { slice_get (values_spelled code.now dict.now (bits block.now)) index ≡ Some result }
+{
+    if code.has_mostly_least_words() {
+        return value_by_words(code, dict, WordReader::new(block), index);
+    }
+    let Some(reached) = reach(code, dict, Bits::new(block), index) else {
+        unreachable!()
+    };
+    value_in(dict, reached.words, reached.index as u16)
+}
+
+/// Returns the value at `index` of bits that spell more than `index` values, word by word.
+#[inline(always)]
+fn value_by_words(code: &Code, dict: &Dict, left: WordReader, index: u64) -> u16
+    requires accepted { IsCode code.now }
+    requires symbols { code.now.symbols ≡ length dict.now }
+    requires within { index < length (values_spelled code.now dict.now left.left) }
+    ensures { slice_get (values_spelled code.now dict.now left.entry.left) index ≡ Some result }
+{
+    let mut words = left;
+    let mut ahead = index;
+    'words: loop {
+        let symbol = next_word(code, &mut words);
+        let count = u64::from(dict.len(symbol));
+        if ahead < count {
+            return dict.value_at(symbol, ahead as u16);
+        }
+        ahead -= count;
+    }
 }
 
 /// A value that was found in a block, and the work done for it.

@@ -9,17 +9,18 @@ ghost use Rattle.szg_c.specs.Places.{IsSpot};
 use crate::fronts::{BadBlock, fetch_status};
 use crate::handle::{put, take};
 use crate::held_front::HeldFront;
-use crate::men::{CodedMan, placement_or_fault, sound_placement};
+use crate::men::{CodedMan, placement_or_fault, sound_men, standing_key};
 use crate::places::{
     FoundSpot, is_class, map_status, number_or_status, place_status, spot_or_status,
 };
 use crate::status::{CLOSED, DONE, NO_CLASS, RANGE};
+use arrayvec::ArrayVec;
 use std::alloc::Global;
 use szg_file::{FrontTable, TableIndex};
 use szg_place::{
-    FrontProbeFault, ProbeFault, Spot, index_in, probe_dtz_front_in, probe_wdl_front_in,
+    FrontProbeFault, ProbeFault, Spot, index_in_men, probe_dtz_front_in_men, probe_wdl_front_in_men,
 };
-use szg_values::{Kind, Placement};
+use szg_values::{Kind, PlacedMen};
 
 /// The part, side and index of these men with this mover.
 ///
@@ -56,10 +57,14 @@ pub extern "C" fn szg_front_index(
 fn spot_in(table: &FrontTable, men: &[CodedMan], mover: u8) -> Result<Spot, u32>
     ensures { result ≡ front_spot table.now.index (board_of men.now mover) }
 {
-    match sound_placement(men, mover) {
-        Some(placement) => spot_of(table.index(), &placement),
-        None => spot_or_fault(table.index(), men, mover),
-    }
+    let mut placed_men = ArrayVec::new();
+    let Some(key) = standing_key(men, mover, &mut placed_men) else {
+        return spot_or_fault(table.index(), men, mover);
+    };
+    let Some(placement) = sound_men(men, mover, &placed_men, key) else {
+        return spot_or_fault(table.index(), men, mover);
+    };
+    spot_of(table.index(), &placement)
 }
 
 /// The same, by one check of the men after the other.
@@ -68,16 +73,16 @@ fn spot_or_fault(index: &TableIndex, men: &[CodedMan], mover: u8) -> Result<Spot
     ensures { result ≡ front_spot index.now (board_of men.now mover) }
 {
     match placement_or_fault(men, mover) {
-        Ok(placement) => spot_of(index, &placement),
+        Ok(placement) => spot_of(index, &PlacedMen::of(&placement)),
         Err(status) => Err(status),
     }
 }
 
 #[inline(always)]
-fn spot_of(index: &TableIndex, placement: &Placement) -> Result<Spot, u32>
+fn spot_of(index: &TableIndex, placement: &PlacedMen<'_>) -> Result<Spot, u32>
     ensures { result ≡ front_spot index.now (Ok placement.now) }
 {
-    spot_or_status(index_in(index, placement))
+    spot_or_status(index_in_men(index, placement))
 }
 
 /// The number of a DTZ value of a part in a class (2 win, 1 cursed win, -1 blessed loss, -2 loss).
@@ -166,10 +171,14 @@ fn outcome_in(
     ensures outcome_stays { (result ≡ 0 → ⊥) → outcome.new ≡ outcome.old }
     ensures bad_stays { (result ≡ 18 → ⊥) → bad.new ≡ bad.old }
 {
-    match sound_placement(men, mover) {
-        Some(placement) => outcome_of(table, bytes, &placement, class, outcome, bad),
-        None => outcome_or_fault(table, bytes, men, mover, class, outcome, bad),
-    }
+    let mut placed_men = ArrayVec::new();
+    let Some(key) = standing_key(men, mover, &mut placed_men) else {
+        return outcome_or_fault(table, bytes, men, mover, class, outcome, bad);
+    };
+    let Some(placement) = sound_men(men, mover, &placed_men, key) else {
+        return outcome_or_fault(table, bytes, men, mover, class, outcome, bad);
+    };
+    outcome_of(table, bytes, &placement, class, outcome, bad)
 }
 
 /// The same, by one check of the men after the other.
@@ -188,7 +197,10 @@ fn outcome_or_fault(
     ensures bad_stays { (result ≡ 18 → ⊥) → bad.new ≡ bad.old }
 {
     match placement_or_fault(men, mover) {
-        Ok(placement) => outcome_of(table, bytes, &placement, class, outcome, bad),
+        Ok(placement) => {
+            let men = PlacedMen::of(&placement);
+            outcome_of(table, bytes, &men, class, outcome, bad)
+        }
         // a status of men is not 0 and not 18
         Err(status) => status,
     }
@@ -197,7 +209,7 @@ fn outcome_or_fault(
 fn outcome_of(
     table: &FrontTable,
     bytes: &[u8],
-    placement: &Placement,
+    placement: &PlacedMen<'_>,
     class: i8,
     outcome: &mut i64,
     bad: &mut BadBlock,
@@ -207,13 +219,17 @@ fn outcome_of(
     ensures bad_stays { (result ≡ 18 → ⊥) → bad.new ≡ bad.old }
 {
     match table.index().kind() {
-        Kind::Wdl => class_told(probe_wdl_front_in(table, bytes, placement), outcome, bad),
+        Kind::Wdl => class_told(
+            probe_wdl_front_in_men(table, bytes, placement),
+            outcome,
+            bad,
+        ),
         Kind::Dtz => {
             if !is_class(class) {
                 return RANGE;
             }
             number_told(
-                probe_dtz_front_in(table, bytes, placement, class),
+                probe_dtz_front_in_men(table, bytes, placement, class),
                 outcome,
                 bad,
             )

@@ -23,18 +23,6 @@ pub struct CodedMan {
     pub square: u8,
 }
 
-/// Returns the placement of these men with this side to move (White 0, Black 1), by a single pass over the men. None if
-/// there is an error: then `placement_or_fault` returns it. A placement is moved as seldom as can be, since that copies its
-/// list.
-#[inline(always)]
-pub fn sound_placement(men: &[CodedMan], mover: u8) -> Option<Placement>
-    ensures { IfSome result (λ placement. board_of men.now mover ≡ Ok placement) }
-{
-    let mut placed_men = ArrayVec::new();
-    let key = standing_key(men, mover, &mut placed_men)?;
-    Placement::of_standing(placed_men, color_of(mover), key)
-}
-
 /// Puts the men on their squares, into an empty list; returns their key. None if there is an error that a single man or two
 /// men show, or the side to move is no number of a colour: then `placement_or_fault` returns it.
 #[inline(always)]

@@ -7,7 +7,7 @@ ghost use Rattle.szg_c.specs.Telling.{class_or_status, distance_or_status, spot_
 
 use crate::handle::{put, take};
 use crate::held_table::HeldTable;
-use crate::men::{CodedMan, placement_or_fault, sound_men, sound_placement, standing_key};
+use crate::men::{CodedMan, placement_or_fault, sound_men, standing_key};
 use crate::status::{
     CLOSED, DONE, DRAW, IRREGULAR, KINGS_TOUCH, NO_CLASS, OTHER_MATERIAL, OUTSIDE_MAP, RANGE,
     WRONG_SIDE,
@@ -16,7 +16,7 @@ use arrayvec::ArrayVec;
 use std::alloc::Global;
 use szg_file::MapFault;
 use szg_place::{PlaceFault, PreparedTable, ProbeFault, Spot};
-use szg_values::{Kind, PlacedMen, Placement};
+use szg_values::{Kind, PlacedMen};
 
 /// The location of a placement in a table.
 #[repr(C)]
@@ -136,9 +136,61 @@ pub extern "C" fn szg_probe(
     let Some(held) = take(table, alloc) else {
         return CLOSED;
     };
-    let told = outcome_in(held.value(), men, mover, class);
+    let status = write_outcome(held.value(), men, mover, class, outcome);
     put(table, held);
-    match told {
+    status
+}
+
+/// Writes the class or the distance of men in a table; returns the status.
+#[inline(always)]
+fn write_outcome(
+    table: &PreparedTable,
+    men: &[CodedMan],
+    mover: u8,
+    class: i8,
+    outcome: &mut i64,
+) -> u32
+    ensures { MatchResult (outcome_told table.now.contents class (board_of men.now mover)) (λ n. (result ≡ 0) × (outcome.new ≡ n)) (λ status. (result ≡ status) × (outcome.new ≡ outcome.old)) }
+{
+    let mut placed_men = ArrayVec::new();
+    let Some(key) = standing_key(men, mover, &mut placed_men) else {
+        return write_outcome_or_fault(table, men, mover, class, outcome);
+    };
+    let Some(placement) = sound_men(men, mover, &placed_men, key) else {
+        return write_outcome_or_fault(table, men, mover, class, outcome);
+    };
+    write_outcome_of(table, &placement, class, outcome)
+}
+
+/// The same, by one check of the men after the other.
+#[cold]
+#[inline(never)]
+fn write_outcome_or_fault(
+    table: &PreparedTable,
+    men: &[CodedMan],
+    mover: u8,
+    class: i8,
+    outcome: &mut i64,
+) -> u32
+    ensures { MatchResult (outcome_told table.now.contents class (board_of men.now mover)) (λ n. (result ≡ 0) × (outcome.new ≡ n)) (λ status. (result ≡ status) × (outcome.new ≡ outcome.old)) }
+{
+    match placement_or_fault(men, mover) {
+        Ok(placement) => write_outcome_of(table, &PlacedMen::of(&placement), class, outcome),
+        Err(status) => status,
+    }
+}
+
+/// Writes the class or the distance of a placement in a table; returns the status.
+#[inline(always)]
+fn write_outcome_of(
+    table: &PreparedTable,
+    placement: &PlacedMen<'_>,
+    class: i8,
+    outcome: &mut i64,
+) -> u32
+    ensures { MatchResult (outcome_told table.now.contents class (Ok placement.now)) (λ n. (result ≡ 0) × (outcome.new ≡ n)) (λ status. (result ≡ status) × (outcome.new ≡ outcome.old)) }
+{
+    match outcome_of(table, placement, class) {
         Ok(number) => {
             *outcome = number;
             DONE
@@ -147,34 +199,8 @@ pub extern "C" fn szg_probe(
     }
 }
 
-/// Returns the class or the distance of men in a table. Errors: a status.
-fn outcome_in(table: &PreparedTable, men: &[CodedMan], mover: u8, class: i8) -> Result<i64, u32>
-    ensures { result ≡ outcome_told table.now.contents class (board_of men.now mover) }
-{
-    match sound_placement(men, mover) {
-        Some(placement) => outcome_of(table, &placement, class),
-        None => outcome_or_fault(table, men, mover, class),
-    }
-}
-
-/// The same, by one check of the men after the other.
-#[cold]
-#[inline(never)]
-fn outcome_or_fault(
-    table: &PreparedTable,
-    men: &[CodedMan],
-    mover: u8,
-    class: i8,
-) -> Result<i64, u32>
-    ensures { result ≡ outcome_told table.now.contents class (board_of men.now mover) }
-{
-    match placement_or_fault(men, mover) {
-        Ok(placement) => outcome_of(table, &placement, class),
-        Err(status) => Err(status),
-    }
-}
-
-fn outcome_of(table: &PreparedTable, placement: &Placement, class: i8) -> Result<i64, u32>
+#[inline(always)]
+fn outcome_of(table: &PreparedTable, placement: &PlacedMen<'_>, class: i8) -> Result<i64, u32>
     ensures { result ≡ outcome_of table.now.contents.kind table.now.contents class placement.now }
 {
     match table.table().kind() {
@@ -184,11 +210,12 @@ fn outcome_of(table: &PreparedTable, placement: &Placement, class: i8) -> Result
 }
 
 /// Returns the class of a placement in a WDL table.
-fn class_of(table: &PreparedTable, placement: &Placement) -> Result<i64, u32>
+#[inline(always)]
+fn class_of(table: &PreparedTable, placement: &PlacedMen<'_>) -> Result<i64, u32>
     requires { table.now.contents.kind ≡ Kind.Wdl }
     ensures { result ≡ outcome_of Kind.Wdl table.now.contents (pos 0) placement.now }
 {
-    class_or_status(table.probe_wdl(placement))
+    class_or_status(table.probe_wdl_men(placement))
 }
 
 fn class_or_status(told: Result<Option<i8>, PlaceFault>) -> Result<i64, u32>
@@ -202,14 +229,15 @@ fn class_or_status(told: Result<Option<i8>, PlaceFault>) -> Result<i64, u32>
 }
 
 /// Returns the distance of a placement in a class, in a DTZ table.
-fn distance_of(table: &PreparedTable, placement: &Placement, class: i8) -> Result<i64, u32>
+#[inline(always)]
+fn distance_of(table: &PreparedTable, placement: &PlacedMen<'_>, class: i8) -> Result<i64, u32>
     requires { table.now.contents.kind ≡ Kind.Dtz }
     ensures { result ≡ outcome_of Kind.Dtz table.now.contents class placement.now }
 {
     if !is_class(class) {
         return Err(RANGE);
     }
-    distance_or_status(table.probe_dtz(placement, class))
+    distance_or_status(table.probe_dtz_men(placement, class))
 }
 
 fn distance_or_status(told: Result<u32, ProbeFault>) -> Result<i64, u32>

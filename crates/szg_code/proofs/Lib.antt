@@ -15,3 +15,4 @@ pub mod ByteBits
 pub mod Prefixes
 pub mod Buffers
 pub mod TwoWords
+pub mod FirstWords

@@ -10,7 +10,7 @@ use Rattle.szg_code.specs.Bits.{bits, number}
 use Rattle.szg_code.specs.Canonical.{CanonicalCode, base, symbol_at}
 use Rattle.szg_code.specs.Acceptance.{IsCode}
 use Rattle.szg_code.specs.Least.{IsLeastLength, ReachesNoBase, shifted_base, symbol_of_prefix}
-use Rattle.szg_code.specs.Window.{padded, window_at, IsReader}
+use Rattle.szg_code.specs.Window.{padded, window_at, IsReader, IsWindow}
 use Rattle.szg_code.proofs.Numbers.{number-append, number-below, number-bits_of_number, mod-small, number-zeros}
 use Rattle.szg_code.proofs.Reading.{number-take, reaches-shifted_base, shifted_base-reaches, least_length_of_window, no_base_of_window}
 use Rattle.szg_code.proofs.Prefixes.{symbol_of_prefix-is}
@@ -182,10 +182,14 @@ window_bits-length left e h =
     let c : length (padded (64 - e) left ++ replicate e false) ≡ length (padded (64 - e) left) + length (replicate e false) = length-append (padded (64 - e) left) (replicate e false) in
     omega arith
 
-window_bits-number : (bytes : List ℕ) (offset window : ℕ) → IsReader bytes offset window → number (window_bits (drop offset (bits bytes)) (offset % 32)) ≡ window
-unfolding window_bits window_at
-window_bits-number bytes offset window r =
-    let e : ℕ = offset % 32 in
+-- the window of a reader
+pub IsWindow-reader : (bytes : List ℕ) (offset window : ℕ) → IsReader bytes offset window → IsWindow bytes offset window (offset % 32)
+unfolding window_at
+IsWindow-reader bytes offset window r = record { short = omega arith; window_is = r.window_is }
+
+window_bits-number : (bytes : List ℕ) (offset window e : ℕ) → IsWindow bytes offset window e → number (window_bits (drop offset (bits bytes)) e) ≡ window
+unfolding window_bits
+window_bits-number bytes offset window e r =
     let left : List Bool = drop offset (bits bytes) in
     let n : number (padded (64 - e) left ++ replicate e false) ≡ number (padded (64 - e) left) * 2 ^ length (replicate e false) + number (replicate e false) = number-append (padded (64 - e) left) (replicate e false) in
     let z : number (replicate e false) ≡ 0 = number-zeros e in
@@ -200,14 +204,14 @@ window_bits-take left e l h short inside =
     let a : length (padded (64 - e) left) ≡ 64 - e = length-padded (64 - e) left in
     take-append-le l (padded (64 - e) left) (replicate e false) (omega arith) ∙ take-padded l (64 - e) left (omega arith) inside
 
-module _ (code : CanonicalCode) (accepted : IsCode code) (bytes : List ℕ) (offset window : ℕ) (r : IsReader bytes offset window) where
+module _ (code : CanonicalCode) (accepted : IsCode code) (bytes : List ℕ) (offset window e : ℕ) (r : IsWindow bytes offset window e) where
   -- the length at the first base that the window reaches
   least_of_window : (l : ℕ) → code.min_length ≤ l → l ≤ code.max_length → shifted_base code 64 l ≤ window →
-      ((k : ℕ) → code.min_length ≤ k → k < l → window < shifted_base code 64 k) → IsLeastLength code (window_bits (drop offset (bits bytes)) (offset % 32)) l
+      ((k : ℕ) → code.min_length ≤ k → k < l → window < shifted_base code 64 k) → IsLeastLength code (window_bits (drop offset (bits bytes)) e) l
   least_of_window l long short reaches before =
-      let w : List Bool = window_bits (drop offset (bits bytes)) (offset % 32) in
-      let n : length w ≡ 64 = window_bits-length (drop offset (bits bytes)) (offset % 32) (omega arith) in
-      let v : number w ≡ window = window_bits-number bytes offset window r in
+      let w : List Bool = window_bits (drop offset (bits bytes)) e in
+      let n : length w ≡ 64 = window_bits-length (drop offset (bits bytes)) e r.short in
+      let v : number w ≡ window = window_bits-number bytes offset window e r in
       let most : code.max_length ≤ 32 = accepted.lengths.at_most in
       record {
         long_enough = long;
@@ -228,9 +232,9 @@ module _ (code : CanonicalCode) (accepted : IsCode code) (bytes : List ℕ) (off
 
   before_lengths : (j : ℕ) → ((k : ℕ) → k < j → window < shifted_base code 64 (code.min_length + k)) → (k : ℕ) → code.min_length ≤ k → k < code.min_length + j → window < shifted_base code 64 k
   before_lengths j before k from less =
-      let e : code.min_length + (k - code.min_length) ≡ k = omega arith in
+      let same : code.min_length + (k - code.min_length) ≡ k = omega arith in
       let b : window < shifted_base code 64 (code.min_length + (k - code.min_length)) = before (k - code.min_length) (omega arith) in
-      rw e at b
+      rw same at b
 
   -- it is the least length of the bits left, if there are enough of them
   pub IsLeastLength-of_window : (j : ℕ) → j < length code.lowest → shifted_base code 64 (code.min_length + j) ≤ window →
@@ -240,7 +244,7 @@ module _ (code : CanonicalCode) (accepted : IsCode code) (bytes : List ℕ) (off
       let most : code.max_length ≤ 32 = accepted.lengths.at_most in
       let l : ℕ = code.min_length + j in
       let left : List Bool = drop offset (bits bytes) in
-      least_length_of_window code (window_bits left (offset % 32)) left l (least_of_window l (omega arith) (omega arith) reaches (before_lengths j before)) inside (window_bits-take left (offset % 32) l (omega arith) (omega arith) inside)
+      least_length_of_window code (window_bits left e) left l (least_of_window l (omega arith) (omega arith) reaches (before_lengths j before)) inside (window_bits-take left e l r.short (omega arith) inside)
 
   -- and if there are fewer, they reach no base
   pub ReachesNoBase-of_window : (j : ℕ) → j < length code.lowest → shifted_base code 64 (code.min_length + j) ≤ window →
@@ -250,36 +254,75 @@ module _ (code : CanonicalCode) (accepted : IsCode code) (bytes : List ℕ) (off
       let most : code.max_length ≤ 32 = accepted.lengths.at_most in
       let l : ℕ = code.min_length + j in
       let left : List Bool = drop offset (bits bytes) in
-      no_base_of_window code (window_bits left (offset % 32)) left l (least_of_window l (omega arith) (omega arith) reaches (before_lengths j before)) past
-      (window_bits-take left (offset % 32) (length left) (omega arith) (omega arith) (omega arith) ∙ take_all (length left) left (omega arith))
+      no_base_of_window code (window_bits left e) left l (least_of_window l (omega arith) (omega arith) reaches (before_lengths j before)) past
+      (window_bits-take left e (length left) r.short (omega arith) (omega arith) ∙ take_all (length left) left (omega arith))
 
 -- the number of the first bits left
-pub number-of_window : (bytes : List ℕ) (offset window l : ℕ) → IsReader bytes offset window → l ≤ 32 → l ≤ length (drop offset (bits bytes)) →
+pub number-of_window : (bytes : List ℕ) (offset window e l : ℕ) → IsWindow bytes offset window e → l ≤ 32 → l ≤ length (drop offset (bits bytes)) →
     window / 2 ^ (64 - l) ≡ number (take l (drop offset (bits bytes)))
-number-of_window bytes offset window l r short inside =
+number-of_window bytes offset window e l r short inside =
     let left : List Bool = drop offset (bits bytes) in
-    let w : List Bool = window_bits left (offset % 32) in
-    let n : length w ≡ 64 = window_bits-length left (offset % 32) (omega arith) in
-    let v : number w ≡ window = window_bits-number bytes offset window r in
+    let w : List Bool = window_bits left e in
+    let n : length w ≡ 64 = window_bits-length left e r.short in
+    let v : number w ≡ window = window_bits-number bytes offset window e r in
     let t : number (take l w) ≡ number w / 2 ^ (length w - l) = number-take l w (omega arith) in
     let t' : number (take l w) ≡ window / 2 ^ (64 - l) = rw (n, v) at t in
-    sym t' ∙ ap (λ (u : List Bool). number u) (window_bits-take left (offset % 32) l (omega arith) short inside)
+    sym t' ∙ ap (λ (u : List Bool). number u) (window_bits-take left e l r.short short inside)
 
 -- the bits left begin at the offset, and the window decides the length and the symbol of their first word
-pub decided : (code : CanonicalCode) → IsCode code → (bytes : List ℕ) (offset window : ℕ) → IsReader bytes offset window → (left : List Bool) → drop offset (bits bytes) ≡ left → (j : ℕ) → j < length code.lowest →
+pub decided : (code : CanonicalCode) → IsCode code → (bytes : List ℕ) (offset window e : ℕ) → IsWindow bytes offset window e → (left : List Bool) → drop offset (bits bytes) ≡ left → (j : ℕ) → j < length code.lowest →
     shifted_base code 64 (code.min_length + j) ≤ window → ((k : ℕ) → k < j → window < shifted_base code 64 (code.min_length + k)) → code.min_length + j ≤ length left →
     IsLeastLength code left (code.min_length + j) × (symbol_at code (code.min_length + j) (window / 2 ^ (64 - (code.min_length + j))) ≡ symbol_of_prefix code left (code.min_length + j))
-decided code accepted bytes offset window r left is j within reaches before inside =
+decided code accepted bytes offset window e r left is j within reaches before inside =
     let l : ℕ = code.min_length + j in
     let each : length code.lowest + code.min_length ≡ code.max_length + 1 = accepted.lengths.each in
     let most : code.max_length ≤ 32 = accepted.lengths.at_most in
     let inside' : l ≤ length (drop offset (bits bytes)) = rw is inside in
-    let h = IsLeastLength-of_window code accepted bytes offset window r j within reaches before inside' in
-    let v = number-of_window bytes offset window l r (omega arith) inside' in
+    let h = IsLeastLength-of_window code accepted bytes offset window e r j within reaches before inside' in
+    let v = number-of_window bytes offset window e l r (omega arith) inside' in
     let s = symbol_of_prefix-is code (drop offset (bits bytes)) l (window / 2 ^ (64 - l)) v in
     (subst (λ (u : List Bool). IsLeastLength code u l) is h, s ∙ ap (λ (u : List Bool). symbol_of_prefix code u l) is)
 
--- ---- four bytes
+-- ---- bytes
+
+-- the number of a byte row's first bytes, shifted by the bits before an offset in the first byte
+pub IsWindow-shifted : (bytes : List ℕ) (offset read : ℕ) → read ≡ number (padded 64 (drop (8 * (offset / 8)) (bits bytes))) →
+    IsWindow bytes offset (read * 2 ^ (offset % 8) % 18446744073709551616) (offset % 8)
+IsWindow-shifted bytes offset read read_is =
+    let all : List Bool = bits bytes in
+    let l : ℕ = offset % 8 in
+    let xs : List Bool = drop (8 * (offset / 8)) all in
+    let m : number (padded 64 xs) * 2 ^ 0 * 2 ^ l % 2 ^ 64 ≡ number (padded (64 - l) (drop l xs)) * 2 ^ (0 + l) = moved xs 0 l (64 - l) (omega arith) in
+    let at : 8 * (offset / 8) + l ≡ offset = omega arith in
+    let d : drop l xs ≡ drop offset all = drop-drop l (8 * (offset / 8)) all ∙ ap (λ (k : ℕ). drop k all) at in
+    let z : 0 + l ≡ l = omega arith in
+    let one : number (padded 64 xs) * 2 ^ 0 ≡ read = omega (arith, read_is) in
+    let m' : read * 2 ^ l % 2 ^ 64 ≡ number (padded (64 - l) (drop offset all)) * 2 ^ l = rw (one, d, z) at m in
+    record { short = omega arith; window_is = m' }
+
+pub number-u64 : (bytes : List ℕ) (at : ℕ) → ((k : ℕ) → get_or bytes k 0 < 256) → number (padded 64 (drop (8 * at) (bits bytes))) ≡ big_from at 8 bytes
+number-u64 bytes at fit = ap (λ (u : List Bool). number (padded 64 u)) (drop-bits at bytes) ∙ number-padded_bits 8 bytes at fit
+
+-- two numbers of four bytes, one after the other
+pub number-halves : (bytes : List ℕ) (at first second : ℕ) → first ≡ number (padded 32 (drop (8 * at) (bits bytes))) → second ≡ number (padded 32 (drop (8 * (at + 4)) (bits bytes))) →
+    bit_or (first * 2 ^ 32 % 18446744073709551616) second ≡ number (padded 64 (drop (8 * at) (bits bytes)))
+number-halves bytes at first second first_is second_is =
+    let xs : List Bool = drop (8 * at) (bits bytes) in
+    let there : 32 + 8 * at ≡ 8 * (at + 4) = omega arith in
+    let d : drop 32 xs ≡ drop (8 * (at + 4)) (bits bytes) = drop-drop 32 (8 * at) (bits bytes) ∙ ap (λ (k : ℕ). drop k (bits bytes)) (omega arith) in
+    let second_is' : second ≡ number (padded 32 (drop 32 xs)) = second_is ∙ ap (λ (u : List Bool). number (padded 32 u)) (sym d) in
+    let len : length (padded 32 (drop 32 xs)) ≡ 32 = length-padded 32 (drop 32 xs) in
+    let below : number (padded 32 (drop 32 xs)) < 2 ^ length (padded 32 (drop 32 xs)) = number-below (padded 32 (drop 32 xs)) in
+    let small : second < 2 ^ 32 = rw (len, ← second_is') at below in
+    let len' : length (padded 32 xs) ≡ 32 = length-padded 32 xs in
+    let below' : number (padded 32 xs) < 2 ^ length (padded 32 xs) = number-below (padded 32 xs) in
+    let small' : first < 2 ^ 32 = rw (len', ← first_is) at below' in
+    let whole : first * 2 ^ 32 % 2 ^ 64 ≡ first * 2 ^ 32 = shl_whole first 32 32 64 small' (omega arith) in
+    let joined : bit_or (first * 2 ^ 32) second ≡ first * 2 ^ 32 + second = or_shifted first 32 second small in
+    let a : number (padded 32 xs ++ padded 32 (drop 32 xs)) ≡ number (padded 32 xs) * 2 ^ length (padded 32 (drop 32 xs)) + number (padded 32 (drop 32 xs)) = number-append (padded 32 xs) (padded 32 (drop 32 xs)) in
+    let a' : number (padded 32 xs ++ padded 32 (drop 32 xs)) ≡ first * 2 ^ 32 + second = rw (len, ← first_is, ← second_is') at a in
+    let wanted : number (padded 64 xs) ≡ first * 2 ^ 32 + second = ap (λ (u : List Bool). number u) (padded-add 32 32 xs) ∙ a' in
+    ap (λ (k : ℕ). bit_or k second) whole ∙ joined ∙ sym wanted
 
 pub number-u32 : (bytes : List ℕ) (at : ℕ) → ((k : ℕ) → get_or bytes k 0 < 256) → number (padded 32 (drop (8 * at) (bits bytes))) ≡ big_from at 4 bytes
 number-u32 bytes at fit = ap (λ (u : List Bool). number (padded 32 u)) (drop-bits at bytes) ∙ number-padded_bits 4 bytes at fit

@@ -1,5 +1,5 @@
 -- The state of a reader by windows: the bits that were read but not taken, at the top of 64 bits.
-use Rattle.std.specs.Prelude.{ℕ, zero, suc, Bool, false, ◌≡◌, ◌-◌, ◌*◌, ◌%◌, ◌^◌, ◌≤◌, List, [], ◌∷◌, length, drop}
+use Rattle.std.specs.Prelude.{ℕ, zero, suc, Bool, false, ◌≡◌, ◌-◌, ◌*◌, ◌%◌, ◌^◌, ◌<◌, ◌≤◌, List, [], ◌∷◌, length, drop}
 use Rattle.szg_code.specs.Bits.{bits, number}
 
 -- the first n bits, padded with zeros if there are fewer
@@ -18,3 +18,13 @@ pub record IsReader (bytes : List ℕ) (offset window : ℕ) : Type 0 where
   pub fits : length bytes ≤ 2 ^ 60
   pub inside : offset ≤ 8 * length bytes
   pub window_is : window ≡ window_at (bits bytes) offset
+
+-- A window holds the bits from an offset on, at the top of 64 bits; the last `spare` of these, fewer than 32, are zeros.
+pub record IsWindow (bytes : List ℕ) (offset window spare : ℕ) : Type 0 where
+  pub short : spare < 32
+  pub window_is : window ≡ number (padded (64 - spare) (drop offset (bits bytes))) * 2 ^ spare
+
+-- the fields of a reader without a window are valid
+pub record IsWordReader (bytes : List ℕ) (offset : ℕ) : Type 0 where
+  pub fits : length bytes ≤ 2 ^ 60
+  pub inside : offset ≤ 8 * length bytes

@@ -213,6 +213,50 @@ impl Code {
         self.header.reached_index_from(&self.bases, start, window)
     }
 
+    /// `reached_index` without its table: the search starts from the least length. It takes a step for each length above
+    /// the least one, but what comes next doesn't wait for a table.
+    #[inline(always)]
+    pub(crate) fn first_reached_index(&self, window: u64) -> usize
+        ensures accepted { IsCode self.now }
+        ensures inside { result < length self.now.lowest }
+        ensures reaches { shifted_base self.now 64 (self.now.min_length + result) ≤ window }
+        ensures before { (k : ℕ) → k < result → window < shifted_base self.now 64 (self.now.min_length + k) }
+    {
+        self.header.reached_index_from(&self.bases, 0, window)
+    }
+
+    /// Returns whether at least seven of eight windows begin with a word of the least length, so that the length of a word
+    /// can be predicted.
+    pub fn has_mostly_least_words(&self) -> bool {
+        self.bases[0] <= MOSTLY_REACHED
+    }
+
+    /// Returns the number that the window's leading bits, whose number is the length at index `j`, represent as a symbol.
+    #[inline(always)]
+    fn symbol_number(&self, window: u64, j: usize) -> u64
+        requires length { j < length self.now.lowest }
+        requires reaches { shifted_base self.now 64 (self.now.min_length + j) ≤ window }
+        ensures { result ≡ symbol_at self.now (self.now.min_length + j) (window / 2 ^ (64 - (self.now.min_length + j))) }
+    {
+        let min = usize::from(self.header.min);
+        let above = (window - self.bases[j]) >> (64 - min - j);
+        u64::from(self.lowest()[j]) + above
+    }
+
+    /// Returns the symbol of the window's leading bits, whose number is the length at index `j`. It is below the number of
+    /// symbols.
+    #[inline(always)]
+    pub(crate) fn symbol_there(&self, window: u64, j: usize) -> u16
+        requires length { j < length self.now.lowest }
+        requires reaches { shifted_base self.now 64 (self.now.min_length + j) ≤ window }
+        requires there { symbol_at self.now (self.now.min_length + j) (window / 2 ^ (64 - (self.now.min_length + j))) < self.now.symbols }
+        ensures { result ≡ symbol_at self.now (self.now.min_length + j) (window / 2 ^ (64 - (self.now.min_length + j))) }
+    {
+        let symbol = self.symbol_number(window, j);
+        prove!(symbol < u64::from(self.symbols()));
+        symbol as u16
+    }
+
     /// Returns the symbol of the window's leading bits, whose number is the length at index `j`. None if it is not
     /// below the number of symbols.
     #[inline(always)]
@@ -223,9 +267,7 @@ impl Code {
         ensures found { IfSome result (λ s. (s ≡ symbol_at self.now (self.now.min_length + j) (window / 2 ^ (64 - (self.now.min_length + j)))) × (s < self.now.symbols)) }
         ensures none { IfNone result (self.now.symbols ≤ symbol_at self.now (self.now.min_length + j) (window / 2 ^ (64 - (self.now.min_length + j)))) }
     {
-        let min = usize::from(self.header.min);
-        let above = (window - self.bases[j]) >> (64 - min - j);
-        let symbol = u64::from(self.lowest()[j]) + above;
+        let symbol = self.symbol_number(window, j);
         if symbol < u64::from(self.symbols()) {
             Some(symbol as u16)
         } else {
@@ -233,6 +275,9 @@ impl Code {
         }
     }
 }
+
+/// The greatest base of the least length, shifted to the top of 64 bits, that seven of eight windows reach.
+const MOSTLY_REACHED: u64 = 1 << 61;
 
 /// Returns the word of a symbol, of 1 to 32 bits. None if the symbol has no word.
 pub fn word(code: &Code, s: u16) -> Option<Word>

@@ -86,7 +86,7 @@ impl<'a> Bits<'a> {
 
 /// Reads four bytes at offset `at` as a big-endian number, with zeros past the end.
 #[inline(always)]
-fn read_u32_at(bytes: &[u8], at: usize) -> u32
+pub(crate) fn read_u32_at(bytes: &[u8], at: usize) -> u32
     requires { at < 2 ^ 62 }
     ensures { result ≡ number (padded 32 (drop (8 * at) (bits bytes.now))) }
 {

@@ -11,11 +11,11 @@ ghost use Rattle.szg_place.specs.Spots.{place_fault, spot_of};
 ghost use Rattle.szg_place.specs.Tables.{numbering_in};
 
 use crate::probes::class_of;
-use crate::spots::index_in;
+use crate::spots::{index_in, index_in_men};
 use crate::{FrontProbeFault, ProbeFault, Spot};
 use szg_block::Source;
 use szg_file::{FetchFault, FrontTable, TableIndex};
-use szg_values::{Kind, Placement};
+use szg_values::{Kind, PlacedMen, Placement};
 
 /// Returns the class of a placement in a WDL table that was opened by its front, as `probe_wdl` returns it for a
 /// table in memory. `bytes` are the file's bytes. It verifies the block of the value and allocates nothing. Any
@@ -26,6 +26,20 @@ pub fn probe_wdl_front_in(
     front: &FrontTable,
     bytes: &[u8],
     placement: &Placement,
+) -> Result<Option<i8>, FrontProbeFault>
+    requires { front.now.index.kind ≡ Kind.Wdl }
+    ensures refused { IfSome (fault_in front.now placement.now) (λ fault. result ≡ Err (FrontProbeFault.Probe (ProbeFault.Place fault))) }
+    ensures class { IsFrontOf front.now bytes.now → IsNone (fault_in front.now placement.now) →
+        IsMeant (IsValueAt front.now bytes.now (spot_in front.now placement.now)) (IsBadAt front.now bytes.now (spot_in front.now placement.now)) as_class result }
+{
+    probe_wdl_front_in_men(front, bytes, &PlacedMen::of(placement))
+}
+
+/// `probe_wdl_front_in` for men in a list of the caller's.
+pub fn probe_wdl_front_in_men(
+    front: &FrontTable,
+    bytes: &[u8],
+    placement: &PlacedMen<'_>,
 ) -> Result<Option<i8>, FrontProbeFault>
     requires { front.now.index.kind ≡ Kind.Wdl }
     ensures refused { IfSome (fault_in front.now placement.now) (λ fault. result ≡ Err (FrontProbeFault.Probe (ProbeFault.Place fault))) }
@@ -44,6 +58,23 @@ pub fn probe_dtz_front_in(
     front: &FrontTable,
     bytes: &[u8],
     placement: &Placement,
+    class: i8,
+) -> Result<u32, FrontProbeFault>
+    requires kind { front.now.index.kind ≡ Kind.Dtz }
+    requires lowest { neg_ℤ (pos 2) ≤ℤ class }
+    requires highest { class ≤ℤ pos 2 }
+    ensures refused { IfSome (fault_in front.now placement.now) (λ fault. result ≡ Err (FrontProbeFault.Probe (ProbeFault.Place fault))) }
+    ensures number { IsFrontOf front.now bytes.now → IsNone (fault_in front.now placement.now) →
+        IsMeant (IsValueAt front.now bytes.now (spot_in front.now placement.now)) (IsBadAt front.now bytes.now (spot_in front.now placement.now)) (as_number front.now.index (spot_in front.now placement.now).part class) result }
+{
+    probe_dtz_front_in_men(front, bytes, &PlacedMen::of(placement), class)
+}
+
+/// `probe_dtz_front_in` for men in a list of the caller's.
+pub fn probe_dtz_front_in_men(
+    front: &FrontTable,
+    bytes: &[u8],
+    placement: &PlacedMen<'_>,
     class: i8,
 ) -> Result<u32, FrontProbeFault>
     requires kind { front.now.index.kind ≡ Kind.Dtz }
@@ -119,7 +150,7 @@ pub fn probe_dtz_front<S: Source>(
 fn value_in(
     front: &FrontTable,
     bytes: &[u8],
-    placement: &Placement,
+    placement: &PlacedMen<'_>,
 ) -> Result<(Spot, u16), FrontProbeFault>
     ensures refused { IfSome (fault_in front.now placement.now) (λ fault. result ≡ Err (FrontProbeFault.Probe (ProbeFault.Place fault))) }
     ensures value { IsFrontOf front.now bytes.now → IsNone (fault_in front.now placement.now) →
@@ -127,7 +158,7 @@ fn value_in(
     ensures spot { IfOk result (λ found. found.0 ≡ spot_in front.now placement.now) }
     ensures there { IfOk result (λ found. IsSome (slot_in front.now.index found.0.part found.0.side)) }
 {
-    let spot = match index_in(front.index(), placement) {
+    let spot = match index_in_men(front.index(), placement) {
         Ok(spot) => spot,
         Err(fault) => return Err(FrontProbeFault::Probe(ProbeFault::Place(fault))),
     };

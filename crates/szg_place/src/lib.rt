@@ -24,12 +24,15 @@ mod spots;
 mod traits;
 pub mod triples;
 
-pub use front::{probe_dtz_front, probe_dtz_front_in, probe_wdl_front, probe_wdl_front_in};
+pub use front::{
+    probe_dtz_front, probe_dtz_front_in, probe_dtz_front_in_men, probe_wdl_front,
+    probe_wdl_front_in, probe_wdl_front_in_men,
+};
 pub use numbering::SideGroups;
 pub use placement::{placement_in, placement_of};
 pub use prepared::PreparedTable;
 pub use probes::{class_of, probe_dtz, probe_wdl};
-pub use spots::{index_in, index_of};
+pub use spots::{index_in, index_in_men, index_of};
 
 /// Why a table has no index for a placement: the first check that fails, in this order.
 #[derive(Clone, Copy, Debug, PartialEq, Eq, Error)]

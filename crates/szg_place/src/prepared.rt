@@ -101,7 +101,18 @@ impl PreparedTable {
         ensures class { IsNone (place_fault (numbering_of self.now.contents) placement.now) →
             IsSomeAnd (value_at self.now.contents (spot_of (numbering_of self.now.contents) placement.now)) (λ v. result ≡ Ok (class_of v)) }
     {
-        match self.index_of(placement) {
+        self.probe_wdl_men(&PlacedMen::of(placement))
+    }
+
+    /// `probe_wdl` for men in a list of the caller's.
+    #[inline(always)]
+    pub fn probe_wdl_men(&self, placement: &PlacedMen<'_>) -> Result<Option<i8>, PlaceFault>
+        requires { self.now.contents.kind ≡ Kind.Wdl }
+        ensures refused { IfSome (place_fault (numbering_of self.now.contents) placement.now) (λ fault. result ≡ Err fault) }
+        ensures class { IsNone (place_fault (numbering_of self.now.contents) placement.now) →
+            IsSomeAnd (value_at self.now.contents (spot_of (numbering_of self.now.contents) placement.now)) (λ v. result ≡ Ok (class_of v)) }
+    {
+        match self.index_of_men(placement) {
             Ok(spot) => Ok(class_of(self.table().get(spot.part, spot.side, spot.index))),
             Err(fault) => Err(fault),
         }
@@ -119,7 +130,23 @@ impl PreparedTable {
             IsSomeAnd (value_at self.now.contents spot) (λ v. MatchResult (mapped_number self.now.contents spot.part class v)
             (λ number. result ≡ Ok number) (λ fault. result ≡ Err (ProbeFault.Map fault)))) }
     {
-        let spot = match self.index_of(placement) {
+        self.probe_dtz_men(&PlacedMen::of(placement), class)
+    }
+
+    /// `probe_dtz` for men in a list of the caller's.
+    #[inline(always)]
+    pub fn probe_dtz_men(&self, placement: &PlacedMen<'_>, class: i8) -> Result<u32, ProbeFault>
+        requires kind { self.now.contents.kind ≡ Kind.Dtz }
+        requires lowest { neg_ℤ (pos 2) ≤ℤ class }
+        requires highest { class ≤ℤ pos 2 }
+        ensures refused { IfSome (place_fault (numbering_of self.now.contents) placement.now) (λ fault. result ≡ Err (ProbeFault.Place fault)) }
+        // The table's map is used only for a placement that has an index.
+        ensures number { IsNone (place_fault (numbering_of self.now.contents) placement.now) →
+            (let spot = spot_of (numbering_of self.now.contents) placement.now in
+            IsSomeAnd (value_at self.now.contents spot) (λ v. MatchResult (mapped_number self.now.contents spot.part class v)
+            (λ number. result ≡ Ok number) (λ fault. result ≡ Err (ProbeFault.Map fault)))) }
+    {
+        let spot = match self.index_of_men(placement) {
             Ok(spot) => spot,
             Err(fault) => return Err(ProbeFault::Place(fault)),
         };

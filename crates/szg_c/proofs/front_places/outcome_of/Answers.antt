@@ -17,7 +17,7 @@ returns-in-Wdl-clause-told c =
     let asked = c.kind.ensures in let is = c.in-Wdl.is in
     let kind_is : c.args.table.now.index.kind ≡ Wdl = cc in
     subst (λ (k : Kind). IsOutcome k c.args.table.now c.args.bytes.now c.args.class c.args.placement.now c.class_told.result c.class_told.new.outcome c.class_told.new.bad) (sym kind_is)
-    (c.probe_wdl_front_in.result, record { refused = c.probe_wdl_front_in.ensures.refused; meant = c.probe_wdl_front_in.ensures.class }, c.class_told.ensures.told)
+    (c.probe_wdl_front_in_men.result, record { refused = c.probe_wdl_front_in_men.ensures.refused; meant = c.probe_wdl_front_in_men.ensures.class }, c.class_told.ensures.told)
 
 pub returns-then-not-is_class-clause-told : goal.returns-then-not-is_class-clause-told
 returns-then-not-is_class-clause-told c =
@@ -30,13 +30,13 @@ returns-then-not-is_class-clause-told c =
 
 pub returns-else-not-is_class-clause-told : goal.returns-else-not-is_class-clause-told
 returns-else-not-is_class-clause-told c =
-    let kept = c.args.table.now in let bytes = c.args.bytes.now in let board = c.args.placement.now in let r = c.probe_dtz_front_in.result in
+    let kept = c.args.table.now in let bytes = c.args.bytes.now in let board = c.args.placement.now in let r = c.probe_dtz_front_in_men.result in
     let of_index : c.index.result.now.kind ≡ kept.index.kind = ap (λ (x : Index). x.kind) c.index.ensures in
     let asked = c.kind.ensures in let is = c.in-Dtz.is in
     let kind_is : kept.index.kind ≡ Dtz = cc in
     let same = to_z-of_z w8 c.args.class c.ranges.class in
     let inside : is_class c.args.class ≡ true = subst (λ (z : ℤ). is_class z ≡ true) same (sym c.is_class.ensures ∙ c.if-not-is_class.false) in
     let meant : IsFrontOf kept bytes → IsNone (fault_in kept board) → IsMeant (IsValueAt kept bytes (spot_in kept board)) (IsBadAt kept bytes (spot_in kept board)) (as_number kept.index (spot_in kept board).part c.args.class) r =
-    subst (λ (z : ℤ). IsFrontOf kept bytes → IsNone (fault_in kept board) → IsMeant (IsValueAt kept bytes (spot_in kept board)) (IsBadAt kept bytes (spot_in kept board)) (as_number kept.index (spot_in kept board).part z) r) same c.probe_dtz_front_in.ensures.number in
+    subst (λ (z : ℤ). IsFrontOf kept bytes → IsNone (fault_in kept board) → IsMeant (IsValueAt kept bytes (spot_in kept board)) (IsBadAt kept bytes (spot_in kept board)) (as_number kept.index (spot_in kept board).part z) r) same c.probe_dtz_front_in_men.ensures.number in
     subst (λ (k : Kind). IsOutcome k kept bytes c.args.class board c.number_told.result c.number_told.new.outcome c.number_told.new.bad) (sym kind_is)
-    (λ _. (r, record { refused = c.probe_dtz_front_in.ensures.refused; meant = meant }, c.number_told.ensures.told), λ outside. let clash : true ≡ false = sym inside ∙ outside in absurd (cc clash))
+    (λ _. (r, record { refused = c.probe_dtz_front_in_men.ensures.refused; meant = meant }, c.number_told.ensures.told), λ outside. let clash : true ≡ false = sym inside ∙ outside in absurd (cc clash))

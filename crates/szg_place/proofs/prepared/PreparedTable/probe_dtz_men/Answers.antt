@@ -6,7 +6,7 @@ use Rattle.szg_place.specs.Spots.{place_fault, spot_of}
 use Rattle.szg_place.specs.Tables.{numbering_of}
 use Rattle.szg_place.specs.declared.Spot.{Spot}
 use Rattle.szg_place.proofs.Probed.{ok_spot, some_there, side_zero}
-use Rattle.szg_place.proofs.prepared.PreparedTable.probe_dtz.Goals as goal
+use Rattle.szg_place.proofs.prepared.PreparedTable.probe_dtz_men.Goals as goal
 
 pub map_value-requires-clause-part : goal.map_value-requires-clause-part
 map_value-requires-clause-part c =

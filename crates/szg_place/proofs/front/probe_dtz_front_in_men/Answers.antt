@@ -6,7 +6,7 @@ use Rattle.szg_file.specs.Index.{Index}
 use Rattle.szg_place.specs.Front.{IsBadAt, IsMeant, IsValueAt, as_number, number_told, spot_in}
 use Rattle.szg_place.specs.declared.FrontProbeFault.{FrontProbeFault}
 use Rattle.szg_place.proofs.FrontProbes.{number_follows, one_side}
-use Rattle.szg_place.proofs.front.probe_dtz_front_in.Goals as goal
+use Rattle.szg_place.proofs.front.probe_dtz_front_in_men.Goals as goal
 
 pub number_told-requires-clause-part : goal.number_told-requires-clause-part
 number_told-requires-clause-part c =
