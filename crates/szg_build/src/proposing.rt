@@ -25,7 +25,7 @@ const DENSE_PART: u64 = 16;
 const LISTED_PAIRS: u64 = 2;
 
 /// The first share of a text, in percent, that pairs with lists make up together. It doubles when no listed pair is left.
-const LISTED_PERCENT: u64 = 60;
+const LISTED_PERCENT: u64 = 40;
 
 /// A dictionary and a text, while pairs are made.
 #[derive(Drop)]
