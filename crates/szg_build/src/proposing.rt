@@ -7,7 +7,7 @@ use crate::cells::Cells;
 use crate::leaves::{MAX_SYMBOLS, Paired, entry};
 use crate::occurrences::Occurrences;
 use crate::pairing::{LEAST_COUNT, Pair};
-use crate::tally::Tally;
+use crate::tally::{Enough, Tally};
 use crate::watching::Watcher;
 use std::alloc::{AllocError, Global};
 
@@ -19,10 +19,13 @@ pub(crate) struct Proposal {
 }
 
 /// A pair that occurs once or more for each `DENSE_PART` symbols of a text is replaced by a pass over the text.
-const DENSE_PART: u64 = 8;
+const DENSE_PART: u64 = 16;
 
-/// The least number of pairs with lists for each round that is left, if there are enough pairs.
-const LISTED_PAIRS: usize = 2;
+/// The first number of pairs that get lists for each round that is left. It doubles when no listed pair is left.
+const LISTED_PAIRS: u64 = 2;
+
+/// The first share of a text, in percent, that pairs with lists make up together. It doubles when no listed pair is left.
+const LISTED_PERCENT: u64 = 40;
 
 /// A dictionary and a text, while pairs are made.
 #[derive(Drop)]
@@ -33,8 +36,8 @@ struct Making {
     /// The number of rounds made, and the greatest number of them.
     done: u32,
     rounds: u32,
-    /// Whether rare pairs are listed, too.
-    lists_rare: bool,
+    /// By how much more pairs get lists than at first.
+    more: u64,
 }
 
 impl Making {
@@ -79,11 +82,21 @@ impl Making {
     /// that may be made gets one.
     fn least_count(&self, tally: &Tally, most: u32) -> u32 {
         let width = u64::from(self.width());
-        if self.lists_rare || width * width > self.text.count() as u64 {
+        if width * width > self.text.count() as u64 {
             return LEAST_COUNT;
         }
-        let rounds = self.rounds.saturating_sub(self.done) as usize;
-        tally.count_reached_by(&self.text, rounds.saturating_mul(LISTED_PAIRS), most)
+        let rounds = u64::from(self.rounds.saturating_sub(self.done));
+        let symbols = self.text.count() as u64;
+        let enough = Enough {
+            pairs: rounds
+                .saturating_mul(self.more)
+                .saturating_mul(LISTED_PAIRS),
+            occurrences: symbols
+                .saturating_mul(self.more)
+                .saturating_mul(LISTED_PERCENT)
+                / 100,
+        };
+        tally.count_reached_by(&self.text, enough, most)
     }
 
     /// Counts all pairs and makes the most frequent one, or several by their lists. Returns whether there may be more.
@@ -127,7 +140,7 @@ impl Making {
             watcher.round(self.done, self.rounds);
             let Some(picked) = occurrences.pick()? else {
                 is_more = least > LEAST_COUNT;
-                self.lists_rare = true;
+                self.more = self.more.saturating_mul(2);
                 break;
             };
             let Some(new) = self.add(picked.pair)? else {
@@ -163,7 +176,7 @@ pub(crate) fn with_pairs<V: Watcher>(
         text: Cells::new(alloc, symbols, lens)?,
         done: 0,
         rounds,
-        lists_rare: false,
+        more: 1,
     };
     for _ in 0..rounds {
         if !making.make_some(alloc, watcher)? {

@@ -15,7 +15,7 @@ use crate::watching::Watcher;
 use std::alloc::{AllocError, Global};
 
 /// Returns a right symbol with which `left` makes a pair that may be made and occurs at least four times.
-fn find_right(counts: &[u32], lens: &[u16], left: usize) -> Option<usize>
+fn find_right(counts: &[u8], lens: &[u16], left: usize) -> Option<usize>
     requires few { length lens.now ≤ 4095 }
     requires room { length counts.now ≡ length lens.now * length lens.now }
     requires left { left < length lens.now }
@@ -27,7 +27,8 @@ fn find_right(counts: &[u32], lens: &[u16], left: usize) -> Option<usize>
 {
     let width = lens.len();
     for right in 0..width {
-        if counts[left * width + right] >= LEAST_COUNT && is_short(lens[left], lens[right]) {
+        let count = u32::from(counts[left * width + right]);
+        if count >= LEAST_COUNT && is_short(lens[left], lens[right]) {
             return Some(right);
         }
     }
@@ -35,7 +36,7 @@ fn find_right(counts: &[u32], lens: &[u16], left: usize) -> Option<usize>
 }
 
 /// Returns a pair that may be made and occurs at least four times.
-fn find_pair(counts: &[u32], lens: &[u16]) -> Option<Pair>
+fn find_pair(counts: &[u8], lens: &[u16]) -> Option<Pair>
     requires few { length lens.now ≤ 4095 }
     requires room { length counts.now ≡ length lens.now * length lens.now }
     ensures left { IfSome result (λ pair. pair.left < length lens.now) }

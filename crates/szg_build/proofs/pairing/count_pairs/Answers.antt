@@ -16,7 +16,7 @@ named n most i s last counts symbols begun free free' inside read is counted =
 pub symbols-preserved : goal.symbols-preserved
 symbols-preserved c =
     let n : ℕ = c.args.n in
-    let most : ℕ = 4294967295 in
+    let most : ℕ = 255 in
     let i : ℕ = c.symbols.item-index in
     let s : ℕ = c.from-symbol.result in
     let old = c.symbols.invariant.counted in
@@ -49,5 +49,5 @@ symbols-preserved c =
 pub returns : goal.returns
 returns c =
     let all : take c.symbols.item-index c.args.symbols.now ≡ c.args.symbols.now = take_all c.symbols.item-index c.args.symbols.now (omega arith) in
-    let counted = subst (λ (z : List ℕ). IsCounted c.args.n 4294967295 c.symbols.counts z c.symbols.begun c.symbols.last c.symbols.free) all c.symbols.invariant.counted in
-    λ l r a b. counted_all c.args.n 4294967295 c.symbols.counts c.args.symbols.now c.symbols.begun c.symbols.free c.symbols.last counted l r a b
+    let counted = subst (λ (z : List ℕ). IsCounted c.args.n 255 c.symbols.counts z c.symbols.begun c.symbols.last c.symbols.free) all c.symbols.invariant.counted in
+    λ l r a b. counted_all c.args.n 255 c.symbols.counts c.args.symbols.now c.symbols.begun c.symbols.free c.symbols.last counted l r a b
