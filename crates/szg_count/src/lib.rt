@@ -4,7 +4,7 @@
 
 ghost use Rattle.std.specs.Prelude.{◌≡◌, ◌<◌, ◌≤◌, ◌^◌, length, map, sum, IsNone, IfSome, Ok, Err, Some, slice_get};
 ghost use Rattle.std.specs.List.{range_with_len};
-ghost use Rattle.szg_count.specs.Groups.{order_fault, counted, IsPart, product, ways_before};
+ghost use Rattle.szg_count.specs.Groups.{order_fault, counted, IsPart, nibble, product, ways_before};
 ghost use Rattle.szg_count.specs.Views.{nibbles_in, groups_in_slot_order};
 ghost use Rattle.szg_count.specs.Steps.{ArePositive, group_from};
 
@@ -49,6 +49,47 @@ pub struct Order {
     pub other: Option<u8>,
     /// The used men: a man code for each slot.
     pub men: ArrayVec<u8, MAX_MEN>,
+}
+
+impl Order {
+    ghost use Rattle.szg_count.specs.Groups.{nibbles_of};
+
+    /// Returns a side's nibbles of a part: the low ones of its order bytes and its man bytes for side 0, the high
+    /// ones for side 1. There are at most six man bytes. A second order byte gives the position of the other pawns;
+    /// without order bytes the lead group's position is 0.
+    pub fn of_side(side: u8, order: &[u8], men: &[u8]) -> Order
+        requires side { side < 2 }
+        requires men { length men.now ≤ 6 }
+        ensures { nibbles_in result ≡ nibbles_of side order.now men.now }
+    {
+        let lead = if order.is_empty() {
+            0
+        } else {
+            nibble_of(side, order[0])
+        };
+        let other = if order.len() > 1 {
+            Some(nibble_of(side, order[1]))
+        } else {
+            None
+        };
+        let mut used = ArrayVec::new();
+        for man in men {
+            used.push(nibble_of(side, *man));
+        }
+        Order {
+            lead,
+            other,
+            men: used,
+        }
+    }
+}
+
+// Returns a side's nibble of a byte: the low one for side 0, the high one for side 1.
+fn nibble_of(side: u8, byte: u8) -> u8
+    requires { side < 2 }
+    ensures { result ≡ nibble side byte }
+{
+    if side == 0 { byte % 16 } else { byte / 16 }
 }
 
 /// A group of slots.

@@ -79,9 +79,15 @@ pub fn lead_ways(material: &Material, part: u8) -> u64
     requires { IsPart material.now part }
     ensures { result ≡ lead_ways material.now part }
 {
-    // for proofs alone: the material's invariant, by which at most four pawns lead
-    let _men = material.men();
+    material_fits(material);
     ways_of_lead(material, part)
+}
+
+// For proofs alone: a material has a name, so at most four pawns lead.
+fn material_fits(material: &Material)
+    ensures { IsMaterial material.now }
+{
+    let _men = material.men();
 }
 
 // `lead_ways` without the invariant of the material, which is required instead.

@@ -1,6 +1,6 @@
--- Readers of headers: readings with other views, the number of items of a field of rows, and the checks of codes
+-- Readers of headers: readings with other views, and the checks of codes
 -- and dictionaries.
-use Rattle.std.proofs.Common.{◌≡◌, ℕ, zero, suc, ◌+◌, ◌*◌, List, [], length, map, take, drop, refl, sym, ap, subst, ◌∙◌, inl, inr, Option, Some, None, Err}
+use Rattle.std.proofs.Common.{◌≡◌, ℕ, zero, suc, ◌+◌, ◌*◌, List, [], length, map, take, drop, refl, sym, ap, subst, ◌∙◌, inl, inr, Option, Some, None, Ok, Err}
 use Rattle.std.specs.Prelude.{Result}
 use Rattle.std.proofs.lemmas.Bool.{cases_lt}
 use Rattle.std.proofs.lemmas.List.{length-map}
@@ -21,14 +21,17 @@ use Rattle.szg_file.specs.declared.front.Front.{Front}
 use Rattle.szg_file.specs.declared.fault.Reason.TheVariants as reason
 use Rattle.szg_file.specs.declared.fault.ReadFault.{ReadFault}
 use Rattle.szg_file.specs.declared.fault.ReadFault.TheVariants.{Refused, Device, Memory}
-use Rattle.szg_file.specs.Format.{Format, means, good, truncated, verdict, ◌>>◌}
+use Rattle.szg_file.specs.Format.{Format, means, good, truncated, verdict, ◌>>=◌, ◌>>◌}
 use Rattle.szg_file.specs.Contents.{items, number_of}
 use Rattle.szg_file.specs.File.{rows_field, none_fails, lowest_check, entries_check}
 use Rattle.szg_file.specs.Held.{numbers_field}
-use Rattle.szg_file.specs.HeadPieces.{Refuses, lowest_refusal, entries_refusal}
+use Rattle.szg_file.specs.HeadPieces.{Refuses, entries_field, lowest_refusal, entries_refusal}
 use Rattle.szg_file.specs.Reading.{Reading}
 use Rattle.szg_io.specs.declared.device.Input.{Ghosts}
 use Rattle.szg_file.proofs.FormatLaws.{field-short, field-whole}
+use Rattle.szg_file.proofs.ReadingLaws.{reads_then, reads_stopped, reads_refused}
+use Rattle.szg_file.proofs.Taken.{reads_like}
+use Rattle.szg_file.proofs.LoopReads.{reads_lacking}
 
 -- ---- readings
 
@@ -40,35 +43,6 @@ pub reads_failed : {A X Y R : Type 0} (f : Format A) (view : X → A) (view' : Y
 reads_failed f view view' (Refused place why) h = record { bytes = h.bytes; taken = h.taken; answer = h.answer }
 reads_failed f view view' Device h = record { bytes = h.bytes; taken = h.taken; answer = h.answer }
 reads_failed f view view' Memory h = record { bytes = h.bytes; taken = h.taken; answer = h.answer }
-
--- ---- rows
-
-length-items : (size count : ℕ) (bytes : List ℕ) → length (items size count bytes) ≡ count
-length-items size zero bytes = refl
-length-items size (suc count) bytes = ap suc (length-items size count (drop size bytes))
-
--- a field of `count` rows has `count` rows
-pub rows-count : (size count place : ℕ) (bytes : List ℕ) (rows : List (List ℕ)) (filled rest : List ℕ) →
-    verdict (rows_field size count) place bytes ≡ good rows filled rest → length rows ≡ count
-rows-count size count place bytes rows filled rest e =
-    elim (cases_lt (length bytes) (size * count)) [
-      | inl short ↦ let no : truncated (place + length bytes) ≡ good rows filled rest = sym (field-short (size * count) (λ b. means (items size count b)) place bytes short) ∙ e in absurd cc
-      | inr whole ↦
-          let same : good (items size count (take (size * count) bytes)) [] (drop (size * count) bytes) ≡ good rows filled rest = sym (field-whole (size * count) (λ b. means (items size count b)) place bytes whole) ∙ e in
-          let these : items size count (take (size * count) bytes) ≡ rows = cc in
-          ap length (sym these) ∙ length-items size count (take (size * count) bytes)
-    ]
-
-pub numbers-count : (count place : ℕ) (bytes list filled rest : List ℕ) →
-    verdict (numbers_field count) place bytes ≡ good list filled rest → length list ≡ count
-numbers-count count place bytes list filled rest e =
-    elim (cases_lt (length bytes) (2 * count)) [
-      | inl short ↦ let no : truncated (place + length bytes) ≡ good list filled rest = sym (field-short (2 * count) (λ b. means (map number_of (items 2 count b))) place bytes short) ∙ e in absurd cc
-      | inr whole ↦
-          let same : good (map number_of (items 2 count (take (2 * count) bytes))) [] (drop (2 * count) bytes) ≡ good list filled rest = sym (field-whole (2 * count) (λ b. means (map number_of (items 2 count b))) place bytes whole) ∙ e in
-          let these : map number_of (items 2 count (take (2 * count) bytes)) ≡ list = cc in
-          ap length (sym these) ∙ length-map (items 2 count (take (2 * count) bytes)) number_of ∙ length-items 2 count (take (2 * count) bytes)
-    ]
 
 -- ---- codes
 
@@ -166,10 +140,22 @@ entries_told place entries fault r wrong told lacks there =
     let full : fault ≡ dict.Memory → ⊥ = λ e. there (lacks e) in
     subst (λ (f : Format (Unit {0})). Refuses f r) (sym (entries_refused place entries fault wrong full)) (told full)
 
--- the refusal of lowest symbols by their fault is the refusal by their checks
-pub lowest_told : (place : ℕ) (code : CanonicalCode) (fault : CodeFault) (r : ReadFault) → HasLengths code → IsCodeFault code fault →
-    Refuses (lowest_refusal place fault) r → Refuses (lowest_check place code) r
-lowest_told place code fault r lengths wrong told = subst (λ (f : Format (Unit {0})). Refuses f r) (sym (lowest_refused place code lengths fault wrong)) told
+-- entries that were read and that are refused
+pub entries_stopped : {X Y R : Type 0} (count : ℕ) (view : X → List (List ℕ)) (view' : Y → List (List ℕ)) {o n : Front}
+    {dev : Ghosts R} {i k : R} (x : X) (r : ReadFault) →
+    ((r ≡ Memory → ⊥) → Refuses (entries_check o.place (view x)) r) →
+    Reading (rows_field 3 count) view o n dev i k (Ok x) →
+    Reading (entries_field count) view' o n dev i k (Err r)
+entries_stopped count view view' {o = o} x (Refused place why) told h =
+    let rest : List (List ℕ) → Format (List (List ℕ)) = λ entries. entries_check o.place entries >> means entries in
+    reads_like (rows_field 3 count >>= rest) (entries_field count) view' (Err (Refused place why)) (λ bytes. refl)
+    (reads_then (rows_field 3 count) rest view view' x h
+    (reads_refused (rest (view x)) view' place why (ap (λ (f : Format (Unit {0})). f >> means (view x)) (told (λ no. absurd cc)))))
+entries_stopped count view view' x Device told h = absurd (told (λ no. absurd cc))
+entries_stopped count view view' {o = o} x Memory told h =
+    let rest : List (List ℕ) → Format (List (List ℕ)) = λ entries. entries_check o.place entries >> means entries in
+    reads_like (rows_field 3 count >>= rest) (entries_field count) view' (Err Memory) (λ bytes. refl)
+    (reads_stopped (rows_field 3 count) rest view view' Memory (reads_lacking (rows_field 3 count) view view x h))
 
 -- a fault that equals `Memory`
 pub memory_is : {Y : Type 0} (fault : ReadFault) → ◌≡◌ {A = Result Y ReadFault} (Err fault) (Err Memory) → fault ≡ Memory

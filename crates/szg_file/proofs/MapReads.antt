@@ -79,22 +79,22 @@ module _ {B : Type 0} (f : Format B) where
 
 -- ---- flags
 
-abbrev pub wide_lists : Format Map
+abbrev wide_lists : Format Map
 wide_lists = each list_field (2 ∷ 2 ∷ 2 ∷ 2 ∷ []) >>= λ lists. means (wide lists)
 
-abbrev pub byte_lists : Format Map
+abbrev byte_lists : Format Map
 byte_lists = each list_field (1 ∷ 1 ∷ 1 ∷ 1 ∷ []) >>= λ lists. means (narrow lists)
 
-pub wide_behind : (flags : ℕ) → has_bit 4 flags ≡ true → map_lists flags ≡ filled_to 2 >>= (λ _. wide_lists)
+wide_behind : (flags : ℕ) → has_bit 4 flags ≡ true → map_lists flags ≡ filled_to 2 >>= (λ _. wide_lists)
 wide_behind flags e = ap (λ (b : Bool). cond b (filled_to 2 >>= (λ _. wide_lists)) byte_lists) e
 
-pub byte_behind : (flags : ℕ) → has_bit 4 flags ≡ false → map_lists flags ≡ byte_lists
+byte_behind : (flags : ℕ) → has_bit 4 flags ≡ false → map_lists flags ≡ byte_lists
 byte_behind flags e = ap (λ (b : Bool). cond b (filled_to 2 >>= (λ _. wide_lists)) byte_lists) e
 
-abbrev pub some_map : ℕ → Format (Option Map)
+abbrev some_map : ℕ → Format (Option Map)
 some_map flags = map_lists flags >>= λ lists. means (Some lists)
 
-pub map_is : (subtable : Subtable) (flags : ℕ) → flags ≡ flags_of subtable → has_bit 1 flags ≡ true → map_field subtable ≡ some_map flags
+map_is : (subtable : Subtable) (flags : ℕ) → flags ≡ flags_of subtable → has_bit 1 flags ≡ true → map_field subtable ≡ some_map flags
 map_is subtable flags same e =
     ap (λ (n : ℕ). cond (has_bit 1 n) (some_map n) (means None)) (sym same)
     ∙ ap (λ (b : Bool). cond b (some_map flags) (means None)) e
@@ -103,3 +103,21 @@ pub no_map_is : (subtable : Subtable) (flags : ℕ) → flags ≡ flags_of subta
 no_map_is subtable flags same e =
     ap (λ (n : ℕ). cond (has_bit 1 n) (some_map n) (means None)) (sym same)
     ∙ ap (λ (b : Bool). cond b (some_map flags) (means None)) e
+
+-- the rest of a wide map, and a map of bytes
+abbrev pub wide_rest : Format (Option Map)
+wide_rest = each list_field (2 ∷ 2 ∷ 2 ∷ 2 ∷ []) >>= λ lists. means (Some (wide lists))
+
+pub wide_is : (subtable : Subtable) (flags : ℕ) → flags ≡ flags_of subtable → has_bit 1 flags ≡ true → has_bit 4 flags ≡ true → map_field subtable ≡ filled_to 2 >>= (λ _. wide_rest)
+wide_is subtable flags same one four =
+    map_is subtable flags same one
+    ∙ ap (λ (t : Format Map). t >>= λ lists. means (Some lists)) (wide_behind flags four)
+    ∙ then-then (filled_to 2) (λ _. wide_lists) (λ lists. means (Some lists))
+    ∙ ap (λ (k : Unit {0} → Format (Option Map)). filled_to 2 >>= k) (λ i _. then-then (each list_field (2 ∷ 2 ∷ 2 ∷ 2 ∷ [])) (λ lists. means (wide lists)) (λ lists. means (Some lists)) i)
+
+pub bytes_is : (subtable : Subtable) (flags : ℕ) → flags ≡ flags_of subtable → has_bit 1 flags ≡ true → has_bit 4 flags ≡ false →
+    map_field subtable ≡ each list_field (1 ∷ 1 ∷ 1 ∷ 1 ∷ []) >>= (λ lists. means (Some (narrow lists)))
+bytes_is subtable flags same one four =
+    map_is subtable flags same one
+    ∙ ap (λ (t : Format Map). t >>= λ lists. means (Some lists)) (byte_behind flags four)
+    ∙ then-then (each list_field (1 ∷ 1 ∷ 1 ∷ 1 ∷ [])) (λ lists. means (narrow lists)) (λ lists. means (Some lists))

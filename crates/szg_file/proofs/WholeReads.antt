@@ -8,7 +8,7 @@ use Rattle.szg_file.specs.Format.{Format, means, field, ◌>>=◌}
 use Rattle.szg_file.specs.Contents.{Part, Subtable, Map, Contents, slots, part_numbers}
 use Rattle.szg_file.specs.File.{Begun, begun, each, magic_field, byte4_field, part_field, filled_to, head_field, maps_field, sparse_field, lengths_field, blocks_field, file}
 use Rattle.szg_file.specs.Reading.{Reading}
-use Rattle.szg_file.specs.FilePieces.{Opened, opening_field, packed_field, ending_field}
+use Rattle.szg_file.specs.FilePieces.{Opened, opening_field, measured_field, packed_field, ending_field}
 use Rattle.szg_file.specs.Unread.{file_by}
 use Rattle.szg_file.proofs.EachLaws.{then-then, then-means}
 use Rattle.szg_io.specs.declared.device.Input.{Ghosts}
@@ -44,6 +44,10 @@ after_parts material kind byte parts = filled_to 2 >>= after_gap material kind b
 
 abbrev pub after_start : Sides → Kind → ℕ → Format Opened
 after_start material kind byte = each (λ _. part_field material kind) (part_numbers material) >>= after_parts material kind byte
+
+-- the sparse indexes and the block lengths, and then the blocks
+pub packed_steps : (list : List Begun) → packed_field list ≡ measured_field list >>= each blocks_field
+packed_steps list = sym (then-then (each sparse_field list) (each lengths_field) (each blocks_field))
 
 -- ---- the three stages are the file
 

@@ -27,6 +27,12 @@ opening_field material kind = do
   found ← maps_field kind heads
   means (record { byte4 = byte; parts = parts; heads = heads; maps = found })
 
+-- the sparse indexes, the block lengths
+abbrev pub measured_field : List Begun → Format (List Begun)
+measured_field list = do
+  indexed ← each sparse_field list
+  each lengths_field indexed
+
 -- the sparse indexes, the block lengths, the blocks
 abbrev pub packed_field : List Begun → Format (List held.Subtable)
 packed_field list = do

@@ -97,8 +97,7 @@ impl Fields {
         if !maps_stand(self.kind, &self.subs, &self.maps) {
             return false;
         }
-        let last = end_bytes(self.byte4, &self.last);
-        bytes_fit(&last);
+        end_bytes(self.byte4, &self.last);
         bytes_fit(&self.fill);
         self.fill.len() as u64 == self.fill_asked()
     }

@@ -1,9 +1,8 @@
-ghost use Rattle.std.specs.Prelude.{◌≡◌, ◌≢◌, ◌+◌, ◌-◌, ◌*◌, ◌≤◌, ◌<◌, ◌^◌, length, map, nat_lt, nat_le, ◌&&◌, false, OnOk, IfOk, IfErr, Err};
+ghost use Rattle.std.specs.Prelude.{◌≡◌, ◌≢◌, ◌+◌, ◌-◌, ◌*◌, ◌≤◌, ◌<◌, ◌^◌, length, map, nat_lt, nat_le, ◌&&◌, false, OnOk, IfOk};
 ghost use Rattle.szg_code.specs.Acceptance.{IsCode};
-ghost use Rattle.szg_file.specs.Format.{means};
 ghost use Rattle.szg_file.specs.Contents.{has_bit};
-ghost use Rattle.szg_file.specs.File.{each, head_field, packed_head, byte_where, lowest_list, lowest_check, code_with, entries_check, dictionary, begun};
-ghost use Rattle.szg_file.specs.HeadPieces.{sizes_field, entries_field, Refuses, lowest_refusal, entries_refusal};
+ghost use Rattle.szg_file.specs.File.{each, head_field, packed_head, byte_where, lowest_list, code_with, dictionary, begun};
+ghost use Rattle.szg_file.specs.HeadPieces.{sizes_field, entries_field, Refuses, entries_refusal};
 ghost use Rattle.szg_file.specs.Held.{subtable_of, IsHeaded};
 ghost use Rattle.szg_file.specs.Reading.{Reading};
 ghost use Rattle.szg_file.specs.Grown.{HasCounted, begun_lengths};
@@ -222,43 +221,18 @@ fn read_lowest<R: Input>(
 {
     let place = front.place;
     let lowest = take_numbers(alloc, u64::from(max + 1 - min), input, front)?;
-    code_of_lowest(place, min, max, lowest)
-}
-
-/// Creates the code, with 0 symbols, of lowest symbols that begin at offset `place`.
-fn code_of_lowest(place: u64, min: u8, max: u8, lowest: Vec<u16>) -> Result<Code, ReadFault>
-    requires some { 1 ≤ min }
-    requires in_order { min ≤ max }
-    requires most { max ≤ 32 }
-    requires count { length lowest.items + min ≡ max + 1 }
-    requires place { place < 2 ^ 62 }
-    ensures code { IfOk result (λ code. code ≡ code_with min max lowest.items 0) }
-    ensures accepted { IfOk result IsCode }
-    ensures passes { OnOk result (lowest_check place (code_with min max lowest.items 0) ≡ means tt) }
-    ensures refused { IfErr result (Refuses (lowest_check place (code_with min max lowest.items 0))) }
-{
     match Code::new(min, max, lowest, 0) {
         Ok(code) => Ok(code),
-        Err(fault) => Err(lowest_refusal(place, fault)),
-    }
-}
-
-/// Returns the refusal for a fault of lowest symbols that begin at offset `place`.
-fn lowest_refusal(place: u64, fault: CodeFault) -> ReadFault
-    requires place { place < 2 ^ 62 }
-    requires lengths { fault ≢ CodeFault.Lengths }
-    ensures { Refuses (lowest_refusal place fault) result }
-{
-    match fault {
-        CodeFault::Lengths => unreachable!(),
-        CodeFault::LowestOrder(item) => ReadFault::Refused {
+        // the lengths were checked before
+        Err(CodeFault::Lengths) => unreachable!(),
+        Err(CodeFault::LowestOrder(item)) => Err(ReadFault::Refused {
             place: place + 2 * u64::from(item),
             reason: Reason::LowestOrder,
-        },
-        CodeFault::TooFull(item) => ReadFault::Refused {
+        }),
+        Err(CodeFault::TooFull(item)) => Err(ReadFault::Refused {
             place: place + 2 * u64::from(item),
             reason: Reason::TooFull,
-        },
+        }),
     }
 }
 
@@ -297,17 +271,6 @@ fn read_entries<R: Input>(
 {
     let place = front.place;
     let entries = take_entries(alloc, u64::from(count), input, front)?;
-    dict_of_entries(alloc, place, entries)
-}
-
-/// Creates the dictionary of entries that begin at offset `place`.
-fn dict_of_entries(alloc: Global, place: u64, entries: Vec<[u8; 3]>) -> Result<Dict, ReadFault>
-    requires count { length entries.items ≤ 65535 }
-    requires place { place < 2 ^ 62 }
-    ensures dict { IfOk result (λ dict. dict ≡ entries.items) }
-    ensures passes { OnOk result (entries_check place entries.items ≡ means tt) }
-    ensures refused { IfErr result (λ fault. fault ≢ ReadFault.Memory → Refuses (entries_check place entries.items) fault) }
-{
     match Dict::new(alloc, entries) {
         Ok(dict) => Ok(dict),
         Err(fault) => Err(entries_refusal(place, fault)),

@@ -1,6 +1,7 @@
-ghost use Rattle.std.specs.Prelude.{ℕ, ◌≡◌, ◌+◌, ◌*◌, ◌≤◌, ◌<◌, ◌^◌, ◌∷◌, [], ◌++◌, Err, length, map, OnOk, OnErr, IfOk, IfSome, IfNone, None};
+ghost use Rattle.std.specs.Prelude.{ℕ, ◌≡◌, ◌+◌, ◌*◌, ◌≤◌, ◌<◌, ◌^◌, length, map, OnOk, IfOk, IfSome, IfNone, None};
 ghost use Rattle.szg_block.specs.Subtable.{layout_of, IsShapedHead};
 ghost use Rattle.szg_file.specs.File.{each, sparse_field, lengths_field, index_check};
+ghost use Rattle.szg_file.specs.FilePieces.{measured_field};
 ghost use Rattle.szg_file.specs.Reading.{Reading, Checks};
 ghost use Rattle.szg_file.specs.Grown.{HasCounted, begun_lengths};
 ghost use Rattle.szg_file.specs.WholeRead.{sub_lengths};
@@ -47,25 +48,6 @@ fn take_each<
     Ok(taken)
 }
 
-/// Reads the sparse index of each subtable that is not constant.
-pub fn read_indexes<R: Input>(
-    alloc: Global,
-    list: Vec<Begun>,
-    input: &mut R,
-    front: &mut Front,
-) -> Result<Vec<Indexed>, ReadFault>
-    requires place { front.old.place < 2 ^ 60 }
-    requires few { length list.items ≤ 8 }
-    requires paid { front.old.growth ≤ 2 * front.old.place + 2 ^ 14 }
-    ensures indexes { Reading (each sparse_field list.items) (λ indexed. indexed.items) front.old front.new R.Input input.old input.new result }
-    ensures count { IfOk result (λ indexed. length indexed.items ≡ length list.items) }
-    ensures place { OnOk result (front.new.place ≤ front.old.place + 2 ^ 40) }
-    ensures growth { OnOk result (front.new.growth + 2 * front.old.place ≤ front.old.growth + 2 * front.new.place + 8) }
-    ensures grown { IfOk result (λ indexed. HasCounted front.old front.new (begun_lengths list.items) (length indexed.items + begun_lengths indexed.items)) }
-{
-    take_each(alloc, list, read_index, input, front)
-}
-
 /// Reads one subtable's sparse index into it, and records its offset. A constant subtable has none.
 fn read_index<R: Input>(
     alloc: Global,
@@ -94,23 +76,26 @@ fn read_index<R: Input>(
     Ok(Indexed { slot, sub, index })
 }
 
-/// Reads the block lengths of each subtable that is not constant.
+/// Reads the sparse index of each subtable that is not constant, and then the block lengths of each.
 pub fn read_lengths<R: Input>(
     alloc: Global,
-    list: Vec<Indexed>,
+    list: Vec<Begun>,
     input: &mut R,
     front: &mut Front,
 ) -> Result<Vec<Measured>, ReadFault>
-    requires place { front.old.place < 2 ^ 60 }
+    requires place { front.old.place < 2 ^ 59 }
     requires few { length list.items ≤ 8 }
-    requires paid { front.old.growth ≤ 2 * front.old.place + 2 ^ 14 }
-    ensures lengths { Reading (each lengths_field list.items) (λ measured. measured.items) front.old front.new R.Input input.old input.new result }
+    requires paid { front.old.growth ≤ 2 * front.old.place + 2 ^ 13 }
+    ensures lengths { Reading (measured_field list.items) (λ measured. measured.items) front.old front.new R.Input input.old input.new result }
+    ensures slots { IfOk result (λ measured. map (λ measured. measured.slot) measured.items ≡ map (λ begun. begun.slot) list.items) }
     ensures count { IfOk result (λ measured. length measured.items ≡ length list.items) }
-    ensures place { OnOk result (front.new.place ≤ front.old.place + 2 ^ 40) }
-    ensures growth { OnOk result (front.new.growth + 2 * front.old.place ≤ front.old.growth + 2 * front.new.place + 8) }
-    ensures grown { IfOk result (λ measured. HasCounted front.old front.new (begun_lengths list.items) (length measured.items + begun_lengths measured.items)) }
+    ensures place { OnOk result (front.new.place ≤ front.old.place + 2 ^ 41) }
+    ensures growth { OnOk result (front.new.growth + 2 * front.old.place ≤ front.old.growth + 2 * front.new.place + 16) }
+    ensures grown { IfOk result (λ measured. HasCounted front.old front.new (begun_lengths list.items) (2 * length measured.items + begun_lengths measured.items)) }
 {
-    take_each(alloc, list, read_measured, input, front)
+    let indexed = take_each(alloc, list, read_index, input, front)?;
+    let measured = take_each(alloc, indexed, read_measured, input, front)?;
+    Ok(measured)
 }
 
 /// Reads one subtable's block lengths into it, and checks them and the sparse index. A constant subtable has none.

@@ -1,6 +1,6 @@
-ghost use Rattle.std.specs.Prelude.{ℕ, List, ◌≡◌, ◌+◌, ◌*◌, ◌≤◌, ◌<◌, ◌^◌, ◌∷◌, [], length, map, option_map, OnOk, IfOk, Some};
+ghost use Rattle.std.specs.Prelude.{ℕ, List, ◌+◌, ◌*◌, ◌≤◌, ◌<◌, ◌^◌, ◌∷◌, [], length, map, option_map, OnOk, IfOk};
 ghost use Rattle.std.specs.List.{sum_by};
-ghost use Rattle.szg_file.specs.File.{each, list_field, map_lists, map_field, maps_field};
+ghost use Rattle.szg_file.specs.File.{each, list_field, map_field, maps_field};
 ghost use Rattle.szg_file.specs.Format.{Format};
 ghost use Rattle.szg_file.specs.Held.{map_of};
 ghost use Rattle.szg_file.specs.Loading.{MayRead, ReadsFew, ReadsAs};
@@ -37,37 +37,19 @@ pub fn read_maps<R: Input>(
     match kind {
         Kind::Wdl => Ok(Vec::new(alloc)),
         Kind::Dtz => {
-            let maps = read_each(alloc, heads, input, front)?;
+            let mut list = Vec::new(alloc);
+            'heads: for head in heads {
+                let lists = read_map(alloc, head, input, front)?;
+                append(&mut list, lists, front)?;
+            }
             take_fill(alloc, 2, input, front)?;
-            Ok(maps)
+            Ok(list)
         }
     }
 }
 
-/// Reads the map of each part that has one.
-fn read_each<R: Input>(
-    alloc: Global,
-    heads: &[Begun],
-    input: &mut R,
-    front: &mut Front,
-) -> Result<Vec<Option<Map>>, ReadFault>
-    requires place { front.old.place < 2 ^ 60 }
-    requires few { length heads.now ≤ 8 }
-    requires paid { front.old.growth ≤ 2 * front.old.place + 2 ^ 14 }
-    ensures maps { Reading (each map_field (map (λ begun. begun.subtable) heads.now)) (λ list. map (option_map map_of) list.items) front.old front.new R.Input input.old input.new result }
-    ensures place { OnOk result (front.new.place ≤ front.old.place + 8 * 600000) }
-    ensures growth { OnOk result (front.new.growth + 2 * front.old.place ≤ front.old.growth + 2 * front.new.place + 8) }
-    ensures grown { IfOk result (λ list. HasCounted front.old front.new 0 (length list.items + maps_lengths list.items)) }
-{
-    let mut list = Vec::new(alloc);
-    'heads: for head in heads {
-        let lists = read_map(alloc, head, input, front)?;
-        append(&mut list, lists, front)?;
-    }
-    Ok(list)
-}
-
-/// Reads the map of a part if bit 1 of its flags is set.
+/// Reads the map of a part if bit 1 of its flags is set. With bit 4 (flag 16) its lists are wide and begin at an even
+/// offset.
 fn read_map<R: Input>(
     alloc: Global,
     begun: &Begun,
@@ -85,31 +67,13 @@ fn read_map<R: Input>(
     if !has_bit(1, flags) {
         return Ok(None);
     }
-    let lists = read_lists(alloc, flags, input, front)?;
-    Ok(Some(lists))
-}
-
-/// Reads a map. With bit 4 of the flags (flag 16) its lists are wide and begin at an even offset.
-fn read_lists<R: Input>(
-    alloc: Global,
-    flags: u8,
-    input: &mut R,
-    front: &mut Front,
-) -> Result<Map, ReadFault>
-    requires place { front.old.place + 600000 < 2 ^ 62 }
-    requires paid { front.old.growth ≤ 2 * front.old.place + 2 ^ 15 }
-    ensures lists { Reading (map_lists flags) map_of front.old front.new R.Input input.old input.new result }
-    ensures place { OnOk result (front.new.place ≤ front.old.place + 600000) }
-    ensures growth { OnOk result (front.new.growth + 2 * front.old.place ≤ front.old.growth + 2 * front.new.place) }
-    ensures grown { IfOk result (λ lists. HasCounted front.old front.new 0 (map_lengths (Some (map_of lists)))) }
-{
     if has_bit(4, flags) {
         take_fill(alloc, 2, input, front)?;
         let lists = read_four(alloc, read_numbers, input, front)?;
-        return Ok(Map::Wide(lists));
+        return Ok(Some(Map::Wide(lists)));
     }
     let lists = read_four(alloc, read_bytes, input, front)?;
-    Ok(Map::Bytes(lists))
+    Ok(Some(Map::Bytes(lists)))
 }
 
 /// Reads four lists, each by a call of `read`: for wins, losses, cursed wins and blessed losses.

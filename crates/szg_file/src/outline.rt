@@ -16,7 +16,7 @@ use crate::dropping::{PlacedSub, pass_subs};
 use crate::fault::ReadFault;
 use crate::forward::Ahead;
 use crate::front::Front;
-use crate::index::{read_indexes, read_lengths};
+use crate::index::read_lengths;
 use crate::parts::Parts;
 use crate::reading::{Opening, read_ending, read_opening};
 use crate::sink::ValueSink;
@@ -57,8 +57,7 @@ fn outline_subtables<R: Input + Ahead, W, K: ValueSink<W>>(
     ensures many { IfOk result (λ subs. length subs.items ≡ length heads.items) }
     ensures accepted { IfOk result (λ subs. Accepted K.accepts (wanted_values (K.wanted sink.old) kind (slotted (map (λ begun. begun.slot) heads.items) (map (whole_sub (R.moved input.new)) subs.items))) sink.old out.old sink.new out.new) }
 {
-    let indexed = read_indexes(alloc, heads, input, front)?;
-    let measured = read_lengths(alloc, indexed, input, front)?;
+    let measured = read_lengths(alloc, heads, input, front)?;
     pass_subs(alloc, kind, measured, buffer, input, front, sink, out)
 }
 

@@ -1,20 +1,19 @@
-ghost use Rattle.std.specs.Prelude.{ℕ, ◌≡◌, ◌+◌, ◌*◌, ◌≤◌, ◌<◌, ◌^◌, ◌∷◌, ◌++◌, [], length, map, if◌then◌else◌, Some, None, OnOk, IfOk, IfErr, IfSome, OnErr, Err};
+ghost use Rattle.std.specs.Prelude.{ℕ, ◌≡◌, ◌+◌, ◌*◌, ◌≤◌, ◌<◌, ◌^◌, ◌∷◌, ◌++◌, [], length, map, if◌then◌else◌, None, OnOk, IfOk, IfErr, IfSome, OnErr, Err};
 ghost use Rattle.std.specs.List.{range_with_len};
 ghost use Rattle.szg_values.specs.Material.{man_codes};
-ghost use Rattle.szg_count.specs.Groups.{IsPart, nibble, nibbles_of, order_fault, size_of};
-ghost use Rattle.szg_count.specs.Views.{nibbles_in};
+ghost use Rattle.szg_count.specs.Groups.{IsPart, nibbles_of, order_fault, size_of};
 ghost use Rattle.szg_file.specs.Contents.{slots, part_slots, part_numbers, side_numbers, order_bytes};
-ghost use Rattle.szg_file.specs.File.{each, part_field, part_checks, order_check, part_of_bytes};
+ghost use Rattle.szg_file.specs.File.{each, part_field, part_checks, order_check};
 ghost use Rattle.szg_file.specs.Format.{means, refuses};
 ghost use Rattle.szg_file.specs.Held.{part_of};
 ghost use Rattle.szg_file.specs.Parts.{part_with, slots_with};
-ghost use Rattle.szg_file.specs.Reading.{Reading, Checks};
+ghost use Rattle.szg_file.specs.Reading.{Reading};
 ghost use Rattle.szg_file.specs.Grown.{HasCounted, parts_lengths};
 ghost use Rattle.szg_file.specs.Grown.{part_length};
 
 use crate::begun::Slot;
 use crate::fault::{ReadFault, Reason};
-use crate::front::{Front, grow};
+use crate::front::{Front, append, grow};
 use crate::table::PartBytes;
 use crate::taking::take_field;
 use arrayvec::ArrayVec;
@@ -53,8 +52,8 @@ pub fn man_count(material: &Material) -> usize
     material.men().len()
 }
 
-/// Returns whether each part has subtables for both sides.
-fn has_two_sides(material: &Material, kind: Kind) -> bool
+/// Returns whether each part has subtables for both sides: in WDL, unless the material is symmetric.
+pub fn has_two_sides(material: &Material, kind: Kind) -> bool
     ensures { side_numbers material.now kind ≡ (if result then 0 ∷ 1 ∷ [] else 0 ∷ []) }
 {
     match kind {
@@ -63,56 +62,33 @@ fn has_two_sides(material: &Material, kind: Kind) -> bool
     }
 }
 
-/// Returns the nibble of a side: the low one for side 0.
-fn nibble_of(side: u8, byte: u8) -> u8
-    requires { side < 2 }
-    ensures { result ≡ nibble side byte }
-{
-    if side == 0 { byte % 16 } else { byte / 16 }
-}
-
-/// Returns the order nibbles of a side of a part.
-fn order_of(side: u8, order: &[u8], men: &[u8]) -> Order
-    requires side { side < 2 }
-    requires order { 1 ≤ length order.now }
-    requires men { length men.now ≤ 6 }
-    ensures { nibbles_in result ≡ nibbles_of side order.now men.now }
-{
-    let other = if order.len() > 1 {
-        Some(nibble_of(side, order[1]))
-    } else {
-        None
-    };
-    let mut used = ArrayVec::new();
-    'men: for man in men {
-        used.push(nibble_of(side, *man));
-    }
-    Order {
-        lead: nibble_of(side, order[0]),
-        other,
-        men: used,
-    }
-}
-
-/// Returns the number of positions of a part's side. Errors: the first failing check of its order.
+/// Returns the number of positions of a side of a part that begins at offset `place`. Errors: the offset and the reason
+/// of the refusal, for the first failing check of the side's order.
 fn side_size(
     material: &Material,
     part: u8,
     side: u8,
+    place: u64,
     order: &[u8],
     men: &[u8],
-) -> Result<u64, OrderFault>
+) -> Result<u64, (u64, Reason)>
     requires part { IsPart material.now part }
     requires side { side < 2 }
-    requires order { 1 ≤ length order.now }
+    requires place { place < 2 ^ 61 }
+    requires order { length order.now ≤ 2 }
     requires men { length men.now ≤ 6 }
     ensures stands { OnOk result (order_fault material.now (nibbles_of side order.now men.now) ≡ None) }
     ensures size { IfOk result (λ size. size ≡ size_of material.now part (nibbles_of side order.now men.now)) }
     ensures fits { IfOk result (λ size. size < 2 ^ 33) }
-    ensures fault { IfErr result (λ fault. order_fault material.now (nibbles_of side order.now men.now) ≡ Some fault) }
+    ensures refuses { IfErr result (λ refusal. order_check place (length order.now) (order_fault material.now (nibbles_of side order.now men.now)) ≡ refuses refusal.0 refusal.1) }
 {
-    let groups = Groups::of(material, part, &order_of(side, order, men))?;
-    Ok(groups.size())
+    let after = place + order.len() as u64;
+    match Groups::of(material, part, &Order::of_side(side, order, men)) {
+        Ok(groups) => Ok(groups.size()),
+        Err(OrderFault::Pieces) => Err((after, Reason::Pieces)),
+        Err(OrderFault::PawnsFirst) => Err((after, Reason::PawnsFirst)),
+        Err(OrderFault::OrderPlace) => Err((place, Reason::OrderPlace)),
+    }
 }
 
 /// The sizes of the sides of a part.
@@ -120,20 +96,6 @@ fn side_size(
 pub struct SideSizes {
     pub first: u64,
     pub second: Option<u64>,
-}
-
-/// Returns the offset and the reason of the refusal of a part that begins at offset `place`, for a fault of its
-/// order.
-fn refusal_of(fault: OrderFault, place: u64, orders: usize) -> (u64, Reason)
-    requires place { place < 2 ^ 61 }
-    requires orders { orders ≤ 2 }
-    ensures { order_check place orders (Some fault) ≡ refuses result.0 result.1 }
-{
-    match fault {
-        OrderFault::Pieces => (place + orders as u64, Reason::Pieces),
-        OrderFault::PawnsFirst => (place + orders as u64, Reason::PawnsFirst),
-        OrderFault::OrderPlace => (place, Reason::OrderPlace),
-    }
 }
 
 /// Returns the sizes of the sides of a part that begins at offset `place`. Errors: the offset and the reason of its
@@ -155,23 +117,18 @@ pub fn part_sizes(
     ensures fits { IfOk result (λ sizes. (sizes.first < 2 ^ 33) × IfSome sizes.second (λ second. second < 2 ^ 33)) }
     ensures refuses { IfErr result (λ refusal. part_checks material.now kind place (part_with order.now men.now) ≡ refuses refusal.0 refusal.1) }
 {
-    let first = match side_size(material, part, 0, order, men) {
-        Ok(size) => size,
-        Err(fault) => return Err(refusal_of(fault, place, order.len())),
-    };
+    let first = side_size(material, part, 0, place, order, men)?;
     if !has_two_sides(material, kind) {
         return Ok(SideSizes {
             first,
             second: None,
         });
     }
-    match side_size(material, part, 1, order, men) {
-        Ok(second) => Ok(SideSizes {
-            first,
-            second: Some(second),
-        }),
-        Err(fault) => Err(refusal_of(fault, place, order.len())),
-    }
+    let second = side_size(material, part, 1, place, order, men)?;
+    Ok(SideSizes {
+        first,
+        second: Some(second),
+    })
 }
 
 /// Returns a copy of bytes that were already read.
@@ -226,10 +183,11 @@ fn read_part<R: Input>(
     Ok((PartBytes { order, men }, sizes))
 }
 
-/// Returns the number of parts of a file.
+/// Returns the number of parts of a file: four with pawns, else one.
 pub fn part_count(material: &Material) -> u8
     ensures numbers { part_numbers material.now ≡ range_with_len 0 result }
     ensures parts { (part : ℕ) → part < result → IsPart material.now part }
+    ensures some { 0 < result }
     ensures few { result ≤ 4 }
 {
     if material.has_pawns() { 4 } else { 1 }
@@ -257,33 +215,6 @@ pub fn push_slots(slots: &mut ArrayVec<Slot, 8>, part: u8, sizes: SideSizes)
     }
 }
 
-/// Appends a part and its slots.
-fn push_part(
-    parts: &mut Parts,
-    part: u8,
-    bytes: PartBytes,
-    sizes: SideSizes,
-    front: &mut Front,
-) -> Result<(), ReadFault>
-    requires part { part < 4 }
-    requires first { sizes.first < 2 ^ 33 }
-    requires second { IfSome sizes.second (λ second. second < 2 ^ 33) }
-    requires room { length parts.old.slots.items ≤ 6 }
-    requires place { front.old.place < 2 ^ 61 }
-    requires paid { front.old.growth ≤ 2 * front.old.place + 2 ^ 15 }
-    ensures bytes { OnOk result (parts.new.bytes.items ≡ parts.old.bytes.items ++ bytes ∷ []) }
-    ensures slots { OnOk result (parts.new.slots.items ≡ parts.old.slots.items ++ slots_with part sizes.first sizes.second) }
-    ensures growth { OnOk result (front.new.growth ≡ front.old.growth + 1) }
-    ensures place { OnOk result (front.new.place ≡ front.old.place) }
-    ensures fill { OnOk result (front.new.fill.items ≡ front.old.fill.items) }
-    ensures memory { OnErr result (result ≡ Err ReadFault.Memory) }
-{
-    grow(&mut parts.bytes, 1, front)?;
-    parts.bytes.push(bytes)?;
-    push_slots(&mut parts.slots, part, sizes);
-    Ok(())
-}
-
 /// Reads the parts.
 pub fn read_parts<R: Input>(
     alloc: Global,
@@ -307,7 +238,8 @@ pub fn read_parts<R: Input>(
     };
     'parts: for part in 0..part_count(material) {
         let (bytes, sizes) = read_part(alloc, material, kind, part, input, front)?;
-        push_part(&mut parts, part, bytes, sizes, front)?;
+        append(&mut parts.bytes, bytes, front)?;
+        push_slots(&mut parts.slots, part, sizes);
     }
     Ok(parts)
 }

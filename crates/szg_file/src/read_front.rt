@@ -9,7 +9,7 @@ ghost use Rattle.szg_file.specs.Unread.{front_field};
 use crate::begun::Measured;
 use crate::fault::ReadFault;
 use crate::front::Front;
-use crate::index::{read_indexes, read_lengths};
+use crate::index::read_lengths;
 use crate::parts::Parts;
 use crate::reading::{Opening, read_opening};
 use crate::table::Map;
@@ -47,8 +47,7 @@ pub fn read_front<R: Input>(
         heads,
         maps,
     } = read_opening(alloc, material, kind, input, front)?;
-    let indexed = read_indexes(alloc, heads, input, front)?;
-    let measured = read_lengths(alloc, indexed, input, front)?;
+    let measured = read_lengths(alloc, heads, input, front)?;
     Ok(FrontRead {
         byte4,
         parts,

@@ -16,7 +16,7 @@ use crate::blocks::read_blocks;
 use crate::fault::ReadFault;
 use crate::front::Front;
 use crate::heads::read_heads;
-use crate::index::{read_indexes, read_lengths};
+use crate::index::read_lengths;
 use crate::maps::read_maps;
 use crate::parts::{Parts, read_parts};
 use crate::start::read_start;
@@ -93,8 +93,7 @@ fn read_subtables<R: Input>(
     ensures growth { OnOk result (front.new.growth ≤ 2 * front.new.place + 44) }
     ensures grown { IfOk result (λ subs. HasCounted front.old front.new (begun_lengths heads.items) (2 * length subs.items + subs_lengths subs.items)) }
 {
-    let indexed = read_indexes(alloc, heads, input, front)?;
-    let measured = read_lengths(alloc, indexed, input, front)?;
+    let measured = read_lengths(alloc, heads, input, front)?;
     read_blocks(alloc, measured, input, front)
 }
 

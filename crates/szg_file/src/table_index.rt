@@ -59,7 +59,10 @@ pub fn index_of_subs(
     ensures { result ≡ index_with material kind (map part_of parts.bytes.items) (map flags_byte (map subtable_of subs.now)) (map (option_map map_of) maps.items) }
 {
     parts_fit(&parts);
-    let flags = flags_of_all(subs);
+    let mut flags = ArrayVec::new();
+    for sub in subs {
+        flags.push(flags_of(sub));
+    }
     TableIndex::new(material, kind, parts, flags, maps)
 }
 
@@ -78,18 +81,6 @@ pub fn index_of_placed(
     parts_fit(&parts);
     let flags = flags_of_placed(subs);
     TableIndex::new(material, kind, parts, flags, maps)
-}
-
-// Returns the flag bytes of subtables.
-fn flags_of_all(subs: &[Sub]) -> ArrayVec<u8, 8>
-    requires { length subs.now ≤ 8 }
-    ensures { result.items ≡ map (λ sub. flags_byte (subtable_of sub)) subs.now }
-{
-    let mut flags = ArrayVec::new();
-    for sub in subs {
-        flags.push(flags_of(sub));
-    }
-    flags
 }
 
 /// Returns the flag bytes of subtables whose blocks are not in memory.

@@ -1,8 +1,7 @@
 //! Reading from a device: fields, numbers, lists and padding.
-ghost use Rattle.std.specs.Prelude.{◌≡◌, ◌+◌, ◌*◌, ◌≤◌, ◌<◌, ◌^◌, ◌/◌, length, map, take, drop, Err, OnOk, IfOk, OnErr, IsErrOf};
+ghost use Rattle.std.specs.Prelude.{◌≡◌, ◌+◌, ◌*◌, ◌≤◌, ◌<◌, ◌^◌, length, map, take, drop, Err, OnOk, IfOk, OnErr, IsErrOf};
 ghost use Rattle.szg_file.specs.Format.{field, means};
-ghost use Rattle.szg_file.specs.Contents.{number_of, items};
-ghost use Rattle.szg_file.specs.File.{filled_to, rows_field, entry_of_bytes, number_field};
+ghost use Rattle.szg_file.specs.File.{filled_to, rows_field, number_field};
 ghost use Rattle.szg_file.specs.Held.{sparse_of, numbers_field, sparse_rows, spare_field};
 ghost use Rattle.szg_file.specs.Reading.{Reading};
 ghost use Rattle.szg_file.specs.Grown.{HasCounted};
@@ -223,27 +222,6 @@ fn grow_ahead<T>(
     Ok(more)
 }
 
-/// Decodes consecutive two-byte numbers.
-fn numbers(alloc: Global, bytes: &[u8], front: &mut Front) -> Result<Vec<u16>, ReadFault>
-    requires paid { front.old.growth + length bytes.now ≤ 2 * front.old.place + 2 ^ 15 }
-    requires place { front.old.place < 2 ^ 62 }
-    ensures numbers { IfOk result (λ list. list.items ≡ map number_of (items 2 (length bytes.now / 2) bytes.now)) }
-    ensures count { IfOk result (λ list. length list.items ≡ length bytes.now / 2) }
-    ensures growth { OnOk result (front.new.growth ≡ front.old.growth + length bytes.now / 2) }
-    ensures place { OnOk result (front.new.place ≡ front.old.place) }
-    ensures fill { OnOk result (front.new.fill.items ≡ front.old.fill.items) }
-    ensures memory { OnErr result (result ≡ Err ReadFault.Memory) }
-{
-    let mut list = Vec::new(alloc);
-    let mut room = 0;
-    'rows: for i in 0..bytes.len() / 2 {
-        room = grow_ahead(&mut list, room, bytes.len() / 2 - i, front)? - 1;
-        let number = LittleEndian::read_u16(&bytes[2 * i..]);
-        list.push(number)?;
-    }
-    Ok(list)
-}
-
 /// Reads `count` two-byte numbers as one field.
 pub fn take_numbers<R: Input>(
     alloc: Global,
@@ -260,26 +238,13 @@ pub fn take_numbers<R: Input>(
     ensures grown { IfOk result (λ list. HasCounted front.old front.new 0 (length list.items)) }
 {
     let bytes = take_bytes(alloc, 2 * count, input, front)?;
-    numbers(alloc, &bytes, front)
-}
-
-/// Decodes consecutive three-byte entries.
-fn entries(alloc: Global, bytes: &[u8], front: &mut Front) -> Result<Vec<[u8; 3]>, ReadFault>
-    requires paid { front.old.growth + length bytes.now ≤ 2 * front.old.place + 2 ^ 15 }
-    requires place { front.old.place < 2 ^ 62 }
-    ensures entries { IfOk result (λ list. list.items ≡ items 3 (length bytes.now / 3) bytes.now) }
-    ensures count { IfOk result (λ list. length list.items ≡ length bytes.now / 3) }
-    ensures growth { OnOk result (front.new.growth ≡ front.old.growth + length bytes.now / 3) }
-    ensures place { OnOk result (front.new.place ≡ front.old.place) }
-    ensures fill { OnOk result (front.new.fill.items ≡ front.old.fill.items) }
-    ensures memory { OnErr result (result ≡ Err ReadFault.Memory) }
-{
+    let rows = bytes.as_slice();
     let mut list = Vec::new(alloc);
     let mut room = 0;
-    'rows: for i in 0..bytes.len() / 3 {
-        room = grow_ahead(&mut list, room, bytes.len() / 3 - i, front)? - 1;
-        let row = &bytes[3 * i..];
-        list.push([row[0], row[1], row[2]])?;
+    'rows: for i in 0..rows.len() / 2 {
+        room = grow_ahead(&mut list, room, rows.len() / 2 - i, front)? - 1;
+        let number = LittleEndian::read_u16(&rows[2 * i..]);
+        list.push(number)?;
     }
     Ok(list)
 }
@@ -300,28 +265,13 @@ pub fn take_entries<R: Input>(
     ensures grown { IfOk result (λ list. HasCounted front.old front.new 0 (2 * length list.items)) }
 {
     let bytes = take_bytes(alloc, 3 * count, input, front)?;
-    entries(alloc, &bytes, front)
-}
-
-/// Decodes consecutive entries of a sparse index, six bytes each.
-fn sparse_entries(alloc: Global, bytes: &[u8], front: &mut Front) -> Result<Vec<Entry>, ReadFault>
-    requires paid { front.old.growth + length bytes.now ≤ 2 * front.old.place + 2 ^ 15 }
-    requires place { front.old.place < 2 ^ 62 }
-    ensures entries { IfOk result (λ list. map sparse_of list.items ≡ map entry_of_bytes (items 6 (length bytes.now / 6) bytes.now)) }
-    ensures count { IfOk result (λ list. length list.items ≡ length bytes.now / 6) }
-    ensures growth { OnOk result (front.new.growth ≡ front.old.growth + length bytes.now / 6) }
-    ensures place { OnOk result (front.new.place ≡ front.old.place) }
-    ensures fill { OnOk result (front.new.fill.items ≡ front.old.fill.items) }
-    ensures memory { OnErr result (result ≡ Err ReadFault.Memory) }
-{
+    let rows = bytes.as_slice();
     let mut list = Vec::new(alloc);
     let mut room = 0;
-    'rows: for i in 0..bytes.len() / 6 {
-        room = grow_ahead(&mut list, room, bytes.len() / 6 - i, front)? - 1;
-        let row = &bytes[6 * i..];
-        let block = LittleEndian::read_u32(row);
-        let offset = LittleEndian::read_u16(&row[4..]);
-        list.push(Entry { block, offset })?;
+    'rows: for i in 0..rows.len() / 3 {
+        room = grow_ahead(&mut list, room, rows.len() / 3 - i, front)? - 1;
+        let row = &rows[3 * i..];
+        list.push([row[0], row[1], row[2]])?;
     }
     Ok(list)
 }
@@ -342,5 +292,15 @@ pub fn take_sparse<R: Input>(
     ensures grown { IfOk result (λ list. HasCounted front.old front.new 0 (length list.items)) }
 {
     let bytes = take_bytes(alloc, 6 * count, input, front)?;
-    sparse_entries(alloc, &bytes, front)
+    let rows = bytes.as_slice();
+    let mut list = Vec::new(alloc);
+    let mut room = 0;
+    'rows: for i in 0..rows.len() / 6 {
+        room = grow_ahead(&mut list, room, rows.len() / 6 - i, front)? - 1;
+        let row = &rows[6 * i..];
+        let block = LittleEndian::read_u32(row);
+        let offset = LittleEndian::read_u16(&row[4..]);
+        list.push(Entry { block, offset })?;
+    }
+    Ok(list)
 }

@@ -1,12 +1,13 @@
-//! Steps for proofs alone: what the types of values imply, a function a type. None allocates or changes anything.
+//! Steps for proofs alone: what the types of values imply, a function a type. They allocate nothing and change nothing.
 ghost use Rattle.std.specs.Prelude.{◌≡◌, ◌≤◌, ◌<◌, ◌^◌, length, map};
 ghost use Rattle.std.specs.List.{AllByRecursion};
 ghost use Rattle.szg_code.specs.Acceptance.{IsCode};
-ghost use Rattle.szg_file.specs.Accepted.{AreNumbers, AreBytes, IsEntry};
+ghost use Rattle.szg_file.specs.Accepted.{AreNumbers, AreBytes, IsAccepted, IsEntry};
 ghost use Rattle.szg_file.specs.Assembled.{IsTyped};
 ghost use Rattle.szg_file.specs.Held.{sparse_of, subtable_of};
 
 use crate::parts::Parts;
+use crate::table::Table;
 use szg_block::{Entry, Sub};
 use szg_code::Code;
 use szg_pairs::Dict;
@@ -17,7 +18,7 @@ pub fn bytes_fit(list: &[u8])
 {}
 
 /// Two-byte numbers are below 2^16.
-fn words_fit(list: &[u16])
+pub fn words_fit(list: &[u16])
     ensures { AreNumbers 2 list.now }
 {}
 
@@ -54,7 +55,7 @@ fn entries_fit(dict: &Dict)
 }
 
 /// The numbers of a subtable fit their types, and its code and its dictionary are accepted.
-pub fn sub_fits(sub: &Sub)
+pub(crate) fn sub_fits(sub: &Sub)
     ensures { IsTyped (subtable_of sub.now) }
 {
     match sub {
@@ -84,23 +85,32 @@ pub fn sub_fits(sub: &Sub)
     }
 }
 
-/// Returns the last sixteen bytes unchanged: they and byte 4 are bytes.
+/// Returns the last sixteen bytes unchanged: they and byte 4 are below 256.
 pub fn end_bytes(byte4: u8, last: &[u8; 16]) -> [u8; 16]
     ensures byte4 { byte4 < 256 }
     ensures last { result ≡ last.now }
+    ensures bytes { AreBytes 16 last.now }
 {
+    bytes_fit(last);
     *last
 }
 
+/// A table is an accepted one: it passes every check of the format.
+pub fn table_fits(table: &Table)
+    ensures { IsAccepted table.now.contents table.now.filled }
+{
+    let _fill = table.fill();
+}
+
 /// A code is accepted: none of its words begins another.
-pub fn code_fits(code: &Code)
+pub(crate) fn code_fits(code: &Code)
     ensures { IsCode code.now }
 {
     let _symbols = code.symbols();
 }
 
 /// A table has at most eight slots.
-pub fn parts_fit(parts: &Parts)
+pub(crate) fn parts_fit(parts: &Parts)
     ensures { length parts.now.slots.items ≤ 8 }
 {
     let _slots = parts.slots.as_slice();

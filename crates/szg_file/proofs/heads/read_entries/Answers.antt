@@ -1,11 +1,14 @@
-use Rattle.std.proofs.Common.{arith, []}
-use Rattle.szg_file.proofs.HeadReads.{rows-count}
+use Rattle.std.proofs.Common.{arith, sym}
+use Rattle.std.proofs.lemmas.Grind.{common_steps}
+use Rattle.szg_file.proofs.HeadReads.{entries_pass, entries_told, entries_stopped}
 use Rattle.szg_file.proofs.heads.read_entries.Goals as goal
 
-pub dict_of_entries-requires-clause-count : goal.dict_of_entries-requires-clause-count
-dict_of_entries-requires-clause-count g c =
-    let h = c.in_ok-entries.ensures.rows.answer.0 in
-    let count = rows-count 3 c.from.result c.args.front.now.place c.in_ok-entries.ensures.rows.bytes c.in_ok-entries.entries.items h.filled [] h.whole in
-    let fits = c.ranges.count in
-    let same = c.from.ensures in
-    omega (arith, count, fits, same)
+pub returns-in-Ok-clause-entries : goal.returns-in-Ok-clause-entries
+returns-in-Ok-clause-entries g c =
+    let passes = entries_pass c.args.front.now.place c.in_ok-entries.entries.items c.in-Ok.ensures.accepted.1 in
+    grind (arith, common_steps, passes)
+
+pub returns-in-Err-clause-entries : goal.returns-in-Err-clause-entries
+returns-in-Err-clause-entries g c =
+    let told = entries_told c.args.front.now.place c.in_ok-entries.entries.items c.in-Err.fault c.entries_refusal.result c.in-Err.ensures.refused c.entries_refusal.ensures.refused c.entries_refusal.ensures.memory in
+    rw (sym c.from.ensures) (entries_stopped c.from.result (λ list. list.items) (λ dict. dict) c.in_ok-entries.entries c.entries_refusal.result told c.in_ok-entries.ensures.rows)

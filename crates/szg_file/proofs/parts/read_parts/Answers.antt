@@ -70,15 +70,15 @@ returns-in_err-bytes-clause-parts g c =
     _ _ (λ parts. map part_of parts.bytes.items) tt c.in_err-bytes.field-0.0 c.parts.invariant.0 c.in_err-bytes.ensures.part in
     rw (p.1, p.2) (reads_equal _ _ _ (Err c.in_err-bytes.field-0.0) (ap (each one) (sym e)) stopped)
 
-pub returns-in_err-push_part-clause-parts : goal.returns-in_err-push_part-clause-parts
-returns-in_err-push_part-clause-parts g c =
-    let p = err_from_is_err_and c.from_residual-in_err-push_part.result c.from_residual-in_err-push_part.ensures.1 in
+pub returns-in_err-append-clause-parts : goal.returns-in_err-append-clause-parts
+returns-in_err-append-clause-parts g c =
+    let p = err_from_is_err_and c.from_residual-in_err-append.result c.from_residual-in_err-append.ensures.1 in
     let one : ℕ → Format Part = λ _. part_field c.args.material.now c.args.kind in
     let e = numbers_at _ c.part_count-part-end.result c.parts.part c.part_count-part-end.ensures.numbers c.parts-test.true in
     let stopped = reads_more_stopped one (range_with_len 0 c.parts.part) c.parts.part (range_with_len (c.parts.part + 1) (c.part_count-part-end.result - c.parts.part - 1))
     _ _ (λ parts. map part_of parts.bytes.items) tt Memory c.parts.invariant.0
     (reads_lacking (one c.parts.part) read_as read_as (c.in_ok-bytes.bytes, c.in_ok-bytes.sizes) c.in_ok-bytes.ensures.part) in
-    let fault : c.in_err-push_part.field-0.0 ≡ Memory = fault_inside c.in_err-push_part.field-0.0 c.in_err-push_part.ensures.memory in
+    let fault : c.in_err-append.field-0.0 ≡ Memory = fault_inside c.in_err-append.field-0.0 c.in_err-append.ensures.memory in
     rw (p.1, p.2, fault) (reads_equal _ _ _ (Err Memory) (ap (each one) (sym e)) stopped)
 
 pub parts-preserved : goal.parts-preserved
@@ -87,16 +87,16 @@ parts-preserved g c =
     let m : Sides = c.args.material.now in
     let sides : List ℕ = side_numbers m c.args.kind in
     let i : ℕ = c.parts.part in
-    let pushed : map part_of c.push_part.new.parts.bytes.items ≡ map part_of c.parts.parts.bytes.items ++ part_of c.in_ok-bytes.bytes ∷ [] =
-    ap (map part_of) c.in_ok-push_part.ensures.bytes ∙ map-append part_of c.parts.parts.bytes.items (c.in_ok-bytes.bytes ∷ []) in
+    let pushed : map part_of c.append.new.list.items ≡ map part_of c.parts.parts.bytes.items ++ part_of c.in_ok-bytes.bytes ∷ [] =
+    ap (map part_of) c.in_ok-append.ensures.items ∙ map-append part_of c.parts.parts.bytes.items (c.in_ok-bytes.bytes ∷ []) in
     let read = reads_more one (range_with_len 0 i) i _ read_as
-    (λ (_ : Unit {0}). map part_of c.push_part.new.parts.bytes.items) tt (c.in_ok-bytes.bytes, c.in_ok-bytes.sizes) tt pushed
+    (λ (_ : Unit {0}). map part_of c.append.new.list.items) tt (c.in_ok-bytes.bytes, c.in_ok-bytes.sizes) tt pushed
     c.parts.invariant.0
-    (reads_as (one i) (one i) read_as read_as (c.in_ok-bytes.bytes, c.in_ok-bytes.sizes) (c.in_ok-bytes.bytes, c.in_ok-bytes.sizes) refl refl c.in_ok-push_part.ensures.place c.in_ok-push_part.ensures.fill c.in_ok-bytes.ensures.part) in
+    (reads_as (one i) (one i) read_as read_as (c.in_ok-bytes.bytes, c.in_ok-bytes.sizes) (c.in_ok-bytes.bytes, c.in_ok-bytes.sizes) refl refl c.in_ok-append.ensures.place c.in_ok-append.ensures.fill c.in_ok-bytes.ensures.part) in
     let count : length (map part_of c.parts.parts.bytes.items) ≡ i = length-map c.parts.parts.bytes.items part_of ∙ c.parts.invariant.2 in
     let place : 0 + length (map part_of c.parts.parts.bytes.items) ≡ i = omega (arith, count) in
-    let slots : c.push_part.new.parts.slots.items ≡ slots_from m sides 0 (map part_of c.push_part.new.parts.bytes.items) =
-    c.in_ok-push_part.ensures.slots
+    let slots : c.push_slots.new.slots.items ≡ slots_from m sides 0 (map part_of c.append.new.list.items) =
+    c.push_slots.ensures
     ∙ ap (λ (z : List Slot). z ++ slots_with i c.in_ok-bytes.sizes.first c.in_ok-bytes.sizes.second) c.parts.invariant.1
     ∙ ap (λ (z : List Slot). slots_from m sides 0 (map part_of c.parts.parts.bytes.items) ++ z) (sym c.in_ok-bytes.ensures.slots)
     ∙ ap (λ (k : ℕ). slots_from m sides 0 (map part_of c.parts.parts.bytes.items) ++ part_slots m sides k (part_of c.in_ok-bytes.bytes)) (sym place)
@@ -104,22 +104,22 @@ parts-preserved g c =
     ∙ ap (λ (z : List Part). slots_from m sides 0 z) (sym pushed) in (
       reads_equal _ (each one (range_with_len 0 (i + 1))) _ (Ok tt) (ap (each one) (sym (numbers-more i))) read,
       slots,
-      ap length c.in_ok-push_part.ensures.bytes ∙ length-append c.parts.parts.bytes.items (c.in_ok-bytes.bytes ∷ []) ∙ ap (λ (n : ℕ). n + 1) c.parts.invariant.2,
+      ap length c.in_ok-append.ensures.items ∙ length-append c.parts.parts.bytes.items (c.in_ok-bytes.bytes ∷ []) ∙ ap (λ (n : ℕ). n + 1) c.parts.invariant.2,
       omega (
         arith,
-        ap length c.in_ok-push_part.ensures.slots,
+        ap length c.push_slots.ensures,
         length-append c.parts.parts.slots.items (slots_with i c.in_ok-bytes.sizes.first c.in_ok-bytes.sizes.second),
         slots_few i c.in_ok-bytes.sizes.first c.in_ok-bytes.sizes.second,
         c.parts.invariant.3,
       ),
-      omega (arith, c.parts.invariant.4, c.in_ok-bytes.ensures.place, c.in_ok-push_part.ensures.place),
-      omega (arith, c.parts.invariant.5, c.in_ok-bytes.ensures.growth, c.in_ok-push_part.ensures.growth, c.in_ok-push_part.ensures.place, c.in_ok-bytes.ensures.part.answer.0.place),
+      omega (arith, c.parts.invariant.4, c.in_ok-bytes.ensures.place, c.in_ok-append.ensures.place),
+      omega (arith, c.parts.invariant.5, c.in_ok-bytes.ensures.growth, c.in_ok-append.ensures.growth, c.in_ok-append.ensures.place, c.in_ok-bytes.ensures.part.answer.0.place),
       omega (
         arith,
-        one_more bytes_of_part c.parts.parts.bytes.items c.push_part.new.parts.bytes.items c.in_ok-bytes.bytes c.in_ok-push_part.ensures.bytes,
+        one_more bytes_of_part c.parts.parts.bytes.items c.append.new.list.items c.in_ok-bytes.bytes c.in_ok-append.ensures.items,
         c.parts.invariant.6,
         c.in_ok-bytes.ensures.grown,
-        c.in_ok-push_part.ensures.growth,
-        ap length c.in_ok-push_part.ensures.fill,
+        c.in_ok-append.ensures.growth,
+        ap length c.in_ok-append.ensures.fill,
       ),
     )

@@ -21,11 +21,11 @@ returns c =
     let maps : AreMaps t.kind t.subtables t.maps =
     subst (λ z. AreMaps t.kind (map subtable_of z) t.maps) c.deref-3.ensures.value
     (subst (λ z. AreMaps t.kind (map subtable_of c.deref-3.result.now) (map (option_map map_of) z)) c.deref-4.ensures.value (c.if-not-maps_stand.ensures.0 refl)) in
-    let last : AreBytes 16 t.last = subst (λ z. AreBytes 16 z) c.end_bytes-last.ensures.last (omega (arith, c.end_bytes-last.type_inv), c.bytes_fit.ensures) in
-    let fill : AreNumbers 1 fields.fill.items = subst (λ z. AreNumbers 1 z) c.deref-5.ensures.value c.bytes_fit-2.ensures in
+    let last : AreBytes 16 t.last = c.end_bytes.ensures.bytes in
+    let fill : AreNumbers 1 fields.fill.items = subst (λ z. AreNumbers 1 z) c.deref-5.ensures.value c.bytes_fit.ensures in
     let held : c.len.result ≡ length fields.fill.items = omega (arith, c.len.ensures, fields.fill.ok.0) in (
       λ h. record {
-        byte4 = c.end_bytes-last.ensures.byte4;
+        byte4 = c.end_bytes.ensures.byte4;
         split = sym c.if-not-splits_as.ensures;
         pawns = sym c.if-not-pawns_as.ensures;
         parts = parts;

@@ -3,7 +3,7 @@ use Rattle.szg_file.specs.File.{Begun, each, map_field}
 use Rattle.szg_file.specs.Held.{map_of}
 use Rattle.szg_file.specs.Reading.{Reading}
 use Rattle.szg_file.specs.Grown.{HasCounted, maps_lengths}
-use Rattle.szg_file.proofs.maps.read_each.Given as goal
+use Rattle.szg_file.proofs.maps.read_maps.Given as goal
 
 abbrev pub invariant-heads : goal.invariant-heads
 invariant-heads g l = record {

@@ -5,11 +5,11 @@ use Rattle.szg_block.specs.declared.Entry.{Entry}
 use Rattle.szg_file.specs.File.{entry_of_bytes}
 use Rattle.szg_file.specs.Held.{sparse_of}
 use Rattle.szg_file.proofs.ItemsRead.{mapped-more, six_bytes}
-use Rattle.szg_file.proofs.taking.sparse_entries.Goals as goal
+use Rattle.szg_file.proofs.taking.take_sparse.Goals as goal
 
 pub rows-preserved : goal.rows-preserved
-rows-preserved c =
-    let bytes = c.args.bytes.now in
+rows-preserved g c =
+    let bytes = c.as_slice-rows.result.now in
     let i = c.rows.i in
     let xs : List ℕ = drop (6 * i) bytes in
     let whole = take_rest bytes (6 * i) in

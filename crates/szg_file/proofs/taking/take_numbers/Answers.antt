@@ -3,11 +3,11 @@ use Rattle.std.proofs.lemmas.List.{length-drop, length_push, take_rest}
 use Rattle.byteorder.specs.Endian.{little_number}
 use Rattle.szg_file.specs.Contents.{number_of}
 use Rattle.szg_file.proofs.ItemsRead.{mapped-more, little-number_of}
-use Rattle.szg_file.proofs.taking.numbers.Goals as goal
+use Rattle.szg_file.proofs.taking.take_numbers.Goals as goal
 
 pub rows-preserved : goal.rows-preserved
-rows-preserved c =
-    let bytes = c.args.bytes.now in
+rows-preserved g c =
+    let bytes = c.as_slice-rows.result.now in
     let i = c.rows.i in
     let whole = take_rest bytes (2 * i) in
     let there : 2 ≤ length (drop (2 * i) bytes) = search (rules, length-drop (2 * i) bytes) in

@@ -1,11 +1,11 @@
 use Rattle.std.proofs.Common.{◌≡◌, ◌+◌, arith, ◌-◌, ◌*◌, ◌≤◌, ◌++◌, ◌∷◌, [], length, take, drop, List, ℕ, slice_index, rules, ap, ◌∙◌}
 use Rattle.std.proofs.lemmas.List.{length-drop, length_push, take_rest}
 use Rattle.szg_file.proofs.ItemsRead.{rows-more, three_bytes}
-use Rattle.szg_file.proofs.taking.entries.Goals as goal
+use Rattle.szg_file.proofs.taking.take_entries.Goals as goal
 
 pub rows-preserved : goal.rows-preserved
-rows-preserved c =
-    let bytes = c.args.bytes.now in
+rows-preserved g c =
+    let bytes = c.as_slice-rows.result.now in
     let i = c.rows.i in
     let whole = take_rest bytes (3 * i) in
     let there : 3 ≤ length (drop (3 * i) bytes) = search (rules, length-drop (3 * i) bytes) in
