@@ -146,7 +146,7 @@ impl<'a, S: Source + Drop> Sound<'a, Paged<S>> {
         ensures requested { result.requested ≡ S.requested (source_of blocks) }
         ensures cost { result.cost ≡ size_of blocks }
     {
-        // for proofs alone: the code is accepted, so no word is a prefix of another, which look-ups require
+        // for proofs alone: the code is accepted, as look-ups require; so no word is a prefix of another
         let _accepted = blocks_in(sub);
         Sound {
             sub,

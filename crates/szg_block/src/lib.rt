@@ -44,7 +44,8 @@ mod words;
 /// An entry of the sparse index.
 #[derive(Clone, Copy)]
 pub struct Entry {
-    /// The number of a block or of an extra length; or the number of all lengths, for the end after the last one.
+    /// The number of a block or of an extra length. If it is the number of all lengths, the entry points to the end
+    /// after the last one.
     pub block: u32,
     /// A number of values, counted from the start of that block.
     pub offset: u16,
@@ -92,8 +93,8 @@ pub enum SubFault {
     ShortTotal,
     /// The first entry of the sparse index that does not lead to the middle of its span.
     SparseEntry(u64),
-    /// The first block whose bits decode to fewer values than it needs: its length plus one, or fewer if the subtable
-    /// ends before.
+    /// The first block whose bits decode to fewer values than the block needs. It needs its length plus one, or, if
+    /// that is less, the values from its start to the subtable's end.
     Word(u32),
 }
 
@@ -160,8 +161,8 @@ pub fn shaped_head(sub: &Sub, size: u64) -> bool
     }
 }
 
-/// Returns whether the header and the lists of a subtable with `size` values are consistent, whatever the lists
-/// contain.
+/// Returns whether the header of a subtable with `size` values is valid and its lists have the lengths that header and
+/// size require. Does not look at the items of the lists.
 ///
 /// The flags byte has its highest bit set exactly in a constant subtable. Otherwise block bits are at most 18, span
 /// bits 1 to 31, the code has as many symbols as the dictionary, the sparse index has an entry for each span that
@@ -212,8 +213,9 @@ pub fn check_index(sub: &Sub, size: u64) -> Result<(), SubFault>
     }
 }
 
-/// Checks that the words of block `n`, whose bytes are `block`, spell the values that the block needs. The subtable
-/// has `size` values and is not constant, `n` is one of its blocks, and `block` has the length of its blocks.
+/// Checks that the words of block `n`, whose bytes are `block`, spell the values that the block needs. Only the block's
+/// own bits count: no word runs on into the next block. The subtable has `size` values and is not constant, `n` is one
+/// of its blocks, and `block` has the length of its blocks.
 ///
 /// Errors: `Word(n)` if the block's own bits do not spell these values. Each call also adds the lengths of all blocks
 /// before `n`, which takes time proportional to `n`.

@@ -71,7 +71,7 @@ struct Reached<'a> {
     bits: Bits<'a>,
 }
 
-/// Decodes one word, or if `TWO` one or two words, moves the reader past them, and returns their symbols. None if the
+/// Decodes one word (if `TWO`, one or two), moves the reader past what it decoded, and returns the symbols. None if the
 /// bits left do not begin with a word.
 #[inline(always)]
 fn step<const TWO: bool>(code: &Code, bits: &mut Bits) -> Option<NextWords>
@@ -123,7 +123,7 @@ fn reach_by<'a, const TWO: bool>(
     None
 }
 
-/// `reach_by` with two words at a step if the code stores the first two words of each byte.
+/// `reach_by`, with up to two words at a step if the code has a table of the first two words of each byte value.
 #[inline(always)]
 fn reach<'a>(code: &Code, dict: &Dict, left: Bits<'a>, index: u64) -> Option<Reached<'a>>
     requires accepted { IsCode code.now }

@@ -7,7 +7,7 @@ use Rattle.szg_block.specs.Layout.{Layout}
 use Rattle.szg_block.specs.Subtable.{layout_of, packed_of, IsShaped, IsSoundOver}
 use Rattle.szg_block.specs.declared.Sub.{Sub}
 
--- what is left of a subtable: the values of some last blocks, and the number of these blocks
+-- what is left to decode of a subtable: the values of its remaining blocks, and the number of these blocks
 pub record Left : Type 0 where
   pub values : List ℕ
   pub blocks : ℕ

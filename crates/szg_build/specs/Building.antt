@@ -122,8 +122,8 @@ pub record IsBlockOf (block_bits : ℕ) (words : List Bool) (block : List ℕ) :
   pub rest : List Bool
   pub joined : bits block ≡ words ++ rest
 
--- Symbols fill whole blocks and begin another one; `words` are the bits of its words so far, and `values` is the number
--- of their values. Each whole block has at least four symbols.
+-- Symbols fill whole blocks and begin another one. `words` are the bits of the words in that other block, and `values`
+-- is the number of values of these words. Each whole block has at least four symbols.
 pub record IsFilling (code : CanonicalCode) (entries : List (List ℕ)) (block_bits : ℕ) (symbols lengths packed : List ℕ) (words : List Bool) (values : ℕ) : Type 0 where
   pub lists : List (List ℕ)
   pub current : List ℕ
@@ -139,8 +139,8 @@ pub record IsFilling (code : CanonicalCode) (entries : List (List ℕ)) (block_b
   pub some : length current ≤ values
   pub many : 4 * length lengths ≤ length (concat lists)
 
--- Lists into which the symbols are divided fill `blocks` blocks. Each length fits two bytes, each block is whole, and
--- the number of blocks fits 32 bits.
+-- The symbols, divided into lists, fill `blocks` blocks. Each length fits two bytes, each block is whole, and the
+-- number of blocks fits 32 bits.
 pub record IsCut (code : CanonicalCode) (entries : List (List ℕ)) (block_bits : ℕ) (symbols : List ℕ) (blocks : ℕ) (lengths packed : List ℕ) : Type 0 where
   pub lists : List (List ℕ)
   pub joined : concat lists ≡ symbols

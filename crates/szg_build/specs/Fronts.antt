@@ -47,7 +47,7 @@ pub record IsPair (pattern : List Word) (front middle : List ℕ) : Type 0 where
   pub two : value_count pattern ≡ 2
   pub text : (first second : List ℕ) → spaced (filled pattern (first ∷ second ∷ [])) ≡ front ++ (first ++ 32 ∷ (middle ++ second))
 
--- what comes next, by the words of a line
+-- the lines that are expected after a line with these words
 abbrev pub said : {A : Type 0} → Lines A → List (List ℕ) → Lines A
 said (line next) words = next words
 said (means a) words = means a

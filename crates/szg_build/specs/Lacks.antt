@@ -17,8 +17,8 @@ IsUnrefused (good a count rest) = rest ≡ []
 IsUnrefused (refused at why rest) = ⊥
 IsUnrefused (ended at) = Unit {0}
 
--- The bytes are whole lines, none of them refused, and then bytes that were read ahead. Any text that begins with these
--- lines has, after them, at least as many bytes as were read ahead, less `behind`.
+-- The bytes are whole lines, none of them refused, and then bytes that were read ahead. Any valid text that begins with
+-- these lines has at least `n - behind` bytes after them, where `n` is the number of bytes read ahead.
 pub record StopsShort {A : Type 0} (f : Lines A) (count behind : ℕ) (bytes : List ℕ) : Type 0 where
   pub lines : List ℕ
   pub ahead : List ℕ
@@ -27,8 +27,7 @@ pub record StopsShort {A : Type 0} (f : Lines A) (count behind : ℕ) (bytes : L
   pub unrefused : IsUnrefused (verdict f count lines)
   pub due : (more : List ℕ) (a : A) (n : ℕ) (rest : List ℕ) → verdict f count (lines ++ more) ≡ good a n rest → length ahead + length rest ≤ behind + length more
 
--- The bytes read ahead before, followed by the bytes read now, are whole lines and bytes read ahead, as StopsShort
--- says.
+-- StopsShort holds for the bytes that were read ahead before the call, followed by those that the call read.
 pub record LacksLines {A R : Type 0} (f : Lines A) (behind : ℕ) (old : Incoming) (dev : Ghosts R) (input input' : R) : Type 0 where
   pub bytes : List ℕ
   pub taken : Takes dev input input' bytes 1

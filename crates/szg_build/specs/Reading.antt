@@ -29,14 +29,15 @@ IsPlanFault (good a lines rest) fault = ⊥
 IsPlanFault (refused at why rest) fault = why ≡ of_plan fault
 IsPlanFault (ended at) fault = ⊥
 
--- if the verdict is that the text ends, the reader is at its end
+-- if the verdict is that the text ends before a line's 0A, the reader is at the end of its bytes
 abbrev pub EndsWith : {A : Type 0} → Verdict A → Option (List ℕ) → Type 0
 EndsWith (good a lines rest) coming = Unit {0}
 EndsWith (refused at why rest) coming = Unit {0}
 EndsWith (ended at) coming = IsAtEnd coming
 
--- What the result means for `bytes`, which are those read ahead before and those read now, after `count` lines. If it
--- is Ok, the bytes after its lines are kept for the next call. `Device` is returned only if the reader may fail.
+-- What the result means for `bytes`, which come after `count` lines: first those that were read ahead before the call,
+-- then those that it read. If it is Ok, the bytes after its lines are kept for the next call. `Device` is returned only
+-- if the reader may fail.
 abbrev pub LinesAnswer : {A X : Type 0} → Lines A → (X → A) → ℕ → Incoming → List ℕ → Option (List ℕ) → ℕ → ℕ → ℕ → Bool → Result X DumpReadFault → Type 0
 LinesAnswer f view count new bytes coming failures failures' row may_fail (Ok x) =
     (count' : ℕ) × (told_line count' ≡ new.line) × (verdict f count bytes ≡ good (view x) count' (held_of new)) × (failures' ≡ failures)

@@ -71,8 +71,8 @@ abbrev pub text_left : DumpSink → List ℕ → List ℕ
 text_left s values =
     rest_text (form_of s.form) s.index.now.kind (drop s.next (places_of s.index.now.material s.index.now.kind)) (drop s.next (heads_of s.index.now)) s.count s.value s.left values
 
--- A sink took these values, and no write failed. Whatever values follow, the bytes written meanwhile, then those buffered
--- now and the text left now are the bytes buffered and the text left before.
+-- A sink took these values, and no write failed. For any values that follow, the text stays the same: what was buffered
+-- or left to write before is what was written meanwhile, and then what is buffered or left to write after.
 pub record Goes {W : Type 0} (writing : output.Ghosts W) (values : List ℕ) (s : DumpSink) (out : W) (s' : DumpSink) (out' : W) : Type 0 where
   pub bytes : List ℕ
   pub given : Gives writing out out' bytes 0

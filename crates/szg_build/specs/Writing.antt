@@ -15,7 +15,7 @@ pub record Writes (text : List ℕ) (old new : Outgoing) (bytes : List ℕ) : Ty
   pub counts : (count : ℕ) → old.out ≡ told count → new.out ≡ told (count + length bytes)
   pub whole : bytes ++ new.held.items ≡ old.held.items ++ text
 
--- These bytes were written. They are a proper prefix of the bytes buffered before and the text.
+-- These bytes were written. They are a proper prefix of the bytes buffered before, followed by the text.
 pub record Stops (text : List ℕ) (old : Outgoing) (out : ℕ) (bytes : List ℕ) : Type 0 where
   pub counts : (count : ℕ) → old.out ≡ told count → out ≡ told (count + length bytes)
   pub rest : List ℕ

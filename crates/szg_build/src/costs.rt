@@ -35,8 +35,8 @@ pub(crate) struct Totals {
     pub most: u64,
 }
 
-/// Returns the bits by which a text's words exceed its entropy because no word is shorter than one bit, times
-/// 2^`FRACTION`: a symbol that is more than half of the text carries less than one bit.
+/// Returns the bits by which a text's words exceed its entropy since no word is shorter than one bit, times
+/// 2^`FRACTION`. Only a symbol that is more than half of the text has less than one bit of entropy.
 fn excess(totals: Totals) -> u64 {
     let Totals { symbols, most } = totals;
     if most <= symbols / 2 {

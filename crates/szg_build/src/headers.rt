@@ -47,7 +47,7 @@ fn after_parts(plan: &Plan) -> u64 {
     to_even(offset)
 }
 
-/// Returns the offset after a map that begins at `offset` or after its padding.
+/// Returns the offset after a map. `offset` is where the map, or the padding before it, begins.
 fn after_map(offset: u64, map: &Map) -> u64 {
     match map {
         Map::Bytes(lists) => lists.iter().fold(offset, |sum, list| {

@@ -65,8 +65,8 @@ impl Incoming {
         text
     }
 
-    /// Reads up to `most` more bytes ahead, in one call of the device that is not interrupted. Returns their number,
-    /// which is 0 only at the end of the input.
+    /// Reads up to `most` more bytes ahead, in one call of the device; interrupted calls are repeated. Returns the
+    /// number of bytes read, which is 0 only at the end of the input.
     pub fn refill<R: Input>(&mut self, most: u64, input: &mut R) -> Result<usize, DeviceFault>
         requires some { 0 < most }
         requires room { length (held_of self.old) ≤ 80 }

@@ -119,9 +119,9 @@ pub enum BuildFault {
     /// The first list with more than 4,095 different values.
     #[error("TooManyValues")]
     TooManyValues(usize),
-    /// In DTZ the number of flags or of maps is not the number of parts, flags are above 31, flag 2 is without a map
-    /// or a map without flag 2, flag 16 is without a wide map or a wide map without flag 16, or a list is too long
-    /// for its length field. In WDL there are flags or maps.
+    /// In DTZ: the number of flags or of maps is not the number of parts; or flags are above 31; or a map is missing
+    /// with flag 2, or is there without it; or a map is wide without flag 16, or not wide with it; or a list is too
+    /// long for its length field. In WDL: there are flags or maps.
     #[error("Map")]
     Map,
     /// Memory was refused.

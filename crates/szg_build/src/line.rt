@@ -27,9 +27,9 @@ fn line_len(held: &[u8]) -> Option<usize>
     None
 }
 
-/// Reads a line and its 0A. A valid text still has at least `least` bytes for them and at least `behind` bytes after
-/// them, so up to that many bytes are read at once. If the line with its 0A has `least` bytes or more, at most `behind`
-/// bytes after it have been read.
+/// Reads a line and its 0A. In a valid text the line with its 0A has at least `least` bytes, and at least `behind`
+/// bytes follow it. So each call of the device reads at most `least + behind` bytes. If the line with its 0A has
+/// `least` bytes or more, at most `behind` bytes after it were read.
 ///
 /// Errors: `Field` if the line has more than 80 bytes before its 0A, `Ended` if the bytes end before it, `Device` if
 /// the reader failed.

@@ -13,7 +13,7 @@ use szg_io::{Output, give_whole};
 pub(crate) struct Outgoing {
     /// The number of bytes written; it saturates at the greatest 64-bit value.
     pub out: u64,
-    /// The bytes after those, which are buffered.
+    /// The buffered bytes, which come after the written ones.
     pub held: ArrayVec<u8, 4096>,
 }
 

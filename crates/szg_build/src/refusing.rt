@@ -135,7 +135,7 @@ fn is_map_for(flags: u8, item: &Option<Map>) -> bool
     }
 }
 
-/// Returns whether no flags byte has a bit other than 0 to 4.
+/// Returns whether each flags byte is below 32: only its bits 0 to 4 may be set.
 fn are_flags(flags: &[u8]) -> bool
     ensures { result ≡ list_all (λ byte. nat_lt byte 32) flags.now }
 {

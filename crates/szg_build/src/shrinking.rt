@@ -96,8 +96,7 @@ fn blend_for(round: u64) -> Blend {
     }
 }
 
-/// Returns the end of the range of rounds in which pairs are added to the best text of `values` values; the first round
-/// is 1.
+/// Returns one more than the number of rounds in which pairs are added to the best text, for a list of `values` values.
 fn rounds_for(values: usize) -> u64 {
     if values > FEW_VALUES { 1 } else { 61 }
 }

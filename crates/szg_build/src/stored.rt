@@ -18,7 +18,7 @@ pub enum StoredValues<'a> {
         /// The number of values.
         count: u64,
     },
-    /// The values of blocks, of which none is decoded.
+    /// The values of blocks that are not decoded yet.
     Blocks(BlockValues<'a>),
 }
 

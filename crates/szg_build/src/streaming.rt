@@ -231,7 +231,7 @@ fn find_room<W: Output>(sink: &mut DumpSink<'_>, output: &mut W) -> Result<bool,
 }
 
 /// Adds `count` equal values, all of which the current subtable still needs. If they do not lengthen the current run,
-/// writes its lines first.
+/// writes the lines of that run first.
 fn add_run<W: Output>(
     sink: &mut DumpSink<'_>,
     value: u16,

@@ -223,16 +223,20 @@ fn build_by<V: Watcher>(
 
 /// Builds a table from a plan and the values of its subtables, which are listed in file order.
 ///
-/// Errors, the first that applies: `Order` (the number of parts, order bytes or men is not the material's, or the
-/// reader would refuse this order), `Bits` (block bits not 5 to 10, span bits not 1 to 16), `Rounds` (above 4,000),
-/// `Count` (the number of lists is not the number of subtables), `Length` (the first list whose length is not its
-/// subtable's size), `Value` (the first with a value above 4, in DTZ above 4,095), `TooManyValues` (the first with more
-/// than 4,095 different values), `Map` (in DTZ another number of flags or of maps than of parts, flags above 31, flag 2
-/// without a map or a map without flag 2, flag 16 on a map of bytes or a wide map without flag 16, or a list too long
-/// for its length field; in WDL any flags or maps at all), `Memory` (memory was refused).
+/// Errors, the first that applies:
 ///
-/// The time for a list grows about linearly with its number of values; a table of up to 4,095^2 counts is filled
-/// besides. A list of 2^32 values or more takes this time for each pair: its offsets do not fit four bytes, so all its
+/// - `Order`: the number of parts, order bytes or men is not the material's, or the reader would refuse this order.
+/// - `Bits`: the block bits are not 5 to 10, or the span bits are not 1 to 16.
+/// - `Rounds`: there are more than 4,000.
+/// - `Count`: the number of lists is not the number of subtables.
+/// - `Length`: the first list whose length is not its subtable's size.
+/// - `Value`: the first list with a value above 4, in DTZ above 4,095.
+/// - `TooManyValues`: the first list with more than 4,095 different values.
+/// - `Map`: the flags or maps are not those of the kind and the parts; `BuildFault::Map` has the cases.
+/// - `Memory`: memory was refused.
+///
+/// The time for a list is about proportional to its number of values, plus the time to fill a table of up to 4,095^2
+/// counts. A list of 2^32 values or more takes this time for each pair: its offsets do not fit four bytes, so all its
 /// pairs are counted again in each round.
 pub fn build(alloc: Global, plan: &Plan, lists: &[&[u16]]) -> Result<Table, BuildFault>
     ensures refused { MatchOption (build_fault (plan_seen plan.now) (map (λ list. list.now) lists.now))
@@ -280,10 +284,10 @@ pub fn build_watched<V: Watcher>(
 /// Builds a small table from a plan and the values of its subtables, which are listed in file order. How each subtable
 /// is packed is chosen by trial, within fixed budgets.
 ///
-/// Each subtable gets pairs that are chosen by trial, a Huffman code or the truncated binary code, whichever takes
-/// fewer bytes, and the block bits and span bits with which it takes the fewest, among those with which half a span has
-/// at most 32 blocks on average. Errors: those of `build` without `Bits` and `Rounds`. A list of 2^32 values or more
-/// gets no pairs.
+/// The pairs of each subtable are chosen by trial. Its code is a Huffman code or the truncated binary code, whichever
+/// takes fewer bytes. Its block bits and span bits are those with which it takes the fewest bytes, among those with
+/// which half a span has at most 32 blocks on average. A list of 2^32 values or more gets no pairs. Errors: those of
+/// `build` without `Bits` and `Rounds`.
 pub fn build_small(alloc: Global, plan: SmallPlan, lists: &[&[u16]]) -> Result<Table, BuildFault>
     ensures refused { MatchOption (build_fault (small_seen plan) (map (λ list. list.now) lists.now))
         (IfErr result (λ fault. fault ≡ BuildFault.Memory))

@@ -44,7 +44,7 @@ impl From<AllocError> for DumpWriteFault {
     }
 }
 
-/// Takes the values of blocks, each decoded into `values`.
+/// Adds the values of blocks to the dump. Each block is decoded into `values`.
 fn put_blocks<W: Output>(
     blocks: &mut BlockValues<'_>,
     values: &mut Vec<u16>,
@@ -61,7 +61,7 @@ fn put_blocks<W: Output>(
     Ok(())
 }
 
-/// Takes the values of a subtable.
+/// Adds the values of a subtable to the dump.
 fn put_stored<W: Output>(
     stored: StoredValues<'_>,
     values: &mut Vec<u16>,
@@ -81,7 +81,7 @@ fn put_stored<W: Output>(
     }
 }
 
-/// Takes the values of all subtables of a table, in file order.
+/// Adds the values of all subtables of a table to the dump, in file order.
 fn put_subtables<W: Output>(
     alloc: Global,
     table: &Table,

@@ -74,8 +74,8 @@ impl Best {
         })
     }
 
-    /// Returns about how many bytes the best text takes: those of its subtable, and if `beside` is known, with the
-    /// table's other bytes before the sparse indexes.
+    /// Returns about how many bytes the best text takes: those of its subtable and, if `beside` is known, the table's
+    /// other bytes before the sparse indexes.
     pub fn bytes(&self) -> u64 {
         bytes_at(self.cost, self.beside)
     }

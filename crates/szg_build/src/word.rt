@@ -43,8 +43,7 @@ pub(crate) fn split_word(text: &[u8]) -> Option<(&[u8], &[u8])>
     None
 }
 
-/// Returns the two words of a text: one between `front` and `middle`, which ends at the first space, and one after
-/// `middle`.
+/// Returns the two words of a text that is `front`, a word, a space, `middle` and a word. None for any other text.
 pub(crate) fn two_words<'a>(
     front: &[u8],
     middle: &[u8],

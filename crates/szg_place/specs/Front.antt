@@ -42,15 +42,15 @@ abbrev pub IsMissedAt : FrontKept → List ℕ → Spot → FetchFault → Type 
 IsMissedAt kept content spot (fetch.Block number offset) = IsBadAt kept content spot (fetch.Block number offset)
 IsMissedAt kept content spot fetch.Source = Unit {0}
 
--- Ok: the meaning of the spot's value, whose block decodes. Err: the fault of the fetch, or the fault of a value
--- without meaning.
+-- Ok: the class or the number of the spot's value, whose block decodes. Err: the fault of the fetch, or the map's fault
+-- for the value.
 abbrev pub IsMeant : {A : Type 0} → (ℕ → Type 0) → (FetchFault → Type 0) → (ℕ → Result A MapFault) → Result A FrontProbeFault → Type 0
 IsMeant is_value missed meaning (Ok answer) = (v : ℕ) × is_value v × (meaning v ≡ Ok answer)
 IsMeant is_value missed meaning (Err (Probe (Map fault))) = (v : ℕ) × is_value v × (meaning v ≡ Err fault)
 IsMeant is_value missed meaning (Err (Probe (Place fault))) = ⊥
 IsMeant is_value missed meaning (Err (Fetch fault)) = missed fault
 
--- a value with its spot; the class of a value; the number of a value of a part in a class
+-- what a value means: itself, with its spot; its class; its DTZ number in a class, by the map of its part
 abbrev pub at_spot : Spot → ℕ → Result (Spot × ℕ) MapFault
 at_spot spot v = Ok (spot, v)
 

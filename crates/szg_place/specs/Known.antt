@@ -69,7 +69,7 @@ pub record AreGrouped (sides : Sides) (part : ℕ) (n : Nibbles) (groups : List 
   pub ordered : order_fault sides n ≡ None
   pub groups_are : groups ≡ groups_in_slot_order (counted sides part n)
 
--- group `number` comes after `before`, whose men are on the squares `taken`
+-- group `number` comes after the groups on the squares `before`; `taken` has all these squares
 pub record IsBehind (sides : Sides) (part number : ℕ) (taken : List ℕ) (before : List (List ℕ)) : Type 0 where
   pub has_part : IsPart sides part
   pub taken_are : taken ≡ concat before

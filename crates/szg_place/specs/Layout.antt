@@ -28,7 +28,7 @@ nibbles_in_part parts part side = let p = unwrap_or (slice_get parts part) (reco
 abbrev pub nibbles_at : Layout → ℕ → ℕ → Nibbles
 nibbles_at l part side = nibbles_in_part l.parts part side
 
--- WDL tables have two sides unless both sides have the same men, DTZ tables one
+-- the number of a part's subtables: in WDL two, or one if both sides have the same men; in DTZ one
 abbrev pub side_count : Layout → ℕ
 side_count l = if is_dtz l.kind then 1 else if is_symmetric l.material then 1 else 2
 

@@ -16,8 +16,8 @@ pub use Rattle.szg_place.specs.declared.men.Piece.{Piece}
 
 -- ---- colours
 
--- whether colours are exchanged: if both sides have the same men, when Black moves; else when White isn't the name's
--- first side
+-- Whether colours are exchanged. If both sides have the same men, they are exchanged when Black moves; else when White
+-- isn't the name's first side.
 abbrev pub is_exchanged : Sides → Board → Bool
 is_exchanged sides board = if is_symmetric sides then is_color Black board.mover else not (is_same_men (side_of White board.placed_men) sides.first)
 

@@ -24,8 +24,9 @@ pub(crate) const PAWN_SQUARES: [u8; 48] = [
     54, 49, 46, 41, 38, 33, 30, 25, 22, 17, 14, 9, 55, 48, 47, 40, 39, 32, 31, 24, 23, 16, 15, 8,
 ];
 
-/// The number of sets whose first pawn is on a lower rank of its file. It is at index `24 * (pawns - 1) + 6 * file +
-/// (rank - 1)` for 1 to 4 lead pawns, whose first is on file 0 to 3 and rank 1 to 6, counted from 0.
+/// For a first lead pawn on a square, the number of sets in the file's list whose first pawn is on a lower rank. The
+/// index is `24 * (pawns - 1) + 6 * file + (rank - 1)`. There are 1 to 4 `pawns`, `file` is 0 to 3, and `rank` 1 to 6,
+/// counted from 0.
 const WAYS_BEFORE: [u32; 96] = [
     0, 1, 2, 3, 4, 5, 0, 1, 2, 3, 4, 5, 0, 1, 2, 3, 4, 5, 0, 1, 2, 3, 4, 5, 0, 47, 92, 135, 176,
     215, 0, 35, 68, 99, 128, 155, 0, 23, 44, 63, 80, 95, 0, 11, 20, 27, 32, 35, 0, 1081, 2071,
@@ -48,7 +49,8 @@ pub fn lead_pawns_place(squares: &[u8], file: u8) -> u64
     before + place_of_pawns(&squares[1..])
 }
 
-// Returns the number of sets whose first pawn is on a lower rank of its file. For one pawn it is the number of those ranks.
+// Returns the number of sets in the file's list whose first pawn is on a lower rank than `rank`. For one pawn it is the
+// number of those ranks.
 fn ways_before(pawns: usize, file: u8, rank: u8) -> u64
     requires some { 0 < pawns }
     requires few { pawns ≤ 4 }
@@ -64,7 +66,8 @@ fn ways_before(pawns: usize, file: u8, rank: u8) -> u64
     u64::from(WAYS_BEFORE[24 * (pawns - 1) + 6 * usize::from(file) + usize::from(rank - 1)])
 }
 
-// Returns the rank of pawns by their values P, the greatest first, in the ordered list of the sets of their number.
+// Returns the rank of a set of pawns among all sets of the same size. The pawns are listed by their values P, the
+// greatest first.
 #[inline(always)]
 fn place_of_pawns(squares: &[u8]) -> u64
     requires few { length squares.now ≤ 6 }

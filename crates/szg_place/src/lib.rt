@@ -38,8 +38,9 @@ pub enum PlaceFault {
     /// The placement's men are not the table's.
     #[error("OtherMaterial")]
     OtherMaterial,
-    /// The groups of the placement's subtable give it no index: without pawns, some man of the lead group is not the
-    /// only one of its kind and colour; or some later group does not have all men of its kind and colour.
+    /// The groups of the placement's subtable give it no index. Some group after the lead group does not have all men
+    /// of its kind and colour; or there are no pawns, and some man of the lead group is not the only one of its kind
+    /// and colour.
     #[error("Irregular")]
     Irregular,
     /// The lead group is the two kings, and they are on neighbouring squares.
@@ -75,7 +76,7 @@ pub enum FrontProbeFault {
 /// Where a table stores the value of a placement.
 #[derive(Clone, Copy, Debug, PartialEq, Eq)]
 pub struct Spot {
-    /// The part, 0 to 3 for the files a to d of the lead pawn, 0 without pawns.
+    /// The part: 0 to 3 for a lead pawn on the files a and h, b and g, c and f, d and e; 0 without pawns.
     pub part: u8,
     /// The subtable's side; 0 if each part has one subtable.
     pub side: u8,

@@ -21,9 +21,9 @@ pub struct Piece {
     pub square: u8,
 }
 
-/// Returns whether colours are exchanged: if both sides have the same men, when Black moves; otherwise, when White is
-/// not the name's first side. None if the men are not the material's. Nothing branches on the exchange, which no processor
-/// can predict.
+/// Returns whether colours are exchanged. If both sides have the same men, they are exchanged when Black moves;
+/// otherwise, when White is not the name's first side. None if the men are not the material's. Nothing branches on the
+/// exchange, since a processor can't predict it.
 #[inline(always)]
 pub fn exchange_of(material: &Traits, placement: &PlacedMen<'_>) -> Option<bool>
     ensures other { IfNone result (is_of_material material.now placement.now ≡ false) }
@@ -119,8 +119,8 @@ fn ranked_if(flips: bool, square: u8) -> u8
     square ^ 56 * u8::from(flips)
 }
 
-// Returns a man's code, with colours exchanged if `exchanged`: that of its kind, plus 8 for the name's second side. The
-// colours' numbers are 0 and 1.
+// Returns a man's code, with colours exchanged if `exchanged`: that of its kind, plus 8 for the name's second side.
+// Colours are numbered 0 and 1, so an exclusive or exchanges them.
 fn code_from(man: Man, color: Color, exchanged: bool) -> u8
     ensures { result ≡ colored_code man (exchanged_color exchanged color) }
 {

@@ -30,7 +30,7 @@ pub fn side_at(kind: Kind, asked: u8) -> u8
     }
 }
 
-/// Returns the nibbles of a side of a part.
+/// Returns the order nibbles and the men of a side of a part.
 pub fn order_in(parts: &[PartBytes], part: u8, side: u8) -> Order
     requires part { part < length parts.now }
     requires side { side < 2 }
@@ -41,7 +41,7 @@ pub fn order_in(parts: &[PartBytes], part: u8, side: u8) -> Order
     order_of(side, &bytes.order, &bytes.men)
 }
 
-/// Returns the nibbles of a side of a part that the table has.
+/// Returns the order nibbles and the men of a side of a part that the table has.
 pub fn order_at(index: &TableIndex, part: u8, side: u8) -> Order
     requires { IsSome (slot_in index.now part side) }
     ensures nibbles { nibbles_in result ≡ nibbles_at (numbering_in index.now) part side }
@@ -146,8 +146,8 @@ pub fn grouped_of(material: &Traits, part: u8, order: Order) -> SideGroups
     grouped_by(material.material(), part, order)
 }
 
-/// Returns whether the groups can number placements: without pawns each man of the lead group is the only one of its
-/// kind and colour, and each later group has all men of its kind and colour.
+/// Returns whether the groups can number placements: each later group has all men of its kind and colour, and if there
+/// are no pawns, each man of the lead group is the only one of its kind and colour.
 pub fn is_regular(material: &Material, part: u8, order: &Order, groups: &Groups) -> bool
     requires { groups.now ≡ groups_in_slot_order (counted material.now part (nibbles_in order.now)) }
     ensures { result ≡ is_regular material.now (groups_of material.now order.now.men.items) }

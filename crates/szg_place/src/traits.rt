@@ -128,8 +128,8 @@ impl Traits {
         self.code
     }
 
-    /// Returns the key of the material's men: a number with an octal digit for each man code, the number of men of that
-    /// code.
+    /// Returns the key of the material's men: an octal number in which the digit of each man code is the number of men
+    /// of that code.
     pub fn key(&self) -> u64
         ensures key { result ≡ key_of (man_codes self.now) }
         ensures small { result < 281474976710656 }
