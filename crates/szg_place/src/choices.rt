@@ -1,4 +1,4 @@
-//! Ranks of sets of numbers, by a table of binomials.
+//! A table of binomials, for the ranks of sets.
 
 ghost use Rattle.std.specs.Prelude.{◌≡◌, ◌<◌, ◌≤◌, ◌^◌, ℕ, length, Some, slice_get};
 ghost use Rattle.szg_count.specs.Sets.{subsets, choose, IsFallingBelow};
