@@ -44,8 +44,8 @@ mod words;
 /// An entry of the sparse index.
 #[derive(Clone, Copy)]
 pub struct Entry {
-    /// The number of a block or of an extra length. If it is the number of all lengths, the entry points to the end
-    /// after the last one.
+    /// An index in `lengths`: that of a block, or that of an extra length after those of the blocks. In an entry that
+    /// points to the end after the last length it is `lengths.len()`.
     pub block: u32,
     /// A number of values, counted from the start of that block.
     pub offset: u16,
@@ -93,8 +93,8 @@ pub enum SubFault {
     ShortTotal,
     /// The first entry of the sparse index that does not lead to the middle of its span.
     SparseEntry(u64),
-    /// The first block whose bits decode to fewer values than the block needs. It needs its length plus one, or, if
-    /// that is less, the values from its start to the subtable's end.
+    /// The first block n whose bits decode to fewer values than the block needs. It needs `lengths[n] + 1` values, or,
+    /// if that is less, the values from its start to the subtable's end.
     Word(u32),
 }
 

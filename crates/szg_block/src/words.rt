@@ -123,7 +123,8 @@ fn reach_by<'a, const TWO: bool>(
     None
 }
 
-/// `reach_by`, with up to two words at a step if the code has a table of the first two words of each byte value.
+/// `reach_by`, with up to two words at a step if the code has a table for that. For each value of a byte, the table has
+/// the two words that the byte begins with, if the byte contains two.
 #[inline(always)]
 fn reach<'a>(code: &Code, dict: &Dict, left: Bits<'a>, index: u64) -> Option<Reached<'a>>
     requires accepted { IsCode code.now }

@@ -123,7 +123,7 @@ pub record IsBlockOf (block_bits : ℕ) (words : List Bool) (block : List ℕ) :
   pub joined : bits block ≡ words ++ rest
 
 -- Symbols fill whole blocks and begin another one. `words` are the bits of the words in that other block, and `values`
--- is the number of values of these words. Each whole block has at least four symbols.
+-- is the number of values of these words. The whole blocks have at least four symbols a block on average.
 pub record IsFilling (code : CanonicalCode) (entries : List (List ℕ)) (block_bits : ℕ) (symbols lengths packed : List ℕ) (words : List Bool) (values : ℕ) : Type 0 where
   pub lists : List (List ℕ)
   pub current : List ℕ

@@ -59,7 +59,7 @@ or_fault fault (Some a) = means a
 abbrev pub line_of : List Word → Lines (List (List ℕ))
 line_of pattern = line (λ words. or_fault Field (values_in pattern words))
 
--- the i-th value of a line as a decimal up to a limit; as bytes
+-- the i-th value of a line: number_at parses it as a decimal up to a limit, bytes_at as hexadecimal text of bytes
 abbrev pub number_at : List (List ℕ) → ℕ → ℕ → Lines ℕ
 number_at values i limit = or_fault Number (number_in limit (get_or values i []))
 

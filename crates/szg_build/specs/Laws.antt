@@ -1,5 +1,5 @@
--- Laws: the text of a dump is read back, also that of a table's own dump; a built table is found in its file; a
--- table built from the dump of another has its values.
+-- Laws: the text of a dump is read back, also that of the dump of an accepted table; a built table is found in its
+-- file; a table built from the dump of another table has the other table's values.
 use Rattle.std.specs.Prelude.{◌≡◌, ℕ, suc, ◌+◌, ◌≤◌, false, true, List, [], ◌∷◌, ◌++◌, length, Option, Some, None, option_and_then, option_map, slice_index}
 use Rattle.std.specs.List.{AllByRecursion}
 use Rattle.szg_values.specs.Material.{Sides, IsMaterial}
@@ -89,7 +89,7 @@ OneTextOneDump = (sizes : Sides → Kind → List Part → Option (List ℕ)) (f
 abbrev pub DumpIsWritable : Type 0
 DumpIsWritable = (form : Form) (dump : Dump) (t : Contents) (fill : List ℕ) → IsMaterial t.material → IsAccepted t fill → IsDumpOf dump t → IsTold form sizes_told dump
 
--- The text of a table's own dump is read back as that dump, whatever follows it.
+-- The text of the dump of an accepted table is read back as that dump, whatever follows it.
 abbrev pub OwnDumpIsRead : Type 0
 OwnDumpIsRead = (form : Form) (dump : Dump) (t : Contents) (fill rest : List ℕ) → IsMaterial t.material → IsAccepted t fill → IsDumpOf dump t →
     verdict dump_format 0 (dump_text form dump ++ rest) ≡ good dump (length (dump_lines form dump)) rest
@@ -114,8 +114,8 @@ RebuiltHasSameValues = (dump : Dump) (block_bits span_bits rounds : ℕ) (t rebu
 abbrev pub BuiltDumpStays : Type 0
 BuiltDumpStays = (dump : Dump) (block_bits span_bits rounds : ℕ) (t : Contents) → IsBuilt (dump_plan dump block_bits span_bits rounds) dump.lists t → IsDumpOf dump t
 
--- Bytes that begin with the file of a built table have the verdict of that table. Value i of the subtable found for
--- a part and a side is item i of the list that was passed for them.
+-- The verdict on bytes that begin with the file of a built table accepts them as that table. Value i of the subtable
+-- found for a part and a side is item i of the list that was passed for them.
 abbrev pub BuiltIsFound : Type 0
 BuiltIsFound = (plan : Plan) (lists : List (List ℕ)) (t : Contents) (fill rest : List ℕ) → IsAccepted t fill → IsBuilt plan lists t →
     (file_format.verdict (file plan.material plan.kind) 0 (file_of t fill ++ rest) ≡ file_format.good t fill rest)

@@ -47,7 +47,7 @@ LinesAnswer f view count new bytes coming failures failures' row may_fail (Err (
 LinesAnswer f view count new bytes coming failures failures' row may_fail (Err Device) = HasFailed failures failures' row × IsTrue may_fail
 LinesAnswer f view count new bytes coming failures failures' row may_fail (Err Memory) = failures' ≡ failures
 
--- an error may have taken one more round of retries
+-- the `more` of Takes: an error may have taken 1,001 calls beyond those for the bytes that were read
 abbrev pub turns_of : {X : Type 0} → Result X DumpReadFault → ℕ
 turns_of (Ok x) = 0
 turns_of (Err fault) = 1

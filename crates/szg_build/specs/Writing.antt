@@ -22,7 +22,7 @@ pub record Stops (text : List ℕ) (old : Outgoing) (out : ℕ) (bytes : List �
   pub some : 0 < length rest
   pub begun : bytes ++ rest ≡ old.held.items ++ text
 
--- an error may have taken one more round of retries
+-- the `more` of Gives: an error may have taken 1,001 calls beyond those for the bytes that were written
 abbrev pub turns_of : {X : Type 0} → Result X WriteFault → ℕ
 turns_of (Ok x) = 0
 turns_of (Err fault) = 1

@@ -21,7 +21,7 @@ pub fn dump_is_writable()
     ensures { DumpIsWritable }
 {}
 
-/// The text of a table's own dump is read back as that dump, whatever follows it.
+/// The text of the dump of an accepted table is read back as that dump, whatever follows it.
 pub fn own_dump_is_read()
     ensures { OwnDumpIsRead }
 {}

@@ -76,7 +76,7 @@ pub(crate) fn is_mapped(flags: u8) -> bool
     (flags / 2) % 2 == 1
 }
 
-/// Returns whether flags require a map whose items have two bytes.
+/// Returns whether flags have flag 16. A map with these flags has items of two bytes.
 pub(crate) fn is_wide(flags: u8) -> bool
     ensures { result ≡ has_bit 4 flags }
 {

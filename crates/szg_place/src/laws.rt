@@ -50,7 +50,8 @@ pub fn table_numbering(table: &Table)
     let _men = table.material().men();
 }
 
-/// If `placement_of` does not refuse an index, `index_of` returns its part, side and index for the placement.
+/// If `placement_of` returns a placement for a part, side and index, `index_of` returns the same part, side and index
+/// for this placement.
 pub fn index_of_placement(table: &Table, part: u8, side: u8, index: u64)
     requires there { IsSome (subtable_at table.now.contents part side) }
     requires below { IfSome (subtable_at table.now.contents part side) (λ found. index < found.0.size) }
@@ -62,8 +63,8 @@ pub fn index_of_placement(table: &Table, part: u8, side: u8, index: u64)
     index_in_placement(table.index(), part, side, index);
 }
 
-/// If `placement_in` does not refuse an index, `index_in` returns its part, side and index for the placement. Both
-/// take the `TableIndex`, which each type of table has.
+/// If `placement_in` returns a placement for a part, side and index, `index_in` returns the same part, side and index
+/// for this placement. Both take the `TableIndex`, which each type of table has.
 pub fn index_in_placement(table: &TableIndex, part: u8, side: u8, index: u64)
     requires there { IsSome (slot_in table.now part side) }
     requires below { IfSome (slot_in table.now part side) (λ slot. index < slot.size) }

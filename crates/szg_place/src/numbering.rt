@@ -76,7 +76,7 @@ pub fn groups_of(material: &Material, part: u8, order: &Order) -> Groups
 pub struct SideGroups {
     /// The side's order nibbles and men.
     pub order: Order,
-    /// The groups, in slot order.
+    /// The groups, in the order of their slots. A slot is an index in the order's list of men.
     pub groups: Groups,
     /// Whether these groups can number placements, as `is_regular` returns it.
     pub regular: bool,

@@ -38,9 +38,9 @@ pub fn class_of(value: u16) -> Option<i8>
     }
 }
 
-/// Returns the DTZ of a placement of this class (2 win, 1 cursed win, -1 blessed loss, -2 loss) from a DTZ table: a
-/// number of plies, without sign. If the table stores it in moves, it is doubled. (`probe_dtz_table` in the probing
-/// code.)
+/// Returns the number that a DTZ table stores for a placement of this class (2 win, 1 cursed win, -1 blessed loss, -2
+/// loss), in plies and without sign. If the table stores it in moves, it is doubled. (`probe_dtz_table` in the probing
+/// code, whose caller adds 1 for the DTZ, or 101 in the classes 1 and -1.)
 ///
 /// Errors: `Place` with the error of `index_of`, then `Map` if the class is 0, or if its list has no item for the
 /// value.
