@@ -286,6 +286,11 @@ reads_fault (Build fault) read = record { bytes = read.bytes; taken = read.taken
 reads_fault Device read = record { bytes = read.bytes; taken = read.taken; answer = read.answer }
 reads_fault Memory read = record { bytes = read.bytes; taken = read.taken; answer = read.answer }
 
+-- another result with the same meaning
+pub reads_other : {A X Y R : Type 0} (f : Lines A) (view : X → A) (view' : Y → A) (x : X) (y : Y) {o n : Incoming} {dev : Ghosts R} {i k : R} → view' y ≡ view x →
+    ReadsLines f view o n dev i k (Ok x) → ReadsLines f view' o n dev i k (Ok y)
+reads_other f view view' x y same read = goes_ends view' (goes_whole f view x read) (reads_nothing (means (view x)) view' y (ap means (sym same)))
+
 pub reads_alike : {A X R : Type 0} {f : Lines A} {view view' : X → A} {o n : Incoming} {dev : Ghosts R} {i k : R} (r : Result X DumpReadFault) →
     ((x : X) → view x ≡ view' x) → ReadsLines f view o n dev i k r → ReadsLines f view' o n dev i k r
 reads_alike (Ok x) same read = reads_seen read (same x)

@@ -52,3 +52,4 @@ pub mod StreamSteps
 pub mod StreamedDumps
 pub mod StoredLaws
 pub mod TableDumps
+pub mod PackedLaws

@@ -161,64 +161,64 @@ plan_fault_more f count bytes rest fault (good a n r) e h = absurd h
 plan_fault_more f count bytes rest fault (refused at why r) e h = subst (λ v. IsPlanFault v fault) (sym (refused-more f count bytes rest at why r e)) h
 plan_fault_more f count bytes rest fault (ended at) e h = absurd h
 
-follows : (f : Lines Dump) (new : Incoming) (bytes rest : List ℕ) (fs fs' row : ℕ) (may : Bool) (r : Result declared.Dump DumpReadFault) → (IsOk r → (held_of new) ≡ []) →
-    LinesAnswer f dump_seen 0 new bytes (Some rest) fs fs' row may r → FollowsLines (verdict f 0 (bytes ++ rest)) r (Some rest)
-follows f new bytes rest fs fs' row may (Ok dump) none h =
-    let e : verdict f 0 bytes ≡ good (dump_seen dump) h.0 [] = h.2 ∙ ap (λ (z : List ℕ). good (dump_seen dump) h.0 z) (none refl) in
-    (h.0, rest, good-more f 0 bytes rest (dump_seen dump) h.0 [] e, refl)
-follows f new bytes rest fs fs' row may (Err (Line number fault)) none h = line_fault_more f 0 bytes rest number fault (verdict f 0 bytes) refl h.0 h.1
-follows f new bytes rest fs fs' row may (Err (Build fault)) none h = plan_fault_more f 0 bytes rest fault (verdict f 0 bytes) refl h.0
-follows f new bytes rest fs fs' row may (Err Device) none h = tt
-follows f new bytes rest fs fs' row may (Err Memory) none h = tt
+follows : {X : Type 0} (view : X → Dump) (f : Lines Dump) (new : Incoming) (bytes rest : List ℕ) (fs fs' row : ℕ) (may : Bool) (r : Result X DumpReadFault) → (IsOk r → (held_of new) ≡ []) →
+    LinesAnswer f view 0 new bytes (Some rest) fs fs' row may r → FollowsLines view (verdict f 0 (bytes ++ rest)) r (Some rest)
+follows view f new bytes rest fs fs' row may (Ok dump) none h =
+    let e : verdict f 0 bytes ≡ good (view dump) h.0 [] = h.2 ∙ ap (λ (z : List ℕ). good (view dump) h.0 z) (none refl) in
+    (h.0, rest, good-more f 0 bytes rest (view dump) h.0 [] e, refl)
+follows view f new bytes rest fs fs' row may (Err (Line number fault)) none h = line_fault_more f 0 bytes rest number fault (verdict f 0 bytes) refl h.0 h.1
+follows view f new bytes rest fs fs' row may (Err (Build fault)) none h = plan_fault_more f 0 bytes rest fault (verdict f 0 bytes) refl h.0
+follows view f new bytes rest fs fs' row may (Err Device) none h = tt
+follows view f new bytes rest fs fs' row may (Err Memory) none h = tt
 
 -- If the bytes to come are known, the result is their verdict.
-pub reads_told : {R : Type 0} (f : Lines Dump) {o n : Incoming} {dev : Ghosts R} {i k : R} {r : Result declared.Dump DumpReadFault} →
-    ReadsLines f dump_seen o n dev i k r → o.line ≡ 0 → (held_of o) ≡ [] → (IsOk r → (held_of n) ≡ []) →
-    (all : List ℕ) → dev.coming i ≡ Some all → FollowsLines (verdict f 0 all) r (dev.coming k)
-reads_told f {o = o} {n = n} {dev = dev} {i = i} {k = k} {r = r} read first none last all e =
+pub reads_told : {X R : Type 0} (view : X → Dump) (f : Lines Dump) {o n : Incoming} {dev : Ghosts R} {i k : R} {r : Result X DumpReadFault} →
+    ReadsLines f view o n dev i k r → o.line ≡ 0 → (held_of o) ≡ [] → (IsOk r → (held_of n) ≡ []) →
+    (all : List ℕ) → dev.coming i ≡ Some all → FollowsLines view (verdict f 0 all) r (dev.coming k)
+reads_told view f {o = o} {n = n} {dev = dev} {i = i} {k = k} {r = r} read first none last all e =
     let off = taken_off all (dev.coming k) read.bytes (subst (λ c. Consumes c (dev.coming k) read.bytes) e read.taken.bytes_gone) in
     let h = read.answer 0 (sym first) in
-    let h' : LinesAnswer f dump_seen 0 n read.bytes (Some off.0) (dev.failures i) (dev.failures k) (dev.interrupted k) (dev.may_fail i) r =
-    subst (λ c. LinesAnswer f dump_seen 0 n read.bytes c (dev.failures i) (dev.failures k) (dev.interrupted k) (dev.may_fail i) r) off.1
-    (subst (λ (z : List ℕ). LinesAnswer f dump_seen 0 n (z ++ read.bytes) (dev.coming k) (dev.failures i) (dev.failures k) (dev.interrupted k) (dev.may_fail i) r) none h) in
-    let g : FollowsLines (verdict f 0 (read.bytes ++ off.0)) r (Some off.0) = follows f n read.bytes off.0 (dev.failures i) (dev.failures k) (dev.interrupted k) (dev.may_fail i) r last h' in
-    let g' : FollowsLines (verdict f 0 all) r (Some off.0) = subst (λ z. FollowsLines (verdict f 0 z) r (Some off.0)) (sym off.2) g in
-    subst (λ c. FollowsLines (verdict f 0 all) r c) (sym off.1) g'
+    let h' : LinesAnswer f view 0 n read.bytes (Some off.0) (dev.failures i) (dev.failures k) (dev.interrupted k) (dev.may_fail i) r =
+    subst (λ c. LinesAnswer f view 0 n read.bytes c (dev.failures i) (dev.failures k) (dev.interrupted k) (dev.may_fail i) r) off.1
+    (subst (λ (z : List ℕ). LinesAnswer f view 0 n (z ++ read.bytes) (dev.coming k) (dev.failures i) (dev.failures k) (dev.interrupted k) (dev.may_fail i) r) none h) in
+    let g : FollowsLines view (verdict f 0 (read.bytes ++ off.0)) r (Some off.0) = follows view f n read.bytes off.0 (dev.failures i) (dev.failures k) (dev.interrupted k) (dev.may_fail i) r last h' in
+    let g' : FollowsLines view (verdict f 0 all) r (Some off.0) = subst (λ z. FollowsLines view (verdict f 0 z) r (Some off.0)) (sym off.2) g in
+    subst (λ c. FollowsLines view (verdict f 0 all) r c) (sym off.1) g'
 
-took : (f : Lines Dump) (new : Incoming) (bytes : List ℕ) (coming : Option (List ℕ)) (fs fs' row : ℕ) (may : Bool) (r : Result declared.Dump DumpReadFault) → (IsOk r → (held_of new) ≡ []) →
-    LinesAnswer f dump_seen 0 new bytes coming fs fs' row may r → TookLines (verdict f 0 bytes) r coming
-took f new bytes coming fs fs' row may (Ok dump) none h = (h.0, h.2 ∙ ap (λ (z : List ℕ). good (dump_seen dump) h.0 z) (none refl))
-took f new bytes coming fs fs' row may (Err (Line number fault)) none h = (h.0, h.1)
-took f new bytes coming fs fs' row may (Err (Build fault)) none h = h.0
-took f new bytes coming fs fs' row may (Err Device) none h = tt
-took f new bytes coming fs fs' row may (Err Memory) none h = tt
+took : {X : Type 0} (view : X → Dump) (f : Lines Dump) (new : Incoming) (bytes : List ℕ) (coming : Option (List ℕ)) (fs fs' row : ℕ) (may : Bool) (r : Result X DumpReadFault) → (IsOk r → (held_of new) ≡ []) →
+    LinesAnswer f view 0 new bytes coming fs fs' row may r → TookLines view (verdict f 0 bytes) r coming
+took view f new bytes coming fs fs' row may (Ok dump) none h = (h.0, h.2 ∙ ap (λ (z : List ℕ). good (view dump) h.0 z) (none refl))
+took view f new bytes coming fs fs' row may (Err (Line number fault)) none h = (h.0, h.1)
+took view f new bytes coming fs fs' row may (Err (Build fault)) none h = h.0
+took view f new bytes coming fs fs' row may (Err Device) none h = tt
+took view f new bytes coming fs fs' row may (Err Memory) none h = tt
 
 taken_more : {X R : Type 0} {dev : Ghosts R} {i k : R} (x : List ℕ) (r : Result X DumpReadFault) → Takes dev i k x (turns_of r) → Takes dev i k x 1
 taken_more x (Ok v) t = Takes-more x 1 t
 taken_more x (Err fault) t = t
 
 -- The bytes that were read, for every reader.
-pub reads_taken : {R : Type 0} (f : Lines Dump) {o n : Incoming} {dev : Ghosts R} {i k : R} {r : Result declared.Dump DumpReadFault} →
-    ReadsLines f dump_seen o n dev i k r → o.line ≡ 0 → (held_of o) ≡ [] → (IsOk r → (held_of n) ≡ []) →
-    (bytes : List ℕ) × Takes dev i k bytes 1 × TookLines (verdict f 0 bytes) r (dev.coming k)
-reads_taken f {o = o} {n = n} {dev = dev} {i = i} {k = k} {r = r} read first none last = (
+pub reads_taken : {X R : Type 0} (view : X → Dump) (f : Lines Dump) {o n : Incoming} {dev : Ghosts R} {i k : R} {r : Result X DumpReadFault} →
+    ReadsLines f view o n dev i k r → o.line ≡ 0 → (held_of o) ≡ [] → (IsOk r → (held_of n) ≡ []) →
+    (bytes : List ℕ) × Takes dev i k bytes 1 × TookLines view (verdict f 0 bytes) r (dev.coming k)
+reads_taken view f {o = o} {n = n} {dev = dev} {i = i} {k = k} {r = r} read first none last = (
   read.bytes,
   taken_more read.bytes r read.taken,
-  took f n read.bytes (dev.coming k) (dev.failures i) (dev.failures k) (dev.interrupted k) (dev.may_fail i) r last
-      (subst (λ (z : List ℕ). LinesAnswer f dump_seen 0 n (z ++ read.bytes) (dev.coming k) (dev.failures i) (dev.failures k) (dev.interrupted k) (dev.may_fail i) r) none (read.answer 0 (sym first))),
+  took view f n read.bytes (dev.coming k) (dev.failures i) (dev.failures k) (dev.interrupted k) (dev.may_fail i) r last
+      (subst (λ (z : List ℕ). LinesAnswer f view 0 n (z ++ read.bytes) (dev.coming k) (dev.failures i) (dev.failures k) (dev.interrupted k) (dev.may_fail i) r) none (read.answer 0 (sym first))),
 )
 
-device_of : (f : Lines Dump) (new : Incoming) (bytes : List ℕ) (coming : Option (List ℕ)) (fs fs' row : ℕ) (may : Bool) (r : Result declared.Dump DumpReadFault) →
-    LinesAnswer f dump_seen 0 new bytes coming fs fs' row may r → (IsErrOf r Device → HasFailed fs fs' row × IsTrue may) × ((IsErrOf r Device → ⊥) → fs' ≡ fs)
-device_of f new bytes coming fs fs' row may (Ok dump) h = (λ e. absurd cc, λ e. h.3)
-device_of f new bytes coming fs fs' row may (Err (Line number fault)) h = (λ e. absurd cc, λ e. h.2)
-device_of f new bytes coming fs fs' row may (Err (Build fault)) h = (λ e. absurd cc, λ e. h.1)
-device_of f new bytes coming fs fs' row may (Err Device) h = (λ e. h, λ e. absurd (e refl))
-device_of f new bytes coming fs fs' row may (Err Memory) h = (λ e. absurd cc, λ e. h)
+device_of : {X : Type 0} (view : X → Dump) (f : Lines Dump) (new : Incoming) (bytes : List ℕ) (coming : Option (List ℕ)) (fs fs' row : ℕ) (may : Bool) (r : Result X DumpReadFault) →
+    LinesAnswer f view 0 new bytes coming fs fs' row may r → (IsErrOf r Device → HasFailed fs fs' row × IsTrue may) × ((IsErrOf r Device → ⊥) → fs' ≡ fs)
+device_of view f new bytes coming fs fs' row may (Ok dump) h = (λ e. absurd cc, λ e. h.3)
+device_of view f new bytes coming fs fs' row may (Err (Line number fault)) h = (λ e. absurd cc, λ e. h.2)
+device_of view f new bytes coming fs fs' row may (Err (Build fault)) h = (λ e. absurd cc, λ e. h.1)
+device_of view f new bytes coming fs fs' row may (Err Device) h = (λ e. h, λ e. absurd (e refl))
+device_of view f new bytes coming fs fs' row may (Err Memory) h = (λ e. absurd cc, λ e. h)
 
 -- `Device` is returned only if the reader failed.
-pub reads_device : {R : Type 0} (f : Lines Dump) {o n : Incoming} {dev : Ghosts R} {i k : R} {r : Result declared.Dump DumpReadFault} →
-    ReadsLines f dump_seen o n dev i k r → o.line ≡ 0 →
+pub reads_device : {X R : Type 0} (view : X → Dump) (f : Lines Dump) {o n : Incoming} {dev : Ghosts R} {i k : R} {r : Result X DumpReadFault} →
+    ReadsLines f view o n dev i k r → o.line ≡ 0 →
     (IsErrOf r Device → HasFailed (dev.failures i) (dev.failures k) (dev.interrupted k) × IsTrue (dev.may_fail i)) × ((IsErrOf r Device → ⊥) → dev.failures k ≡ dev.failures i)
-reads_device f {o = o} {n = n} {dev = dev} {i = i} {k = k} {r = r} read first =
-    device_of f n ((held_of o) ++ read.bytes) (dev.coming k) (dev.failures i) (dev.failures k) (dev.interrupted k) (dev.may_fail i) r (read.answer 0 (sym first))
+reads_device view f {o = o} {n = n} {dev = dev} {i = i} {k = k} {r = r} read first =
+    device_of view f n ((held_of o) ++ read.bytes) (dev.coming k) (dev.failures i) (dev.failures k) (dev.interrupted k) (dev.may_fail i) r (read.answer 0 (sym first))

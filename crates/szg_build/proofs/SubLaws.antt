@@ -70,7 +70,7 @@ if_ok (Err e) f h = tt
 
 -- ---- lists of one value
 
-replicated_all : (one n : ℕ) → list_all (λ value. value == one) (replicate n one) ≡ true
+pub replicated_all : (one n : ℕ) → list_all (λ value. value == one) (replicate n one) ≡ true
 replicated_all one zero = refl
 replicated_all one (suc n) = ap (λ (b : Bool). b && list_all (λ value. value == one) (replicate n one)) (eq-eqb one one refl) ∙ replicated_all one n
 

@@ -41,7 +41,7 @@ three true true c e = (refl, refl, e)
 three true false c e = absurd (apart e)
 three false b c e = absurd (apart e)
 
-four : (a b c d : Bool) → (a && b && c && d) ≡ true → (a ≡ true) × (b ≡ true) × (c ≡ true) × (d ≡ true)
+pub four : (a b c d : Bool) → (a && b && c && d) ≡ true → (a ≡ true) × (b ≡ true) × (c ≡ true) × (d ≡ true)
 four true true true d e = (refl, refl, refl, e)
 four true true false d e = absurd (apart e)
 four true false c d e = absurd (apart e)
@@ -322,7 +322,7 @@ one_each : (material : Sides) (n : ℕ) (parts : List Part) → length (slots_fr
 one_each material n [] = refl
 one_each material n (part ∷ parts) = ap suc (one_each material (n + 1) parts)
 
-no_items : {A : Type 0} (xs : List A) → length xs ≡ 0 → xs ≡ []
+pub no_items : {A : Type 0} (xs : List A) → length xs ≡ 0 → xs ≡ []
 no_items [] e = refl
 no_items (x ∷ xs) e = absurd (omega (arith, e))
 

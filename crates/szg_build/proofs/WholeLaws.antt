@@ -12,7 +12,7 @@ use Rattle.szg_file.specs.Accepted.{SideBySide, IsPart}
 use Rattle.szg_io.specs.declared.device.Input.{Ghosts}
 use Rattle.szg_build.specs.declared.incoming.Incoming.{Incoming}
 use Rattle.szg_build.specs.declared.dump.DumpReadFault.{DumpReadFault}
-use Rattle.szg_build.specs.declared.dumpreading.Subs.{Subs}
+use Rattle.szg_build.specs.declared.gathering.Subs.{Subs}
 use Rattle.szg_build.specs.declared.subreading.SubText.{SubText}
 use Rattle.szg_build.specs.Dump.{Dump, SubDump, places_of, flags_in, maps_in, dump_of_subs}
 use Rattle.szg_build.specs.Plan.{sizes_told}
@@ -21,6 +21,7 @@ use Rattle.szg_build.specs.Text.{Form}
 use Rattle.szg_build.specs.Lines.{Lines, means, ◌>>=◌}
 use Rattle.szg_build.specs.Grammar.{dump_format, version_line, name_line, kind_line, sub_text, subs_text}
 use Rattle.szg_build.specs.Reading.{ReadsLines}
+use Rattle.szg_build.specs.Packed.{lists_in, packed_values, values_held}
 use Rattle.szg_build.specs.Rests.{sub_told}
 use Rattle.szg_build.specs.Wholes.{AreSubs, dump_behind_kind, dump_behind_parts, told_in}
 use Rattle.szg_build.proofs.GoingLaws.{GoesOn, mapped, goes_here, goes_then, goes_as, goes_step, goes_stopped, goes_ends}
@@ -46,27 +47,30 @@ maps_more Wdl read sub = refl
 maps_more Dtz read sub = sym (map-append (λ s. s.lists) read (sub_told sub ∷ []))
 
 pub are_more : (kind : Kind) (subs new : Subs) (read : List SubDump) (sub : SubText) → new.flags.items ≡ subs.flags.items ++ told_in kind sub.flags →
-    new.maps.items ≡ subs.maps.items ++ told_in kind sub.map → new.lists.items ≡ subs.lists.items ++ sub.values ∷ [] → AreSubs kind subs read → AreSubs kind new (read ++ sub_told sub ∷ [])
+    new.maps.items ≡ subs.maps.items ++ told_in kind sub.map → lists_in kind new ≡ lists_in kind subs ++ values_held sub.values ∷ [] → AreSubs kind subs read → AreSubs kind new (read ++ sub_told sub ∷ [])
 are_more kind subs new read sub e e' e'' h = (
   e ∙ ap (λ (z : List ℕ). z ++ told_in kind sub.flags) h.0 ∙ flags_more kind read sub,
   ap (map (option_map map_of)) e' ∙ map-append (option_map map_of) subs.maps.items (told_in kind sub.map)
       ∙ ap (λ (z : List (Option Map)). z ++ map (option_map map_of) (told_in kind sub.map)) h.1 ∙ maps_more kind read sub,
-  ap (map (λ list. list.items)) e'' ∙ map-append (λ list. list.items) subs.lists.items (sub.values ∷ [])
-      ∙ ap (λ (z : List (List ℕ)). z ++ sub.values.items ∷ []) h.2 ∙ sym (map-append (λ s. s.values) read (sub_told sub ∷ [])),
+  e'' ∙ ap (λ (z : List (List ℕ)). z ++ values_held sub.values ∷ []) h.2 ∙ sym (map-append (λ s. s.values) read (sub_told sub ∷ [])),
 )
 
-pub none_read : (kind : Kind) (subs : Subs) → subs.flags.items ≡ [] → subs.maps.items ≡ [] → subs.lists.items ≡ [] → AreSubs kind subs []
-none_read Wdl subs e e' e'' = (e, ap (map (option_map map_of)) e', ap (map (λ list. list.items)) e'')
-none_read Dtz subs e e' e'' = (e, ap (map (option_map map_of)) e', ap (map (λ list. list.items)) e'')
+no_lists : (kind : Kind) (subs : Subs) → subs.packed.items ≡ [] → subs.rest.items ≡ [] → lists_in kind subs ≡ []
+no_lists kind subs p r =
+    ap (λ z. map (packed_values kind) z ++ map (λ list. list.items) subs.rest.items) p ∙ ap (map (λ list. list.items)) r
+
+pub none_read : (kind : Kind) (subs : Subs) → subs.flags.items ≡ [] → subs.maps.items ≡ [] → subs.packed.items ≡ [] → subs.rest.items ≡ [] → AreSubs kind subs []
+none_read Wdl subs e e' p r = (e, ap (map (option_map map_of)) e', no_lists Wdl subs p r)
+none_read Dtz subs e e' p r = (e, ap (map (option_map map_of)) e', no_lists Dtz subs p r)
 
 abbrev a_dump : Sides → Kind → List Part → List ℕ → List ℕ → List (Option Map) → List (List ℕ) → Dump
 a_dump material kind parts last flags maps lists = record { material = material; kind = kind; parts = parts; flags = flags; maps = maps; last = last; lists = lists }
 
 pub same_dump : (material : Sides) (kind : Kind) (parts : List Part) (last : List ℕ) (subs : Subs) (read : List SubDump) → AreSubs kind subs read →
-    a_dump material kind parts last subs.flags.items (map (option_map map_of) subs.maps.items) (map (λ list. list.items) subs.lists.items) ≡ dump_of_subs material kind parts last read
+    a_dump material kind parts last subs.flags.items (map (option_map map_of) subs.maps.items) (lists_in kind subs) ≡ dump_of_subs material kind parts last read
 same_dump material kind parts last subs read h =
-    ap (λ (z : List ℕ). a_dump material kind parts last z (map (option_map map_of) subs.maps.items) (map (λ list. list.items) subs.lists.items)) h.0
-    ∙ ap (λ (z : List (Option Map)). a_dump material kind parts last (flags_in kind read) z (map (λ list. list.items) subs.lists.items)) h.1
+    ap (λ (z : List ℕ). a_dump material kind parts last z (map (option_map map_of) subs.maps.items) (lists_in kind subs)) h.0
+    ∙ ap (λ (z : List (Option Map)). a_dump material kind parts last (flags_in kind read) z (lists_in kind subs)) h.1
     ∙ ap (λ (z : List (List ℕ)). a_dump material kind parts last (flags_in kind read) (maps_in kind read) z) h.2
 
 -- ---- one after another

@@ -21,3 +21,5 @@ pub mod Wholes
 pub mod Streaming
 pub mod BlockValues
 pub mod Stored
+pub mod Packed
+pub mod Chosen

@@ -5,13 +5,14 @@ use Rattle.szg_file.specs.Contents.{Map, has_bit}
 use Rattle.szg_file.specs.Held as held
 use Rattle.szg_build.specs.declared.subreading.SubText.{SubText}
 use Rattle.szg_build.specs.Dump.{SubDump}
+use Rattle.szg_build.specs.Packed.{values_held}
 use Rattle.szg_build.specs.Text.{Form}
 use Rattle.szg_build.specs.Lines.{Lines, means, ◌>>=◌, ◌>>◌}
 use Rattle.szg_build.specs.Grammar.{fixed, value, number_line, greatest_count, length_check, values_lines, flags_line, map_of}
 
 -- the content of a subtable
 abbrev pub sub_told : SubText → SubDump
-sub_told sub = record { flags = sub.flags; lists = option_map held.map_of sub.map; values = sub.values.items }
+sub_told sub = record { flags = sub.flags; lists = option_map held.map_of sub.map; values = values_held sub.values }
 
 -- from the line `values` on, after these flags and this map
 abbrev pub counted_text : Form → Option (List ℕ) → ℕ → ℕ → Option Map → Lines SubDump

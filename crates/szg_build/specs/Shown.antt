@@ -58,20 +58,20 @@ abbrev pub form_of : ℕ → Form
 form_of number = if number == 2 then runs else single
 
 -- The result is the verdict on the bytes to come. If a dump was read, the bytes after it are still to come.
-abbrev pub FollowsLines : Verdict told.Dump → Result Dump DumpReadFault → Option (List ℕ) → Type 0
-FollowsLines v (Ok dump) coming = (lines : ℕ) × (rest : List ℕ) × (v ≡ good (dump_seen dump) lines rest) × (coming ≡ Some rest)
-FollowsLines v (Err (Line number fault)) coming = IsLineFault v number fault
-FollowsLines v (Err (Build fault)) coming = IsPlanFault v fault
-FollowsLines v (Err Device) coming = Unit {0}
-FollowsLines v (Err Memory) coming = Unit {0}
+abbrev pub FollowsLines : {X : Type 0} → (X → told.Dump) → Verdict told.Dump → Result X DumpReadFault → Option (List ℕ) → Type 0
+FollowsLines view v (Ok dump) coming = (lines : ℕ) × (rest : List ℕ) × (v ≡ good (view dump) lines rest) × (coming ≡ Some rest)
+FollowsLines view v (Err (Line number fault)) coming = IsLineFault v number fault
+FollowsLines view v (Err (Build fault)) coming = IsPlanFault v fault
+FollowsLines view v (Err Device) coming = Unit {0}
+FollowsLines view v (Err Memory) coming = Unit {0}
 
 -- The bytes that were read are the dump's text, or have this verdict.
-abbrev pub TookLines : Verdict told.Dump → Result Dump DumpReadFault → Option (List ℕ) → Type 0
-TookLines v (Ok dump) coming = (lines : ℕ) × (v ≡ good (dump_seen dump) lines [])
-TookLines v (Err (Line number fault)) coming = IsLineFault v number fault × EndsWith v coming
-TookLines v (Err (Build fault)) coming = IsPlanFault v fault
-TookLines v (Err Device) coming = Unit {0}
-TookLines v (Err Memory) coming = Unit {0}
+abbrev pub TookLines : {X : Type 0} → (X → told.Dump) → Verdict told.Dump → Result X DumpReadFault → Option (List ℕ) → Type 0
+TookLines view v (Ok dump) coming = (lines : ℕ) × (v ≡ good (view dump) lines [])
+TookLines view v (Err (Line number fault)) coming = IsLineFault v number fault × EndsWith v coming
+TookLines view v (Err (Build fault)) coming = IsPlanFault v fault
+TookLines view v (Err Device) coming = Unit {0}
+TookLines view v (Err Memory) coming = Unit {0}
 
 -- ---- the subtables of a dump, by their numbers
 

@@ -5,8 +5,9 @@ use Rattle.szg_values.specs.declared.Kind.{Kind}
 use Rattle.szg_values.specs.declared.Kind.TheVariants.{Wdl, Dtz}
 use Rattle.szg_file.specs.Contents.{Part}
 use Rattle.szg_file.specs.Held as held
-use Rattle.szg_build.specs.declared.dumpreading.Subs.{Subs}
+use Rattle.szg_build.specs.declared.gathering.Subs.{Subs}
 use Rattle.szg_build.specs.Dump.{Dump, SubDump, parts_of, places_of, flags_in, maps_in, dump_of_subs}
+use Rattle.szg_build.specs.Packed.{lists_in}
 use Rattle.szg_build.specs.Text.{Form}
 use Rattle.szg_build.specs.Plan.{sizes_told}
 use Rattle.szg_build.specs.Lines.{Lines, means, ◌>>=◌}
@@ -35,4 +36,4 @@ abbrev pub AreSubs : Kind → Subs → List SubDump → Type 0
 AreSubs kind subs read =
     (subs.flags.items ≡ flags_in kind read)
     × (map (option_map held.map_of) subs.maps.items ≡ maps_in kind read)
-    × (map (λ list. list.items) subs.lists.items ≡ map (λ sub. sub.values) read)
+    × (lists_in kind subs ≡ map (λ sub. sub.values) read)

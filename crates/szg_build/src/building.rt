@@ -24,15 +24,18 @@ use szg_pairs::{Dict, DictFault};
 
 /// How a subtable is packed.
 #[derive(Clone, Copy)]
-pub(crate) struct Packing {
+pub struct Packing {
+    /// A block has 2^block_bits bytes; 5 to 10.
     pub block_bits: u8,
+    /// An entry of the sparse index covers 2^span_bits values; 1 to 16.
     pub span_bits: u8,
+    /// The greatest number of pairs that a dictionary gets, at most 4,000.
     pub rounds: u32,
 }
 
 /// How the packing of subtables is chosen.
 #[derive(Clone, Copy)]
-pub(crate) enum Choice {
+pub enum Choice {
     /// These numbers.
     Fixed(Packing),
     /// Numbers with which a subtable takes few bytes, chosen by trial.

@@ -1,5 +1,5 @@
 //! Reads a whole dump from a device.
-ghost use Rattle.std.specs.Prelude.{◌≡◌, ℕ, ◌+◌, ◌*◌, ◌<◌, ◌≤◌, List, [], ◌∷◌, ◌++◌, length, map, option_map, IfSome, IsErrOf, IsTrue, OnOk};
+ghost use Rattle.std.specs.Prelude.{◌≡◌, ℕ, ◌+◌, ◌*◌, ◌<◌, ◌≤◌, List, [], length, map, option_map, IfOk, IfSome, IsErrOf, IsTrue, OnOk};
 ghost use Rattle.szg_io.specs.Device.{HasFailed};
 ghost use Rattle.szg_io.specs.Moved.{Takes};
 ghost use Rattle.szg_file.specs.Held.{part_of};
@@ -8,40 +8,28 @@ ghost use Rattle.szg_build.specs.Grammar.{dump_format};
 ghost use Rattle.szg_build.specs.Held.{held_of};
 ghost use Rattle.szg_build.specs.Lacks.{LacksLines, StopsShort};
 ghost use Rattle.szg_build.specs.Lines.{verdict};
+ghost use Rattle.szg_build.specs.Packed.{gathered_told, ArePacked};
 ghost use Rattle.szg_build.specs.Plan.{sizes_told};
 ghost use Rattle.szg_build.specs.Reading.{ReadsLines};
 ghost use Rattle.szg_build.specs.Shown.{dump_seen, form_of, FollowsLines, TookLines};
-ghost use Rattle.szg_build.specs.Wholes.{dump_behind_kind, dump_behind_parts, told_in};
+ghost use Rattle.szg_build.specs.Wholes.{dump_behind_kind, dump_behind_parts};
 
+use crate::building::Choice;
 use crate::dump::{Dump, DumpReadFault};
+use crate::gathering::{Front, Gathered, Subs, add_sub, list_dump};
 use crate::incoming::Incoming;
 use crate::lines::{read_end, read_form, read_kind, read_material};
+use crate::packed_dump::{PackedDump, packed_dump};
 use crate::places::places;
 use crate::reading::read_parts;
-use crate::subreading::{SubText, read_sub};
+use crate::subreading::read_sub;
 use crate::table::parts_fit;
+use crate::watching::{Unwatched, Watcher};
 use arrayvec::ArrayVec;
-use std::alloc::{AllocError, Global};
-use szg_file::{Map, PartBytes, subtable_sizes};
+use std::alloc::Global;
+use szg_file::{PartBytes, subtable_sizes};
 use szg_io::Input;
 use szg_values::{Kind, Material};
-
-/// The lines before the subtables.
-#[derive(Drop)]
-struct Front {
-    material: Material,
-    kind: Kind,
-    parts: Vec<PartBytes>,
-    last: [u8; 16],
-}
-
-/// The subtables read so far.
-#[derive(Drop)]
-struct Subs {
-    flags: Vec<u8>,
-    maps: Vec<Option<Map>>,
-    lists: Vec<Vec<u16>>,
-}
 
 /// Returns the sizes of the subtables. None if the parts are not valid.
 fn sizes_of(material: &Material, kind: Kind, parts: &[PartBytes]) -> Option<ArrayVec<u64, 8>>
@@ -51,35 +39,20 @@ fn sizes_of(material: &Material, kind: Kind, parts: &[PartBytes]) -> Option<Arra
     subtable_sizes(material, kind, parts)
 }
 
-/// Adds a subtable. In WDL its flags and its map are dropped.
-fn add_sub(kind: Kind, subs: &mut Subs, sub: SubText) -> Result<(), AllocError>
-    ensures flags { OnOk result (subs.new.flags.items ≡ subs.old.flags.items ++ told_in kind sub.flags) }
-    ensures maps { OnOk result (subs.new.maps.items ≡ subs.old.maps.items ++ told_in kind sub.map) }
-    ensures lists { OnOk result (subs.new.lists.items ≡ subs.old.lists.items ++ sub.values ∷ []) }
-{
-    let SubText { flags, map, values } = sub;
-    match kind {
-        Kind::Wdl => {}
-        Kind::Dtz => {
-            subs.flags.push(flags)?;
-            subs.maps.push(map)?;
-        }
-    }
-    subs.lists.push(values)?;
-    Ok(())
-}
-
 /// Reads the subtables after the header lines.
-fn read_subs<R: Input>(
+fn read_subs<R: Input, V: Watcher>(
     alloc: Global,
     form: u8,
     front: Front,
+    choice: Choice,
     input: &mut R,
     incoming: &mut Incoming,
-) -> Result<Dump, DumpReadFault>
+    watcher: &mut V,
+) -> Result<Gathered, DumpReadFault>
     requires { length (held_of incoming.old) ≤ 2 * length (places_of front.material front.kind) }
-    ensures lines { ReadsLines (dump_behind_parts (form_of form) front.material front.kind front.last (map part_of front.parts.items)) dump_seen incoming.old incoming.new R.Input input.old input.new result }
+    ensures lines { ReadsLines (dump_behind_parts (form_of form) front.material front.kind front.last (map part_of front.parts.items)) gathered_told incoming.old incoming.new R.Input input.old input.new result }
     ensures held { OnOk result (held_of incoming.new ≡ []) }
+    ensures packed { IfOk result (λ gathered. ArePacked gathered.front.kind choice gathered.subs) }
     ensures memory { IsErrOf result DumpReadFault.Memory → LacksLines (dump_behind_parts (form_of form) front.material front.kind front.last (map part_of front.parts.items)) 0 incoming.old R.Input input.old input.new }
 {
     let sizes = sizes_of(&front.material, front.kind, &front.parts);
@@ -88,38 +61,34 @@ fn read_subs<R: Input>(
     let mut subs = Subs {
         flags: Vec::new(alloc),
         maps: Vec::new(alloc),
-        lists: Vec::new(alloc),
+        packed: Vec::new(alloc),
+        rest: Vec::new(alloc),
     };
     'each: for s in 0..count {
         let behind = 2 * (count - 1 - s) as u64;
         let sub = read_sub(
             alloc, form, front.kind, &sizes, s, places[s], behind, input, incoming,
         )?;
-        add_sub(front.kind, &mut subs, sub)?;
+        add_sub(alloc, front.kind, choice, count, sub, &mut subs, watcher)?;
     }
-    Ok(Dump {
-        material: front.material,
-        kind: front.kind,
-        parts: front.parts,
-        flags: subs.flags,
-        maps: subs.maps,
-        last: front.last,
-        lists: subs.lists,
-    })
+    Ok(Gathered { front, subs })
 }
 
 /// Reads what comes after the kind: the last bytes, the parts and the subtables.
-fn read_behind_kind<R: Input>(
+fn read_behind_kind<R: Input, V: Watcher>(
     alloc: Global,
     form: u8,
     material: Material,
     kind: Kind,
+    choice: Choice,
     input: &mut R,
     incoming: &mut Incoming,
-) -> Result<Dump, DumpReadFault>
+    watcher: &mut V,
+) -> Result<Gathered, DumpReadFault>
     requires { length (held_of incoming.old) ≤ 2 }
-    ensures lines { ReadsLines (dump_behind_kind (form_of form) material kind) dump_seen incoming.old incoming.new R.Input input.old input.new result }
+    ensures lines { ReadsLines (dump_behind_kind (form_of form) material kind) gathered_told incoming.old incoming.new R.Input input.old input.new result }
     ensures held { OnOk result (held_of incoming.new ≡ []) }
+    ensures packed { IfOk result (λ gathered. ArePacked gathered.front.kind choice gathered.subs) }
     ensures memory { IsErrOf result DumpReadFault.Memory → LacksLines (dump_behind_kind (form_of form) material kind) 0 incoming.old R.Input input.old input.new }
 {
     let due = 2 * places(&material, kind).len() as u64;
@@ -131,10 +100,32 @@ fn read_behind_kind<R: Input>(
         parts,
         last,
     };
-    read_subs(alloc, form, front, input, incoming)
+    read_subs(alloc, form, front, choice, input, incoming, watcher)
 }
 
-/// Reads the whole text.
+/// Reads the whole text. The first subtables are packed as `choice` says.
+fn read_gathered<R: Input, V: Watcher>(
+    alloc: Global,
+    choice: Choice,
+    input: &mut R,
+    incoming: &mut Incoming,
+    watcher: &mut V,
+) -> Result<Gathered, DumpReadFault>
+    requires { held_of incoming.old ≡ [] }
+    ensures lines { ReadsLines dump_format gathered_told incoming.old incoming.new R.Input input.old input.new result }
+    ensures held { OnOk result (held_of incoming.new ≡ []) }
+    ensures packed { IfOk result (λ gathered. ArePacked gathered.front.kind choice gathered.subs) }
+    ensures memory { IsErrOf result DumpReadFault.Memory → LacksLines dump_format 0 incoming.old R.Input input.old input.new }
+{
+    let form = read_form(4, input, incoming)?;
+    let material = read_material(3, input, incoming)?;
+    let kind = read_kind(2, input, incoming)?;
+    read_behind_kind(
+        alloc, form, material, kind, choice, input, incoming, watcher,
+    )
+}
+
+/// Reads the whole text and lists all values.
 fn read_text<R: Input>(
     alloc: Global,
     input: &mut R,
@@ -145,10 +136,9 @@ fn read_text<R: Input>(
     ensures held { OnOk result (held_of incoming.new ≡ []) }
     ensures memory { IsErrOf result DumpReadFault.Memory → LacksLines dump_format 0 incoming.old R.Input input.old input.new }
 {
-    let form = read_form(4, input, incoming)?;
-    let material = read_material(3, input, incoming)?;
-    let kind = read_kind(2, input, incoming)?;
-    read_behind_kind(alloc, form, material, kind, input, incoming)
+    let gathered = read_gathered(alloc, Choice::Small, input, incoming, &mut Unwatched)?;
+    let dump = list_dump(alloc, gathered)?;
+    Ok(dump)
 }
 
 /// Reads the text of a dump, in the form that its first line names. No byte after its last line is read.
@@ -162,9 +152,9 @@ fn read_text<R: Input>(
 /// dump that begins with these lines still has. If a dump was read, no byte was read ahead.
 pub fn read_dump<R: Input>(alloc: Global, input: &mut R) -> Result<Dump, DumpReadFault>
     // If the bytes to come are known, the result is their verdict, however the reader splits them.
-    ensures verdict { IfSome (R.coming input.old) (λ bytes. FollowsLines (verdict dump_format 0 bytes) result (R.coming input.new)) }
+    ensures verdict { IfSome (R.coming input.old) (λ bytes. FollowsLines dump_seen (verdict dump_format 0 bytes) result (R.coming input.new)) }
     // For every reader: the bytes that were read, and the number of calls.
-    ensures taken { (bytes : List ℕ) × Takes R.Input input.old input.new bytes 1 × TookLines (verdict dump_format 0 bytes) result (R.coming input.new) }
+    ensures taken { (bytes : List ℕ) × Takes R.Input input.old input.new bytes 1 × TookLines dump_seen (verdict dump_format 0 bytes) result (R.coming input.new) }
     // If memory is refused: the lines that were read are valid, and no more bytes were read ahead than the shortest
     // dump that begins with these lines still has.
     ensures memory { IsErrOf result DumpReadFault.Memory → (bytes : List ℕ) × Takes R.Input input.old input.new bytes 1 × StopsShort dump_format 0 0 bytes }
@@ -173,4 +163,33 @@ pub fn read_dump<R: Input>(alloc: Global, input: &mut R) -> Result<Dump, DumpRea
 {
     let mut incoming = Incoming::new();
     read_text(alloc, input, &mut incoming)
+}
+
+/// Reads the text of a dump as `read_dump` does, and packs its subtables by `choice` while it reads. `watcher` sees each
+/// subtable that is packed, and the end if no dump was read.
+///
+/// It keeps the values of one subtable at a time, and none of a constant subtable. In a small table a subtable with
+/// blocks, and any after it, stays a list until the table is built; so does a subtable for whose values no table can be
+/// built, and any after it.
+pub fn read_packed<R: Input, V: Watcher>(
+    alloc: Global,
+    choice: Choice,
+    input: &mut R,
+    watcher: &mut V,
+) -> Result<PackedDump, DumpReadFault>
+    ensures choice { IfOk result (λ packed. packed.choice ≡ choice) }
+    ensures verdict { IfSome (R.coming input.old) (λ bytes. FollowsLines (λ packed. packed.dump) (verdict dump_format 0 bytes) result (R.coming input.new)) }
+    ensures taken { (bytes : List ℕ) × Takes R.Input input.old input.new bytes 1 × TookLines (λ packed. packed.dump) (verdict dump_format 0 bytes) result (R.coming input.new) }
+    ensures memory { IsErrOf result DumpReadFault.Memory → (bytes : List ℕ) × Takes R.Input input.old input.new bytes 1 × StopsShort dump_format 0 0 bytes }
+    ensures device { IsErrOf result DumpReadFault.Device → HasFailed (R.failures input.old) (R.failures input.new) (R.interrupted input.new) × IsTrue (R.may_fail input.old) }
+    ensures quiet { (IsErrOf result DumpReadFault.Device → ⊥) → R.failures input.new ≡ R.failures input.old }
+{
+    let mut incoming = Incoming::new();
+    match read_gathered(alloc, choice, input, &mut incoming, watcher) {
+        Ok(gathered) => Ok(packed_dump(gathered, choice)),
+        Err(fault) => {
+            watcher.end();
+            Err(fault)
+        }
+    }
 }

@@ -1,10 +1,11 @@
 //! Reads a dump's parts, maps and values from a device.
-ghost use Rattle.std.specs.Prelude.{◌≡◌, ◌+◌, ◌<◌, ◌≤◌, ◌^◌, [], ◌∷◌, ◌++◌, length, map, option_map, replicate, IsErrOf, OnOk};
+ghost use Rattle.std.specs.Prelude.{◌≡◌, ◌+◌, ◌<◌, ◌≤◌, ◌^◌, [], ◌∷◌, ◌++◌, length, map, option_map, IsErrOf, OnOk};
 ghost use Rattle.szg_file.specs.Contents.{has_bit, part_numbers};
 ghost use Rattle.szg_file.specs.Held.{map_of, part_of};
 ghost use Rattle.szg_build.specs.Grammar.{each, list_numbers, map_list, map_of as map_text, part_line, value, values_lines, repeated, number_line, run_values};
 ghost use Rattle.szg_build.specs.Held.{held_of};
 ghost use Rattle.szg_build.specs.Lacks.{LacksLines};
+ghost use Rattle.szg_build.specs.Packed.{values_held};
 ghost use Rattle.szg_build.specs.Reading.{ReadsLines};
 ghost use Rattle.szg_build.specs.Shown.{form_of};
 
@@ -14,7 +15,8 @@ use crate::item::Item;
 use crate::lines::{read_number, read_part, read_run};
 use crate::refusing::{is_mapped, is_wide};
 use crate::saying::GREATEST_COUNT;
-use std::alloc::{AllocError, AllocFailed, Global};
+use crate::values::Values;
+use std::alloc::{AllocError, Global};
 use szg_file::{Map, PartBytes, part_count};
 use szg_io::Input;
 use szg_values::Material;
@@ -58,16 +60,6 @@ fn read_items<T: Item, R: Input>(
     Ok(list)
 }
 
-/// Appends a run of equal values.
-fn add_run(list: &mut Vec<u16>, size: u64, value: u16) -> Result<(), AllocFailed<u16>>
-    ensures { OnOk result (list.new.items ≡ list.old.items ++ replicate size value) }
-{
-    'values: for _value in 0..size {
-        list.push(value)?;
-    }
-    Ok(())
-}
-
 /// Reads runs, one a line, until there are `count` values.
 fn read_runs<R: Input>(
     alloc: Global,
@@ -75,20 +67,20 @@ fn read_runs<R: Input>(
     behind: u64,
     input: &mut R,
     incoming: &mut Incoming,
-) -> Result<Vec<u16>, DumpReadFault>
+) -> Result<Values, DumpReadFault>
     requires { length (held_of incoming.old) ≤ behind }
-    ensures lines { ReadsLines (run_values count count) (λ list. list.items) incoming.old incoming.new R.Input input.old input.new result }
+    ensures lines { ReadsLines (run_values count count) values_held incoming.old incoming.new R.Input input.old input.new result }
     ensures behind { OnOk result (length (held_of incoming.new) ≤ behind) }
     ensures memory { IsErrOf result DumpReadFault.Memory → LacksLines (run_values count count) behind incoming.old R.Input input.old input.new }
 {
-    let mut list = Vec::new(alloc);
+    let mut values = Values::new();
     let mut left = count;
     'runs: while left > 0 {
         let (size, value) = read_run(left, behind, input, incoming)?;
-        add_run(&mut list, size, value)?;
+        values = values.with_run(alloc, size, value)?;
         left -= size;
     }
-    Ok(list)
+    Ok(values)
 }
 
 /// Reads the `count` values of a subtable in form `form`.
@@ -99,18 +91,18 @@ pub(crate) fn read_values<R: Input>(
     behind: u64,
     input: &mut R,
     incoming: &mut Incoming,
-) -> Result<Vec<u16>, DumpReadFault>
+) -> Result<Values, DumpReadFault>
     requires few { behind + count < 2 ^ 64 }
     requires held { length (held_of incoming.old) ≤ behind }
-    ensures lines { ReadsLines (values_lines (form_of form) count) (λ list. list.items) incoming.old incoming.new R.Input input.old input.new result }
+    ensures lines { ReadsLines (values_lines (form_of form) count) values_held incoming.old incoming.new R.Input input.old input.new result }
     ensures behind { OnOk result (length (held_of incoming.new) ≤ behind) }
     ensures memory { IsErrOf result DumpReadFault.Memory → LacksLines (values_lines (form_of form) count) behind incoming.old R.Input input.old input.new }
 {
     if form == 2 {
-        read_runs(alloc, count, behind, input, incoming)
-    } else {
-        read_items(alloc, count, behind, input, incoming)
+        return read_runs(alloc, count, behind, input, incoming);
     }
+    let list = read_items(alloc, count, behind, input, incoming)?;
+    Ok(Values::Listed(list))
 }
 
 // ---- maps

@@ -12,20 +12,20 @@ use szg_file::{Map, part_count};
 use szg_values::Kind;
 
 /// The greatest number of rounds of a plan.
-const MAX_ROUNDS: u32 = 4000;
+pub(crate) const MAX_ROUNDS: u32 = 4000;
 
 /// The greatest number of different values of a list.
-const MAX_DIFFERENT: usize = 4095;
+pub(crate) const MAX_DIFFERENT: usize = 4095;
 
 /// Returns whether block bits and span bits are in their ranges.
-fn bits_stand(plan: &Plan) -> bool
+pub(crate) fn bits_stand(plan: &Plan) -> bool
     ensures { result ≡ (nat_le 5 plan.now.block_bits && nat_le plan.now.block_bits 10 && nat_le 1 plan.now.span_bits && nat_le plan.now.span_bits 16) }
 {
     5 <= plan.block_bits && plan.block_bits <= 10 && 1 <= plan.span_bits && plan.span_bits <= 16
 }
 
 /// Returns the greatest value that a kind of table may have.
-fn greatest_of(kind: Kind) -> u16
+pub(crate) fn greatest_of(kind: Kind) -> u16
     ensures { result ≡ greatest_value kind }
 {
     match kind {
@@ -35,7 +35,7 @@ fn greatest_of(kind: Kind) -> u16
 }
 
 /// Returns whether a list has a value above `greatest`.
-fn has_above(values: &[u16], greatest: u16) -> bool
+pub(crate) fn has_above(values: &[u16], greatest: u16) -> bool
     ensures { result ≡ list_any (λ v. nat_lt greatest v) values.now }
 {
     values.iter().any(|v| *v > greatest)
@@ -169,7 +169,7 @@ fn each_has_map(plan: &Plan) -> bool
 }
 
 /// Returns whether a plan has the flags and maps that its kind requires.
-fn maps_stand(plan: &Plan) -> bool
+pub(crate) fn maps_stand(plan: &Plan) -> bool
     ensures { result ≡ has_maps (plan_seen plan.now) }
 {
     match plan.kind {

@@ -24,7 +24,7 @@ pub enum StoredValues<'a> {
 }
 
 /// Returns the value of a constant subtable with this byte: the byte in WDL, 0 in DTZ.
-fn constant_value(kind: Kind, byte: u8) -> u16
+pub(crate) fn constant_value(kind: Kind, byte: u8) -> u16
     ensures { result ≡ value_of_byte kind byte }
 {
     match kind {

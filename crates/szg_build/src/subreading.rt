@@ -1,5 +1,5 @@
 //! Reads a dump's subtables from a device.
-ghost use Rattle.std.specs.Prelude.{◌≡◌, ◌+◌, ◌<◌, ◌≤◌, ◌^◌, length, option_map, IsErrOf, OnOk};
+ghost use Rattle.std.specs.Prelude.{◌≡◌, ◌+◌, ◌<◌, ◌≤◌, ◌^◌, length, option_map, IfOk, IsErrOf, OnOk};
 ghost use Rattle.szg_file.specs.Held.{map_of};
 ghost use Rattle.szg_build.specs.Grammar.{demand, flags_line, length_check, order_check, sub_text};
 ghost use Rattle.szg_build.specs.Held.{held_of};
@@ -15,6 +15,7 @@ use crate::incoming::Incoming;
 use crate::lines::{read_number, read_place};
 use crate::reading::{read_map, read_values};
 use crate::saying::GREATEST_COUNT;
+use crate::values::Values;
 use arrayvec::ArrayVec;
 use std::alloc::{AllocError, Global};
 use szg_file::Map;
@@ -26,7 +27,7 @@ use szg_values::Kind;
 pub(crate) struct SubText {
     pub flags: u8,
     pub map: Option<Map>,
-    pub values: Vec<u16>,
+    pub values: Values,
 }
 
 /// Reads the flags of a subtable. In WDL there is no line for them, and they are 0.
@@ -40,6 +41,7 @@ fn read_flags<R: Input>(
     ensures lines { ReadsLines (flags_line kind) (λ flags. flags) incoming.old incoming.new R.Input input.old input.new result }
     ensures behind { OnOk result (length (held_of incoming.new) ≤ behind) }
     ensures memory { IsErrOf result DumpReadFault.Memory → ⊥ }
+    ensures small { IfOk result (λ flags. flags < 32) }
 {
     match kind {
         Kind::Wdl => Ok(0),
@@ -86,10 +88,12 @@ fn read_counted<R: Input>(
     input: &mut R,
     incoming: &mut Incoming,
 ) -> Result<SubText, DumpReadFault>
+    requires small { flags < 32 }
     requires few { behind < 2 ^ 32 }
     requires held { length (held_of incoming.old) ≤ behind + 1 }
     ensures lines { ReadsLines (counted_text (form_of form) (option_map (λ list. list.items) sizes.now) s flags (option_map map_of map)) sub_told incoming.old incoming.new R.Input input.old input.new result }
     ensures behind { OnOk result (length (held_of incoming.new) ≤ behind) }
+    ensures small { IfOk result (λ sub. sub.flags < 32) }
     ensures memory { IsErrOf result DumpReadFault.Memory → LacksLines (counted_text (form_of form) (option_map (λ list. list.items) sizes.now) s flags (option_map map_of map)) behind incoming.old R.Input input.old input.new }
 {
     let count = read_number(b"values ", GREATEST_COUNT, behind, input, incoming)?;
@@ -115,6 +119,7 @@ fn read_fields<R: Input>(
     requires held { length (held_of incoming.old) ≤ behind + 1 }
     ensures lines { ReadsLines (fields_text (form_of form) kind (option_map (λ list. list.items) sizes.now) s) sub_told incoming.old incoming.new R.Input input.old input.new result }
     ensures behind { OnOk result (length (held_of incoming.new) ≤ behind) }
+    ensures small { IfOk result (λ sub. sub.flags < 32) }
     ensures memory { IsErrOf result DumpReadFault.Memory → LacksLines (fields_text (form_of form) kind (option_map (λ list. list.items) sizes.now) s) behind incoming.old R.Input input.old input.new }
 {
     let flags = read_flags(kind, behind + 1, input, incoming)?;
@@ -140,6 +145,7 @@ pub(crate) fn read_sub<R: Input>(
     requires held { length (held_of incoming.old) ≤ behind + 2 }
     ensures lines { ReadsLines (sub_text (form_of form) kind (option_map (λ list. list.items) sizes.now) s place) sub_told incoming.old incoming.new R.Input input.old input.new result }
     ensures behind { OnOk result (length (held_of incoming.new) ≤ behind) }
+    ensures small { IfOk result (λ sub. sub.flags < 32) }
     ensures memory { IsErrOf result DumpReadFault.Memory → LacksLines (sub_text (form_of form) kind (option_map (λ list. list.items) sizes.now) s place) behind incoming.old R.Input input.old input.new }
 {
     read_place(place, behind + 1, input, incoming)?;

@@ -14,7 +14,7 @@ use szg_block::Sub;
 use szg_values::Kind;
 
 /// The highest bit of a flags byte, set only in a constant subtable.
-const CONSTANT: u8 = 128;
+pub(crate) const CONSTANT: u8 = 128;
 
 /// Returns whether all values are `one`.
 fn are_all(values: &[u16], one: u16) -> bool
@@ -32,7 +32,7 @@ fn are_all(values: &[u16], one: u16) -> bool
 
 /// Returns the byte of the constant subtable for a list: in WDL if all values are equal and below 256, in DTZ if all
 /// values are 0. The byte for an empty list is 0.
-fn constant_byte(kind: Kind, values: &[u16]) -> Option<u8>
+pub(crate) fn constant_byte(kind: Kind, values: &[u16]) -> Option<u8>
     requires small { AllByRecursion (λ v. v ≤ greatest_value kind) values.now }
     ensures same { IfSome result (λ byte. values.now ≡ replicate (length values.now) (constant_value kind byte)) }
     ensures some { IfNone result (0 < length values.now) }

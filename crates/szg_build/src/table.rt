@@ -1,10 +1,11 @@
 //! Builds a table from a plan and lists of values.
-ghost use Rattle.std.specs.Prelude.{◌≡◌, ◌<◌, not, length, map, option_map, slice_index, Err, IfOk, IfErr, MatchOption};
+ghost use Rattle.std.specs.Prelude.{◌≡◌, ◌<◌, ℕ, List, not, length, map, option_map, slice_index, Err, IfOk, IfErr, MatchOption};
 ghost use Rattle.std.specs.List.{AllByRecursion};
 ghost use Rattle.szg_values.specs.Material.{has_pawns, is_symmetric};
 ghost use Rattle.szg_file.specs.Accepted.{AreNumbers, IsAccepted};
 ghost use Rattle.szg_file.specs.Assembled.{fields_shown};
 ghost use Rattle.szg_file.specs.Contents.{has_bit};
+ghost use Rattle.szg_file.specs.FileOf.{fill_asked};
 ghost use Rattle.szg_file.specs.Held.{map_of, part_of, subtable_of};
 ghost use Rattle.szg_build.specs.Built.{IsBuilt, IsBuiltSmall, subtables_in};
 ghost use Rattle.szg_build.specs.Plan.{build_fault};
@@ -66,7 +67,7 @@ fn item_fits(item: &Option<Map>)
 }
 
 /// For proofs alone: the items of maps fit their widths.
-fn maps_fit(maps: &[Option<Map>])
+pub(crate) fn maps_fit(maps: &[Option<Map>])
     ensures { AllByRecursion IsOfItems (map (option_map map_of) maps.now) }
 {
     'maps: for item in maps {
@@ -77,7 +78,7 @@ fn maps_fit(maps: &[Option<Map>])
 // ---- the table
 
 /// Returns byte 4: bit 0 is set if the material is not symmetric, bit 1 if it has pawns.
-fn byte4_of(material: &Material) -> u8
+pub(crate) fn byte4_of(material: &Material) -> u8
     ensures split { has_bit 0 result ≡ not (is_symmetric material.now) }
     ensures pawns { has_bit 1 result ≡ has_pawns material.now }
     ensures rule { result ≡ byte4_for material.now }
@@ -153,6 +154,20 @@ fn build_fields<V: Watcher>(
     })
 }
 
+/// Creates the table of fields without padding bytes: the padding is zeros.
+pub(crate) fn padded(alloc: Global, mut fields: Fields) -> Result<Table, AllocError>
+    requires { (fill : List ℕ) → AreBytes (fill_asked (fields_shown fields).contents) fill → IsAccepted (fields_shown fields).contents fill }
+    ensures contents { IfOk result (λ t. t.contents ≡ (fields_shown fields).contents) }
+    ensures accepted { IfOk result (λ t. IsAccepted t.contents t.filled) }
+    ensures padding { IfOk result (λ t. AllByRecursion (λ byte. byte ≡ 0) t.filled) }
+{
+    let asked = fields.fill_asked() as usize;
+    let mut fill = Vec::new(alloc);
+    pad(&mut fill, asked)?;
+    fields.fill = fill;
+    Ok(Table::assemble(fields))
+}
+
 /// Builds the table of a plan and lists that are not refused.
 fn build_table<V: Watcher>(
     alloc: Global,
@@ -167,16 +182,12 @@ fn build_table<V: Watcher>(
     ensures accepted { IfOk result (λ t. IsAccepted t.contents t.filled) }
     ensures padding { IfOk result (λ t. AllByRecursion (λ byte. byte ≡ 0) t.filled) }
 {
-    let mut fields = build_fields(alloc, plan, choice, lists, watcher)?;
-    let asked = fields.fill_asked() as usize;
-    let mut fill = Vec::new(alloc);
-    pad(&mut fill, asked)?;
-    fields.fill = fill;
-    Ok(Table::assemble(fields))
+    let fields = build_fields(alloc, plan, choice, lists, watcher)?;
+    padded(alloc, fields)
 }
 
 /// Builds the table of a plan and lists, packed by `choice`. Errors: the first fault of the plan and lists.
-fn build_by<V: Watcher>(
+pub(crate) fn build_by<V: Watcher>(
     alloc: Global,
     plan: &Plan,
     choice: Choice,

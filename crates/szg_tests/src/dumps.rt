@@ -1,11 +1,14 @@
 //! Dumps that are written, parsed and built, and texts that are not dumps.
 
-use crate::files::{answer, check_written, fixtures_of_all_sections, made};
+use crate::files::{answer, check_written, fixtures_of_all_sections, made, push};
 use crate::fixtures::{self, Fixture};
 use std::alloc::Global;
 use std::process::Abort;
-use szg_build::{BuildFault, Dump, DumpFault, DumpReadFault, Plan, build, read_dump, write_dump};
-use szg_file::{ReadFault, Table};
+use szg_build::{
+    BuildFault, Choice, Dump, DumpFault, DumpReadFault, Packing, Plan, SmallPlan, Unwatched, build,
+    build_small, read_dump, read_packed, write_dump,
+};
+use szg_file::{ReadFault, Table, write};
 use szg_io::{Bytes, Std};
 
 /// The first six lines of a dump of the outcomes of king and queen against king.
@@ -64,24 +67,167 @@ fn dumps_in_both_forms_are_read_back(rt: HostRuntime) {
 fn a_dump_builds_its_file_again(rt: HostRuntime) {
     let file = made(&rt, fixtures::kqvk_wdl_paired(rt.alloc()));
     let dump = dump_of(&rt, &text_of(&rt, &dump_of_file(&rt, &file), true));
-    let last = dump.last;
-    let plan = Plan {
-        material: dump.material,
-        kind: dump.kind,
-        parts: dump.parts,
-        block_bits: 5,
-        span_bits: 10,
-        rounds: 8,
-        flags: dump.flags,
-        maps: dump.maps,
-        last,
-    };
-    let lists = dump.lists;
-    let [first, second] = lists.as_slice() else {
-        panic!(rt; "other lists than two");
-    };
-    let built = build(rt.alloc(), &plan, &[first.as_slice(), second.as_slice()]);
+    let built = build_lists(&rt, dump, Choice::Fixed(FIXED));
     check_written(&rt, &made(&rt, built), &file.bytes);
+}
+
+/// Blocks of 32 bytes, spans of 1,024 values and at most eight pairs.
+const FIXED: Packing = Packing {
+    block_bits: 5,
+    span_bits: 10,
+    rounds: 8,
+};
+
+/// The table that is built of a dump's lists.
+fn build_lists(
+    rt: &(impl Abort + Alloc<A = Global>),
+    dump: Dump,
+    choice: Choice,
+) -> Result<Table, BuildFault> {
+    let lists = dump.lists;
+    let mut lent = Vec::new(rt.alloc());
+    for list in &lists {
+        push(rt, &mut lent, list.as_slice());
+    }
+    match choice {
+        Choice::Fixed(packing) => {
+            let plan = Plan {
+                material: dump.material,
+                kind: dump.kind,
+                parts: dump.parts,
+                block_bits: packing.block_bits,
+                span_bits: packing.span_bits,
+                rounds: packing.rounds,
+                flags: dump.flags,
+                maps: dump.maps,
+                last: dump.last,
+            };
+            build(rt.alloc(), &plan, &lent)
+        }
+        Choice::Small => {
+            let plan = SmallPlan {
+                material: dump.material,
+                kind: dump.kind,
+                parts: dump.parts,
+                flags: dump.flags,
+                maps: dump.maps,
+                last: dump.last,
+            };
+            build_small(rt.alloc(), plan, &lent)
+        }
+    }
+}
+
+/// The table of a text, whose subtables are packed while it is read.
+fn build_while_read(
+    rt: &(impl Abort + Alloc<A = Global>),
+    text: &[u8],
+    choice: Choice,
+) -> Result<Table, BuildFault> {
+    let mut input = Bytes::new(text);
+    let packed = made(
+        rt,
+        read_packed(rt.alloc(), choice, &mut input, &mut Unwatched),
+    );
+    assert!(rt; input.left().is_empty());
+    packed.build(rt.alloc(), &mut Unwatched)
+}
+
+/// The text's table is the same file, or has the same fault, whether the subtables are packed while it is read or all
+/// lists are read first. Returns the fault.
+fn check_alike(
+    rt: &(impl Abort + Alloc<A = Global>),
+    text: &[u8],
+    choice: Choice,
+) -> Option<BuildFault> {
+    let want = build_lists(rt, dump_of(rt, text), choice);
+    match build_while_read(rt, text, choice) {
+        Ok(table) => {
+            let mut file = Std::new(Vec::new(rt.alloc()));
+            assert!(rt; write(&made(rt, want), &mut file).is_ok());
+            check_written(rt, &table, file.inner().as_slice());
+            None
+        }
+        Err(fault) => {
+            assert!(rt; want.err() == Some(fault));
+            Some(fault)
+        }
+    }
+}
+
+#[test]
+fn subtables_are_packed_while_a_dump_is_read(rt: HostRuntime) {
+    for file in &made(&rt, fixtures_of_all_sections(rt.alloc())) {
+        let dump = dump_of_file(&rt, file);
+        for in_runs in [false, true] {
+            let text = text_of(&rt, &dump, in_runs);
+            assert!(rt; check_alike(&rt, &text, Choice::Fixed(FIXED)).is_none());
+            assert!(rt; check_alike(&rt, &text, Choice::Small).is_none());
+        }
+    }
+}
+
+/// Two subtables of king and queen against king in runs, each after the lines before it.
+fn two_sides(
+    rt: &(impl Abort + Alloc<A = Global>),
+    form: &[u8],
+    order: &[u8],
+    first: &[u8],
+    second: &[u8],
+) -> Vec<u8> {
+    let mut text = made(rt, Vec::from_slice(rt.alloc(), b"szg-dump "));
+    for piece in [
+        form,
+        b"\nname KQvK\nkind wdl\nend 000102030405060708090a0b0c0d0e0f\npart a order ",
+        order,
+        b" men 6655ee\nsub a 0\nvalues ",
+        first,
+        b"sub a 1\nvalues ",
+        second,
+    ] {
+        made(rt, text.extend_from_slice(piece));
+    }
+    text
+}
+
+#[test]
+fn faults_of_packed_subtables(rt: HostRuntime) {
+    let good: &[u8] = b"31332\n31000 2\n332 4\n";
+    let constant: &[u8] = b"31332\n31332 4\n";
+    let great: &[u8] = b"31332\n31331 2\n1 5\n";
+    let greatest: &[u8] = b"31332\n31332 5\n";
+    let fixed = Choice::Fixed(FIXED);
+    for choice in [fixed, Choice::Small] {
+        for (first, second, fault) in [
+            (good, good, None),
+            (good, constant, None),
+            (constant, good, None),
+            (constant, constant, None),
+            (good, great, Some(BuildFault::Value(1))),
+            (constant, greatest, Some(BuildFault::Value(1))),
+            (great, good, Some(BuildFault::Value(0))),
+            (greatest, constant, Some(BuildFault::Value(0))),
+            (great, greatest, Some(BuildFault::Value(0))),
+        ] {
+            let text = two_sides(&rt, b"2", b"00", first, second);
+            assert!(rt; check_alike(&rt, &text, choice) == fault);
+        }
+        let longer = two_sides(&rt, b"1", b"00", b"2\n5\n5\n", b"1\n0\n");
+        assert!(rt; check_alike(&rt, &longer, choice) == Some(BuildFault::Length(0)));
+        let order = two_sides(&rt, b"1", b"0f", b"1\n0\n", b"1\n5\n");
+        assert!(rt; check_alike(&rt, &order, choice) == Some(BuildFault::Order));
+    }
+    let bits = Choice::Fixed(Packing {
+        block_bits: 4,
+        ..FIXED
+    });
+    let text = two_sides(&rt, b"2", b"00", constant, great);
+    assert!(rt; check_alike(&rt, &text, bits) == Some(BuildFault::Bits));
+    let rounds = Choice::Fixed(Packing {
+        rounds: 4001,
+        ..FIXED
+    });
+    assert!(rt; check_alike(&rt, &text, rounds) == Some(BuildFault::Rounds));
 }
 
 /// The text is refused.

@@ -13,6 +13,8 @@ use Rattle.szg_build.specs.Lines.{Verdict, good, verdict}
 use Rattle.szg_build.specs.Plan.{Plan, build_fault}
 use Rattle.szg_build.specs.Reading.{IsLineFault, IsPlanFault, EndsWith}
 use Rattle.szg_build.specs.declared.BuildFault.{BuildFault}
+use Rattle.szg_build.specs.declared.building.Choice.{Choice}
+use Rattle.szg_build.specs.declared.building.Choice.TheVariants as by_choice
 use Rattle.szg_tool.specs.declared.refusal.Refusal.{Refusal}
 use Rattle.szg_tool.specs.declared.refusal.Refusal.TheVariants as why
 use Rattle.szg_tool.specs.declared.request.Packing.{Packing}
@@ -22,6 +24,11 @@ use Rattle.szg_tool.specs.declared.request.Packing.TheVariants.{Fixed, Small}
 abbrev pub plan_in : Packing → Dump → Plan
 plan_in (Fixed sizes) dump = dump_plan dump sizes.block_bits sizes.span_bits sizes.rounds
 plan_in Small dump = dump_plan dump 5 1 0
+
+-- how the builder packs it
+abbrev pub choice_in : Packing → Choice
+choice_in (Fixed sizes) = by_choice.Fixed (record { block_bits = sizes.block_bits; span_bits = sizes.span_bits; rounds = sizes.rounds })
+choice_in Small = by_choice.Small
 
 -- the table that is built of a dump
 abbrev pub IsBuiltIn : Packing → Dump → Contents → Type 0

@@ -1,19 +1,16 @@
 //! The command that builds a table of a dump.
-ghost use Rattle.std.specs.Prelude.{◌≡◌, ◌⊎◌, ℕ, List, map, IfOk, OnOk, IsErrOf};
+ghost use Rattle.std.specs.Prelude.{◌≡◌, ◌⊎◌, ℕ, List, IfOk, OnOk, IsErrOf};
 ghost use Rattle.szg_io.specs.Device.{HasFailed};
 ghost use Rattle.szg_io.specs.Moved.{Takes};
 ghost use Rattle.szg_file.specs.Accepted.{IsAccepted};
-ghost use Rattle.szg_build.specs.Shown.{dump_seen};
-ghost use Rattle.szg_tool.specs.Builds.{IsBuiltIn, IsMade, IsRefusedPlan, IsRefusedText, IsTextOf, IsUnmade, plan_in};
+ghost use Rattle.szg_build.specs.Chosen.{plan_by, IsBuiltAs};
+ghost use Rattle.szg_tool.specs.Builds.{IsMade, IsRefusedPlan, IsRefusedText, IsTextOf, IsUnmade, choice_in};
 ghost use Rattle.szg_tool.specs.declared.refusal.Refusal.{Refusal};
 
 use crate::refusal::{Refusal, Stop};
-use crate::request::{Packing, Sizes};
-use std::alloc::{AllocError, Global};
-use szg_build::{
-    BuildFault, Dump, DumpReadFault, Plan, SmallPlan, Watcher, build_small_watched, build_watched,
-    read_dump,
-};
+use crate::request::Packing;
+use std::alloc::Global;
+use szg_build::{BuildFault, Choice, DumpReadFault, PackedDump, Watcher, read_packed};
 use szg_file::{Table, write};
 use szg_io::{Input, Output};
 
@@ -33,22 +30,42 @@ pub fn build_told<R: Input, W: Output, V: Watcher>(
     ensures refused { (refusal : Refusal) → IsErrOf result (Stop.Refused refusal) → (writer.new ≡ writer.old) × IsUnmade R.Input packing reader.old reader.new refusal }
     ensures memory { IsErrOf result Stop.Memory → writer.new ≡ writer.old }
 {
-    let dump = read_told(alloc, reader)?;
-    let table = table_of(alloc, dump, packing, watcher)?;
+    let packed = read_told(alloc, packing, reader, watcher)?;
+    let table = table_of(alloc, packed, watcher)?;
     match write(&table, writer) {
         Ok(()) => Ok(()),
         Err(_) => Err(Stop::Device),
     }
 }
 
-/// Reads a dump.
-fn read_told<R: Input>(alloc: Global, reader: &mut R) -> Result<Dump, Stop>
-    ensures text { IfOk result (λ dump. IsTextOf R.Input reader.old reader.new (dump_seen dump)) }
+/// Returns how the builder packs a table.
+fn choice_of(packing: Packing) -> Choice
+    ensures { result ≡ choice_in packing }
+{
+    match packing {
+        Packing::Fixed(sizes) => Choice::Fixed(szg_build::Packing {
+            block_bits: sizes.block_bits,
+            span_bits: sizes.span_bits,
+            rounds: sizes.rounds,
+        }),
+        Packing::Small => Choice::Small,
+    }
+}
+
+/// Reads a dump and packs its subtables.
+fn read_told<R: Input, V: Watcher>(
+    alloc: Global,
+    packing: Packing,
+    reader: &mut R,
+    watcher: &mut V,
+) -> Result<PackedDump, Stop>
+    ensures text { IfOk result (λ packed. IsTextOf R.Input reader.old reader.new packed.dump) }
+    ensures choice { IfOk result (λ packed. packed.choice ≡ choice_in packing) }
     ensures calls { (bytes : List ℕ) × Takes R.Input reader.old reader.new bytes 1 }
     ensures device { IsErrOf result Stop.Device → HasFailed (R.failures reader.old) (R.failures reader.new) (R.interrupted reader.new) }
     ensures refused { (refusal : Refusal) → IsErrOf result (Stop.Refused refusal) → IsRefusedText R.Input reader.old reader.new refusal }
 {
-    match read_dump(alloc, reader) {
+    match read_packed(alloc, choice_of(packing), reader, watcher) {
         Ok(dump) => Ok(dump),
         Err(DumpReadFault::Line { line, fault }) => {
             Err(Stop::Refused(Refusal::Line(line, fault)))
@@ -60,70 +77,13 @@ fn read_told<R: Input>(alloc: Global, reader: &mut R) -> Result<Dump, Stop>
 }
 
 /// Builds the table of a dump.
-fn table_of<V: Watcher>(
-    alloc: Global,
-    dump: Dump,
-    packing: Packing,
-    watcher: &mut V,
-) -> Result<Table, Stop>
-    ensures built { IfOk result (λ t. IsBuiltIn packing (dump_seen dump) t.contents) }
+fn table_of<V: Watcher>(alloc: Global, packed: PackedDump, watcher: &mut V) -> Result<Table, Stop>
+    ensures built { IfOk result (λ t. IsBuiltAs packed.choice packed.dump t.contents) }
     ensures accepted { IfOk result (λ t. IsAccepted t.contents t.filled) }
-    ensures refused { (refusal : Refusal) → IsErrOf result (Stop.Refused refusal) → IsRefusedPlan (plan_in packing (dump_seen dump)) (dump_seen dump).lists refusal }
+    ensures refused { (refusal : Refusal) → IsErrOf result (Stop.Refused refusal) → IsRefusedPlan (plan_by packed.choice packed.dump) packed.dump.lists refusal }
     ensures only { IsErrOf result Stop.Device → ⊥ }
 {
-    match packing {
-        Packing::Fixed(sizes) => fixed_table_of(alloc, dump, sizes, watcher),
-        Packing::Small => small_table_of(alloc, dump, watcher),
-    }
-}
-
-/// Builds the table of a dump by numbers.
-fn fixed_table_of<V: Watcher>(
-    alloc: Global,
-    dump: Dump,
-    sizes: Sizes,
-    watcher: &mut V,
-) -> Result<Table, Stop>
-    ensures built { IfOk result (λ t. IsBuiltIn (Packing.Fixed sizes) (dump_seen dump) t.contents) }
-    ensures accepted { IfOk result (λ t. IsAccepted t.contents t.filled) }
-    ensures refused { (refusal : Refusal) → IsErrOf result (Stop.Refused refusal) → IsRefusedPlan (plan_in (Packing.Fixed sizes) (dump_seen dump)) (dump_seen dump).lists refusal }
-    ensures only { IsErrOf result Stop.Device → ⊥ }
-{
-    let plan = Plan {
-        material: dump.material,
-        kind: dump.kind,
-        parts: dump.parts,
-        block_bits: sizes.block_bits,
-        span_bits: sizes.span_bits,
-        rounds: sizes.rounds,
-        flags: dump.flags,
-        maps: dump.maps,
-        last: dump.last,
-    };
-    let lists = lent(alloc, &dump.lists)?;
-    match build_watched(alloc, &plan, &lists, watcher) {
-        Ok(table) => Ok(table),
-        Err(fault) => Err(stop_of(fault)),
-    }
-}
-
-/// Builds the table of a dump as small as it can.
-fn small_table_of<V: Watcher>(alloc: Global, dump: Dump, watcher: &mut V) -> Result<Table, Stop>
-    ensures built { IfOk result (λ t. IsBuiltIn Packing.Small (dump_seen dump) t.contents) }
-    ensures accepted { IfOk result (λ t. IsAccepted t.contents t.filled) }
-    ensures refused { (refusal : Refusal) → IsErrOf result (Stop.Refused refusal) → IsRefusedPlan (plan_in Packing.Small (dump_seen dump)) (dump_seen dump).lists refusal }
-    ensures only { IsErrOf result Stop.Device → ⊥ }
-{
-    let plan = SmallPlan {
-        material: dump.material,
-        kind: dump.kind,
-        parts: dump.parts,
-        flags: dump.flags,
-        maps: dump.maps,
-        last: dump.last,
-    };
-    let lists = lent(alloc, &dump.lists)?;
-    match build_small_watched(alloc, plan, &lists, watcher) {
+    match packed.build(alloc, watcher) {
         Ok(table) => Ok(table),
         Err(fault) => Err(stop_of(fault)),
     }
@@ -147,15 +107,4 @@ fn stop_of(fault: BuildFault) -> Stop
         BuildFault::Map => BuildFault::Map,
     };
     Stop::Refused(Refusal::Build(told))
-}
-
-/// The lists, lent.
-fn lent<'a>(alloc: Global, lists: &'a [Vec<u16>]) -> Result<Vec<&'a [u16]>, AllocError>
-    ensures { IfOk result (λ slices. map (λ slice. slice.now) slices.items ≡ map (λ list. list.items) lists.now) }
-{
-    let mut slices = Vec::new(alloc);
-    'lists: for list in lists {
-        slices.push(list.as_slice())?;
-    }
-    Ok(slices)
 }

@@ -4,7 +4,8 @@ use Rattle.szg_file.specs.Held.{part_of}
 use Rattle.szg_build.specs.Dump.{parts_of, places_of}
 use Rattle.szg_build.specs.Lines.{◌>>=◌}
 use Rattle.szg_build.specs.Grammar.{each, end_line, part_line}
-use Rattle.szg_build.specs.Shown.{dump_seen, form_of}
+use Rattle.szg_build.specs.Packed.{gathered_told}
+use Rattle.szg_build.specs.Shown.{form_of}
 use Rattle.szg_build.specs.Wholes.{dump_behind_parts}
 use Rattle.szg_build.proofs.ReadingLaws.{passed_on, reads_then, reads_stopped, same_error}
 use Rattle.szg_build.proofs.LackLaws.{lacks_first, lacks_then}
@@ -14,20 +15,20 @@ use Rattle.szg_build.proofs.dumpreading.read_behind_kind.Goals as goal
 pub returns-in_err-last-clause-lines : goal.returns-in_err-last-clause-lines
 returns-in_err-last-clause-lines g c =
     let p = err_from_is_err_and c.from_residual.result c.from_residual.ensures.1 in
-    rw (p.1, p.2) (reads_stopped end_line (λ last. each part_line (parts_of c.args.material) >>= λ parts. dump_behind_parts (form_of c.args.form) c.args.material c.args.kind last parts) (λ bytes. bytes) dump_seen c.in_err-last.field-0.0
+    rw (p.1, p.2) (reads_stopped end_line (λ last. each part_line (parts_of c.args.material) >>= λ parts. dump_behind_parts (form_of c.args.form) c.args.material c.args.kind last parts) (λ bytes. bytes) gathered_told c.in_err-last.field-0.0
     c.in_err-last.ensures.lines)
 
 pub returns-in_err-parts-clause-lines : goal.returns-in_err-parts-clause-lines
 returns-in_err-parts-clause-lines g c =
     let p = err_from_is_err_and c.from_residual-in_err-parts.result c.from_residual-in_err-parts.ensures.1 in
-    rw (p.1, p.2) (reads_then end_line (λ last. each part_line (parts_of c.args.material) >>= λ parts. dump_behind_parts (form_of c.args.form) c.args.material c.args.kind last parts) (λ bytes. bytes) dump_seen c.in_ok-last.last c.in_ok-last.ensures.lines
-    (reads_stopped (each part_line (parts_of c.args.material)) (λ parts. dump_behind_parts (form_of c.args.form) c.args.material c.args.kind c.in_ok-last.last parts) (λ parts. map part_of parts.items) dump_seen c.in_err-parts.field-0.0
+    rw (p.1, p.2) (reads_then end_line (λ last. each part_line (parts_of c.args.material) >>= λ parts. dump_behind_parts (form_of c.args.form) c.args.material c.args.kind last parts) (λ bytes. bytes) gathered_told c.in_ok-last.last c.in_ok-last.ensures.lines
+    (reads_stopped (each part_line (parts_of c.args.material)) (λ parts. dump_behind_parts (form_of c.args.form) c.args.material c.args.kind c.in_ok-last.last parts) (λ parts. map part_of parts.items) gathered_told c.in_err-parts.field-0.0
     c.in_err-parts.ensures.lines))
 
 pub returns-clause-lines : goal.returns-clause-lines
 returns-clause-lines g c =
-    reads_then end_line (λ last. each part_line (parts_of c.args.material) >>= λ parts. dump_behind_parts (form_of c.args.form) c.args.material c.args.kind last parts) (λ bytes. bytes) dump_seen c.in_ok-last.last c.in_ok-last.ensures.lines
-    (reads_then (each part_line (parts_of c.args.material)) (λ parts. dump_behind_parts (form_of c.args.form) c.args.material c.args.kind c.in_ok-last.last parts) (λ parts. map part_of parts.items) dump_seen c.in_ok-parts.parts
+    reads_then end_line (λ last. each part_line (parts_of c.args.material) >>= λ parts. dump_behind_parts (form_of c.args.form) c.args.material c.args.kind last parts) (λ bytes. bytes) gathered_told c.in_ok-last.last c.in_ok-last.ensures.lines
+    (reads_then (each part_line (parts_of c.args.material)) (λ parts. dump_behind_parts (form_of c.args.form) c.args.material c.args.kind c.in_ok-last.last parts) (λ parts. map part_of parts.items) gathered_told c.in_ok-parts.parts
     c.in_ok-parts.ensures.lines c.read_subs.ensures.lines)
 
 pub returns-in_err-last-clause-memory : goal.returns-in_err-last-clause-memory

@@ -4,11 +4,13 @@ use Rattle.szg_file.specs.Held.{part_of}
 use Rattle.szg_build.specs.Dump.{places_of}
 use Rattle.szg_build.specs.Plan.{sizes_told}
 use Rattle.szg_build.specs.Rests.{sub_told}
-use Rattle.szg_build.specs.Shown.{dump_seen, form_of}
+use Rattle.szg_build.specs.Packed.{gathered_told}
+use Rattle.szg_build.specs.Shown.{form_of}
 use Rattle.szg_build.proofs.GoingLaws.{goes_unheld}
 use Rattle.szg_build.proofs.WholeLaws.{are_more, none_read, same_dump, subs_begun, subs_more, subs_stopped, subs_ended}
 use Rattle.szg_build.proofs.LackLaws.{lacks_here}
 use Rattle.szg_build.proofs.LeastLaws.{asks_subs_left, lacks_subs}
+use Rattle.szg_build.proofs.PackedLaws.{none_packed}
 use Rattle.szg_build.proofs.ReadingLaws.{same_error}
 use Rattle.szg_build.proofs.dumpreading.read_subs.Goals as goal
 
@@ -16,9 +18,10 @@ pub each-init : goal.each-init
 each-init g c =
     let front = c.args.front in (
       [],
-      none_read front.kind (record { flags = c.new.result; maps = c.new-2.result; lists = c.new-3.result }) c.new.ensures.items c.new-2.ensures.items c.new-3.ensures.items,
+      none_read front.kind (record { flags = c.new.result; maps = c.new-2.result; packed = c.new-3.result; rest = c.new-4.result }) c.new.ensures.items c.new-2.ensures.items c.new-3.ensures.items c.new-4.ensures.items,
       subs_begun (form_of c.args.form) front.material front.kind front.last (map part_of front.parts.items),
       omega (arith, c.requires, ap length c.places-places.ensures.places),
+      none_packed front.kind c.args.choice (record { flags = c.new.result; maps = c.new-2.result; packed = c.new-3.result; rest = c.new-4.result }) c.new.ensures.items c.new-3.ensures.items,
     )
 
 pub returns-in_err-sub-clause-lines : goal.returns-in_err-sub-clause-lines
@@ -28,7 +31,7 @@ returns-in_err-sub-clause-lines g c =
     let v = c.each.invariant in
     let sizes = c.sizes_of-sizes.ensures ∙ ap (λ z. sizes_told front.material front.kind (map part_of z)) c.deref.ensures.value in
     rw (p.1, p.2) (subs_stopped (form_of c.args.form) front.material front.kind front.last (map part_of front.parts.items) v.0 c.each.s c.places-places.result.now
-    (option_map (λ list. list.items) c.sizes_of-sizes.result) sub_told dump_seen c.in_err-sub.field-0.0 (omega (arith, c.each-test.true)) c.places-places.ensures.places sizes v.2 c.in_err-sub.ensures.lines)
+    (option_map (λ list. list.items) c.sizes_of-sizes.result) sub_told gathered_told c.in_err-sub.field-0.0 (omega (arith, c.each-test.true)) c.places-places.ensures.places sizes v.2 c.in_err-sub.ensures.lines)
 
 pub returns-in_err-add_sub-clause-lines : goal.returns-in_err-add_sub-clause-lines
 returns-in_err-add_sub-clause-lines g c =
@@ -36,7 +39,7 @@ returns-in_err-add_sub-clause-lines g c =
     let front = c.args.front in
     let v = c.each.invariant in
     let sizes = c.sizes_of-sizes.ensures ∙ ap (λ z. sizes_told front.material front.kind (map part_of z)) c.deref.ensures.value in
-    rw (p.1, p.2) (goes_unheld dump_seen (subs_more (form_of c.args.form) front.material front.kind front.last (map part_of front.parts.items) v.0 c.each.s (suc c.each.s) c.places-places.result.now
+    rw (p.1, p.2) (goes_unheld gathered_told (subs_more (form_of c.args.form) front.material front.kind front.last (map part_of front.parts.items) v.0 c.each.s (suc c.each.s) c.places-places.result.now
     (option_map (λ list. list.items) c.sizes_of-sizes.result) sub_told c.in_ok-sub.sub refl (omega (arith, c.each-test.true)) c.places-places.ensures.places sizes v.2 c.in_ok-sub.ensures.lines))
 
 pub each-preserved : goal.each-preserved
@@ -49,13 +52,14 @@ each-preserved g c =
       subs_more (form_of c.args.form) front.material front.kind front.last (map part_of front.parts.items) v.0 c.each.s (c.each.s + 1) c.places-places.result.now
           (option_map (λ list. list.items) c.sizes_of-sizes.result) sub_told c.in_ok-sub.sub (omega arith) (omega (arith, c.each-test.true)) c.places-places.ensures.places sizes v.2 c.in_ok-sub.ensures.lines,
       omega (arith, c.in_ok-sub.ensures.behind, c.each-test.true),
+      c.in_ok-add_sub.ensures.packed,
     )
 
 pub returns-clause-lines : goal.returns-clause-lines
 returns-clause-lines g c =
     let front = c.args.front in
     let v = c.each.invariant in
-    subs_ended (form_of c.args.form) front.material front.kind front.last (map part_of front.parts.items) v.0 c.each.s dump_seen _
+    subs_ended (form_of c.args.form) front.material front.kind front.last (map part_of front.parts.items) v.0 c.each.s gathered_told _
     (omega (arith, c.each-test.false, ap length c.places-places.ensures.places)) (same_dump front.material front.kind (map part_of front.parts.items) front.last c.each.subs v.0 v.1) v.2
 
 pub returns-in_err-sub-clause-memory : goal.returns-in_err-sub-clause-memory

@@ -1,48 +1,32 @@
+use Rattle.std.proofs.Common.{arith, ap}
+use Rattle.std.specs.Prelude.{length}
 use Rattle.std.proofs.lemmas.Result.{err_from_is_err_and}
-use Rattle.szg_build.specs.Lines.{◌>>=◌}
-use Rattle.szg_build.specs.Grammar.{version_line, name_line, kind_line}
-use Rattle.szg_build.specs.Shown.{dump_seen, form_of}
-use Rattle.szg_build.specs.Wholes.{dump_behind_kind}
-use Rattle.szg_build.proofs.ReadingLaws.{passed_on, reads_as, reads_then, reads_stopped}
-use Rattle.szg_build.proofs.LackLaws.{lacks_as, lacks_then}
-use Rattle.szg_build.proofs.WholeLaws.{behind_form, whole_text}
+use Rattle.szg_build.specs.Grammar.{dump_format}
+use Rattle.szg_build.specs.Packed.{gathered_told}
+use Rattle.szg_build.specs.Shown.{dump_seen}
+use Rattle.szg_build.proofs.GoingLaws.{goes_unheld, goes_whole, reads_fault, reads_other}
+use Rattle.szg_build.proofs.LackLaws.{lacks_whole}
+use Rattle.szg_build.proofs.ReadingLaws.{same_error}
 use Rattle.szg_build.proofs.dumpreading.read_text.Goals as goal
 
-pub returns-in_err-form-clause-lines : goal.returns-in_err-form-clause-lines
-returns-in_err-form-clause-lines g c =
+pub returns-in_err-gathered-clause-lines : goal.returns-in_err-gathered-clause-lines
+returns-in_err-gathered-clause-lines g c =
     let p = err_from_is_err_and c.from_residual.result c.from_residual.ensures.1 in
-    rw (p.1, p.2) (reads_as whole_text (reads_stopped version_line behind_form form_of dump_seen c.in_err-form.field-0.0 c.in_err-form.ensures.lines))
+    rw (p.1, p.2) (reads_fault c.in_err-gathered.field-0.0 c.in_err-gathered.ensures.lines)
 
-pub returns-in_err-material-clause-lines : goal.returns-in_err-material-clause-lines
-returns-in_err-material-clause-lines g c =
-    let p = err_from_is_err_and c.from_residual-in_err-material.result c.from_residual-in_err-material.ensures.1 in
-    rw (p.1, p.2) (reads_as whole_text (reads_then version_line behind_form form_of dump_seen c.in_ok-form.form c.in_ok-form.ensures.lines
-    (reads_stopped name_line (λ material. kind_line >>= λ kind. dump_behind_kind (form_of c.in_ok-form.form) material kind) (λ material. material) dump_seen c.in_err-material.field-0.0 c.in_err-material.ensures.lines)))
+pub returns-in_err-gathered-clause-memory : goal.returns-in_err-gathered-clause-memory
+returns-in_err-gathered-clause-memory g c =
+    let p = err_from_is_err_and c.from_residual.result c.from_residual.ensures.1 in
+    rw (p.1, p.2) (λ e. c.in_err-gathered.ensures.memory (same_error e))
 
-pub returns-in_err-kind-clause-lines : goal.returns-in_err-kind-clause-lines
-returns-in_err-kind-clause-lines g c =
-    let p = err_from_is_err_and c.from_residual-in_err-kind.result c.from_residual-in_err-kind.ensures.1 in
-    rw (p.1, p.2) (reads_as whole_text (reads_then version_line behind_form form_of dump_seen c.in_ok-form.form c.in_ok-form.ensures.lines
-    (reads_then name_line (λ material. kind_line >>= λ kind. dump_behind_kind (form_of c.in_ok-form.form) material kind) (λ material. material) dump_seen c.in_ok-material.material c.in_ok-material.ensures.lines
-    (reads_stopped kind_line (λ kind. dump_behind_kind (form_of c.in_ok-form.form) c.in_ok-material.material kind) (λ kind. kind) dump_seen c.in_err-kind.field-0.0 c.in_err-kind.ensures.lines))))
+pub returns-in_err-dump-clause-lines : goal.returns-in_err-dump-clause-lines
+returns-in_err-dump-clause-lines g c =
+    let p = err_from_is_err_and c.from_residual-in_err-dump.result c.from_residual-in_err-dump.ensures.1 in
+    rw (p.1, p.2) (goes_unheld dump_seen (goes_whole dump_format gathered_told c.in_ok-gathered.gathered c.in_ok-gathered.ensures.lines))
+
+pub returns-in_err-dump-clause-memory : goal.returns-in_err-dump-clause-memory
+returns-in_err-dump-clause-memory g c = λ _.
+    lacks_whole dump_format 0 gathered_told c.in_ok-gathered.gathered c.in_ok-gathered.ensures.lines (omega (arith, ap length c.in_ok-gathered.ensures.held))
 
 pub returns-clause-lines : goal.returns-clause-lines
-returns-clause-lines g c =
-    reads_as whole_text (reads_then version_line behind_form form_of dump_seen c.in_ok-form.form c.in_ok-form.ensures.lines
-    (reads_then name_line (λ material. kind_line >>= λ kind. dump_behind_kind (form_of c.in_ok-form.form) material kind) (λ material. material) dump_seen c.in_ok-material.material c.in_ok-material.ensures.lines
-    (reads_then kind_line (λ kind. dump_behind_kind (form_of c.in_ok-form.form) c.in_ok-material.material kind) (λ kind. kind) dump_seen c.in_ok-kind.kind c.in_ok-kind.ensures.lines c.read_behind_kind.ensures.lines)))
-
-pub returns-in_err-form-clause-memory : goal.returns-in_err-form-clause-memory
-returns-in_err-form-clause-memory g c = passed_on c.from_residual.ensures.1 c.in_err-form.ensures.memory
-
-pub returns-in_err-material-clause-memory : goal.returns-in_err-material-clause-memory
-returns-in_err-material-clause-memory g c = passed_on c.from_residual-in_err-material.ensures.1 c.in_err-material.ensures.memory
-
-pub returns-in_err-kind-clause-memory : goal.returns-in_err-kind-clause-memory
-returns-in_err-kind-clause-memory g c = passed_on c.from_residual-in_err-kind.ensures.1 c.in_err-kind.ensures.memory
-
-pub returns-clause-memory : goal.returns-clause-memory
-returns-clause-memory g c = λ e.
-    lacks_as whole_text (lacks_then version_line behind_form 0 form_of c.in_ok-form.form c.in_ok-form.ensures.lines
-    (lacks_then name_line (λ material. kind_line >>= λ kind. dump_behind_kind (form_of c.in_ok-form.form) material kind) 0 (λ material. material) c.in_ok-material.material c.in_ok-material.ensures.lines
-    (lacks_then kind_line (λ kind. dump_behind_kind (form_of c.in_ok-form.form) c.in_ok-material.material kind) 0 (λ kind. kind) c.in_ok-kind.kind c.in_ok-kind.ensures.lines (c.read_behind_kind.ensures.memory e))))
+returns-clause-lines g c = reads_other dump_format gathered_told dump_seen c.in_ok-gathered.gathered c.in_ok-dump.dump c.in_ok-dump.ensures c.in_ok-gathered.ensures.lines

@@ -4,6 +4,7 @@ use Rattle.std.proofs.lemmas.Result.{err_from_is_err_and}
 use Rattle.szg_file.specs.Held.{map_of}
 use Rattle.szg_build.specs.declared.BuildFault.TheVariants.{Length}
 use Rattle.szg_build.specs.Grammar.{fixed, value}
+use Rattle.szg_build.specs.Packed.{values_held}
 use Rattle.szg_build.specs.Rests.{sub_told}
 use Rattle.szg_build.specs.Shown.{form_of}
 use Rattle.szg_build.proofs.SayingLaws.{values_front}
@@ -27,13 +28,13 @@ returns-in_err-values-clause-lines g c =
     let p = err_from_is_err_and c.from_residual-in_err-values.result c.from_residual-in_err-values.ensures.1 in
     rw (p.1, p.2) (values_behind (form_of c.args.form) (option_map (λ list. list.items) c.args.sizes.now) c.args.s c.args.flags (option_map map_of c.args.map) sub_told c.in_ok-count.count (Length c.args.s)
     c.if-not-may_have.ensures (c.in_ok-count.ensures.lines (fixed (codes "values") ∷ value ∷ []) values_front)
-    (values_stopped (form_of c.args.form) c.args.flags (option_map map_of c.args.map) (λ list. list.items) sub_told c.in_ok-count.count c.in_err-values.field-0.0 c.in_err-values.ensures.lines))
+    (values_stopped (form_of c.args.form) c.args.flags (option_map map_of c.args.map) values_held sub_told c.in_ok-count.count c.in_err-values.field-0.0 c.in_err-values.ensures.lines))
 
 pub returns-clause-lines : goal.returns-clause-lines
 returns-clause-lines g c =
     values_behind (form_of c.args.form) (option_map (λ list. list.items) c.args.sizes.now) c.args.s c.args.flags (option_map map_of c.args.map) sub_told c.in_ok-count.count (Length c.args.s)
     c.if-not-may_have.ensures (c.in_ok-count.ensures.lines (fixed (codes "values") ∷ value ∷ []) values_front)
-    (values_read (form_of c.args.form) c.args.flags (option_map map_of c.args.map) (λ list. list.items) sub_told c.in_ok-count.count c.in_ok-values.values _ refl c.in_ok-values.ensures.lines)
+    (values_read (form_of c.args.form) c.args.flags (option_map map_of c.args.map) values_held sub_told c.in_ok-count.count c.in_ok-values.values _ refl c.in_ok-values.ensures.lines)
 
 pub returns-in_err-count-clause-memory : goal.returns-in_err-count-clause-memory
 returns-in_err-count-clause-memory g c = passed_on c.from_residual.ensures.1 c.in_err-count.ensures.memory

@@ -1,16 +1,12 @@
-use Rattle.std.proofs.Common.{ℕ, List, ◌++◌, replicate, ap, subst, ◌∙◌}
-use Rattle.szg_file.specs.Accepted.{AreBytes}
-use Rattle.szg_build.proofs.TableLaws.{all_zero, zeros_fit}
+use Rattle.std.proofs.Common.{map, sym, subst}
+use Rattle.szg_build.specs.Shown.{plan_seen}
+use Rattle.szg_build.specs.Tabling.{IsBuiltBy}
+use Rattle.szg_build.proofs.SubLaws.{if_ok}
 use Rattle.szg_build.proofs.table.build_table.Goals as goal
 
-pub assemble-requires : goal.assemble-requires
-assemble-requires g c =
-    let fill : List ℕ = c.pad.new.bytes.items in
-    c.in_ok-fields.ensures.accepted fill
-    (subst (λ n. AreBytes n fill) c.fill_asked-asked.ensures
-    (zeros_fit c.fill_asked-asked.result fill (c.in_ok-pad.ensures ∙ ap (λ (z : List ℕ). z ++ replicate c.fill_asked-asked.result 0) c.new-fill.ensures.items)))
+pub padded-requires : goal.padded-requires
+padded-requires g c = c.in_ok-fields.ensures.accepted
 
-pub returns-clause-padding : goal.returns-clause-padding
-returns-clause-padding g c =
-    all_zero c.fill_asked-asked.result c.assemble.result.filled
-    (ap (λ z. z.filled) c.assemble.ensures ∙ c.in_ok-pad.ensures ∙ ap (λ (z : List ℕ). z ++ replicate c.fill_asked-asked.result 0) c.new-fill.ensures.items)
+pub returns-clause-built : goal.returns-clause-built
+returns-clause-built g c =
+    if_ok c.padded.result (λ t same. subst (λ z. IsBuiltBy c.args.choice (plan_seen c.args.plan.now) (map (λ list. list.now) c.args.lists.now) z) (sym same) c.in_ok-fields.ensures.built) c.padded.ensures.contents

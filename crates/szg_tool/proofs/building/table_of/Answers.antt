@@ -1,22 +1,11 @@
-use Rattle.std.proofs.Common.{sym, subst}
-use Rattle.std.specs.Prelude.{IfOk}
-use Rattle.szg_build.specs.Shown.{dump_seen}
-use Rattle.szg_tool.specs.declared.request.Packing.{Packing}
-use Rattle.szg_tool.specs.Builds.{IsBuiltIn, IsRefusedPlan, plan_in}
+use Rattle.std.proofs.Common.{arith, rules}
+use Rattle.szg_build.specs.Chosen.{plan_by}
+use Rattle.szg_build.specs.Plan.{build_fault}
+use Rattle.szg_tool.proofs.Builds.{due_of}
 use Rattle.szg_tool.proofs.building.table_of.Goals as goal
 
-pub returns-in-Fixed-clause-built : goal.returns-in-Fixed-clause-built
-returns-in-Fixed-clause-built g c =
-    subst (λ (p : Packing). IfOk c.fixed_table_of.result (λ t. IsBuiltIn p (dump_seen c.args.dump) t.contents)) (sym c.in-Fixed.is) c.fixed_table_of.ensures.built
-
-pub returns-in-Fixed-clause-refused : goal.returns-in-Fixed-clause-refused
-returns-in-Fixed-clause-refused g c = λ refusal is.
-    subst (λ (p : Packing). IsRefusedPlan (plan_in p (dump_seen c.args.dump)) (dump_seen c.args.dump).lists refusal) (sym c.in-Fixed.is) (c.fixed_table_of.ensures.refused refusal is)
-
-pub returns-in-Small-clause-built : goal.returns-in-Small-clause-built
-returns-in-Small-clause-built g c =
-    subst (λ (p : Packing). IfOk c.small_table_of.result (λ t. IsBuiltIn p (dump_seen c.args.dump) t.contents)) (sym c.in-Small.is) c.small_table_of.ensures.built
-
-pub returns-in-Small-clause-refused : goal.returns-in-Small-clause-refused
-returns-in-Small-clause-refused g c = λ refusal is.
-    subst (λ (p : Packing). IsRefusedPlan (plan_in p (dump_seen c.args.dump)) (dump_seen c.args.dump).lists refusal) (sym c.in-Small.is) (c.small_table_of.ensures.refused refusal is)
+pub returns-clause-refused : goal.returns-clause-refused
+returns-clause-refused g c = λ refusal is.
+    let told = c.stop_of.ensures.refused refusal (cc) in
+    let met = due_of (build_fault (plan_by c.args.packed.choice c.args.packed.dump) c.args.packed.dump.lists) c.in-Err.fault told.1 (c.in-Err.ensures.refused c.in-Err.fault (cc)) in
+    (c.in-Err.fault, told.0, met)

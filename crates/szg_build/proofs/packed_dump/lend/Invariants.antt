@@ -1,5 +1,5 @@
 use Rattle.std.proofs.Common.{◌≡◌, map, take}
-use Rattle.szg_tool.proofs.building.lent.Given as goal
+use Rattle.szg_build.proofs.packed_dump.lend.Given as goal
 
 -- the lists so far
 abbrev pub invariant-lists : goal.invariant-lists

@@ -1,5 +1,5 @@
 use Rattle.std.proofs.Common.{◌≡◌, ◌++◌, replicate}
-use Rattle.szg_build.proofs.reading.add_run.Given as goal
+use Rattle.szg_build.proofs.values.push_run.Given as goal
 
 -- the values added so far
 abbrev pub invariant-values : goal.invariant-values

@@ -1,0 +1,34 @@
+-- The table of a dump, packed as chosen.
+use Rattle.std.specs.List.{AllByRecursion}
+use Rattle.szg_file.specs.Contents.{Contents}
+use Rattle.szg_build.specs.declared.building.Packing.{Packing}
+use Rattle.szg_build.specs.declared.building.Choice.{Choice}
+use Rattle.szg_build.specs.declared.building.Choice.TheVariants.{Fixed, Small}
+use Rattle.szg_build.specs.Built.{dump_plan, IsBuilt, IsBuiltSmall}
+use Rattle.szg_build.specs.Dump.{Dump}
+use Rattle.szg_build.specs.Plan.{Plan}
+use Rattle.szg_build.specs.Rule.{HasTruncatedBinary}
+
+-- the content of a dump, and how its table is packed
+pub record ToBuild : Type 0 where
+  pub dump : Dump
+  pub choice : Choice
+
+-- the numbers; those of a small table do not matter
+abbrev pub numbers_in : Choice → Packing
+numbers_in (Fixed packing) = packing
+numbers_in Small = record { block_bits = 5; span_bits = 1; rounds = 0 }
+
+-- the plan
+abbrev pub plan_by : Choice → Dump → Plan
+plan_by choice dump = dump_plan dump (numbers_in choice).block_bits (numbers_in choice).span_bits (numbers_in choice).rounds
+
+-- the table
+abbrev pub IsBuiltAs : Choice → Dump → Contents → Type 0
+IsBuiltAs (Fixed packing) dump t = IsBuilt (plan_by (Fixed packing) dump) dump.lists t
+IsBuiltAs Small dump t = IsBuiltSmall (plan_by Small dump) dump.lists t
+
+-- with fixed numbers all codes are those of the builder's rule
+abbrev pub IsCodedTable : Choice → Contents → Type 0
+IsCodedTable (Fixed packing) t = AllByRecursion HasTruncatedBinary t.subtables
+IsCodedTable Small t = Unit {0}

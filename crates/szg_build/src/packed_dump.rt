@@ -1,0 +1,236 @@
+//! A dump whose subtables were packed while it was read, and its table.
+ghost use Rattle.std.specs.Prelude.{◌≡◌, ◌⊎◌, map, true, IfOk, Err, Some};
+ghost use Rattle.std.specs.List.{AllByRecursion};
+ghost use Rattle.szg_file.specs.Accepted.{IsAccepted};
+ghost use Rattle.szg_file.specs.Held.{subtable_of};
+ghost use Rattle.szg_build.specs.Chosen.{numbers_in, plan_by};
+ghost use Rattle.szg_build.specs.Packed.{gathered_told, lists_held, packed_values, ArePacked, IsPackedSub};
+ghost use Rattle.szg_build.specs.Plan.{build_fault};
+ghost use Rattle.szg_build.specs.Shown.{plan_seen};
+ghost use Rattle.szg_build.specs.Tabling.{AreBuilt, IsBuiltBy, IsChoiceOf, Stands};
+ghost use Rattle.szg_build.specs.declared.BuildFault.{BuildFault};
+ghost use Rattle.szg_build.specs.declared.building.Choice.{Choice};
+
+use crate::building::{Choice, Packing};
+use crate::gathering::{Gathered, Subs, list_all};
+use crate::packing::PackedSub;
+use crate::refusing::{MAX_ROUNDS, bits_stand, maps_stand};
+use crate::table::{build_by, byte4_of, maps_fit, padded, parts_fit};
+use crate::watching::Watcher;
+use crate::{BuildFault, Plan};
+use std::alloc::{AllocError, Global};
+use std::marker::Model;
+use szg_block::Sub;
+use szg_file::typed::end_bytes;
+use szg_file::{Fields, Table, subtable_sizes};
+
+/// The content of a dump, whose subtables were packed while it was read.
+#[derive(Drop)]
+pub struct PackedDump {
+    gathered: Gathered,
+    choice: Choice,
+}
+
+impl Model for PackedDump {
+    ghost use Rattle.szg_build.specs.Packed.{gathered_told, ArePacked};
+    ghost use Rattle.szg_build.specs.Chosen.{ToBuild};
+
+    ghost Value = { ToBuild };
+
+    ghost view = { λ packed. record { dump = gathered_told packed.gathered; choice = packed.choice } };
+
+    ghost invariant = { λ packed. ArePacked packed.gathered.front.kind packed.choice packed.gathered.subs };
+}
+
+/// Wraps what was read.
+pub(crate) fn packed_dump(gathered: Gathered, choice: Choice) -> PackedDump
+    requires { ArePacked gathered.front.kind choice gathered.subs }
+    ensures { result ≡ record { dump = gathered_told gathered; choice = choice } }
+{
+    PackedDump { gathered, choice }
+}
+
+impl PackedDump {
+    ghost use Rattle.std.specs.Prelude.{◌≡◌, ◌⊎◌, map, IfOk, Err, Some};
+    ghost use Rattle.std.specs.List.{AllByRecursion};
+    ghost use Rattle.szg_file.specs.Accepted.{IsAccepted};
+    ghost use Rattle.szg_build.specs.Built.{subtables_in};
+    ghost use Rattle.szg_build.specs.Chosen.{plan_by, IsBuiltAs, IsCodedTable};
+    ghost use Rattle.szg_build.specs.Plan.{build_fault};
+    ghost use Rattle.szg_build.specs.Rule.{byte4_for, constant_for, constant_in, HasSpanIndex};
+    ghost use Rattle.szg_build.specs.declared.BuildFault.{BuildFault};
+
+    /// Builds the table, as `build_watched` and `build_small_watched` do from the dump's lists: with the same subtables
+    /// and the same padding. `watcher` sees each subtable that is built only now, and the end.
+    ///
+    /// Errors: the first fault that `build` names, or `Memory` if memory was refused. The values are listed again if
+    /// there is a fault.
+    pub fn build<V: Watcher>(self, alloc: Global, watcher: &mut V) -> Result<Table, BuildFault>
+        ensures refused { (fault : BuildFault) → result ≡ Err fault → (fault ≡ BuildFault.Memory) ⊎ (build_fault (plan_by self.choice self.dump) self.dump.lists ≡ Some fault) }
+        ensures built { IfOk result (λ t. IsBuiltAs self.choice self.dump t.contents) }
+        ensures accepted { IfOk result (λ t. IsAccepted t.contents t.filled) }
+        ensures byte4 { IfOk result (λ t. t.contents.byte4 ≡ byte4_for self.dump.material) }
+        ensures constants { IfOk result (λ t. map constant_in t.contents.subtables ≡ map (constant_for self.dump.kind) self.dump.lists) }
+        ensures codes { IfOk result (λ t. IsCodedTable self.choice t.contents) }
+        ensures index { IfOk result (λ t. AllByRecursion (λ pair. HasSpanIndex pair.0.size pair.1) (subtables_in t.contents)) }
+        ensures padding { IfOk result (λ t. AllByRecursion (λ byte. byte ≡ 0) t.filled) }
+    {
+        let PackedDump { gathered, choice } = self;
+        let built = build_gathered(alloc, gathered, choice, watcher);
+        watcher.end();
+        built
+    }
+}
+
+/// Returns whether packed subtables have these sizes.
+fn have_sizes(sizes: &[u64], packed: &[PackedSub]) -> bool
+    ensures { result ≡ true → sizes.now ≡ map (λ p. p.size) packed.now }
+{
+    sizes.len() == packed.len()
+        && sizes
+            .iter()
+            .zip(packed)
+            .all(|(size, sub)| sub.size == *size)
+}
+
+/// Returns whether a plan has no fault and its subtables are packed already.
+fn are_complete(plan: &Plan, packed: &[PackedSub]) -> bool
+    requires { (choice : Choice) × AllByRecursion (IsPackedSub plan.now.kind choice) packed.now }
+    ensures { result ≡ true → Stands (plan_seen plan.now) (map (packed_values plan.now.kind) packed.now) }
+{
+    parts_fit(&plan.parts);
+    let Some(sizes) = subtable_sizes(&plan.material, plan.kind, &plan.parts) else {
+        return false;
+    };
+    if !have_sizes(sizes.as_slice(), packed) {
+        return false;
+    }
+    if !bits_stand(plan) || plan.rounds > MAX_ROUNDS {
+        return false;
+    }
+    maps_stand(plan)
+}
+
+/// Returns the subtables.
+fn subs_of(alloc: Global, packed: Vec<PackedSub>) -> Result<Vec<Sub>, AllocError>
+    ensures { IfOk result (λ subs. subs.items ≡ map (λ p. p.sub) packed.items) }
+{
+    packed.into_iter().map(|p| p.sub).collect(alloc)
+}
+
+/// Makes a table of a plan and its packed subtables.
+fn assemble(alloc: Global, plan: Plan, packed: Vec<PackedSub>) -> Result<Table, AllocError>
+    requires stands { Stands (plan_seen plan) (map (packed_values plan.kind) packed.items) }
+    requires packed { (choice : Choice) × AreBuilt choice (plan_seen plan) plan.flags.items (map (packed_values plan.kind) packed.items) (map (λ p. subtable_of p.sub) packed.items) }
+    ensures built { (choice : Choice) → AreBuilt choice (plan_seen plan) plan.flags.items (map (packed_values plan.kind) packed.items) (map (λ p. subtable_of p.sub) packed.items) → IfOk result (λ t. IsBuiltBy choice (plan_seen plan) (map (packed_values plan.kind) packed.items) t.contents) }
+    ensures accepted { IfOk result (λ t. IsAccepted t.contents t.filled) }
+    ensures padding { IfOk result (λ t. AllByRecursion (λ byte. byte ≡ 0) t.filled) }
+{
+    maps_fit(&plan.maps);
+    let byte4 = byte4_of(&plan.material);
+    let last = end_bytes(byte4, &plan.last);
+    let subs = subs_of(alloc, packed)?;
+    let fields = Fields {
+        material: plan.material,
+        kind: plan.kind,
+        byte4,
+        parts: plan.parts,
+        subs,
+        maps: plan.maps,
+        fill: Vec::new(alloc),
+        last,
+    };
+    padded(alloc, fields)
+}
+
+/// Lends lists.
+fn lend<'a>(alloc: Global, lists: &'a [Vec<u16>]) -> Result<Vec<&'a [u16]>, AllocError>
+    ensures { IfOk result (λ slices. map (λ slice. slice.now) slices.items ≡ map (λ list. list.items) lists.now) }
+{
+    let mut slices = Vec::new(alloc);
+    'lists: for list in lists {
+        slices.push(list.as_slice())?;
+    }
+    Ok(slices)
+}
+
+/// Lists all values and builds the table from the lists. Errors: the first fault of the plan and the lists, or `Memory`.
+fn build_lists<V: Watcher>(
+    alloc: Global,
+    plan: &Plan,
+    choice: Choice,
+    packed: &[PackedSub],
+    rest: Vec<Vec<u16>>,
+    watcher: &mut V,
+) -> Result<Table, BuildFault>
+    requires choice { IsChoiceOf (plan_seen plan.now) choice }
+    requires packed { AllByRecursion (IsPackedSub plan.now.kind choice) packed.now }
+    ensures refused { (fault : BuildFault) → result ≡ Err fault → (fault ≡ BuildFault.Memory) ⊎ (build_fault (plan_seen plan.now) (lists_held plan.now.kind packed.now (map (λ list. list.items) rest.items)) ≡ Some fault) }
+    ensures built { IfOk result (λ t. IsBuiltBy choice (plan_seen plan.now) (lists_held plan.now.kind packed.now (map (λ list. list.items) rest.items)) t.contents) }
+    ensures accepted { IfOk result (λ t. IsAccepted t.contents t.filled) }
+    ensures padding { IfOk result (λ t. AllByRecursion (λ byte. byte ≡ 0) t.filled) }
+{
+    let Ok(lists) = list_all(alloc, plan.kind, packed, rest) else {
+        return Err(BuildFault::Memory);
+    };
+    let Ok(lent) = lend(alloc, &lists) else {
+        return Err(BuildFault::Memory);
+    };
+    build_by(alloc, plan, choice, &lent, watcher)
+}
+
+/// Returns the numbers of a choice; those of a small table do not matter.
+fn numbers_of(choice: Choice) -> Packing
+    ensures { result ≡ numbers_in choice }
+{
+    match choice {
+        Choice::Fixed(packing) => packing,
+        Choice::Small => Packing {
+            block_bits: 5,
+            span_bits: 1,
+            rounds: 0,
+        },
+    }
+}
+
+/// Builds the table of what was read: of the packed subtables, if all are packed and nothing is refused.
+fn build_gathered<V: Watcher>(
+    alloc: Global,
+    gathered: Gathered,
+    choice: Choice,
+    watcher: &mut V,
+) -> Result<Table, BuildFault>
+    requires { ArePacked gathered.front.kind choice gathered.subs }
+    ensures refused { (fault : BuildFault) → result ≡ Err fault → (fault ≡ BuildFault.Memory) ⊎ (build_fault (plan_by choice (gathered_told gathered)) (gathered_told gathered).lists ≡ Some fault) }
+    ensures built { IfOk result (λ t. IsBuiltBy choice (plan_by choice (gathered_told gathered)) (gathered_told gathered).lists t.contents) }
+    ensures accepted { IfOk result (λ t. IsAccepted t.contents t.filled) }
+    ensures padding { IfOk result (λ t. AllByRecursion (λ byte. byte ≡ 0) t.filled) }
+{
+    let Gathered { front, subs } = gathered;
+    let Subs {
+        flags,
+        maps,
+        packed,
+        rest,
+    } = subs;
+    let numbers = numbers_of(choice);
+    let last = front.last;
+    let plan = Plan {
+        material: front.material,
+        kind: front.kind,
+        parts: front.parts,
+        block_bits: numbers.block_bits,
+        span_bits: numbers.span_bits,
+        rounds: numbers.rounds,
+        flags,
+        maps,
+        last,
+    };
+    if rest.is_empty() && are_complete(&plan, &packed) {
+        return match assemble(alloc, plan, packed) {
+            Ok(table) => Ok(table),
+            Err(_failed) => Err(BuildFault::Memory),
+        };
+    }
+    build_lists(alloc, &plan, choice, &packed, rest, watcher)
+}
