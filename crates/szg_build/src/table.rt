@@ -2,7 +2,7 @@
 ghost use Rattle.std.specs.Prelude.{◌≡◌, ◌<◌, ℕ, List, not, length, map, option_map, slice_index, Err, IfOk, IfErr, MatchOption};
 ghost use Rattle.std.specs.List.{AllByRecursion};
 ghost use Rattle.szg_values.specs.Material.{has_pawns, is_symmetric};
-ghost use Rattle.szg_file.specs.Accepted.{AreNumbers, IsAccepted};
+ghost use Rattle.szg_file.specs.Accepted.{AreNumbers, AreBytes, IsAccepted};
 ghost use Rattle.szg_file.specs.Assembled.{fields_shown};
 ghost use Rattle.szg_file.specs.Contents.{has_bit};
 ghost use Rattle.szg_file.specs.FileOf.{fill_asked};
