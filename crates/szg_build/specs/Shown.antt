@@ -28,7 +28,7 @@ plan_seen plan = record {
   last = plan.last;
 }
 
--- a small plan; its block bits, span bits and rounds are in their ranges, and do not matter
+-- a small plan as a plan; the block bits, span bits and rounds filled in here are in their ranges, and do not matter
 abbrev pub small_seen : SmallPlan → seen.Plan
 small_seen plan = record {
   material = plan.material;
@@ -57,7 +57,8 @@ dump_seen dump = record {
 abbrev pub form_of : ℕ → Form
 form_of number = if number == 2 then runs else single
 
--- The result is the verdict on the bytes to come. If a dump was read, the bytes after it are still to come.
+-- The result agrees with `v`, the verdict on the bytes to come. If a dump was read, the bytes after it are still to
+-- come.
 abbrev pub FollowsLines : {X : Type 0} → (X → told.Dump) → Verdict told.Dump → Result X DumpReadFault → Option (List ℕ) → Type 0
 FollowsLines view v (Ok dump) coming = (lines : ℕ) × (rest : List ℕ) × (v ≡ good (view dump) lines rest) × (coming ≡ Some rest)
 FollowsLines view v (Err (Line number fault)) coming = IsLineFault v number fault
@@ -65,7 +66,7 @@ FollowsLines view v (Err (Build fault)) coming = IsPlanFault v fault
 FollowsLines view v (Err Device) coming = Unit {0}
 FollowsLines view v (Err Memory) coming = Unit {0}
 
--- The bytes that were read are the dump's text, or have this verdict.
+-- The result is the verdict on the bytes that were read. If a dump was read, they are its text and nothing more.
 abbrev pub TookLines : {X : Type 0} → (X → told.Dump) → Verdict told.Dump → Result X DumpReadFault → Option (List ℕ) → Type 0
 TookLines view v (Ok dump) coming = (lines : ℕ) × (v ≡ good (view dump) lines [])
 TookLines view v (Err (Line number fault)) coming = IsLineFault v number fault × EndsWith v coming

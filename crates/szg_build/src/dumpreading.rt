@@ -146,17 +146,18 @@ fn read_text<R: Input>(
 /// Errors: `Line` has the reason and the number of the first refused line, counted from 1; the number saturates at the
 /// greatest 64-bit value. A whole line is read first, at most 80 bytes and its 0A; then the number of its words and its
 /// fixed words are checked, and then its values from left to right. `Build`, in form 2 only: no table can be built from
-/// the lines so far, `Order` after the first line `sub` if the parts are not valid, `Length` after a line `values`
-/// whose number is not the subtable's size. `Device`: the reader failed. `Memory`: memory was refused. After a refused
-/// line more bytes may have been read. If memory was refused, at most as many bytes were read ahead as the shortest
-/// dump that begins with these lines still has. If a dump was read, no byte was read ahead.
+/// the lines so far. It is `Order` after the first line `sub` if the parts are not valid, and `Length` after a line
+/// `values` whose number is not the subtable's size. `Device`: the reader failed. `Memory`: memory was refused. After a
+/// refused line more bytes may have been read. If memory was refused, bytes were read ahead only up to the length of
+/// the shortest dump that begins with the lines read so far. If a dump was read, no byte was read ahead.
 pub fn read_dump<R: Input>(alloc: Global, input: &mut R) -> Result<Dump, DumpReadFault>
-    // If the bytes to come are known, the result is their verdict, however the reader splits them.
+    // If the bytes to come are known, the result follows from the grammar's verdict on them, however the reader splits
+    // them.
     ensures verdict { IfSome (R.coming input.old) (λ bytes. FollowsLines dump_seen (verdict dump_format 0 bytes) result (R.coming input.new)) }
     // For every reader: the bytes that were read, and the number of calls.
     ensures taken { (bytes : List ℕ) × Takes R.Input input.old input.new bytes 1 × TookLines dump_seen (verdict dump_format 0 bytes) result (R.coming input.new) }
-    // If memory is refused: the lines that were read are valid, and no more bytes were read ahead than the shortest
-    // dump that begins with these lines still has.
+    // If memory is refused: the lines that were read are valid, and bytes were read ahead only up to the length of the
+    // shortest dump that begins with these lines.
     ensures memory { IsErrOf result DumpReadFault.Memory → (bytes : List ℕ) × Takes R.Input input.old input.new bytes 1 × StopsShort dump_format 0 0 bytes }
     ensures device { IsErrOf result DumpReadFault.Device → HasFailed (R.failures input.old) (R.failures input.new) (R.interrupted input.new) × IsTrue (R.may_fail input.old) }
     ensures quiet { (IsErrOf result DumpReadFault.Device → ⊥) → R.failures input.new ≡ R.failures input.old }

@@ -1,8 +1,9 @@
 //! Proposes pairs.
 //!
-//! Pairs that make up much of a text are replaced by passes over it. Then the offsets of the frequent pairs are listed, and
-//! the time of a round is proportional to what it replaces. When the text has shrunk to half, its pairs are counted and
-//! listed anew; likewise, once, when no listed pair is left. So all of it takes time linear in the text.
+//! Pairs that make up much of a text are replaced by passes over it. Then the offsets of the frequent pairs are listed,
+//! and the time of a round is proportional to what it replaces. When the text has shrunk to half, its pairs are counted
+//! and listed anew. When no listed pair is left, that happens too, and twice as many pairs get lists, so it happens a
+//! bounded number of times. So all of it takes time linear in the text.
 use crate::cells::Cells;
 use crate::leaves::{MAX_SYMBOLS, Paired, entry};
 use crate::occurrences::Occurrences;
@@ -18,7 +19,8 @@ pub(crate) struct Proposal {
     pub symbols: Vec<u16>,
 }
 
-/// A pair that occurs once or more for each `DENSE_PART` symbols of a text is replaced by a pass over the text.
+/// A pair is replaced by a pass over the text if its count times `DENSE_PART` reaches the number of the text's symbols
+/// plus the number of counts of pairs.
 const DENSE_PART: u64 = 16;
 
 /// The first number of pairs that get lists for each round that is left. It doubles when no listed pair is left.
@@ -36,7 +38,7 @@ struct Making {
     /// The number of rounds made, and the greatest number of them.
     done: u32,
     rounds: u32,
-    /// By how much more pairs get lists than at first.
+    /// The factor by which more pairs get lists than at first.
     more: u64,
 }
 
@@ -78,8 +80,8 @@ impl Making {
         u64::from(count) >= cost / DENSE_PART
     }
 
-    /// Returns how often a pair must occur to get a list. If the text is short beside the counts of all pairs, each pair
-    /// that may be made gets one.
+    /// Returns how often a pair must occur to get a list. If the text has fewer symbols than there can be counts of
+    /// pairs, each pair that may be made gets one.
     fn least_count(&self, tally: &Tally, most: u32) -> u32 {
         let width = u64::from(self.width());
         if width * width > self.text.count() as u64 {

@@ -14,7 +14,7 @@ use crate::shrinking::shrink;
 use crate::watching::Watcher;
 use std::alloc::{AllocError, Global};
 
-/// Returns a right symbol with which `left` makes a pair that may be made and occurs at least four times.
+/// Returns the first symbol `right` for which the pair (`left`, `right`) may be made and occurs at least four times.
 fn find_right(counts: &[u8], lens: &[u16], left: usize) -> Option<usize>
     requires few { length lens.now ≤ 4095 }
     requires room { length counts.now ≡ length lens.now * length lens.now }
@@ -180,7 +180,8 @@ fn pair_by_proposal<V: Watcher>(
     Ok(Some(paired))
 }
 
-/// Makes pairs of the most frequent neighbours, at most `rounds` pairs.
+/// Makes at most `rounds` pairs: the proposed ones, which are of the most frequent neighbours; if the proposal is not
+/// accepted, any pairs that occur at least four times.
 pub(crate) fn pair_up<V: Watcher>(
     alloc: Global,
     values: &[u16],
