@@ -84,6 +84,7 @@ fn build_lists(
     dump: Dump,
     choice: Choice,
 ) -> Result<Table, BuildFault> {
+    let last = dump.last;
     let lists = dump.lists;
     let mut lent = Vec::new(rt.alloc());
     for list in &lists {
@@ -100,7 +101,7 @@ fn build_lists(
                 rounds: packing.rounds,
                 flags: dump.flags,
                 maps: dump.maps,
-                last: dump.last,
+                last,
             };
             build(rt.alloc(), &plan, &lent)
         }
@@ -111,7 +112,7 @@ fn build_lists(
                 parts: dump.parts,
                 flags: dump.flags,
                 maps: dump.maps,
-                last: dump.last,
+                last,
             };
             build_small(rt.alloc(), plan, &lent)
         }
