@@ -21,7 +21,11 @@ struct way {
     uint16_t (*look_up)(int thread, uint64_t index);
 };
 
-static szg_table handles[MOST] = {SZG_NO_TABLE, SZG_NO_TABLE, SZG_NO_TABLE, SZG_NO_TABLE};
+/* Each thread's handles, in a cache line of their own: a call writes to its handle. */
+static struct {
+    _Alignas(64) szg_table table;
+    szg_front front;
+} handles[MOST] = {{SZG_NO_TABLE, SZG_NO_FRONT}};
 static uint8_t *file;
 static size_t length;
 static uint32_t *indexes;
@@ -39,35 +43,33 @@ static void fail(const char *what)
 static void open_handle(int thread)
 {
     szg_answer answer;
-    if (szg_open("KQRvK", 5, false, file, length, &handles[thread], &answer) != SZG_DONE)
+    if (szg_open("KQRvK", 5, false, file, length, &handles[thread].table, &answer) != SZG_DONE)
         fail("the table is refused");
 }
 
 static void share_handle(int thread)
 {
-    if (szg_share(&handles[0], &handles[thread]) != SZG_DONE)
+    if (szg_share(&handles[0].table, &handles[thread].table) != SZG_DONE)
         fail("the table is not shared");
 }
 
 static uint16_t get_by_handle(int thread, uint64_t index)
 {
     uint16_t value = 0;
-    szg_get(&handles[thread], 0, 0, index, &value);
+    szg_get(&handles[thread].table, 0, 0, index, &value);
     return value;
 }
-
-static szg_front fronts[MOST] = {SZG_NO_FRONT, SZG_NO_FRONT, SZG_NO_FRONT, SZG_NO_FRONT};
 
 static void open_front(int thread)
 {
     szg_answer answer;
-    if (szg_open_front("KQRvK", 5, false, file, length, &fronts[thread], &answer) != SZG_DONE)
+    if (szg_open_front("KQRvK", 5, false, file, length, &handles[thread].front, &answer) != SZG_DONE)
         fail("the front is refused");
 }
 
 static void share_front(int thread)
 {
-    if (szg_share_front(&fronts[0], &fronts[thread]) != SZG_DONE)
+    if (szg_share_front(&handles[0].front, &handles[thread].front) != SZG_DONE)
         fail("the front is not shared");
 }
 
@@ -75,7 +77,7 @@ static uint16_t get_by_front(int thread, uint64_t index)
 {
     uint16_t value = 0;
     szg_bad_block bad;
-    szg_front_get(&fronts[thread], file, length, 0, 0, index, &value, &bad);
+    szg_front_get(&handles[thread].front, file, length, 0, 0, index, &value, &bad);
     return value;
 }
 
@@ -185,7 +187,7 @@ int main(int count, char **words)
     fclose(f);
     uint64_t state = 1, size = 0;
     open_handle(0);
-    szg_positions(&handles[0], 0, 0, &size);
+    szg_positions(&handles[0].table, 0, 0, &size);
     for (size_t k = 0; k < LOOK_UPS; k++) {
         state = state * 6364136223846793005u + 1442695040888963407u;
         indexes[k] = (uint32_t)((state >> 16) % size);

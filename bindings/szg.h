@@ -25,9 +25,9 @@ extern "C" {
 
 /* The version of this header. A library with the same major number serves a program compiled with it. */
 #define SZG_VERSION_MAJOR 1
-#define SZG_VERSION_MINOR 1
+#define SZG_VERSION_MINOR 2
 #define SZG_VERSION_PATCH 0
-#define SZG_VERSION "1.1.0"
+#define SZG_VERSION "1.2.0"
 
 enum szg_status {
     SZG_DONE = 0,    /* the call was carried out */
@@ -109,7 +109,8 @@ uint32_t szg_values_at(const char *name, size_t name_length, bool dtz, const uin
                        uint16_t *values, size_t value_count, szg_answer *answer);
 
 /* A table in memory, with a copy of all that it needs of the file. Initialise it with SZG_NO_TABLE, let only the calls change
- * it, do not copy it, and pass it to one call at a time. */
+ * it, do not copy it, and pass it to one call at a time. Each call writes to the handle, so handles of different threads are
+ * best kept in different cache lines. */
 typedef struct szg_table { void *held; } szg_table;
 #define SZG_NO_TABLE {0}
 
@@ -194,7 +195,7 @@ void szg_close(szg_table *table);
  * memory once, and no call waits for another. All of them may read the same bytes at a time. */
 
 /* An opened front. Initialise it with SZG_NO_FRONT, let only the calls change it, do not copy it, and pass it to one call at
- * a time. */
+ * a time. Each call writes to the handle, as with szg_table. */
 typedef struct szg_front { void *held; } szg_front;
 #define SZG_NO_FRONT {0}
 

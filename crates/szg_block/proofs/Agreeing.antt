@@ -8,7 +8,7 @@ use Rattle.szg_pairs.specs.Expansion.{expansion_of, depths_of}
 use Rattle.szg_block.specs.Layout.{Layout, SparseEntry}
 use Rattle.szg_block.specs.Block.{block_at, block_values}
 use Rattle.szg_block.specs.Steps.{Location, location_of, block_location, entry_block, move_count, word_location, word_count, descent_count}
-use Rattle.szg_block.specs.Laws.{SameBlockSameAnswer}
+use Rattle.szg_block.specs.Laws.{SameBlockSameValue}
 use Rattle.szg_block.specs.declared.probing.Steps.{Steps}
 use Rattle.szg_block.proofs.Values.{joined_values-block_location}
 
@@ -50,7 +50,7 @@ module _ (one other : Layout) (entries : other.entries ≡ one.entries) (code : 
       ∙ ap (λ dict. slice_index (depths_of dict (slice_index (symbols_spelled other.code (bits block)) (word_location one block p).list)) (word_location one block p).item) entries
       ∙ ap (λ words. slice_index (depths_of one.entries (slice_index (symbols_spelled words (bits block)) (word_location one block p).list)) (word_location one block p).item) code
 
-pub same_result : SameBlockSameAnswer
+pub same_result : SameBlockSameValue
 same_result one other packed other_packed size other_size accepted shaped sound other_shaped other_sound lengths entries code i below other_below entry block =
     let location : block_location other i ≡ block_location one i = same_location one other lengths i in
     let b : block_at other.block_bits other_packed (block_location other i).list ≡ block_at one.block_bits packed (block_location one i).list =

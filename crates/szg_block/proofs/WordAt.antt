@@ -17,9 +17,9 @@ location_of-here : (n : ℕ) (ns : List ℕ) (i : ℕ) → i < n → location_of
 unfolding location_of
 location_of-here n ns i h = ap (λ b. location_in b i (location_of ns (i - n))) (lt-ltb i n h)
 
-location_of-before_end : (n : ℕ) (ns : List ℕ) (i : ℕ) → n ≤ i → location_of (n ∷ ns) i ≡ record { list = suc (location_of ns (i - n)).list; item = (location_of ns (i - n)).item }
+location_of-rest_location : (n : ℕ) (ns : List ℕ) (i : ℕ) → n ≤ i → location_of (n ∷ ns) i ≡ record { list = suc (location_of ns (i - n)).list; item = (location_of ns (i - n)).item }
 unfolding location_of
-location_of-before_end n ns i h = ap (λ b. location_in b i (location_of ns (i - n))) (le-ltb i n h)
+location_of-rest_location n ns i h = ap (λ b. location_in b i (location_of ns (i - n))) (le-ltb i n h)
 
 module _ (code : CanonicalCode) (accepted : IsCode code) (entries : List (List ℕ)) (old new : Cursor) (s : ℕ) (h : TakesWord code old new s) where
   first_word : symbols_spelled code old.left ≡ s ∷ symbols_spelled code new.left
@@ -43,14 +43,14 @@ module _ (code : CanonicalCode) (accepted : IsCode code) (entries : List (List �
   -- the value is in a word after the first
   word_at-after_is : (p : ℕ) → length (expansion_of entries s) ≤ p → word_at code entries old.left p ≡ record { list = suc (word_at code entries new.left (p - length (expansion_of entries s))).list; item = (word_at code entries new.left (p - length (expansion_of entries s))).item }
   unfolding word_at
-  word_at-after_is p l = unfold word_at in (word_at-first p ∙ location_of-before_end (length (expansion_of entries s)) (map (λ s. length (expansion_of entries s)) (symbols_spelled code new.left)) p l)
+  word_at-after_is p l = unfold word_at in (word_at-first p ∙ location_of-rest_location (length (expansion_of entries s)) (map (λ s. length (expansion_of entries s)) (symbols_spelled code new.left)) p l)
 
-  pub word_at-before_end : (p : ℕ) → length (expansion_of entries s) ≤ p → (word_at code entries old.left p).list ≡ suc (word_at code entries new.left (p - length (expansion_of entries s))).list
-  word_at-before_end p l = ap (λ (w : Location). w.list) (word_at-after_is p l)
+  pub word_at-rest_location : (p : ℕ) → length (expansion_of entries s) ≤ p → (word_at code entries old.left p).list ≡ suc (word_at code entries new.left (p - length (expansion_of entries s))).list
+  word_at-rest_location p l = ap (λ (w : Location). w.list) (word_at-after_is p l)
 
-  pub pairs_above-before_end : (p : ℕ) → length (expansion_of entries s) ≤ p → pairs_above code entries old.left p ≡ pairs_above code entries new.left (p - length (expansion_of entries s))
+  pub pairs_above-rest_location : (p : ℕ) → length (expansion_of entries s) ≤ p → pairs_above code entries old.left p ≡ pairs_above code entries new.left (p - length (expansion_of entries s))
   unfolding pairs_above
-  pairs_above-before_end p l =
+  pairs_above-rest_location p l =
       let q : ℕ = p - length (expansion_of entries s) in
       ap (λ (w : Location). slice_index (depths_of entries (slice_index (symbols_spelled code old.left) w.list)) w.item) (word_at-after_is p l)
       ∙ ap (λ u. slice_index (depths_of entries (slice_index u (suc (word_at code entries new.left q).list))) (word_at code entries new.left q).item) first_word

@@ -1,4 +1,4 @@
--- Blocks, and sources of bytes.
+-- Counts of failures and of requested bytes, blocks one after another, and the bytes at an offset.
 use Rattle.std.specs.Prelude.{ℕ, ◌+◌, ◌≤◌, ◌^◌, ◌-◌, min, List, take, drop}
 use Rattle.std.specs.Prelude.{Result, Ok, Err}
 use Rattle.std.specs.List.{flat_map, range_with_len}
@@ -20,6 +20,6 @@ failed_after (Err fault) failed = raised failed 1
 abbrev pub packed_blocks : (ℕ → List ℕ) → ℕ → List ℕ
 packed_blocks block count = flat_map block (range_with_len 0 count)
 
--- the bytes at an offset, at most `buffer_len`
+-- the bytes from an offset on, at most `buffer_len` of them
 abbrev pub bytes_at : List ℕ → ℕ → ℕ → List ℕ
 bytes_at bytes offset buffer_len = take buffer_len (drop offset bytes)

@@ -26,7 +26,7 @@ abbrev pub BlockValuesAreSpelled : Type 0
 BlockValuesAreSpelled = (layout : Layout) → IsCode layout.code → (block : List ℕ) (m : ℕ) (xs : List ℕ) → HasValues layout block m xs →
     (m ≤ length (block_values layout block)) × (xs ≡ take m (block_values layout block))
 
--- a sound subtable has `size` values
+-- the blocks of a subtable that is sound for a size decode to exactly that number of values
 abbrev pub SoundHasSize : Type 0
 SoundHasSize = (layout : Layout) (packed : List ℕ) (size : ℕ) → IsCode layout.code → IsShapedLayout layout size → IsSoundLayout layout packed size → length (joined_values layout packed size) ≡ size
 
@@ -35,10 +35,11 @@ abbrev pub OneBlockDecides : Type 0
 OneBlockDecides = (layout : Layout) (packed : List ℕ) (size : ℕ) → IsCode layout.code → IsShapedLayout layout size → IsSoundLayout layout packed size → (i : ℕ) → i < size →
     slice_get (joined_values layout packed size) i ≡ slice_get (block_values layout (block_at layout.block_bits packed (block_location layout i).list)) (block_location layout i).item
 
--- Value i and the steps to it depend only on its sparse entry, the lengths, the dictionary, the code and its one
--- block: two subtables that agree in these have the same value and steps, whatever the other blocks contain.
-abbrev pub SameBlockSameAnswer : Type 0
-SameBlockSameAnswer = (one other : Layout) (packed other_packed : List ℕ) (size other_size : ℕ) →
+-- Value i and the steps to it depend only on the sparse entry of its span, the block lengths, the dictionary, the code
+-- and the block that contains it: two subtables that agree in these have the same value and steps, whatever the other
+-- blocks contain.
+abbrev pub SameBlockSameValue : Type 0
+SameBlockSameValue = (one other : Layout) (packed other_packed : List ℕ) (size other_size : ℕ) →
     IsCode one.code → IsShapedLayout one size → IsSoundLayout one packed size → IsShapedLayout other other_size → IsSoundLayout other other_packed other_size →
     other.lengths ≡ one.lengths → other.entries ≡ one.entries → other.code ≡ one.code →
     (i : ℕ) → i < size → i < other_size →
@@ -47,13 +48,13 @@ SameBlockSameAnswer = (one other : Layout) (packed other_packed : List ℕ) (siz
     (slice_get (joined_values other other_packed other_size) i ≡ slice_get (joined_values one packed size) i)
     × (steps_from (Some other) other_packed i ≡ steps_from (Some one) packed i)
 
--- the moves to value i are at most half a span plus the offset of its sparse entry
+-- the number of moves to value i is at most the number of values of half a span plus the offset of its sparse entry
 abbrev pub MovesAreBounded : Type 0
 MovesAreBounded = (layout : Layout) (packed : List ℕ) (size : ℕ) → IsShapedLayout layout size → IsCode layout.code → IsSoundLayout layout packed size → (i : ℕ) → i < size →
     (entry : SparseEntry) → slice_get layout.sparse (i / 2 ^ layout.span_bits) ≡ Some entry → move_count layout i ≤ 2 ^ layout.span_bits / 2 + entry.offset
 
--- the moves to value i are at most half a span if the entry's offset lies within its block, or if the entry points to
--- the end after the last length
+-- the number of moves to value i is at most the number of values of half a span if the entry's offset lies within its
+-- block, or if the entry points past the last length
 abbrev pub MovesAreFewer : Type 0
 MovesAreFewer = (layout : Layout) (packed : List ℕ) (size : ℕ) → IsShapedLayout layout size → IsCode layout.code → IsSoundLayout layout packed size → (i : ℕ) → i < size →
     (entry : SparseEntry) → slice_get layout.sparse (i / 2 ^ layout.span_bits) ≡ Some entry →
@@ -65,7 +66,8 @@ WordsAreLeast = (layout : Layout) (block : List ℕ) (p : ℕ) → p < length (b
     (p < length (flat_map (expansion_of layout.entries) (take (word_count layout block p) (symbols_spelled layout.code (bits block)))))
     × ((k : ℕ) → p < length (flat_map (expansion_of layout.entries) (take k (symbols_spelled layout.code (bits block)))) → word_count layout block p ≤ k)
 
--- at most p + 1 words are read for value p of a block, and at most 255 pairs are above the value in its symbol
+-- at most p + 1 words are read for value p of a block, and at most 255 pairs are above the value in the tree of its
+-- symbol
 abbrev pub WordsAreBounded : Type 0
 WordsAreBounded = (layout : Layout) → IsDictionary layout.entries → layout.code.symbols ≡ length layout.entries → (block : List ℕ) (p : ℕ) → p < length (block_values layout block) →
     (word_count layout block p ≤ p + 1) × (descent_count layout block p ≤ 255)
@@ -78,7 +80,7 @@ HasTotalDecides = (layout : Layout) (size : ℕ) → IsTrue (has_total layout si
 abbrev pub FirstBadEntryFinds : Type 0
 FirstBadEntryFinds = (layout : Layout) → FindsFirst (HasGoodEntry layout) (first_bad_entry layout)
 
--- if the code is accepted, spells_needed decides whether the block's own bits spell its needed values
+-- if the code is accepted, spells_needed decides whether the block's own bits spell the values that it needs
 abbrev pub SpellsNeededDecides : Type 0
 SpellsNeededDecides = (layout : Layout) → IsCode layout.code → (size j : ℕ) (block : List ℕ) → IsTrue (spells_needed layout size j block) ↔ SpellsNeeded layout size j block
 
@@ -87,7 +89,7 @@ abbrev pub PassesBlock : Layout → List ℕ → ℕ → ℕ → Type 0
 PassesBlock layout packed size j = j < layout.blocks → IsTrue (spells_needed layout size j (block_at layout.block_bits packed j))
 
 -- if the code is accepted, a subtable is sound exactly if it passes has_total, first_bad_entry and spells_needed;
--- else the first of these that it fails determines the fault
+-- otherwise the first of these that it fails determines the fault
 abbrev pub FoundIsFault : Type 0
 FoundIsFault = (layout : Layout) → IsCode layout.code → (packed : List ℕ) (size : ℕ) →
     (IsSoundLayout layout packed size ↔ (IsTrue (has_total layout size) × (first_bad_entry layout ≡ None) × ((j : ℕ) → PassesBlock layout packed size j)))

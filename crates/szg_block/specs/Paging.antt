@@ -9,7 +9,7 @@ source_of paged = paged.source
 abbrev pub buffer_len_of : {S : Type 0} → Paged S → ℕ
 buffer_len_of paged = length paged.buffer.items
 
--- the offset of the first block, the number of blocks, and the number of bytes of each
+-- the offset of the first block, the number of blocks, and the number of bytes of each: at most the buffer's length
 abbrev pub first_of : {S : Type 0} → Paged S → ℕ
 first_of paged = paged.at
 

@@ -16,7 +16,8 @@ use crate::{Sub, SubFault};
 /// Returns the number of the block that contains value `i` of a sound subtable with `size` values. None in a
 /// constant subtable.
 ///
-/// As in de Man's probing code, it adds lengths from the sparse entry of the value's span. It reads no block.
+/// As in de Man's probing code, it starts at the sparse entry of the value's span and walks over block lengths,
+/// forwards or backwards. Reads no block.
 pub fn find_block(sub: &Sub, size: u64, i: u64) -> Option<u32>
     requires sound { IsSound sub.now size }
     requires below { i < size }
@@ -30,8 +31,8 @@ pub fn find_block(sub: &Sub, size: u64, i: u64) -> Option<u32>
 
 /// Decodes value `i` of a sound subtable with `size` values from the bytes of its block.
 ///
-/// `block` may hold any bytes: the result is decoded from them, at the index that value `i` has in its block. None if
-/// they decode to too few values, if `block` does not have the length of a block, and in a constant subtable.
+/// `block` may hold any bytes: the result is the value that they decode to at the index of value `i` in its block. None
+/// if `block` decodes to too few values, if it is not as long as a block, or if the subtable is constant.
 pub fn value_in_block(sub: &Sub, size: u64, i: u64, block: &[u8]) -> Option<u16>
     requires sound { IsSound sub.now size }
     requires below { i < size }
@@ -60,11 +61,12 @@ pub fn value_in_block(sub: &Sub, size: u64, i: u64, block: &[u8]) -> Option<u16>
     }
 }
 
-/// Returns value `i` of a subtable with `size` values, decoded from `block`, the bytes of the block at `location`.
-/// Like `check_block`, it verifies the whole block. `location` is what `locate_value` returns for `i`.
+/// Returns value `i` of a subtable with `size` values, decoded from `block`, the bytes of the block at `location`. Like
+/// `check_block`, it verifies that the block's own bits spell all values that the block needs. `location` is what
+/// `locate_value` returns for `i`.
 ///
-/// Only the lengths and the sparse index must be sound; `block` may hold any bytes. Errors: `Word(location.block)`
-/// if the block's bits do not spell the values that the block needs.
+/// Only the lengths and the sparse index must be sound; `block` may hold any bytes. Errors: `Word(location.block)` if
+/// the block's own bits spell fewer values than the block needs.
 pub fn checked_value(
     sub: &Sub,
     size: u64,

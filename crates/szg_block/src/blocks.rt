@@ -10,7 +10,7 @@ ghost use Rattle.szg_block.specs.BlocksTrait.{raised, failed_after};
 use crate::Sub;
 use crate::packed::block_of;
 
-/// A source of blocks failed.
+/// The error of a call whose source failed.
 #[derive(Debug, Clone, Copy, PartialEq, Eq)]
 pub struct SourceFault;
 

@@ -10,8 +10,9 @@ use crate::lengths::needed_from;
 use crate::words::push_values;
 use std::alloc::AllocError;
 
-/// Decodes the values that block `n` of a subtable with `size` values needs, and appends them. `block` has the block's
-/// bytes and passed `check_block`; `before` values come before it. Errors: an allocation was refused.
+/// Decodes block `n` of a subtable with `size` values, and appends the values that the block needs to `values`. `block`
+/// has the block's bytes, which passed `check_block`; `before` is the number of values before the block. Errors: memory
+/// was refused.
 pub fn decode_block(
     sub: &Sub,
     size: u64,

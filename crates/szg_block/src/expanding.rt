@@ -17,7 +17,7 @@ use crate::words::push_values;
 use std::alloc::{AllocError, Global};
 use std::marker::Model;
 
-/// A subtable that passed `check`, with access to its blocks.
+/// A sound subtable, with access to its blocks.
 #[derive(Drop)]
 pub struct Sound<'a, B: Blocks> {
     sub: &'a Sub,
@@ -58,7 +58,7 @@ impl<'a> Sound<'a, Whole<'a>> {
     /// Creates the view of a subtable in memory that has `size` values and passed `check`. `constant` is the value
     /// that a constant subtable has at each index.
     ///
-    /// It borrows the subtable and copies nothing of it.
+    /// Borrows the subtable and copies nothing.
     pub fn of(sub: &'a Sub, size: u64, constant: u16) -> Sound<'a, Whole<'a>>
         requires shaped { IsShaped sub.now size }
         requires sound { IsSoundOver sub.now (packed_of sub.now) size }
@@ -84,7 +84,7 @@ impl<'a> Sound<'a, Whole<'a>> {
         }
     }
 
-    /// Returns value `i` and the steps of the look-up. Blocks in memory never fail.
+    /// Returns value `i` and the steps of the look-up. Never returns an error, since the blocks are in memory.
     pub fn get_counted(&mut self, i: u64) -> Result<(u16, Steps), SourceFault>
         requires { i < self.old.size }
         ensures value { IsOkAnd result (λ found. slice_get (values_shown self.old) i ≡ Some found.0) }
@@ -95,7 +95,7 @@ impl<'a> Sound<'a, Whole<'a>> {
         look_up(self.sub, self.size, self.constant, i, &mut blocks)
     }
 
-    /// Decodes all values in order, block by block. Errors: memory is refused.
+    /// Decodes all values in order, block by block. Errors: memory was refused.
     pub fn values(&self, alloc: Global) -> Result<Vec<u16>, AllocError>
         ensures { IfOk result (λ values. values.items ≡ values_shown self.now) }
     {
@@ -130,7 +130,7 @@ impl<'a> Sound<'a, Whole<'a>> {
 
 impl<'a, S: Source + Drop> Sound<'a, Paged<S>> {
     /// Creates the view of a subtable with `size` values whose blocks are read from a source. The subtable must be
-    /// sound over these blocks. `constant` is the value that a constant subtable has at each index. Allocates
+    /// sound with the blocks of `blocks`. `constant` is the value that a constant subtable has at each index. Allocates
     /// nothing.
     pub fn paged(sub: &'a Sub, size: u64, constant: u16, blocks: Paged<S>) -> Sound<'a, Paged<S>>
         requires head { IsShapedHead sub.now size }
@@ -146,7 +146,7 @@ impl<'a, S: Source + Drop> Sound<'a, Paged<S>> {
         ensures requested { result.requested ≡ S.requested (source_of blocks) }
         ensures cost { result.cost ≡ size_of blocks }
     {
-        // for proofs alone: the code is accepted, as look-ups require; so no word is a prefix of another
+        // for proofs alone: `blocks_in` ensures that the code is accepted, which look-ups require
         let _accepted = blocks_in(sub);
         Sound {
             sub,
@@ -156,7 +156,7 @@ impl<'a, S: Source + Drop> Sound<'a, Paged<S>> {
         }
     }
 
-    /// Returns value `i`, found by the sparse index. Allocates nothing. Errors: the source failed. A fault does not
+    /// Returns value `i`, found by the sparse index. Allocates nothing. Errors: the source failed. An error does not
     /// change what later calls return.
     pub fn get(&mut self, i: u64) -> Result<u16, SourceFault>
         requires { i < self.old.size }

@@ -1,9 +1,10 @@
-//! Subtables of a Syzygy table: their shape, the check that accepts exactly the sound ones, and the values of a
-//! sound one.
+//! Subtables of a Syzygy table (`PairsData` in the probing code): their shape, the check that accepts exactly the sound
+//! ones, and the values of a sound one.
 //!
 //! A subtable is constant, or has blocks of packed words with a sparse index and block lengths, as in de Man's format.
 //! It is sound if its blocks have enough values, each sparse entry leads to the middle of its span, and the bits of
-//! each block decode to all values that the block needs.
+//! each block decode to all values that the block needs. A block needs as many values as its length says, or fewer
+//! where the subtable ends within it.
 #![tactic(auto)]
 
 ghost use Rattle.std.specs.Prelude.{◌≡◌, ◌<◌, ◌≤◌, ◌↔◌, ◌^◌, ◌/◌, ◌%◌, IsTrue, IfErr, IfNone, IfSome, IsSomeAnd, OnOk, length};
@@ -44,10 +45,11 @@ mod words;
 /// An entry of the sparse index.
 #[derive(Clone, Copy)]
 pub struct Entry {
-    /// An index in `lengths`: that of a block, or that of an extra length after those of the blocks. In an entry that
-    /// points to the end after the last length it is `lengths.len()`.
+    /// The number of a block: an index in `lengths`. It may also be the index of an extra length, or `lengths.len()` in
+    /// an entry that points past the last length.
     pub block: u32,
-    /// A number of values, counted from the start of that block.
+    /// A number of values, counted from the start of that block. In a sound subtable it leads to the middle of the
+    /// span.
     pub offset: u16,
 }
 
@@ -58,7 +60,7 @@ pub enum Sub {
     Constant {
         /// The flags byte; its highest bit is set.
         flags: u8,
-        /// The byte after it.
+        /// The byte after the flags byte. In a WDL table it is the value.
         byte: u8,
     },
     /// Blocks of words. Each word encodes a symbol, which expands to values.
@@ -131,8 +133,8 @@ pub fn entry_count(size: u64, span_bits: u8) -> u64
     size.div_ceil(1 << span_bits)
 }
 
-/// Returns whether the header and the lists of a subtable with `size` values are consistent. Does not look at the
-/// blocks.
+/// Returns whether the header of a subtable with `size` values is valid and its lists have the lengths that header and
+/// size require. Does not look at the blocks.
 ///
 /// The checks are those of `shaped`, except for the length of `packed`.
 pub fn shaped_head(sub: &Sub, size: u64) -> bool
@@ -184,9 +186,9 @@ pub fn shaped(sub: &Sub, size: u64) -> bool
 
 /// Checks the lengths and the sparse index of a subtable with `size` values, without its blocks.
 ///
-/// Errors: `ShortTotal` if the lengths of the blocks, without the extra ones, sum to fewer values than `size`. Else
-/// `SparseEntry(k)` for the first entry whose block number is above the number of all lengths, or whose offset does
-/// not lead from the start of that block to the middle of span k.
+/// Errors: `ShortTotal` if the lengths of the blocks, without the extra ones, sum to fewer values than `size`.
+/// Otherwise `SparseEntry(k)` for the first entry `k` whose block number is above the number of all lengths, or whose
+/// offset does not lead from the start of that block to the middle of span `k`.
 pub fn check_index(sub: &Sub, size: u64) -> Result<(), SubFault>
     requires { IsShapedHead sub.now size }
     ensures ok { OnOk result (HasSoundIndex sub.now size) }
@@ -213,12 +215,12 @@ pub fn check_index(sub: &Sub, size: u64) -> Result<(), SubFault>
     }
 }
 
-/// Checks that the words of block `n`, whose bytes are `block`, spell the values that the block needs. Only the block's
-/// own bits count: no word runs on into the next block. The subtable has `size` values and is not constant, `n` is one
-/// of its blocks, and `block` has the length of its blocks.
+/// Checks that block `n`, whose bytes are `block`, decodes to at least as many values as it needs. Only the block's own
+/// bits count: no word runs on into the next block. The subtable has `size` values and is not constant, `n` is one of
+/// its blocks, and `block` has the length of its blocks.
 ///
-/// Errors: `Word(n)` if the block's own bits do not spell these values. Each call also adds the lengths of all blocks
-/// before `n`, which takes time proportional to `n`.
+/// Errors: `Word(n)` if the block's own bits decode to fewer values. Each call adds the lengths of all blocks before
+/// `n`, which takes time proportional to `n`; `check_block_from` does not.
 pub fn check_block(sub: &Sub, size: u64, n: u32, block: &[u8]) -> Result<(), SubFault>
     requires head { IsShapedHead sub.now size }
     requires there { IsSomeAnd (layout_of sub.now) (λ layout. n < layout.blocks) }
@@ -233,8 +235,7 @@ pub fn check_block(sub: &Sub, size: u64, n: u32, block: &[u8]) -> Result<(), Sub
     check_block_from(sub, size, n, before, block)
 }
 
-/// Checks block `n` as `check_block` does, for a caller that carries the sum of lengths from block to block:
-/// `before` is the number of values before block `n`.
+/// Checks block `n` as `check_block` does, for a caller that knows `before`, the number of values before block `n`.
 pub fn check_block_from(
     sub: &Sub,
     size: u64,

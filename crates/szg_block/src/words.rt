@@ -123,8 +123,7 @@ fn reach_by<'a, const TWO: bool>(
     None
 }
 
-/// `reach_by`, with up to two words at a step if the code has a table for that. For each value of a byte, the table has
-/// the two words that the byte begins with, if the byte contains two.
+/// As `reach_by`, and decodes up to two words at a step if the code has a table of the first two words of each byte.
 #[inline(always)]
 fn reach<'a>(code: &Code, dict: &Dict, left: Bits<'a>, index: u64) -> Option<Reached<'a>>
     requires accepted { IsCode code.now }
@@ -183,7 +182,7 @@ pub fn value_at(code: &Code, dict: &Dict, block: &[u8], index: u64) -> u16
     requires within { index < length (values_spelled code.now dict.now (bits block.now)) }
     ensures { slice_get (values_spelled code.now dict.now (bits block.now)) index ≡ Some result }
 {
-    if code.has_mostly_least_words() {
+    if code.is_read_word_by_word() {
         return value_by_words(code, dict, WordReader::new(block), index);
     }
     let Some(reached) = reach(code, dict, Bits::new(block), index) else {
@@ -192,7 +191,8 @@ pub fn value_at(code: &Code, dict: &Dict, block: &[u8], index: u64) -> u16
     value_in(dict, reached.words, reached.index as u16)
 }
 
-/// Returns the value at `index` of bits that spell more than `index` values, word by word.
+/// Returns the value at `index` among those that the remaining bits decode to. Decodes word by word. The bits must
+/// spell more than `index` values.
 #[inline(always)]
 fn value_by_words(code: &Code, dict: &Dict, left: WordReader, index: u64) -> u16
     requires accepted { IsCode code.now }
@@ -212,11 +212,11 @@ fn value_by_words(code: &Code, dict: &Dict, left: WordReader, index: u64) -> u16
     }
 }
 
-/// A value that was found in a block, and the work done for it.
+/// A value that was found in a block, and the steps that led to it.
 #[derive(Clone, Copy)]
 pub struct Found {
     pub value: u16,
-    /// The number of words read, the value's own included.
+    /// The number of words read, including the word that contains the value.
     pub words: u64,
     /// The number of pairs descended through, from the word's symbol to the value's leaf.
     pub pairs: u16,
@@ -256,8 +256,8 @@ pub fn find_in_block(code: &Code, dict: &Dict, block: &[u8], index: u64) -> Foun
 /// Appends the first `count` values of a symbol. The values of a pair are those of its left symbol, then those of
 /// its right symbol.
 ///
-/// It makes one call for each pair and each leaf that it expands. Pairs are nested at most 255 deep, and so is the
-/// recursion.
+/// It makes one call for each pair and each leaf that it expands. Pairs are nested at most 255 deep, so calls are
+/// nested at most 256 deep.
 fn push_symbol(
     dict: &Dict,
     symbol: u16,

@@ -129,9 +129,9 @@ count_of_64_bits : read (front ++ part ++ codes "sub a 0\nvalues 922337203685477
 unfolding parsed digits encode_with
 count_of_64_bits = refl
 
-cut_behind_a_great_count : read (front ++ part ++ codes "sub a 0\nvalues 9223372036854775807\n") ≡ ended 8
+cut_after_a_great_count : read (front ++ part ++ codes "sub a 0\nvalues 9223372036854775807\n") ≡ ended 8
 unfolding parsed digits encode_with
-cut_behind_a_great_count = refl
+cut_after_a_great_count = refl
 
 cut_within_a_line : read (front ++ part ++ codes "sub a 0\nvalues 3\n2\n2") ≡ ended 9
 unfolding parsed digits encode_with
@@ -148,26 +148,26 @@ eighty_one_bytes_and_more = refl
 
 -- ---- runs
 
-abbrev pub runs_behind : List ℕ → Verdict Dump
-runs_behind text = read (runs_front ++ part ++ codes "sub a 0\nvalues 3\n" ++ text)
+abbrev pub runs_after : List ℕ → Verdict Dump
+runs_after text = read (runs_front ++ part ++ codes "sub a 0\nvalues 3\n" ++ text)
 
-runs_past_the_count : runs_behind (codes "4 2\n") ≡ refused 8 (of_line line.Run) []
+runs_past_the_count : runs_after (codes "4 2\n") ≡ refused 8 (of_line line.Run) []
 unfolding parsed digits encode_with
 runs_past_the_count = refl
 
-run_of_none : runs_behind (codes "0 2\n") ≡ refused 8 (of_line line.Number) []
+run_of_none : runs_after (codes "0 2\n") ≡ refused 8 (of_line line.Number) []
 unfolding parsed digits encode_with
 run_of_none = refl
 
-run_without_value : runs_behind (codes "2\n") ≡ refused 8 (of_line line.Field) []
+run_without_value : runs_after (codes "2\n") ≡ refused 8 (of_line line.Field) []
 unfolding parsed digits encode_with
 run_without_value = refl
 
-number_before_run : runs_behind (codes "4 65536\n") ≡ refused 8 (of_line line.Number) []
+number_before_run : runs_after (codes "4 65536\n") ≡ refused 8 (of_line line.Number) []
 unfolding parsed digits encode_with
 number_before_run = refl
 
-shorter_runs : runs_behind (codes "1 2\n1 2\n1 4\nsub a 1\nvalues 2\n2 0\n") ≡ good knvk_dump 13 []
+shorter_runs : runs_after (codes "1 2\n1 2\n1 4\nsub a 1\nvalues 2\n2 0\n") ≡ good knvk_dump 13 []
 unfolding parsed digits encode_with
 shorter_runs = refl
 
@@ -175,9 +175,9 @@ another_length : read (runs_front ++ part ++ codes "sub a 0\nvalues 922337203685
 unfolding parsed digits encode_with
 another_length = refl
 
-parts_that_do_not_stand : verdict (dump_with no_sizes) 0 (runs_front ++ part ++ codes "sub a 0\nvalues 3\n") ≡ refused 6 (of_plan plan.Order) (codes "values 3\n")
+parts_that_are_not_valid : verdict (dump_with no_sizes) 0 (runs_front ++ part ++ codes "sub a 0\nvalues 3\n") ≡ refused 6 (of_plan plan.Order) (codes "values 3\n")
 unfolding parsed digits encode_with
-parts_that_do_not_stand = refl
+parts_that_are_not_valid = refl
 
 sub_line_before_parts : verdict (dump_with no_sizes) 0 (runs_front ++ part ++ codes "sub a 1\n") ≡ refused 6 (of_line line.Field) []
 unfolding parsed digits encode_with
@@ -301,8 +301,8 @@ list_of_256_bytes = refl
 twice_in_five : pair_count 1 1 (1 ∷ 1 ∷ 1 ∷ 1 ∷ 1 ∷ []) ≡ 2
 twice_in_five = refl
 
-once_behind_another : pair_count 1 2 (1 ∷ 1 ∷ 2 ∷ 2 ∷ []) ≡ 1
-once_behind_another = refl
+once_after_another : pair_count 1 2 (1 ∷ 1 ∷ 2 ∷ 2 ∷ []) ≡ 1
+once_after_another = refl
 
 replaced_in_five : replaced 1 1 9 (1 ∷ 1 ∷ 1 ∷ 1 ∷ 1 ∷ []) ≡ 9 ∷ 9 ∷ 1 ∷ []
 replaced_in_five = refl

@@ -10,7 +10,7 @@ use Rattle.szg_count.specs.Groups.{runs_of, counted, order_fault, groups_of, lea
 use Rattle.szg_file.specs.Contents.{Part, Slot, slots, Contents, constant}
 use Rattle.szg_file.specs.Values.{slotted, values_of}
 use Rattle.szg_build.specs.declared.BuildFault.TheVariants as fault
-use Rattle.szg_build.specs.Plan.{sizes_told, fault_for, build_fault}
+use Rattle.szg_build.specs.Plan.{sizes_if_valid, fault_for, build_fault}
 use Rattle.szg_build.specs.Built.{IsBuilt}
 use Rattle.szg_build.proofs.Rows.{knvk, kqvk, knvk_plan, last_bytes}
 
@@ -26,40 +26,40 @@ kpvkp = record { first = King ∷ Pawn ∷ []; second = King ∷ Pawn ∷ [] }
 abbrev part_with : List ℕ → List ℕ → Part
 part_with order men = record { order = order; men = men }
 
-parts_tell_sizes : sizes_told knvk Wdl knvk_plan.parts ≡ Some (31332 ∷ 31332 ∷ [])
-unfolding sizes_told order_fault groups_of runs_of size_of counted lead_sets group_ways factors_of lead_ways triples triples_from diagonal below_diagonal lists_by squares
-parts_tell_sizes = refl
+sizes_by_parts : sizes_if_valid knvk Wdl knvk_plan.parts ≡ Some (31332 ∷ 31332 ∷ [])
+unfolding sizes_if_valid order_fault groups_of runs_of size_of counted lead_sets group_ways factors_of lead_ways triples triples_from diagonal below_diagonal lists_by squares
+sizes_by_parts = refl
 
-one_side_of_distances : sizes_told kqvk Dtz (part_with (0 ∷ []) (6 ∷ 5 ∷ 14 ∷ []) ∷ []) ≡ Some (31332 ∷ [])
-unfolding sizes_told order_fault groups_of runs_of size_of counted lead_sets group_ways factors_of lead_ways triples triples_from diagonal below_diagonal lists_by squares
+one_side_of_distances : sizes_if_valid kqvk Dtz (part_with (0 ∷ []) (6 ∷ 5 ∷ 14 ∷ []) ∷ []) ≡ Some (31332 ∷ [])
+unfolding sizes_if_valid order_fault groups_of runs_of size_of counted lead_sets group_ways factors_of lead_ways triples triples_from diagonal below_diagonal lists_by squares
 one_side_of_distances = refl
 
-four_parts : sizes_told kpvk Dtz (replicate 4 (part_with (0 ∷ []) (1 ∷ 6 ∷ 14 ∷ []))) ≡ Some (23436 ∷ 23436 ∷ 23436 ∷ 23436 ∷ [])
-unfolding sizes_told order_fault groups_of runs_of size_of counted lead_sets group_ways factors_of lead_ways lead_pawn_sets pawn_order after lists_by squares sets_of numbers_below
+four_parts : sizes_if_valid kpvk Dtz (replicate 4 (part_with (0 ∷ []) (1 ∷ 6 ∷ 14 ∷ []))) ≡ Some (23436 ∷ 23436 ∷ 23436 ∷ 23436 ∷ [])
+unfolding sizes_if_valid order_fault groups_of runs_of size_of counted lead_sets group_ways factors_of lead_ways lead_pawn_sets pawn_order after lists_by squares sets_of numbers_below
 four_parts = refl
 
-two_kings_lead : sizes_told kbbvk Wdl (part_with (0x10 ∷ []) (0x66 ∷ 0xEE ∷ 0x33 ∷ 0x33 ∷ []) ∷ []) ≡ Some (873642 ∷ 873642 ∷ [])
-unfolding sizes_told order_fault groups_of runs_of size_of counted lead_sets group_ways factors_of lead_ways king_pairs lists_by squares sets_of numbers_below
+two_kings_lead : sizes_if_valid kbbvk Wdl (part_with (0x10 ∷ []) (0x66 ∷ 0xEE ∷ 0x33 ∷ 0x33 ∷ []) ∷ []) ≡ Some (873642 ∷ 873642 ∷ [])
+unfolding sizes_if_valid order_fault groups_of runs_of size_of counted lead_sets group_ways factors_of lead_ways king_pairs lists_by squares sets_of numbers_below
 two_kings_lead = refl
 
-two_order_bytes : sizes_told kpvkp Wdl (replicate 4 (part_with (0 ∷ 1 ∷ []) (1 ∷ 9 ∷ 6 ∷ 14 ∷ []))) ≡ Some (1066524 ∷ 1066524 ∷ 1066524 ∷ 1066524 ∷ [])
-unfolding sizes_told order_fault groups_of runs_of size_of counted lead_sets group_ways factors_of lead_ways lead_pawn_sets pawn_order after lists_by squares sets_of numbers_below
+two_order_bytes : sizes_if_valid kpvkp Wdl (replicate 4 (part_with (0 ∷ 1 ∷ []) (1 ∷ 9 ∷ 6 ∷ 14 ∷ []))) ≡ Some (1066524 ∷ 1066524 ∷ 1066524 ∷ 1066524 ∷ [])
+unfolding sizes_if_valid order_fault groups_of runs_of size_of counted lead_sets group_ways factors_of lead_ways lead_pawn_sets pawn_order after lists_by squares sets_of numbers_below
 two_order_bytes = refl
 
-a_place_that_is_none : sizes_told knvk Wdl (part_with (1 ∷ []) (0x66 ∷ 0x22 ∷ 0xEE ∷ []) ∷ []) ≡ None
-unfolding sizes_told order_fault groups_of runs_of
+a_place_that_is_none : sizes_if_valid knvk Wdl (part_with (1 ∷ []) (0x66 ∷ 0x22 ∷ 0xEE ∷ []) ∷ []) ≡ None
+unfolding sizes_if_valid order_fault groups_of runs_of
 a_place_that_is_none = refl
 
-men_of_another_name : sizes_told knvk Wdl (part_with (0 ∷ []) (0x66 ∷ 0x33 ∷ 0xEE ∷ []) ∷ []) ≡ None
-unfolding sizes_told order_fault groups_of runs_of
+men_of_another_name : sizes_if_valid knvk Wdl (part_with (0 ∷ []) (0x66 ∷ 0x33 ∷ 0xEE ∷ []) ∷ []) ≡ None
+unfolding sizes_if_valid order_fault groups_of runs_of
 men_of_another_name = refl
 
-one_order_byte_too_few : sizes_told kpvkp Wdl (replicate 4 (part_with (0 ∷ []) (1 ∷ 9 ∷ 6 ∷ 14 ∷ []))) ≡ None
-unfolding sizes_told order_fault groups_of runs_of
+one_order_byte_too_few : sizes_if_valid kpvkp Wdl (replicate 4 (part_with (0 ∷ []) (1 ∷ 9 ∷ 6 ∷ 14 ∷ []))) ≡ None
+unfolding sizes_if_valid order_fault groups_of runs_of
 one_order_byte_too_few = refl
 
-no_parts : sizes_told knvk Wdl [] ≡ None
-unfolding sizes_told
+no_parts : sizes_if_valid knvk Wdl [] ≡ None
+unfolding sizes_if_valid
 no_parts = refl
 
 -- ---- a built table: KNvK, all draws
@@ -69,7 +69,7 @@ draws = replicate 31332 2 ∷ replicate 31332 2 ∷ []
 
 -- parts that are not valid are refused before anything else
 order_before_bits : build_fault (record knvk_plan { parts = []; block_bits = 4 }) draws ≡ Some fault.Order
-unfolding build_fault fault_for sizes_told
+unfolding build_fault fault_for sizes_if_valid
 order_before_bits = refl
 
 abbrev knvk_table : Contents

@@ -51,7 +51,7 @@ pub record AreMarks (values : List ℕ) (marks : List Bool) : Type 0 where
   pub count : length marks ≡ 4096
   pub each : (value : ℕ) → value < 4096 → slice_index_or marks value false ≡ list_any (λ v. v == value) values
 
--- for each value up to 4,095, the number of its symbol: how many smaller values the list has
+-- for each value up to 4,095, the number of its symbol: how many different smaller values the list has
 pub record AreNumbered (values numbers : List ℕ) : Type 0 where
   pub count : length numbers ≡ 4096
   pub each : (value : ℕ) → value < 4096 → slice_index numbers value ≡ length (values_below value values)
@@ -90,7 +90,7 @@ pub record IsChosen (count : ℕ) (code : CanonicalCode) : Type 0 where
 
 -- ---- blocks
 
--- whole bytes, four at a time, and fewer than 32 bits that are not bytes yet
+-- whole bytes, a multiple of four, and fewer than 32 bits that are not stored as bytes yet
 pub record IsWaiting (bytes : List ℕ) (count waiting : ℕ) : Type 0 where
   pub few : count < 32
   pub small : waiting < 2 ^ count
@@ -123,7 +123,7 @@ pub record IsBlockOf (block_bits : ℕ) (words : List Bool) (block : List ℕ) :
   pub joined : bits block ≡ words ++ rest
 
 -- Symbols fill whole blocks and begin another one. `words` are the bits of the words in that other block, and `values`
--- is the number of values of these words. The whole blocks have at least four symbols a block on average.
+-- is the number of values of their symbols. The whole blocks have at least four symbols a block on average.
 pub record IsFilling (code : CanonicalCode) (entries : List (List ℕ)) (block_bits : ℕ) (symbols lengths packed : List ℕ) (words : List Bool) (values : ℕ) : Type 0 where
   pub lists : List (List ℕ)
   pub current : List ℕ
@@ -131,7 +131,7 @@ pub record IsFilling (code : CanonicalCode) (entries : List (List ℕ)) (block_b
   pub filled : AreFilled (blocks_layout block_bits code entries (length lengths) lengths) packed 0 lists
   pub whole : length packed ≡ length lengths * 2 ^ block_bits
   pub written : Appended code current [] words
-  pub told : values ≡ length (values_of entries current)
+  pub stated : values ≡ length (values_of entries current)
   pub fits : length words ≤ 8 * 2 ^ block_bits
   pub most : values ≤ 65536
   pub short_words : length words ≤ 32 * length current
@@ -237,7 +237,7 @@ pub record IsByRule (kind : Kind) (values : List ℕ) (choice : Choice) (subtabl
 -- A subtable built from a list of values: it passes the checks of a file, it expands to the values, its flags byte
 -- has these flags, it is packed as chosen if it is not constant, and it follows the builder's rule.
 pub record IsBuiltSub (kind : Kind) (flags : ℕ) (values : List ℕ) (choice : Choice) (subtable : Subtable) : Type 0 where
-  pub stands : (slot : Slot) → slot.size ≡ length values → IsSubtable slot subtable
+  pub is_valid : (slot : Slot) → slot.size ≡ length values → IsSubtable slot subtable
   pub expands : values_in kind (length values) subtable ≡ values
   pub flags_kept : flags_of subtable ≡ flags_byte flags subtable
   pub packed : IfSome (layout_in subtable) (λ layout. IsPackedBy choice layout (packed_in subtable) (length values))

@@ -14,16 +14,16 @@ pub record ToBuild : Type 0 where
   pub dump : Dump
   pub choice : Choice
 
--- the numbers; those of a small table do not matter
+-- the numbers of a choice; those of a small table do not matter
 abbrev pub numbers_in : Choice → Packing
 numbers_in (Fixed packing) = packing
 numbers_in Small = record { block_bits = 5; span_bits = 1; rounds = 0 }
 
--- the plan
+-- the plan from which a dump's table is built by a choice
 abbrev pub plan_by : Choice → Dump → Plan
 plan_by choice dump = dump_plan dump (numbers_in choice).block_bits (numbers_in choice).span_bits (numbers_in choice).rounds
 
--- the table
+-- a table built from a dump, packed as chosen
 abbrev pub IsBuiltAs : Choice → Dump → Contents → Type 0
 IsBuiltAs (Fixed packing) dump t = IsBuilt (plan_by (Fixed packing) dump) dump.lists t
 IsBuiltAs Small dump t = IsBuiltSmall (plan_by Small dump) dump.lists t

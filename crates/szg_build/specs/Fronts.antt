@@ -3,7 +3,7 @@ use Rattle.std.specs.Prelude.{◌≡◌, ◌⊎◌, ℕ, suc, ◌==◌, false, L
 use Rattle.std.specs.Fmt.{decimal}
 use Rattle.std.specs.List.{list_any}
 use Rattle.szg_io.specs.declared.device.Input.{Ghosts}
-use Rattle.szg_build.specs.declared.incoming.Incoming.{Incoming}
+use Rattle.szg_build.specs.declared.reading.incoming.Incoming.{Incoming}
 use Rattle.szg_build.specs.declared.dump.DumpFault.{DumpFault}
 use Rattle.szg_build.specs.declared.dump.DumpReadFault.{DumpReadFault}
 use Rattle.szg_build.specs.declared.dump.DumpReadFault.TheVariants.{Line}
@@ -48,20 +48,20 @@ pub record IsPair (pattern : List Word) (front middle : List ℕ) : Type 0 where
   pub text : (first second : List ℕ) → spaced (filled pattern (first ∷ second ∷ [])) ≡ front ++ (first ++ 32 ∷ (middle ++ second))
 
 -- the lines that are expected after a line with these words
-abbrev pub said : {A : Type 0} → Lines A → List (List ℕ) → Lines A
-said (line next) words = next words
-said (means a) words = means a
-said (refuses why) words = refuses why
+abbrev pub lines_after : {A : Type 0} → Lines A → List (List ℕ) → Lines A
+lines_after (line next) words = next words
+lines_after (means a) words = means a
+lines_after (refuses why) words = refuses why
 
 -- the result of parsing a line, with the line's number in the error
 abbrev pub in_line : {X : Type 0} → ℕ → Result X DumpFault → Result X DumpReadFault
 in_line number (Ok x) = Ok x
 in_line number (Err fault) = Err (Line number fault)
 
--- A line was read, and the result is what `tells` says of its text; or no line was read.
-abbrev pub TellsLine : {T R : Type 0} → (List ℕ → Result T DumpFault → Type 0) → Incoming → Incoming → Ghosts R → R → R → Result T DumpReadFault → Type 0
-TellsLine {T = T} tells old new dev input input' result =
-    ((text : List ℕ) × (told : Result T DumpFault) × tells text told × ReadsLines (line means) words_of old new dev input input' (Ok text) × (result ≡ in_line new.line told))
+-- A line was read, and the result is the one to which `parses` relates its text; or no line was read.
+abbrev pub ParsesLine : {T R : Type 0} → (List ℕ → Result T DumpFault → Type 0) → Incoming → Incoming → Ghosts R → R → R → Result T DumpReadFault → Type 0
+ParsesLine {T = T} parses old new dev input input' result =
+    ((text : List ℕ) × (stated : Result T DumpFault) × parses text stated × ReadsLines (line means) words_of old new dev input input' (Ok text) × (result ≡ in_line new.line stated))
     ⊎ ((fault : DumpReadFault) × ReadsLines (line means) words_of old new dev input input' (Err fault) × (result ≡ Err fault))
 
 -- the line that names a subtable

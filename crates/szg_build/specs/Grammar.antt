@@ -12,8 +12,8 @@ use Rattle.szg_build.specs.declared.dump.DumpFault.{DumpFault}
 use Rattle.szg_build.specs.declared.dump.DumpFault.TheVariants.{Version, Field, Number, Hex, Name, Run}
 use Rattle.szg_build.specs.declared.BuildFault.{BuildFault}
 use Rattle.szg_build.specs.declared.BuildFault.TheVariants as plan
-use Rattle.szg_build.specs.Plan.{sizes_told}
-use Rattle.szg_build.specs.Dump.{Dump, SubDump, parts_of, places_of, dump_of_subs}
+use Rattle.szg_build.specs.Plan.{sizes_if_valid}
+use Rattle.szg_build.specs.Dump.{Dump, SubDump, parts_of, subtable_ids_of, dump_of_subs}
 use Rattle.szg_build.specs.Text.{Form, single, runs, kind_word, part_word}
 use Rattle.szg_build.specs.Lines.{Lines, means, refuses, line, of_line, of_plan, ◌>>=◌, ◌>>◌}
 
@@ -27,7 +27,7 @@ number_in limit word = if bytes_eq (decimal (digits_value 10 word)) word && nat_
 abbrev pub digit_number : ℕ → ℕ
 digit_number digit = if nat_lt digit 97 then digit - 48 else digit - 87
 
--- each two digits make a byte
+-- every two digits make one byte
 abbrev pub digit_bytes : List ℕ → List ℕ
 digit_bytes (high ∷ low ∷ digits) = (16 * digit_number high + digit_number low) ∷ digit_bytes digits
 digit_bytes _ = []
@@ -126,7 +126,7 @@ kind_line = do
 abbrev pub bytes_of_length : ℕ → List ℕ → Option (List ℕ)
 bytes_of_length count bytes = if length bytes == count then Some bytes else None
 
--- sixteen bytes
+-- the line `end`, which has sixteen bytes
 abbrev pub end_line : Lines (List ℕ)
 end_line = do
   values ← line_of (fixed (codes "end") ∷ value ∷ [])
@@ -162,13 +162,13 @@ abbrev pub flags_line : Kind → Lines ℕ
 flags_line Wdl = means 0
 flags_line Dtz = number_line (fixed (codes "flags") ∷ value ∷ []) 31
 
--- a number that isn't 0
+-- a number that is not 0
 abbrev pub positive : Option ℕ → Option ℕ
 positive None = None
 positive (Some zero) = None
 positive (Some (suc more)) = Some (suc more)
 
--- a run is parsed first, and then compared with the number of values left
+-- a run, if it is no longer than the number of values left; this is checked after both its words are parsed
 abbrev pub fitting_run : ℕ → ℕ × ℕ → Option (ℕ × ℕ)
 fitting_run left run = if nat_le run.0 left then Some run else None
 
@@ -208,8 +208,8 @@ length_check single sizes s count = means tt
 length_check runs None s count = means tt
 length_check runs (Some sizes) s count = demand (slice_index sizes s == count) (plan.Length s)
 
-abbrev pub sub_text : Form → Kind → Option (List ℕ) → ℕ → ℕ × ℕ → Lines SubDump
-sub_text form kind sizes s place = do
+abbrev pub subtable_format : Form → Kind → Option (List ℕ) → ℕ → ℕ × ℕ → Lines SubDump
+subtable_format form kind sizes s place = do
   line_of (fixed (codes "sub") ∷ fixed (part_word place.0) ∷ fixed (decimal place.1) ∷ [])
   order_check form sizes
   flags ← flags_line kind
@@ -220,11 +220,11 @@ sub_text form kind sizes s place = do
   means (record { flags = flags; lists = lists; values = values })
 
 -- the subtables from the s-th on
-abbrev pub subs_text : Form → Kind → Option (List ℕ) → ℕ → List (ℕ × ℕ) → Lines (List SubDump)
-subs_text form kind sizes s [] = means []
-subs_text form kind sizes s (place ∷ places) = do
-  sub ← sub_text form kind sizes s place
-  subs ← subs_text form kind sizes (suc s) places
+abbrev pub subtables_format : Form → Kind → Option (List ℕ) → ℕ → List (ℕ × ℕ) → Lines (List SubDump)
+subtables_format form kind sizes s [] = means []
+subtables_format form kind sizes s (place ∷ places) = do
+  sub ← subtable_format form kind sizes s place
+  subs ← subtables_format form kind sizes (suc s) places
   means (sub ∷ subs)
 
 -- ---- the whole text
@@ -237,8 +237,8 @@ dump_with sizes = do
   kind ← kind_line
   last ← end_line
   parts ← each part_line (parts_of material)
-  subs ← subs_text form kind (sizes material kind parts) 0 (places_of material kind)
+  subs ← subtables_format form kind (sizes material kind parts) 0 (subtable_ids_of material kind)
   means (dump_of_subs material kind parts last subs)
 
 unfoldable pub dump_format : Lines Dump
-dump_format = dump_with sizes_told
+dump_format = dump_with sizes_if_valid

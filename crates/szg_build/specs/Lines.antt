@@ -27,16 +27,16 @@ pub data FirstLine : Type 0 where
   -- the bytes end before 0A
   unended : FirstLine
 
-abbrev pub behind : ℕ → FirstLine → FirstLine
-behind byte (whole text rest) = whole (byte ∷ text) rest
-behind byte (long rest) = long rest
-behind byte unended = unended
+abbrev pub following : ℕ → FirstLine → FirstLine
+following byte (whole text rest) = whole (byte ∷ text) rest
+following byte (long rest) = long rest
+following byte unended = unended
 
 -- the first line, with room for `room` bytes before 0A
 abbrev pub first_line : ℕ → List ℕ → FirstLine
 first_line room [] = unended
 first_line zero (byte ∷ bytes) = elim (byte == 10) [ true ↦ whole [] bytes | false ↦ long bytes ]
-first_line (suc room) (byte ∷ bytes) = elim (byte == 10) [ true ↦ whole [] bytes | false ↦ behind byte (first_line room bytes) ]
+first_line (suc room) (byte ∷ bytes) = elim (byte == 10) [ true ↦ whole [] bytes | false ↦ following byte (first_line room bytes) ]
 
 -- a line has at most 80 bytes before 0A
 abbrev pub line_room : ℕ

@@ -1,16 +1,16 @@
 -- The subtables of a dump while it is read: their values, or subtables that are packed already.
-use Rattle.std.specs.Prelude.{◌≡◌, ◌⊎◌, ℕ, List, [], ◌∷◌, ◌++◌, length, map, option_map, replicate}
+use Rattle.std.specs.Prelude.{◌≡◌, ◌⊎◌, ℕ, List, [], ◌∷◌, ◌++◌, ◌<◌, length, map, option_map, replicate}
 use Rattle.std.specs.List.{AllByRecursion}
 use Rattle.szg_values.specs.declared.Kind.{Kind}
 use Rattle.szg_values.specs.declared.Kind.TheVariants.{Wdl, Dtz}
 use Rattle.szg_file.specs.Held.{map_of, part_of, subtable_of}
 use Rattle.szg_file.specs.Values.{values_in}
 use Rattle.szg_build.specs.declared.building.Choice.{Choice}
-use Rattle.szg_build.specs.declared.packing.PackedSub.{PackedSub}
-use Rattle.szg_build.specs.declared.gathering.Subs.{Subs}
-use Rattle.szg_build.specs.declared.gathering.Gathered.{Gathered}
-use Rattle.szg_build.specs.declared.values.Values.{Values}
-use Rattle.szg_build.specs.declared.values.Values.TheVariants.{Run, Listed}
+use Rattle.szg_build.specs.declared.reading.packing.PackedSub.{PackedSub}
+use Rattle.szg_build.specs.declared.reading.gathering.Subs.{Subs}
+use Rattle.szg_build.specs.declared.reading.gathering.Gathered.{Gathered}
+use Rattle.szg_build.specs.declared.reading.values.Values.{Values}
+use Rattle.szg_build.specs.declared.reading.values.Values.TheVariants.{Run, Listed}
 use Rattle.szg_build.specs.Building.{IsBuiltSub}
 use Rattle.szg_build.specs.Dump.{Dump}
 use Rattle.szg_build.specs.Tabling.{IsBuildable}
@@ -41,6 +41,7 @@ pub record IsPackedSub (kind : Kind) (choice : Choice) (packed : PackedSub) : Ty
   pub built : IsBuiltSub kind packed.flags (packed_values kind packed) choice (subtable_of packed.sub)
   pub fits : IsBuildable kind (packed_values kind packed)
   pub size : length (packed_values kind packed) ≡ packed.size
+  pub small : packed.flags < 32
 
 -- a packed subtable with these flags and values
 pub record IsPackedAs (kind : Kind) (choice : Choice) (flags : ℕ) (values : List ℕ) (packed : PackedSub) : Type 0 where
@@ -63,9 +64,15 @@ pub record ArePacked (kind : Kind) (choice : Choice) (subs : Subs) : Type 0 wher
   pub each : AllByRecursion (IsPackedSub kind choice) subs.packed.items
   pub flags : subs.rest.items ≡ [] → AreFlagsOf kind subs.packed.items subs.flags.items
 
+-- the same subtables, some of them packed again
+pub record IsSettled (kind : Kind) (choice : Choice) (old new : List PackedSub) : Type 0 where
+  pub each : AllByRecursion (IsPackedSub kind choice) new
+  pub values : map (packed_values kind) new ≡ map (packed_values kind) old
+  pub flags : map (λ p. p.flags) new ≡ map (λ p. p.flags) old
+
 -- ---- a subtable is added
 
--- it is packed, as all before it are
+-- the added subtable is packed, as all before it are
 pub record IsPackedOn (kind : Kind) (choice : Choice) (flags : ℕ) (values : List ℕ) (old new : Subs) : Type 0 where
   pub packed : PackedSub
   pub good : IsPackedAs kind choice flags values packed
@@ -73,12 +80,12 @@ pub record IsPackedOn (kind : Kind) (choice : Choice) (flags : ℕ) (values : Li
   pub rest : new.rest ≡ old.rest
   pub more : new.packed.items ≡ old.packed.items ++ packed ∷ []
 
--- it is listed
+-- the values of the added subtable are listed
 pub record IsListedOn (values : List ℕ) (old new : Subs) : Type 0 where
   pub packed : new.packed ≡ old.packed
   pub more : map (λ list. list.items) new.rest.items ≡ map (λ list. list.items) old.rest.items ++ values ∷ []
 
--- values are added, and nothing else
+-- the values of a subtable are added, and its flags and map are not added yet
 pub record IsAdded (kind : Kind) (choice : Choice) (flags : ℕ) (values : List ℕ) (old new : Subs) : Type 0 where
   pub same_flags : new.flags ≡ old.flags
   pub same_maps : new.maps ≡ old.maps
@@ -86,8 +93,8 @@ pub record IsAdded (kind : Kind) (choice : Choice) (flags : ℕ) (values : List 
 
 -- ---- the content of a dump
 
-abbrev pub gathered_told : Gathered → Dump
-gathered_told gathered = record {
+abbrev pub gathered_dump : Gathered → Dump
+gathered_dump gathered = record {
   material = gathered.front.material;
   kind = gathered.front.kind;
   parts = map part_of gathered.front.parts.items;

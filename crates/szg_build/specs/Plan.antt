@@ -36,8 +36,8 @@ has_parts material kind parts =
     && list_all (is_part material kind) parts
 
 -- the sizes of the subtables, in their order, if the parts are valid
-unfoldable pub sizes_told : Sides → Kind → List Part → Option (List ℕ)
-sizes_told material kind parts =
+unfoldable pub sizes_if_valid : Sides → Kind → List Part → Option (List ℕ)
+sizes_if_valid material kind parts =
     if has_parts material kind parts then Some (map (λ slot. slot.size) (slots material kind parts)) else None
 
 -- ---- the values
@@ -110,4 +110,4 @@ fault_for (Some sizes) plan lists = first_fault (
     ∷ [])
 
 unfoldable pub build_fault : Plan → List (List ℕ) → Option BuildFault
-build_fault plan lists = fault_for (sizes_told plan.material plan.kind plan.parts) plan lists
+build_fault plan lists = fault_for (sizes_if_valid plan.material plan.kind plan.parts) plan lists

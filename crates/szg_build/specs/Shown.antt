@@ -10,7 +10,7 @@ use Rattle.szg_build.specs.declared.dump.Dump.{Dump}
 use Rattle.szg_build.specs.declared.dump.DumpReadFault.{DumpReadFault}
 use Rattle.szg_build.specs.declared.dump.DumpReadFault.TheVariants.{Line, Build, Device, Memory}
 use Rattle.szg_build.specs.Plan as seen
-use Rattle.szg_build.specs.Dump as told
+use Rattle.szg_build.specs.Dump as stated
 use Rattle.szg_build.specs.Text.{Form, single, runs}
 use Rattle.szg_build.specs.Reading.{IsLineFault, IsPlanFault, EndsWith}
 use Rattle.szg_build.specs.Lines.{Verdict, good}
@@ -42,7 +42,7 @@ small_seen plan = record {
   last = plan.last;
 }
 
-abbrev pub dump_seen : Dump → told.Dump
+abbrev pub dump_seen : Dump → stated.Dump
 dump_seen dump = record {
   material = dump.material;
   kind = dump.kind;
@@ -59,7 +59,7 @@ form_of number = if number == 2 then runs else single
 
 -- The result agrees with `v`, the verdict on the bytes to come. If a dump was read, the bytes after it are still to
 -- come.
-abbrev pub FollowsLines : {X : Type 0} → (X → told.Dump) → Verdict told.Dump → Result X DumpReadFault → Option (List ℕ) → Type 0
+abbrev pub FollowsLines : {X : Type 0} → (X → stated.Dump) → Verdict stated.Dump → Result X DumpReadFault → Option (List ℕ) → Type 0
 FollowsLines view v (Ok dump) coming = (lines : ℕ) × (rest : List ℕ) × (v ≡ good (view dump) lines rest) × (coming ≡ Some rest)
 FollowsLines view v (Err (Line number fault)) coming = IsLineFault v number fault
 FollowsLines view v (Err (Build fault)) coming = IsPlanFault v fault
@@ -67,7 +67,7 @@ FollowsLines view v (Err Device) coming = Unit {0}
 FollowsLines view v (Err Memory) coming = Unit {0}
 
 -- The result is the verdict on the bytes that were read. If a dump was read, they are its text and nothing more.
-abbrev pub TookLines : {X : Type 0} → (X → told.Dump) → Verdict told.Dump → Result X DumpReadFault → Option (List ℕ) → Type 0
+abbrev pub TookLines : {X : Type 0} → (X → stated.Dump) → Verdict stated.Dump → Result X DumpReadFault → Option (List ℕ) → Type 0
 TookLines view v (Ok dump) coming = (lines : ℕ) × (v ≡ good (view dump) lines [])
 TookLines view v (Err (Line number fault)) coming = IsLineFault v number fault × EndsWith v coming
 TookLines view v (Err (Build fault)) coming = IsPlanFault v fault
@@ -77,8 +77,8 @@ TookLines view v (Err Memory) coming = Unit {0}
 -- ---- the subtables of a dump, by their numbers
 
 -- the content of a dump, subtable by subtable
-abbrev pub subs_seen : Dump → List told.SubDump
-subs_seen dump = told.subs_of dump.kind dump.flags.items (map (option_map map_of) dump.maps.items) (map (λ list. list.items) dump.lists.items)
+abbrev pub subs_seen : Dump → List stated.SubDump
+subs_seen dump = stated.subs_of dump.kind dump.flags.items (map (option_map map_of) dump.maps.items) (map (λ list. list.items) dump.lists.items)
 
 abbrev pub count_at : Kind → ℕ → ℕ → ℕ → ℕ
 count_at Wdl flags maps lists = lists
@@ -88,10 +88,10 @@ count_at Dtz flags maps lists = min (min flags maps) lists
 abbrev pub sub_count : Dump → ℕ
 sub_count dump = count_at dump.kind (length dump.flags.items) (length dump.maps.items) (length dump.lists.items)
 
-abbrev pub sub_at : Kind → List ℕ → List (Option held.Map) → List (List ℕ) → ℕ → told.SubDump
+abbrev pub sub_at : Kind → List ℕ → List (Option held.Map) → List (List ℕ) → ℕ → stated.SubDump
 sub_at Wdl flags maps lists s = record { flags = 0; lists = None; values = get_or lists s [] }
 sub_at Dtz flags maps lists s = record { flags = get_or flags s 0; lists = get_or maps s None; values = get_or lists s [] }
 
 -- subtable s, if it exists
-abbrev pub sub_in : Dump → ℕ → told.SubDump
+abbrev pub sub_in : Dump → ℕ → stated.SubDump
 sub_in dump s = sub_at dump.kind dump.flags.items (map (option_map map_of) dump.maps.items) (map (λ list. list.items) dump.lists.items) s

@@ -4,8 +4,8 @@ use Rattle.std.specs.List.{flat_map}
 use Rattle.szg_file.specs.Contents.{Contents}
 use Rattle.szg_file.specs.Values.{values_of}
 use Rattle.szg_build.specs.Built.{subtables_in}
-use Rattle.szg_build.specs.declared.stored.StoredValues.{StoredValues}
-use Rattle.szg_build.specs.declared.stored.StoredValues.TheVariants.{Same, Blocks}
+use Rattle.szg_build.specs.declared.writing.stored.StoredValues.{StoredValues}
+use Rattle.szg_build.specs.declared.writing.stored.StoredValues.TheVariants.{Same, Blocks}
 
 -- all values of a subtable
 abbrev pub shown_values : StoredValues → List ℕ

@@ -7,10 +7,10 @@ use Rattle.szg_values.specs.declared.Kind.{Kind}
 use Rattle.szg_values.specs.declared.Kind.TheVariants.{Wdl, Dtz}
 use Rattle.szg_file.specs.Contents.{Map, Slot}
 use Rattle.szg_file.specs.Index.{Index, slots_in}
-use Rattle.szg_build.specs.Dump.{SubDump, places_of}
+use Rattle.szg_build.specs.Dump.{SubDump, subtable_ids_of}
 use Rattle.szg_build.specs.Shown.{form_of}
 use Rattle.szg_build.specs.Text.{Form, flat_map_beside, lines_text, flags_lines, part_word, value_lines}
-use Rattle.szg_build.specs.declared.dump_sink.DumpSink.{DumpSink}
+use Rattle.szg_build.specs.declared.writing.dump_sink.DumpSink.{DumpSink}
 
 -- what a dump says of a subtable before its values: its flags, its map and its number of values. In WDL the flags are 0
 -- and there is no map.
@@ -41,7 +41,7 @@ heads_of x = heads_with x.kind (slots_in x) x.flags x.maps
 
 -- the number of subtables
 abbrev pub head_count : Index → ℕ
-head_count x = min (length (places_of x.material x.kind)) (length (heads_of x))
+head_count x = min (length (subtable_ids_of x.material x.kind)) (length (heads_of x))
 
 -- the lines before a subtable's values
 abbrev pub head_lines : Kind → ℕ × ℕ → SubHead → List (List (List ℕ))
@@ -54,31 +54,32 @@ abbrev pub heads_text : Kind → List (ℕ × ℕ) → List SubHead → List ℕ
 heads_text kind places heads = lines_text (flat_map_beside (head_lines kind) places heads)
 
 -- the text of subtables whose values are these, one after another
-unfoldable pub subs_text : Form → Kind → List (ℕ × ℕ) → List SubHead → List ℕ → List ℕ
-subs_text form kind (place ∷ places) (head ∷ heads) values =
+unfoldable pub subtables_text : Form → Kind → List (ℕ × ℕ) → List SubHead → List ℕ → List ℕ
+subtables_text form kind (place ∷ places) (head ∷ heads) values =
     lines_text (head_lines kind place head)
-    ++ (lines_text (value_lines form (take head.size values)) ++ subs_text form kind places heads (drop head.size values))
-subs_text form kind _ _ values = []
+    ++ (lines_text (value_lines form (take head.size values)) ++ subtables_text form kind places heads (drop head.size values))
+subtables_text form kind _ _ values = []
 
 -- the text that is still to be written: of a run of `count` equal values, of `left` more values of the same subtable,
 -- and of the subtables after it
 unfoldable pub rest_text : Form → Kind → List (ℕ × ℕ) → List SubHead → ℕ → ℕ → ℕ → List ℕ → List ℕ
 rest_text form kind places heads count value left values =
-    lines_text (value_lines form (replicate count value ++ take left values)) ++ subs_text form kind places heads (drop left values)
+    lines_text (value_lines form (replicate count value ++ take left values)) ++ subtables_text form kind places heads (drop left values)
 
 -- the text that a sink has still to write, if these values are all that are to come
 abbrev pub text_left : DumpSink → List ℕ → List ℕ
 text_left s values =
-    rest_text (form_of s.form) s.index.now.kind (drop s.next (places_of s.index.now.material s.index.now.kind)) (drop s.next (heads_of s.index.now)) s.count s.value s.left values
+    rest_text (form_of s.form) s.index.now.kind (drop s.next (subtable_ids_of s.index.now.material s.index.now.kind)) (drop s.next (heads_of s.index.now)) s.count s.value s.left values
 
--- A sink took these values, and no write failed. For any values that follow, the text stays the same: what was buffered
--- or left to write before is what was written meanwhile, and then what is buffered or left to write after.
+-- A sink took these values, and no write failed. For any values that follow, the whole text stays the same: the bytes
+-- buffered before and the text left to write then are the bytes written, the bytes buffered now and the text left to
+-- write now.
 pub record Goes {W : Type 0} (writing : output.Ghosts W) (values : List ℕ) (s : DumpSink) (out : W) (s' : DumpSink) (out' : W) : Type 0 where
   pub bytes : List ℕ
   pub given : Gives writing out out' bytes 0
   pub quiet : writing.failures out' ≡ writing.failures out
   pub whole : (rest : List ℕ) → s.outgoing.held.items ++ text_left s (values ++ rest) ≡ bytes ++ (s'.outgoing.held.items ++ text_left s' rest)
 
--- each subtable is begun, and the last one is whole
+-- the lines before the values of each subtable are written, and the last subtable needs no more values
 abbrev pub IsDone : DumpSink → Type 0
 IsDone s = (s.left ≡ 0) × (head_count s.index.now ≤ s.next)

@@ -74,7 +74,7 @@ pub record IsBuiltBare (choice : Choice) (plan : Plan) (lists : List (List ℕ))
   pub accepted : (fill : List ℕ) → AreBytes (fill_asked t) fill → IsAccepted t fill
 
 -- a plan and its lists have no fault
-pub record Stands (plan : Plan) (lists : List (List ℕ)) : Type 0 where
+pub record HasNoFault (plan : Plan) (lists : List (List ℕ)) : Type 0 where
   pub parts : SideBySide (λ _. IsPart plan.material plan.kind) (part_numbers plan.material) plan.parts
   pub sizes : map (λ slot. slot.size) (slots plan.material plan.kind plan.parts) ≡ map length lists
   pub range : IsInRange plan

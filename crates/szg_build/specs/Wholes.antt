@@ -5,31 +5,31 @@ use Rattle.szg_values.specs.declared.Kind.{Kind}
 use Rattle.szg_values.specs.declared.Kind.TheVariants.{Wdl, Dtz}
 use Rattle.szg_file.specs.Contents.{Part}
 use Rattle.szg_file.specs.Held as held
-use Rattle.szg_build.specs.declared.gathering.Subs.{Subs}
-use Rattle.szg_build.specs.Dump.{Dump, SubDump, parts_of, places_of, flags_in, maps_in, dump_of_subs}
+use Rattle.szg_build.specs.declared.reading.gathering.Subs.{Subs}
+use Rattle.szg_build.specs.Dump.{Dump, SubDump, parts_of, subtable_ids_of, flags_in, maps_in, dump_of_subs}
 use Rattle.szg_build.specs.Packed.{lists_in}
 use Rattle.szg_build.specs.Text.{Form}
-use Rattle.szg_build.specs.Plan.{sizes_told}
+use Rattle.szg_build.specs.Plan.{sizes_if_valid}
 use Rattle.szg_build.specs.Lines.{Lines, means, ◌>>=◌}
-use Rattle.szg_build.specs.Grammar.{each, end_line, part_line, subs_text}
+use Rattle.szg_build.specs.Grammar.{each, end_line, part_line, subtables_format}
 
 -- what is left of a dump after the parts
-abbrev pub dump_behind_parts : Form → Sides → Kind → List ℕ → List Part → Lines Dump
-dump_behind_parts form material kind last parts = do
-  subs ← subs_text form kind (sizes_told material kind parts) 0 (places_of material kind)
+abbrev pub dump_after_parts : Form → Sides → Kind → List ℕ → List Part → Lines Dump
+dump_after_parts form material kind last parts = do
+  subs ← subtables_format form kind (sizes_if_valid material kind parts) 0 (subtable_ids_of material kind)
   means (dump_of_subs material kind parts last subs)
 
 -- what is left of a dump after the kind
-abbrev pub dump_behind_kind : Form → Sides → Kind → Lines Dump
-dump_behind_kind form material kind = do
+abbrev pub dump_after_kind : Form → Sides → Kind → Lines Dump
+dump_after_kind form material kind = do
   last ← end_line
   parts ← each part_line (parts_of material)
-  dump_behind_parts form material kind last parts
+  dump_after_parts form material kind last parts
 
--- in DTZ the list of one item, in WDL the empty list
-abbrev pub told_in : {A : Type 0} → Kind → A → List A
-told_in Wdl item = []
-told_in Dtz item = item ∷ []
+-- a list of one item in DTZ, the empty list in WDL
+abbrev pub only_in_dtz : {A : Type 0} → Kind → A → List A
+only_in_dtz Wdl item = []
+only_in_dtz Dtz item = item ∷ []
 
 -- `subs` has the subtables that were read
 abbrev pub AreSubs : Kind → Subs → List SubDump → Type 0

@@ -1,4 +1,14 @@
 //! Builds a subtable from its values: pairs, words, blocks and the sparse index.
+
+mod bitbuf;
+pub(crate) mod blocks;
+mod coding;
+pub(crate) mod headers;
+mod lengths;
+pub(crate) mod sizing;
+mod sparse;
+pub(crate) mod subtables;
+
 ghost use Rattle.std.specs.Prelude.{ℕ, ◌≡◌, ◌<◌, ◌≤◌, ◌^◌, ◌++◌, false, List, [], length, map, IfOk, OnOk};
 ghost use Rattle.std.specs.List.{AllByRecursion};
 ghost use Rattle.szg_pairs.specs.Dictionary.{IsDictionary};
@@ -8,14 +18,14 @@ ghost use Rattle.szg_build.specs.Building.{IsChosen, IsExtended, IsMadeSmall, Is
 ghost use Rattle.szg_build.specs.Plan.{different_values};
 ghost use Rattle.szg_build.specs.Rule.{HasSpanIndex, HasTruncatedBinary, IsTruncatedBinary};
 
-use crate::accepting::count_pairs_in;
-use crate::blocks::{Cut, fill_blocks};
-use crate::coding::{choose_code, choose_short_code};
-use crate::leaves::Paired;
-use crate::numbering::counts_of;
-use crate::rounds::{pair_shortly, pair_up};
-use crate::sizing::{are_by_use, choose_sizes};
-use crate::sparse::sparse_index;
+use crate::building::blocks::{Cut, fill_blocks};
+use crate::building::coding::{choose_code_by_counts, truncated_binary_code};
+use crate::building::sizing::choose_sizes;
+use crate::building::sparse::sparse_index;
+use crate::pairing::accepting::count_pairs_in;
+use crate::pairing::leaves::Paired;
+use crate::pairing::numbering::counts_of;
+use crate::pairing::rounds::{pair_for_small_table, pair_up};
 use crate::watching::Watcher;
 use std::alloc::{AllocError, Global};
 use szg_block::{Entry, Sub};
@@ -36,9 +46,10 @@ pub struct Packing {
 /// How the packing of subtables is chosen.
 #[derive(Clone, Copy)]
 pub enum Choice {
-    /// These numbers.
+    /// Each subtable is packed with these numbers.
     Fixed(Packing),
-    /// Numbers with which a subtable takes few bytes, chosen by trial.
+    /// Each subtable is packed so that it takes few bytes. Its pairs, its code, its block bits and its span bits are
+    /// chosen by trial.
     Small,
 }
 
@@ -73,29 +84,35 @@ fn push_extra(lengths: &mut Vec<u16>, sparse: &[Entry]) -> Result<u8, AllocError
     Ok(1)
 }
 
-/// Chooses a code for a dictionary's symbols. If `by_use`, it is chosen by the symbols' counts in the text; else its
-/// words have at most two lengths.
-fn code_for(alloc: Global, dict: &Dict, symbols: &[u16], by_use: bool) -> Result<Code, AllocError>
+/// Chooses a code for a dictionary's symbols: if `is_huffman`, a Huffman code by the symbols' counts in the text
+/// `symbols` (the symbols that expand to the values); else the truncated binary code, whose words have at most two
+/// lengths.
+fn code_for(
+    alloc: Global,
+    dict: &Dict,
+    symbols: &[u16],
+    is_huffman: bool,
+) -> Result<Code, AllocError>
     requires some { 1 ≤ length dict.now }
     requires few { length dict.now ≤ 4095 }
     ensures chosen { IfOk result (λ code. IsChosen (length dict.now) code) }
-    ensures rule { by_use ≡ false → IfOk result (λ code. IsTruncatedBinary (length dict.now) code) }
+    ensures rule { is_huffman ≡ false → IfOk result (λ code. IsTruncatedBinary (length dict.now) code) }
 {
-    if by_use {
+    if is_huffman {
         let counts = counts_of(alloc, usize::from(dict.symbols()), symbols)?;
-        return choose_short_code(alloc, &counts);
+        return choose_code_by_counts(alloc, &counts);
     }
-    choose_code(alloc, dict.symbols())
+    truncated_binary_code(alloc, dict.symbols())
 }
 
-/// Builds a subtable that is not constant from values and the pairs made of them.
+/// Builds a subtable with blocks from values and the pairs made of them.
 fn build_paired(
     alloc: Global,
     values: &[u16],
     flags: u8,
     paired: Paired,
     packing: Packing,
-    by_use: bool,
+    is_huffman: bool,
 ) -> Result<Sub, AllocError>
     requires some { 0 < length values.now }
     requires few { length values.now < 2 ^ 33 }
@@ -105,7 +122,7 @@ fn build_paired(
     requires least_span { 1 ≤ packing.span_bits }
     requires most_span { packing.span_bits ≤ 16 }
     ensures made { IfOk result (λ sub. IsMadeSub values.now flags packing.block_bits packing.span_bits packing.rounds (subtable_of sub)) }
-    ensures rule { by_use ≡ false → IfOk result (λ sub. HasTruncatedBinary (subtable_of sub)) }
+    ensures rule { is_huffman ≡ false → IfOk result (λ sub. HasTruncatedBinary (subtable_of sub)) }
     ensures index { IfOk result (λ sub. HasSpanIndex (length values.now) (subtable_of sub)) }
 {
     let Paired {
@@ -114,7 +131,7 @@ fn build_paired(
         ..
     } = paired;
     let dict = dictionary(alloc, entries)?;
-    let code = code_for(alloc, &dict, &symbols, by_use)?;
+    let code = code_for(alloc, &dict, &symbols, is_huffman)?;
     let Cut {
         mut lengths,
         packed,
@@ -136,7 +153,7 @@ fn build_paired(
     })
 }
 
-/// Builds a subtable that is not constant from values.
+/// Builds a subtable with blocks from values.
 pub(crate) fn build_pairs<V: Watcher>(
     alloc: Global,
     values: &[u16],
@@ -161,14 +178,13 @@ pub(crate) fn build_pairs<V: Watcher>(
     build_paired(alloc, values, flags, paired, packing, false)
 }
 
-/// Builds a subtable that is not constant with few bytes: the pairs are those of `pair_shortly`, the code is the
-/// cheaper of a Huffman code and the truncated binary code, and block bits and span bits are those of `choose_sizes`.
-/// `beside` is as in `cost_of`.
-pub(crate) fn build_short_pairs<V: Watcher>(
+/// Builds a subtable with blocks for a small table. Its pairs are those of `pair_for_small_table`. Its block bits, its
+/// span bits and the kind of its code are those of `choose_sizes`. `other_bytes` is as in `choose_sizes`.
+pub(crate) fn build_small_pairs<V: Watcher>(
     alloc: Global,
     values: &[u16],
     flags: u8,
-    beside: Option<u64>,
+    other_bytes: Option<u64>,
     watcher: &mut V,
 ) -> Result<Sub, AllocError>
     requires some { 0 < length values.now }
@@ -178,15 +194,14 @@ pub(crate) fn build_short_pairs<V: Watcher>(
     ensures made { IfOk result (λ sub. IsMadeSmall values.now flags (subtable_of sub)) }
     ensures index { IfOk result (λ sub. HasSpanIndex (length values.now) (subtable_of sub)) }
 {
-    let paired = pair_shortly(alloc, values, beside, watcher)?;
+    let paired = pair_for_small_table(alloc, values, other_bytes, watcher)?;
     let pairs = count_pairs_in(&paired.entries);
     let size = values.len() as u64;
-    let by_use = are_by_use(alloc, size, &paired, beside)?;
-    let sizes = choose_sizes(alloc, size, &paired, beside, by_use)?;
+    let sizes = choose_sizes(alloc, size, &paired, other_bytes)?;
     let packing = Packing {
         block_bits: sizes.block_bits,
         span_bits: sizes.span_bits,
         rounds: pairs as u32,
     };
-    build_paired(alloc, values, flags, paired, packing, by_use)
+    build_paired(alloc, values, flags, paired, packing, sizes.is_huffman)
 }

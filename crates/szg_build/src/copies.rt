@@ -11,23 +11,15 @@ use szg_file::typed::table_fits;
 use szg_file::{Map, PartBytes, Table};
 use szg_values::Kind;
 
-/// Copies a part.
-fn copy_part(alloc: Global, part: &PartBytes) -> Result<PartBytes, AllocError>
-    ensures { IfOk result (λ copy. part_of copy ≡ part_of part.now) }
-{
-    let order = Vec::from_slice(alloc, &part.order)?;
-    let men = Vec::from_slice(alloc, &part.men)?;
-    Ok(PartBytes { order, men })
-}
-
 /// Copies parts.
 pub(crate) fn copy_parts(alloc: Global, parts: &[PartBytes]) -> Result<Vec<PartBytes>, AllocError>
     ensures { IfOk result (λ copies. map part_of copies.items ≡ map part_of parts.now) }
 {
     let mut copies = Vec::new(alloc);
     'parts: for part in parts {
-        let copy = copy_part(alloc, part)?;
-        copies.push(copy)?;
+        let order = Vec::from_slice(alloc, &part.order)?;
+        let men = Vec::from_slice(alloc, &part.men)?;
+        copies.push(PartBytes { order, men })?;
     }
     Ok(copies)
 }
@@ -84,7 +76,7 @@ pub(crate) fn copy_flags(alloc: Global, table: &Table) -> Result<Vec<u8>, AllocE
 }
 
 /// Returns part and side of each subtable of a table.
-pub(crate) fn table_places(table: &Table) -> &'static [(u8, u8)]
+pub(crate) fn table_subtable_ids(table: &Table) -> &'static [(u8, u8)]
     ensures { map Some (subtables_in table.now.contents) ≡ map (λ place. subtable_at table.now.contents place.0 place.1) result.now }
 {
     table_fits(table);
@@ -108,7 +100,7 @@ pub(crate) fn copy_values(alloc: Global, table: &Table) -> Result<Vec<Vec<u16>>,
     ensures { IfOk result (λ lists. map (λ list. list.items) lists.items ≡ value_lists table.now.contents) }
 {
     let mut lists = Vec::new(alloc);
-    'places: for place in table_places(table) {
+    'places: for place in table_subtable_ids(table) {
         let values = table.values(alloc, place.0, place.1)?;
         lists.push(values)?;
     }

@@ -15,7 +15,7 @@ pub struct Dump {
     pub material: Material,
     pub kind: Kind,
     pub parts: Vec<PartBytes>,
-    /// In DTZ one item for each part, in WDL none; likewise in `maps`.
+    /// The flags of each part in DTZ; empty in WDL. Likewise `maps`.
     pub flags: Vec<u8>,
     pub maps: Vec<Option<Map>>,
     pub last: [u8; 16],
@@ -58,7 +58,7 @@ pub enum DumpFault {
     /// The line is not the expected one, it names no kind of table, or it has more than 80 bytes before 0A.
     #[error("Field")]
     Field = 2,
-    /// A word is not a decimal without leading zeros, or exceeds its limit; or a run has length 0.
+    /// A word is no decimal, has leading zeros, or exceeds its limit; or a run has length 0.
     #[error("Number")]
     Number = 3,
     /// A word is not lower-case hexadecimal text of whole bytes; or the line `end` does not have sixteen bytes.

@@ -1,24 +1,24 @@
 //! The items of a dump's lists, each of which is a number.
 ghost use Rattle.std.specs.Prelude.{◌≡◌, ℕ, ◌≤◌};
 
-use crate::saying::GREATEST_ITEM;
+use crate::reading::line_parsing::GREATEST_ITEM;
 
-/// An item of a list: a byte or a value.
+/// An item of a list: a byte, or a number of two bytes (a value of a subtable, or an item of a wide map).
 pub(crate) trait Item: Copy {
     ghost GREATEST: { ℕ };
 
-    /// The greatest number of an item.
+    /// The greatest number that an item of this type can be.
     const GREATEST: u64;
 
-    /// the number of an item
+    /// the number that an item is
     ghost number: { Self → ℕ };
 
-    /// Returns the item with a number.
+    /// Returns the item that is the number `value`.
     fn of(value: u64) -> Self
         requires { value ≤ GREATEST }
         ensures { number result ≡ value };
 
-    /// Returns the number of an item.
+    /// Returns the number that the item is.
     fn number(self) -> u64
         ensures { result ≡ number self };
 }

@@ -36,8 +36,8 @@ pub fn rebuilt_has_same_values()
     ensures { RebuiltHasSameValues }
 {}
 
-/// Bytes that begin with the file of a built table, whatever follows, are read as that table. For each part and
-/// side, the values found in it are the items of the list that was passed for them.
+/// Bytes that begin with the file of a built table, whatever follows, are read as that table. The values of this table
+/// for a part and side are the items of the list that was passed for this part and side.
 pub fn built_is_found()
     ensures { BuiltIsFound }
 {}

@@ -1,74 +1,34 @@
-//! The builder of tables: from values to a table that the reader accepts and that has exactly these values. And
-//! dumps: the text of a table, which a person can read and compare.
+//! Builds tables from values. The reader accepts a built table, and the table has exactly the values that were passed.
+//! Writes and reads dumps: a dump is the text of a table, which a person can read and compare.
 #![tactic(auto)]
 
-mod accepting;
-mod bitbuf;
-mod block_values;
-mod blocks;
 mod building;
-mod cells;
-mod coding;
 mod copies;
-mod costs;
-mod dropping;
 mod dump;
-mod dump_sink;
-mod dumping;
-mod dumpreading;
-mod gathering;
-mod headers;
-mod incoming;
 mod item;
 pub mod laws;
-mod leaves;
-mod lengths;
-mod line;
-mod lines;
-mod neighbours;
-mod numbering;
-mod occurrences;
-mod outgoing;
-mod packed_dump;
-mod packing;
 mod pairing;
 mod places;
-mod proposing;
 mod reading;
 mod refusing;
-mod rounds;
-mod saying;
 mod shrinking;
-mod sizing;
-mod sparse;
-mod spelling;
-mod stored;
-mod streaming;
-mod subreading;
-mod subtables;
 mod table;
-mod table_dump;
-mod tally;
-mod tries;
-mod trimming;
-mod values;
 mod watching;
-mod word;
 mod writing;
 
-pub use block_values::BlockValues;
 pub use building::{Choice, Packing};
 pub use dump::{Dump, DumpFault, DumpReadFault};
-pub use dumping::{StreamFault, stream_dump};
-pub use dumpreading::{read_dump, read_packed};
-pub use packed_dump::PackedDump;
-pub use stored::{StoredValues, stored_values};
+pub use reading::dumpreading::{read_dump, read_packed};
+pub use reading::packed_dump::PackedDump;
 use szg_file::{Map, PartBytes};
 use szg_values::{Kind, Material};
 pub use table::{build, build_small, build_small_watched, build_watched};
-pub use table_dump::{DumpWriteFault, dump_table};
 use thiserror::Error;
 pub use watching::{Unwatched, Watcher};
+pub use writing::block_values::BlockValues;
+pub use writing::dumping::{StreamFault, stream_dump};
+pub use writing::stored::{StoredValues, stored_values};
+pub use writing::table_dump::{DumpWriteFault, dump_table};
 pub use writing::write_dump;
 
 /// What a table is built from, besides its values.
@@ -83,19 +43,20 @@ pub struct Plan {
     pub span_bits: u8,
     /// The greatest number of pairs that a dictionary gets, at most 4,000.
     pub rounds: u32,
-    /// In DTZ one item for each part, in WDL none; likewise in `maps`.
+    /// The flags of each part in DTZ; empty in WDL. Likewise `maps`.
     pub flags: Vec<u8>,
     pub maps: Vec<Option<Map>>,
     pub last: [u8; 16],
 }
 
-/// What a small table is built from, besides its values: a `Plan` without block bits, span bits and rounds.
+/// What a small table is built from, besides its values: a `Plan` without block bits, span bits and rounds. A small
+/// table is one whose packing is chosen by trial, so that it takes few bytes.
 #[derive(Drop)]
 pub struct SmallPlan {
     pub material: Material,
     pub kind: Kind,
     pub parts: Vec<PartBytes>,
-    /// In DTZ one item for each part, in WDL none; likewise in `maps`.
+    /// The flags of each part in DTZ; empty in WDL. Likewise `maps`.
     pub flags: Vec<u8>,
     pub maps: Vec<Option<Map>>,
     pub last: [u8; 16],
@@ -125,9 +86,9 @@ pub enum BuildFault {
     /// The first list with more than 4,095 different values.
     #[error("TooManyValues")]
     TooManyValues(usize),
-    /// In DTZ: the number of flags or of maps is not the number of parts; or flags are above 31; or a map is missing
-    /// with flag 2, or is there without it; or a map is wide without flag 16, or not wide with it; or a list is too
-    /// long for its length field. In WDL: there are flags or maps.
+    /// In DTZ: the number of flags or of maps is not the number of parts; or flags are above 31; or a part with flag 2
+    /// has no map, or one without flag 2 has one; or a part's map is wide without flag 16, or not wide with it; or a
+    /// list is too long for its length field. In WDL: there are flags or maps.
     #[error("Map")]
     Map,
     /// Memory was refused.

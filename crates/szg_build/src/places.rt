@@ -1,11 +1,12 @@
 //! The parts and sides of a table's subtables, in file order.
 ghost use Rattle.std.specs.Prelude.{◌≡◌, ◌≤◌, ◌<◌, length, All};
-ghost use Rattle.szg_build.specs.Dump.{places_of};
+ghost use Rattle.szg_build.specs.Dump.{subtable_ids_of};
 
 use szg_file::has_two_sides;
 use szg_values::{Kind, Material};
 
-/// Part and side of each subtable, for one part with one side. The constants below are for more sides and parts.
+/// Part and side of each subtable of a table with one part and one side. The next constants are for tables with more
+/// sides, more parts, and both.
 const ONE: &[(u8, u8)] = &[(0, 0)];
 
 const TWO_SIDES: &[(u8, u8)] = &[(0, 0), (0, 1)];
@@ -25,7 +26,7 @@ const EIGHT: &[(u8, u8)] = &[
 
 /// Returns part and side of each subtable.
 pub(crate) fn places(material: &Material, kind: Kind) -> &'static [(u8, u8)]
-    ensures places { result.now ≡ places_of material.now kind }
+    ensures places { result.now ≡ subtable_ids_of material.now kind }
     ensures parts { All (λ place. place.0 < 4) result.now }
     ensures sides { All (λ place. place.1 < 2) result.now }
     ensures few { length result.now ≤ 8 }

@@ -1,4 +1,18 @@
-//! Reads a dump's parts, maps and values from a device.
+//! Reads a dump's parts, maps and values from a device. Each reader has a parameter `following`: in a valid text, at
+//! least that many bytes come after what it reads. A successful call has read at most that many bytes ahead.
+
+pub(crate) mod dumpreading;
+mod gathering;
+mod incoming;
+mod line;
+pub(crate) mod line_parsing;
+mod lines;
+pub(crate) mod packed_dump;
+mod packing;
+mod subreading;
+mod values;
+mod word;
+
 ghost use Rattle.std.specs.Prelude.{◌≡◌, ◌+◌, ◌<◌, ◌≤◌, ◌^◌, [], ◌∷◌, ◌++◌, length, map, option_map, IsErrOf, OnOk};
 ghost use Rattle.szg_file.specs.Contents.{has_bit, part_numbers};
 ghost use Rattle.szg_file.specs.Held.{map_of, part_of};
@@ -10,12 +24,12 @@ ghost use Rattle.szg_build.specs.Reading.{ReadsLines};
 ghost use Rattle.szg_build.specs.Shown.{form_of};
 
 use crate::dump::DumpReadFault;
-use crate::incoming::Incoming;
 use crate::item::Item;
-use crate::lines::{read_number, read_part, read_run};
+use crate::reading::incoming::Incoming;
+use crate::reading::line_parsing::GREATEST_COUNT;
+use crate::reading::lines::{read_number, read_part, read_run};
+use crate::reading::values::Values;
 use crate::refusing::{is_mapped, is_wide};
-use crate::saying::GREATEST_COUNT;
-use crate::values::Values;
 use std::alloc::{AllocError, Global};
 use szg_file::{Map, PartBytes, part_count};
 use szg_io::Input;
@@ -25,16 +39,16 @@ use szg_values::Material;
 
 /// Reads an item from a line of its own.
 fn read_item<T: Item, R: Input>(
-    behind: u64,
+    following: u64,
     input: &mut R,
     incoming: &mut Incoming,
 ) -> Result<T, DumpReadFault>
-    requires { length (held_of incoming.old) ≤ behind + 1 }
+    requires { length (held_of incoming.old) ≤ following + 1 }
     ensures lines { ReadsLines (number_line (value ∷ []) T.GREATEST) T.number incoming.old incoming.new R.Input input.old input.new result }
-    ensures behind { OnOk result (length (held_of incoming.new) ≤ behind) }
+    ensures following { OnOk result (length (held_of incoming.new) ≤ following) }
     ensures memory { IsErrOf result DumpReadFault.Memory → ⊥ }
 {
-    let number = read_number(b"", T::GREATEST, behind, input, incoming)?;
+    let number = read_number(b"", T::GREATEST, following, input, incoming)?;
     Ok(T::of(number))
 }
 
@@ -42,19 +56,19 @@ fn read_item<T: Item, R: Input>(
 fn read_items<T: Item, R: Input>(
     alloc: Global,
     count: u64,
-    behind: u64,
+    following: u64,
     input: &mut R,
     incoming: &mut Incoming,
 ) -> Result<Vec<T>, DumpReadFault>
-    requires few { behind + count < 2 ^ 64 }
-    requires held { length (held_of incoming.old) ≤ behind + count }
+    requires few { following + count < 2 ^ 64 }
+    requires held { length (held_of incoming.old) ≤ following + count }
     ensures lines { ReadsLines (repeated count (number_line (value ∷ []) T.GREATEST)) (λ list. map T.number list.items) incoming.old incoming.new R.Input input.old input.new result }
-    ensures behind { OnOk result (length (held_of incoming.new) ≤ behind) }
-    ensures memory { IsErrOf result DumpReadFault.Memory → LacksLines (repeated count (number_line (value ∷ []) T.GREATEST)) behind incoming.old R.Input input.old input.new }
+    ensures following { OnOk result (length (held_of incoming.new) ≤ following) }
+    ensures memory { IsErrOf result DumpReadFault.Memory → LacksLines (repeated count (number_line (value ∷ []) T.GREATEST)) following incoming.old R.Input input.old input.new }
 {
     let mut list = Vec::new(alloc);
     'items: for i in 0..count {
-        let item = read_item(behind + (count - 1 - i), input, incoming)?;
+        let item = read_item(following + (count - 1 - i), input, incoming)?;
         list.push(item)?;
     }
     Ok(list)
@@ -64,19 +78,19 @@ fn read_items<T: Item, R: Input>(
 fn read_runs<R: Input>(
     alloc: Global,
     count: u64,
-    behind: u64,
+    following: u64,
     input: &mut R,
     incoming: &mut Incoming,
 ) -> Result<Values, DumpReadFault>
-    requires { length (held_of incoming.old) ≤ behind }
+    requires { length (held_of incoming.old) ≤ following }
     ensures lines { ReadsLines (run_values count count) values_held incoming.old incoming.new R.Input input.old input.new result }
-    ensures behind { OnOk result (length (held_of incoming.new) ≤ behind) }
-    ensures memory { IsErrOf result DumpReadFault.Memory → LacksLines (run_values count count) behind incoming.old R.Input input.old input.new }
+    ensures following { OnOk result (length (held_of incoming.new) ≤ following) }
+    ensures memory { IsErrOf result DumpReadFault.Memory → LacksLines (run_values count count) following incoming.old R.Input input.old input.new }
 {
     let mut values = Values::new();
     let mut left = count;
     'runs: while left > 0 {
-        let (size, value) = read_run(left, behind, input, incoming)?;
+        let (size, value) = read_run(left, following, input, incoming)?;
         values = values.with_run(alloc, size, value)?;
         left -= size;
     }
@@ -88,20 +102,20 @@ pub(crate) fn read_values<R: Input>(
     alloc: Global,
     form: u8,
     count: u64,
-    behind: u64,
+    following: u64,
     input: &mut R,
     incoming: &mut Incoming,
 ) -> Result<Values, DumpReadFault>
-    requires few { behind + count < 2 ^ 64 }
-    requires held { length (held_of incoming.old) ≤ behind }
+    requires few { following + count < 2 ^ 64 }
+    requires held { length (held_of incoming.old) ≤ following }
     ensures lines { ReadsLines (values_lines (form_of form) count) values_held incoming.old incoming.new R.Input input.old input.new result }
-    ensures behind { OnOk result (length (held_of incoming.new) ≤ behind) }
-    ensures memory { IsErrOf result DumpReadFault.Memory → LacksLines (values_lines (form_of form) count) behind incoming.old R.Input input.old input.new }
+    ensures following { OnOk result (length (held_of incoming.new) ≤ following) }
+    ensures memory { IsErrOf result DumpReadFault.Memory → LacksLines (values_lines (form_of form) count) following incoming.old R.Input input.old input.new }
 {
     if form == 2 {
-        return read_runs(alloc, count, behind, input, incoming);
+        return read_runs(alloc, count, following, input, incoming);
     }
-    let list = read_items(alloc, count, behind, input, incoming)?;
+    let list = read_items(alloc, count, following, input, incoming)?;
     Ok(Values::Listed(list))
 }
 
@@ -111,39 +125,39 @@ pub(crate) fn read_values<R: Input>(
 fn read_list<T: Item, R: Input>(
     alloc: Global,
     j: u8,
-    behind: u64,
+    following: u64,
     input: &mut R,
     incoming: &mut Incoming,
 ) -> Result<Vec<T>, DumpReadFault>
     requires list { j < 4 }
-    requires few { behind < 2 ^ 32 }
-    requires held { length (held_of incoming.old) ≤ behind + 1 }
+    requires few { following < 2 ^ 32 }
+    requires held { length (held_of incoming.old) ≤ following + 1 }
     ensures lines { ReadsLines (map_list T.GREATEST j) (λ list. map T.number list.items) incoming.old incoming.new R.Input input.old input.new result }
-    ensures behind { OnOk result (length (held_of incoming.new) ≤ behind) }
-    ensures memory { IsErrOf result DumpReadFault.Memory → LacksLines (map_list T.GREATEST j) behind incoming.old R.Input input.old input.new }
+    ensures following { OnOk result (length (held_of incoming.new) ≤ following) }
+    ensures memory { IsErrOf result DumpReadFault.Memory → LacksLines (map_list T.GREATEST j) following incoming.old R.Input input.old input.new }
 {
     let front = [b'm', b'a', b'p', b' ', b'0' + j, b' '];
-    let count = read_number(&front, GREATEST_COUNT, behind, input, incoming)?;
-    read_items(alloc, count, behind, input, incoming)
+    let count = read_number(&front, GREATEST_COUNT, following, input, incoming)?;
+    read_items(alloc, count, following, input, incoming)
 }
 
 /// Reads the four lists of a map.
 fn read_lists<T: Item, R: Input>(
     alloc: Global,
-    behind: u64,
+    following: u64,
     input: &mut R,
     incoming: &mut Incoming,
 ) -> Result<[Vec<T>; 4], DumpReadFault>
-    requires few { behind < 2 ^ 31 }
-    requires held { length (held_of incoming.old) ≤ behind + 4 }
+    requires few { following < 2 ^ 31 }
+    requires held { length (held_of incoming.old) ≤ following + 4 }
     ensures lines { ReadsLines (each (map_list T.GREATEST) list_numbers) (λ lists. map (λ list. map T.number list.items) lists) incoming.old incoming.new R.Input input.old input.new result }
-    ensures behind { OnOk result (length (held_of incoming.new) ≤ behind) }
-    ensures memory { IsErrOf result DumpReadFault.Memory → LacksLines (each (map_list T.GREATEST) list_numbers) behind incoming.old R.Input input.old input.new }
+    ensures following { OnOk result (length (held_of incoming.new) ≤ following) }
+    ensures memory { IsErrOf result DumpReadFault.Memory → LacksLines (each (map_list T.GREATEST) list_numbers) following incoming.old R.Input input.old input.new }
 {
-    let wins = read_list(alloc, 0, behind + 3, input, incoming)?;
-    let losses = read_list(alloc, 1, behind + 2, input, incoming)?;
-    let cursed_wins = read_list(alloc, 2, behind + 1, input, incoming)?;
-    let blessed_losses = read_list(alloc, 3, behind, input, incoming)?;
+    let wins = read_list(alloc, 0, following + 3, input, incoming)?;
+    let losses = read_list(alloc, 1, following + 2, input, incoming)?;
+    let cursed_wins = read_list(alloc, 2, following + 1, input, incoming)?;
+    let blessed_losses = read_list(alloc, 3, following, input, incoming)?;
     Ok([wins, losses, cursed_wins, blessed_losses])
 }
 
@@ -151,24 +165,24 @@ fn read_lists<T: Item, R: Input>(
 pub(crate) fn read_map<R: Input>(
     alloc: Global,
     flags: u8,
-    behind: u64,
+    following: u64,
     input: &mut R,
     incoming: &mut Incoming,
 ) -> Result<Option<Map>, DumpReadFault>
-    requires few { behind < 2 ^ 31 }
-    requires held { length (held_of incoming.old) ≤ behind }
+    requires few { following < 2 ^ 31 }
+    requires held { length (held_of incoming.old) ≤ following }
     ensures lines { ReadsLines (map_text (has_bit 1 flags) (has_bit 4 flags)) (option_map map_of) incoming.old incoming.new R.Input input.old input.new result }
-    ensures behind { OnOk result (length (held_of incoming.new) ≤ behind) }
-    ensures memory { IsErrOf result DumpReadFault.Memory → LacksLines (map_text (has_bit 1 flags) (has_bit 4 flags)) behind incoming.old R.Input input.old input.new }
+    ensures following { OnOk result (length (held_of incoming.new) ≤ following) }
+    ensures memory { IsErrOf result DumpReadFault.Memory → LacksLines (map_text (has_bit 1 flags) (has_bit 4 flags)) following incoming.old R.Input input.old input.new }
 {
     if !is_mapped(flags) {
         return Ok(None);
     }
     if is_wide(flags) {
-        let wide = read_lists(alloc, behind, input, incoming)?;
+        let wide = read_lists(alloc, following, input, incoming)?;
         return Ok(Some(Map::Wide(wide)));
     }
-    let narrow = read_lists(alloc, behind, input, incoming)?;
+    let narrow = read_lists(alloc, following, input, incoming)?;
     Ok(Some(Map::Bytes(narrow)))
 }
 
@@ -178,17 +192,17 @@ pub(crate) fn read_map<R: Input>(
 fn read_part_bytes<R: Input>(
     alloc: Global,
     number: u8,
-    behind: u64,
+    following: u64,
     input: &mut R,
     incoming: &mut Incoming,
 ) -> Result<PartBytes, DumpReadFault>
     requires number { number < 4 }
-    requires held { length (held_of incoming.old) ≤ behind + 1 }
+    requires held { length (held_of incoming.old) ≤ following + 1 }
     ensures lines { ReadsLines (part_line number) part_of incoming.old incoming.new R.Input input.old input.new result }
-    ensures behind { OnOk result (length (held_of incoming.new) ≤ behind) }
-    ensures memory { IsErrOf result DumpReadFault.Memory → LacksLines (part_line number) behind incoming.old R.Input input.old input.new }
+    ensures following { OnOk result (length (held_of incoming.new) ≤ following) }
+    ensures memory { IsErrOf result DumpReadFault.Memory → LacksLines (part_line number) following incoming.old R.Input input.old input.new }
 {
-    let (order, men) = read_part(number, behind, input, incoming)?;
+    let (order, men) = read_part(number, following, input, incoming)?;
     let order = Vec::from_slice(alloc, order.as_slice())?;
     let men = Vec::from_slice(alloc, men.as_slice())?;
     Ok(PartBytes { order, men })
@@ -198,21 +212,21 @@ fn read_part_bytes<R: Input>(
 pub(crate) fn read_parts<R: Input>(
     alloc: Global,
     material: &Material,
-    behind: u64,
+    following: u64,
     input: &mut R,
     incoming: &mut Incoming,
 ) -> Result<Vec<PartBytes>, DumpReadFault>
-    requires few { behind < 2 ^ 32 }
-    requires held { length (held_of incoming.old) ≤ behind + 1 }
+    requires few { following < 2 ^ 32 }
+    requires held { length (held_of incoming.old) ≤ following + 1 }
     ensures lines { ReadsLines (each part_line (part_numbers material.now)) (λ parts. map part_of parts.items) incoming.old incoming.new R.Input input.old input.new result }
-    ensures behind { OnOk result (length (held_of incoming.new) ≤ behind) }
-    ensures memory { IsErrOf result DumpReadFault.Memory → LacksLines (each part_line (part_numbers material.now)) behind incoming.old R.Input input.old input.new }
+    ensures following { OnOk result (length (held_of incoming.new) ≤ following) }
+    ensures memory { IsErrOf result DumpReadFault.Memory → LacksLines (each part_line (part_numbers material.now)) following incoming.old R.Input input.old input.new }
 {
     let mut parts = Vec::new(alloc);
     let count = part_count(material);
     'parts: for number in 0..count {
         let left = u64::from(count - 1 - number);
-        let part = read_part_bytes(alloc, number, behind + left, input, incoming)?;
+        let part = read_part_bytes(alloc, number, following + left, input, incoming)?;
         parts.push(part)?;
     }
     Ok(parts)

@@ -6,7 +6,7 @@ ghost use Rattle.szg_file.specs.Held.{map_of};
 ghost use Rattle.szg_build.specs.Plan.{different_values, fault_for, greatest_value, has_maps, is_map_of};
 ghost use Rattle.szg_build.specs.Shown.{plan_seen};
 
-use crate::leaves::count_different;
+use crate::pairing::leaves::count_different;
 use crate::{BuildFault, Plan};
 use szg_file::{Map, part_count};
 use szg_values::Kind;
@@ -18,7 +18,7 @@ pub(crate) const MAX_ROUNDS: u32 = 4000;
 pub(crate) const MAX_DIFFERENT: usize = 4095;
 
 /// Returns whether block bits and span bits are in their ranges.
-pub(crate) fn bits_stand(plan: &Plan) -> bool
+pub(crate) fn are_bits_valid(plan: &Plan) -> bool
     ensures { result ≡ (nat_le 5 plan.now.block_bits && nat_le plan.now.block_bits 10 && nat_le 1 plan.now.span_bits && nat_le plan.now.span_bits 16) }
 {
     5 <= plan.block_bits && plan.block_bits <= 10 && 1 <= plan.span_bits && plan.span_bits <= 16
@@ -169,7 +169,7 @@ fn each_has_map(plan: &Plan) -> bool
 }
 
 /// Returns whether a plan has the flags and maps that its kind requires.
-pub(crate) fn maps_stand(plan: &Plan) -> bool
+pub(crate) fn are_maps_valid(plan: &Plan) -> bool
     ensures { result ≡ has_maps (plan_seen plan.now) }
 {
     match plan.kind {
@@ -182,7 +182,7 @@ pub(crate) fn maps_stand(plan: &Plan) -> bool
 pub(crate) fn first_fault(plan: &Plan, sizes: &[u64], lists: &[&[u16]]) -> Option<BuildFault>
     ensures { result ≡ fault_for (Some sizes.now) (plan_seen plan.now) (map (λ list. list.now) lists.now) }
 {
-    if !bits_stand(plan) {
+    if !are_bits_valid(plan) {
         return Some(BuildFault::Bits);
     }
     if plan.rounds > MAX_ROUNDS {
@@ -200,5 +200,5 @@ pub(crate) fn first_fault(plan: &Plan, sizes: &[u64], lists: &[&[u16]]) -> Optio
     if let Some(n) = too_many_values(lists) {
         return Some(BuildFault::TooManyValues(n));
     }
-    (!maps_stand(plan)).then_some(BuildFault::Map)
+    (!are_maps_valid(plan)).then_some(BuildFault::Map)
 }

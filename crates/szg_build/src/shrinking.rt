@@ -1,18 +1,30 @@
-//! Chooses the pairs of a small subtable and spells its values with them: tries several choices and counts their bytes.
+//! Chooses the pairs of a subtable of a small table and spells its values with them: tries several choices and counts
+//! their bytes.
 //!
 //! The first tries are the text without pairs, with 256 pairs and with all pairs. Then, beginning with all pairs, the
 //! pairs that save the fewest bits are dropped and the values are spelled again, with a bound that rises at each try.
-//! After that pairs are added to the best text and dropped again, several times. At the end single pairs are dropped.
+//! If neither the list nor the dictionary is too long (`FEW_VALUES`, `FEW_SYMBOLS`), pairs are then added to the best
+//! text and dropped again, several times, and after that single pairs are dropped. At the end the values are spelled
+//! again with the code of the best text.
+//!
 //! Only the safety of this code is proved: its result is a proposal, and proposals are tested.
-use crate::dropping::without_poor;
-use crate::leaves::{MAX_SYMBOLS, Paired};
-use crate::proposing::{Proposal, with_pairs};
-use crate::tries::{Best, Blend, bits, copy_of, counted};
-use crate::trimming::{polish, trim};
+
+mod costs;
+mod dropping;
+mod spelling;
+mod tries;
+mod trimming;
+
+use crate::pairing::leaves::{MAX_SYMBOLS, Paired};
+use crate::pairing::proposing::{Proposal, with_pairs};
+use crate::shrinking::dropping::without_poor;
+use crate::shrinking::tries::{Best, Blend, bits, copy_of, counted};
+use crate::shrinking::trimming::{polish, trim};
 use crate::watching::{Unwatched, Watcher};
 use std::alloc::{AllocError, Global};
 
-/// The number of tree nodes visited after which no more spellings are tried.
+/// The number of tree nodes visited after which no more pairs are added, and none dropped by a rising bound. Single
+/// pairs may still be dropped then (`TRIM_BUDGET`), and the best text is still spelled again.
 const BUDGET: u64 = 1 << 29;
 
 /// The number of tree nodes visited after which no more single pairs are dropped.
@@ -24,11 +36,15 @@ const FEW_VALUES: usize = 1 << 17;
 /// The greatest number of symbols of a dictionary to which more pairs are added, and of one that is trimmed.
 const FEW_SYMBOLS: usize = 1024;
 
+/// One more than the number of times that pairs are added to the best text of a list of at most `FEW_VALUES` values. No
+/// pairs are added to a longer one.
+const ROUNDS: u64 = 61;
+
 /// The number of pairs of the second try. It is also the default of `szg build --rounds`.
 const FEW_PAIRS: u32 = 256;
 
-/// The bounds that one call of `drop_pairs` tries, times 2^`FRACTION`: `first`, then `step` more each time, up to
-/// `last`.
+/// The bounds that one call of `drop_pairs` tries: `first`, then `step` more each time, up to `last`. A pair that is no
+/// half of a kept pair is dropped if it saves less than the bound, in bits times 2^`FRACTION`.
 #[derive(Clone, Copy)]
 struct Bounds {
     first: u64,
@@ -36,7 +52,7 @@ struct Bounds {
     last: u64,
 }
 
-/// Drops the pairs that save the least bits, with a rising bound, and spells the values again after each step. Offers
+/// Drops the pairs that save the fewest bits, with a rising bound, and spells the values again after each step. Offers
 /// each text to `best`.
 fn drop_pairs<V: Watcher>(
     alloc: Global,
@@ -80,36 +96,15 @@ fn bounds_for(values: usize) -> Bounds {
     }
 }
 
-/// Returns the bounds after pairs were added `round` times. Their step is between 1 and 4 bits.
-fn later_bounds(round: u64) -> Bounds {
-    Bounds {
-        first: bits(12),
-        step: bits(8).saturating_sub(bits(round % 7)) / 2,
-        last: bits(64),
-    }
-}
-
-/// Returns the blend of costs for round `round` of adding pairs.
-fn blend_for(round: u64) -> Blend {
-    Blend {
-        quarters: round.wrapping_mul(2) % 5,
-    }
-}
-
-/// Returns one more than the number of rounds in which pairs are added to the best text, for a list of `values` values.
-fn rounds_for(values: usize) -> u64 {
-    if values > FEW_VALUES { 1 } else { 61 }
-}
-
 /// Tries the texts without pairs, with 256 pairs and with all pairs. Returns the best of them, and the last one.
 fn begin_tries<V: Watcher>(
     alloc: Global,
     begun: Paired,
-    beside: Option<u64>,
+    other_bytes: Option<u64>,
     watcher: &mut V,
 ) -> Result<(Best, Paired), AllocError> {
     let values = begun.symbols.len() as u64;
-    let mut best = Best::new(alloc, copy_of(alloc, &begun)?, values, beside, BUDGET)?;
+    let mut best = Best::new(alloc, copy_of(alloc, &begun)?, values, other_bytes, BUDGET)?;
     let few = with_pairs(alloc, copy_of(alloc, &begun)?, FEW_PAIRS, &mut Unwatched)?;
     best.offer(alloc, &few)?;
     let all = with_pairs(alloc, begun, MAX_SYMBOLS as u32, watcher)?;
@@ -117,14 +112,15 @@ fn begin_tries<V: Watcher>(
     Ok((best, all))
 }
 
-/// Adds pairs to the best text and drops pairs again, several times.
+/// Adds pairs to the best text and drops pairs again, several times. The steps of the bounds and the blends of costs
+/// differ from round to round.
 fn add_pairs<V: Watcher>(
     alloc: Global,
     leaves: &[u16],
     best: &mut Best,
     watcher: &mut V,
 ) -> Result<(), AllocError> {
-    for round in 1..rounds_for(leaves.len()) {
+    for round in 1..ROUNDS {
         if best.budget == 0 || best.paired.entries.len() > FEW_SYMBOLS {
             break;
         }
@@ -134,23 +130,30 @@ fn add_pairs<V: Watcher>(
             MAX_SYMBOLS as u32,
             &mut Unwatched,
         )?;
-        let bounds = later_bounds(round);
-        drop_pairs(alloc, leaves, more, bounds, blend_for(round), best, watcher)?;
+        let bounds = Bounds {
+            first: bits(12),
+            step: bits(8).saturating_sub(bits(round % 7)) / 2,
+            last: bits(64),
+        };
+        let blend = Blend {
+            quarters: round.wrapping_mul(2) % 5,
+        };
+        drop_pairs(alloc, leaves, more, bounds, blend, best, watcher)?;
     }
     Ok(())
 }
 
-/// Returns a dictionary and a text that expand to the leaves of `begun`, which has no pairs. `beside` is as in
-/// `cost_of`.
+/// Returns a dictionary and a text that expands to the leaves in `begun`, which has no pairs. `other_bytes` is as in
+/// `choose_sizes`.
 pub(crate) fn shrink<V: Watcher>(
     alloc: Global,
     begun: Paired,
-    beside: Option<u64>,
+    other_bytes: Option<u64>,
     watcher: &mut V,
 ) -> Result<Proposal, AllocError> {
     let leaves = begun.symbols.to_vec(alloc)?;
     watcher.attempt(0, None);
-    let (mut best, all) = begin_tries(alloc, begun, beside, watcher)?;
+    let (mut best, all) = begin_tries(alloc, begun, other_bytes, watcher)?;
     let first = bounds_for(leaves.len());
     drop_pairs(
         alloc,
@@ -161,10 +164,12 @@ pub(crate) fn shrink<V: Watcher>(
         &mut best,
         watcher,
     )?;
-    add_pairs(alloc, &leaves, &mut best, watcher)?;
     let is_short = leaves.len() <= FEW_VALUES;
-    if is_short && best.paired.entries.len() <= FEW_SYMBOLS {
-        trim(alloc, &leaves, TRIM_BUDGET, &mut best, watcher)?;
+    if is_short {
+        add_pairs(alloc, &leaves, &mut best, watcher)?;
+        if best.paired.entries.len() <= FEW_SYMBOLS {
+            trim(alloc, &leaves, TRIM_BUDGET, &mut best, watcher)?;
+        }
     }
     let tries = if is_short { 4 } else { 1 };
     polish(alloc, &leaves, tries, &mut best)?;

@@ -11,14 +11,14 @@ ghost use Rattle.szg_build.specs.Built.{IsBuilt, IsBuiltSmall, subtables_in};
 ghost use Rattle.szg_build.specs.Plan.{build_fault};
 ghost use Rattle.szg_build.specs.Rule.{byte4_for, constant_for, constant_in, HasSpanIndex, HasTruncatedBinary};
 ghost use Rattle.szg_build.specs.Shown.{plan_seen, small_seen};
-ghost use Rattle.szg_build.specs.Tabling.{AreBuilt, IsBuildable, IsBuiltBare, IsBuiltBy, IsChoiceOf, IsInRange, IsOfBytes, IsOfItems, Stands};
+ghost use Rattle.szg_build.specs.Tabling.{AreBuilt, IsBuildable, IsBuiltBare, IsBuiltBy, IsChoiceOf, IsInRange, IsOfBytes, IsOfItems, HasNoFault};
 
-use crate::blocks::pad;
+use crate::building::blocks::pad;
+use crate::building::headers::{count_other_bytes, count_with_blocks};
+use crate::building::subtables::build_sub;
 use crate::building::{Choice, Packing};
 use crate::copies::{copy_maps, copy_parts};
-use crate::headers::bytes_beside;
 use crate::refusing::first_fault;
-use crate::subtables::build_sub;
 use crate::watching::{Unwatched, Watcher};
 use crate::{BuildFault, Plan, SmallPlan};
 use std::alloc::{AllocError, Global};
@@ -113,12 +113,12 @@ fn build_subs<V: Watcher>(
     requires lists { AllByRecursion (IsBuildable plan.now.kind) (map (λ list. list.now) lists.now) }
     ensures { IfOk result (λ subs. AreBuilt choice (plan_seen plan.now) plan.now.flags.items (map (λ list. list.now) lists.now) (map subtable_of subs.items)) }
 {
-    let beside = bytes_beside(plan, lists);
+    let other_bytes = count_other_bytes(plan, lists.len(), count_with_blocks(plan.kind, lists));
     let mut subs = Vec::new(alloc);
     'lists: for (n, list) in lists.iter().enumerate() {
         watcher.subtable(n + 1, lists.len(), list.len());
         let flags = flags_at(&plan.flags, n);
-        let sub = build_sub(alloc, plan.kind, list, flags, choice, beside, watcher)?;
+        let sub = build_sub(alloc, plan.kind, list, flags, choice, other_bytes, watcher)?;
         subs.push(sub)?;
     }
     Ok(subs)
@@ -132,7 +132,7 @@ fn build_fields<V: Watcher>(
     lists: &[&[u16]],
     watcher: &mut V,
 ) -> Result<Fields, AllocError>
-    requires stands { Stands (plan_seen plan.now) (map (λ list. list.now) lists.now) }
+    requires is_valid { HasNoFault (plan_seen plan.now) (map (λ list. list.now) lists.now) }
     requires choice { IsChoiceOf (plan_seen plan.now) choice }
     ensures { IfOk result (λ fields. IsBuiltBare choice (plan_seen plan.now) (map (λ list. list.now) lists.now) (fields_shown fields).contents) }
 {
@@ -154,16 +154,16 @@ fn build_fields<V: Watcher>(
     })
 }
 
-/// Creates the table of fields without padding bytes: the padding is zeros.
+/// Fills in the padding of `fields`, which have none yet, with zeros, and creates the table.
 pub(crate) fn padded(alloc: Global, mut fields: Fields) -> Result<Table, AllocError>
     requires { (fill : List ℕ) → AreBytes (fill_asked (fields_shown fields).contents) fill → IsAccepted (fields_shown fields).contents fill }
     ensures contents { IfOk result (λ t. t.contents ≡ (fields_shown fields).contents) }
     ensures accepted { IfOk result (λ t. IsAccepted t.contents t.filled) }
     ensures padding { IfOk result (λ t. AllByRecursion (λ byte. byte ≡ 0) t.filled) }
 {
-    let asked = fields.fill_asked() as usize;
+    let queried = fields.fill_asked() as usize;
     let mut fill = Vec::new(alloc);
-    pad(&mut fill, asked)?;
+    pad(&mut fill, queried)?;
     fields.fill = fill;
     Ok(Table::assemble(fields))
 }
@@ -176,7 +176,7 @@ fn build_table<V: Watcher>(
     lists: &[&[u16]],
     watcher: &mut V,
 ) -> Result<Table, AllocError>
-    requires stands { Stands (plan_seen plan.now) (map (λ list. list.now) lists.now) }
+    requires is_valid { HasNoFault (plan_seen plan.now) (map (λ list. list.now) lists.now) }
     requires choice { IsChoiceOf (plan_seen plan.now) choice }
     ensures built { IfOk result (λ t. IsBuiltBy choice (plan_seen plan.now) (map (λ list. list.now) lists.now) t.contents) }
     ensures accepted { IfOk result (λ t. IsAccepted t.contents t.filled) }

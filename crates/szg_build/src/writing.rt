@@ -1,4 +1,13 @@
 //! Writes the text of a dump, line by line.
+
+pub(crate) mod block_values;
+mod dump_sink;
+pub(crate) mod dumping;
+mod outgoing;
+pub(crate) mod stored;
+mod streaming;
+pub(crate) mod table_dump;
+
 ghost use Rattle.std.specs.Prelude.{◌≡◌, ℕ, ◌+◌, ◌-◌, ◌<◌, ◌≤◌, ◌^◌, ◌⊎◌, [], ◌∷◌, ◌++◌, length, map, take, drop, replicate, min, slice_index, codes, Option, Some, option_map, IfErr, OnOk, OnErr};
 ghost use Rattle.std.specs.Fmt.{decimal};
 ghost use Rattle.hex.specs.Hex.{encode_lower};
@@ -7,15 +16,15 @@ ghost use Rattle.szg_io.specs.Moved.{Gives};
 ghost use Rattle.szg_values.specs.Material.{name_of};
 ghost use Rattle.szg_file.specs.Contents.{part_numbers};
 ghost use Rattle.szg_file.specs.Held.{part_of, map_of};
-ghost use Rattle.szg_build.specs.Dump.{places_of, subs_of};
+ghost use Rattle.szg_build.specs.Dump.{subtable_ids_of, subs_of};
 ghost use Rattle.szg_build.specs.Text.{runs_of, line_text, lines_text, kind_word, part_lines, map_list_lines, map_lines, flags_lines, value_lines, values_lines, sub_lines, front_lines, flat_map_beside, dump_lines, dump_text, part_word};
 ghost use Rattle.szg_build.specs.Writing.{Writing};
 ghost use Rattle.szg_build.specs.Shown.{dump_seen, form_of, sub_in, sub_count, subs_seen};
 
 use crate::dump::Dump;
 use crate::item::Item;
-use crate::outgoing::{Outgoing, flush, put};
 use crate::places::places;
+use crate::writing::outgoing::{Outgoing, flush, put};
 use arrayvec::ArrayVec;
 use itoa::Buffer;
 use szg_file::{Map, PartBytes, WriteFault, part_count};
@@ -144,7 +153,7 @@ fn put_items<T: Item, W: Output>(
     Ok(())
 }
 
-/// Returns how many values at the beginning are equal.
+/// Returns the length of the run of equal values that the list begins with.
 pub(crate) fn run_length(values: &[u16]) -> usize
     requires { 0 < length values.now }
     ensures some { 0 < result }
@@ -160,7 +169,7 @@ pub(crate) fn run_length(values: &[u16]) -> usize
     values.len()
 }
 
-/// Writes a line for each longest run of equal values.
+/// Writes a line for each maximal run of equal values.
 fn put_runs<W: Output>(
     values: &[u16],
     output: &mut W,
@@ -241,7 +250,7 @@ fn put_map<W: Output>(
 // ---- subtables
 
 /// Writes the line that names a subtable's part and side.
-pub(crate) fn put_place<W: Output>(
+pub(crate) fn put_subtable_id<W: Output>(
     place: (u8, u8),
     output: &mut W,
     outgoing: &mut Outgoing,
@@ -295,7 +304,7 @@ fn put_sub<W: Output>(
     requires place { place.0 < 4 }
     ensures { Writing (lines_text (sub_lines (form_of form) dump.now.kind place (sub_in dump.now s))) outgoing.old outgoing.new W.Output output.old output.new result }
 {
-    put_place(place, output, outgoing)?;
+    put_subtable_id(place, output, outgoing)?;
     put_flags(dump, s, output, outgoing)?;
     put_list(form, &dump.lists[s], output, outgoing)
 }
@@ -317,7 +326,7 @@ fn put_subs<W: Output>(
     output: &mut W,
     outgoing: &mut Outgoing,
 ) -> Result<(), WriteFault>
-    ensures { Writing (lines_text (flat_map_beside (sub_lines (form_of form) dump.now.kind) (places_of dump.now.material dump.now.kind) (subs_seen dump.now))) outgoing.old outgoing.new W.Output output.old output.new result }
+    ensures { Writing (lines_text (flat_map_beside (sub_lines (form_of form) dump.now.kind) (subtable_ids_of dump.now.material dump.now.kind) (subs_seen dump.now))) outgoing.old outgoing.new W.Output output.old output.new result }
 {
     let places = places(&dump.material, dump.kind);
     'subs: for s in 0..places.len().min(count_subs(dump)) {
@@ -420,10 +429,10 @@ fn put_dump<W: Output>(
     flush(output, outgoing)
 }
 
-/// Writes the text of a dump: in form 1 a line for each value, in form 2 a line for each longest run of equal
-/// values. If a DTZ dump has fewer flags or maps than lists, the last subtables are not written. Allocates nothing.
-/// Errors: the writer failed; the fault has the number of bytes of the text that were written, saturated at the
-/// greatest 64-bit value.
+/// Writes the text of a dump: in form 1 a line for each value, in form 2 a line for each maximal run of equal values.
+/// If a DTZ dump has fewer flags or maps than lists, the last subtables are not written. Allocates nothing. Errors: the
+/// writer failed; the fault has the number of bytes of the text that were written, saturated at the greatest 64-bit
+/// value.
 pub fn write_dump<W: Output>(dump: &Dump, form: u8, output: &mut W) -> Result<(), WriteFault>
     requires { (form ≡ 1) ⊎ (form ≡ 2) }
     ensures ok { OnOk result (Gives W.Output output.old output.new (dump_text (form_of form) (dump_seen dump.now)) 0) }

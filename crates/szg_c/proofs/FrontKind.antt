@@ -1,6 +1,6 @@
 -- A handle on a front.
 use Rattle.std.proofs.Common.{refl}
-use Rattle.szg_file.specs.contracts.front_table.FrontTable as value
+use Rattle.szg_file.specs.contracts.opened.front_table.FrontTable as value
 use Rattle.szg_c.specs.contracts.shared.Shared as shared
 use Rattle.szg_c.specs.contracts.held_front.HeldFront as handle
 use Rattle.szg_c.proofs.HandleValues.{Kind}

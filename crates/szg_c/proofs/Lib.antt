@@ -2,7 +2,7 @@ pub mod HandleSend
 pub mod HandleValues
 pub mod HandleWalks
 pub mod FrontKind
-pub mod FrontsTold
+pub mod FrontsStated
 pub mod TableKind
 pub mod HeldValues
 pub mod FrontBlocks

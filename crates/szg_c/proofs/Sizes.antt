@@ -7,12 +7,12 @@ use Rattle.szg_block.proofs.Values.{length-joined_values}
 use Rattle.szg_file.specs.Contents.{Contents, Slot, slots, Subtable, constant, pairs, layout_of}
 use Rattle.szg_file.specs.Accepted.{SideBySide, IsSubtable, IsAccepted}
 use Rattle.szg_file.specs.Values.{slotted, found, subtable_at, constant_value, values_of}
-use Rattle.szg_file.proofs.SoundLaws.{accepted_code, accepted_shape, accepted_subtable}
+use Rattle.szg_file.proofs.Tables.SoundLaws.{accepted_code, accepted_shape, accepted_subtable}
 
 as_many : (kind : Kind) (slot : Slot) (subtable : Subtable) → IsSubtable slot subtable → length (values_of kind (slot, subtable)) ≡ slot.size
 as_many kind slot (constant flags byte) h = length-replicate slot.size (constant_value kind byte)
 as_many kind slot (pairs head sparse lengths packed) h =
-    length-joined_values (layout_of head sparse lengths) packed slot.size (accepted_code head.code h.head_stands.code)
+    length-joined_values (layout_of head sparse lengths) packed slot.size (accepted_code head.code h.head_is_valid.code)
     (accepted_shape slot.size head sparse lengths packed h) (accepted_subtable slot.size head sparse lengths packed h)
 
 found_sized : (kind : Kind) (part side : ℕ) (xs : List Slot) (ys : List Subtable) → SideBySide IsSubtable xs ys →

@@ -5,23 +5,23 @@ use Rattle.std.specs.List.{list_all}
 use Rattle.szg_values.specs.Placement.{AreStanding, Board, PlacedMan, men_key, placement_fault}
 use Rattle.szg_values.specs.declared.PlacementFault.{PlacementFault}
 use Rattle.szg_c.specs.declared.men.CodedMan.{CodedMan}
-use Rattle.szg_c.specs.Men.{ArePut, board_of, color_of, is_told, standing_of}
+use Rattle.szg_c.specs.Men.{ArePut, board_of, color_of, is_coded_man, placed_man_of}
 
-pub put_all : (men : List CodedMan) (mover : ℕ) (placed : List PlacedMan) (r : Option ℕ) → nat_lt mover 2 ≡ true → IfSome r (λ key. list_all is_told men ≡ true) → IfSome r (λ key. placed ≡ map standing_of men) →
-    IfSome r (λ key. AreStanding (map standing_of men)) → IfSome r (λ key. key ≡ men_key (map standing_of men)) → IfSome r (λ key. ArePut men mover placed key)
-put_all men mover placed None side told is stand k = search rules
-put_all men mover placed (Some key) side told is stand k = record {
-  mover_told = side;
-  told = told;
+pub put_all : (men : List CodedMan) (mover : ℕ) (placed : List PlacedMan) (r : Option ℕ) → nat_lt mover 2 ≡ true → IfSome r (λ key. list_all is_coded_man men ≡ true) → IfSome r (λ key. placed ≡ map placed_man_of men) →
+    IfSome r (λ key. AreStanding (map placed_man_of men)) → IfSome r (λ key. key ≡ men_key (map placed_man_of men)) → IfSome r (λ key. ArePut men mover placed key)
+put_all men mover placed None side reported is stand k = search rules
+put_all men mover placed (Some key) side reported is stand k = record {
+  mover_stated = side;
+  reported = reported;
   placed = is;
   standing = subst (λ (l : List PlacedMan). AreStanding l) (sym is) stand;
   key_is = k ∙ ap men_key (sym is);
 }
 
-told_board : (men : List CodedMan) (mover : ℕ) → nat_lt mover 2 ≡ true → list_all is_told men ≡ true → placement_fault (map standing_of men) ≡ None →
-    board_of men mover ≡ Ok (record { placed_men = map standing_of men; mover = color_of mover })
+stated_board : (men : List CodedMan) (mover : ℕ) → nat_lt mover 2 ≡ true → list_all is_coded_man men ≡ true → placement_fault (map placed_man_of men) ≡ None →
+    board_of men mover ≡ Ok (record { placed_men = map placed_man_of men; mover = color_of mover })
 unfolding board_of
-told_board men mover side told none = rw (side, told, none) refl
+stated_board men mover side reported none = rw (side, reported, none) refl
 
 found : (o : Option PlacementFault) (r : Option Board) (board : Board) (whole : Result Board ℕ) → (IsNone o → r ≡ Some board) → (IsSome o → r ≡ None) → (o ≡ None → whole ≡ Ok board) →
     IfSome r (λ p. whole ≡ Ok p)
@@ -32,5 +32,5 @@ pub sound_board : (men : List CodedMan) (mover : ℕ) (placed : List PlacedMan) 
     (IsNone (placement_fault placed) → r ≡ Some board) → (IsSome (placement_fault placed) → r ≡ None) → IfSome r (λ p. board_of men mover ≡ Ok p)
 sound_board men mover placed key board r put e accepted refused =
     found (placement_fault placed) r board (board_of men mover) accepted refused
-    (λ none. told_board men mover put.mover_told put.told (ap placement_fault (sym put.placed) ∙ none)
+    (λ none. stated_board men mover put.mover_stated put.reported (ap placement_fault (sym put.placed) ∙ none)
     ∙ ap Ok (ap (λ (l : List PlacedMan). let b : Board = record { placed_men = l; mover = color_of mover } in b) (sym put.placed) ∙ sym e))

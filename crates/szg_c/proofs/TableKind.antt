@@ -1,6 +1,6 @@
 -- A handle on a table.
 use Rattle.std.proofs.Common.{refl}
-use Rattle.szg_place.specs.contracts.prepared.PreparedTable as value
+use Rattle.szg_file.specs.contracts.table.Table as value
 use Rattle.szg_c.specs.contracts.shared.Shared as shared
 use Rattle.szg_c.specs.contracts.held_table.HeldTable as handle
 use Rattle.szg_c.proofs.HandleValues.{Kind}

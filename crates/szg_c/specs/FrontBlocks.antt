@@ -23,8 +23,8 @@ IsBlockOf kept content part side index block =
     IfSome (front_at kept.index.material kept.index.kind content part side) (λ found. IfSome (wanted_block found.1 index) (λ wanted. wanted ≡ block))
 
 -- the status CHANGED says just that the bytes have another length than the block; a value that needs none is decoded
-abbrev pub IsLengthTold : FrontKept → List ℕ → ℕ → ℕ → ℕ → List ℕ → ℕ → Type 0
-IsLengthTold kept content part side index block status =
+abbrev pub IsLengthReported : FrontKept → List ℕ → ℕ → ℕ → ℕ → List ℕ → ℕ → Type 0
+IsLengthReported kept content part side index block status =
     IfSome (front_at kept.index.material kept.index.kind content part side) (λ found. MatchOption (wanted_block found.1 index) (status ≡ DONE) (λ wanted. (status ≡ CHANGED) ↔ (length block ≢ length wanted)))
 
 -- the value is what the words of these bytes spell at its index, also if they are not the file's

@@ -10,8 +10,8 @@ use Rattle.szg_file.specs.Format.{verdict}
 use Rattle.szg_file.specs.FrontTable.{FrontKept, IsFrontOf}
 use Rattle.szg_file.specs.Unread.{unread_file, front_at, IsDecoded}
 use Rattle.szg_file.specs.declared.fault.Reason.{Reason}
-use Rattle.szg_file.specs.declared.fetching.FetchFault.{FetchFault}
-use Rattle.szg_file.specs.declared.fetching.FetchFault.TheVariants.{Block, Source}
+use Rattle.szg_file.specs.declared.opened.fetching.FetchFault.{FetchFault}
+use Rattle.szg_file.specs.declared.opened.fetching.FetchFault.TheVariants.{Block, Source}
 use Rattle.szg_file.specs.Index.{Index, slot_in}
 use Rattle.szg_file.specs.declared.fault.MapFault.{MapFault}
 use Rattle.szg_place.specs.Front.{IsBadAt, IsMeant, IsValueAt, as_class, as_number, fault_in, spot_in}
@@ -23,16 +23,16 @@ use Rattle.szg_place.specs.declared.FrontProbeFault.{FrontProbeFault}
 use Rattle.szg_place.specs.declared.FrontProbeFault.TheVariants.{Probe, Fetch}
 use Rattle.szg_place.specs.declared.ProbeFault.TheVariants.{Place, Map}
 use Rattle.szg_c.specs.Places.{is_class, map_status, number_or_status, place_status, spot_unless}
-use Rattle.szg_c.specs.Told.{IsName, IsNoName, Refuses, kind_told, number_of}
+use Rattle.szg_c.specs.Reported.{IsName, IsNoName, Refuses, kind_of_flag, number_of}
 use Rattle.szg_c.specs.declared.fronts.BadBlock.{BadBlock}
 
 -- the name is a material's, and this is the front of the table that the bytes begin with, blocks unchecked
 abbrev pub IsFront : List ℕ → Bool → List ℕ → FrontKept → Type 0
-IsFront name dtz bytes kept = (parsed name ≡ Ok kept.index.material) × (kept.index.kind ≡ kind_told dtz) × IsFrontOf kept bytes
+IsFront name dtz bytes kept = (parsed name ≡ Ok kept.index.material) × (kept.index.kind ≡ kind_of_flag dtz) × IsFrontOf kept bytes
 
 -- the name is a material's, and a check of the front refuses the bytes: at this offset, for this reason
 abbrev pub IsFrontRefused : List ℕ → Bool → List ℕ → ℕ → Reason → Type 0
-IsFrontRefused name dtz bytes place why = (material : Sides) × (parsed name ≡ Ok material) × Refuses (verdict (unread_file material (kind_told dtz)) 0 bytes) place why
+IsFrontRefused name dtz bytes place why = (material : Sides) × (parsed name ≡ Ok material) × Refuses (verdict (unread_file material (kind_of_flag dtz)) 0 bytes) place why
 
 -- what a status other than 0 says of the opening, beside the offset and the reason
 abbrev pub StopsFront : List ℕ → Bool → List ℕ → ℕ → ℕ → ℕ → Type 0
@@ -41,9 +41,9 @@ StopsFront name dtz bytes (suc (suc zero)) place reason = (why : Reason) × IsFr
 StopsFront name dtz bytes (suc (suc (suc zero))) place reason = IsName name
 StopsFront name dtz bytes status place reason = ⊥
 
-abbrev pub SaysFront : List ℕ → Bool → List ℕ → Type 0 → ℕ → ℕ → ℕ → Type 0
-SaysFront name dtz bytes done zero place reason = done
-SaysFront name dtz bytes done (suc status) place reason = StopsFront name dtz bytes (suc status) place reason
+abbrev pub ReportsFront : List ℕ → Bool → List ℕ → Type 0 → ℕ → ℕ → ℕ → Type 0
+ReportsFront name dtz bytes done zero place reason = done
+ReportsFront name dtz bytes done (suc status) place reason = StopsFront name dtz bytes (suc status) place reason
 
 -- a slot, if it has this index
 abbrev pub with_slot : Option Slot → ℕ → Option Slot
@@ -51,15 +51,15 @@ with_slot None i = None
 with_slot (Some slot) i = if nat_lt i slot.size then Some slot else None
 
 -- what is written of a fault of a fetch, and its status
-abbrev pub FetchTold : FetchFault → BadBlock → BadBlock → ℕ → Type 0
-FetchTold (Block number offset) before after status = (status ≡ 18) × (after.block ≡ number) × (after.offset ≡ offset)
-FetchTold Source before after status = (status ≡ 17) × (after ≡ before)
+abbrev pub FetchReported : FetchFault → BadBlock → BadBlock → ℕ → Type 0
+FetchReported (Block number offset) before after status = (status ≡ 18) × (after.block ≡ number) × (after.offset ≡ offset)
+FetchReported Source before after status = (status ≡ 17) × (after ≡ before)
 
 -- status 0: the block decodes, and this is the value; else the fault names the block, which does not decode
 abbrev pub IsGot : FrontKept → List ℕ → ℕ → ℕ → ℕ → ℕ → ℕ → BadBlock → BadBlock → Type 0
 IsGot kept bytes part side index status value before after =
     (status ≡ 0 → IfSome (front_at kept.index.material kept.index.kind bytes part side) (λ found. IsDecoded kept.index.kind found index value))
-    × ((status ≡ 0 → ⊥) → (fault : FetchFault) × FetchTold fault before after status × IfSome (front_at kept.index.material kept.index.kind bytes part side) (λ found. NamesBadBlock bytes found index fault))
+    × ((status ≡ 0 → ⊥) → (fault : FetchFault) × FetchReported fault before after status × IfSome (front_at kept.index.material kept.index.kind bytes part side) (λ found. NamesBadBlock bytes found index fault))
 
 -- ---- placements and numbers
 
@@ -76,21 +76,21 @@ front_number x part class v =
 -- ---- outcomes
 
 -- the status of a probe's fault, and the bad block if it is one
-abbrev pub IsFaultTold : FrontProbeFault → ℕ → BadBlock → Type 0
-IsFaultTold (Probe (Place why)) status bad = status ≡ place_status why
-IsFaultTold (Probe (Map why)) status bad = status ≡ map_status why
-IsFaultTold (Fetch (Block number offset)) status bad = (status ≡ 18) × (bad.block ≡ number) × (bad.offset ≡ offset)
-IsFaultTold (Fetch Source) status bad = status ≡ 17
+abbrev pub IsFaultReported : FrontProbeFault → ℕ → BadBlock → Type 0
+IsFaultReported (Probe (Place why)) status bad = status ≡ place_status why
+IsFaultReported (Probe (Map why)) status bad = status ≡ map_status why
+IsFaultReported (Fetch (Block number offset)) status bad = (status ≡ 18) × (bad.block ≡ number) × (bad.offset ≡ offset)
+IsFaultReported (Fetch Source) status bad = status ≡ 17
 
 -- the status and outcome of a class and of a number, or of the fault
-abbrev pub IsClassTold : Result (Option ℤ) FrontProbeFault → ℕ → ℤ → BadBlock → Type 0
-IsClassTold (Ok (Some class)) status outcome bad = (status ≡ 0) × (outcome ≡ class)
-IsClassTold (Ok None) status outcome bad = status ≡ 14
-IsClassTold (Err fault) status outcome bad = IsFaultTold fault status bad
+abbrev pub IsClassReported : Result (Option ℤ) FrontProbeFault → ℕ → ℤ → BadBlock → Type 0
+IsClassReported (Ok (Some class)) status outcome bad = (status ≡ 0) × (outcome ≡ class)
+IsClassReported (Ok None) status outcome bad = status ≡ 14
+IsClassReported (Err fault) status outcome bad = IsFaultReported fault status bad
 
-abbrev pub IsNumberTold : Result ℕ FrontProbeFault → ℕ → ℤ → BadBlock → Type 0
-IsNumberTold (Ok number) status outcome bad = (status ≡ 0) × (outcome ≡ pos number)
-IsNumberTold (Err fault) status outcome bad = IsFaultTold fault status bad
+abbrev pub IsNumberReported : Result ℕ FrontProbeFault → ℕ → ℤ → BadBlock → Type 0
+IsNumberReported (Ok number) status outcome bad = (status ≡ 0) × (outcome ≡ pos number)
+IsNumberReported (Err fault) status outcome bad = IsFaultReported fault status bad
 
 -- a probe's result: the fault of a refused placement; else what the value means out of a block that decodes, or the bad block
 pub record IsProbed {A : Type 0} (kept : FrontKept) (bytes : List ℕ) (board : Board) (meaning : ℕ → Result A MapFault) (r : Result A FrontProbeFault) : Type 0 where
@@ -99,17 +99,17 @@ pub record IsProbed {A : Type 0} (kept : FrontKept) (bytes : List ℕ) (board : 
 
 -- a WDL table gives a placement's class, a DTZ table its number in a class
 abbrev pub IsClassOf : FrontKept → List ℕ → Board → ℕ → ℤ → BadBlock → Type 0
-IsClassOf kept bytes board status outcome bad = (r : Result (Option ℤ) FrontProbeFault) × IsProbed kept bytes board as_class r × IsClassTold r status outcome bad
+IsClassOf kept bytes board status outcome bad = (r : Result (Option ℤ) FrontProbeFault) × IsProbed kept bytes board as_class r × IsClassReported r status outcome bad
 
 abbrev pub IsNumberOf : FrontKept → List ℕ → ℤ → Board → ℕ → ℤ → BadBlock → Type 0
 IsNumberOf kept bytes class board status outcome bad =
-    (r : Result ℕ FrontProbeFault) × IsProbed kept bytes board (as_number kept.index (spot_in kept board).part class) r × IsNumberTold r status outcome bad
+    (r : Result ℕ FrontProbeFault) × IsProbed kept bytes board (as_number kept.index (spot_in kept board).part class) r × IsNumberReported r status outcome bad
 
 abbrev pub IsOutcome : Kind → FrontKept → List ℕ → ℤ → Board → ℕ → ℤ → BadBlock → Type 0
 IsOutcome Wdl kept bytes class board status outcome bad = IsClassOf kept bytes board status outcome bad
 IsOutcome Dtz kept bytes class board status outcome bad = (is_class class ≡ true → IsNumberOf kept bytes class board status outcome bad) × (is_class class ≡ false → status ≡ 4)
 
 -- the same, if the men are a placement
-abbrev pub IsOutcomeTold : FrontKept → List ℕ → ℤ → Result Board ℕ → ℕ → ℤ → BadBlock → Type 0
-IsOutcomeTold kept bytes class (Err why) status outcome bad = status ≡ why
-IsOutcomeTold kept bytes class (Ok board) status outcome bad = IsOutcome kept.index.kind kept bytes class board status outcome bad
+abbrev pub IsOutcomeReported : FrontKept → List ℕ → ℤ → Result Board ℕ → ℕ → ℤ → BadBlock → Type 0
+IsOutcomeReported kept bytes class (Err why) status outcome bad = status ≡ why
+IsOutcomeReported kept bytes class (Ok board) status outcome bad = IsOutcome kept.index.kind kept bytes class board status outcome bad

@@ -1,8 +1,8 @@
-pub mod Told
+pub mod Reported
 pub mod Lists
 pub mod Men
 pub mod Places
-pub mod Telling
+pub mod Reporting
 pub mod Owned
 pub mod Fronts
 pub mod FrontBlocks

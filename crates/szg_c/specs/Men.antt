@@ -13,12 +13,12 @@ use Rattle.szg_c.specs.declared.men.CodedMan.{CodedMan}
 use Rattle.szg_c.specs.declared.status.TheConstants.{RANGE}
 
 -- a man's numbers encode a kind, a colour and a square
-abbrev pub is_told : CodedMan → Bool
-is_told man = nat_lt 0 man.kind && nat_lt man.kind 7 && nat_lt man.color 2 && nat_lt man.square 64
+abbrev pub is_coded_man : CodedMan → Bool
+is_coded_man man = nat_lt 0 man.kind && nat_lt man.kind 7 && nat_lt man.color 2 && nat_lt man.square 64
 
 -- the number of a kind is its code in a file
-abbrev pub man_told : ℕ → Man
-man_told kind =
+abbrev pub man_of_code : ℕ → Man
+man_of_code kind =
     if kind == 1 then Pawn else
     if kind == 2 then Knight else
     if kind == 3 then Bishop else
@@ -28,8 +28,8 @@ man_told kind =
 abbrev pub color_of : ℕ → Color
 color_of color = if color == 0 then White else Black
 
-abbrev pub standing_of : CodedMan → PlacedMan
-standing_of man = (man_told man.kind, color_of man.color, man.square)
+abbrev pub placed_man_of : CodedMan → PlacedMan
+placed_man_of man = (man_of_code man.kind, color_of man.color, man.square)
 
 -- ---- statuses: 6 invalid number; 7 to 9 no placement
 
@@ -46,14 +46,14 @@ board_unless (Some why) board = Err (placement_status why)
 -- the placement of men and a side to move, or the status that says why there is none
 unfoldable pub board_of : List CodedMan → ℕ → Result Board ℕ
 board_of men mover =
-    if not (nat_lt mover 2 && list_all is_told men) then Err 6 else
-    board_unless (placement_fault (map standing_of men)) (record { placed_men = map standing_of men; mover = color_of mover })
+    if not (nat_lt mover 2 && list_all is_coded_man men) then Err 6 else
+    board_unless (placement_fault (map placed_man_of men)) (record { placed_men = map placed_man_of men; mover = color_of mover })
 
 -- men that are put on their squares into a list, with their key, and a side to move that has a number
 pub record ArePut (men : List CodedMan) (mover : ℕ) (placed_men : List PlacedMan) (key : ℕ) : Type 0 where
-  pub mover_told : nat_lt mover 2 ≡ true
-  pub told : list_all is_told men ≡ true
-  pub placed : placed_men ≡ map standing_of men
+  pub mover_stated : nat_lt mover 2 ≡ true
+  pub reported : list_all is_coded_man men ≡ true
+  pub placed : placed_men ≡ map placed_man_of men
   pub standing : AreStanding placed_men
   pub key_is : key ≡ men_key placed_men
 

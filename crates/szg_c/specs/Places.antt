@@ -36,9 +36,9 @@ spot_unless None spot = Ok spot
 spot_unless (Some why) spot = Err (place_status why)
 
 -- the spot of a placement in a table, if there is a placement
-abbrev pub spot_told : Contents → Result Board ℕ → Result Spot ℕ
-spot_told t (Err status) = Err status
-spot_told t (Ok board) = spot_unless (place_fault (numbering_of t) board) (spot_of (numbering_of t) board)
+abbrev pub spot_result : Contents → Result Board ℕ → Result Spot ℕ
+spot_result t (Err status) = Err status
+spot_result t (Ok board) = spot_unless (place_fault (numbering_of t) board) (spot_of (numbering_of t) board)
 
 -- the spot that C gets
 abbrev pub IsSpot : FoundSpot → Spot → Type 0
@@ -61,8 +61,8 @@ board_or_status (Ok board) = Ok board
 board_or_status (Err why) = Err (place_status why)
 
 -- the placement of an index of a part's side, if the table has this index
-abbrev pub placement_told : Bool → Layout → ℕ → ℕ → ℕ → Result Board ℕ
-placement_told is_there l part side index = if is_there then placement_unless (placement_refusal l part side) (board_at l part side index) else Err RANGE
+abbrev pub placement_result : Bool → Layout → ℕ → ℕ → ℕ → Result Board ℕ
+placement_result is_there l part side index = if is_there then placement_unless (placement_refusal l part side) (board_at l part side index) else Err RANGE
 
 -- ---- distances
 
@@ -75,8 +75,8 @@ number_or_status (Err why) = Err (map_status why)
 number_or_status (Ok number) = Ok number
 
 -- the distance of a value of a part in a class
-abbrev pub number_told : Contents → ℕ → ℤ → ℕ → Result ℕ ℕ
-number_told t part class v =
+abbrev pub number_result : Contents → ℕ → ℤ → ℕ → Result ℕ ℕ
+number_result t part class v =
     if is_dtz t.kind && is_class class && is_some (subtable_at t part 0) then number_or_status (mapped_number t part class v) else Err 4
 
 -- ---- outcomes
@@ -104,6 +104,6 @@ outcome_of Dtz t class board = if is_class class then
     else Err 4
 
 -- the result for a placement, if there is a placement
-abbrev pub outcome_told : Contents → ℤ → Result Board ℕ → Result ℤ ℕ
-outcome_told t class (Err status) = Err status
-outcome_told t class (Ok board) = outcome_of t.kind t class board
+abbrev pub outcome_result : Contents → ℤ → Result Board ℕ → Result ℤ ℕ
+outcome_result t class (Err status) = Err status
+outcome_result t class (Ok board) = outcome_of t.kind t class board

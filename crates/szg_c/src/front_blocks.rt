@@ -3,7 +3,7 @@ ghost use Rattle.std.specs.Prelude.{◌≡◌, ◌+◌, ◌≤◌, ◌⊎◌, �
 ghost use Rattle.std.specs.declared.option.Option.TheVariants.{None, Some};
 ghost use Rattle.szg_file.specs.FrontTable.{IsFrontOf};
 ghost use Rattle.szg_file.specs.Index.{slot_in};
-ghost use Rattle.szg_c.specs.FrontBlocks.{IsBlockOf, IsFoundRange, IsLengthTold, IsSpelledIn};
+ghost use Rattle.szg_c.specs.FrontBlocks.{IsBlockOf, IsFoundRange, IsLengthReported, IsSpelledIn};
 ghost use Rattle.szg_c.specs.Fronts.{IsGot, with_slot};
 
 use crate::fronts::{BadBlock, fetch_status, has_index};
@@ -93,7 +93,7 @@ fn value_of(
     bad: &mut BadBlock,
 ) -> u32
     ensures statuses { MatchOption (with_slot (slot_in table.now.index part side) index) (result ≡ RANGE) (λ slot. (result ≡ DONE) ⊎ (result ≡ CHANGED) ⊎ (result ≡ BAD_BLOCK)) }
-    ensures length { (content : List ℕ) → IsFrontOf table.now content → IfSome (with_slot (slot_in table.now.index part side) index) (λ slot. IsLengthTold table.now content part side index block.now result) }
+    ensures length { (content : List ℕ) → IsFrontOf table.now content → IfSome (with_slot (slot_in table.now.index part side) index) (λ slot. IsLengthReported table.now content part side index block.now result) }
     ensures got { (content : List ℕ) → IsFrontOf table.now content → IfSome (with_slot (slot_in table.now.index part side) index) (λ slot. IsBlockOf table.now content part side index block.now → IsGot table.now content part side index result value.new bad.old bad.new) }
     ensures spelled { (content : List ℕ) → IsFrontOf table.now content → IfSome (with_slot (slot_in table.now.index part side) index) (λ slot. (result ≡ DONE) → IsSpelledIn table.now content part side index block.now value.new) }
     ensures value_stays { (result ≡ DONE → ⊥) → value.new ≡ value.old }
@@ -131,7 +131,7 @@ pub extern "C" fn szg_front_value(
     ensures kept { front.new.value ≡ front.old.value }
     ensures closed { front.old.value ≡ None → result ≡ CLOSED }
     ensures statuses { IfSome front.old.value (λ f. MatchOption (with_slot (slot_in f.index part side) index) (result ≡ RANGE) (λ slot. (result ≡ DONE) ⊎ (result ≡ CHANGED) ⊎ (result ≡ BAD_BLOCK))) }
-    ensures length { IfSome front.old.value (λ f. (content : List ℕ) → IsFrontOf f content → IfSome (with_slot (slot_in f.index part side) index) (λ slot. IsLengthTold f content part side index block.now result)) }
+    ensures length { IfSome front.old.value (λ f. (content : List ℕ) → IsFrontOf f content → IfSome (with_slot (slot_in f.index part side) index) (λ slot. IsLengthReported f content part side index block.now result)) }
     ensures got { IfSome front.old.value (λ f. (content : List ℕ) → IsFrontOf f content → IfSome (with_slot (slot_in f.index part side) index) (λ slot. IsBlockOf f content part side index block.now → IsGot f content part side index result value.new bad.old bad.new)) }
     ensures spelled { IfSome front.old.value (λ f. (content : List ℕ) → IsFrontOf f content → IfSome (with_slot (slot_in f.index part side) index) (λ slot. (result ≡ DONE) → IsSpelledIn f content part side index block.now value.new)) }
     ensures value_stays { (result ≡ DONE → ⊥) → value.new ≡ value.old }

@@ -1,7 +1,7 @@
 //! Calls on the placements of an opened front.
 ghost use Rattle.std.specs.Prelude.{◌≡◌, ◌≤ℤ◌, pos, neg_ℤ, Err, IfSome, MatchResult, Ok};
 ghost use Rattle.std.specs.declared.option.Option.TheVariants.{None, Some};
-ghost use Rattle.szg_c.specs.Fronts.{IsClassTold, IsFaultTold, IsNumberTold, IsOutcome, IsOutcomeTold, IsProbed, front_number, front_spot};
+ghost use Rattle.szg_c.specs.Fronts.{IsClassReported, IsFaultReported, IsNumberReported, IsOutcome, IsOutcomeReported, IsProbed, front_number, front_spot};
 ghost use Rattle.szg_place.specs.Front.{as_class, as_number, spot_in as spot_of_front};
 ghost use Rattle.szg_c.specs.Men.{board_of};
 ghost use Rattle.szg_c.specs.Places.{IsSpot};
@@ -9,7 +9,7 @@ ghost use Rattle.szg_c.specs.Places.{IsSpot};
 use crate::fronts::{BadBlock, fetch_status};
 use crate::handle::{put, take};
 use crate::held_front::HeldFront;
-use crate::men::{CodedMan, placement_or_fault, sound_men, standing_key};
+use crate::men::{CodedMan, key_of_men, placement_or_fault, sound_men};
 use crate::places::{
     FoundSpot, is_class, map_status, number_or_status, place_status, spot_or_status,
 };
@@ -36,14 +36,14 @@ pub extern "C" fn szg_front_index(
 ) -> u32
     ensures kept { front.new.value ≡ front.old.value }
     ensures closed { front.old.value ≡ None → (result ≡ 5) × (spot.new ≡ spot.old) }
-    ensures told { IfSome front.old.value (λ f. MatchResult (front_spot f.index (board_of men.now mover)) (λ found. (result ≡ 0) × IsSpot spot.new found) (λ status. (result ≡ status) × (spot.new ≡ spot.old))) }
+    ensures reported { IfSome front.old.value (λ f. MatchResult (front_spot f.index (board_of men.now mover)) (λ found. (result ≡ 0) × IsSpot spot.new found) (λ status. (result ≡ status) × (spot.new ≡ spot.old))) }
 {
     let Some(held) = take(front, alloc) else {
         return CLOSED;
     };
-    let told = spot_in(held.value(), men, mover);
+    let reported = spot_in(held.value(), men, mover);
     put(front, held);
-    match told {
+    match reported {
         Ok(found) => {
             spot.part = found.part;
             spot.side = found.side;
@@ -58,7 +58,7 @@ fn spot_in(table: &FrontTable, men: &[CodedMan], mover: u8) -> Result<Spot, u32>
     ensures { result ≡ front_spot table.now.index (board_of men.now mover) }
 {
     let mut placed_men = ArrayVec::new();
-    let Some(key) = standing_key(men, mover, &mut placed_men) else {
+    let Some(key) = key_of_men(men, mover, &mut placed_men) else {
         return spot_or_fault(table.index(), men, mover);
     };
     let Some(placement) = sound_men(men, mover, &placed_men, key) else {
@@ -100,14 +100,14 @@ pub extern "C" fn szg_front_number(
 ) -> u32
     ensures kept { front.new.value ≡ front.old.value }
     ensures closed { front.old.value ≡ None → (result ≡ 5) × (number.new ≡ number.old) }
-    ensures told { IfSome front.old.value (λ f. MatchResult (front_number f.index part class value) (λ n. (result ≡ 0) × (number.new ≡ n)) (λ status. (result ≡ status) × (number.new ≡ number.old))) }
+    ensures reported { IfSome front.old.value (λ f. MatchResult (front_number f.index part class value) (λ n. (result ≡ 0) × (number.new ≡ n)) (λ status. (result ≡ status) × (number.new ≡ number.old))) }
 {
     let Some(held) = take(front, alloc) else {
         return CLOSED;
     };
-    let told = number_in(held.value().index(), part, class, value);
+    let reported = number_in(held.value().index(), part, class, value);
     put(front, held);
-    match told {
+    match reported {
         Ok(found) => {
             *number = found;
             DONE
@@ -146,7 +146,7 @@ pub extern "C" fn szg_front_probe(
 ) -> u32
     ensures kept { front.new.value ≡ front.old.value }
     ensures closed { front.old.value ≡ None → result ≡ 5 }
-    ensures told { IfSome front.old.value (λ f. IsOutcomeTold f bytes.now class (board_of men.now mover) result outcome.new bad.new) }
+    ensures reported { IfSome front.old.value (λ f. IsOutcomeReported f bytes.now class (board_of men.now mover) result outcome.new bad.new) }
     ensures outcome_stays { (result ≡ 0 → ⊥) → outcome.new ≡ outcome.old }
     ensures bad_stays { (result ≡ 18 → ⊥) → bad.new ≡ bad.old }
 {
@@ -167,12 +167,12 @@ fn outcome_in(
     outcome: &mut i64,
     bad: &mut BadBlock,
 ) -> u32
-    ensures told { IsOutcomeTold table.now bytes.now class (board_of men.now mover) result outcome.new bad.new }
+    ensures reported { IsOutcomeReported table.now bytes.now class (board_of men.now mover) result outcome.new bad.new }
     ensures outcome_stays { (result ≡ 0 → ⊥) → outcome.new ≡ outcome.old }
     ensures bad_stays { (result ≡ 18 → ⊥) → bad.new ≡ bad.old }
 {
     let mut placed_men = ArrayVec::new();
-    let Some(key) = standing_key(men, mover, &mut placed_men) else {
+    let Some(key) = key_of_men(men, mover, &mut placed_men) else {
         return outcome_or_fault(table, bytes, men, mover, class, outcome, bad);
     };
     let Some(placement) = sound_men(men, mover, &placed_men, key) else {
@@ -192,7 +192,7 @@ fn outcome_or_fault(
     outcome: &mut i64,
     bad: &mut BadBlock,
 ) -> u32
-    ensures told { IsOutcomeTold table.now bytes.now class (board_of men.now mover) result outcome.new bad.new }
+    ensures reported { IsOutcomeReported table.now bytes.now class (board_of men.now mover) result outcome.new bad.new }
     ensures outcome_stays { (result ≡ 0 → ⊥) → outcome.new ≡ outcome.old }
     ensures bad_stays { (result ≡ 18 → ⊥) → bad.new ≡ bad.old }
 {
@@ -214,12 +214,12 @@ fn outcome_of(
     outcome: &mut i64,
     bad: &mut BadBlock,
 ) -> u32
-    ensures told { IsOutcome table.now.index.kind table.now bytes.now class placement.now result outcome.new bad.new }
+    ensures reported { IsOutcome table.now.index.kind table.now bytes.now class placement.now result outcome.new bad.new }
     ensures outcome_stays { (result ≡ 0 → ⊥) → outcome.new ≡ outcome.old }
     ensures bad_stays { (result ≡ 18 → ⊥) → bad.new ≡ bad.old }
 {
     match table.index().kind() {
-        Kind::Wdl => class_told(
+        Kind::Wdl => class_stated(
             probe_wdl_front_in_men(table, bytes, placement),
             outcome,
             bad,
@@ -228,7 +228,7 @@ fn outcome_of(
             if !is_class(class) {
                 return RANGE;
             }
-            number_told(
+            number_result(
                 probe_dtz_front_in_men(table, bytes, placement, class),
                 outcome,
                 bad,
@@ -238,43 +238,47 @@ fn outcome_of(
 }
 
 /// Writes a class; returns the status.
-fn class_told(
-    told: Result<Option<i8>, FrontProbeFault>,
+fn class_stated(
+    reported: Result<Option<i8>, FrontProbeFault>,
     outcome: &mut i64,
     bad: &mut BadBlock,
 ) -> u32
-    ensures told { IsClassTold told result outcome.new bad.new }
+    ensures reported { IsClassReported reported result outcome.new bad.new }
     ensures outcome_stays { (result ≡ 0 → ⊥) → outcome.new ≡ outcome.old }
     ensures bad_stays { (result ≡ 18 → ⊥) → bad.new ≡ bad.old }
 {
-    match told {
+    match reported {
         Ok(Some(class)) => {
             *outcome = i64::from(class);
             DONE
         }
         Ok(None) => NO_CLASS,
-        Err(fault) => fault_told(fault, bad),
+        Err(fault) => report_probe_fault(fault, bad),
     }
 }
 
 /// Writes a number; returns the status.
-fn number_told(told: Result<u32, FrontProbeFault>, outcome: &mut i64, bad: &mut BadBlock) -> u32
-    ensures told { IsNumberTold told result outcome.new bad.new }
+fn number_result(
+    reported: Result<u32, FrontProbeFault>,
+    outcome: &mut i64,
+    bad: &mut BadBlock,
+) -> u32
+    ensures reported { IsNumberReported reported result outcome.new bad.new }
     ensures outcome_stays { (result ≡ 0 → ⊥) → outcome.new ≡ outcome.old }
     ensures bad_stays { (result ≡ 18 → ⊥) → bad.new ≡ bad.old }
 {
-    match told {
+    match reported {
         Ok(number) => {
             *outcome = i64::from(number);
             DONE
         }
-        Err(fault) => fault_told(fault, bad),
+        Err(fault) => report_probe_fault(fault, bad),
     }
 }
 
 /// The status of a fault of a probe; a bad block is written to `bad`.
-fn fault_told(fault: FrontProbeFault, bad: &mut BadBlock) -> u32
-    ensures told { IsFaultTold fault result bad.new }
+fn report_probe_fault(fault: FrontProbeFault, bad: &mut BadBlock) -> u32
+    ensures reported { IsFaultReported fault result bad.new }
     ensures stays { (result ≡ 18 → ⊥) → bad.new ≡ bad.old }
     ensures not_done { result ≡ 0 → ⊥ }
 {

@@ -3,7 +3,7 @@ ghost use Rattle.std.specs.Prelude.{◌≡◌, ◌⊎◌, ℕ, List, IfErr, IfOk
 ghost use Rattle.std.specs.declared.option.Option.TheVariants.{None, Some};
 ghost use Rattle.szg_file.specs.FrontTable.{IsFrontOf};
 ghost use Rattle.szg_file.specs.Index.{slot_in};
-ghost use Rattle.szg_c.specs.Fronts.{FetchTold, IsFront, IsGot, SaysFront, StopsFront, with_slot};
+ghost use Rattle.szg_c.specs.Fronts.{FetchReported, IsFront, IsGot, ReportsFront, StopsFront, with_slot};
 
 use crate::handle::{hold, put, share, shut, take};
 use crate::held_front::HeldFront;
@@ -66,7 +66,7 @@ pub extern "C" fn szg_open_front(
     front: &mut HeldFront,
     answer: &mut Answer,
 ) -> u32
-    ensures says { SaysFront name.now dtz bytes.now (IsSomeAnd front.new.value (IsFront name.now dtz bytes.now)) result answer.new.place answer.new.reason }
+    ensures says { ReportsFront name.now dtz bytes.now (IsSomeAnd front.new.value (IsFront name.now dtz bytes.now)) result answer.new.place answer.new.reason }
     ensures shut { (result ≡ 0 → ⊥) → front.new.value ≡ None }
     ensures stays { (result ≡ 2 → ⊥) → answer.new ≡ answer.old }
 {
@@ -132,7 +132,7 @@ pub extern "C" fn szg_front_size(
 ) -> u32
     ensures kept { front.new.value ≡ front.old.value }
     ensures closed { front.old.value ≡ None → (result ≡ 5) × (size.new ≡ size.old) }
-    ensures told { IfSome front.old.value (λ f. MatchOption (slot_in f.index part side) ((result ≡ 4) × (size.new ≡ size.old)) (λ slot. (result ≡ 0) × (size.new ≡ slot.size))) }
+    ensures reported { IfSome front.old.value (λ f. MatchOption (slot_in f.index part side) ((result ≡ 4) × (size.new ≡ size.old)) (λ slot. (result ≡ 0) × (size.new ≡ slot.size))) }
 {
     let Some(held) = take(front, alloc) else {
         return CLOSED;
@@ -154,7 +154,7 @@ pub fn has_index(table: &FrontTable, part: u8, side: u8, index: u64) -> bool
 
 /// The status of a fault of a fetch; a bad block is written to `bad`.
 pub fn fetch_status(fault: FetchFault, bad: &mut BadBlock) -> u32
-    ensures { FetchTold fault bad.old bad.new result }
+    ensures { FetchReported fault bad.old bad.new result }
 {
     match fault {
         FetchFault::Block { number, offset } => {

@@ -2,8 +2,8 @@
 ghost use Rattle.std.specs.Prelude.{◌≡◌, ◌≢◌, ◌<◌, ◌⊎◌, length, IfSome, IsNone, IsSomeAnd, MatchResult};
 ghost use Rattle.std.specs.declared.option.Option.TheVariants.{None, Some};
 ghost use Rattle.szg_file.specs.Values.{subtable_at, values_of, item};
-ghost use Rattle.szg_c.specs.Places.{number_told};
-ghost use Rattle.szg_c.specs.Told.{Says};
+ghost use Rattle.szg_c.specs.Places.{number_result};
+ghost use Rattle.szg_c.specs.Reported.{Reports};
 
 use crate::handle::{hold, put, share, shut, take};
 use crate::held_table::HeldTable;
@@ -14,7 +14,6 @@ use crate::status::{CLOSED, DONE, MEMORY, RANGE};
 use std::alloc::Global;
 use szg_file::Table;
 use szg_file::typed::table_fits;
-use szg_place::PreparedTable;
 use szg_values::Kind;
 
 /// Opens the table of this name and kind that the bytes begin with. The handle's previous table is closed.
@@ -27,14 +26,14 @@ pub extern "C" fn szg_open(
     table: &mut HeldTable,
     answer: &mut Answer,
 ) -> u32
-    ensures says { Says name.now dtz bytes.now (λ t. table.new.value ≡ Some t) (λ t. ⊥) result answer.new.place answer.new.reason }
+    ensures says { Reports name.now dtz bytes.now (λ t. table.new.value ≡ Some t) (λ t. ⊥) result answer.new.place answer.new.reason }
     ensures shut { (result ≡ 0 → ⊥) → table.new.value ≡ None }
     ensures answer_stays { (result ≡ 2 → ⊥) → answer.new ≡ answer.old }
 {
     shut(table, alloc);
     match open(alloc, name, dtz, bytes, answer) {
         Ok(opened) => {
-            let Ok(shared) = Shared::new(alloc, PreparedTable::of(opened)) else {
+            let Ok(shared) = Shared::new(alloc, opened) else {
                 return MEMORY;
             };
             hold(alloc, table, shared)
@@ -107,7 +106,7 @@ pub extern "C" fn szg_get(
     let Some(held) = take(table, alloc) else {
         return CLOSED;
     };
-    let status = value_in(held.value().table(), part, side, index, value);
+    let status = value_in(held.value(), part, side, index, value);
     put(table, held);
     status
 }
@@ -148,7 +147,7 @@ pub extern "C" fn szg_positions(
     let Some(held) = take(table, alloc) else {
         return CLOSED;
     };
-    let status = size_in(held.value().table(), part, side, size);
+    let status = size_in(held.value(), part, side, size);
     put(table, held);
     status
 }
@@ -199,14 +198,14 @@ pub extern "C" fn szg_all(
     let Some(held) = take(table, alloc) else {
         return CLOSED;
     };
-    let status = values_in(alloc, held.value().table(), part, side, values);
+    let status = values_in(alloc, held.value(), part, side, values);
     put(table, held);
     status
 }
 
 /// Returns the distance of a DTZ value in a class. Errors: a status.
 fn number_in(table: &Table, part: u8, class: i8, value: u16) -> Result<u32, u32>
-    ensures { result ≡ number_told table.now.contents part class value }
+    ensures { result ≡ number_result table.now.contents part class value }
 {
     if table.kind() != Kind::Dtz || !is_class(class) || table.size(part, 0).is_none() {
         return Err(RANGE);
@@ -230,14 +229,14 @@ pub extern "C" fn szg_number(
 ) -> u32
     ensures kept { table.new.value ≡ table.old.value }
     ensures closed { table.old.value ≡ None → (result ≡ 5) × (number.new ≡ number.old) }
-    ensures told { IfSome table.old.value (λ t. MatchResult (number_told t.contents part class value) (λ n. (result ≡ 0) × (number.new ≡ n)) (λ status. (result ≡ status) × (number.new ≡ number.old))) }
+    ensures reported { IfSome table.old.value (λ t. MatchResult (number_result t.contents part class value) (λ n. (result ≡ 0) × (number.new ≡ n)) (λ status. (result ≡ status) × (number.new ≡ number.old))) }
 {
     let Some(held) = take(table, alloc) else {
         return CLOSED;
     };
-    let told = number_in(held.value().table(), part, class, value);
+    let reported = number_in(held.value(), part, class, value);
     put(table, held);
-    match told {
+    match reported {
         Ok(found) => {
             *number = found;
             DONE

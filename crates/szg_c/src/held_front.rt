@@ -7,7 +7,7 @@ ghost use Rattle.std.specs.Coded.{coded_option};
 ghost use Rattle.std.specs.contracts.impls.GlobalAllocator.TheImpl.{ghosts};
 ghost use Rattle.szg_c.specs.contracts.shared.Shared.{the_row};
 ghost use Rattle.szg_file.specs.FrontTable.{FrontKept};
-ghost use Rattle.szg_file.specs.contracts.front_table.FrontTable.{the_row as value_row};
+ghost use Rattle.szg_file.specs.contracts.opened.front_table.FrontTable.{the_row as value_row};
 ghost use Rattle.szg_c.specs.Owned.{held};
 
 use crate::handle::Handle;

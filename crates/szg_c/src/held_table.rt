@@ -7,7 +7,7 @@ ghost use Rattle.std.specs.Coded.{coded_option};
 ghost use Rattle.std.specs.contracts.impls.GlobalAllocator.TheImpl.{ghosts};
 ghost use Rattle.szg_c.specs.contracts.shared.Shared.{the_row};
 ghost use Rattle.szg_file.specs.Held.{Shown};
-ghost use Rattle.szg_place.specs.contracts.prepared.PreparedTable.{the_row as value_row};
+ghost use Rattle.szg_file.specs.contracts.table.Table.{the_row as value_row};
 ghost use Rattle.szg_c.specs.Owned.{held};
 
 use crate::handle::Handle;
@@ -16,7 +16,7 @@ use crate::shared::Shared;
 use std::alloc::Global;
 use std::marker::Model;
 use std::ptr::null_mut;
-use szg_place::PreparedTable;
+use szg_file::Table;
 
 /// A handle on a table, or on none.
 #[repr(C)]
@@ -31,7 +31,7 @@ impl Model for HeldTable {
 }
 
 impl Handle for HeldTable {
-    type Value = PreparedTable;
+    type Value = Table;
 
     ghost held = { λ h. h.value };
 
@@ -44,7 +44,7 @@ impl Handle for HeldTable {
         }
     }
 
-    fn of(shared: Loose<Shared<PreparedTable>, Global>) -> HeldTable
+    fn of(shared: Loose<Shared<Table>, Global>) -> HeldTable
         ensures { result.value ≡ Some shared.value }
     {
         let Loose { at, alloc } = shared;
@@ -54,7 +54,7 @@ impl Handle for HeldTable {
         }
     }
 
-    fn into_loose(self) -> Option<Loose<Shared<PreparedTable>, Global>>
+    fn into_loose(self) -> Option<Loose<Shared<Table>, Global>>
         ensures { MatchOption result (self.value ≡ None) (λ shared. self.value ≡ Some shared.value) }
     {
         let HeldTable { at, alloc } = self;
@@ -62,7 +62,7 @@ impl Handle for HeldTable {
             None
         } else {
             Some(Loose {
-                at: at as *mut Shared<PreparedTable>,
+                at: at as *mut Shared<Table>,
                 alloc,
             })
         }

@@ -6,7 +6,7 @@ ghost use Rattle.szg_file.specs.Values.{subtable_at};
 ghost use Rattle.szg_place.specs.Tables.{numbering_in, numbering_of};
 ghost use Rattle.szg_c.specs.Fronts.{with_slot};
 ghost use Rattle.szg_c.specs.Men.{IsWritten, with_room};
-ghost use Rattle.szg_c.specs.Places.{board_or_status, placement_told, with_index};
+ghost use Rattle.szg_c.specs.Places.{board_or_status, placement_result, with_index};
 
 use crate::handle::{put, take};
 use crate::held_front::HeldFront;
@@ -39,15 +39,15 @@ pub extern "C" fn szg_placement(
 ) -> u32
     ensures kept { table.new.value ≡ table.old.value }
     ensures closed { table.old.value ≡ None → result ≡ CLOSED }
-    ensures told { IfSome table.old.value (λ t. MatchResult (with_room (length men.old) (placement_told (is_some (with_index (subtable_at t.contents part side) index)) (numbering_of t.contents) part side index)) (λ board. (result ≡ DONE) × IsWritten board men.old men.new count.new mover.new) (λ status. result ≡ status)) }
+    ensures reported { IfSome table.old.value (λ t. MatchResult (with_room (length men.old) (placement_result (is_some (with_index (subtable_at t.contents part side) index)) (numbering_of t.contents) part side index)) (λ board. (result ≡ DONE) × IsWritten board men.old men.new count.new mover.new) (λ status. result ≡ status)) }
     ensures stays { (result ≡ DONE → ⊥) → (men.new ≡ men.old) × (count.new ≡ count.old) × (mover.new ≡ mover.old) }
 {
     let Some(held) = take(table, alloc) else {
         return CLOSED;
     };
-    let told = placement_at(held.value().table(), part, side, index);
+    let reported = placement_at(held.value(), part, side, index);
     put(table, held);
-    written(told, men, count, mover)
+    written(reported, men, count, mover)
 }
 
 /// Writes the placement of an index of a part's side, as `szg_placement`.
@@ -66,20 +66,20 @@ pub extern "C" fn szg_front_placement(
 ) -> u32
     ensures kept { front.new.value ≡ front.old.value }
     ensures closed { front.old.value ≡ None → result ≡ CLOSED }
-    ensures told { IfSome front.old.value (λ f. MatchResult (with_room (length men.old) (placement_told (is_some (with_slot (slot_in f.index part side) index)) (numbering_in f.index) part side index)) (λ board. (result ≡ DONE) × IsWritten board men.old men.new count.new mover.new) (λ status. result ≡ status)) }
+    ensures reported { IfSome front.old.value (λ f. MatchResult (with_room (length men.old) (placement_result (is_some (with_slot (slot_in f.index part side) index)) (numbering_in f.index) part side index)) (λ board. (result ≡ DONE) × IsWritten board men.old men.new count.new mover.new) (λ status. result ≡ status)) }
     ensures stays { (result ≡ DONE → ⊥) → (men.new ≡ men.old) × (count.new ≡ count.old) × (mover.new ≡ mover.old) }
 {
     let Some(held) = take(front, alloc) else {
         return CLOSED;
     };
-    let told = placement_by(held.value().index(), part, side, index);
+    let reported = placement_by(held.value().index(), part, side, index);
     put(front, held);
-    written(told, men, count, mover)
+    written(reported, men, count, mover)
 }
 
 /// Returns the placement of an index of a table. Errors: a status.
 fn placement_at(table: &Table, part: u8, side: u8, index: u64) -> Result<Placement, u32>
-    ensures { result ≡ placement_told (is_some (with_index (subtable_at table.now.contents part side) index)) (numbering_of table.now.contents) part side index }
+    ensures { result ≡ placement_result (is_some (with_index (subtable_at table.now.contents part side) index)) (numbering_of table.now.contents) part side index }
 {
     if !is_in_table(table, part, side, index) {
         return Err(RANGE);
@@ -99,7 +99,7 @@ fn is_in_table(table: &Table, part: u8, side: u8, index: u64) -> bool
 
 /// Returns the placement of an index by a table's index. Errors: a status.
 fn placement_by(table: &TableIndex, part: u8, side: u8, index: u64) -> Result<Placement, u32>
-    ensures { result ≡ placement_told (is_some (with_slot (slot_in table.now part side) index)) (numbering_in table.now) part side index }
+    ensures { result ≡ placement_result (is_some (with_slot (slot_in table.now part side) index)) (numbering_in table.now) part side index }
 {
     if !is_in_index(table, part, side, index) {
         return Err(RANGE);
@@ -117,10 +117,10 @@ fn is_in_index(table: &TableIndex, part: u8, side: u8, index: u64) -> bool
     }
 }
 
-fn placement_or_status(told: Result<Placement, PlaceFault>) -> Result<Placement, u32>
-    ensures { result ≡ board_or_status told }
+fn placement_or_status(reported: Result<Placement, PlaceFault>) -> Result<Placement, u32>
+    ensures { result ≡ board_or_status reported }
 {
-    match told {
+    match reported {
         Ok(placement) => Ok(placement),
         Err(fault) => Err(place_status(fault)),
     }
@@ -128,15 +128,15 @@ fn placement_or_status(told: Result<Placement, PlaceFault>) -> Result<Placement,
 
 /// Writes a placement, if there is one; returns the status.
 fn written(
-    told: Result<Placement, u32>,
+    reported: Result<Placement, u32>,
     men: &mut [CodedMan],
     count: &mut usize,
     mover: &mut u8,
 ) -> u32
-    ensures told { MatchResult (with_room (length men.old) told) (λ board. (result ≡ DONE) × IsWritten board men.old men.new count.new mover.new) (λ status. result ≡ status) }
+    ensures reported { MatchResult (with_room (length men.old) reported) (λ board. (result ≡ DONE) × IsWritten board men.old men.new count.new mover.new) (λ status. result ≡ status) }
     ensures stays { (result ≡ DONE → ⊥) → (men.new ≡ men.old) × (count.new ≡ count.old) × (mover.new ≡ mover.old) }
 {
-    match told {
+    match reported {
         Ok(placement) => write_placement(&placement, men, count, mover),
         Err(status) => status,
     }

@@ -3,7 +3,7 @@ ghost use Rattle.std.specs.Prelude.{◌≡◌, ◌<◌, ◌≤◌, ◌&&◌, IsT
 ghost use Rattle.std.specs.declared.option.Option.TheVariants.{None, Some};
 ghost use Rattle.std.specs.List.{list_all};
 ghost use Rattle.szg_values.specs.Placement.{AreStanding, men_key};
-ghost use Rattle.szg_c.specs.Men.{ArePut, IsWritten, board_of, coded_man, color_code as color_number, color_of as color_told, with_room, is_told, man_told, placement_status, standing_of};
+ghost use Rattle.szg_c.specs.Men.{ArePut, IsWritten, board_of, coded_man, color_code as color_number, color_of as color_stated, with_room, is_coded_man, man_of_code, placement_status, placed_man_of};
 
 use crate::status::{DONE, MAN, MEN, PAWN_RANK, RANGE, SAME_SQUARE};
 use arrayvec::ArrayVec;
@@ -26,7 +26,7 @@ pub struct CodedMan {
 /// Puts the men on their squares, into an empty list; returns their key. None if there is an error that a single man or two
 /// men show, or the side to move is no number of a colour: then `placement_or_fault` returns it.
 #[inline(always)]
-pub fn standing_key(
+pub fn key_of_men(
     men: &[CodedMan],
     mover: u8,
     placed_men: &mut ArrayVec<(Man, Color, Square), MAX_MEN>,
@@ -40,7 +40,7 @@ pub fn standing_key(
     put_men(men, placed_men)
 }
 
-/// Returns the placement of men that `standing_key` put into a list, without a copy of the list. None if there is an error:
+/// Returns the placement of men that `key_of_men` put into a list, without a copy of the list. None if there is an error:
 /// then `placement_or_fault` returns it.
 #[inline(always)]
 pub fn sound_men<'a>(
@@ -64,15 +64,15 @@ fn put_men(
 ) -> Option<u64>
     requires few { length men.now ≤ 6 }
     requires empty { placed_men.old.items ≡ [] }
-    ensures told { IfSome result (λ key. list_all is_told men.now ≡ true) }
-    ensures placed { IfSome result (λ key. placed_men.new.items ≡ map standing_of men.now) }
-    ensures standing { IfSome result (λ key. AreStanding (map standing_of men.now)) }
-    ensures key { IfSome result (λ key. key ≡ men_key (map standing_of men.now)) }
+    ensures reported { IfSome result (λ key. list_all is_coded_man men.now ≡ true) }
+    ensures placed { IfSome result (λ key. placed_men.new.items ≡ map placed_man_of men.now) }
+    ensures standing { IfSome result (λ key. AreStanding (map placed_man_of men.now)) }
+    ensures key { IfSome result (λ key. key ≡ men_key (map placed_man_of men.now)) }
 {
     let mut taken = 0;
     let mut key = 0;
     for man in men {
-        let placed_man = standing_of(man)?;
+        let placed_man = placed_man_of(man)?;
         taken = with_man(taken, placed_man.0, placed_man.2)?;
         key += man_key(placed_man.0, placed_man.1);
         placed_men.push(placed_man);
@@ -91,7 +91,7 @@ pub fn placement_or_fault(men: &[CodedMan], mover: u8) -> Result<Placement, u32>
         return Err(MAN);
     }
     if men.len() > MAX_MEN {
-        return Err(if are_told(men) { MEN } else { MAN });
+        return Err(if are_coded_men(men) { MEN } else { MAN });
     }
     let Some(placed_men) = placed_men(men) else {
         return Err(MAN);
@@ -103,14 +103,14 @@ pub fn placement_or_fault(men: &[CodedMan], mover: u8) -> Result<Placement, u32>
 }
 
 /// Whether each man's numbers encode a kind, a colour and a square.
-fn are_told(men: &[CodedMan]) -> bool
-    ensures { result ≡ list_all is_told men.now }
+fn are_coded_men(men: &[CodedMan]) -> bool
+    ensures { result ≡ list_all is_coded_man men.now }
 {
-    men.iter().all(|man| is_told(man))
+    men.iter().all(|man| is_coded_man(man))
 }
 
-fn is_told(man: &CodedMan) -> bool
-    ensures { result ≡ is_told man.now }
+fn is_coded_man(man: &CodedMan) -> bool
+    ensures { result ≡ is_coded_man man.now }
 {
     0 < man.kind && man.kind < 7 && man.color < 2 && man.square < 64
 }
@@ -118,21 +118,21 @@ fn is_told(man: &CodedMan) -> bool
 /// Decodes the men. None if a man's numbers are invalid.
 fn placed_men(men: &[CodedMan]) -> Option<ArrayVec<(Man, Color, Square), MAX_MEN>>
     requires { length men.now ≤ 6 }
-    ensures told { IfSome result (λ placed_men. IsTrue (list_all is_told men.now) × (placed_men.items ≡ map standing_of men.now)) }
-    ensures untold { IsNone result → IsFalse (list_all is_told men.now) }
+    ensures reported { IfSome result (λ placed_men. IsTrue (list_all is_coded_man men.now) × (placed_men.items ≡ map placed_man_of men.now)) }
+    ensures unstated { IsNone result → IsFalse (list_all is_coded_man men.now) }
 {
     let mut placed_men = ArrayVec::new();
     for man in men {
-        placed_men.push(standing_of(man)?);
+        placed_men.push(placed_man_of(man)?);
     }
     Some(placed_men)
 }
 
-fn standing_of(man: &CodedMan) -> Option<(Man, Color, Square)>
-    ensures told { IsTrue (is_told man.now) → result ≡ Some (standing_of man.now) }
-    ensures untold { IsFalse (is_told man.now) → result ≡ None }
+fn placed_man_of(man: &CodedMan) -> Option<(Man, Color, Square)>
+    ensures reported { IsTrue (is_coded_man man.now) → result ≡ Some (placed_man_of man.now) }
+    ensures unstated { IsFalse (is_coded_man man.now) → result ≡ None }
 {
-    if !is_told(man) {
+    if !is_coded_man(man) {
         return None;
     }
     let square = Square::new(man.square)?;
@@ -142,7 +142,7 @@ fn standing_of(man: &CodedMan) -> Option<(Man, Color, Square)>
 fn kind_of(kind: u8) -> Man
     requires some { 0 < kind }
     requires known { kind < 7 }
-    ensures { result ≡ man_told kind }
+    ensures { result ≡ man_of_code kind }
 {
     match kind {
         1 => Man::Pawn,
@@ -156,7 +156,7 @@ fn kind_of(kind: u8) -> Man
 }
 
 fn color_of(color: u8) -> Color
-    ensures { result ≡ color_told color }
+    ensures { result ≡ color_stated color }
 {
     if color == 0 {
         Color::White
@@ -185,7 +185,7 @@ pub fn write_placement(
     count: &mut usize,
     mover: &mut u8,
 ) -> u32
-    ensures told { MatchResult (with_room (length men.old) (Ok placement.now)) (λ board. (result ≡ DONE) × IsWritten board men.old men.new count.new mover.new) (λ status. result ≡ status) }
+    ensures reported { MatchResult (with_room (length men.old) (Ok placement.now)) (λ board. (result ≡ DONE) × IsWritten board men.old men.new count.new mover.new) (λ status. result ≡ status) }
     ensures stays { (result ≡ DONE → ⊥) → (men.new ≡ men.old) × (count.new ≡ count.old) × (mover.new ≡ mover.old) }
 {
     let placed = placement.men();

@@ -1,7 +1,7 @@
 //! Opening a table by its name and bytes.
 ghost use Rattle.std.specs.Prelude.{◌≡◌, Ok, MatchOption, IfOk, IfErr};
 ghost use Rattle.szg_values.specs.Material.{parsed};
-ghost use Rattle.szg_c.specs.Told.{kind_told, IsNoName, IsTable, Stops};
+ghost use Rattle.szg_c.specs.Reported.{kind_of_flag, IsNoName, IsTable, Stops};
 
 use crate::status::{MEMORY, NAME, REFUSED, number_of};
 use std::alloc::Global;
@@ -20,7 +20,7 @@ pub struct Answer {
 
 /// Returns the kind for a flag.
 pub fn kind_of(dtz: bool) -> Kind
-    ensures { result ≡ kind_told dtz }
+    ensures { result ≡ kind_of_flag dtz }
 {
     if dtz { Kind::Dtz } else { Kind::Wdl }
 }

@@ -2,20 +2,20 @@
 ghost use Rattle.std.specs.Prelude.{◌≡◌, ℤ, pos, Result, Ok, Err, IfSome, MatchResult};
 ghost use Rattle.std.specs.declared.option.Option.TheVariants.{None, Some};
 ghost use Rattle.szg_c.specs.Men.{board_of};
-ghost use Rattle.szg_c.specs.Places.{IsSpot, is_class, map_status as map_told, number_or_status, outcome_of, outcome_told, place_status as place_told, spot_told};
-ghost use Rattle.szg_c.specs.Telling.{class_or_status, distance_or_status, spot_or_status};
+ghost use Rattle.szg_c.specs.Places.{IsSpot, is_class, map_status as map_fault_status, number_or_status, outcome_of, outcome_result, place_status as place_fault_status, spot_result};
+ghost use Rattle.szg_c.specs.Reporting.{class_or_status, distance_or_status, spot_or_status};
 
 use crate::handle::{put, take};
 use crate::held_table::HeldTable;
-use crate::men::{CodedMan, placement_or_fault, sound_men, standing_key};
+use crate::men::{CodedMan, key_of_men, placement_or_fault, sound_men};
 use crate::status::{
     CLOSED, DONE, DRAW, IRREGULAR, KINGS_TOUCH, NO_CLASS, OTHER_MATERIAL, OUTSIDE_MAP, RANGE,
     WRONG_SIDE,
 };
 use arrayvec::ArrayVec;
 use std::alloc::Global;
-use szg_file::MapFault;
-use szg_place::{PlaceFault, PreparedTable, ProbeFault, Spot};
+use szg_file::{MapFault, Table};
+use szg_place::{PlaceFault, ProbeFault, Spot, index_of_men, probe_dtz_men, probe_wdl_men};
 use szg_values::{Kind, PlacedMen};
 
 /// The location of a placement in a table.
@@ -45,7 +45,7 @@ pub extern "C" fn szg_index(
 ) -> u32
     ensures kept { table.new.value ≡ table.old.value }
     ensures closed { table.old.value ≡ None → (result ≡ 5) × (spot.new ≡ spot.old) }
-    ensures told { IfSome table.old.value (λ t. MatchResult (spot_told t.contents (board_of men.now mover)) (λ found. (result ≡ 0) × IsSpot spot.new found) (λ status. (result ≡ status) × (spot.new ≡ spot.old))) }
+    ensures reported { IfSome table.old.value (λ t. MatchResult (spot_result t.contents (board_of men.now mover)) (λ found. (result ≡ 0) × IsSpot spot.new found) (λ status. (result ≡ status) × (spot.new ≡ spot.old))) }
 {
     let Some(held) = take(table, alloc) else {
         return CLOSED;
@@ -58,11 +58,11 @@ pub extern "C" fn szg_index(
 /// Writes the location of men in a table; returns the status. A `Result` with a `Spot` is matched once, where it is made,
 /// since each one that is passed on is copied.
 #[inline(always)]
-fn write_spot(table: &PreparedTable, men: &[CodedMan], mover: u8, spot: &mut FoundSpot) -> u32
-    ensures { MatchResult (spot_told table.now.contents (board_of men.now mover)) (λ found. (result ≡ 0) × IsSpot spot.new found) (λ status. (result ≡ status) × (spot.new ≡ spot.old)) }
+fn write_spot(table: &Table, men: &[CodedMan], mover: u8, spot: &mut FoundSpot) -> u32
+    ensures { MatchResult (spot_result table.now.contents (board_of men.now mover)) (λ found. (result ≡ 0) × IsSpot spot.new found) (λ status. (result ≡ status) × (spot.new ≡ spot.old)) }
 {
     let mut placed_men = ArrayVec::new();
-    let Some(key) = standing_key(men, mover, &mut placed_men) else {
+    let Some(key) = key_of_men(men, mover, &mut placed_men) else {
         return write_spot_or_fault(table, men, mover, spot);
     };
     let Some(placement) = sound_men(men, mover, &placed_men, key) else {
@@ -74,13 +74,8 @@ fn write_spot(table: &PreparedTable, men: &[CodedMan], mover: u8, spot: &mut Fou
 /// The same, by one check of the men after the other.
 #[cold]
 #[inline(never)]
-fn write_spot_or_fault(
-    table: &PreparedTable,
-    men: &[CodedMan],
-    mover: u8,
-    spot: &mut FoundSpot,
-) -> u32
-    ensures { MatchResult (spot_told table.now.contents (board_of men.now mover)) (λ found. (result ≡ 0) × IsSpot spot.new found) (λ status. (result ≡ status) × (spot.new ≡ spot.old)) }
+fn write_spot_or_fault(table: &Table, men: &[CodedMan], mover: u8, spot: &mut FoundSpot) -> u32
+    ensures { MatchResult (spot_result table.now.contents (board_of men.now mover)) (λ found. (result ≡ 0) × IsSpot spot.new found) (λ status. (result ≡ status) × (spot.new ≡ spot.old)) }
 {
     match placement_or_fault(men, mover) {
         Ok(placement) => write_spot_of(table, &PlacedMen::of(&placement), spot),
@@ -90,10 +85,10 @@ fn write_spot_or_fault(
 
 /// Writes the location of a placement in a table; returns the status.
 #[inline(always)]
-fn write_spot_of(table: &PreparedTable, placement: &PlacedMen<'_>, spot: &mut FoundSpot) -> u32
-    ensures { MatchResult (spot_told table.now.contents (Ok placement.now)) (λ found. (result ≡ 0) × IsSpot spot.new found) (λ status. (result ≡ status) × (spot.new ≡ spot.old)) }
+fn write_spot_of(table: &Table, placement: &PlacedMen<'_>, spot: &mut FoundSpot) -> u32
+    ensures { MatchResult (spot_result table.now.contents (Ok placement.now)) (λ found. (result ≡ 0) × IsSpot spot.new found) (λ status. (result ≡ status) × (spot.new ≡ spot.old)) }
 {
-    match table.index_of_men(placement) {
+    match index_of_men(table, placement) {
         Ok(found) => {
             spot.part = found.part;
             spot.side = found.side;
@@ -104,10 +99,10 @@ fn write_spot_of(table: &PreparedTable, placement: &PlacedMen<'_>, spot: &mut Fo
     }
 }
 
-pub fn spot_or_status(told: Result<Spot, PlaceFault>) -> Result<Spot, u32>
-    ensures { result ≡ spot_or_status told }
+pub fn spot_or_status(reported: Result<Spot, PlaceFault>) -> Result<Spot, u32>
+    ensures { result ≡ spot_or_status reported }
 {
-    match told {
+    match reported {
         Ok(spot) => Ok(spot),
         Err(fault) => Err(place_status(fault)),
     }
@@ -131,7 +126,7 @@ pub extern "C" fn szg_probe(
 ) -> u32
     ensures kept { table.new.value ≡ table.old.value }
     ensures closed { table.old.value ≡ None → (result ≡ 5) × (outcome.new ≡ outcome.old) }
-    ensures told { IfSome table.old.value (λ t. MatchResult (outcome_told t.contents class (board_of men.now mover)) (λ n. (result ≡ 0) × (outcome.new ≡ n)) (λ status. (result ≡ status) × (outcome.new ≡ outcome.old))) }
+    ensures reported { IfSome table.old.value (λ t. MatchResult (outcome_result t.contents class (board_of men.now mover)) (λ n. (result ≡ 0) × (outcome.new ≡ n)) (λ status. (result ≡ status) × (outcome.new ≡ outcome.old))) }
 {
     let Some(held) = take(table, alloc) else {
         return CLOSED;
@@ -143,17 +138,11 @@ pub extern "C" fn szg_probe(
 
 /// Writes the class or the distance of men in a table; returns the status.
 #[inline(always)]
-fn write_outcome(
-    table: &PreparedTable,
-    men: &[CodedMan],
-    mover: u8,
-    class: i8,
-    outcome: &mut i64,
-) -> u32
-    ensures { MatchResult (outcome_told table.now.contents class (board_of men.now mover)) (λ n. (result ≡ 0) × (outcome.new ≡ n)) (λ status. (result ≡ status) × (outcome.new ≡ outcome.old)) }
+fn write_outcome(table: &Table, men: &[CodedMan], mover: u8, class: i8, outcome: &mut i64) -> u32
+    ensures { MatchResult (outcome_result table.now.contents class (board_of men.now mover)) (λ n. (result ≡ 0) × (outcome.new ≡ n)) (λ status. (result ≡ status) × (outcome.new ≡ outcome.old)) }
 {
     let mut placed_men = ArrayVec::new();
-    let Some(key) = standing_key(men, mover, &mut placed_men) else {
+    let Some(key) = key_of_men(men, mover, &mut placed_men) else {
         return write_outcome_or_fault(table, men, mover, class, outcome);
     };
     let Some(placement) = sound_men(men, mover, &placed_men, key) else {
@@ -166,13 +155,13 @@ fn write_outcome(
 #[cold]
 #[inline(never)]
 fn write_outcome_or_fault(
-    table: &PreparedTable,
+    table: &Table,
     men: &[CodedMan],
     mover: u8,
     class: i8,
     outcome: &mut i64,
 ) -> u32
-    ensures { MatchResult (outcome_told table.now.contents class (board_of men.now mover)) (λ n. (result ≡ 0) × (outcome.new ≡ n)) (λ status. (result ≡ status) × (outcome.new ≡ outcome.old)) }
+    ensures { MatchResult (outcome_result table.now.contents class (board_of men.now mover)) (λ n. (result ≡ 0) × (outcome.new ≡ n)) (λ status. (result ≡ status) × (outcome.new ≡ outcome.old)) }
 {
     match placement_or_fault(men, mover) {
         Ok(placement) => write_outcome_of(table, &PlacedMen::of(&placement), class, outcome),
@@ -182,13 +171,8 @@ fn write_outcome_or_fault(
 
 /// Writes the class or the distance of a placement in a table; returns the status.
 #[inline(always)]
-fn write_outcome_of(
-    table: &PreparedTable,
-    placement: &PlacedMen<'_>,
-    class: i8,
-    outcome: &mut i64,
-) -> u32
-    ensures { MatchResult (outcome_told table.now.contents class (Ok placement.now)) (λ n. (result ≡ 0) × (outcome.new ≡ n)) (λ status. (result ≡ status) × (outcome.new ≡ outcome.old)) }
+fn write_outcome_of(table: &Table, placement: &PlacedMen<'_>, class: i8, outcome: &mut i64) -> u32
+    ensures { MatchResult (outcome_result table.now.contents class (Ok placement.now)) (λ n. (result ≡ 0) × (outcome.new ≡ n)) (λ status. (result ≡ status) × (outcome.new ≡ outcome.old)) }
 {
     match outcome_of(table, placement, class) {
         Ok(number) => {
@@ -200,10 +184,10 @@ fn write_outcome_of(
 }
 
 #[inline(always)]
-fn outcome_of(table: &PreparedTable, placement: &PlacedMen<'_>, class: i8) -> Result<i64, u32>
+fn outcome_of(table: &Table, placement: &PlacedMen<'_>, class: i8) -> Result<i64, u32>
     ensures { result ≡ outcome_of table.now.contents.kind table.now.contents class placement.now }
 {
-    match table.table().kind() {
+    match table.kind() {
         Kind::Wdl => class_of(table, placement),
         Kind::Dtz => distance_of(table, placement, class),
     }
@@ -211,17 +195,17 @@ fn outcome_of(table: &PreparedTable, placement: &PlacedMen<'_>, class: i8) -> Re
 
 /// Returns the class of a placement in a WDL table.
 #[inline(always)]
-fn class_of(table: &PreparedTable, placement: &PlacedMen<'_>) -> Result<i64, u32>
+fn class_of(table: &Table, placement: &PlacedMen<'_>) -> Result<i64, u32>
     requires { table.now.contents.kind ≡ Kind.Wdl }
     ensures { result ≡ outcome_of Kind.Wdl table.now.contents (pos 0) placement.now }
 {
-    class_or_status(table.probe_wdl_men(placement))
+    class_or_status(probe_wdl_men(table, placement))
 }
 
-fn class_or_status(told: Result<Option<i8>, PlaceFault>) -> Result<i64, u32>
-    ensures { result ≡ class_or_status told }
+fn class_or_status(reported: Result<Option<i8>, PlaceFault>) -> Result<i64, u32>
+    ensures { result ≡ class_or_status reported }
 {
-    match told {
+    match reported {
         Ok(Some(class)) => Ok(i64::from(class)),
         Ok(None) => Err(NO_CLASS),
         Err(fault) => Err(place_status(fault)),
@@ -230,20 +214,20 @@ fn class_or_status(told: Result<Option<i8>, PlaceFault>) -> Result<i64, u32>
 
 /// Returns the distance of a placement in a class, in a DTZ table.
 #[inline(always)]
-fn distance_of(table: &PreparedTable, placement: &PlacedMen<'_>, class: i8) -> Result<i64, u32>
+fn distance_of(table: &Table, placement: &PlacedMen<'_>, class: i8) -> Result<i64, u32>
     requires { table.now.contents.kind ≡ Kind.Dtz }
     ensures { result ≡ outcome_of Kind.Dtz table.now.contents class placement.now }
 {
     if !is_class(class) {
         return Err(RANGE);
     }
-    distance_or_status(table.probe_dtz_men(placement, class))
+    distance_or_status(probe_dtz_men(table, placement, class))
 }
 
-fn distance_or_status(told: Result<u32, ProbeFault>) -> Result<i64, u32>
-    ensures { result ≡ distance_or_status told }
+fn distance_or_status(reported: Result<u32, ProbeFault>) -> Result<i64, u32>
+    ensures { result ≡ distance_or_status reported }
 {
-    match told {
+    match reported {
         Ok(number) => Ok(i64::from(number)),
         Err(ProbeFault::Place(fault)) => Err(place_status(fault)),
         Err(ProbeFault::Map(fault)) => Err(map_status(fault)),
@@ -258,17 +242,17 @@ pub fn is_class(class: i8) -> bool
 }
 
 /// Returns the distance of a DTZ value. Errors: the status for its fault.
-pub fn number_or_status(told: Result<u32, MapFault>) -> Result<u32, u32>
-    ensures { result ≡ number_or_status told }
+pub fn number_or_status(reported: Result<u32, MapFault>) -> Result<u32, u32>
+    ensures { result ≡ number_or_status reported }
 {
-    match told {
+    match reported {
         Ok(number) => Ok(number),
         Err(fault) => Err(map_status(fault)),
     }
 }
 
 pub fn place_status(fault: PlaceFault) -> u32
-    ensures { result ≡ place_told fault }
+    ensures { result ≡ place_fault_status fault }
 {
     match fault {
         PlaceFault::OtherMaterial => OTHER_MATERIAL,
@@ -279,7 +263,7 @@ pub fn place_status(fault: PlaceFault) -> u32
 }
 
 pub fn map_status(fault: MapFault) -> u32
-    ensures { result ≡ map_told fault }
+    ensures { result ≡ map_fault_status fault }
 {
     match fault {
         MapFault::Draw => DRAW,

@@ -1,6 +1,6 @@
 //! The statuses of calls.
 ghost use Rattle.std.specs.Prelude.{◌≡◌};
-ghost use Rattle.szg_c.specs.Told.{number_of as reason_number};
+ghost use Rattle.szg_c.specs.Reported.{number_of as reason_number};
 
 use szg_file::Reason;
 

@@ -2,7 +2,7 @@
 ghost use Rattle.std.specs.Prelude.{◌≡◌, ◌≢◌, ◌<◌, ◌≤◌, ℕ, slice_index, min, drop, length, IsTrue, IsFalse, IfSome, IsSomeAnd, IsNone};
 ghost use Rattle.szg_file.specs.Held.{file_bytes};
 ghost use Rattle.szg_file.specs.Values.{subtable_at, values_of};
-ghost use Rattle.szg_c.specs.Told.{Says};
+ghost use Rattle.szg_c.specs.Reported.{Reports};
 ghost use Rattle.szg_c.specs.Lists.{AreValuesAt, HasIndexFrom};
 
 use crate::held::{size_in, values_in};
@@ -20,7 +20,7 @@ pub extern "C" fn szg_check(
     bytes: &[u8],
     answer: &mut Answer,
 ) -> u32
-    ensures { Says name.now dtz bytes.now (λ t. answer.new.place ≡ length (file_bytes t)) (λ t. ⊥) result answer.new.place answer.new.reason }
+    ensures { Reports name.now dtz bytes.now (λ t. answer.new.place ≡ length (file_bytes t)) (λ t. ⊥) result answer.new.place answer.new.reason }
 {
     match open(alloc, name, dtz, bytes, answer) {
         Ok(table) => {
@@ -43,7 +43,7 @@ pub extern "C" fn szg_size(
     size: &mut u64,
     answer: &mut Answer,
 ) -> u32
-    ensures says { Says name.now dtz bytes.now (λ t. IsSomeAnd (subtable_at t.contents part side) (λ found. size.new ≡ found.0.size)) (λ t. IsNone (subtable_at t.contents part side)) result answer.new.place answer.new.reason }
+    ensures says { Reports name.now dtz bytes.now (λ t. IsSomeAnd (subtable_at t.contents part side) (λ found. size.new ≡ found.0.size)) (λ t. IsNone (subtable_at t.contents part side)) result answer.new.place answer.new.reason }
     ensures stays { (result ≡ 0 → ⊥) → size.new ≡ size.old }
     ensures answer_stays { (result ≡ 2 → ⊥) → answer.new ≡ answer.old }
 {
@@ -66,7 +66,7 @@ pub extern "C" fn szg_values(
     values: &mut [u16],
     answer: &mut Answer,
 ) -> u32
-    ensures says { Says name.now dtz bytes.now (λ t. IsSomeAnd (subtable_at t.contents part side) (λ found. values.new ≡ values_of t.contents.kind found)) (λ t. IfSome (subtable_at t.contents part side) (λ found. length values.old ≢ found.0.size)) result answer.new.place answer.new.reason }
+    ensures says { Reports name.now dtz bytes.now (λ t. IsSomeAnd (subtable_at t.contents part side) (λ found. values.new ≡ values_of t.contents.kind found)) (λ t. IfSome (subtable_at t.contents part side) (λ found. length values.old ≢ found.0.size)) result answer.new.place answer.new.reason }
     ensures stays { (result ≡ 0 → ⊥) → values.new ≡ values.old }
     ensures answer_stays { (result ≡ 2 → ⊥) → answer.new ≡ answer.old }
 {
@@ -90,7 +90,7 @@ pub extern "C" fn szg_values_at(
     values: &mut [u16],
     answer: &mut Answer,
 ) -> u32
-    ensures says { Says name.now dtz bytes.now (λ t. IsSomeAnd (subtable_at t.contents part side) (λ found. AreValuesAt (values_of t.contents.kind found) indexes.now values.new (min (length indexes.now) (length values.new)))) (λ t. IfSome (subtable_at t.contents part side) (λ found. HasIndexFrom found.0.size indexes.now (min (length indexes.now) (length values.old)))) result answer.new.place answer.new.reason }
+    ensures says { Reports name.now dtz bytes.now (λ t. IsSomeAnd (subtable_at t.contents part side) (λ found. AreValuesAt (values_of t.contents.kind found) indexes.now values.new (min (length indexes.now) (length values.new)))) (λ t. IfSome (subtable_at t.contents part side) (λ found. HasIndexFrom found.0.size indexes.now (min (length indexes.now) (length values.old)))) result answer.new.place answer.new.reason }
     ensures rest { drop (min (length indexes.now) (length values.old)) values.new ≡ drop (min (length indexes.now) (length values.old)) values.old }
     ensures stays { (result ≡ 0 → ⊥) → values.new ≡ values.old }
     ensures answer_stays { (result ≡ 2 → ⊥) → answer.new ≡ answer.old }

@@ -10,18 +10,18 @@ use Rattle.szg_code.specs.Window.{IsWindow}
 use Rattle.szg_code.proofs.Reading.{no_word_below_bases, no_word_without_symbol}
 use Rattle.szg_code.proofs.Windows.{ReachesNoBase-of_window, decided}
 
-module _ (code : CanonicalCode) (accepted : IsCode code) (bytes : List ℕ) (offset window e : ℕ) (r : IsWindow bytes offset window e) (left : List Bool) (is : drop offset (bits bytes) ≡ left) (some : BeginsWithNoWord code left → ⊥) (j : ℕ) (inside : j < length code.lowest) (reaches : shifted_base code 64 (code.min_length + j) ≤ window) (before : (k : ℕ) → k < j → window < shifted_base code 64 (code.min_length + k)) where
+module _ (code : CanonicalCode) (accepted : IsCode code) (bytes : List ℕ) (offset window e : ℕ) (r : IsWindow bytes offset window e) (room : code.max_length + e ≤ 64) (left : List Bool) (is : drop offset (bits bytes) ≡ left) (some : BeginsWithNoWord code left → ⊥) (j : ℕ) (inside : j < length code.lowest) (reaches : shifted_base code 64 (code.min_length + j) ≤ window) (before : (k : ℕ) → k < j → window < shifted_base code 64 (code.min_length + k)) where
   -- the word ends within the bits left
   pub word_fits : code.min_length + j ≤ length left
   word_fits =
       let n : length (drop offset (bits bytes)) ≡ length left = ap (λ (u : List Bool). length u) is in
       elim (cases_lt (length left) (code.min_length + j)) [
-        | inl past ↦ absurd (some (subst (λ (u : List Bool). BeginsWithNoWord code u) is (no_word_below_bases code accepted (drop offset (bits bytes)) (ReachesNoBase-of_window code accepted bytes offset window e r j inside reaches before (omega arith)))))
+        | inl past ↦ absurd (some (subst (λ (u : List Bool). BeginsWithNoWord code u) is (no_word_below_bases code accepted (drop offset (bits bytes)) (ReachesNoBase-of_window code accepted bytes offset window e r room j inside reaches before (omega arith)))))
         | inr fits ↦ fits
       ]
 
   pub word_decided : IsLeastLength code left (code.min_length + j) × (symbol_at code (code.min_length + j) (window / 2 ^ (64 - (code.min_length + j))) ≡ symbol_of_prefix code left (code.min_length + j))
-  word_decided = decided code accepted bytes offset window e r left is j inside reaches before word_fits
+  word_decided = decided code accepted bytes offset window e r room left is j inside reaches before word_fits
 
   -- its symbol exists
   pub symbol_is_there : symbol_at code (code.min_length + j) (window / 2 ^ (64 - (code.min_length + j))) < code.symbols

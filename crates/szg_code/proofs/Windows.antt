@@ -10,7 +10,7 @@ use Rattle.szg_code.specs.Bits.{bits, number}
 use Rattle.szg_code.specs.Canonical.{CanonicalCode, base, symbol_at}
 use Rattle.szg_code.specs.Acceptance.{IsCode}
 use Rattle.szg_code.specs.Least.{IsLeastLength, ReachesNoBase, shifted_base, symbol_of_prefix}
-use Rattle.szg_code.specs.Window.{padded, window_at, IsReader, IsWindow}
+use Rattle.szg_code.specs.Window.{padded, window_at, IsReader, IsWindow, HoldsBits}
 use Rattle.szg_code.proofs.Numbers.{number-append, number-below, number-bits_of_number, mod-small, number-zeros}
 use Rattle.szg_code.proofs.Reading.{number-take, reaches-shifted_base, shifted_base-reaches, least_length_of_window, no_base_of_window}
 use Rattle.szg_code.proofs.Prefixes.{symbol_of_prefix-is}
@@ -174,7 +174,7 @@ IsReader-new bytes first second fits first_is second_is =
 window_bits : List Bool → ℕ → List Bool
 window_bits left e = padded (64 - e) left ++ replicate e false
 
-window_bits-length : (left : List Bool) (e : ℕ) → e < 32 → length (window_bits left e) ≡ 64
+window_bits-length : (left : List Bool) (e : ℕ) → e ≤ 64 → length (window_bits left e) ≡ 64
 unfolding window_bits
 window_bits-length left e h =
     let a : length (padded (64 - e) left) ≡ 64 - e = length-padded (64 - e) left in
@@ -187,6 +187,10 @@ pub IsWindow-reader : (bytes : List ℕ) (offset window : ℕ) → IsReader byte
 unfolding window_at
 IsWindow-reader bytes offset window r = record { short = omega arith; window_is = r.window_is }
 
+-- and it has room for each word
+pub window_has_room : (code : CanonicalCode) → IsCode code → (offset : ℕ) → code.max_length + offset % 32 ≤ 64
+window_has_room code accepted offset = let most : code.max_length ≤ 32 = accepted.lengths.at_most in omega arith
+
 window_bits-number : (bytes : List ℕ) (offset window e : ℕ) → IsWindow bytes offset window e → number (window_bits (drop offset (bits bytes)) e) ≡ window
 unfolding window_bits
 window_bits-number bytes offset window e r =
@@ -198,13 +202,13 @@ window_bits-number bytes offset window e r =
     let w : window ≡ number (padded (64 - e) left) * 2 ^ e = r.window_is in
     omega arith
 
-window_bits-take : (left : List Bool) (e l : ℕ) → e < 32 → l ≤ 32 → l ≤ length left → take l (window_bits left e) ≡ take l left
+window_bits-take : (left : List Bool) (e l : ℕ) → l + e ≤ 64 → l ≤ length left → take l (window_bits left e) ≡ take l left
 unfolding window_bits
-window_bits-take left e l h short inside =
+window_bits-take left e l room inside =
     let a : length (padded (64 - e) left) ≡ 64 - e = length-padded (64 - e) left in
     take-append-le l (padded (64 - e) left) (replicate e false) (omega arith) ∙ take-padded l (64 - e) left (omega arith) inside
 
-module _ (code : CanonicalCode) (accepted : IsCode code) (bytes : List ℕ) (offset window e : ℕ) (r : IsWindow bytes offset window e) where
+module _ (code : CanonicalCode) (accepted : IsCode code) (bytes : List ℕ) (offset window e : ℕ) (r : IsWindow bytes offset window e) (room : code.max_length + e ≤ 64) where
   -- the length at the first base that the window reaches
   least_of_window : (l : ℕ) → code.min_length ≤ l → l ≤ code.max_length → shifted_base code 64 l ≤ window →
       ((k : ℕ) → code.min_length ≤ k → k < l → window < shifted_base code 64 k) → IsLeastLength code (window_bits (drop offset (bits bytes)) e) l
@@ -244,7 +248,7 @@ module _ (code : CanonicalCode) (accepted : IsCode code) (bytes : List ℕ) (off
       let most : code.max_length ≤ 32 = accepted.lengths.at_most in
       let l : ℕ = code.min_length + j in
       let left : List Bool = drop offset (bits bytes) in
-      least_length_of_window code (window_bits left e) left l (least_of_window l (omega arith) (omega arith) reaches (before_lengths j before)) inside (window_bits-take left e l r.short (omega arith) inside)
+      least_length_of_window code (window_bits left e) left l (least_of_window l (omega arith) (omega arith) reaches (before_lengths j before)) inside (window_bits-take left e l (omega arith) inside)
 
   -- and if there are fewer, they reach no base
   pub ReachesNoBase-of_window : (j : ℕ) → j < length code.lowest → shifted_base code 64 (code.min_length + j) ≤ window →
@@ -255,30 +259,30 @@ module _ (code : CanonicalCode) (accepted : IsCode code) (bytes : List ℕ) (off
       let l : ℕ = code.min_length + j in
       let left : List Bool = drop offset (bits bytes) in
       no_base_of_window code (window_bits left e) left l (least_of_window l (omega arith) (omega arith) reaches (before_lengths j before)) past
-      (window_bits-take left e (length left) r.short (omega arith) (omega arith) ∙ take_all (length left) left (omega arith))
+      (window_bits-take left e (length left) (omega arith) (omega arith) ∙ take_all (length left) left (omega arith))
 
 -- the number of the first bits left
-pub number-of_window : (bytes : List ℕ) (offset window e l : ℕ) → IsWindow bytes offset window e → l ≤ 32 → l ≤ length (drop offset (bits bytes)) →
+pub number-of_window : (bytes : List ℕ) (offset window e l : ℕ) → IsWindow bytes offset window e → l + e ≤ 64 → l ≤ length (drop offset (bits bytes)) →
     window / 2 ^ (64 - l) ≡ number (take l (drop offset (bits bytes)))
-number-of_window bytes offset window e l r short inside =
+number-of_window bytes offset window e l r room inside =
     let left : List Bool = drop offset (bits bytes) in
     let w : List Bool = window_bits left e in
     let n : length w ≡ 64 = window_bits-length left e r.short in
     let v : number w ≡ window = window_bits-number bytes offset window e r in
     let t : number (take l w) ≡ number w / 2 ^ (length w - l) = number-take l w (omega arith) in
     let t' : number (take l w) ≡ window / 2 ^ (64 - l) = rw (n, v) at t in
-    sym t' ∙ ap (λ (u : List Bool). number u) (window_bits-take left e l r.short short inside)
+    sym t' ∙ ap (λ (u : List Bool). number u) (window_bits-take left e l room inside)
 
 -- the bits left begin at the offset, and the window decides the length and the symbol of their first word
-pub decided : (code : CanonicalCode) → IsCode code → (bytes : List ℕ) (offset window e : ℕ) → IsWindow bytes offset window e → (left : List Bool) → drop offset (bits bytes) ≡ left → (j : ℕ) → j < length code.lowest →
+pub decided : (code : CanonicalCode) → IsCode code → (bytes : List ℕ) (offset window e : ℕ) → IsWindow bytes offset window e → code.max_length + e ≤ 64 → (left : List Bool) → drop offset (bits bytes) ≡ left → (j : ℕ) → j < length code.lowest →
     shifted_base code 64 (code.min_length + j) ≤ window → ((k : ℕ) → k < j → window < shifted_base code 64 (code.min_length + k)) → code.min_length + j ≤ length left →
     IsLeastLength code left (code.min_length + j) × (symbol_at code (code.min_length + j) (window / 2 ^ (64 - (code.min_length + j))) ≡ symbol_of_prefix code left (code.min_length + j))
-decided code accepted bytes offset window e r left is j within reaches before inside =
+decided code accepted bytes offset window e r room left is j within reaches before inside =
     let l : ℕ = code.min_length + j in
     let each : length code.lowest + code.min_length ≡ code.max_length + 1 = accepted.lengths.each in
     let most : code.max_length ≤ 32 = accepted.lengths.at_most in
     let inside' : l ≤ length (drop offset (bits bytes)) = rw is inside in
-    let h = IsLeastLength-of_window code accepted bytes offset window e r j within reaches before inside' in
+    let h = IsLeastLength-of_window code accepted bytes offset window e r room j within reaches before inside' in
     let v = number-of_window bytes offset window e l r (omega arith) inside' in
     let s = symbol_of_prefix-is code (drop offset (bits bytes)) l (window / 2 ^ (64 - l)) v in
     (subst (λ (u : List Bool). IsLeastLength code u l) is h, s ∙ ap (λ (u : List Bool). symbol_of_prefix code u l) is)
@@ -299,6 +303,32 @@ IsWindow-shifted bytes offset read read_is =
     let one : number (padded 64 xs) * 2 ^ 0 ≡ read = omega (arith, read_is) in
     let m' : read * 2 ^ l % 2 ^ 64 ≡ number (padded (64 - l) (drop offset all)) * 2 ^ l = rw (one, d, z) at m in
     record { short = omega arith; window_is = m' }
+
+-- a window that holds no bits
+pub HoldsBits-none : (bytes : List ℕ) (offset : ℕ) → HoldsBits bytes offset 0 0
+HoldsBits-none bytes offset = record { spare = 64; room = omega arith; is_window = record { short = omega arith; window_is = refl } }
+
+-- a window of eight bytes
+pub HoldsBits-read : (bytes : List ℕ) (offset read : ℕ) → read ≡ number (padded 64 (drop (8 * (offset / 8)) (bits bytes))) →
+    HoldsBits bytes offset (read * 2 ^ (offset % 8) % 18446744073709551616) 57
+HoldsBits-read bytes offset read read_is = record { spare = offset % 8; room = omega arith; is_window = IsWindow-shifted bytes offset read read_is }
+
+-- a window from a later offset on
+pub HoldsBits-moved : (bytes : List ℕ) (offset window held l most : ℕ) → HoldsBits bytes offset window held → l ≤ most → most ≤ held →
+    HoldsBits bytes (offset + l) (window * 2 ^ l % 18446744073709551616) (held - most)
+HoldsBits-moved bytes offset window held l most h short enough =
+    let all : List Bool = bits bytes in
+    let e : ℕ = h.spare in
+    let n : ℕ = 64 - (e + l) in
+    let room : held + e ≤ 64 = h.room in
+    let d : drop l (drop offset all) ≡ drop (offset + l) all = drop-drop l offset all in
+    let m : number (padded (64 - e) (drop offset all)) * 2 ^ e * 2 ^ l % 2 ^ 64 ≡ number (padded n (drop l (drop offset all))) * 2 ^ (e + l) = moved (drop offset all) e l n (omega arith) in
+    let w : window ≡ number (padded (64 - e) (drop offset all)) * 2 ^ e = h.is_window.window_is in
+    record {
+      spare = e + l;
+      room = omega arith;
+      is_window = record { short = omega arith; window_is = rw (← d, w) m };
+    }
 
 pub number-u64 : (bytes : List ℕ) (at : ℕ) → ((k : ℕ) → get_or bytes k 0 < 256) → number (padded 64 (drop (8 * at) (bits bytes))) ≡ big_from at 8 bytes
 number-u64 bytes at fit = ap (λ (u : List Bool). number (padded 64 u)) (drop-bits at bytes) ∙ number-padded_bits 8 bytes at fit

@@ -1,5 +1,5 @@
 -- The state of a reader by windows: the bits that were read but not taken, at the top of 64 bits.
-use Rattle.std.specs.Prelude.{ℕ, zero, suc, Bool, false, ◌≡◌, ◌-◌, ◌*◌, ◌%◌, ◌^◌, ◌<◌, ◌≤◌, List, [], ◌∷◌, length, drop}
+use Rattle.std.specs.Prelude.{ℕ, zero, suc, Bool, false, ◌≡◌, ◌+◌, ◌-◌, ◌*◌, ◌%◌, ◌^◌, ◌≤◌, List, [], ◌∷◌, length, drop}
 use Rattle.szg_code.specs.Bits.{bits, number}
 
 -- the first n bits, padded with zeros if there are fewer
@@ -19,12 +19,19 @@ pub record IsReader (bytes : List ℕ) (offset window : ℕ) : Type 0 where
   pub inside : offset ≤ 8 * length bytes
   pub window_is : window ≡ window_at (bits bytes) offset
 
--- A window holds the bits from an offset on, at the top of 64 bits; the last `spare` of these, fewer than 32, are zeros.
+-- A window holds the bits from an offset on, at the top of 64 bits; the last `spare` of these are zeros.
 pub record IsWindow (bytes : List ℕ) (offset window spare : ℕ) : Type 0 where
-  pub short : spare < 32
+  pub short : spare ≤ 64
   pub window_is : window ≡ number (padded (64 - spare) (drop offset (bits bytes))) * 2 ^ spare
 
--- the fields of a reader without a window are valid
-pub record IsWordReader (bytes : List ℕ) (offset : ℕ) : Type 0 where
+-- a window holds at least `held` bits from an offset on
+pub record HoldsBits (bytes : List ℕ) (offset window held : ℕ) : Type 0 where
+  pub spare : ℕ
+  pub room : held + spare ≤ 64
+  pub is_window : IsWindow bytes offset window spare
+
+-- the fields of a reader for bits that begin with words are valid
+pub record IsWordReader (bytes : List ℕ) (offset window held : ℕ) : Type 0 where
   pub fits : length bytes ≤ 2 ^ 60
   pub inside : offset ≤ 8 * length bytes
+  pub holds : HoldsBits bytes offset window held

@@ -95,6 +95,15 @@ impl Code {
         self.header.max
     }
 
+    /// Returns the greatest length of a word in bits, as `max` does. It is at most 32.
+    #[inline(always)]
+    pub(crate) fn longest(&self) -> u64
+        ensures length { result ≡ self.now.max_length }
+        ensures few { result ≤ 32 }
+    {
+        u64::from(self.header.max)
+    }
+
     /// Returns the lowest symbol of each length, from the least length on.
     pub fn lowest(&self) -> &[u16]
         ensures { result.now ≡ self.now.lowest }
@@ -213,8 +222,9 @@ impl Code {
         self.header.reached_index_from(&self.bases, start, window)
     }
 
-    /// `reached_index` without its table: the search starts from the least length. It takes a step for each length above
-    /// the least one, but what comes next doesn't wait for a table.
+    /// `reached_index` without its table. With at most two lengths one comparison finds the index, and nothing branches on
+    /// the window. With more, the search starts from the least length and takes a step for each length above it, but what
+    /// comes next doesn't wait for a table.
     #[inline(always)]
     pub(crate) fn first_reached_index(&self, window: u64) -> usize
         ensures accepted { IsCode self.now }
@@ -222,13 +232,18 @@ impl Code {
         ensures reaches { shifted_base self.now 64 (self.now.min_length + result) ≤ window }
         ensures before { (k : ℕ) → k < result → window < shifted_base self.now 64 (self.now.min_length + k) }
     {
+        if self.header.lowest.len() <= 2 {
+            return usize::from(window < self.bases[0]);
+        }
         self.header.reached_index_from(&self.bases, 0, window)
     }
 
-    /// Returns whether at least seven of eight windows begin with a word of the least length, so that the length of a word
-    /// can be predicted.
-    pub fn has_mostly_least_words(&self) -> bool {
+    /// Returns whether `WordReader` decodes words faster than `next_words`: at least seven of eight windows begin with a word
+    /// of the least length, so that a word's length can be predicted; or words have at most two lengths, which one comparison
+    /// distinguishes, and the first two words of each byte are not stored.
+    pub fn is_read_word_by_word(&self) -> bool {
         self.bases[0] <= MOSTLY_REACHED
+            || (self.header.lowest.len() <= 2 && self.two_words.is_none())
     }
 
     /// Returns the number that the window's leading bits, whose number is the length at index `j`, represent as a symbol.

@@ -3,21 +3,35 @@ ghost use Rattle.std.specs.Prelude.{◌≡◌, ◌*◌, ◌^◌, ◌<◌, ◌≤
 ghost use Rattle.szg_code.specs.Bits.{bits, number};
 ghost use Rattle.szg_code.specs.Spelling.{BeginsWithNoWord};
 ghost use Rattle.szg_code.specs.Cursor.{TakesWord};
-ghost use Rattle.szg_code.specs.Window.{padded};
+ghost use Rattle.szg_code.specs.Window.{HoldsBits, padded};
 
 use crate::canonical::Code;
 use crate::reader::read_u32_at;
 use byteorder::{BigEndian, ByteOrder};
 use std::marker::Model;
 
+/// The number of bits that a window holds at least when it has just been read: eight bytes without the bits before the
+/// offset in the first byte.
+const FRESH: u64 = 57;
+
+/// A window of 64 bits.
+#[derive(Clone, Copy)]
+struct Window {
+    /// The bits from an offset on, first bit at the top.
+    bits: u64,
+    /// The window holds at least this many bits. It may hold more; then they are not used.
+    held: u64,
+}
+
 /// A bit reader over borrowed bytes, each byte's high bit first, for bits that are known to begin with words.
 ///
-/// It holds no window. Each word is decoded from eight bytes that are read at its own offset, so decoding one word doesn't
-/// wait for the bits of the word before. That is faster than `Bits` where the length of most words can be predicted.
+/// The window is read anew when it may be too short for the longest word. A word counts as a longest one there, so the
+/// number of words between two such reads is always the same, and a processor can predict it.
 #[derive(Drop)]
 pub struct WordReader<'a> {
     bytes: &'a [u8],
     offset: u64,
+    window: Window,
 }
 
 impl<'a> Model for WordReader<'a> {
@@ -30,7 +44,7 @@ impl<'a> Model for WordReader<'a> {
 
     ghost view = { λ reader. record { taken = take reader.offset (bits reader.bytes.now); left = drop reader.offset (bits reader.bytes.now) } };
 
-    ghost invariant = { λ reader. IsWordReader reader.bytes.now reader.offset };
+    ghost invariant = { λ reader. IsWordReader reader.bytes.now reader.offset reader.window.bits reader.window.held };
 }
 
 impl<'a> WordReader<'a> {
@@ -40,17 +54,11 @@ impl<'a> WordReader<'a> {
         ensures taken { result.taken ≡ [] }
         ensures left { result.left ≡ bits bytes.now }
     {
-        WordReader { bytes, offset: 0 }
-    }
-
-    /// Skips `count` of the remaining bits.
-    #[inline(always)]
-    fn skip(&mut self, count: u64)
-        requires { count ≤ length self.old.left }
-        ensures taken { self.new.taken ≡ self.old.taken ++ take count self.old.left }
-        ensures left { self.new.left ≡ drop count self.old.left }
-    {
-        self.offset += count;
+        WordReader {
+            bytes,
+            offset: 0,
+            window: Window { bits: 0, held: 0 },
+        }
     }
 }
 
@@ -67,6 +75,24 @@ fn read_u64_at(bytes: &[u8], at: usize) -> u64
     }
 }
 
+/// Returns a window from bit `offset` on that holds at least `count` bits: the given one, or one that is read anew.
+#[inline(always)]
+fn window_of(bytes: &[u8], offset: u64, window: Window, count: u64) -> Window
+    requires offset { offset ≤ 2 ^ 63 }
+    requires few { count ≤ 57 }
+    requires held { HoldsBits bytes.now offset window.bits window.held }
+    ensures held { HoldsBits bytes.now offset result.bits result.held }
+    ensures enough { count ≤ result.held }
+{
+    if window.held >= count {
+        return window;
+    }
+    Window {
+        bits: read_u64_at(bytes, (offset / 8) as usize) << (offset % 8),
+        held: FRESH,
+    }
+}
+
 /// Decodes the word at the reader's offset, moves the reader past it, and returns its symbol. The remaining bits must begin
 /// with a word.
 #[inline(always)]
@@ -74,10 +100,15 @@ pub fn next_word(code: &Code, words: &mut WordReader) -> u16
     requires { BeginsWithNoWord code.now words.old.left → ⊥ }
     ensures { TakesWord code.now words.old words.new result }
 {
-    let window = read_u64_at(words.bytes, (words.offset / 8) as usize) << (words.offset % 8);
-    let j = code.first_reached_index(window);
+    let longest = code.longest();
+    let window = window_of(words.bytes, words.offset, words.window, longest);
+    let j = code.first_reached_index(window.bits);
     let count = u64::from(code.min()) + j as u64;
-    let symbol = code.symbol_there(window, j);
-    words.skip(count);
+    let symbol = code.symbol_there(window.bits, j);
+    words.offset += count;
+    words.window = Window {
+        bits: window.bits << count,
+        held: window.held - longest,
+    };
     symbol
 }

@@ -18,7 +18,7 @@ pub choose_small : (m i j : ℕ) → m ≤ 64 → i ≤ j → choose m i ≤ pow
 choose_small m i j h k = let a = choose-power m i h in let b = power-more i j k in omega (arith, a, b)
 
 -- if `list_all` says that all of `n` numbers from `a` on pass a test, each of them passes it
-tested : (test : ℕ → Bool) (a n x : ℕ) → list_all test (range_with_len a n) ≡ true → a ≤ x → x < a + n → test x ≡ true
+pub tested : (test : ℕ → Bool) (a n x : ℕ) → list_all test (range_with_len a n) ≡ true → a ≤ x → x < a + n → test x ≡ true
 tested test a zero x e h k = absurd (omega arith)
 tested test a (suc n) x e h k = elim (cases_eq x a) [
   | inl f ↦ ap test f ∙ (and_parts (test a) (list_all test (range_with_len (a + 1) n)) e).0

@@ -16,3 +16,5 @@ pub mod Whole
 pub mod Formulas
 pub mod SubsetRanks
 pub mod Rearranged
+pub mod ManCodes
+pub mod InSlots

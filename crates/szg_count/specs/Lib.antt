@@ -5,3 +5,5 @@ pub mod Views
 pub mod Steps
 pub mod Laws
 pub mod Radix
+pub mod Facts
+pub mod Grouped

@@ -14,7 +14,7 @@ use szg_values::{MAX_MEN, Material};
 const FIRST_PAWN: u8 = 1;
 
 /// The code of a pawn of the name's second side.
-const SECOND_PAWN: u8 = 9;
+pub const SECOND_PAWN: u8 = 9;
 
 /// Returns whether the used men are a rearrangement of the material's.
 pub fn is_rearrangement(used: &[u8], codes: &[u8]) -> bool
@@ -32,8 +32,8 @@ fn are_as_many(used: &[u8], codes: &[u8]) -> bool
         .all(|code| count_of(*code, used) == count_of(*code, codes))
 }
 
-// Counts the men with this code.
-fn count_of(code: u8, codes: &[u8]) -> usize
+/// Counts the men with this code.
+pub fn count_of(code: u8, codes: &[u8]) -> usize
     ensures { result ≡ count_of code codes.now }
 {
     codes.iter().filter(|man| **man == code).count()
@@ -60,9 +60,9 @@ fn are_all(code: u8, men: &[u8]) -> bool
     men.iter().all(|man| *man == code)
 }
 
-// Returns the codes of the lead pawns and of the other pawns, for a material with pawns. The first side leads if
-// its number of pawns is the number of lead pawns.
-fn pawn_codes(material: &Material, codes: &[u8]) -> (u8, u8)
+/// Returns the codes of the lead pawns and of the other pawns, for a material with pawns. The first side leads if
+/// its number of pawns is the number of lead pawns.
+pub fn pawn_codes(material: &Material, codes: &[u8]) -> (u8, u8)
     requires { codes.now ≡ man_codes material.now }
     ensures lead { IsTrue (has_pawns material.now) → result.0 ≡ lead_pawn_code material.now }
     ensures other { IsTrue (has_pawns material.now) → result.1 ≡ other_pawn_code material.now }

@@ -18,10 +18,14 @@ use ways::group_ways;
 
 mod cut;
 pub mod laws;
+mod material_info;
 mod placing;
+mod side_groups;
 mod subsets;
 mod ways;
 
+pub use material_info::MaterialInfo;
+pub use side_groups::SideGroups;
 pub use subsets::{rank_subset, unrank_subset};
 pub use ways::{choose, lead_ways};
 

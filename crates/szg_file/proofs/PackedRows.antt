@@ -41,13 +41,13 @@ symbols =
     2 ∷ 0xF0 ∷ 0xFF ∷ 0 ∷ 0 ∷ 0 ∷ 1 ∷ 0x10 ∷ 0 ∷ 2 ∷ 0x20 ∷ 0 ∷ 3 ∷ 0x30 ∷ 0
     ∷ 4 ∷ 0x40 ∷ 0 ∷ 5 ∷ 0x50 ∷ 0 ∷ 6 ∷ 0x60 ∷ 0 ∷ 7 ∷ 0x70 ∷ 0 ∷ []
 
-abbrev behind : List ℕ
-behind = replicate 48 0 ++ last_bytes
+abbrev following : List ℕ
+following = replicate 48 0 ++ last_bytes
 
 -- the dictionary's padding byte; the sparse index: block 0, offset 16,384; the block lengths: 31,332 less one;
 -- padding up to 64
 abbrev packed : List ℕ
-packed = front ++ symbols ++ (0 ∷ 0 ∷ 0 ∷ 0 ∷ 0 ∷ 0 ∷ 0x40 ∷ 0x63 ∷ 0x7A ∷ 0 ∷ 0 ∷ []) ++ block ++ behind
+packed = front ++ symbols ++ (0 ∷ 0 ∷ 0 ∷ 0 ∷ 0 ∷ 0 ∷ 0x40 ∷ 0x63 ∷ 0x7A ∷ 0 ∷ 0 ∷ []) ++ block ++ following
 
 abbrev packed_table : Contents
 packed_table = record {

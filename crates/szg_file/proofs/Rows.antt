@@ -18,11 +18,11 @@ knvk = record { first = King ∷ Knight ∷ []; second = King ∷ [] }
 abbrev pub last_bytes : List ℕ
 last_bytes = 0 ∷ 1 ∷ 2 ∷ 3 ∷ 4 ∷ 5 ∷ 6 ∷ 7 ∷ 8 ∷ 9 ∷ 10 ∷ 11 ∷ 12 ∷ 13 ∷ 14 ∷ 15 ∷ []
 
-abbrev pub bytes_behind_part : List ℕ
-bytes_behind_part = 0 ∷ 0x80 ∷ 2 ∷ 0x80 ∷ 2 ∷ (replicate 50 0 ++ last_bytes)
+abbrev pub bytes_after_part : List ℕ
+bytes_after_part = 0 ∷ 0x80 ∷ 2 ∷ 0x80 ∷ 2 ∷ (replicate 50 0 ++ last_bytes)
 
 abbrev pub knvk_wdl_constant : List ℕ
-knvk_wdl_constant = 0x71 ∷ 0xE8 ∷ 0x23 ∷ 0x5D ∷ 1 ∷ 0 ∷ 0x66 ∷ 0x22 ∷ 0xEE ∷ bytes_behind_part
+knvk_wdl_constant = 0x71 ∷ 0xE8 ∷ 0x23 ∷ 0x5D ∷ 1 ∷ 0 ∷ 0x66 ∷ 0x22 ∷ 0xEE ∷ bytes_after_part
 
 abbrev pub knvk_table : Contents
 knvk_table = record {
@@ -70,11 +70,11 @@ byte4_00 = refl
 byte4_03 : verdict (file knvk Wdl) 0 (take 4 knvk_wdl_constant ++ 3 ∷ []) ≡ refused 4 reason.PawnBit []
 byte4_03 = refl
 
-byte8_e6 : verdict (file knvk Wdl) 0 (0x71 ∷ 0xE8 ∷ 0x23 ∷ 0x5D ∷ 1 ∷ 0 ∷ 0x66 ∷ 0x22 ∷ 0xE6 ∷ bytes_behind_part) ≡ refused 6 reason.Pieces bytes_behind_part
+byte8_e6 : verdict (file knvk Wdl) 0 (0x71 ∷ 0xE8 ∷ 0x23 ∷ 0x5D ∷ 1 ∷ 0 ∷ 0x66 ∷ 0x22 ∷ 0xE6 ∷ bytes_after_part) ≡ refused 6 reason.Pieces bytes_after_part
 unfolding order_fault groups_of runs_of
 byte8_e6 = refl
 
-byte5_01 : verdict (file knvk Wdl) 0 (0x71 ∷ 0xE8 ∷ 0x23 ∷ 0x5D ∷ 1 ∷ 1 ∷ 0x66 ∷ 0x22 ∷ 0xEE ∷ bytes_behind_part) ≡ refused 5 reason.OrderPlace bytes_behind_part
+byte5_01 : verdict (file knvk Wdl) 0 (0x71 ∷ 0xE8 ∷ 0x23 ∷ 0x5D ∷ 1 ∷ 1 ∷ 0x66 ∷ 0x22 ∷ 0xEE ∷ bytes_after_part) ≡ refused 5 reason.OrderPlace bytes_after_part
 unfolding order_fault groups_of runs_of
 byte5_01 = refl
 

@@ -27,7 +27,7 @@ pub record IsTable (material : Sides) (kind : Kind) (t : Shown) : Type 0 where
 -- were read.
 pub record IsChecked {R : Type 0} (device : Ghosts R) (material : Sides) (kind : Kind) (old new : R) (result : Result ℕ ReadFault) : Type 0 where
   pub answer : Result Shown ReadFault
-  pub told : result ≡ length_of answer
+  pub stated : result ≡ length_of answer
   pub table : IfOk answer (IsTable material kind)
   pub follows : IfSome (device.coming old) (λ bytes. FollowsVerdict (verdict (file material kind) 0 bytes) answer (device.coming new))
   pub bytes : List ℕ

@@ -7,10 +7,10 @@ use Rattle.szg_block.specs.Steps.{block_location}
 use Rattle.szg_block.specs.Subtable.{layout_of}
 use Rattle.szg_file.specs.Contents.{Slot, Subtable, constant, pairs}
 use Rattle.szg_file.specs.Unread.{IsBadBlock}
-use Rattle.szg_file.specs.declared.dropping.PlacedSub.{PlacedSub}
-use Rattle.szg_file.specs.declared.fetching.FetchFault.{FetchFault}
-use Rattle.szg_file.specs.declared.fetching.FetchFault.TheVariants.{Block, Source}
-use Rattle.szg_file.specs.declared.fetching.Spot.{Spot}
+use Rattle.szg_file.specs.declared.reading.dropping.PlacedSub.{PlacedSub}
+use Rattle.szg_file.specs.declared.opened.fetching.FetchFault.{FetchFault}
+use Rattle.szg_file.specs.declared.opened.fetching.FetchFault.TheVariants.{Block, Source}
+use Rattle.szg_file.specs.declared.opened.fetching.Spot.{Spot}
 
 -- the location of value `i` by a layout whose first block is at offset `first`
 pub record IsSpotAt (layout : Layout) (first i : ℕ) (spot : Spot) : Type 0 where

@@ -42,4 +42,4 @@ FrontOutcome material kind bytes size coming (Err fault.Memory) = Unit {0}
 pub record IsFrontRead {R : Type 0} (device : Ghosts R) (material : Sides) (kind : Kind) (size : ℕ) (old new : R) (result : Result (FrontKept × ℕ) ReadFault) : Type 0 where
   pub bytes : List ℕ
   pub taken : Takes device old new bytes 1
-  pub told : FrontOutcome material kind bytes size (device.coming new) result
+  pub stated : FrontOutcome material kind bytes size (device.coming new) result

@@ -1,10 +1,10 @@
 -- The contents of a front that was read.
 use Rattle.std.specs.Prelude.{map, option_map}
 use Rattle.szg_file.specs.Held.{part_of, map_of}
-use Rattle.szg_file.specs.Unread as told
-use Rattle.szg_file.specs.declared.read_front.FrontRead.{FrontRead}
+use Rattle.szg_file.specs.Unread as stated
+use Rattle.szg_file.specs.declared.reading.read_front.FrontRead.{FrontRead}
 
-abbrev pub front_read : FrontRead → told.FrontRead
+abbrev pub front_read : FrontRead → stated.FrontRead
 front_read f = record {
   byte4 = f.byte4;
   parts = map part_of f.parts.bytes.items;

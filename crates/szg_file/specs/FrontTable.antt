@@ -6,7 +6,7 @@ use Rattle.szg_file.specs.Contents.{Contents, slots, part_numbers}
 use Rattle.szg_file.specs.Index.{Index, index_of}
 use Rattle.szg_file.specs.Placed.{whole_sub, Fits}
 use Rattle.szg_file.specs.Unread.{front_in, IsUnread}
-use Rattle.szg_file.specs.declared.dropping.PlacedSub.{PlacedSub}
+use Rattle.szg_file.specs.declared.reading.dropping.PlacedSub.{PlacedSub}
 
 -- the index, the length of the file, the length of the longest block, and the subtables without their blocks
 pub record FrontKept : Type 0 where

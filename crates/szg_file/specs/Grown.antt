@@ -2,7 +2,7 @@
 use Rattle.std.specs.Prelude.{ℕ, ◌+◌, ◌*◌, ◌≤◌, List, length, option_map, Option}
 use Rattle.std.specs.List.{sum_by}
 use Rattle.szg_block.specs.declared.Sub.{Sub}
-use Rattle.szg_file.specs.declared.front.Front.{Front}
+use Rattle.szg_file.specs.declared.reading.front.Front.{Front}
 use Rattle.szg_file.specs.declared.reading.Opening.{Opening}
 use Rattle.szg_file.specs.declared.reading.Pieces.{Pieces}
 use Rattle.szg_file.specs.declared.table.PartBytes.{PartBytes}

@@ -7,7 +7,7 @@ use Rattle.szg_pairs.specs.declared.DictFault.TheVariants as dict
 use Rattle.szg_file.specs.declared.fault.Reason.TheVariants as reason
 use Rattle.szg_file.specs.declared.fault.ReadFault.{ReadFault}
 use Rattle.szg_file.specs.declared.fault.ReadFault.TheVariants.{Refused, Device, Memory}
-use Rattle.szg_file.specs.declared.heads.HeadSizes.{HeadSizes}
+use Rattle.szg_file.specs.declared.reading.heads.HeadSizes.{HeadSizes}
 use Rattle.szg_file.specs.Format.{Format, means, refuses, placed, ◌>>=◌, ◌>>◌}
 use Rattle.szg_file.specs.File.{number_field, rows_field, lengths_of_words, entries_check}
 

@@ -1,8 +1,11 @@
 -- The index of a table: which subtables it has, with their flags and maps.
-use Rattle.std.specs.Prelude.{ℕ, ◌≡◌, ◌&&◌, nat_eq, ℤ, List, length, map, position, slice_get, Option, Some, option_and_then}
+use Rattle.std.specs.Prelude.{ℕ, ◌≡◌, ◌<◌, ◌≤◌, ◌&&◌, nat_eq, ℤ, List, [], length, map, position, slice_get, unwrap_or, Option, Some, None, IsSomeAnd, option_and_then}
 use Rattle.szg_values.specs.declared.Kind.{Kind}
 use Rattle.szg_values.specs.declared.Kind.TheVariants.{Dtz}
 use Rattle.szg_values.specs.Material.{Sides}
+use Rattle.szg_count.specs.Groups.{IsPart as IsPartNumber, Nibbles, nibbles_of, order_fault}
+use Rattle.szg_count.specs.Grouped.{AreGroupsOf}
+use Rattle.szg_count.specs.declared.side_groups.SideGroups.{SideGroups}
 use Rattle.szg_file.specs.Accepted.{SideBySide, IsPart}
 use Rattle.szg_file.specs.Contents.{Contents, Part, Map, Slot, Subtable, slots, part_numbers}
 use Rattle.szg_file.specs.File.{flags_of}
@@ -58,7 +61,7 @@ number_in x part class v =
 
 -- each part is accepted, each subtable has flags, and in DTZ each subtable has an item among the maps
 pub record IsIndex (x : Index) : Type 0 where
-  pub parts_stand : SideBySide (λ _. IsPart x.material x.kind) (part_numbers x.material) x.parts
+  pub parts_are_valid : SideBySide (λ _. IsPart x.material x.kind) (part_numbers x.material) x.parts
   pub flags_many : length x.flags ≡ length (slots_in x)
   pub maps_many : x.kind ≡ Dtz → length x.maps ≡ length x.flags
 
@@ -66,3 +69,21 @@ pub record IsIndex (x : Index) : Type 0 where
 pub record IsNumbered (x : Index) (part side n : ℕ) (slot : Slot) : Type 0 where
   pub number_is : slot_number x part side ≡ Some n
   pub slot_is : slice_get (slots_in x) n ≡ Some slot
+
+-- ---- how its subtables number placements
+
+-- the nibbles of a side of a part
+abbrev pub nibbles_in_part : List Part → ℕ → ℕ → Nibbles
+nibbles_in_part parts part side = let p = unwrap_or (slice_get parts part) (record { order = []; men = [] }) in nibbles_of side p.order p.men
+
+-- the groups of the men of a slot's side of its part
+abbrev pub AreSlotGroups : Sides → List Part → Slot → Option SideGroups → Type 0
+AreSlotGroups material parts slot groups = IsSomeAnd groups (AreGroupsOf material slot.part (nibbles_in_part parts slot.part slot.side))
+
+-- the slot's part exists, and the nibbles of its side have no fault
+pub record IsOrderedSlot (material : Sides) (parts : List Part) (slot : Slot) : Type 0 where
+  pub part : slot.part < length parts
+  pub is_part : IsPartNumber material slot.part
+  pub side : slot.side < 2
+  pub few : length (nibbles_in_part parts slot.part slot.side).men ≤ 6
+  pub ordered : order_fault material (nibbles_in_part parts slot.part slot.side) ≡ None

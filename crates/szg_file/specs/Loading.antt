@@ -4,7 +4,7 @@ use Rattle.std.specs.Prelude.{ℕ, ◌+◌, ◌*◌, ◌^◌, ◌<◌, ◌≤◌
 use denote.Ref.{MutBor}
 use denote.Param.Members.{Shared}
 use Rattle.szg_io.specs.declared.device.Input.{Ghosts}
-use Rattle.szg_file.specs.declared.front.Front.{Front}
+use Rattle.szg_file.specs.declared.reading.front.Front.{Front}
 use Rattle.szg_file.specs.declared.fault.ReadFault.{ReadFault}
 use Rattle.szg_file.specs.Format.{Format}
 use Rattle.szg_file.specs.Grown.{HasCounted}

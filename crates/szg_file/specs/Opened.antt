@@ -16,7 +16,7 @@ use Rattle.szg_file.specs.declared.fault.ReadFault.{ReadFault}
 use Rattle.szg_file.specs.declared.fault.ReadFault.TheVariants as fault
 use Rattle.szg_file.specs.declared.opened.OpenFault.{OpenFault}
 use Rattle.szg_file.specs.declared.opened.OpenFault.TheVariants.{Refused, Source, Memory}
-use Rattle.szg_file.specs.declared.dropping.PlacedSub.{PlacedSub}
+use Rattle.szg_file.specs.declared.reading.dropping.PlacedSub.{PlacedSub}
 
 -- the material and kind, the source's bytes, and the source's counts
 pub record Opened : Type 0 where
@@ -45,9 +45,9 @@ abbrev pub opened_at : Opened → ℕ → ℕ → Option (Slot × Subtable)
 opened_at o part side = option_and_then (λ t. subtable_at t part side) (table_in o.material o.kind o.content)
 
 -- the number of bytes requested once a value was returned: one block's bytes more, none more for a constant subtable
-abbrev pub asked_after : Subtable → ℕ → ℕ
-asked_after (constant flags byte) requested = requested
-asked_after (pairs head sparse lengths packed) requested = raised requested (2 ^ head.block_bits)
+abbrev pub requested_after : Subtable → ℕ → ℕ
+requested_after (constant flags byte) requested = requested
+requested_after (pairs head sparse lengths packed) requested = raised requested (2 ^ head.block_bits)
 
 -- a fault of reading, converted to one of opening
 abbrev pub opened_fault : ReadFault → OpenFault
@@ -84,5 +84,5 @@ pub record IsTableOf (material : Sides) (kind : Kind) (table : Contents) : Type 
 pub record IsIndexIn (x : Index) (content : List ℕ) : Type 0 where
   pub table : Contents
   pub there : table_in x.material x.kind content ≡ Some table
-  pub stands : IsTableOf x.material x.kind table
+  pub is_valid : IsTableOf x.material x.kind table
   pub index_is : x ≡ index_of table

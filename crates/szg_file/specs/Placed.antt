@@ -8,7 +8,7 @@ use Rattle.szg_file.specs.Blocks.{with_blocks}
 use Rattle.szg_file.specs.Accepted.{IsSubtable}
 use Rattle.szg_file.specs.Contents.{Slot, Subtable}
 use Rattle.szg_file.specs.Held.{subtable_of}
-use Rattle.szg_file.specs.declared.dropping.PlacedSub.{PlacedSub}
+use Rattle.szg_file.specs.declared.reading.dropping.PlacedSub.{PlacedSub}
 
 -- the bytes moved after those that had been moved before
 abbrev pub since : List ℕ → List ℕ → List ℕ
@@ -29,8 +29,8 @@ pub record Fits (count room : ℕ) (placed : PlacedSub) : Type 0 where
   pub roomy : IfSome (layout_of placed.sub) (λ layout. 2 ^ layout.block_bits ≤ room)
 
 -- the subtable's blocks are within `content`, and with them every check accepts the subtable
-pub record StandsIn (content : List ℕ) (slot : Slot) (placed : PlacedSub) : Type 0 where
-  pub stands : IsSubtable slot (whole_sub content placed)
+pub record IsPlacedIn (content : List ℕ) (slot : Slot) (placed : PlacedSub) : Type 0 where
+  pub is_valid : IsSubtable slot (whole_sub content placed)
   pub inside : placed.first + blocks_size placed.sub ≤ length content
 
 -- this is the first slot of a part and side, and the subtable of that slot

@@ -3,7 +3,7 @@ use Rattle.std.specs.Prelude.{◌≡◌, ℕ, ◌+◌, List, [], ◌++◌, lengt
 use Rattle.std.specs.Io.KnownBytes.{IsAtEnd}
 use Rattle.szg_io.specs.Device.{HasFailed}
 use Rattle.szg_io.specs.Moved.{Takes}
-use Rattle.szg_file.specs.declared.front.Front.{Front}
+use Rattle.szg_file.specs.declared.reading.front.Front.{Front}
 use Rattle.szg_file.specs.declared.fault.Reason.{Reason}
 use Rattle.szg_file.specs.declared.fault.Reason.TheVariants.{Truncated}
 use Rattle.szg_file.specs.declared.fault.ReadFault.{ReadFault}

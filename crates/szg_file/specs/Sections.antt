@@ -4,7 +4,7 @@ use Rattle.std.specs.List.{FoldsTo}
 use denote.Ref.{Bor, MutBor}
 use denote.Param.Members.{Shared}
 use Rattle.szg_code.specs.Canonical.{CanonicalCode}
-use Rattle.szg_file.specs.declared.sections.FieldsRef.{FieldsRef}
+use Rattle.szg_file.specs.declared.writing.sections.FieldsRef.{FieldsRef}
 use Rattle.szg_file.specs.Contents.{Contents, bytes_of}
 use Rattle.szg_file.specs.FileOf.{Section, written, spare}
 use Rattle.szg_file.specs.Held.{part_of, subtable_of, map_of}

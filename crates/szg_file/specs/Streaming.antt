@@ -45,7 +45,7 @@ index_read (Err fault) = Err fault
 pub record IsStreamed {R K W : Type 0} (device : Ghosts R) (wanted : ℕ → ℕ → Bool) (accepts : K → W → List ℕ → K → W → Type 0) (material : Sides) (kind : Kind)
     (old new : R) (sink : K) (out : W) (sink' : K) (out' : W) (result : Result (Index × List ℕ) ReadFault) : Type 0 where
   pub answer : Result Shown ReadFault
-  pub told : result ≡ index_read answer
+  pub stated : result ≡ index_read answer
   pub table : IfOk answer (IsTable material kind)
   pub follows : IfSome (device.coming old) (λ bytes. FollowsVerdict (verdict (file material kind) 0 bytes) answer (device.coming new))
   pub bytes : List ℕ

@@ -1,6 +1,6 @@
 -- The state of a count of a file's sections.
 use Rattle.std.specs.Prelude.{◌≡◌, ℕ, ◌+◌, ◌%◌, ◌^◌, List, [], ◌∷◌, length}
-use Rattle.szg_file.specs.declared.tally.Tally.{Tally}
+use Rattle.szg_file.specs.declared.writing.tally.Tally.{Tally}
 use Rattle.szg_file.specs.FileOf.{Section, written, padding, spare, fill_of}
 
 -- the number of bytes of a section except its padding bytes

@@ -14,8 +14,8 @@ wanted_block (pairs head sparse lengths packed) i =
 -- value that their words spell at value `i`'s index in its block. None if they spell fewer values, or do not have
 -- the length of a block. Of a constant subtable it says nothing.
 abbrev pub IsSpelledBy : List ℕ → Subtable → ℕ → Option ℕ → Type 0
-IsSpelledBy piece (constant flags byte) i told = Unit {0}
-IsSpelledBy piece (pairs head sparse lengths packed) i told =
+IsSpelledBy piece (constant flags byte) i stated = Unit {0}
+IsSpelledBy piece (pairs head sparse lengths packed) i stated =
     let layout = layout_of head sparse lengths in
-    (length piece ≡ 2 ^ head.block_bits → told ≡ slice_get (block_values layout piece) (block_location layout i).item)
-    × (¬ (length piece ≡ 2 ^ head.block_bits) → told ≡ None)
+    (length piece ≡ 2 ^ head.block_bits → stated ≡ slice_get (block_values layout piece) (block_location layout i).item)
+    × (¬ (length piece ≡ 2 ^ head.block_bits) → stated ≡ None)

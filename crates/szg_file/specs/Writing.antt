@@ -4,9 +4,9 @@ use denote.Ref.{Bor, MutBor}
 use denote.Param.Members.{Shared}
 use Rattle.szg_io.specs.Device.{HasFailed}
 use Rattle.szg_io.specs.Moved.{Gives}
-use Rattle.szg_file.specs.declared.outgoing.Outgoing.{Outgoing}
+use Rattle.szg_file.specs.declared.writing.outgoing.Outgoing.{Outgoing}
 use Rattle.szg_file.specs.declared.fault.WriteFault.{WriteFault}
-use Rattle.szg_file.specs.declared.writer.Writer.{Writer}
+use Rattle.szg_file.specs.declared.writing.writer.Writer.{Writer}
 use Rattle.szg_io.specs.declared.device.Output.{Ghosts}
 use Rattle.szg_file.specs.FileOf.{Section, joined}
 

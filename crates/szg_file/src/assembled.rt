@@ -11,14 +11,16 @@ ghost use Rattle.szg_file.specs.Sections.{contents_in};
 ghost use Rattle.szg_count.specs.Groups as count;
 
 use crate::begun::Slot;
-use crate::parts::{Parts, SideSizes, man_count, order_count, part_count, part_sizes, push_slots};
-use crate::passing::{maps_stand, subs_stand};
-use crate::sections::FieldsRef;
-use crate::start::{pawns_as, splits_as};
+use crate::passing::{are_maps_valid, are_subs_valid};
+use crate::reading::parts::{
+    Parts, SideSizes, man_count, order_count, part_count, part_sizes, push_slots,
+};
+use crate::reading::start::{pawns_as, splits_as};
 use crate::table::{Map, PartBytes, Table};
 use crate::table_index::index_of_subs;
-use crate::tally::Tally;
 use crate::typed::{bytes_fit, end_bytes};
+use crate::writing::sections::FieldsRef;
+use crate::writing::tally::Tally;
 use arrayvec::ArrayVec;
 use std::mem::size_of_val;
 use szg_block::Sub;
@@ -91,10 +93,10 @@ impl Fields {
         {
             return false;
         }
-        if !subs_stand(placed.as_slice(), &self.subs) {
+        if !are_subs_valid(placed.as_slice(), &self.subs) {
             return false;
         }
-        if !maps_stand(self.kind, &self.subs, &self.maps) {
+        if !are_maps_valid(self.kind, &self.subs, &self.maps) {
             return false;
         }
         end_bytes(self.byte4, &self.last);

@@ -1,7 +1,7 @@
 //! The distances that a DTZ table's values encode.
 ghost use Rattle.std.specs.Prelude.{◌≡◌, ◌<◌, option_map, IsTrue, Some, IfSome};
 ghost use Rattle.szg_file.specs.Held.{map_of};
-ghost use Rattle.szg_file.specs.Values.{list_number as list_of_class, mapped, in_plies as told_in_plies, distance, number_at as number_of};
+ghost use Rattle.szg_file.specs.Values.{list_number as list_of_class, mapped, in_plies as is_in_plies, distance, number_at as number_of};
 
 use crate::flags::has_bit;
 use crate::table::Map;
@@ -34,15 +34,11 @@ fn map_item(map: &Map, list: usize, v: u16) -> Option<u16>
 }
 
 /// Returns whether the numbers of a list count plies: those of list 0 (wins) with flag 4, those of list 1 (losses)
-/// with flag 8. The numbers of the other lists count moves.
+/// with flag 8. The numbers of the other lists count moves. Nothing branches on which of the first two lists it is.
 fn in_plies(flags: u8, list: usize) -> bool
-    ensures { result ≡ told_in_plies flags list }
+    ensures { result ≡ is_in_plies flags list }
 {
-    match list {
-        0 => has_bit(2, flags),
-        1 => has_bit(3, flags),
-        _ => false,
-    }
+    list < 2 && has_bit(2 + list as u8, flags)
 }
 
 /// Returns the distance in plies that value `v` encodes in one of a part's lists: through the map if the part has

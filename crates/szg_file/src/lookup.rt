@@ -5,7 +5,7 @@ ghost use Rattle.szg_file.specs.Lookup.{byte_of};
 ghost use Rattle.szg_file.specs.Placed.{IsSlotted};
 
 use crate::begun::Slot;
-use crate::dropping::PlacedSub;
+use crate::reading::dropping::PlacedSub;
 use szg_block::Sub;
 use szg_values::Kind;
 
@@ -23,13 +23,23 @@ pub struct Slotted<'a> {
     pub placed: &'a PlacedSub,
 }
 
-/// Returns the number of the slot of a part and side, from 0.
+/// Returns the number of the slot of a part and side, from 0. It compares all slots, from the last to the first, and branches
+/// on none of them, since a processor can't predict which one is found.
 pub fn slot_number(slots: &[Slot], part: u8, side: u8) -> Option<usize>
     ensures { result ≡ position (λ slot. nat_eq slot.part part && nat_eq slot.side side) slots.now }
 {
-    slots
-        .iter()
-        .position(|slot| slot.part == part && slot.side == side)
+    let mut number = slots.len();
+    for n in (0..slots.len()).rev() {
+        let slot = slots[n];
+        if (slot.part == part) & (slot.side == side) {
+            number = n;
+        }
+    }
+    if number < slots.len() {
+        Some(number)
+    } else {
+        None
+    }
 }
 
 /// Returns the value of a constant subtable: its byte in WDL, 0 in DTZ.

@@ -1,18 +1,27 @@
 //! Opened tables: headers and block lengths are in memory, blocks stay in a source.
+
+pub(crate) mod fetching;
+pub(crate) mod forward;
+pub(crate) mod front_input;
+pub(crate) mod front_table;
+mod outlined;
+mod placing;
+pub(crate) mod wanted;
+
 ghost use Rattle.std.specs.Prelude.{◌≡◌, IsSome, IfOk, IfErr};
 ghost use Rattle.szg_block.specs.BlocksTrait.{Rose};
 ghost use Rattle.szg_file.specs.File.{file};
 ghost use Rattle.szg_file.specs.Format.{verdict};
 ghost use Rattle.szg_file.specs.Opened.{table_in, opened_fault, IsOpenRefusal};
 
-use crate::blocks::{block_bytes, block_count};
-use crate::dropping::PlacedSub;
 use crate::fault::{ReadFault, Reason};
-use crate::forward::Forward;
-use crate::front::Front;
 use crate::lookup::{Slotted, constant_value, slotted_at};
-use crate::outline::{Outline, read_outline};
-use crate::sink::NoSink;
+use crate::opened::forward::Forward;
+use crate::reading::blocks::{block_bytes, block_count};
+use crate::reading::dropping::PlacedSub;
+use crate::reading::front::Front;
+use crate::reading::outline::{Outline, read_outline};
+use crate::reading::sink::NoSink;
 use crate::table_index::{TableIndex, index_of_placed};
 use std::alloc::Global;
 use std::marker::Model;
@@ -60,7 +69,7 @@ impl<S: Source + Drop> Model for Opened<S> {
 impl<S: Source + Drop> Opened<S> {
     ghost use Rattle.std.specs.Prelude.{◌≡◌, ◌<◌, IsSome, IfOk, IsOk, IfSome, Some, None, option_map};
     ghost use Rattle.szg_block.specs.BlocksTrait.{failed_after};
-    ghost use Rattle.szg_file.specs.Opened.{opened_at, asked_after};
+    ghost use Rattle.szg_file.specs.Opened.{opened_at, requested_after};
     ghost use Rattle.szg_file.specs.Values.{values_of, item};
     ghost use Rattle.szg_file.specs.Wanted.{wanted_block};
 
@@ -90,7 +99,7 @@ impl<S: Source + Drop> Opened<S> {
         requires below { IfSome (opened_at self.old part side) (λ found. i < found.0.size) }
         ensures value { IfOk result (λ value. IfSome (opened_at self.old part side) (λ found. item (values_of self.old.kind found) i ≡ Some value)) }
         ensures constant { IfSome (opened_at self.old part side) (λ found. wanted_block found.1 i ≡ None → IsOk result) }
-        ensures requested { IfSome (opened_at self.old part side) (λ found. self.new.requested ≡ asked_after found.1 self.old.requested) }
+        ensures requested { IfSome (opened_at self.old part side) (λ found. self.new.requested ≡ requested_after found.1 self.old.requested) }
         ensures failed { self.new.failed ≡ failed_after result self.old.failed }
         ensures material { self.new.material ≡ self.old.material }
         ensures kind { self.new.kind ≡ self.old.kind }

@@ -13,7 +13,7 @@ use szg_values::Kind;
 // ---- subtables
 
 /// Returns whether a subtable passes the checks of a slot.
-fn sub_stands(slot: &Slot, sub: &Sub) -> bool
+fn is_sub_valid(slot: &Slot, sub: &Sub) -> bool
     ensures { IsTrue result ↔ IsSubtable slot.now (subtable_of sub.now) }
 {
     sub_fits(sub);
@@ -27,14 +27,14 @@ fn sub_stands(slot: &Slot, sub: &Sub) -> bool
 }
 
 /// Returns whether there is one subtable per slot, and each passes its checks.
-pub fn subs_stand(slots: &[Slot], subs: &[Sub]) -> bool
+pub fn are_subs_valid(slots: &[Slot], subs: &[Sub]) -> bool
     ensures { IsTrue result ↔ SideBySide IsSubtable slots.now (map subtable_of subs.now) }
 {
     if slots.len() != subs.len() {
         return false;
     }
     'subs: for (n, sub) in subs.iter().enumerate() {
-        if !sub_stands(&slots[n], sub) {
+        if !is_sub_valid(&slots[n], sub) {
             return false;
         }
     }
@@ -81,7 +81,7 @@ fn wide_lists_fit(lists: &[Vec<u16>; 4]) -> bool
 
 /// Returns whether a map is the one that the flags of the part's subtable require: a map with bit 1 (flag 2), a wide
 /// one with bit 4 (flag 16).
-fn map_stands(sub: &Sub, map: &Option<Map>) -> bool
+fn is_map_valid(sub: &Sub, map: &Option<Map>) -> bool
     ensures { IsTrue result ↔ IsMapOf (subtable_of sub.now) (option_map map_of map.now) }
 {
     let flags = flags_of(sub);
@@ -95,14 +95,14 @@ fn map_stands(sub: &Sub, map: &Option<Map>) -> bool
 }
 
 /// Returns whether there is one item per subtable, and each is the one that the flags require.
-fn each_map_stands(subs: &[Sub], maps: &[Option<Map>]) -> bool
+fn is_each_map_valid(subs: &[Sub], maps: &[Option<Map>]) -> bool
     ensures { IsTrue result ↔ SideBySide IsMapOf (map subtable_of subs.now) (map (option_map map_of) maps.now) }
 {
     if subs.len() != maps.len() {
         return false;
     }
     'maps: for (n, map) in maps.iter().enumerate() {
-        if !map_stands(&subs[n], map) {
+        if !is_map_valid(&subs[n], map) {
             return false;
         }
     }
@@ -110,11 +110,11 @@ fn each_map_stands(subs: &[Sub], maps: &[Option<Map>]) -> bool
 }
 
 /// Returns whether the maps are those that the kind and the flags require.
-pub fn maps_stand(kind: Kind, subs: &[Sub], maps: &[Option<Map>]) -> bool
+pub fn are_maps_valid(kind: Kind, subs: &[Sub], maps: &[Option<Map>]) -> bool
     ensures { IsTrue result ↔ AreMaps kind (map subtable_of subs.now) (map (option_map map_of) maps.now) }
 {
     match kind {
         Kind::Wdl => maps.is_empty(),
-        Kind::Dtz => each_map_stands(subs, maps),
+        Kind::Dtz => is_each_map_valid(subs, maps),
     }
 }

@@ -1,3 +1,20 @@
+pub(crate) mod blocks;
+pub(crate) mod checking;
+pub(crate) mod dropping;
+pub(crate) mod front;
+mod heads;
+pub(crate) mod in_memory;
+mod index;
+mod maps;
+pub(crate) mod outline;
+pub(crate) mod parts;
+pub(crate) mod read_front;
+pub(crate) mod sink;
+pub(crate) mod start;
+pub(crate) mod stream_file;
+mod streaming;
+mod taking;
+
 ghost use Rattle.std.specs.Prelude.{◌≡◌, ℕ, ◌+◌, ◌*◌, ◌^◌, ◌≤◌, ◌<◌, List, length, map, IfSome, IfOk, OnOk, IsErrOf, IsTrue};
 ghost use Rattle.szg_io.specs.Device.{HasFailed};
 ghost use Rattle.szg_io.specs.Moved.{Takes};
@@ -12,17 +29,17 @@ ghost use Rattle.szg_file.specs.FilePieces.{opening_field, packed_field, ending_
 ghost use Rattle.szg_file.specs.Grown.{HasCounted, begun_lengths, subs_lengths, opening_lengths, pieces_lengths};
 
 use crate::begun::Begun;
-use crate::blocks::read_blocks;
 use crate::fault::ReadFault;
-use crate::front::Front;
-use crate::heads::read_heads;
-use crate::index::read_lengths;
-use crate::maps::read_maps;
-use crate::parts::{Parts, read_parts};
-use crate::start::read_start;
+use crate::reading::blocks::read_blocks;
+use crate::reading::front::Front;
+use crate::reading::heads::read_heads;
+use crate::reading::index::read_lengths;
+use crate::reading::maps::read_maps;
+use crate::reading::parts::{Parts, read_parts};
+use crate::reading::start::read_start;
+use crate::reading::taking::{take_field, take_fill};
 use crate::table::{Map, Table};
 use crate::table_index::index_of_subs;
-use crate::taking::{take_field, take_fill};
 use std::alloc::Global;
 use szg_block::Sub;
 use szg_io::Input;

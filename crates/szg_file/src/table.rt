@@ -2,8 +2,8 @@ ghost use Rattle.std.specs.Prelude.{◌≡◌};
 
 use crate::fault::MapFault;
 use crate::lookup::{Found, constant_value};
-use crate::sections::FieldsRef;
 use crate::table_index::{Numbered, TableIndex};
+use crate::writing::sections::FieldsRef;
 use std::alloc::{AllocError, Global};
 use std::marker::Model;
 use szg_block::{Sound, Steps, Sub};

@@ -1,32 +1,39 @@
 //! The index of a table: which subtables it has, with their flags and maps.
-ghost use Rattle.std.specs.Prelude.{◌≡◌, ◌≢◌, ◌<◌, ◌≤◌, ◌↔◌, ◌≤ℤ◌, ℤ, pos, neg_ℤ, length, map, option_map, IsSome, IsTrue, MatchOption, Ok, Err, Some, None};
-ghost use Rattle.szg_file.specs.Contents.{slots as slots_of};
+ghost use Rattle.std.specs.Prelude.{◌≡◌, ◌≢◌, ◌<◌, ◌≤◌, ◌↔◌, ◌≤ℤ◌, ◌+◌, ◌*◌, ◌∷◌, [], ℤ, pos, neg_ℤ, if◌then◌else◌, length, map, option_map, IsSome, IsTrue, MatchOption, Ok, Err, Some, None};
+ghost use Rattle.szg_values.specs.Material.{IsMaterial};
+ghost use Rattle.szg_count.specs.Grouped.{AreGroupsOf};
+ghost use Rattle.szg_file.specs.Accepted.{SideBySide, IsPart};
+ghost use Rattle.szg_file.specs.Contents.{part_numbers, side_numbers, slots as slots_of};
 ghost use Rattle.szg_file.specs.Held.{part_of, map_of, subtable_of};
 ghost use Rattle.szg_file.specs.File.{flags_of as flags_byte};
-ghost use Rattle.szg_file.specs.Index.{Index, IsIndex, IsNumbered, index_with, number_in, slot_in, slot_number as number_of, slots_in};
+ghost use Rattle.szg_file.specs.Index.{AreSlotGroups, Index, IsIndex, IsNumbered, IsOrderedSlot, index_with, nibbles_in_part, number_in, slot_in, slot_number as number_of, slots_in};
 
 use crate::begun::Slot;
 use crate::comparing::{same_maps, same_parts};
 use crate::distances::{list_number, number_at};
-use crate::dropping::PlacedSub;
 use crate::fault::MapFault;
 use crate::flags::flags_of;
 use crate::lookup::slot_number;
-use crate::parts::Parts;
+use crate::reading::dropping::PlacedSub;
+use crate::reading::parts::Parts;
 use crate::table::{Map, PartBytes};
 use crate::typed::parts_fit;
 use arrayvec::ArrayVec;
 use std::marker::Model;
 use szg_block::Sub;
+use szg_count::{MaterialInfo, Order, SideGroups};
 use szg_values::{Kind, Material};
 
-/// The index of a table: its material and kind, its parts, the slots and flags of its subtables, and its maps. Each
+/// The index of a table: its material and kind, its parts, the slots and flags of its subtables, and its maps. It keeps
+/// what numbers the placements of the table: facts about the material, and the groups of each subtable's men. Each
 /// type of table owns one, with its subtables and the source of their blocks.
 #[derive(Drop)]
 pub struct TableIndex {
-    material: Material,
+    info: MaterialInfo,
     kind: Kind,
     parts: Parts,
+    // the groups of the subtables' men, in file order
+    groups: ArrayVec<Option<SideGroups>, 8>,
     // the subtables' flags, in file order
     flags: ArrayVec<u8, 8>,
     maps: Vec<Option<Map>>,
@@ -34,16 +41,20 @@ pub struct TableIndex {
 
 impl Model for TableIndex {
     ghost use Rattle.std.specs.Prelude.{◌≡◌, map, option_map};
+    ghost use Rattle.szg_values.specs.Material.{IsMaterial};
+    ghost use Rattle.szg_file.specs.Accepted.{SideBySide};
     ghost use Rattle.szg_file.specs.Contents.{slots};
     ghost use Rattle.szg_file.specs.Held.{part_of, map_of};
-    ghost use Rattle.szg_file.specs.Index.{Index, IsIndex, index_with};
+    ghost use Rattle.szg_file.specs.Index.{AreSlotGroups, Index, IsIndex, index_with};
 
     ghost Value = { Index };
 
-    ghost view = { λ x. index_with x.material x.kind (map part_of x.parts.bytes.items) x.flags.items (map (option_map map_of) x.maps.items) };
+    ghost view = { λ x. index_with x.info x.kind (map part_of x.parts.bytes.items) x.flags.items (map (option_map map_of) x.maps.items) };
 
-    ghost invariant = { λ x. IsIndex (index_with x.material x.kind (map part_of x.parts.bytes.items) x.flags.items (map (option_map map_of) x.maps.items))
-        × (x.parts.slots.items ≡ slots x.material x.kind (map part_of x.parts.bytes.items)) };
+    ghost invariant = { λ x. IsIndex (index_with x.info x.kind (map part_of x.parts.bytes.items) x.flags.items (map (option_map map_of) x.maps.items))
+        × (x.parts.slots.items ≡ slots x.info x.kind (map part_of x.parts.bytes.items))
+        × SideBySide (AreSlotGroups x.info (map part_of x.parts.bytes.items)) x.parts.slots.items x.groups.items
+        × IsMaterial x.info };
 }
 
 /// Creates the index of a table whose subtables are in memory.
@@ -54,7 +65,7 @@ pub fn index_of_subs(
     subs: &[Sub],
     maps: Vec<Option<Map>>,
 ) -> TableIndex
-    requires stands { IsIndex (index_with material kind (map part_of parts.bytes.items) (map flags_byte (map subtable_of subs.now)) (map (option_map map_of) maps.items)) }
+    requires is_valid { IsIndex (index_with material kind (map part_of parts.bytes.items) (map flags_byte (map subtable_of subs.now)) (map (option_map map_of) maps.items)) }
     requires slots { parts.slots.items ≡ slots_of material kind (map part_of parts.bytes.items) }
     ensures { result ≡ index_with material kind (map part_of parts.bytes.items) (map flags_byte (map subtable_of subs.now)) (map (option_map map_of) maps.items) }
 {
@@ -74,7 +85,7 @@ pub fn index_of_placed(
     subs: &[PlacedSub],
     maps: Vec<Option<Map>>,
 ) -> TableIndex
-    requires stands { IsIndex (index_with material kind (map part_of parts.bytes.items) (map (λ placed. flags_byte (subtable_of placed.sub)) subs.now) (map (option_map map_of) maps.items)) }
+    requires is_valid { IsIndex (index_with material kind (map part_of parts.bytes.items) (map (λ placed. flags_byte (subtable_of placed.sub)) subs.now) (map (option_map map_of) maps.items)) }
     requires slots { parts.slots.items ≡ slots_of material kind (map part_of parts.bytes.items) }
     ensures { result ≡ index_with material kind (map part_of parts.bytes.items) (map (λ placed. flags_byte (subtable_of placed.sub)) subs.now) (map (option_map map_of) maps.items) }
 {
@@ -95,6 +106,46 @@ pub fn flags_of_placed(subs: &[PlacedSub]) -> ArrayVec<u8, 8>
     flags
 }
 
+// Returns the groups of the subtables' men, in file order.
+fn groups_of_slots(
+    material: &MaterialInfo,
+    kind: Kind,
+    parts: &Parts,
+) -> ArrayVec<Option<SideGroups>, 8>
+    requires valid { SideBySide (λ _. IsPart material.now kind) (part_numbers material.now) (map part_of parts.now.bytes.items) }
+    requires slots { parts.now.slots.items ≡ slots_of material.now kind (map part_of parts.now.bytes.items) }
+    ensures { SideBySide (AreSlotGroups material.now (map part_of parts.now.bytes.items)) parts.now.slots.items result.items }
+{
+    parts_fit(parts);
+    let material = material.material();
+    let mut groups = ArrayVec::new();
+    for slot in parts.slots.as_slice() {
+        groups.push(Some(groups_of_slot(material, &parts.bytes, *slot)));
+    }
+    groups
+}
+
+// Returns the groups of a subtable's men.
+fn groups_of_slot(material: &Material, parts: &[PartBytes], slot: Slot) -> SideGroups
+    requires { IsOrderedSlot material.now (map part_of parts.now) slot }
+    ensures { AreGroupsOf material.now slot.part (nibbles_in_part (map part_of parts.now) slot.part slot.side) result }
+{
+    let bytes = &parts[usize::from(slot.part)];
+    let order = Order::of_side(slot.side, &bytes.order, &bytes.men);
+    SideGroups::of(material, slot.part, order)
+}
+
+// Returns the number of a subtable in file order, from 0.
+fn slot_number_of(two_sides: bool, part: u8, side: u8) -> usize
+    ensures { result ≡ (if two_sides then 2 * part + side else part) }
+{
+    if two_sides {
+        2 * usize::from(part) + usize::from(side)
+    } else {
+        usize::from(part)
+    }
+}
+
 /// A subtable's number in file order, from 0, and its slot.
 #[derive(Clone, Copy)]
 pub struct Numbered {
@@ -111,14 +162,17 @@ impl TableIndex {
         flags: ArrayVec<u8, 8>,
         maps: Vec<Option<Map>>,
     ) -> TableIndex
-        requires stands { IsIndex (index_with material kind (map part_of parts.bytes.items) flags.items (map (option_map map_of) maps.items)) }
+        requires is_valid { IsIndex (index_with material kind (map part_of parts.bytes.items) flags.items (map (option_map map_of) maps.items)) }
         requires slots { parts.slots.items ≡ slots_of material kind (map part_of parts.bytes.items) }
         ensures { result ≡ index_with material kind (map part_of parts.bytes.items) flags.items (map (option_map map_of) maps.items) }
     {
+        let info = MaterialInfo::of(&material);
+        let groups = groups_of_slots(&info, kind, &parts);
         TableIndex {
-            material,
+            info,
             kind,
             parts,
+            groups,
             flags,
             maps,
         }
@@ -128,7 +182,39 @@ impl TableIndex {
     pub fn material(&self) -> &Material
         ensures { result.now ≡ self.now.material }
     {
-        &self.material
+        self.info.material()
+    }
+
+    /// Returns the table's material with facts about it.
+    pub fn material_info(&self) -> &MaterialInfo
+        ensures material { result.now ≡ self.now.material }
+        ensures named { IsMaterial self.now.material }
+        ensures is_valid { IsIndex self.now }
+    {
+        &self.info
+    }
+
+    /// Returns the groups of the men of a part and side that the table has.
+    pub fn groups(&self, part: u8, side: u8) -> &SideGroups
+        requires part { part < length self.now.parts }
+        requires side { side < length (side_numbers self.now.material self.now.kind) }
+        ensures { AreGroupsOf self.now.material part (nibbles_in_part self.now.parts part side) result.now }
+    {
+        let number = slot_number_of(self.has_two_sides(), part, side);
+        let Some(groups) = &self.groups[number] else {
+            unreachable!()
+        };
+        groups
+    }
+
+    // Returns whether each part has subtables for both sides: in WDL, unless the material is symmetric.
+    fn has_two_sides(&self) -> bool
+        ensures { side_numbers self.now.material self.now.kind ≡ (if result then 0 ∷ 1 ∷ [] else 0 ∷ []) }
+    {
+        match self.kind {
+            Kind::Wdl => !self.info.symmetric(),
+            Kind::Dtz => false,
+        }
     }
 
     /// Returns the kind of the table's values: outcomes or distances.
@@ -141,7 +227,7 @@ impl TableIndex {
     /// Returns the bytes of the parts: four parts with pawns, else one.
     pub fn parts(&self) -> &[PartBytes]
         ensures bytes { map part_of result.now ≡ self.now.parts }
-        ensures stands { IsIndex self.now }
+        ensures is_valid { IsIndex self.now }
     {
         &self.parts.bytes
     }
@@ -151,7 +237,7 @@ impl TableIndex {
         ensures flags { result.now ≡ self.now.flags }
         ensures many { length result.now ≡ length (slots_in self.now) }
         ensures few { length result.now ≤ 8 }
-        ensures stands { IsIndex self.now }
+        ensures is_valid { IsIndex self.now }
     {
         self.flags.as_slice()
     }

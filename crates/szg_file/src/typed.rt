@@ -6,7 +6,7 @@ ghost use Rattle.szg_file.specs.Accepted.{AreNumbers, AreBytes, IsAccepted, IsEn
 ghost use Rattle.szg_file.specs.Assembled.{IsTyped};
 ghost use Rattle.szg_file.specs.Held.{sparse_of, subtable_of};
 
-use crate::parts::Parts;
+use crate::reading::parts::Parts;
 use crate::table::Table;
 use szg_block::{Entry, Sub};
 use szg_code::Code;

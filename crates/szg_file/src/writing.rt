@@ -1,3 +1,8 @@
+mod outgoing;
+pub(crate) mod sections;
+pub(crate) mod tally;
+mod writer;
+
 ghost use Rattle.std.specs.Prelude.{◌≡◌, ◌<◌, ◌^◌, length, take, IfErr, OnOk, OnErr};
 ghost use Rattle.szg_io.specs.Device.{HasFailed};
 ghost use Rattle.szg_io.specs.Moved.{Gives};
@@ -5,11 +10,11 @@ ghost use Rattle.szg_file.specs.Accepted.{IsAccepted};
 ghost use Rattle.szg_file.specs.Held.{file_bytes};
 
 use crate::fault::WriteFault;
-use crate::outgoing::flush;
-use crate::sections::put_sections;
 use crate::table::Table;
-use crate::tally::Tally;
-use crate::writer::Writer;
+use crate::writing::outgoing::flush;
+use crate::writing::sections::put_sections;
+use crate::writing::tally::Tally;
+use crate::writing::writer::Writer;
 use szg_io::Output;
 
 /// Writes the table's file. Errors: the writer failed, with the number of bytes of the file that were written.

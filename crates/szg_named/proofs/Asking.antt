@@ -4,15 +4,15 @@ use Rattle.std.specs.Prelude.{slice_get}
 use Rattle.std.proofs.lemmas.Bool.{le-ltb, lt-ltb}
 use Rattle.std.proofs.lemmas.List.{drop-map, length-map}
 use Rattle.std.proofs.lemmas.Option.{slice_get-map}
-use Rattle.szg_named.specs.Asked.{all_named, files_asked, is_check}
+use Rattle.szg_named.specs.Requested.{all_named, files_to_check, is_check}
 
 abbrev pub texts : List (Bor (List ℕ)) → List (List ℕ)
 texts words = map (λ word. word.now) words
 
 -- the results by which the definition decides
-asked_by : (words : List (Bor (List ℕ))) (many check named : Bool) → nat_lt 2 (length (texts words)) ≡ many → is_check (option_map (λ word. word.now) (slice_get words 1)) ≡ check →
-    all_named (texts (drop 2 words)) ≡ named → files_asked (texts words) ≡ (if many && (check && named) then Some (texts (drop 2 words)) else None)
-asked_by words many check named a b c =
+requested_by : (words : List (Bor (List ℕ))) (many check named : Bool) → nat_lt 2 (length (texts words)) ≡ many → is_check (option_map (λ word. word.now) (slice_get words 1)) ≡ check →
+    all_named (texts (drop 2 words)) ≡ named → files_to_check (texts words) ≡ (if many && (check && named) then Some (texts (drop 2 words)) else None)
+requested_by words many check named a b c =
     let at : is_check (slice_get (texts words) 1) ≡ check = ap is_check (slice_get-map (λ (word : Bor (List ℕ)). word.now) words 1) ∙ b in
     let rest : drop 2 (texts words) ≡ texts (drop 2 words) = drop-map (λ (word : Bor (List ℕ)). word.now) 2 words in
     let all : all_named (drop 2 (texts words)) ≡ named = ap all_named rest ∙ c in
@@ -24,10 +24,10 @@ asked_by words many check named a b c =
 abbrev command_is : List (Bor (List ℕ)) → Bool
 command_is words = is_check (option_map (λ word. word.now) (slice_get words 1))
 
-pub none_few : (words : List (Bor (List ℕ))) → length words < 3 → files_asked (texts words) ≡ None
+pub none_few : (words : List (Bor (List ℕ))) → length words < 3 → files_to_check (texts words) ≡ None
 none_few words few =
     let many : length (texts words) ≡ length words = length-map words (λ (word : Bor (List ℕ)). word.now) in
-    asked_by words false (command_is words) (all_named (texts (drop 2 words))) (le-ltb 2 (length (texts words)) (omega (arith, few, many))) refl refl
+    requested_by words false (command_is words) (all_named (texts (drop 2 words))) (le-ltb 2 (length (texts words)) (omega (arith, few, many))) refl refl
 
 not_check : {X : Type 0} (m n : Bool) (x : X) → (if m && (false && n) then Some x else None) ≡ None
 not_check true n x = refl
@@ -38,18 +38,18 @@ not_named true true x = refl
 not_named true false x = refl
 not_named false k x = refl
 
-pub none_other : (words : List (Bor (List ℕ))) → is_check (option_map (λ word. word.now) (slice_get words 1)) ≡ false → files_asked (texts words) ≡ None
+pub none_other : (words : List (Bor (List ℕ))) → is_check (option_map (λ word. word.now) (slice_get words 1)) ≡ false → files_to_check (texts words) ≡ None
 none_other words other =
-    asked_by words (nat_lt 2 (length (texts words))) false (all_named (texts (drop 2 words))) refl other refl
+    requested_by words (nat_lt 2 (length (texts words))) false (all_named (texts (drop 2 words))) refl other refl
     ∙ not_check (nat_lt 2 (length (texts words))) (all_named (texts (drop 2 words))) (texts (drop 2 words))
 
-pub none_unnamed : (words : List (Bor (List ℕ))) → all_named (texts (drop 2 words)) ≡ false → files_asked (texts words) ≡ None
+pub none_unnamed : (words : List (Bor (List ℕ))) → all_named (texts (drop 2 words)) ≡ false → files_to_check (texts words) ≡ None
 none_unnamed words unnamed =
-    asked_by words (nat_lt 2 (length (texts words))) (command_is words) false refl refl unnamed
+    requested_by words (nat_lt 2 (length (texts words))) (command_is words) false refl refl unnamed
     ∙ not_named (nat_lt 2 (length (texts words))) (command_is words) (texts (drop 2 words))
 
-pub asked_is : (words : List (Bor (List ℕ))) → 3 ≤ length words → is_check (option_map (λ word. word.now) (slice_get words 1)) ≡ true → all_named (texts (drop 2 words)) ≡ true →
-    files_asked (texts words) ≡ Some (texts (drop 2 words))
-asked_is words long check named =
+pub query_is : (words : List (Bor (List ℕ))) → 3 ≤ length words → is_check (option_map (λ word. word.now) (slice_get words 1)) ≡ true → all_named (texts (drop 2 words)) ≡ true →
+    files_to_check (texts words) ≡ Some (texts (drop 2 words))
+query_is words long check named =
     let many : length (texts words) ≡ length words = length-map words (λ (word : Bor (List ℕ)). word.now) in
-    asked_by words true true true (lt-ltb 2 (length (texts words)) (omega (arith, long, many))) check named
+    requested_by words true true true (lt-ltb 2 (length (texts words)) (omega (arith, long, many))) check named

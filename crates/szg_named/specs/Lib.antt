@@ -1,5 +1,5 @@
 pub mod Named
 pub mod Verdicts
 pub mod Lines
-pub mod Asked
+pub mod Requested
 pub mod Records

@@ -1,7 +1,7 @@
 //! Table files by path: the name and kind in a path, and the check of one or many files.
 #![tactic(auto)]
 
-mod asked;
+mod check_paths;
 mod file_verdict;
 mod lines;
 mod many;
@@ -11,7 +11,7 @@ mod records;
 mod report_format;
 mod stop;
 
-pub use asked::files_asked;
+pub use check_paths::files_to_check;
 pub use file_verdict::FileVerdict;
 pub use lines::{error_text, fault_text, name_word, reason_word, summary_line, verdict_line};
 pub use many::{CheckOptions, check_files};

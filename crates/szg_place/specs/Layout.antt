@@ -1,10 +1,11 @@
 -- How the subtables of a table number their placements.
-use Rattle.std.specs.Prelude.{◌≡◌, ℕ, ◌%◌, ◌<◌, Bool, true, false, List, [], length, slice_get, slice_index, unwrap_or, IsNone, if◌then◌else◌}
+use Rattle.std.specs.Prelude.{◌≡◌, ℕ, ◌%◌, ◌<◌, Bool, true, false, List, length, slice_index, IsNone, if◌then◌else◌}
 use Rattle.szg_values.specs.Material.{Sides, has_pawns, is_symmetric, IsMaterial}
 use Rattle.szg_values.specs.declared.Kind.{Kind}
 use Rattle.szg_values.specs.declared.Kind.TheVariants.{Wdl, Dtz}
-use Rattle.szg_count.specs.Groups.{Nibbles, nibbles_of, order_fault}
+use Rattle.szg_count.specs.Groups.{Nibbles, order_fault}
 use Rattle.szg_file.specs.Contents.{Part}
+use Rattle.szg_file.specs.Index.{nibbles_in_part}
 
 -- a table's kind and material, the bytes of each part, and in DTZ the flags of each part's subtable
 pub record Layout : Type 0 where
@@ -22,9 +23,6 @@ abbrev pub layout_in : Kind → Sides → List Part → List ℕ → Layout
 layout_in kind material parts flags = record { kind = kind; material = material; parts = parts; flags = flags }
 
 -- the nibbles of a side of a part
-abbrev pub nibbles_in_part : List Part → ℕ → ℕ → Nibbles
-nibbles_in_part parts part side = let p = unwrap_or (slice_get parts part) (record { order = []; men = [] }) in nibbles_of side p.order p.men
-
 abbrev pub nibbles_at : Layout → ℕ → ℕ → Nibbles
 nibbles_at l part side = nibbles_in_part l.parts part side
 
@@ -35,11 +33,11 @@ side_count l = if is_dtz l.kind then 1 else if is_symmetric l.material then 1 el
 abbrev pub part_count : Layout → ℕ
 part_count l = if has_pawns l.material then 4 else 1
 
--- the side that a DTZ subtable stores: its flag 1
+-- the side to move whose values a DTZ subtable stores: the lowest bit of its flags
 abbrev pub stored_side : Layout → ℕ → ℕ
 stored_side l part = slice_index l.flags part % 2
 
--- each part exists, and has valid order nibbles and men for each of its sides
+-- there are as many parts as the material requires, and each side of each part has valid order nibbles and men
 pub record IsLayout (l : Layout) : Type 0 where
   pub material : IsMaterial l.material
   pub parts : length l.parts ≡ part_count l

@@ -8,6 +8,5 @@ pub mod Numbers
 pub mod Slots
 pub mod Known
 pub mod Front
-pub mod Prepared
-pub mod Traits
-pub mod Seats
+pub mod Keys
+pub mod SlotSquares

@@ -1,12 +1,12 @@
-//! Probes of a table that was opened by its front, which is all of its file before the blocks. A probe fetches and
-//! verifies the block that contains the value.
+//! Probes of a table that was opened by its front: all of its file before the blocks. A probe fetches and verifies the
+//! block that contains the value.
 
 ghost use Rattle.std.specs.Prelude.{◌≡◌, ◌<◌, ◌≤◌, ◌≤ℤ◌, pos, neg_ℤ, length, IsNone, IsSome, IfSome, IfOk, IfErr, Ok, Err};
 ghost use Rattle.szg_block.specs.BlocksTrait.{Rose};
 ghost use Rattle.szg_file.specs.FrontTable.{IsFrontOf};
 ghost use Rattle.szg_file.specs.Index.{slot_in};
-ghost use Rattle.szg_file.specs.Opened.{asked_after};
-ghost use Rattle.szg_place.specs.Front.{IsBadAt, IsMeant, IsMissedAt, IsValueAt, as_class, as_number, at_spot, class_told, fault_in, number_told, spot_at, spot_in};
+ghost use Rattle.szg_file.specs.Opened.{requested_after};
+ghost use Rattle.szg_place.specs.Front.{IsBadAt, IsMeant, IsMissedAt, IsValueAt, as_class, as_number, at_spot, class_of_fetched, fault_in, number_of_fetched, spot_at, spot_in};
 ghost use Rattle.szg_place.specs.Spots.{place_fault, spot_of};
 ghost use Rattle.szg_place.specs.Tables.{numbering_in};
 
@@ -35,7 +35,7 @@ pub fn probe_wdl_front_in(
     probe_wdl_front_in_men(front, bytes, &PlacedMen::of(placement))
 }
 
-/// `probe_wdl_front_in` for men in a list of the caller's.
+/// `probe_wdl_front_in` for a `PlacedMen`, whose list of men the caller owns.
 pub fn probe_wdl_front_in_men(
     front: &FrontTable,
     bytes: &[u8],
@@ -46,12 +46,12 @@ pub fn probe_wdl_front_in_men(
     ensures class { IsFrontOf front.now bytes.now → IsNone (fault_in front.now placement.now) →
         IsMeant (IsValueAt front.now bytes.now (spot_in front.now placement.now)) (IsBadAt front.now bytes.now (spot_in front.now placement.now)) as_class result }
 {
-    class_told(value_in(front, bytes, placement))
+    class_of_fetched(value_from_bytes(front, bytes, placement))
 }
 
-/// Returns the number of a placement in a DTZ table that was opened by its front, as `probe_dtz` returns it for a
-/// table in memory. `class` is the placement's class, `bytes` are the file's bytes. It verifies the block of the
-/// value and allocates nothing. Any number of threads may call it on one front.
+/// Returns the number that a DTZ table stores for a placement, as `probe_dtz` returns it for a table in memory. The
+/// table was opened by its front. `class` is the placement's class, `bytes` are the file's bytes. It verifies the block
+/// of the value and allocates nothing. Any number of threads may call it on one front.
 ///
 /// Errors: `Probe` with the error of `probe_dtz`, `Fetch` with the error of `FrontTable::get_in`.
 pub fn probe_dtz_front_in(
@@ -70,7 +70,7 @@ pub fn probe_dtz_front_in(
     probe_dtz_front_in_men(front, bytes, &PlacedMen::of(placement), class)
 }
 
-/// `probe_dtz_front_in` for men in a list of the caller's.
+/// `probe_dtz_front_in` for a `PlacedMen`, whose list of men the caller owns.
 pub fn probe_dtz_front_in_men(
     front: &FrontTable,
     bytes: &[u8],
@@ -84,8 +84,8 @@ pub fn probe_dtz_front_in_men(
     ensures number { IsFrontOf front.now bytes.now → IsNone (fault_in front.now placement.now) →
         IsMeant (IsValueAt front.now bytes.now (spot_in front.now placement.now)) (IsBadAt front.now bytes.now (spot_in front.now placement.now)) (as_number front.now.index (spot_in front.now placement.now).part class) result }
 {
-    let found = value_in(front, bytes, placement);
-    number_told(front.index(), class, found)
+    let found = value_from_bytes(front, bytes, placement);
+    number_of_fetched(front.index(), class, found)
 }
 
 /// Returns the class of a placement in a WDL table that was opened by its front, as `probe_wdl` returns it for a
@@ -110,14 +110,14 @@ pub fn probe_wdl_front<S: Source>(
     ensures content { S.content source.new ≡ S.content source.old }
     ensures unasked { IsSome (fault_in front.now placement.now) → S.requested source.new ≡ S.requested source.old }
     ensures requested { IsFrontOf front.now (S.content source.old) → IsNone (fault_in front.now placement.now) →
-        IfSome (spot_at front.now (S.content source.old) (spot_in front.now placement.now)) (λ found. S.requested source.new ≡ asked_after found.1 (S.requested source.old)) }
+        IfSome (spot_at front.now (S.content source.old) (spot_in front.now placement.now)) (λ found. S.requested source.new ≡ requested_after found.1 (S.requested source.old)) }
 {
-    class_told(value_by(front, source, buffer, placement))
+    class_of_fetched(value_from_source(front, source, buffer, placement))
 }
 
-/// Returns the number of a placement in a DTZ table that was opened by its front, as `probe_dtz` returns it for a
-/// table in memory. `class` is the placement's class. It requests the block of the value from the source, into
-/// `buffer`, and verifies it. For a constant subtable it requests nothing.
+/// Returns the number that a DTZ table stores for a placement, as `probe_dtz` returns it for a table in memory. The
+/// table was opened by its front. `class` is the placement's class. It requests the block of the value from the source,
+/// into `buffer`, and verifies it. For a constant subtable it requests nothing.
 ///
 /// Errors: `Probe` with the error of `probe_dtz`, `Fetch` with the error of `FrontTable::get`. An error does not
 /// change what later calls return.
@@ -140,14 +140,14 @@ pub fn probe_dtz_front<S: Source>(
     ensures content { S.content source.new ≡ S.content source.old }
     ensures unasked { IsSome (fault_in front.now placement.now) → S.requested source.new ≡ S.requested source.old }
     ensures requested { IsFrontOf front.now (S.content source.old) → IsNone (fault_in front.now placement.now) →
-        IfSome (spot_at front.now (S.content source.old) (spot_in front.now placement.now)) (λ found. S.requested source.new ≡ asked_after found.1 (S.requested source.old)) }
+        IfSome (spot_at front.now (S.content source.old) (spot_in front.now placement.now)) (λ found. S.requested source.new ≡ requested_after found.1 (S.requested source.old)) }
 {
-    let found = value_by(front, source, buffer, placement);
-    number_told(front.index(), class, found)
+    let found = value_from_source(front, source, buffer, placement);
+    number_of_fetched(front.index(), class, found)
 }
 
 // Returns the spot of a placement and the value there, from the file's bytes.
-fn value_in(
+fn value_from_bytes(
     front: &FrontTable,
     bytes: &[u8],
     placement: &PlacedMen<'_>,
@@ -169,7 +169,7 @@ fn value_in(
 }
 
 // Returns the spot of a placement and the value there, from a source.
-fn value_by<S: Source>(
+fn value_from_source<S: Source>(
     front: &FrontTable,
     source: &mut S,
     buffer: &mut [u8],
@@ -186,7 +186,7 @@ fn value_by<S: Source>(
     ensures content { S.content source.new ≡ S.content source.old }
     ensures unasked { IsSome (fault_in front.now placement.now) → S.requested source.new ≡ S.requested source.old }
     ensures requested { IsFrontOf front.now (S.content source.old) → IsNone (fault_in front.now placement.now) →
-        IfSome (spot_at front.now (S.content source.old) (spot_in front.now placement.now)) (λ found. S.requested source.new ≡ asked_after found.1 (S.requested source.old)) }
+        IfSome (spot_at front.now (S.content source.old) (spot_in front.now placement.now)) (λ found. S.requested source.new ≡ requested_after found.1 (S.requested source.old)) }
 {
     let spot = match index_in(front.index(), placement) {
         Ok(spot) => spot,
@@ -198,9 +198,11 @@ fn value_by<S: Source>(
     }
 }
 
-// Returns the class of a value that was fetched.
-fn class_told(found: Result<(Spot, u16), FrontProbeFault>) -> Result<Option<i8>, FrontProbeFault>
-    ensures { result ≡ class_told found }
+// Returns the class of a value that was fetched, or the fault of the fetch.
+fn class_of_fetched(
+    found: Result<(Spot, u16), FrontProbeFault>,
+) -> Result<Option<i8>, FrontProbeFault>
+    ensures { result ≡ class_of_fetched found }
 {
     match found {
         Ok((_, value)) => Ok(class_of(value)),
@@ -208,8 +210,8 @@ fn class_told(found: Result<(Spot, u16), FrontProbeFault>) -> Result<Option<i8>,
     }
 }
 
-// Returns the number, in a class, of a DTZ value that was fetched.
-fn number_told(
+// Returns the DTZ number of a fetched value in a class, or the fault of the fetch or the map.
+fn number_of_fetched(
     index: &TableIndex,
     class: i8,
     found: Result<(Spot, u16), FrontProbeFault>,
@@ -218,7 +220,7 @@ fn number_told(
     requires part { IfOk found (λ x. IsSome (slot_in index.now x.0.part 0)) }
     requires lowest { neg_ℤ (pos 2) ≤ℤ class }
     requires highest { class ≤ℤ pos 2 }
-    ensures { result ≡ number_told index.now class found }
+    ensures { result ≡ number_of_fetched index.now class found }
 {
     let (spot, value) = match found {
         Ok(found) => found,

@@ -3,22 +3,23 @@
 ghost use Rattle.std.specs.Prelude.{◌≡◌, ◌<◌, IsNone, IsSome, IfSome};
 ghost use Rattle.szg_file.specs.Index.{slot_in};
 ghost use Rattle.szg_file.specs.Values.{subtable_at};
-ghost use Rattle.szg_place.specs.Ranks.{LawSquaresTold, LawPlacesTold};
+ghost use Rattle.szg_place.specs.Ranks.{LawUnrankAfterRank, LawRankAfterUnrank};
 ghost use Rattle.szg_place.specs.Laws.{LawBelowSize, LawOneSpot, LawSpotOfPlacement, LawPlacementOfSpot};
 ghost use Rattle.szg_place.specs.Layout.{IsLayout};
 ghost use Rattle.szg_place.specs.Spots.{board_at, place_fault, placement_refusal, spot_of};
 ghost use Rattle.szg_place.specs.Tables.{numbering_of, numbering_in};
 
+use crate::typed::index_fits;
 use szg_file::{Table, TableIndex};
 
-/// Unranking the ranks of squares in the ordered lists of their groups returns the squares.
-pub fn squares_told()
-    ensures { LawSquaresTold }
+/// Ranking the squares of each group in the group's ordered list, and unranking these ranks, returns the squares.
+pub fn squares_of_ranks()
+    ensures { LawUnrankAfterRank }
 {}
 
 /// Unranking ranks to squares, and ranking these squares, returns the ranks.
-pub fn places_told()
-    ensures { LawPlacesTold }
+pub fn ranks_of_index()
+    ensures { LawRankAfterUnrank }
 {}
 
 /// If a table has an index for a placement, the index is below the size of its subtable.
@@ -41,13 +42,12 @@ pub fn placement_of_spot()
     ensures { LawPlacementOfSpot }
 {}
 
-/// A table's numbering satisfies `IsLayout`, which the laws require: each part exists and has valid order nibbles.
+/// A table's numbering satisfies `IsLayout`, which the laws require: it has as many parts as the material requires, and
+/// each side of each part has valid order nibbles and men.
 pub fn table_numbering(table: &Table)
     ensures { IsLayout (numbering_of table.now.contents) }
 {
-    // for proofs alone: the invariants of the table and its material
-    let _fill = table.fill();
-    let _men = table.material().men();
+    index_fits(table.index());
 }
 
 /// If `placement_of` returns a placement for a part, side and index, `index_of` returns the same part, side and index
@@ -64,7 +64,7 @@ pub fn index_of_placement(table: &Table, part: u8, side: u8, index: u64)
 }
 
 /// If `placement_in` returns a placement for a part, side and index, `index_in` returns the same part, side and index
-/// for this placement. Both take the `TableIndex`, which each type of table has.
+/// for this placement. Both functions take the `TableIndex`, which each type of table has.
 pub fn index_in_placement(table: &TableIndex, part: u8, side: u8, index: u64)
     requires there { IsSome (slot_in table.now part side) }
     requires below { IfSome (slot_in table.now part side) (λ slot. index < slot.size) }
@@ -73,7 +73,5 @@ pub fn index_in_placement(table: &TableIndex, part: u8, side: u8, index: u64)
     ensures spot { IsNone (placement_refusal (numbering_in table.now) part side) →
         spot_of (numbering_in table.now) (board_at (numbering_in table.now) part side index) ≡ record { part = part; side = side; index = index } }
 {
-    // for proofs alone: the invariants of the `TableIndex` and its material
-    let _flags = table.flags();
-    let _men = table.material().men();
+    index_fits(table);
 }

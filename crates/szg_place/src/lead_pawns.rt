@@ -1,4 +1,4 @@
-//! Ranks of lead pawns. The pawns are listed by their values P, the greatest first.
+//! Ranks of lead pawns. The pawns are listed by the values P of their squares (`PAWN_NUMBERS`), the greatest first.
 
 ghost use Rattle.std.specs.Prelude.{◌≡◌, ◌<◌, ◌≤◌, ◌^◌, ◌+◌, ◌-◌, ◌*◌, ◌∷◌, ℕ, [], length, map, Some, slice_get, slice_index};
 ghost use Rattle.arrayvec.specs.ArrayVec.{array_vec_len};
@@ -10,22 +10,23 @@ use arrayvec::ArrayVec;
 use szg_count::{choose, unrank_subset};
 use szg_values::MAX_MEN;
 
-/// The value P of a square (`ptwist` in the probing code): the number of squares after it in the order of pawn squares.
+/// The value P of a square (`ptwist` in the probing code): the number of squares after it in the order a2 h2 a3 h3 ..
+/// a7 h7, then likewise the files b and g, c and f, d and e. 0 on ranks 1 and 8.
 pub(crate) const PAWN_NUMBERS: [u8; 64] = [
     0, 0, 0, 0, 0, 0, 0, 0, 47, 35, 23, 11, 10, 22, 34, 46, 45, 33, 21, 9, 8, 20, 32, 44, 43, 31,
     19, 7, 6, 18, 30, 42, 41, 29, 17, 5, 4, 16, 28, 40, 39, 27, 15, 3, 2, 14, 26, 38, 37, 25, 13,
     1, 0, 12, 24, 36, 0, 0, 0, 0, 0, 0, 0, 0,
 ];
 
-/// The square with a value P.
+/// The square with each value P.
 pub(crate) const PAWN_SQUARES: [u8; 48] = [
     52, 51, 44, 43, 36, 35, 28, 27, 20, 19, 12, 11, 53, 50, 45, 42, 37, 34, 29, 26, 21, 18, 13, 10,
     54, 49, 46, 41, 38, 33, 30, 25, 22, 17, 14, 9, 55, 48, 47, 40, 39, 32, 31, 24, 23, 16, 15, 8,
 ];
 
-/// For a first lead pawn on a square, the number of sets in the file's list whose first pawn is on a lower rank. The
-/// index is `24 * (pawns - 1) + 6 * file + (rank - 1)`. There are 1 to 4 `pawns`, `file` is 0 to 3, and `rank` 1 to 6,
-/// counted from 0.
+/// The number of sets in a file's ordered list that have their first pawn on a lower rank of the board than `rank`
+/// (`pawnidx` in the probing code), at index `24 * (pawns - 1) + 6 * file + (rank - 1)`. There are 1 to 4 `pawns`,
+/// `file` is 0 to 3, and `rank` is 1 to 6 for the ranks 2 to 7.
 const WAYS_BEFORE: [u32; 96] = [
     0, 1, 2, 3, 4, 5, 0, 1, 2, 3, 4, 5, 0, 1, 2, 3, 4, 5, 0, 1, 2, 3, 4, 5, 0, 47, 92, 135, 176,
     215, 0, 35, 68, 99, 128, 155, 0, 23, 44, 63, 80, 95, 0, 11, 20, 27, 32, 35, 0, 1081, 2071,
@@ -36,7 +37,7 @@ const WAYS_BEFORE: [u32; 96] = [
 
 /// Returns the rank of lead pawns in the ordered list of their file.
 #[inline(always)]
-pub fn lead_pawns_place(squares: &[u8], file: u8) -> u64
+pub fn rank_lead_pawns(squares: &[u8], file: u8) -> u64
     requires some { 0 < length squares.now }
     requires few { length squares.now ≤ 4 }
     requires file { file < 4 }
@@ -45,11 +46,12 @@ pub fn lead_pawns_place(squares: &[u8], file: u8) -> u64
 {
     let first = squares[0];
     let before = ways_before(squares.len(), file, first / 8);
-    before + place_of_pawns(&squares[1..])
+    before + rank_pawns(&squares[1..])
 }
 
-// Returns the number of sets in the file's list whose first pawn is on a lower rank than `rank`. For one pawn it is the
-// number of those ranks.
+// Returns the number of sets in the file's list whose first pawn is on a lower rank of the board than `rank`. `rank` is
+// 1 to 6 for the ranks 2 to 7 of the board. The list of a single pawn has one set for each of these ranks, so the
+// result is `rank - 1`.
 fn ways_before(pawns: usize, file: u8, rank: u8) -> u64
     requires some { 0 < pawns }
     requires few { pawns ≤ 4 }
@@ -65,22 +67,22 @@ fn ways_before(pawns: usize, file: u8, rank: u8) -> u64
     u64::from(WAYS_BEFORE[24 * (pawns - 1) + 6 * usize::from(file) + usize::from(rank - 1)])
 }
 
-// Returns the rank of a set of pawns among all sets of the same size. The pawns are listed by their values P, the
-// greatest first.
+// Returns the rank of a set of pawns among all sets of the same size. The pawns are listed by the values P of their
+// squares, the greatest first.
 #[inline(always)]
-fn place_of_pawns(squares: &[u8]) -> u64
+fn rank_pawns(squares: &[u8]) -> u64
     requires few { length squares.now ≤ 6 }
     requires inside { (k : ℕ) → k < length squares.now → slice_index squares.now k < 64 }
     requires falling { IsFallingBelow 64 (map (λ square. slice_index PAWN_NUMBERS square) squares.now) }
     ensures { (n : ℕ) → IsFallingBelow n (map (λ square. slice_index PAWN_NUMBERS square) squares.now) → slice_get (subsets n (length squares.now)) result ≡ Some (map (λ square. slice_index PAWN_NUMBERS square) squares.now) }
 {
-    let mut place = 0;
+    let mut number = 0;
     let mut left = squares.len() as u64;
     for square in squares {
-        place += choose(u64::from(pawn_number(*square)), left);
+        number += choose(u64::from(pawn_number(*square)), left);
         left -= 1;
     }
-    place
+    number
 }
 
 // Returns the value P of a square.
@@ -91,22 +93,22 @@ fn pawn_number(square: u8) -> u8
     PAWN_NUMBERS[usize::from(square)]
 }
 
-/// Returns the squares of the lead pawns with rank `place` in the ordered list of their file.
-pub fn lead_pawns_at(pawns: u8, file: u8, place: u64) -> ArrayVec<u8, MAX_MEN>
+/// Returns the squares of `pawns` lead pawns: set `number` in the ordered list of their file.
+pub fn unrank_lead_pawns(pawns: u8, file: u8, number: u64) -> ArrayVec<u8, MAX_MEN>
     requires some { 0 < pawns }
     requires few { pawns ≤ 4 }
     requires file { file < 4 }
-    requires below { place < length (lead_pawn_sets pawns file) }
-    ensures { slice_get (lead_pawn_sets pawns file) place ≡ Some result.items }
+    requires below { number < length (lead_pawn_sets pawns file) }
+    ensures { slice_get (lead_pawn_sets pawns file) number ≡ Some result.items }
 {
-    let rank = first_rank(pawns, file, place);
+    let rank = first_rank(pawns, file, number);
     let first = 8 * rank + file;
-    let rest = place - ways_before(usize::from(pawns), file, rank);
+    let rest = number - ways_before(usize::from(pawns), file, rank);
     let numbers = unrank_subset(PAWN_NUMBERS[usize::from(first)], pawns - 1, rest);
     squares_from(first, numbers.as_slice())
 }
 
-// Returns the first square, and then the squares with these values P.
+// Returns `first`, and then the squares with these values P.
 fn squares_from(first: u8, numbers: &[u8]) -> ArrayVec<u8, MAX_MEN>
     requires few { length numbers.now ≤ 5 }
     requires below { (n : ℕ) → IsIn n numbers.now → n < 48 }
@@ -120,19 +122,19 @@ fn squares_from(first: u8, numbers: &[u8]) -> ArrayVec<u8, MAX_MEN>
     squares
 }
 
-// Returns the rank on the board (1 to 6, counted from 0) of the first pawn in item `place` of the ordered list.
-fn first_rank(pawns: u8, file: u8, place: u64) -> u8
+// Returns the rank on the board (1 to 6 for the ranks 2 to 7) of the first pawn of set `number`.
+fn first_rank(pawns: u8, file: u8, number: u64) -> u8
     requires some { 0 < pawns }
     requires few { pawns ≤ 4 }
     requires file { file < 4 }
-    requires below { place < length (lead_pawn_sets pawns file) }
+    requires below { number < length (lead_pawn_sets pawns file) }
     ensures second { 0 < result }
     ensures seventh { result < 7 }
-    ensures from { slice_index WAYS_BEFORE (24 * (pawns - 1) + 6 * file + (result - 1)) ≤ place }
-    ensures within { place < slice_index WAYS_BEFORE (24 * (pawns - 1) + 6 * file + (result - 1)) + choose (slice_index PAWN_NUMBERS (8 * result + file)) (pawns - 1) }
+    ensures from { slice_index WAYS_BEFORE (24 * (pawns - 1) + 6 * file + (result - 1)) ≤ number }
+    ensures within { number < slice_index WAYS_BEFORE (24 * (pawns - 1) + 6 * file + (result - 1)) + choose (slice_index PAWN_NUMBERS (8 * result + file)) (pawns - 1) }
 {
     for rank in (1..7).rev() {
-        if ways_before(usize::from(pawns), file, rank) <= place {
+        if ways_before(usize::from(pawns), file, rank) <= number {
             return rank;
         }
     }

@@ -1,5 +1,10 @@
-//! Placements and indexes of Syzygy tables: the index of a placement in its subtable, and the placement of an
-//! index. The rules are those of de Man's format and its probing code.
+//! Placements and indexes of Syzygy tables: the index of a placement in its subtable (`PairsData` in the probing code),
+//! and the placement of an index. A placement is men on squares and the side to move. The rules are those of de Man's
+//! format and its probing code.
+//!
+//! The rank of a set of squares is its index in an ordered list of such sets; to unrank is to find the set with a given
+//! rank. Where a call takes or counts up a rank, it is named `number`, since `rank` also has its chess meaning: where
+//! ranks are flipped, or are numbered 1 to 8, they are ranks of the board.
 #![tactic(auto)]
 
 use szg_file::{FetchFault, MapFault};
@@ -7,32 +12,29 @@ use thiserror::Error;
 
 pub mod free_squares;
 mod front;
+mod group_ranks;
 pub mod index;
 pub mod kings;
 pub mod laws;
 pub mod lead_pawns;
 mod men;
 mod normal;
-mod numbering;
 mod placement;
-mod places;
-mod prepared;
 mod probes;
-mod seats;
+mod slot_squares;
 mod slots;
 mod spots;
-mod traits;
+mod stored_side;
 pub mod triples;
+mod typed;
 
 pub use front::{
     probe_dtz_front, probe_dtz_front_in, probe_dtz_front_in_men, probe_wdl_front,
     probe_wdl_front_in, probe_wdl_front_in_men,
 };
-pub use numbering::SideGroups;
 pub use placement::{placement_in, placement_of};
-pub use prepared::PreparedTable;
-pub use probes::{class_of, probe_dtz, probe_wdl};
-pub use spots::{index_in, index_in_men, index_of};
+pub use probes::{class_of, probe_dtz, probe_dtz_men, probe_wdl, probe_wdl_men};
+pub use spots::{index_in, index_in_men, index_of, index_of_men};
 
 /// Why a table has no index for a placement: the first check that fails, in this order.
 #[derive(Clone, Copy, Debug, PartialEq, Eq, Error)]
@@ -40,9 +42,9 @@ pub enum PlaceFault {
     /// The placement's men are not the table's.
     #[error("OtherMaterial")]
     OtherMaterial,
-    /// The groups of the placement's subtable give it no index. Some group after the lead group does not have all men
-    /// of its kind and colour; or there are no pawns, and some man of the lead group is not the only one of its kind
-    /// and colour.
+    /// The groups of the placement's subtable give the placement no index: some group after the lead group does not
+    /// have all men of its kind and colour; or there are no pawns, and some man of the lead group is not the only one
+    /// of its kind and colour.
     #[error("Irregular")]
     Irregular,
     /// The lead group is the two kings, and they are on neighbouring squares.
@@ -64,13 +66,14 @@ pub enum ProbeFault {
     Map(MapFault),
 }
 
-/// Why a probe of a table that was opened by its front (all but its blocks) returns neither a class nor a number.
+/// Why a probe of a table that was opened by its front (all of its file before the blocks) returns neither a class nor
+/// a number.
 #[derive(Clone, Copy, Debug, PartialEq, Eq, Error)]
 pub enum FrontProbeFault {
     /// The table has no index for the placement, or no number for its value.
     #[error("{0}")]
     Probe(ProbeFault),
-    /// The value's block doesn't decode, or the source failed.
+    /// The value's block does not decode, or the source failed.
     #[error("Fetch")]
     Fetch(FetchFault),
 }

@@ -10,21 +10,23 @@ ghost use Rattle.szg_file.specs.Values.{subtable_at};
 ghost use Rattle.szg_values.specs.Material.{has_pawns, is_symmetric};
 ghost use Rattle.szg_values.specs.Placement.{PlacedMan};
 ghost use Rattle.szg_place.specs.Layout.{is_dtz};
-ghost use Rattle.szg_place.specs.Spots.{placement_refusal, board_at, places_told, squares_told, standing_by_group, standing_on, man_at, color_at};
+ghost use Rattle.szg_place.specs.Spots.{placement_refusal, board_at, ranks_of_index, squares_of_ranks, men_by_group, men_on_squares, man_at, color_at};
 ghost use Rattle.szg_place.specs.Tables.{numbering_of, numbering_in};
 
 use crate::PlaceFault;
 use crate::index::squares_at;
-use crate::numbering::{groups_of, is_regular, order_at, stored_side};
+use crate::stored_side::stored_side;
+use crate::typed::material_fits;
 use arrayvec::ArrayVec;
-use szg_count::{Groups, Order};
+use szg_count::{Groups, MaterialInfo, Order};
 use szg_file::{Table, TableIndex};
-use szg_values::{Color, Kind, MAX_MEN, Man, Material, Placement, Square};
+use szg_values::{Color, Kind, MAX_MEN, Man, Placement, Square};
 
-/// Returns the placement of an index of a subtable: the inverse of `index_of`. The name's first side is White; the
-/// side to move is the subtable's side (in DTZ the stored one; White if both sides have the same men). The men are
-/// listed slot by slot: those of a later group from the greatest square down, the lead pawns from the greatest value
-/// P down, other lead men as in their ordered list. Allocates nothing.
+/// Returns the placement of an index of a subtable: the inverse of `index_of`. The name's first side is White; the side
+/// to move is the subtable's side (in DTZ the stored one; White if both sides have the same men). The men are listed in
+/// the order of the subtable's list of men: those of a later group from the greatest square down, the lead pawns from
+/// the greatest value P (`ptwist` in the probing code) down, other lead men as in their ordered list. Allocates
+/// nothing.
 ///
 /// Errors, the first that applies: `Irregular`; `WrongSide` for a DTZ subtable that stores Black although both sides
 /// have the same men and there are pawns.
@@ -53,19 +55,16 @@ pub fn placement_in(
     ensures refused { IfSome (placement_refusal (numbering_in table.now) part side) (λ fault. result ≡ Err fault) }
     ensures placed { IsNone (placement_refusal (numbering_in table.now) part side) → result ≡ Ok (board_at (numbering_in table.now) part side index) }
 {
-    let (material, kind, flags) = (table.material(), table.kind(), table.flags());
-    // for proofs alone: the material's invariant
-    let _men = material.men();
-    let order = order_at(table, part, side);
-    let groups = groups_of(material, part, &order);
-    if !is_regular(material, part, &order, &groups) {
+    let (material, kind) = (table.material_info(), table.kind());
+    let grouped = table.groups(part, side);
+    if !grouped.regular {
         return Err(PlaceFault::Irregular);
     }
-    let stored = stored_side(flags, part);
-    if is_untold(material, kind, stored) {
+    let stored = stored_side(table.flags(), part);
+    if has_no_placements(material, kind, stored) {
         return Err(PlaceFault::WrongSide);
     }
-    let men = men_at(material, part, &order, &groups, index);
+    let men = men_at(material, part, &grouped.order, &grouped.groups, index);
     let mover = mover_at(material, kind, stored, side);
     let Ok(placement) = Placement::new(men.as_slice(), mover) else {
         unreachable!()
@@ -75,7 +74,7 @@ pub fn placement_in(
 
 // Returns the men of an index, slot by slot.
 fn men_at(
-    material: &Material,
+    material: &MaterialInfo,
     part: u8,
     order: &Order,
     groups: &Groups,
@@ -87,21 +86,20 @@ fn men_at(
     requires ordered { order_fault material.now given ≡ None }
     requires groups { groups.now ≡ groups_in_slot_order (counted material.now part given) }
     requires below { index < product (counted material.now part given).ways }
-    requires inside { (placed_men : PlacedMan) → IsIn placed_men (standing_by_group (counted material.now part given).groups (squares_told material.now part [] (zip (counted material.now part given).groups (places_told (counted material.now part given) index)))) → placed_men.2 < 64 }
-    ensures { result.items ≡ standing_by_group (counted material.now part given).groups (squares_told material.now part [] (zip (counted material.now part given).groups (places_told (counted material.now part given) index))) }
+    requires inside { (placed_men : PlacedMan) → IsIn placed_men (men_by_group (counted material.now part given).groups (squares_of_ranks material.now part [] (zip (counted material.now part given).groups (ranks_of_index (counted material.now part given) index)))) → placed_men.2 < 64 }
+    ensures { result.items ≡ men_by_group (counted material.now part given).groups (squares_of_ranks material.now part [] (zip (counted material.now part given).groups (ranks_of_index (counted material.now part given) index))) }
 {
-    // for proofs alone: the material's invariant
-    let _men = material.men();
+    material_fits(material);
     let squares = squares_at(material, part, groups, index);
-    standing_on(order.men.as_slice(), squares.as_slice())
+    men_on_squares(order.men.as_slice(), squares.as_slice())
 }
 
 // Returns men with these codes on these squares.
-fn standing_on(codes: &[u8], squares: &[u8]) -> ArrayVec<(Man, Color, Square), MAX_MEN>
+fn men_on_squares(codes: &[u8], squares: &[u8]) -> ArrayVec<(Man, Color, Square), MAX_MEN>
     requires few { length codes.now ≤ 6 }
     requires same { length squares.now ≡ length codes.now }
-    requires inside { (placed_men : PlacedMan) → IsIn placed_men (standing_on codes.now squares.now) → placed_men.2 < 64 }
-    ensures { result.items ≡ standing_on codes.now squares.now }
+    requires inside { (placed_men : PlacedMan) → IsIn placed_men (men_on_squares codes.now squares.now) → placed_men.2 < 64 }
+    ensures { result.items ≡ men_on_squares codes.now squares.now }
 {
     let mut men = ArrayVec::new();
     for (i, code) in codes.iter().enumerate() {
@@ -140,8 +138,8 @@ fn color_at(code: u8) -> Color
 }
 
 // Returns whether a DTZ subtable stores Black although both sides have the same men and there are pawns. No placement
-// has an index in it: if Black is to move, the colours are exchanged first, so the asked side is always 0.
-fn is_untold(material: &Material, kind: Kind, stored: u8) -> bool
+// has an index in it: if Black is to move, the colours are exchanged first, so the side to move is always 0.
+fn has_no_placements(material: &MaterialInfo, kind: Kind, stored: u8) -> bool
     ensures { result ≡ (is_dtz kind && is_symmetric material.now && has_pawns material.now && stored == 1) }
 {
     match kind {
@@ -150,11 +148,12 @@ fn is_untold(material: &Material, kind: Kind, stored: u8) -> bool
     }
 }
 
-// Returns the side to move: White if both sides have the same men, else the subtable's side, in DTZ the stored one.
-fn mover_at(material: &Material, kind: Kind, stored: u8, side: u8) -> Color
+// Returns the colour to move: White if both sides have the same men; otherwise White for side 0 and Black for side 1.
+// In WDL this is the subtable's side, in DTZ the side that the subtable stores.
+fn mover_at(material: &MaterialInfo, kind: Kind, stored: u8, side: u8) -> Color
     ensures { result ≡ (if is_symmetric material.now then Color.White else if (if is_dtz kind then stored else side) == 0 then Color.White else Color.Black) }
 {
-    if material.symmetric() || told_side(kind, stored, side) == 0 {
+    if material.symmetric() || stored_mover(kind, stored, side) == 0 {
         Color::White
     } else {
         Color::Black
@@ -162,7 +161,7 @@ fn mover_at(material: &Material, kind: Kind, stored: u8, side: u8) -> Color
 }
 
 // Returns the side to move in a subtable: in DTZ the side that it stores.
-fn told_side(kind: Kind, stored: u8, side: u8) -> u8
+fn stored_mover(kind: Kind, stored: u8, side: u8) -> u8
     ensures { result ≡ (if is_dtz kind then stored else side) }
 {
     match kind {

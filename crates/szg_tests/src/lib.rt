@@ -5,41 +5,27 @@
 #![tactic(auto)]
 
 #[cfg(test)]
-mod assembling;
-#[cfg(test)]
 mod block;
 #[cfg(test)]
-mod building;
+mod build;
 #[cfg(test)]
 mod code;
-#[cfg(test)]
-mod contents;
 #[cfg(test)]
 mod costs;
 #[cfg(test)]
 mod count;
 #[cfg(test)]
-mod devices;
-#[cfg(test)]
-mod dumps;
+mod file;
 #[cfg(test)]
 mod files;
 #[cfg(test)]
 mod fixtures;
 #[cfg(test)]
-mod fronts;
-#[cfg(test)]
-mod hostile;
-#[cfg(test)]
-mod lookups;
+mod io;
 #[cfg(test)]
 mod pairs;
 #[cfg(test)]
 mod place;
-#[cfg(test)]
-mod placements;
-#[cfg(test)]
-mod reading;
 #[cfg(test)]
 mod readme;
 #[cfg(test)]
@@ -48,5 +34,3 @@ mod standing;
 mod texts;
 #[cfg(test)]
 mod values;
-#[cfg(test)]
-mod writing;

@@ -8,12 +8,11 @@ mod shapes;
 mod texts;
 mod words;
 
-use crate::commands::run;
-use crate::outcome::Outcome;
 use fixtures::{knvk_wdl_constant, kpvk_dtz_mapped, kqvk_wdl_unpaired};
 use std::alloc::{AllocError, Global};
 use std::process::Abort;
 use std::test::Fail;
+use szg_commands::{Outcome, run};
 use szg_io::{Cut, Std};
 
 /// What `show` prints of the constant table.

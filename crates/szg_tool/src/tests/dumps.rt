@@ -1,9 +1,9 @@
 //! The command that prints a table as text, and the one that builds a table of it.
 use super::fixtures::{knvk_wdl_constant, kpvk_dtz_mapped, kqvk_wdl_unpaired};
 use super::{check_line, check_printed, check_wrong_words, words_of};
-use crate::commands::run;
 use std::alloc::{AllocError, Global};
 use std::test::Fail;
+use szg_commands::run;
 use szg_io::Std;
 
 /// The dump of the constant table.
@@ -59,7 +59,7 @@ fn dumps_are_built(rt: HostRuntime) -> Result<(), Fail> {
 }
 
 #[test]
-fn sizes_are_asked(rt: HostRuntime) -> Result<(), Fail> {
+fn sizes_are_requested(rt: HostRuntime) -> Result<(), Fail> {
     let file = kqvk_wdl_unpaired(rt.alloc())?;
     let mut text = Std::new(Vec::new(rt.alloc()));
     let dump = ["szg", "dump", "KQvK", "wdl"];

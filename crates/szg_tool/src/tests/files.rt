@@ -3,14 +3,13 @@ use super::fixtures::{
     first_bytes, knvk_wdl_constant, kqvk_wdl_lone_word, kqvk_wdl_unpaired, with_byte,
 };
 use super::words_of;
-use crate::finding::Clap;
-use crate::on_files::{Ending, run_words};
 use std::alloc::Global;
 use std::process::Abort;
 use std::rt::Files;
 use std::test::Fail;
 use std::time::Clock;
 use szg_build::Unwatched;
+use szg_commands::{Clap, Ending, run_words};
 use szg_files::{MemoryFile, MemoryFiles};
 use szg_io::Std;
 

@@ -57,7 +57,7 @@ fn knight_against_king(rt: HostRuntime) -> Result<(), Fail> {
 }
 
 #[test]
-fn words_that_tell_no_placement(rt: HostRuntime) -> Result<(), Fail> {
+fn words_that_are_no_placement(rt: HostRuntime) -> Result<(), Fail> {
     check_lines(
         &rt,
         b"",

@@ -1,7 +1,5 @@
 //! The program on an input and an output in memory: what it prints on either stream, and its status.
 use super::fixtures::kpvk_wdl_numbered;
-use crate::progress::ProgressLine;
-use crate::{no_words_status, run_given};
 use std::alloc::{AllocError, Global};
 use std::cell::RefCell;
 use std::fmt::Display;
@@ -10,6 +8,7 @@ use std::process::{Abort, ExitCode};
 use std::rt::Files;
 use std::test::Fail;
 use std::time::Clock;
+use szg_commands::{ProgressLine, no_words_status, run_given};
 
 /// Standard error in memory.
 #[derive(Drop)]
@@ -97,8 +96,8 @@ fn check_cases(
 ) -> Result<(), Fail> {
     for (line, status, printed, faults) in cases {
         let mut output = Vec::new(rt.alloc());
-        let (ended, told) = run_line(rt, line, input, &mut output)?;
-        assert_eq!(rt; told.as_str(), *faults, "standard error of {line}");
+        let (ended, stated) = run_line(rt, line, input, &mut output)?;
+        assert_eq!(rt; stated.as_str(), *faults, "standard error of {line}");
         assert_eq!(rt;
             output.as_slice(),
             printed.as_bytes(),
@@ -144,8 +143,8 @@ fn streams_and_statuses(rt: HostRuntime) -> Result<(), Fail> {
                 "refused name: Sides\n",
                 "KvKP: the side with more men comes first: KPvK\n",
             ),
-            ("szg --version", 2, "", "szg 1.1.0\n"),
-            ("szg -V", 2, "", "szg 1.1.0\n"),
+            ("szg --version", 2, "", "szg 1.2.0\n"),
+            ("szg -V", 2, "", "szg 1.2.0\n"),
             (
                 "szg frob",
                 2,
@@ -220,11 +219,11 @@ fn full_output(rt: HostRuntime) -> Result<(), Fail> {
         ("szg check KPvK wdl", 3, "device fault\n"),
         ("szg check KPvK dtz", 3, "device fault\n"),
         ("szg values KPvK wdl", 3, "device fault\n"),
-        ("szg --version", 2, "szg 1.1.0\n"),
+        ("szg --version", 2, "szg 1.2.0\n"),
     ] {
         let mut none = [0u8; 0];
-        let (ended, told) = run_line(&rt, line, &file, none.as_mut_slice())?;
-        assert_eq!(&rt; told.as_str(), faults, "standard error of {line}");
+        let (ended, stated) = run_line(&rt, line, &file, none.as_mut_slice())?;
+        assert_eq!(&rt; stated.as_str(), faults, "standard error of {line}");
         assert_eq!(&rt; ended, ExitCode::from(status), "status of {line}");
     }
     Ok(())
@@ -242,8 +241,8 @@ fn words_that_cannot_be_had(rt: HostRuntime) -> Result<(), Fail> {
     ] {
         let errors = Errors::new(rt.alloc());
         let ended = no_words_status(&errors, &io::Error::from(kind));
-        let told = errors.take(rt.alloc())?;
-        assert_eq!(&rt; told.as_str(), text);
+        let stated = errors.take(rt.alloc())?;
+        assert_eq!(&rt; stated.as_str(), text);
         assert_eq!(&rt; ended, ExitCode::from(status));
     }
     Ok(())

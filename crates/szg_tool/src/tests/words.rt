@@ -1,10 +1,9 @@
 //! What is printed for wrong words, and help.
 use super::words_of;
-use crate::commands::run;
-use crate::outcome::Outcome;
 use std::alloc::Global;
 use std::process::Abort;
 use std::test::Fail;
+use szg_commands::{Outcome, run};
 use szg_io::Std;
 
 /// The help of `get`.
@@ -12,7 +11,7 @@ const HELP: &str =
     "Print the value at an index\n\nUsage: szg get [OPTIONS] <NAME> <KIND> <INDEX>\n\nArguments:\n  <NAME>   Material of the table, such as KQvKR: 3 to 6 men, the side with more men first\n  <KIND>   Kind of the table: win, draw or loss (wdl), or distance to zeroing (dtz) [possible values: wdl, dtz]\n  <INDEX>  Index in the part and side, from 0 to its number of values minus 1\n\nOptions:\n      --part <PART>  Part, by the file of the lead pawn: a for a and h, b for b and g, c for c and f,\n                     d for d and e; a table without pawns has part a only [default: a] [possible values: a, b, c, d]\n      --side <SIDE>  Side, 0 or 1: in a WDL table with two sides, 0 is where the first side of the name\n                     moves; every other table has side 0 only [default: 0]\n      --steps        Also print how many moves, words, descents and fetches the look-up takes\n  -h, --help         Print help\n\nExample: szg get KQvK wdl 31331 --side 1 < KQvK.rtbw\nFiles: szg get KQvK.rtbw --help\n";
 
 /// The words of this line make no command, and this text says why.
-fn check_told(rt: &(impl Abort + Alloc<A = Global>), line: &str, text: &str) -> Result<(), Fail> {
+fn check_text(rt: &(impl Abort + Alloc<A = Global>), line: &str, text: &str) -> Result<(), Fail> {
     let words = words_of(rt.alloc(), line)?;
     let mut reader = Std::new(b"".as_slice());
     let mut writer = Std::new(Vec::new(rt.alloc()));
@@ -58,7 +57,7 @@ fn wrong_words(rt: HostRuntime) -> Result<(), Fail> {
         ),
         ("szg help get", HELP),
     ] {
-        check_told(&rt, line, text)?;
+        check_text(&rt, line, text)?;
     }
     Ok(())
 }

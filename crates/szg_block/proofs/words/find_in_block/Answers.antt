@@ -4,7 +4,7 @@ use Rattle.std.proofs.lemmas.Option.{get_or_from_slice_get}
 use Rattle.szg_pairs.specs.Expansion.{expansion_of, depths_of}
 use Rattle.szg_block.specs.Spelled.{values_spelled, word_at, pairs_above}
 use Rattle.szg_block.proofs.Spelling.{values_spelled-none, values_spelled-taken, length-values_spelled-taken}
-use Rattle.szg_block.proofs.WordAt.{word_at-here, word_at-before_end, pairs_above-here, pairs_above-before_end}
+use Rattle.szg_block.proofs.WordAt.{word_at-here, word_at-rest_location, pairs_above-here, pairs_above-rest_location}
 use Rattle.szg_block.proofs.Joined.{slice_get-append_before, slice_get-append_after}
 use Rattle.szg_block.proofs.words.find_in_block.Goals as goal
 
@@ -30,8 +30,8 @@ loop-symbol-preserved c =
     let n = length-values_spelled-taken c.args.code.now c.requires.accepted c.args.dict.now c.loop-symbol.words c.next.new.bits c.in-Some.symbol c.in-Some.ensures.found in
     let l : c.from-ahead.result ≡ length xs = omega (arith, c.len-count.ensures.number, c.from-ahead.ensures) in
     let past : length xs ≤ c.loop-symbol.ahead = omega (arith, c.len-count.ensures.number, c.from.ensures) in
-    let w = word_at-before_end c.args.code.now c.requires.accepted c.args.dict.now c.loop-symbol.words c.next.new.bits c.in-Some.symbol c.in-Some.ensures.found c.loop-symbol.ahead past in
-    let d = pairs_above-before_end c.args.code.now c.requires.accepted c.args.dict.now c.loop-symbol.words c.next.new.bits c.in-Some.symbol c.in-Some.ensures.found c.loop-symbol.ahead past in
+    let w = word_at-rest_location c.args.code.now c.requires.accepted c.args.dict.now c.loop-symbol.words c.next.new.bits c.in-Some.symbol c.in-Some.ensures.found c.loop-symbol.ahead past in
+    let d = pairs_above-rest_location c.args.code.now c.requires.accepted c.args.dict.now c.loop-symbol.words c.next.new.bits c.in-Some.symbol c.in-Some.ensures.found c.loop-symbol.ahead past in
     let w' : (word_at c.args.code.now c.args.dict.now c.loop-symbol.words.left c.loop-symbol.ahead).list ≡ suc (word_at c.args.code.now c.args.dict.now c.next.new.bits.left (c.loop-symbol.ahead - c.from-ahead.result)).list =
     w ∙ ap (λ k. suc (word_at c.args.code.now c.args.dict.now c.next.new.bits.left (c.loop-symbol.ahead - k)).list) (sym l) in
     record {

@@ -1,8 +1,8 @@
 use Rattle.std.proofs.Common.{ℕ, List, ◌≡◌, ◌<◌, length, map, ap, sym, subst, ◌∙◌, arith, rules}
 use Rattle.szg_block.specs.Block.{start}
 use Rattle.szg_build.specs.Pairing.{values_of}
-use Rattle.szg_build.proofs.MadeLaws.{below_as, symbols_few, symbols_some, entries_some, cut_total, cut_some}
-use Rattle.szg_build.proofs.RuleLaws.{index_is}
+use Rattle.szg_build.proofs.Builders.MadeLaws.{below_as, symbols_few, symbols_some, entries_some, cut_total, cut_some}
+use Rattle.szg_build.proofs.Builders.RuleLaws.{index_is}
 use Rattle.std.proofs.lemmas.List.{length-map}
 use Rattle.szg_block.specs.declared.Entry.{Entry}
 use Rattle.szg_file.specs.Contents.{Head}

@@ -1,4 +1,4 @@
-use Rattle.szg_build.proofs.OwnDumps.{dump_is_writable}
+use Rattle.szg_build.proofs.Texts.OwnDumps.{dump_is_writable}
 use Rattle.szg_build.proofs.laws.dump_is_writable.Goals as goal
 
 pub returns : goal.returns

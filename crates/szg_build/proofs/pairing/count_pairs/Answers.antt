@@ -1,7 +1,7 @@
 use Rattle.std.proofs.Common.{ℕ, ◌≡◌, ◌+◌, ◌*◌, ◌<◌, ◌≤◌, min, Bool, true, List, [], ◌∷◌, ◌++◌, length, take, get_or, set, sym, ap, ◌∙◌, subst, arith}
 use Rattle.std.proofs.lemmas.List.{take_more, take_all}
 use Rattle.szg_build.specs.Counting.{is_free}
-use Rattle.szg_build.proofs.LastCount.{IsCounted, counted_one, counted_pair, counted_all}
+use Rattle.szg_build.proofs.Pairs.LastCount.{IsCounted, counted_one, counted_pair, counted_all}
 use Rattle.szg_build.proofs.pairing.count_pairs.Goals as goal
 use Rattle.szg_build.proofs.pairing.count_pairs.Goals.{then-paired, else-paired}
 

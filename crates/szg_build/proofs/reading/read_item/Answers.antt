@@ -1,9 +1,9 @@
 use Rattle.std.proofs.Common.{[], ◌∷◌, ap, sym}
 use Rattle.std.proofs.lemmas.Result.{err_from_is_err_and}
 use Rattle.szg_build.specs.Grammar.{value, number_line}
-use Rattle.szg_build.proofs.GoingLaws.{reads_seen, reads_fault}
-use Rattle.szg_build.proofs.ReadingLaws.{reads_as}
-use Rattle.szg_build.proofs.SayingLaws.{item_front}
+use Rattle.szg_build.proofs.Readers.GoingLaws.{reads_seen, reads_fault}
+use Rattle.szg_build.proofs.Readers.ReadingLaws.{reads_as}
+use Rattle.szg_build.proofs.Readers.SayingLaws.{item_front}
 use Rattle.szg_build.proofs.reading.read_item.Goals as goal
 
 pub returns-in_err-number-clause-lines : goal.returns-in_err-number-clause-lines

@@ -1,11 +1,11 @@
 use Rattle.std.proofs.Common.{◌+◌, ◌-◌, ◌++◌, [], ◌∷◌, ℕ, map, ap, refl, arith}
 use Rattle.std.proofs.lemmas.Result.{err_from_is_err_and}
 use Rattle.szg_build.specs.Grammar.{value, repeated, number_line}
-use Rattle.szg_build.proofs.GoingLaws.{items_begun, item_more, item_stopped, items_ended, goes_unheld}
-use Rattle.szg_build.proofs.ItemLaws.{one_more}
-use Rattle.szg_build.proofs.LackLaws.{lacks_left}
-use Rattle.szg_build.proofs.LeastLaws.{asks_number, asks_repeated}
-use Rattle.szg_build.proofs.ReadingLaws.{passed_on}
+use Rattle.szg_build.proofs.Readers.GoingLaws.{items_begun, item_more, item_stopped, items_ended, goes_unheld}
+use Rattle.szg_build.proofs.Writers.ItemLaws.{one_more}
+use Rattle.szg_build.proofs.Readers.LackLaws.{lacks_left}
+use Rattle.szg_build.proofs.Readers.LeastLaws.{asks_number, asks_repeated}
+use Rattle.szg_build.proofs.Readers.ReadingLaws.{passed_on}
 use Rattle.szg_build.proofs.reading.read_items.Goals as goal
 
 pub items-init : goal.items-init
@@ -39,7 +39,7 @@ items-preserved g c =
       item_more (number_line (value ∷ []) g.T.Item.GREATEST) (map number before) (map number after) (c.args.count - c.items.i) (c.args.count - (c.items.i + 1)) number c.in_ok-item.item (omega (arith, c.items-test.true))
           (one_more number before after c.in_ok-item.item c.in_ok-push.ensures.items)
           c.items.invariant.0 c.in_ok-item.ensures.lines,
-      omega (arith, c.in_ok-item.ensures.behind, c.items-test.true),
+      omega (arith, c.in_ok-item.ensures.following, c.items-test.true),
     )
 
 pub returns-clause-lines : goal.returns-clause-lines
@@ -56,7 +56,7 @@ returns-in_err-push-clause-memory g c =
     let read = map g.T.Item.number c.items.list.items in
     let more = read ++ g.T.Item.number c.in_ok-item.item ∷ [] in
     let less : ℕ = c.args.count - (c.items.i + 1) in
-    rw (p.1, p.2) (λ e. lacks_left (λ xs. more ++ xs) (repeated less line) c.args.behind less
+    rw (p.1, p.2) (λ e. lacks_left (λ xs. more ++ xs) (repeated less line) c.args.following less
     (item_more line read more (c.args.count - c.items.i) less g.T.Item.number c.in_ok-item.item (omega (arith, c.items-test.true)) refl
     c.items.invariant.0 c.in_ok-item.ensures.lines)
-    (asks_repeated less line (asks_number (value ∷ []) g.T.Item.GREATEST)) (omega (arith, c.in_ok-item.ensures.behind, c.items-test.true)))
+    (asks_repeated less line (asks_number (value ∷ []) g.T.Item.GREATEST)) (omega (arith, c.in_ok-item.ensures.following, c.items-test.true)))

@@ -1,9 +1,9 @@
 use Rattle.std.proofs.Common.{ℕ, [], ◌∷◌, map, arith}
 use Rattle.std.proofs.lemmas.Result.{err_from_is_err_and}
 use Rattle.szg_build.specs.Grammar.{value, number_line, repeated, greatest_count}
-use Rattle.szg_build.proofs.ReadingLaws.{passed_on, reads_then, reads_stopped}
-use Rattle.szg_build.proofs.SayingLaws.{map_pattern, map_front}
-use Rattle.szg_build.proofs.LackLaws.{lacks_then}
+use Rattle.szg_build.proofs.Readers.ReadingLaws.{passed_on, reads_then, reads_stopped}
+use Rattle.szg_build.proofs.Readers.SayingLaws.{map_pattern, map_front}
+use Rattle.szg_build.proofs.Readers.LackLaws.{lacks_then}
 use Rattle.szg_build.proofs.reading.read_list.Goals as goal
 
 pub returns-in_err-count-clause-lines : goal.returns-in_err-count-clause-lines
@@ -22,5 +22,5 @@ returns-in_err-count-clause-memory g c = passed_on c.from_residual.ensures.1 c.i
 
 pub returns-clause-memory : goal.returns-clause-memory
 returns-clause-memory g c = λ e.
-    lacks_then (number_line (map_pattern c.args.j) greatest_count) (λ n. repeated n (number_line (value ∷ []) g.T.Item.GREATEST)) c.args.behind (λ (n : ℕ). n) c.in_ok-count.count
+    lacks_then (number_line (map_pattern c.args.j) greatest_count) (λ n. repeated n (number_line (value ∷ []) g.T.Item.GREATEST)) c.args.following (λ (n : ℕ). n) c.in_ok-count.count
     (c.in_ok-count.ensures.lines (map_pattern c.args.j) (map_front c.args.j (omega (arith, c.requires.list)))) (c.read_items.ensures.memory e)

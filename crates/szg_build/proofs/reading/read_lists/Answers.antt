@@ -1,10 +1,10 @@
 use Rattle.std.proofs.Common.{◌+◌, [], ◌∷◌, map, refl, arith}
 use Rattle.std.proofs.lemmas.Result.{err_from_is_err_and}
 use Rattle.szg_build.specs.Grammar.{map_list}
-use Rattle.szg_build.proofs.GoingLaws.{each_begun, each_more, each_stopped, each_ended}
-use Rattle.szg_build.proofs.LackLaws.{lacks_each}
-use Rattle.szg_build.proofs.LeastLaws.{asks_map_list}
-use Rattle.szg_build.proofs.ReadingLaws.{same_error}
+use Rattle.szg_build.proofs.Readers.GoingLaws.{each_begun, each_more, each_stopped, each_ended}
+use Rattle.szg_build.proofs.Readers.LackLaws.{lacks_each}
+use Rattle.szg_build.proofs.Readers.LeastLaws.{asks_map_list}
+use Rattle.szg_build.proofs.Readers.ReadingLaws.{same_error}
 use Rattle.szg_build.proofs.reading.read_lists.Goals as goal
 
 pub returns-in_err-wins-clause-lines : goal.returns-in_err-wins-clause-lines
@@ -49,20 +49,20 @@ returns-clause-lines g c =
 pub returns-in_err-wins-clause-memory : goal.returns-in_err-wins-clause-memory
 returns-in_err-wins-clause-memory g c =
     let p = err_from_is_err_and c.from_residual.result c.from_residual.ensures.1 in
-    rw (p.1, p.2) (λ e. lacks_each (map_list g.T.Item.GREATEST) [] 0 4 3 (c.args.behind + 3) c.args.behind refl (omega arith) (λ j. asks_map_list g.T.Item.GREATEST j)
+    rw (p.1, p.2) (λ e. lacks_each (map_list g.T.Item.GREATEST) [] 0 4 3 (c.args.following + 3) c.args.following refl (omega arith) (λ j. asks_map_list g.T.Item.GREATEST j)
     (each_begun (map_list g.T.Item.GREATEST) [] 4 4 refl refl) (c.in_err-wins.ensures.memory (same_error e)))
 
 pub returns-in_err-losses-clause-memory : goal.returns-in_err-losses-clause-memory
 returns-in_err-losses-clause-memory g c =
     let p = err_from_is_err_and c.from_residual-in_err-losses.result c.from_residual-in_err-losses.ensures.1 in
-    rw (p.1, p.2) (λ e. lacks_each (map_list g.T.Item.GREATEST) (map g.T.Item.number c.in_ok-wins.wins.items ∷ []) 1 3 2 (c.args.behind + 2) c.args.behind refl (omega arith) (λ j. asks_map_list g.T.Item.GREATEST j)
+    rw (p.1, p.2) (λ e. lacks_each (map_list g.T.Item.GREATEST) (map g.T.Item.number c.in_ok-wins.wins.items ∷ []) 1 3 2 (c.args.following + 2) c.args.following refl (omega arith) (λ j. asks_map_list g.T.Item.GREATEST j)
     (each_more (map_list g.T.Item.GREATEST) [] (map g.T.Item.number c.in_ok-wins.wins.items ∷ []) 0 1 4 3 (λ list. map g.T.Item.number list.items) c.in_ok-wins.wins refl refl refl
     (each_begun (map_list g.T.Item.GREATEST) [] 4 4 refl refl) c.in_ok-wins.ensures.lines) (c.in_err-losses.ensures.memory (same_error e)))
 
 pub returns-in_err-cursed_wins-clause-memory : goal.returns-in_err-cursed_wins-clause-memory
 returns-in_err-cursed_wins-clause-memory g c =
     let p = err_from_is_err_and c.from_residual-in_err-cursed_wins.result c.from_residual-in_err-cursed_wins.ensures.1 in
-    rw (p.1, p.2) (λ e. lacks_each (map_list g.T.Item.GREATEST) (map g.T.Item.number c.in_ok-wins.wins.items ∷ map g.T.Item.number c.in_ok-losses.losses.items ∷ []) 2 2 1 (c.args.behind + 1) c.args.behind refl (omega arith) (λ j. asks_map_list g.T.Item.GREATEST j)
+    rw (p.1, p.2) (λ e. lacks_each (map_list g.T.Item.GREATEST) (map g.T.Item.number c.in_ok-wins.wins.items ∷ map g.T.Item.number c.in_ok-losses.losses.items ∷ []) 2 2 1 (c.args.following + 1) c.args.following refl (omega arith) (λ j. asks_map_list g.T.Item.GREATEST j)
     (each_more (map_list g.T.Item.GREATEST) (map g.T.Item.number c.in_ok-wins.wins.items ∷ []) (map g.T.Item.number c.in_ok-wins.wins.items ∷ map g.T.Item.number c.in_ok-losses.losses.items ∷ []) 1 2 3 2 (λ list. map g.T.Item.number list.items) c.in_ok-losses.losses refl refl refl
     (each_more (map_list g.T.Item.GREATEST) [] (map g.T.Item.number c.in_ok-wins.wins.items ∷ []) 0 1 4 3 (λ list. map g.T.Item.number list.items) c.in_ok-wins.wins refl refl refl
     (each_begun (map_list g.T.Item.GREATEST) [] 4 4 refl refl) c.in_ok-wins.ensures.lines) c.in_ok-losses.ensures.lines) (c.in_err-cursed_wins.ensures.memory (same_error e)))
@@ -70,7 +70,7 @@ returns-in_err-cursed_wins-clause-memory g c =
 pub returns-in_err-blessed_losses-clause-memory : goal.returns-in_err-blessed_losses-clause-memory
 returns-in_err-blessed_losses-clause-memory g c =
     let p = err_from_is_err_and c.from_residual-in_err-blessed_losses.result c.from_residual-in_err-blessed_losses.ensures.1 in
-    rw (p.1, p.2) (λ e. lacks_each (map_list g.T.Item.GREATEST) (map g.T.Item.number c.in_ok-wins.wins.items ∷ map g.T.Item.number c.in_ok-losses.losses.items ∷ map g.T.Item.number c.in_ok-cursed_wins.cursed_wins.items ∷ []) 3 1 0 c.args.behind c.args.behind refl (omega arith) (λ j. asks_map_list g.T.Item.GREATEST j)
+    rw (p.1, p.2) (λ e. lacks_each (map_list g.T.Item.GREATEST) (map g.T.Item.number c.in_ok-wins.wins.items ∷ map g.T.Item.number c.in_ok-losses.losses.items ∷ map g.T.Item.number c.in_ok-cursed_wins.cursed_wins.items ∷ []) 3 1 0 c.args.following c.args.following refl (omega arith) (λ j. asks_map_list g.T.Item.GREATEST j)
     (each_more (map_list g.T.Item.GREATEST) (map g.T.Item.number c.in_ok-wins.wins.items ∷ map g.T.Item.number c.in_ok-losses.losses.items ∷ []) (map g.T.Item.number c.in_ok-wins.wins.items ∷ map g.T.Item.number c.in_ok-losses.losses.items ∷ map g.T.Item.number c.in_ok-cursed_wins.cursed_wins.items ∷ []) 2 3 2 1 (λ list. map g.T.Item.number list.items) c.in_ok-cursed_wins.cursed_wins refl refl refl
     (each_more (map_list g.T.Item.GREATEST) (map g.T.Item.number c.in_ok-wins.wins.items ∷ []) (map g.T.Item.number c.in_ok-wins.wins.items ∷ map g.T.Item.number c.in_ok-losses.losses.items ∷ []) 1 2 3 2 (λ list. map g.T.Item.number list.items) c.in_ok-losses.losses refl refl refl
     (each_more (map_list g.T.Item.GREATEST) [] (map g.T.Item.number c.in_ok-wins.wins.items ∷ []) 0 1 4 3 (λ list. map g.T.Item.number list.items) c.in_ok-wins.wins refl refl refl

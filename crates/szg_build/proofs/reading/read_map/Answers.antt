@@ -2,9 +2,9 @@ use Rattle.std.proofs.Common.{map, sym, ap, refl, Some, None, option_map}
 use Rattle.std.proofs.lemmas.Result.{err_from_is_err_and}
 use Rattle.szg_file.specs.Contents.{has_bit, narrow, wide}
 use Rattle.szg_file.specs.Held.{map_of}
-use Rattle.szg_build.proofs.ItemLaws.{own_numbers}
-use Rattle.szg_build.proofs.MapReads.{map_absent, wide_read, narrow_read, wide_stopped, narrow_stopped, wide_lacks, narrow_lacks}
-use Rattle.szg_build.proofs.ReadingLaws.{same_error}
+use Rattle.szg_build.proofs.Writers.ItemLaws.{own_numbers}
+use Rattle.szg_build.proofs.Readers.MapReads.{map_absent, wide_read, narrow_read, wide_stopped, narrow_stopped, wide_lacks, narrow_lacks}
+use Rattle.szg_build.proofs.Readers.ReadingLaws.{same_error}
 use Rattle.szg_build.proofs.reading.read_map.Goals as goal
 
 pub returns-then-not-is_mapped-clause-lines : goal.returns-then-not-is_mapped-clause-lines
@@ -29,9 +29,9 @@ returns-clause-lines g c = narrow_read (has_bit 1 c.args.flags) (has_bit 4 c.arg
 pub returns-in_err-wide-clause-memory : goal.returns-in_err-wide-clause-memory
 returns-in_err-wide-clause-memory g c =
     let p = err_from_is_err_and c.from_residual.result c.from_residual.ensures.1 in
-    rw (p.1, p.2) (λ e. wide_lacks (has_bit 1 c.args.flags) (has_bit 4 c.args.flags) c.args.behind (sym c.if-not-is_mapped.ensures) (sym c.if-is_wide.ensures) (c.in_err-wide.ensures.memory (same_error e)))
+    rw (p.1, p.2) (λ e. wide_lacks (has_bit 1 c.args.flags) (has_bit 4 c.args.flags) c.args.following (sym c.if-not-is_mapped.ensures) (sym c.if-is_wide.ensures) (c.in_err-wide.ensures.memory (same_error e)))
 
 pub returns-in_err-narrow-clause-memory : goal.returns-in_err-narrow-clause-memory
 returns-in_err-narrow-clause-memory g c =
     let p = err_from_is_err_and c.from_residual-in_err-narrow.result c.from_residual-in_err-narrow.ensures.1 in
-    rw (p.1, p.2) (λ e. narrow_lacks (has_bit 1 c.args.flags) (has_bit 4 c.args.flags) c.args.behind (sym c.if-not-is_mapped.ensures) (sym c.if-is_wide.ensures) (c.in_err-narrow.ensures.memory (same_error e)))
+    rw (p.1, p.2) (λ e. narrow_lacks (has_bit 1 c.args.flags) (has_bit 4 c.args.flags) c.args.following (sym c.if-not-is_mapped.ensures) (sym c.if-is_wide.ensures) (c.in_err-narrow.ensures.memory (same_error e)))

@@ -1,9 +1,9 @@
 use Rattle.std.proofs.Common.{◌∙◌, sym}
-use Rattle.szg_build.proofs.GoingLaws.{reads_seen, same_part}
+use Rattle.szg_build.proofs.Readers.GoingLaws.{reads_seen, same_part}
 use Rattle.std.proofs.lemmas.Result.{err_from_is_err_and}
 use Rattle.szg_build.specs.Grammar.{part_line}
-use Rattle.szg_build.proofs.LackLaws.{lacks_whole}
-use Rattle.szg_build.proofs.ReadingLaws.{passed_on}
+use Rattle.szg_build.proofs.Readers.LackLaws.{lacks_whole}
+use Rattle.szg_build.proofs.Readers.ReadingLaws.{passed_on}
 use Rattle.szg_build.proofs.reading.read_part_bytes.Goals as goal
 
 pub returns-clause-lines : goal.returns-clause-lines
@@ -18,9 +18,9 @@ returns-in_err-order-clause-memory g c = passed_on c.from_residual.ensures.1 c.i
 pub returns-in_err-order-2-clause-memory : goal.returns-in_err-order-2-clause-memory
 returns-in_err-order-2-clause-memory g c =
     let p = err_from_is_err_and c.from_residual-in_err-order-2.result c.from_residual-in_err-order-2.ensures.1 in
-    rw (p.1, p.2) (λ e. lacks_whole (part_line c.args.number) c.args.behind (λ part. record { order = part.0.items; men = part.1.items }) (c.in_ok-order.order, c.in_ok-order.men) c.in_ok-order.ensures.lines c.in_ok-order.ensures.behind)
+    rw (p.1, p.2) (λ e. lacks_whole (part_line c.args.number) c.args.following (λ part. record { order = part.0.items; men = part.1.items }) (c.in_ok-order.order, c.in_ok-order.men) c.in_ok-order.ensures.lines c.in_ok-order.ensures.following)
 
 pub returns-in_err-men-clause-memory : goal.returns-in_err-men-clause-memory
 returns-in_err-men-clause-memory g c =
     let p = err_from_is_err_and c.from_residual-in_err-men.result c.from_residual-in_err-men.ensures.1 in
-    rw (p.1, p.2) (λ e. lacks_whole (part_line c.args.number) c.args.behind (λ part. record { order = part.0.items; men = part.1.items }) (c.in_ok-order.order, c.in_ok-order.men) c.in_ok-order.ensures.lines c.in_ok-order.ensures.behind)
+    rw (p.1, p.2) (λ e. lacks_whole (part_line c.args.number) c.args.following (λ part. record { order = part.0.items; men = part.1.items }) (c.in_ok-order.order, c.in_ok-order.men) c.in_ok-order.ensures.lines c.in_ok-order.ensures.following)

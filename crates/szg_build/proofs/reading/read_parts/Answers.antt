@@ -3,11 +3,11 @@ use Rattle.std.proofs.lemmas.List.{map-append}
 use Rattle.std.proofs.lemmas.Result.{err_from_is_err_and}
 use Rattle.szg_file.specs.Held.{part_of}
 use Rattle.szg_build.specs.Grammar.{each, part_line}
-use Rattle.szg_build.proofs.GoingLaws.{each_begun, each_more, each_stopped, each_ended, goes_unheld}
+use Rattle.szg_build.proofs.Readers.GoingLaws.{each_begun, each_more, each_stopped, each_ended, goes_unheld}
 use Rattle.std.specs.List.{range_with_len}
-use Rattle.szg_build.proofs.LackLaws.{lacks_left, lacks_each, asks_range}
-use Rattle.szg_build.proofs.LeastLaws.{asks_part}
-use Rattle.szg_build.proofs.ReadingLaws.{same_error}
+use Rattle.szg_build.proofs.Readers.LackLaws.{lacks_left, lacks_each, asks_range}
+use Rattle.szg_build.proofs.Readers.LeastLaws.{asks_part}
+use Rattle.szg_build.proofs.Readers.ReadingLaws.{same_error}
 use Rattle.szg_build.proofs.reading.read_parts.Goals as goal
 
 pub parts-init : goal.parts-init
@@ -40,7 +40,7 @@ parts-preserved g c =
       each_more part_line (map part_of c.parts.parts.items) (map part_of c.push.new.self.items) i (i + 1) (n - i) (n - (i + 1)) part_of c.in_ok-part.part (omega arith) (omega (arith, c.parts-test.true))
           (ap (map part_of) c.in_ok-push.ensures.items ∙ map-append part_of c.parts.parts.items (c.in_ok-part.part ∷ []))
           c.parts.invariant.0 c.in_ok-part.ensures.lines,
-      omega (arith, c.in_ok-part.ensures.behind, c.from-left.ensures, c.parts-test.true),
+      omega (arith, c.in_ok-part.ensures.following, c.from-left.ensures, c.parts-test.true),
     )
 
 pub returns-clause-lines : goal.returns-clause-lines
@@ -54,7 +54,7 @@ returns-in_err-part-clause-memory g c =
     let p = err_from_is_err_and c.from_residual.result c.from_residual.ensures.1 in
     let n = c.part_count-count.result in
     let i = c.parts.number in
-    rw (p.1, p.2, c.part_count-count.ensures.numbers) (λ e. lacks_each part_line (map part_of c.parts.parts.items) i (n - i) (n - (i + 1)) (c.args.behind + c.from-left.result) c.args.behind
+    rw (p.1, p.2, c.part_count-count.ensures.numbers) (λ e. lacks_each part_line (map part_of c.parts.parts.items) i (n - i) (n - (i + 1)) (c.args.following + c.from-left.result) c.args.following
     (omega (arith, c.parts-test.true)) (omega (arith, c.from-left.ensures, c.parts-test.true)) asks_part c.parts.invariant.0 (c.in_err-part.ensures.memory (same_error e)))
 
 pub returns-in_err-push-clause-memory : goal.returns-in_err-push-clause-memory
@@ -63,7 +63,7 @@ returns-in_err-push-clause-memory g c =
     let n = c.part_count-count.result in
     let i = c.parts.number in
     let more = map part_of c.parts.parts.items ++ part_of c.in_ok-part.part ∷ [] in
-    rw (p.1, p.2, c.part_count-count.ensures.numbers) (λ e. lacks_left (λ ys. more ++ ys) (each part_line (range_with_len (i + 1) (n - (i + 1)))) c.args.behind (n - (i + 1))
+    rw (p.1, p.2, c.part_count-count.ensures.numbers) (λ e. lacks_left (λ ys. more ++ ys) (each part_line (range_with_len (i + 1) (n - (i + 1)))) c.args.following (n - (i + 1))
     (each_more part_line (map part_of c.parts.parts.items) more i (i + 1) (n - i) (n - (i + 1)) part_of c.in_ok-part.part (omega arith) (omega (arith, c.parts-test.true)) refl
     c.parts.invariant.0 c.in_ok-part.ensures.lines)
-    (asks_range part_line (i + 1) (n - (i + 1)) asks_part) (omega (arith, c.in_ok-part.ensures.behind, c.from-left.ensures, c.parts-test.true)))
+    (asks_range part_line (i + 1) (n - (i + 1)) asks_part) (omega (arith, c.in_ok-part.ensures.following, c.from-left.ensures, c.parts-test.true)))

@@ -1,12 +1,12 @@
 use Rattle.std.proofs.Common.{◌-◌, ◌++◌, ℕ, length, replicate, refl, ap, arith}
 use Rattle.std.proofs.lemmas.List.{length-append, length-replicate}
 use Rattle.std.proofs.lemmas.Result.{err_from_is_err_and}
-use Rattle.szg_build.proofs.GoingLaws.{runs_begun, run_more, run_stopped, runs_ended}
+use Rattle.szg_build.proofs.Readers.GoingLaws.{runs_begun, run_more, run_stopped, runs_ended}
 use Rattle.szg_build.specs.Grammar.{run_values}
 use Rattle.szg_build.specs.Packed.{values_held}
-use Rattle.szg_build.proofs.LackLaws.{lacks_left}
-use Rattle.szg_build.proofs.LeastLaws.{asks_runs}
-use Rattle.szg_build.proofs.ReadingLaws.{passed_on}
+use Rattle.szg_build.proofs.Readers.LackLaws.{lacks_left}
+use Rattle.szg_build.proofs.Readers.LeastLaws.{asks_runs}
+use Rattle.szg_build.proofs.Readers.ReadingLaws.{passed_on}
 use Rattle.szg_build.proofs.reading.read_runs.Goals as goal
 
 pub runs-init : goal.runs-init
@@ -27,7 +27,7 @@ runs-preserved g c =
       r.0,
       r.1,
       r.2,
-      omega (arith, c.in_ok-size.ensures.behind),
+      omega (arith, c.in_ok-size.ensures.following),
       omega (arith, longer, length-append before (replicate c.in_ok-size.size c.in_ok-size.value), length-replicate c.in_ok-size.size c.in_ok-size.value, v.4, c.in_ok-size.ensures),
     )
 
@@ -46,4 +46,4 @@ returns-in_err-values-clause-memory g c =
     let run : ℕ × ℕ = (c.in_ok-size.size, c.in_ok-size.value) in
     let more = values_held c.runs.values ++ replicate run.0 run.1 in
     let r = run_more (values_held c.runs.values) more v.0 c.runs.left run (omega (arith, c.runs-test.true)) v.1 c.in_ok-size.ensures.some refl v.2 c.in_ok-size.ensures.lines in
-    rw (p.1, p.2) (λ e. lacks_left (λ xs. more ++ xs) (run_values r.0 (c.runs.left - run.0)) c.args.behind 0 r.2 (asks_runs r.0 (c.runs.left - run.0)) (omega (arith, c.in_ok-size.ensures.behind)))
+    rw (p.1, p.2) (λ e. lacks_left (λ xs. more ++ xs) (run_values r.0 (c.runs.left - run.0)) c.args.following 0 r.2 (asks_runs r.0 (c.runs.left - run.0)) (omega (arith, c.in_ok-size.ensures.following)))

@@ -3,10 +3,10 @@ use Rattle.std.proofs.lemmas.List.{map-id}
 use Rattle.std.proofs.lemmas.Result.{err_from_is_err_and}
 use Rattle.szg_build.specs.Grammar.{value, values_lines, repeated, number_line}
 use Rattle.szg_build.specs.Packed.{values_held}
-use Rattle.szg_build.specs.declared.values.Values.TheVariants.{Listed}
-use Rattle.szg_build.proofs.GoingLaws.{reads_fault, reads_other}
-use Rattle.szg_build.proofs.ReadingLaws.{reads_as}
-use Rattle.szg_build.proofs.WritingLaws.{form_single}
+use Rattle.szg_build.specs.declared.reading.values.Values.TheVariants.{Listed}
+use Rattle.szg_build.proofs.Readers.GoingLaws.{reads_fault, reads_other}
+use Rattle.szg_build.proofs.Readers.ReadingLaws.{reads_as}
+use Rattle.szg_build.proofs.Writers.WritingLaws.{form_single}
 use Rattle.szg_build.proofs.reading.read_values.Goals as goal
 
 pub returns-in_err-list-clause-lines : goal.returns-in_err-list-clause-lines

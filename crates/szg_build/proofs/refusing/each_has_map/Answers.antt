@@ -6,7 +6,7 @@ use Rattle.std.proofs.lemmas.List.FromFn.{length-range_with_len}
 use Rattle.szg_file.specs.Contents.{part_numbers}
 use Rattle.szg_file.specs.Held.{map_of}
 use Rattle.szg_build.specs.Plan.{is_map_of}
-use Rattle.szg_build.proofs.RefusalLaws.{four_first, four_all}
+use Rattle.szg_build.proofs.Builders.RefusalLaws.{four_first, four_all}
 use Rattle.szg_build.proofs.refusing.each_has_map.Goals as goal
 
 pub returns-then-len-parts : goal.returns-then-len-parts

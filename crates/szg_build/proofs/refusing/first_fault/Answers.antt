@@ -5,7 +5,7 @@ use Rattle.std.proofs.lemmas.Bool.{ne_eqb, eq-eqb, le-leb}
 use Rattle.std.proofs.lemmas.List.{length-map}
 use Rattle.szg_build.specs.declared.BuildFault.TheVariants.{Map}
 use Rattle.szg_build.specs.Shown.{plan_seen}
-use Rattle.szg_build.proofs.RefusalLaws as laws
+use Rattle.szg_build.proofs.Builders.RefusalLaws as laws
 use Rattle.szg_build.proofs.refusing.first_fault.Goals as goal
 
 -- the number of lists that are lent
@@ -15,31 +15,31 @@ count_is now sizes lists e = eq-eqb (length (map now lists)) (length sizes) (len
 count_fails : {A : Type 0} (now : A → List ℕ) (sizes : List ℕ) (lists : List A) → (length lists ≡ length sizes → ⊥) → (length (map now lists) == length sizes) ≡ false
 count_fails now sizes lists h = ne_eqb (length (map now lists)) (length sizes) (λ e. h (sym (length-map lists now) ∙ e))
 
-pub returns-then-not-bits_stand : goal.returns-then-not-bits_stand
-returns-then-not-bits_stand c =
-    laws.told_bits c.args.sizes.now (plan_seen c.args.plan.now) (map (λ list. list.now) c.args.lists.now) (sym c.if-not-bits_stand.ensures)
+pub returns-then-not-are_bits_valid : goal.returns-then-not-are_bits_valid
+returns-then-not-are_bits_valid c =
+    laws.parsed_bits c.args.sizes.now (plan_seen c.args.plan.now) (map (λ list. list.now) c.args.lists.now) (sym c.if-not-are_bits_valid.ensures)
 
 pub returns-then-plan-gt-MAX_ROUNDS : goal.returns-then-plan-gt-MAX_ROUNDS
 returns-then-plan-gt-MAX_ROUNDS c =
-    laws.told_rounds c.args.sizes.now (plan_seen c.args.plan.now) (map (λ list. list.now) c.args.lists.now) (sym c.if-not-bits_stand.ensures)
+    laws.parsed_rounds c.args.sizes.now (plan_seen c.args.plan.now) (map (λ list. list.now) c.args.lists.now) (sym c.if-not-are_bits_valid.ensures)
     (laws.too_many c.args.plan.now.rounds 4000 c.if-plan-gt-MAX_ROUNDS.true)
 
 pub returns-then-lists-sizes : goal.returns-then-lists-sizes
 returns-then-lists-sizes c =
-    laws.told_count c.args.sizes.now (plan_seen c.args.plan.now) (map (λ list. list.now) c.args.lists.now) (sym c.if-not-bits_stand.ensures)
+    laws.parsed_count c.args.sizes.now (plan_seen c.args.plan.now) (map (λ list. list.now) c.args.lists.now) (sym c.if-not-are_bits_valid.ensures)
     (le-leb c.args.plan.now.rounds 4000 c.if-plan-gt-MAX_ROUNDS.false)
     (count_fails (λ list. list.now) c.args.sizes.now c.args.lists.now c.if-lists-sizes.true)
 
 pub returns-in-Some : goal.returns-in-Some
 returns-in-Some c =
-    laws.told_length c.args.sizes.now (plan_seen c.args.plan.now) (map (λ list. list.now) c.args.lists.now) c.in-Some.n (sym c.if-not-bits_stand.ensures)
+    laws.parsed_length c.args.sizes.now (plan_seen c.args.plan.now) (map (λ list. list.now) c.args.lists.now) c.in-Some.n (sym c.if-not-are_bits_valid.ensures)
     (le-leb c.args.plan.now.rounds 4000 c.if-plan-gt-MAX_ROUNDS.false)
     (count_is (λ list. list.now) c.args.sizes.now c.args.lists.now c.if-lists-sizes.false)
     (sym (laws.lengths_lent (λ list. list.now) c.args.sizes.now c.args.lists.now) ∙ sym c.in-Some.ensures)
 
 pub returns-in-Some-wrong_value : goal.returns-in-Some-wrong_value
 returns-in-Some-wrong_value c =
-    laws.told_value c.args.sizes.now (plan_seen c.args.plan.now) (map (λ list. list.now) c.args.lists.now) c.in-Some-wrong_value.n (sym c.if-not-bits_stand.ensures)
+    laws.parsed_value c.args.sizes.now (plan_seen c.args.plan.now) (map (λ list. list.now) c.args.lists.now) c.in-Some-wrong_value.n (sym c.if-not-are_bits_valid.ensures)
     (le-leb c.args.plan.now.rounds 4000 c.if-plan-gt-MAX_ROUNDS.false)
     (count_is (λ list. list.now) c.args.sizes.now c.args.lists.now c.if-lists-sizes.false)
     (sym (laws.lengths_lent (λ list. list.now) c.args.sizes.now c.args.lists.now) ∙ sym c.wrong_length.ensures ∙ laws.not_some c.wrong_length.result c.in_default.not-Some)
@@ -51,7 +51,7 @@ too_many_values-requires c =
 
 pub returns-in-Some-too_many_values : goal.returns-in-Some-too_many_values
 returns-in-Some-too_many_values c =
-    laws.told_many c.args.sizes.now (plan_seen c.args.plan.now) (map (λ list. list.now) c.args.lists.now) c.in-Some-too_many_values.n (sym c.if-not-bits_stand.ensures)
+    laws.stated_many c.args.sizes.now (plan_seen c.args.plan.now) (map (λ list. list.now) c.args.lists.now) c.in-Some-too_many_values.n (sym c.if-not-are_bits_valid.ensures)
     (le-leb c.args.plan.now.rounds 4000 c.if-plan-gt-MAX_ROUNDS.false)
     (count_is (λ list. list.now) c.args.sizes.now c.args.lists.now c.if-lists-sizes.false)
     (sym (laws.lengths_lent (λ list. list.now) c.args.sizes.now c.args.lists.now) ∙ sym c.wrong_length.ensures ∙ laws.not_some c.wrong_length.result c.in_default.not-Some)
@@ -61,8 +61,8 @@ returns-in-Some-too_many_values c =
 pub returns : goal.returns
 returns c =
     c.then_some.ensures
-    ∙ ap (λ b. then_some (not b) Map) c.maps_stand.ensures
-    ∙ laws.told_maps c.args.sizes.now (plan_seen c.args.plan.now) (map (λ list. list.now) c.args.lists.now) (sym c.if-not-bits_stand.ensures)
+    ∙ ap (λ b. then_some (not b) Map) c.are_maps_valid.ensures
+    ∙ laws.parsed_maps c.args.sizes.now (plan_seen c.args.plan.now) (map (λ list. list.now) c.args.lists.now) (sym c.if-not-are_bits_valid.ensures)
     (le-leb c.args.plan.now.rounds 4000 c.if-plan-gt-MAX_ROUNDS.false)
     (count_is (λ list. list.now) c.args.sizes.now c.args.lists.now c.if-lists-sizes.false)
     (sym (laws.lengths_lent (λ list. list.now) c.args.sizes.now c.args.lists.now) ∙ sym c.wrong_length.ensures ∙ laws.not_some c.wrong_length.result c.in_default.not-Some)

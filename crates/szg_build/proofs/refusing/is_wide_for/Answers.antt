@@ -3,7 +3,7 @@ use Rattle.std.specs.Prelude.{nat_lt}
 use Rattle.std.specs.List.{list_all}
 use Rattle.std.proofs.lemmas.List.Folds.{list_all-map}
 use Rattle.szg_file.specs.Contents.{has_bit}
-use Rattle.szg_build.proofs.RefusalLaws.{three_all}
+use Rattle.szg_build.proofs.Builders.RefusalLaws.{three_all}
 use Rattle.szg_build.proofs.refusing.is_wide_for.Goals as goal
 
 pub returns : goal.returns

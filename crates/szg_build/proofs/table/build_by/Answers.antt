@@ -3,7 +3,7 @@ use Rattle.std.specs.List.{AllByRecursion}
 use Rattle.szg_build.specs.declared.BuildFault.TheVariants as fault
 use Rattle.szg_build.specs.Plan.{build_fault}
 use Rattle.szg_build.specs.Shown.{plan_seen}
-use Rattle.szg_build.proofs.TableLaws.{order_told, all_stand, refused_as, passed_as, no_fault, no_parts, stands_as, bytes_as, parts_as, sizes_as}
+use Rattle.szg_build.proofs.Builders.TableLaws.{order_parsed, all_are_valid, refused_as, passed_as, no_fault, no_parts, valid_as, bytes_as, parts_as, sizes_as}
 use Rattle.szg_build.proofs.table.build_by.Goals as goal
 
 pub returns-in_default-clause-refused : goal.returns-in_default-clause-refused
@@ -11,7 +11,7 @@ returns-in_default-clause-refused g c =
     let plan = plan_seen c.args.plan.now in
     let lists = map (λ list. list.now) c.args.lists.now in
     refused_as (Err fault.Order) (build_fault plan lists) fault.Order
-    (order_told plan lists (bytes_as c.deref.result.now c.args.plan.now.parts.items c.deref.ensures.value c.parts_fit.ensures)
+    (order_parsed plan lists (bytes_as c.deref.result.now c.args.plan.now.parts.items c.deref.ensures.value c.parts_fit.ensures)
     (no_parts c.args.plan.now.material c.args.plan.now.kind c.deref-2.result.now c.args.plan.now.parts.items c.deref-2.ensures.value c.subtable_sizes.result c.in_default.not-Some c.subtable_sizes.ensures.none)) refl
 
 pub returns-in-Some-first_fault-clause-refused : goal.returns-in-Some-first_fault-clause-refused
@@ -20,15 +20,15 @@ returns-in-Some-first_fault-clause-refused g c =
     let lists = map (λ list. list.now) c.args.lists.now in
     let same = c.as_slice.ensures.value ∙ c.in-Some.ensures.sizes in
     refused_as (Err c.in-Some-first_fault.fault) (build_fault plan lists) c.in-Some-first_fault.fault
-    (stands_as plan lists c.as_slice.result.now c.deref-2.result.now c.args.plan.now.parts.items c.deref-2.ensures.value refl c.in-Some.ensures.parts same ∙ sym c.in-Some-first_fault.ensures) refl
+    (valid_as plan lists c.as_slice.result.now c.deref-2.result.now c.args.plan.now.parts.items c.deref-2.ensures.value refl c.in-Some.ensures.parts same ∙ sym c.in-Some-first_fault.ensures) refl
 
-pub build_table-requires-clause-stands : goal.build_table-requires-clause-stands
-build_table-requires-clause-stands g c =
+pub build_table-requires-clause-is_valid : goal.build_table-requires-clause-is_valid
+build_table-requires-clause-is_valid g c =
     let plan = plan_seen c.args.plan.now in
     let lists = map (λ list. list.now) c.args.lists.now in
     let parts = parts_as c.args.plan.now.material c.args.plan.now.kind c.deref-2.result.now c.args.plan.now.parts.items c.deref-2.ensures.value c.in-Some.ensures.parts in
     let same = c.as_slice.ensures.value ∙ c.in-Some.ensures.sizes ∙ sizes_as c.args.plan.now.material c.args.plan.now.kind c.deref-2.result.now c.args.plan.now.parts.items c.deref-2.ensures.value in
-    all_stand plan lists c.as_slice.result.now parts same (subst (λ (z : List ℕ). AllByRecursion (λ size. size < 2 ^ 33) z) (sym c.as_slice.ensures.value) c.in-Some.ensures.fits)
+    all_are_valid plan lists c.as_slice.result.now parts same (subst (λ (z : List ℕ). AllByRecursion (λ size. size < 2 ^ 33) z) (sym c.as_slice.ensures.value) c.in-Some.ensures.fits)
     (sym c.first_fault.ensures ∙ no_fault c.first_fault.result c.in_default-first_fault.not-Some)
 
 pub returns-in-Ok-clause-refused : goal.returns-in-Ok-clause-refused
@@ -37,7 +37,7 @@ returns-in-Ok-clause-refused g c =
     let lists = map (λ list. list.now) c.args.lists.now in
     let same = c.as_slice.ensures.value ∙ c.in-Some.ensures.sizes in
     passed_as (Ok c.in-Ok.table) (build_fault plan lists)
-    (stands_as plan lists c.as_slice.result.now c.deref-2.result.now c.args.plan.now.parts.items c.deref-2.ensures.value refl c.in-Some.ensures.parts same
+    (valid_as plan lists c.as_slice.result.now c.deref-2.result.now c.args.plan.now.parts.items c.deref-2.ensures.value refl c.in-Some.ensures.parts same
     ∙ sym c.first_fault.ensures ∙ no_fault c.first_fault.result c.in_default-first_fault.not-Some) tt
 
 pub returns-in-Err-clause-refused : goal.returns-in-Err-clause-refused
@@ -46,5 +46,5 @@ returns-in-Err-clause-refused g c =
     let lists = map (λ list. list.now) c.args.lists.now in
     let same = c.as_slice.ensures.value ∙ c.in-Some.ensures.sizes in
     passed_as (Err fault.Memory) (build_fault plan lists)
-    (stands_as plan lists c.as_slice.result.now c.deref-2.result.now c.args.plan.now.parts.items c.deref-2.ensures.value refl c.in-Some.ensures.parts same
+    (valid_as plan lists c.as_slice.result.now c.deref-2.result.now c.args.plan.now.parts.items c.deref-2.ensures.value refl c.in-Some.ensures.parts same
     ∙ sym c.first_fault.ensures ∙ no_fault c.first_fault.result c.in_default-first_fault.not-Some) refl

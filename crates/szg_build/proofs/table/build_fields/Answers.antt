@@ -4,7 +4,7 @@ use Rattle.std.specs.List.{AllByRecursion}
 use Rattle.szg_file.specs.Held.{part_of, map_of, subtable_of}
 use Rattle.szg_build.specs.Shown.{plan_seen}
 use Rattle.szg_build.specs.Tabling.{IsOfItems}
-use Rattle.szg_build.proofs.TableLaws.{table_stands, table_copied}
+use Rattle.szg_build.proofs.Builders.TableLaws.{table_is_valid, table_copied}
 use Rattle.szg_build.proofs.table.build_fields.Goals as goal
 
 pub returns : goal.returns
@@ -14,5 +14,5 @@ returns g c =
     let subs = map subtable_of c.in_ok-subs.subs.items in
     table_copied c.args.choice plan lists c.byte4_of-byte4.result subs c.copy.result (map part_of c.in_ok-parts.parts.items) (map (option_map map_of) c.in_ok-maps.maps.items) c.end_bytes-last.result
     c.copy.ensures (c.in_ok-parts.ensures ∙ ap (map part_of) c.deref-2.ensures.value) (c.in_ok-maps.ensures ∙ ap (map (option_map map_of)) c.deref-3.ensures.value) c.end_bytes-last.ensures.last
-    (table_stands c.args.choice plan c.byte4_of-byte4.result lists subs (omega (arith, c.byte4_of-byte4.type_inv)) c.byte4_of-byte4.ensures.split c.byte4_of-byte4.ensures.pawns c.byte4_of-byte4.ensures.rule c.end_bytes-last.ensures.bytes
-    (subst (λ z. AllByRecursion IsOfItems (map (option_map map_of) z)) c.deref.ensures.value c.maps_fit.ensures) c.requires.stands c.in_ok-subs.ensures)
+    (table_is_valid c.args.choice plan c.byte4_of-byte4.result lists subs (omega (arith, c.byte4_of-byte4.type_inv)) c.byte4_of-byte4.ensures.split c.byte4_of-byte4.ensures.pawns c.byte4_of-byte4.ensures.rule c.end_bytes-last.ensures.bytes
+    (subst (λ z. AllByRecursion IsOfItems (map (option_map map_of) z)) c.deref.ensures.value c.maps_fit.ensures) c.requires.is_valid c.in_ok-subs.ensures)

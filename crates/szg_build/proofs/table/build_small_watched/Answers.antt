@@ -1,8 +1,8 @@
 use Rattle.std.proofs.Common.{map}
 use Rattle.szg_build.specs.Shown.{small_seen}
 use Rattle.szg_build.specs.declared.building.Choice.TheVariants.{Small}
-use Rattle.szg_build.proofs.SubLaws.{if_ok}
-use Rattle.szg_build.proofs.TableLaws.{small_is_built, constants_are}
+use Rattle.szg_build.proofs.Builders.SubLaws.{if_ok}
+use Rattle.szg_build.proofs.Builders.TableLaws.{small_is_built, constants_are}
 use Rattle.szg_build.proofs.table.build_small_watched.Goals as goal
 
 pub returns-clause-built : goal.returns-clause-built

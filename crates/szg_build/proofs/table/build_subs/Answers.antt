@@ -5,8 +5,8 @@ use Rattle.szg_file.specs.Contents.{Subtable}
 use Rattle.szg_file.specs.Held.{subtable_of}
 use Rattle.szg_build.specs.Shown.{plan_seen}
 use Rattle.szg_build.specs.Tabling.{AreBuilt, IsBuildable}
-use Rattle.szg_build.proofs.SubLaws.{choice_in_bounds}
-use Rattle.szg_build.proofs.TableLaws.{built_next, lent_at}
+use Rattle.szg_build.proofs.Builders.SubLaws.{choice_in_bounds}
+use Rattle.szg_build.proofs.Builders.TableLaws.{built_next, lent_at}
 use Rattle.szg_build.proofs.table.build_subs.Goals as goal
 
 pub flags_at-flags-requires : goal.flags_at-flags-requires

@@ -1,7 +1,7 @@
 use Rattle.std.proofs.Common.{map, sym, subst}
 use Rattle.szg_build.specs.Shown.{plan_seen}
 use Rattle.szg_build.specs.Tabling.{IsBuiltBy}
-use Rattle.szg_build.proofs.SubLaws.{if_ok}
+use Rattle.szg_build.proofs.Builders.SubLaws.{if_ok}
 use Rattle.szg_build.proofs.table.build_table.Goals as goal
 
 pub padded-requires : goal.padded-requires

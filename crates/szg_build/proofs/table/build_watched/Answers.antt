@@ -1,7 +1,7 @@
 use Rattle.std.proofs.Common.{map}
 use Rattle.szg_build.specs.Shown.{plan_seen}
-use Rattle.szg_build.proofs.SubLaws.{if_ok}
-use Rattle.szg_build.proofs.TableLaws.{fixed_is_built, constants_are, codes_are}
+use Rattle.szg_build.proofs.Builders.SubLaws.{if_ok}
+use Rattle.szg_build.proofs.Builders.TableLaws.{fixed_is_built, constants_are, codes_are}
 use Rattle.szg_build.proofs.table.build_watched.Goals as goal
 
 pub returns-clause-built : goal.returns-clause-built

@@ -2,12 +2,12 @@ use Rattle.std.proofs.Common.{[], ◌++◌, map, ap, sym, append-nil}
 use Rattle.std.proofs.lemmas.Result.{err_from_is_err_and}
 use Rattle.szg_file.specs.Contents.{part_numbers}
 use Rattle.szg_file.specs.Held.{part_of}
-use Rattle.szg_build.specs.Dump.{places_of}
+use Rattle.szg_build.specs.Dump.{subtable_ids_of}
 use Rattle.szg_build.specs.Text.{lines_text, flat_map_beside, front_lines, part_lines, sub_lines}
 use Rattle.szg_build.specs.declared.dump.Dump.{Dump}
 use Rattle.std.proofs.Common.{List, ℕ}
 use Rattle.szg_build.specs.Shown.{form_of, dump_seen, subs_seen}
-use Rattle.szg_build.proofs.WritingLaws.{writes_then, writes_stopped, writes_as, dump_apart}
+use Rattle.szg_build.proofs.Writers.WritingLaws.{writes_then, writes_stopped, writes_as, dump_apart}
 use Rattle.szg_build.proofs.writing.put_dump.Goals as goal
 
 abbrev front : ℕ → Dump → List ℕ
@@ -17,7 +17,7 @@ abbrev parts : Dump → List ℕ
 parts dump = lines_text (flat_map_beside part_lines (part_numbers dump.material) (map part_of dump.parts.items))
 
 abbrev subs : ℕ → Dump → List ℕ
-subs form dump = lines_text (flat_map_beside (sub_lines (form_of form) dump.kind) (places_of dump.material dump.kind) (subs_seen dump))
+subs form dump = lines_text (flat_map_beside (sub_lines (form_of form) dump.kind) (subtable_ids_of dump.material dump.kind) (subs_seen dump))
 
 pub returns-in_err-put_front-clause-text : goal.returns-in_err-put_front-clause-text
 returns-in_err-put_front-clause-text g c =

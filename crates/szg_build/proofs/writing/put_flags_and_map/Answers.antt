@@ -4,7 +4,7 @@ use Rattle.std.specs.Fmt.{decimal}
 use Rattle.std.proofs.lemmas.Result.{err_from_is_err_and}
 use Rattle.szg_file.specs.Held.{map_of}
 use Rattle.szg_build.specs.Text.{line_text, lines_text, map_lines}
-use Rattle.szg_build.proofs.WritingLaws.{writes_then, writes_stopped, writes_as}
+use Rattle.szg_build.proofs.Writers.WritingLaws.{writes_then, writes_stopped, writes_as}
 use Rattle.szg_build.proofs.writing.put_flags_and_map.Goals as goal
 
 abbrev flags_line : ℕ → List ℕ

@@ -6,7 +6,7 @@ use Rattle.hex.specs.Hex.{encode_lower}
 use Rattle.szg_values.specs.Material.{name_of}
 use Rattle.szg_build.specs.Text.{line_text, kind_word, form_number}
 use Rattle.szg_build.specs.Shown.{form_of}
-use Rattle.szg_build.proofs.WritingLaws.{writes_then, writes_stopped, writes_as, form_as, front_apart}
+use Rattle.szg_build.proofs.Writers.WritingLaws.{writes_then, writes_stopped, writes_as, form_as, front_apart}
 use Rattle.szg_build.proofs.writing.put_front.Goals as goal
 
 pub returns-in_err-put_number : goal.returns-in_err-put_number

@@ -1,6 +1,6 @@
 use Rattle.std.proofs.Common.{sym, arith}
 use Rattle.std.proofs.lemmas.Result.{err_from_is_err_and}
-use Rattle.szg_build.proofs.WritingLaws.{byte_digits, digits_of_bytes, writes_next, writes_next_stopped, writes_all, writes_as}
+use Rattle.szg_build.proofs.Writers.WritingLaws.{byte_digits, digits_of_bytes, writes_next, writes_next_stopped, writes_all, writes_as}
 use Rattle.szg_build.proofs.writing.put_hex.Goals as goal
 
 pub bytes-preserved : goal.bytes-preserved

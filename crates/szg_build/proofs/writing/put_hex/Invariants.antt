@@ -2,7 +2,7 @@ use Rattle.std.proofs.Common.{take}
 use Rattle.std.specs.Prelude.{Ok}
 use Rattle.std.specs.List.{flat_map}
 use Rattle.szg_build.specs.Writing.{Writing}
-use Rattle.szg_build.proofs.WritingLaws.{byte_digits}
+use Rattle.szg_build.proofs.Writers.WritingLaws.{byte_digits}
 use Rattle.szg_build.proofs.writing.put_hex.Given as goal
 
 -- the bytes so far are written

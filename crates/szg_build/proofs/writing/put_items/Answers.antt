@@ -1,6 +1,6 @@
 use Rattle.std.proofs.Common.{ap, sym, ◌∙◌, arith}
 use Rattle.std.proofs.lemmas.Result.{err_from_is_err_and}
-use Rattle.szg_build.proofs.WritingLaws.{value_line, lines_of_items, writes_next, writes_next_stopped, writes_all, writes_as}
+use Rattle.szg_build.proofs.Writers.WritingLaws.{value_line, lines_of_items, writes_next, writes_next_stopped, writes_all, writes_as}
 use Rattle.szg_build.proofs.writing.put_items.Goals as goal
 
 pub items-preserved : goal.items-preserved

@@ -5,7 +5,7 @@ use Rattle.std.specs.Prelude.{codes}
 use Rattle.std.specs.Fmt.{decimal}
 use Rattle.szg_build.specs.Text.{Form, runs, single, line_text, lines_text, value_lines}
 use Rattle.szg_build.specs.Shown.{form_of}
-use Rattle.szg_build.proofs.WritingLaws.{writes_then, writes_stopped, writes_as, form_runs, form_single}
+use Rattle.szg_build.proofs.Writers.WritingLaws.{writes_then, writes_stopped, writes_as, form_runs, form_single}
 use Rattle.szg_build.proofs.writing.put_list.Goals as goal
 
 abbrev count_line : List ℕ → List ℕ

@@ -4,7 +4,7 @@ use Rattle.std.proofs.lemmas.Result.{err_from_is_err_and}
 use Rattle.std.specs.Prelude.{codes}
 use Rattle.std.specs.Fmt.{decimal}
 use Rattle.szg_build.specs.Text.{line_text, lines_text}
-use Rattle.szg_build.proofs.WritingLaws.{writes_then, writes_stopped, writes_as}
+use Rattle.szg_build.proofs.Writers.WritingLaws.{writes_then, writes_stopped, writes_as}
 use Rattle.szg_build.proofs.writing.put_map_list.Goals as goal
 
 abbrev count_line : ℕ → ℕ → List ℕ

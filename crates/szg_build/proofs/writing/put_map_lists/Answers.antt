@@ -2,8 +2,8 @@ use Rattle.std.proofs.Common.{◌<◌, [], ◌∷◌, length, map, ap, sym, ◌�
 use Rattle.std.proofs.lemmas.List.{length-map}
 use Rattle.std.proofs.lemmas.Result.{err_from_is_err_and}
 use Rattle.szg_build.specs.Text.{lines_text, map_list_lines}
-use Rattle.szg_build.proofs.ItemLaws.{list_told}
-use Rattle.szg_build.proofs.WritingLaws.{writes_beside, writes_beside_stopped, writes_beside_all, writes_as}
+use Rattle.szg_build.proofs.Writers.ItemLaws.{list_parsed}
+use Rattle.szg_build.proofs.Writers.WritingLaws.{writes_beside, writes_beside_stopped, writes_beside_all, writes_as}
 use Rattle.szg_build.proofs.writing.put_map_lists.Goals as goal
 
 pub lists-preserved : goal.lists-preserved
@@ -12,7 +12,7 @@ lists-preserved g c =
     let lists = c.args.lists.now in
     let there : c.lists.j < length lists = omega (arith, c.type_inv.lists, c.lists-test.true) in
     writes_beside map_list_lines (0 ∷ 1 ∷ 2 ∷ 3 ∷ []) (map (λ list. map number list.items) lists) c.lists.j 0 [] c.in_ok-put_map_list.field-0 (omega (arith, c.lists-test.true)) (omega (arith, length-map lists (λ list. map number list.items), there)) c.lists.invariant
-    (writes_as (list_told (λ list. map number list.items) lists c.lists.j c.index-lists-j.result (omega (arith, c.lists-test.true)) there c.index-lists-j.is
+    (writes_as (list_parsed (λ list. map number list.items) lists c.lists.j c.index-lists-j.result (omega (arith, c.lists-test.true)) there c.index-lists-j.is
     ∙ ap (λ items. lines_text (map_list_lines c.lists.j (map number items))) (sym c.deref.ensures.value)) c.in_ok-put_map_list.ensures)
 
 pub returns-in_err-put_map_list : goal.returns-in_err-put_map_list
@@ -22,7 +22,7 @@ returns-in_err-put_map_list g c =
     let lists = c.args.lists.now in
     let there : c.lists.j < length lists = omega (arith, c.type_inv.lists, c.lists-test.true) in
     rw (p.1, p.2) (writes_beside_stopped map_list_lines (0 ∷ 1 ∷ 2 ∷ 3 ∷ []) (map (λ list. map number list.items) lists) c.lists.j 0 [] c.in_err-put_map_list.field-0.0 (omega (arith, c.lists-test.true)) (omega (arith, length-map lists (λ list. map number list.items), there)) c.lists.invariant
-    (writes_as (list_told (λ list. map number list.items) lists c.lists.j c.index-lists-j.result (omega (arith, c.lists-test.true)) there c.index-lists-j.is
+    (writes_as (list_parsed (λ list. map number list.items) lists c.lists.j c.index-lists-j.result (omega (arith, c.lists-test.true)) there c.index-lists-j.is
     ∙ ap (λ items. lines_text (map_list_lines c.lists.j (map number items))) (sym c.deref.ensures.value)) c.in_err-put_map_list.ensures))
 
 pub returns : goal.returns

@@ -3,7 +3,7 @@ use Rattle.std.proofs.Common.{ap, sym, [], ◌∷◌, ◌++◌, ◌+◌, append_
 use Rattle.std.specs.Prelude.{codes}
 use Rattle.hex.specs.Hex.{encode_lower}
 use Rattle.szg_file.specs.Held.{part_of}
-use Rattle.szg_build.proofs.WritingLaws.{writes_then, writes_stopped, writes_as}
+use Rattle.szg_build.proofs.Writers.WritingLaws.{writes_then, writes_stopped, writes_as}
 use Rattle.szg_build.proofs.writing.put_part.Goals as goal
 
 pub returns-in_err-put : goal.returns-in_err-put

@@ -3,7 +3,7 @@ use Rattle.std.proofs.lemmas.List.{take_rest}
 use Rattle.std.proofs.lemmas.Result.{err_from_is_err_and}
 use Rattle.szg_build.specs.Text.{runs_of}
 use Rattle.std.specs.List.{flat_map}
-use Rattle.szg_build.proofs.WritingLaws.{run_line, lines_of_runs, runs_left, runs_done, writes_more, writes_more_stopped, writes_as}
+use Rattle.szg_build.proofs.Writers.WritingLaws.{run_line, lines_of_runs, runs_left, runs_done, writes_more, writes_more_stopped, writes_as}
 use Rattle.szg_build.proofs.writing.put_runs.Goals as goal
 
 pub runs-preserved : goal.runs-preserved

@@ -3,7 +3,7 @@ use Rattle.std.specs.Prelude.{Ok}
 use Rattle.std.specs.List.{flat_map}
 use Rattle.szg_build.specs.Text.{runs_of}
 use Rattle.szg_build.specs.Writing.{Writing}
-use Rattle.szg_build.proofs.WritingLaws.{run_line}
+use Rattle.szg_build.proofs.Writers.WritingLaws.{run_line}
 use Rattle.szg_build.proofs.writing.put_runs.Given as goal
 
 -- the runs so far are written; they and the runs of the remaining values are all runs of the list

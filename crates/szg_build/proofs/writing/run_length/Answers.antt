@@ -1,5 +1,5 @@
 use Rattle.std.proofs.Common.{◌≡◌, ℕ, zero, suc, ◌<◌, List, length, get_or, refl, arith}
-use Rattle.szg_build.proofs.WritingLaws.{runs_at}
+use Rattle.szg_build.proofs.Writers.WritingLaws.{runs_at}
 use Rattle.szg_build.proofs.writing.run_length.Goals as goal
 
 -- an index with another value than the first is above 0

@@ -1,6 +1,6 @@
 use Rattle.szg_build.specs.Text.{dump_text}
 use Rattle.szg_build.specs.Shown.{form_of, dump_seen}
-use Rattle.szg_build.proofs.WritingLaws.{whole_answer, cut_answer, failed_answer, quiet_answer}
+use Rattle.szg_build.proofs.Writers.WritingLaws.{whole_answer, cut_answer, failed_answer, quiet_answer}
 use Rattle.szg_build.proofs.writing.write_dump.Goals as goal
 
 pub returns-clause-ok : goal.returns-clause-ok

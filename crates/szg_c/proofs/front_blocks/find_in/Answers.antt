@@ -3,8 +3,8 @@ use Rattle.szg_file.specs.Index.{slot_in}
 use Rattle.szg_file.specs.Unread.{front_at}
 use Rattle.szg_file.specs.Wanted.{wanted_block}
 use Rattle.szg_c.specs.Fronts.{with_slot}
-use Rattle.szg_c.proofs.FrontBlocks.{range_told, weaker}
-use Rattle.szg_c.proofs.FrontsTold.{below, missing, there}
+use Rattle.szg_c.proofs.FrontBlocks.{range_stated, weaker}
+use Rattle.szg_c.proofs.FrontsStated.{below, missing, there}
 use Rattle.szg_c.proofs.front_blocks.find_in.Goals as goal
 
 pub find-requires : goal.find-requires
@@ -26,4 +26,4 @@ pub returns-clause-found : goal.returns-clause-found
 returns-clause-found c = λ content front.
     there _ _ (with_slot (slot_in c.args.table.now.index c.args.part c.args.side) c.args.index) (sym c.if-not-has_index.false ∙ c.has_index.ensures)
     (λ slot. weaker (front_at c.args.table.now.index.material c.args.table.now.index.kind content c.args.part c.args.side) _ _ (c.find.ensures.wanted content front)
-    (λ found wanted. range_told c.find.result (wanted_block found.1 c.args.index) content c.raw_range.result wanted c.raw_range.ensures))
+    (λ found wanted. range_stated c.find.result (wanted_block found.1 c.args.index) content c.raw_range.result wanted c.raw_range.ensures))

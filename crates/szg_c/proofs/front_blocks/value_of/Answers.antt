@@ -2,8 +2,8 @@ use Rattle.std.proofs.Common.{◌∙◌, Ok, Err, inl, sym, refl}
 use Rattle.szg_file.specs.Index.{slot_in}
 use Rattle.szg_file.specs.Unread.{front_at}
 use Rattle.szg_c.specs.Fronts.{with_slot}
-use Rattle.szg_c.proofs.FrontBlocks.{changed_of_fault, fault_of_changed, length_told, under}
-use Rattle.szg_c.proofs.FrontsTold.{bad_stays, below, fetch_not_done, fetch_status, missing, there}
+use Rattle.szg_c.proofs.FrontBlocks.{changed_of_fault, fault_of_changed, length_stated, under}
+use Rattle.szg_c.proofs.FrontsStated.{bad_stays, below, fetch_not_done, fetch_status, missing, there}
 use Rattle.szg_c.proofs.front_blocks.value_of.Goals as goal
 
 pub value_in-requires : goal.value_in-requires
@@ -36,7 +36,7 @@ returns-in-Ok-clause-statuses c =
 pub returns-in-Ok-clause-length : goal.returns-in-Ok-clause-length
 returns-in-Ok-clause-length c = λ content front.
     there _ _ (with_slot (slot_in c.args.table.now.index c.args.part c.args.side) c.args.index) (sym c.if-not-has_index.false ∙ c.has_index.ensures)
-    (λ slot. length_told (front_at c.args.table.now.index.material c.args.table.now.index.kind content c.args.part c.args.side) c.args.index c.args.block.now (Ok c.in-Ok.found) 0 (λ ok. refl) (λ e. absurd (cc e)) (λ e. absurd (cc e))
+    (λ slot. length_stated (front_at c.args.table.now.index.material c.args.table.now.index.kind content c.args.part c.args.side) c.args.index c.args.block.now (Ok c.in-Ok.found) 0 (λ ok. refl) (λ e. absurd (cc e)) (λ e. absurd (cc e))
     (c.in-Ok.ensures.length content front))
 
 pub returns-in-Ok-clause-got : goal.returns-in-Ok-clause-got
@@ -58,7 +58,7 @@ returns-in-Err-clause-statuses c =
 pub returns-in-Err-clause-length : goal.returns-in-Err-clause-length
 returns-in-Err-clause-length c = λ content front.
     there _ _ (with_slot (slot_in c.args.table.now.index c.args.part c.args.side) c.args.index) (sym c.if-not-has_index.false ∙ c.has_index.ensures)
-    (λ slot. length_told (front_at c.args.table.now.index.material c.args.table.now.index.kind content c.args.part c.args.side) c.args.index c.args.block.now (Err c.in-Err.fault) c.fetch_status.result (λ ok. absurd (cc ok))
+    (λ slot. length_stated (front_at c.args.table.now.index.material c.args.table.now.index.kind content c.args.part c.args.side) c.args.index c.args.block.now (Err c.in-Err.fault) c.fetch_status.result (λ ok. absurd (cc ok))
     (fault_of_changed c.in-Err.fault c.args.bad.now c.fetch_status.new.bad c.fetch_status.result c.fetch_status.ensures)
     (changed_of_fault c.in-Err.fault c.args.bad.now c.fetch_status.new.bad c.fetch_status.result c.fetch_status.ensures)
     (c.in-Err.ensures.length content front))

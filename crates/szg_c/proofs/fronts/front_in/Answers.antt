@@ -7,8 +7,8 @@ use Rattle.szg_file.specs.declared.opened.OpenFault.TheVariants as fault
 use Rattle.szg_file.specs.Format.{verdict}
 use Rattle.szg_file.specs.Opened.{IsOpenRefusal}
 use Rattle.szg_file.specs.Unread.{unread_file}
-use Rattle.szg_c.specs.Told.{kind_told}
-use Rattle.szg_c.proofs.FrontsTold.{is_front, refuses}
+use Rattle.szg_c.specs.Reported.{kind_of_flag}
+use Rattle.szg_c.proofs.FrontsStated.{is_front, refuses}
 use Rattle.szg_c.proofs.fronts.front_in.Goals as goal
 
 pub returns-in-Ok-clause-front : goal.returns-in-Ok-clause-front
@@ -20,8 +20,8 @@ pub returns-in-Err-Refused-default-clause-stops : goal.returns-in-Err-Refused-de
 returns-in-Err-Refused-default-clause-stops c =
     let why = c.in-Err-Refused-default in
     let bytes : c.new.result.content ≡ c.args.bytes.now = ap (λ (s : Seen). s.content) c.new.ensures in
-    let refused : IsOpenRefusal (verdict (unread_file c.in-Some.material (kind_told c.args.dtz)) 0 c.args.bytes.now) (fault.Refused why.place why.reason) =
+    let refused : IsOpenRefusal (verdict (unread_file c.in-Some.material (kind_of_flag c.args.dtz)) 0 c.args.bytes.now) (fault.Refused why.place why.reason) =
     subst (λ (k : Kind). IsOpenRefusal (verdict (unread_file c.in-Some.material k) 0 c.args.bytes.now) (fault.Refused why.place why.reason)) c.kind_of.ensures
     (subst (λ (bs : List ℕ). IsOpenRefusal (verdict (unread_file c.in-Some.material c.kind_of.result) 0 bs) (fault.Refused why.place why.reason)) bytes
     (subst (λ (f : OpenFault). IsOpenRefusal (verdict (unread_file c.in-Some.material c.kind_of.result) 0 c.new.result.content) f) why.field-0-0-is why.ensures.refused)) in
-    (why.reason, (c.in-Some.material, c.in-Some.ensures, refuses (verdict (unread_file c.in-Some.material (kind_told c.args.dtz)) 0 c.args.bytes.now) why.place why.reason refused), c.number_of-answer.ensures)
+    (why.reason, (c.in-Some.material, c.in-Some.ensures, refuses (verdict (unread_file c.in-Some.material (kind_of_flag c.args.dtz)) 0 c.args.bytes.now) why.place why.reason refused), c.number_of-answer.ensures)

@@ -1,6 +1,6 @@
 use Rattle.std.proofs.Common.{◌≡◌, None, Some, option_map, subst}
 use Rattle.szg_file.specs.Index.{Index, slot_in}
-use Rattle.szg_c.proofs.FrontsTold.{has}
+use Rattle.szg_c.proofs.FrontsStated.{has}
 use Rattle.szg_c.proofs.fronts.has_index.Goals as goal
 
 pub returns-in-Some : goal.returns-in-Some

@@ -1,7 +1,7 @@
 use Rattle.std.proofs.Common.{◌∙◌, inl, sym, refl}
 use Rattle.szg_file.specs.Index.{slot_in}
 use Rattle.szg_c.specs.Fronts.{with_slot}
-use Rattle.szg_c.proofs.FrontsTold.{bad_stays, below, fetch_not_done, fetch_status, missing, there}
+use Rattle.szg_c.proofs.FrontsStated.{bad_stays, below, fetch_not_done, fetch_status, missing, there}
 use Rattle.szg_c.proofs.fronts.value_in.Goals as goal
 
 pub get_in-requires : goal.get_in-requires

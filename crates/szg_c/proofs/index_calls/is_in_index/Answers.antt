@@ -1,6 +1,6 @@
 use Rattle.std.proofs.Common.{None, Some}
 use Rattle.szg_file.specs.Index.{slot_in}
-use Rattle.szg_c.proofs.FrontsTold.{has}
+use Rattle.szg_c.proofs.FrontsStated.{has}
 use Rattle.szg_c.proofs.index_calls.is_in_index.Goals as goal
 
 pub returns-in-Some : goal.returns-in-Some

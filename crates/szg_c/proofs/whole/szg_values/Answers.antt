@@ -4,7 +4,7 @@ use Rattle.std.proofs.lemmas.Bool.{cases_Bool, eqb-true, eq-eqb}
 use Rattle.szg_file.specs.Contents.{Slot, Subtable}
 use Rattle.szg_file.specs.Held.{Shown}
 use Rattle.szg_file.specs.Values.{subtable_at}
-use Rattle.szg_c.specs.Told.{IsTable, Says}
+use Rattle.szg_c.specs.Reported.{IsTable, Reports}
 use Rattle.szg_c.proofs.whole.szg_values.Goals as goal
 
 -- a list of the right length is filled, or an allocation is refused; any other is refused like one for a subtable
@@ -23,12 +23,12 @@ outside None count result there e = tt
 outside (Some found) count result there e = λ same. elim (there same) [ inl a ↦ let no : 0 ≡ 4 = sym a ∙ e in cc | inr a ↦ let no : 3 ≡ 4 = sym a ∙ e in cc ]
 
 says : (name : List ℕ) (dtz : Bool) (bytes : List ℕ) (done out : Shown → Type 0) (t : Shown) (result place reason : ℕ) → IsTable name dtz bytes t → (result ≡ 0 → done t) → (result ≡ 4 → out t) →
-    (result ≡ 0) ⊎ ((result ≡ 3) ⊎ (result ≡ 4)) → Says name dtz bytes done out result place reason
-says name dtz bytes done out t result place reason is a b (inl e) = subst (λ (k : ℕ). Says name dtz bytes done out k place reason) (sym e) (t, is, a e)
-says name dtz bytes done out t result place reason is a b (inr (inl e)) = subst (λ (k : ℕ). Says name dtz bytes done out k place reason) (sym e) (is.0, is.1)
-says name dtz bytes done out t result place reason is a b (inr (inr e)) = subst (λ (k : ℕ). Says name dtz bytes done out k place reason) (sym e) (t, is, b e)
+    (result ≡ 0) ⊎ ((result ≡ 3) ⊎ (result ≡ 4)) → Reports name dtz bytes done out result place reason
+says name dtz bytes done out t result place reason is a b (inl e) = subst (λ (k : ℕ). Reports name dtz bytes done out k place reason) (sym e) (t, is, a e)
+says name dtz bytes done out t result place reason is a b (inr (inl e)) = subst (λ (k : ℕ). Reports name dtz bytes done out k place reason) (sym e) (is.0, is.1)
+says name dtz bytes done out t result place reason is a b (inr (inr e)) = subst (λ (k : ℕ). Reports name dtz bytes done out k place reason) (sym e) (t, is, b e)
 
 pub returns-in-Ok-clause-says : goal.returns-in-Ok-clause-says
 returns-in-Ok-clause-says c =
-    let o = subtable_at c.in-Ok.table.contents c.args.part c.args.side in let old = length c.args.values.now in let told = c.values_in.ensures in
-    says c.args.name.now c.args.dtz c.args.bytes.now _ _ c.in-Ok.table c.values_in.result _ _ c.in-Ok.ensures.table told.done (outside o old c.values_in.result told.there) (outcomes o old c.values_in.result told.there told.missing told.other_length)
+    let o = subtable_at c.in-Ok.table.contents c.args.part c.args.side in let old = length c.args.values.now in let reported = c.values_in.ensures in
+    says c.args.name.now c.args.dtz c.args.bytes.now _ _ c.in-Ok.table c.values_in.result _ _ c.in-Ok.ensures.table reported.done (outside o old c.values_in.result reported.there) (outcomes o old c.values_in.result reported.there reported.missing reported.other_length)

@@ -1,15 +1,15 @@
 use Rattle.std.proofs.Common.{◌∙◌}
 use Rattle.szg_file.specs.Parts.{part_with}
-use Rattle.szg_file.proofs.AssembledLaws.{orders_stand, orders_fail}
-use Rattle.szg_file.proofs.Bytes.{are_bytes}
+use Rattle.szg_file.proofs.Tables.AssembledLaws.{orders_are_valid, orders_fail}
+use Rattle.szg_file.proofs.Tables.Bytes.{are_bytes}
 use Rattle.szg_file.proofs.assembled.sizes_of.Goals as goal
 
 pub returns-in-Ok-clause-part : goal.returns-in-Ok-clause-part
 returns-in-Ok-clause-part c = record {
   order = (c.if-order-order_count.false ∙ c.order_count.ensures.number, are_bytes c.args.order.now c.type_inv.order);
   men = (c.if-men-man_count.false ∙ c.man_count.ensures.number, are_bytes c.args.men.now c.type_inv.men);
-  sides = orders_stand c.args.material.now c.args.kind 0 (part_with c.args.order.now c.args.men.now) c.in-Ok.ensures.passes;
+  sides = orders_are_valid c.args.material.now c.args.kind 0 (part_with c.args.order.now c.args.men.now) c.in-Ok.ensures.passes;
 }
 
 pub returns-in-Err-clause-none : goal.returns-in-Err-clause-none
-returns-in-Err-clause-none c = λ stands. orders_fail c.args.material.now c.args.kind 0 _ _ (part_with c.args.order.now c.args.men.now) c.in-Err.ensures.refuses stands.sides
+returns-in-Err-clause-none c = λ is_valid. orders_fail c.args.material.now c.args.kind 0 _ _ (part_with c.args.order.now c.args.men.now) c.in-Err.ensures.refuses is_valid.sides

@@ -8,9 +8,9 @@ use Rattle.szg_file.specs.Contents.{Part, Slot, slots_from, part_slots, part_num
 use Rattle.szg_file.specs.Held.{part_of}
 use Rattle.szg_file.specs.Parts.{part_with, slots_with}
 use Rattle.szg_file.specs.declared.table.PartBytes.{PartBytes}
-use Rattle.szg_file.proofs.AssembledLaws.{map_next, all_next, all_at, sides_of_all, all_of_sides}
-use Rattle.szg_file.proofs.PartLaws.{slots-more, slots_few}
-use Rattle.szg_file.proofs.TableFinds.{side_lengths}
+use Rattle.szg_file.proofs.Tables.AssembledLaws.{map_next, all_next, all_at, sides_of_all, all_of_sides}
+use Rattle.szg_file.proofs.Readers.PartLaws.{slots-more, slots_few}
+use Rattle.szg_file.proofs.Tables.TableFinds.{side_lengths}
 use Rattle.szg_file.proofs.assembled.slots_of.Goals as goal
 
 -- the bytes of a part, borrowed as slices
@@ -24,11 +24,11 @@ returns-then-parts-part_count-clause-none c = λ h.
 
 pub returns-in_err-sizes-clause-none : goal.returns-in_err-sizes-clause-none
 returns-in_err-sizes-clause-none c =
-    let stands : Part → Type 0 = IsPart c.args.material.now c.args.kind in
+    let is_valid : Part → Type 0 = IsPart c.args.material.now c.args.kind in
     let same : part_with c.deref.result.now c.deref-in-parts.result.now ≡ part_of c.index-parts-n.result = lent_part _ _ c.index-parts-n.result c.deref.ensures.value c.deref-in-parts.ensures.value in
     rw c.from_residual.ensures (λ h. c.in_err-sizes.ensures.none
-    (subst stands (sym same) (all_at stands part_of c.args.parts.now c.parts.n c.index-parts-n.result c.parts-test.true c.index-parts-n.is
-    (all_of_sides stands (part_numbers c.args.material.now) (map part_of c.args.parts.now) h))))
+    (subst is_valid (sym same) (all_at is_valid part_of c.args.parts.now c.parts.n c.index-parts-n.result c.parts-test.true c.index-parts-n.is
+    (all_of_sides is_valid (part_numbers c.args.material.now) (map part_of c.args.parts.now) h))))
 
 pub parts-preserved : goal.parts-preserved
 parts-preserved c =

@@ -1,5 +1,5 @@
 use Rattle.std.proofs.Common.{◌≡◌, true, arith}
-use Rattle.szg_file.proofs.Compared.{items_same, same_more}
+use Rattle.szg_file.proofs.Tables.Compared.{items_same, same_more}
 use Rattle.szg_file.proofs.comparing.same_lists.Goals as goal
 
 pub returns-then-not-same_list : goal.returns-then-not-same_list

@@ -1,6 +1,6 @@
 use Rattle.std.proofs.Common.{◌≡◌, true, arith, option_map}
 use Rattle.szg_file.specs.Held.{map_of}
-use Rattle.szg_file.proofs.Compared.{items_same, same_more}
+use Rattle.szg_file.proofs.Tables.Compared.{items_same, same_more}
 use Rattle.szg_file.proofs.comparing.same_maps.Goals as goal
 
 pub returns-then-not-same_map : goal.returns-then-not-same_map

@@ -1,6 +1,6 @@
 use Rattle.std.proofs.Common.{◌≡◌, true, arith}
 use Rattle.szg_file.specs.Held.{part_of}
-use Rattle.szg_file.proofs.Compared.{items_same, same_more}
+use Rattle.szg_file.proofs.Tables.Compared.{items_same, same_more}
 use Rattle.szg_file.proofs.comparing.same_parts.Goals as goal
 
 pub returns-then-not-same_part : goal.returns-then-not-same_part

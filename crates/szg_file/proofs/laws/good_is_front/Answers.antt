@@ -1,4 +1,4 @@
-use Rattle.szg_file.proofs.DecodedLaws.{good_is_front}
+use Rattle.szg_file.proofs.Grammar.DecodedLaws.{good_is_front}
 use Rattle.szg_file.proofs.laws.good_is_front.Goals as goal
 
 pub returns : goal.returns

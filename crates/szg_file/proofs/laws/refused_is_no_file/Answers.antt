@@ -1,4 +1,4 @@
-use Rattle.szg_file.proofs.RefusalLaws.{refused_is_no_file}
+use Rattle.szg_file.proofs.Grammar.RefusalLaws.{refused_is_no_file}
 use Rattle.szg_file.proofs.laws.refused_is_no_file.Goals as goal
 
 pub returns : goal.returns

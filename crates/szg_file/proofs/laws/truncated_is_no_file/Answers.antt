@@ -1,4 +1,4 @@
-use Rattle.szg_file.proofs.RefusalLaws.{truncated_is_no_file}
+use Rattle.szg_file.proofs.Grammar.RefusalLaws.{truncated_is_no_file}
 use Rattle.szg_file.proofs.laws.truncated_is_no_file.Goals as goal
 
 pub returns : goal.returns

@@ -9,23 +9,23 @@ use Rattle.szg_file.specs.Forward.{Forward}
 use Rattle.szg_file.specs.Held.{part_of, subtable_of, map_of}
 use Rattle.szg_file.specs.Index.{Index, IsIndex, index_with, slots_in}
 use Rattle.szg_file.specs.Opened.{IsOpenRefusal, IsOpened}
-use Rattle.szg_file.specs.declared.dropping.PlacedSub.{PlacedSub}
-use Rattle.szg_file.specs.declared.outline.Outline.{Outline}
+use Rattle.szg_file.specs.declared.reading.dropping.PlacedSub.{PlacedSub}
+use Rattle.szg_file.specs.declared.reading.outline.Outline.{Outline}
 use Rattle.szg_file.specs.declared.opened.OpenFault.{OpenFault}
-use Rattle.szg_file.proofs.OpenedLaws.{forward_kept, opened_by, refusal_follows}
-use Rattle.szg_file.proofs.OutlinedLaws.{outline_index, outlined_index, outlined_by}
+use Rattle.szg_file.proofs.Openings.OpenedLaws.{forward_kept, opened_by, refusal_follows}
+use Rattle.szg_file.proofs.Openings.OutlinedLaws.{outline_index, outlined_index, outlined_by}
 use Rattle.szg_file.proofs.opened.open.Goals as goal
 
-pub index_of_placed-index-requires-clause-stands : goal.index_of_placed-index-requires-clause-stands
-index_of_placed-index-requires-clause-stands g c =
+pub index_of_placed-index-requires-clause-is_valid : goal.index_of_placed-index-requires-clause-is_valid
+index_of_placed-index-requires-clause-is_valid g c =
     let m : Sides = c.args.material in
     let k : Kind = c.args.kind in
     let o : Outline = c.in-Ok.field-0 in
     let old : Forward = c.new-input.result in
     let new : Forward = c.read_outline.new.input in
     let h = c.in-Ok.ensures.outline in
-    let stands = outlined_index m k o c.new-front.result c.read_outline.new.front old.place new.place old.content new.content h.bytes c.new-front.ensures.place c.new-front.ensures.fill h.answer.0 in
-    subst (λ (l : List PlacedSub). IsIndex (index_with m k (map part_of o.parts.bytes.items) (map (λ held. flags_of (subtable_of held.sub)) l) (map (option_map map_of) o.maps.items))) (sym c.deref.ensures.value) stands
+    let is_valid = outlined_index m k o c.new-front.result c.read_outline.new.front old.place new.place old.content new.content h.bytes c.new-front.ensures.place c.new-front.ensures.fill h.answer.0 in
+    subst (λ (l : List PlacedSub). IsIndex (index_with m k (map part_of o.parts.bytes.items) (map (λ held. flags_of (subtable_of held.sub)) l) (map (option_map map_of) o.maps.items))) (sym c.deref.ensures.value) is_valid
 
 pub invariant_of-result : goal.invariant_of-result
 invariant_of-result g c =
@@ -65,6 +65,6 @@ returns-clause-refused g c =
     let k : Kind = c.args.kind in
     let old : Forward = c.new-input.result in
     let content : List ℕ = g.S.Source.content c.args.source in
-    let told : Some (drop old.place old.content) ≡ Some content = ap (λ (n : ℕ). Some (drop n old.content)) c.new-input.ensures.place ∙ ap (λ (z : List ℕ). Some z) c.new-input.ensures.content in
+    let stated : Some (drop old.place old.content) ≡ Some content = ap (λ (n : ℕ). Some (drop n old.content)) c.new-input.ensures.place ∙ ap (λ (z : List ℕ). Some z) c.new-input.ensures.content in
     subst (λ (e : OpenFault). IsOpenRefusal (verdict (file m k) 0 content) e) (sym c.open_fault.ensures)
-    (refusal_follows (file m k) _ c.in-Err.fault content c.new-front.ensures.place told c.in-Err.ensures.outline)
+    (refusal_follows (file m k) _ c.in-Err.fault content c.new-front.ensures.place stated c.in-Err.ensures.outline)

@@ -1,6 +1,6 @@
 use Rattle.std.proofs.Common.{length}
 use Rattle.std.proofs.lemmas.Bool.{ltb-true, lt-ltb}
-use Rattle.szg_file.proofs.Bytes.{are_bytes}
+use Rattle.szg_file.proofs.Tables.Bytes.{are_bytes}
 use Rattle.szg_file.proofs.passing.short_list_fits.Goals as goal
 
 pub returns : goal.returns

@@ -9,11 +9,11 @@ use Rattle.szg_file.specs.File.{file, flags_of}
 use Rattle.szg_file.specs.Held.{Shown, subtable_of}
 use Rattle.szg_file.specs.Index.{IsIndex, index_with}
 use Rattle.szg_file.specs.FilePieces.{contents_of}
-use Rattle.szg_file.specs.declared.front.Front.{Front}
+use Rattle.szg_file.specs.declared.reading.front.Front.{Front}
 use Rattle.szg_file.specs.declared.reading.Pieces.{Pieces}
-use Rattle.szg_file.proofs.IndexLaws.{accepted_index, owned, told_index}
-use Rattle.szg_file.proofs.Counted.{lists_were_counted}
-use Rattle.szg_file.proofs.ReadAnswers.{follows_good, fault_follows, fault_took, whole_file}
+use Rattle.szg_file.proofs.Tables.IndexLaws.{accepted_index, owned, stated_index}
+use Rattle.szg_file.proofs.Readers.Counted.{lists_were_counted}
+use Rattle.szg_file.proofs.Readers.ReadAnswers.{follows_good, fault_follows, fault_took, whole_file}
 use Rattle.szg_file.proofs.reading.read.Goals as goal
 
 pub returns-in_err-byte4-clause-verdict : goal.returns-in_err-byte4-clause-verdict
@@ -30,8 +30,8 @@ returns-in_err-byte4-clause-taken g c =
     let p = err_from_is_err_and c.from_residual.result c.from_residual.ensures.1 in
     rw (p.1, p.2) (fault_took m k (contents_of m k) c.in_err-byte4.field-0.0 c.new-front.ensures.place c.in_err-byte4.ensures.pieces c.in_err-byte4.ensures.memory)
 
-pub index_of_subs-index-requires-clause-stands : goal.index_of_subs-index-requires-clause-stands
-index_of_subs-index-requires-clause-stands g c =
+pub index_of_subs-index-requires-clause-is_valid : goal.index_of_subs-index-requires-clause-is_valid
+index_of_subs-index-requires-clause-is_valid g c =
     let m : Sides = c.args.material in
     let k : Kind = c.args.kind in
     let t : Contents = contents_of m k c.in_ok-byte4.field-0 in
@@ -46,7 +46,7 @@ invariant_of-result g c =
     let t : Contents = contents_of m k c.in_ok-byte4.field-0 in
     let h = c.in_ok-byte4.ensures.pieces in
     let w = whole_file m k t c.new-front.result c.read_pieces.new.front h.bytes c.new-front.ensures.place c.new-front.ensures.fill h.answer.0 in
-    owned t _ c.index_of_subs-index.result w.accepted (told_index t c.deref.result.now _ c.index_of_subs-index.result c.deref.ensures.value c.index_of_subs-index.ensures refl)
+    owned t _ c.index_of_subs-index.result w.accepted (stated_index t c.deref.result.now _ c.index_of_subs-index.result c.deref.ensures.value c.index_of_subs-index.ensures refl)
 
 pub returns-clause-verdict : goal.returns-clause-verdict
 returns-clause-verdict g c =
@@ -55,7 +55,7 @@ returns-clause-verdict g c =
     let t : Shown = record { contents = contents_of m k c.in_ok-byte4.field-0; filled = c.read_pieces.new.front.fill.items } in
     let h = c.in_ok-byte4.ensures.pieces in
     let w = whole_file m k t.contents c.new-front.result c.read_pieces.new.front h.bytes c.new-front.ensures.place c.new-front.ensures.fill h.answer.0 in
-    let same = told_index t.contents c.deref.result.now _ c.index_of_subs-index.result c.deref.ensures.value c.index_of_subs-index.ensures refl in
+    let same = stated_index t.contents c.deref.result.now _ c.index_of_subs-index.result c.deref.ensures.value c.index_of_subs-index.ensures refl in
     rw same (follows_good (file m k) t _ _ h.bytes h.taken.bytes_gone w.whole)
 
 pub returns-clause-taken : goal.returns-clause-taken
@@ -64,7 +64,7 @@ returns-clause-taken g c =
     let k : Kind = c.args.kind in
     let h = c.in_ok-byte4.ensures.pieces in
     let w = whole_file m k (contents_of m k c.in_ok-byte4.field-0) c.new-front.result c.read_pieces.new.front h.bytes c.new-front.ensures.place c.new-front.ensures.fill h.answer.0 in
-    let same = told_index (contents_of m k c.in_ok-byte4.field-0) c.deref.result.now _ c.index_of_subs-index.result c.deref.ensures.value c.index_of_subs-index.ensures refl in
+    let same = stated_index (contents_of m k c.in_ok-byte4.field-0) c.deref.result.now _ c.index_of_subs-index.result c.deref.ensures.value c.index_of_subs-index.ensures refl in
     rw same ((h.bytes, Takes-more h.bytes 1 h.taken, w.file_is))
 
 pub returns-clause-accepted : goal.returns-clause-accepted
@@ -73,7 +73,7 @@ returns-clause-accepted g c =
     let k : Kind = c.args.kind in
     let h = c.in_ok-byte4.ensures.pieces in
     let w = whole_file m k (contents_of m k c.in_ok-byte4.field-0) c.new-front.result c.read_pieces.new.front h.bytes c.new-front.ensures.place c.new-front.ensures.fill h.answer.0 in
-    let same = told_index (contents_of m k c.in_ok-byte4.field-0) c.deref.result.now _ c.index_of_subs-index.result c.deref.ensures.value c.index_of_subs-index.ensures refl in
+    let same = stated_index (contents_of m k c.in_ok-byte4.field-0) c.deref.result.now _ c.index_of_subs-index.result c.deref.ensures.value c.index_of_subs-index.ensures refl in
     rw same (w.accepted)
 
 -- at the end of the file, the growth is within the bound of the reader state
@@ -86,5 +86,5 @@ returns-clause-lists g c =
     let last : Front = c.read_pieces.new.front in
     let h = c.in_ok-byte4.ensures.pieces in
     let w = whole_file m k (contents_of m k p) first last h.bytes c.new-front.ensures.place c.new-front.ensures.fill h.answer.0 in
-    let same = told_index (contents_of m k p) c.deref.result.now _ c.index_of_subs-index.result c.deref.ensures.value c.index_of_subs-index.ensures refl in
+    let same = stated_index (contents_of m k p) c.deref.result.now _ c.index_of_subs-index.result c.deref.ensures.value c.index_of_subs-index.ensures refl in
     rw same (lists_were_counted m k p first last (h.bytes) c.new-front.ensures.place c.new-front.ensures.growth c.new-front.ensures.fill h.answer.0.place w.file_is c.in_ok-byte4.ensures.grown)

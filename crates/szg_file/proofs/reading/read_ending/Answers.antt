@@ -2,10 +2,10 @@ use Rattle.std.proofs.Common.{◌≡◌, List, ℕ, length, rules, arith, ap, re
 use Rattle.std.proofs.lemmas.Result.{err_from_is_err_and}
 use Rattle.szg_file.specs.File.{filled_to}
 use Rattle.szg_file.specs.Format.{Format, field, means}
-use Rattle.szg_file.proofs.ReadingLaws.{reads_then}
-use Rattle.szg_file.proofs.LackingReads.{lacks_more, last_needed, memory_told, memory_tells}
-use Rattle.szg_file.proofs.Taken.{reads_as}
-use Rattle.szg_file.proofs.WholeReads.{reads_stopped_as}
+use Rattle.szg_file.proofs.Readers.ReadingLaws.{reads_then}
+use Rattle.szg_file.proofs.Readers.LackingReads.{lacks_more, last_needed, memory_stated, memory_states}
+use Rattle.szg_file.proofs.Readers.Taken.{reads_as}
+use Rattle.szg_file.proofs.Readers.WholeReads.{reads_stopped_as}
 use Rattle.szg_file.proofs.reading.read_ending.Goals as goal
 
 abbrev of_size : ℕ → Format (List ℕ)
@@ -15,7 +15,7 @@ pub returns-in_err-take_fill-clause-memory : goal.returns-in_err-take_fill-claus
 returns-in_err-take_fill-clause-memory g c =
     let p = err_from_is_err_and c.from_residual.result c.from_residual.ensures.1 in
     rw (p.1, p.2)
-    (λ e. lacks_more (filled_to 64) (λ _. of_size 16) (λ _. tt) c.in_err-take_fill.field-0.0 (λ _ at. last_needed at) c.in_err-take_fill.ensures.fill (memory_told c.in_err-take_fill.field-0.0 e))
+    (λ e. lacks_more (filled_to 64) (λ _. of_size 16) (λ _. tt) c.in_err-take_fill.field-0.0 (λ _ at. last_needed at) c.in_err-take_fill.ensures.fill (memory_stated c.in_err-take_fill.field-0.0 e))
 
 pub returns-in_err-take_field : goal.returns-in_err-take_field
 returns-in_err-take_field g c =
@@ -28,7 +28,7 @@ returns-in_err-take_field g c =
           c.in_err-take_field.ensures.field);
       place = tt;
       grown = tt;
-      memory = λ e. absurd (c.in_err-take_field.ensures.memory (memory_tells c.in_err-take_field.field-0.0 (memory_told c.in_err-take_field.field-0.0 e)));
+      memory = λ e. absurd (c.in_err-take_field.ensures.memory (memory_states c.in_err-take_field.field-0.0 (memory_stated c.in_err-take_field.field-0.0 e)));
     })
 
 pub returns : goal.returns

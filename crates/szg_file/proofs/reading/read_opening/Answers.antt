@@ -8,9 +8,9 @@ use Rattle.szg_file.specs.Format.{means}
 use Rattle.szg_file.specs.Held.{part_of, map_of}
 use Rattle.szg_file.specs.Reading.{start_field}
 use Rattle.szg_file.specs.FilePieces.{opened}
-use Rattle.szg_file.proofs.ReadingLaws.{reads_then, reads_stopped}
-use Rattle.szg_file.proofs.Taken.{reads_equal}
-use Rattle.szg_file.proofs.WholeReads.{reads_made, after_start, after_parts, after_gap, after_heads}
+use Rattle.szg_file.proofs.Readers.ReadingLaws.{reads_then, reads_stopped}
+use Rattle.szg_file.proofs.Readers.Taken.{reads_equal}
+use Rattle.szg_file.proofs.Readers.WholeReads.{reads_made, after_start, after_parts, after_gap, after_heads}
 use Rattle.szg_file.proofs.reading.read_opening.Goals as goal
 
 pub returns-in_err-byte4-clause-opening : goal.returns-in_err-byte4-clause-opening

@@ -3,8 +3,8 @@ use Rattle.std.proofs.lemmas.Result.{err_from_is_err_and}
 use Rattle.szg_file.specs.File.{each, blocks_field}
 use Rattle.szg_file.specs.FilePieces.{measured_field}
 use Rattle.szg_file.specs.Held.{subtable_of}
-use Rattle.szg_file.proofs.ReadingLaws.{reads_then, reads_stopped}
-use Rattle.szg_file.proofs.WholeReads.{packed_steps}
+use Rattle.szg_file.proofs.Readers.ReadingLaws.{reads_then, reads_stopped}
+use Rattle.szg_file.proofs.Readers.WholeReads.{packed_steps}
 use Rattle.szg_file.proofs.reading.read_subtables.Goals as goal
 
 pub returns-in_err-measured-clause-packed : goal.returns-in_err-measured-clause-packed

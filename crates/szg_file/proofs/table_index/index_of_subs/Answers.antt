@@ -4,7 +4,7 @@ use Rattle.szg_block.specs.declared.Sub.{Sub}
 use Rattle.szg_file.specs.File.{flags_of}
 use Rattle.szg_file.specs.Held.{part_of, map_of, subtable_of}
 use Rattle.szg_file.specs.Index.{index_with}
-use Rattle.szg_file.proofs.OutlinedLaws.{flags_told}
+use Rattle.szg_file.proofs.Openings.OutlinedLaws.{flags_stated}
 use Rattle.szg_file.proofs.table_index.index_of_subs.Goals as goal
 
 pub returns : goal.returns
@@ -12,4 +12,4 @@ returns c =
     c.new.ensures ∙ ap (λ (flags : List ℕ). index_with c.args.material c.args.kind (map part_of c.args.parts.bytes.items) flags (map (option_map map_of) c.args.maps.items))
     (c.loop-sub.invariant
     ∙ ap (map (λ (sub : Sub). flags_of (subtable_of sub))) (take_all c.loop-sub.sub-index c.args.subs.now (omega (arith, c.loop-sub-test.false)))
-    ∙ flags_told c.args.subs.now)
+    ∙ flags_stated c.args.subs.now)

@@ -1,4 +1,4 @@
-use Rattle.szg_file.proofs.Bytes.{are_bytes}
+use Rattle.szg_file.proofs.Tables.Bytes.{are_bytes}
 use Rattle.szg_file.proofs.typed.bytes_fit.Goals as goal
 
 pub returns : goal.returns

@@ -2,7 +2,7 @@ use Rattle.std.proofs.Common.{arith, subst}
 use Rattle.std.specs.List.{AllByRecursion}
 use Rattle.std.proofs.lemmas.List.{take_all}
 use Rattle.szg_file.specs.Accepted.{AreBytes}
-use Rattle.szg_file.proofs.AssembledLaws.{all_get}
+use Rattle.szg_file.proofs.Tables.AssembledLaws.{all_get}
 use Rattle.szg_file.proofs.typed.entries_fit.Goals as goal
 
 pub symbols-preserved : goal.symbols-preserved

@@ -3,7 +3,7 @@ use Rattle.std.specs.List.{AllByRecursion}
 use Rattle.std.proofs.lemmas.List.{take_all}
 use Rattle.szg_file.specs.Accepted.{IsEntry}
 use Rattle.szg_file.specs.Held.{sparse_of}
-use Rattle.szg_file.proofs.AssembledLaws.{all_more}
+use Rattle.szg_file.proofs.Tables.AssembledLaws.{all_more}
 use Rattle.szg_file.proofs.typed.sparse_fits.Goals as goal
 
 pub entries-preserved : goal.entries-preserved

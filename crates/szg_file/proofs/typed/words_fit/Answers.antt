@@ -1,4 +1,4 @@
-use Rattle.szg_file.proofs.Bytes.{are_words}
+use Rattle.szg_file.proofs.Tables.Bytes.{are_words}
 use Rattle.szg_file.proofs.typed.words_fit.Goals as goal
 
 pub returns : goal.returns

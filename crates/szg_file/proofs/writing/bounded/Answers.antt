@@ -1,7 +1,7 @@
 use Rattle.std.proofs.Common.{◌^◌, ◌<◌, length, subst}
 use Rattle.szg_values.specs.Material.{Sides, IsMaterial}
 use Rattle.szg_file.specs.Held.{Shown, file_bytes}
-use Rattle.szg_file.proofs.FileLengths.{short_file}
+use Rattle.szg_file.proofs.Writers.FileLengths.{short_file}
 use Rattle.szg_file.proofs.writing.bounded.Goals as goal
 
 pub returns-clause-short : goal.returns-clause-short

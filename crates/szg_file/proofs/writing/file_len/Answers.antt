@@ -1,7 +1,7 @@
 use Rattle.std.proofs.Common.{ap, arith}
 use Rattle.szg_file.specs.FileOf.{sections}
 use Rattle.szg_file.specs.Tally.{end_of}
-use Rattle.szg_file.proofs.FileLengths.{file_length}
+use Rattle.szg_file.proofs.Writers.FileLengths.{file_length}
 use Rattle.szg_file.proofs.writing.file_len.Goals as goal
 
 pub returns : goal.returns

@@ -5,8 +5,8 @@ use Rattle.szg_file.specs.declared.fault.WriteFault.{WriteFault}
 use Rattle.szg_file.specs.FileOf.{sections, joined, file_of}
 use Rattle.szg_file.specs.Sections.{contents_in}
 use Rattle.szg_file.specs.Writing.{Writing}
-use Rattle.szg_file.proofs.WritingLaws.{writes_then, writes_as}
-use Rattle.szg_file.proofs.WrittenFile.{file_written, writes_taken}
+use Rattle.szg_file.proofs.Writers.WritingLaws.{writes_then, writes_as}
+use Rattle.szg_file.proofs.Writers.WrittenFile.{file_written, writes_taken}
 use Rattle.szg_file.proofs.writing.write.Goals as goal
 
 pub returns-in_err-writer : goal.returns-in_err-writer

@@ -3,11 +3,11 @@ use Rattle.std.specs.Prelude.{IsSome, IfSome, IsNone}
 use Rattle.szg_file.specs.Contents.{Slot}
 use Rattle.szg_file.specs.Index.{Index, slot_in}
 use Rattle.szg_file.specs.Values.{subtable_at}
-use Rattle.szg_file.proofs.IndexLaws.{slot_there, slot_of_table}
+use Rattle.szg_file.proofs.Tables.IndexLaws.{slot_there, slot_of_table}
 use Rattle.szg_place.specs.Spots.{board_at, place_fault, placement_refusal, spot_of}
 use Rattle.szg_place.specs.Tables.{numbering_in}
 use Rattle.szg_place.specs.declared.Spot.{Spot}
-use Rattle.szg_place.proofs.Found.{if_first}
+use Rattle.szg_place.proofs.Indexes.Found.{if_first}
 use Rattle.szg_place.proofs.laws.index_of_placement.Goals as goal
 
 pub index_in_placement-requires-clause-there : goal.index_in_placement-requires-clause-there

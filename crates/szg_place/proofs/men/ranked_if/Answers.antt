@@ -4,7 +4,7 @@ use mir.Val.{bool_byte}
 use Rattle.std.specs.List.{list_all, range_with_len}
 use Rattle.std.proofs.lemmas.Bool.{eqb-true}
 use Rattle.szg_place.specs.Normal.{flip_rank}
-use Rattle.szg_place.proofs.Lists.{tested}
+use Rattle.szg_place.proofs.Ranks.Lists.{tested}
 use Rattle.szg_place.proofs.men.ranked_if.Goals as goal
 
 abbrev is_flipped : ℕ → Bool

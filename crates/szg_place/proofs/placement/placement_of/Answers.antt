@@ -3,10 +3,10 @@ use Rattle.std.specs.Prelude.{IsSome, IfSome, IsNone, Ok, Err}
 use Rattle.szg_file.specs.Contents.{Slot}
 use Rattle.szg_file.specs.Index.{Index, slot_in}
 use Rattle.szg_file.specs.Values.{subtable_at}
-use Rattle.szg_file.proofs.IndexLaws.{slot_there, slot_of_table}
+use Rattle.szg_file.proofs.Tables.IndexLaws.{slot_there, slot_of_table}
 use Rattle.szg_place.specs.Spots.{placement_refusal, board_at}
 use Rattle.szg_place.specs.Tables.{numbering_in}
-use Rattle.szg_place.proofs.Found.{if_first}
+use Rattle.szg_place.proofs.Indexes.Found.{if_first}
 use Rattle.szg_place.proofs.placement.placement_of.Goals as goal
 
 pub placement_in-requires-clause-there : goal.placement_in-requires-clause-there

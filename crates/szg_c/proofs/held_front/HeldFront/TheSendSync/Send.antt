@@ -1,7 +1,7 @@
 -- A handle may go from thread to thread.
 use denote.Param.Send.{IsSend}
 use Rattle.szg_c.specs.contracts.held_front.HeldFront.{the_row}
-use Rattle.szg_file.proofs.front_table.FrontTable.TheSendSync as value
+use Rattle.szg_file.proofs.opened.front_table.FrontTable.TheSendSync as value
 use Rattle.szg_c.proofs.shared.Shared.TheSendSync as shared
 use Rattle.szg_c.proofs.HandleSend.{handle_send}
 use Rattle.szg_c.proofs.FrontKind.{kind}

@@ -5,7 +5,7 @@ use Rattle.szg_file.specs.Assembled.{fields_shown}
 use Rattle.szg_file.specs.Contents.{Contents}
 use Rattle.szg_file.specs.FileOf.{fill_asked, sections}
 use Rattle.szg_file.specs.Held.{subtable_of, map_of}
-use Rattle.szg_file.proofs.FileLengths.{asked-from, few_filled, few_held}
+use Rattle.szg_file.proofs.Writers.FileLengths.{queried-from, few_filled, few_held}
 use Rattle.szg_file.proofs.assembled.Fields.bounded.Goals as goal
 
 pub returns : goal.returns
@@ -23,5 +23,5 @@ returns c =
       ap length c.as_slice-2.ensures.value,
       length-map c.args.self.now.subs.items subtable_of,
       length-map c.args.self.now.maps.items (option_map map_of),
-      asked-from [] (sections t),
+      queried-from [] (sections t),
     )

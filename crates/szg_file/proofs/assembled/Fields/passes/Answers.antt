@@ -17,10 +17,10 @@ returns c =
     subst (λ z. SideBySide (λ _. IsPart t.material t.kind) (part_numbers t.material) (map part_of z)) c.deref.ensures.value c.in-Some.ensures.parts in
     let subtables : SideBySide IsSubtable (slots t.material t.kind t.parts) t.subtables =
     subst (λ (z : List Slot). SideBySide IsSubtable z t.subtables) placed
-    (subst (λ z. SideBySide IsSubtable c.as_slice.result.now (map subtable_of z)) c.deref-2.ensures.value (c.if-not-subs_stand.ensures.0 refl)) in
+    (subst (λ z. SideBySide IsSubtable c.as_slice.result.now (map subtable_of z)) c.deref-2.ensures.value (c.if-not-are_subs_valid.ensures.0 refl)) in
     let maps : AreMaps t.kind t.subtables t.maps =
     subst (λ z. AreMaps t.kind (map subtable_of z) t.maps) c.deref-3.ensures.value
-    (subst (λ z. AreMaps t.kind (map subtable_of c.deref-3.result.now) (map (option_map map_of) z)) c.deref-4.ensures.value (c.if-not-maps_stand.ensures.0 refl)) in
+    (subst (λ z. AreMaps t.kind (map subtable_of c.deref-3.result.now) (map (option_map map_of) z)) c.deref-4.ensures.value (c.if-not-are_maps_valid.ensures.0 refl)) in
     let last : AreBytes 16 t.last = c.end_bytes.ensures.bytes in
     let fill : AreNumbers 1 fields.fill.items = subst (λ z. AreNumbers 1 z) c.deref-5.ensures.value c.bytes_fit.ensures in
     let held : c.len.result ≡ length fields.fill.items = omega (arith, c.len.ensures, fields.fill.ok.0) in (

@@ -8,12 +8,12 @@ use Rattle.szg_block.specs.Subtable.{values_over}
 use Rattle.szg_file.specs.Contents.{Slot, Subtable}
 use Rattle.szg_file.specs.Lookup.{byte_of}
 use Rattle.szg_file.specs.Index.{slots_in}
-use Rattle.szg_file.specs.Opened.{Opened, asked_after}
+use Rattle.szg_file.specs.Opened.{Opened, requested_after}
 use Rattle.szg_file.specs.Placed.{whole_sub}
 use Rattle.szg_file.specs.Values.{item, values_of, constant_value}
-use Rattle.szg_file.specs.declared.dropping.PlacedSub.{PlacedSub}
-use Rattle.szg_file.proofs.OpenedLaws.{as_many_opened, none_opened, one_opened, few_bits, room_enough, turned_ready, turned_value, asked_placed}
-use Rattle.szg_file.proofs.WantedLaws.{constant_holds}
+use Rattle.szg_file.specs.declared.reading.dropping.PlacedSub.{PlacedSub}
+use Rattle.szg_file.proofs.Openings.OpenedLaws.{as_many_opened, none_opened, one_opened, few_bits, room_enough, flipped_ready, flipped_value, requested_placed}
+use Rattle.szg_file.proofs.Openings.WantedLaws.{constant_holds}
 use Rattle.szg_file.proofs.opened.Opened.get.Goals as goal
 
 pub slotted_at-requires : goal.slotted_at-requires
@@ -31,7 +31,7 @@ block_bytes-requires g c =
     let held : PlacedSub = c.in-Some.found.placed.now in
     let content : List ℕ = g.S.Source.content c.self.inside.blocks.source in
     let kept = one_opened _ c.args.self.now (buffer_len_of c.self.inside.blocks) (slots_in c.self.inside.index) c.slots.result.now c.self.inside.subs.items c.deref.result.now c.args.part c.args.side c.self.invariant.0 c.self.view_is c.slots.ensures.slots c.deref.ensures.value c.in-Some.found.slot c.in-Some.found.placed.now c.in-Some.ensures in
-    few_bits c.in-Some.found.slot content held.sub held.first kept.stands
+    few_bits c.in-Some.found.slot content held.sub held.first kept.is_valid
 
 pub select_blocks-requires : goal.select_blocks-requires
 select_blocks-requires g c =
@@ -47,8 +47,8 @@ look_up-requires g c =
     let kept = one_opened _ c.args.self.now (buffer_len_of c.self.inside.blocks) (slots_in c.self.inside.index) c.slots.result.now c.self.inside.subs.items c.deref.result.now c.args.part c.args.side c.self.invariant.0 c.self.view_is c.slots.ensures.slots c.deref.ensures.value c.in-Some.found.slot c.in-Some.found.placed.now c.in-Some.ensures in
     let sized : c.slot.inside.size ≡ c.in-Some.found.slot.size = ap (λ (s : Slot). s.size) c.slot.view_is in
     let turned : IsReady held.sub c.in-Some.found.slot.size (count_of c.select_blocks.new.self) (λ n. bytes_at (g.S.Source.content c.select_blocks.new.self.source) (c.select_blocks.new.self.at + n * size_of c.select_blocks.new.self) (size_of c.select_blocks.new.self)) =
-    turned_ready c.in-Some.found.slot content _ held.sub held.first c.select_blocks.new.self.at c.block_count.result (count_of c.select_blocks.new.self) c.block_bytes.result (size_of c.select_blocks.new.self)
-    kept.stands kept.fits.inside c.block_count.ensures c.block_bytes.ensures.bytes (ap (g.S.Source.content) c.select_blocks.ensures.source) c.select_blocks.ensures.first c.select_blocks.ensures.count c.select_blocks.ensures.size in
+    flipped_ready c.in-Some.found.slot content _ held.sub held.first c.select_blocks.new.self.at c.block_count.result (count_of c.select_blocks.new.self) c.block_bytes.result (size_of c.select_blocks.new.self)
+    kept.is_valid kept.fits.inside c.block_count.ensures c.block_bytes.ensures.bytes (ap (g.S.Source.content) c.select_blocks.ensures.source) c.select_blocks.ensures.first c.select_blocks.ensures.count c.select_blocks.ensures.size in
     let ready : IsReady held.sub c.slot.inside.size (count_of c.select_blocks.new.self) (λ n. bytes_at (g.S.Source.content c.select_blocks.new.self.source) (c.select_blocks.new.self.at + n * size_of c.select_blocks.new.self) (size_of c.select_blocks.new.self)) =
     subst (λ (k : ℕ). IsReady held.sub k (count_of c.select_blocks.new.self) (λ n. bytes_at (g.S.Source.content c.select_blocks.new.self.source) (c.select_blocks.new.self.at + n * size_of c.select_blocks.new.self) (size_of c.select_blocks.new.self))) (sym sized) turned in
     let below : c.args.i < c.in-Some.found.slot.size = subst (λ (o : Option (Slot × Subtable)). IfSome o (λ found. c.args.i < found.0.size)) kept.is c.requires.below in
@@ -66,8 +66,8 @@ returns-in_err-value-clause-requested g c =
     let content : List ℕ = g.S.Source.content c.self.inside.blocks.source in
     let kept = one_opened _ c.args.self.now (buffer_len_of c.self.inside.blocks) (slots_in c.self.inside.index) c.slots.result.now c.self.inside.subs.items c.deref.result.now c.args.part c.args.side c.self.invariant.0 c.self.view_is c.slots.ensures.slots c.deref.ensures.value c.in-Some.found.slot c.in-Some.found.placed.now c.in-Some.ensures in
     let before = ap (g.S.Source.requested) c.select_blocks.ensures.source ∙ ap (λ (o : Opened). o.requested) c.self.view_is in
-    rw kept.is (asked_placed content held.sub held.first _ _ (size_of c.select_blocks.new.self) c.block_bytes.result c.block_bytes.ensures.bytes c.look_up.ensures.requested_none c.look_up.ensures.requested_one c.select_blocks.ensures.size
-    ∙ ap (λ (k : ℕ). asked_after (whole_sub content held) k) before)
+    rw kept.is (requested_placed content held.sub held.first _ _ (size_of c.select_blocks.new.self) c.block_bytes.result c.block_bytes.ensures.bytes c.look_up.ensures.requested_none c.look_up.ensures.requested_one c.select_blocks.ensures.size
+    ∙ ap (λ (k : ℕ). requested_after (whole_sub content held) k) before)
 
 pub returns-in_err-value-clause-constant : goal.returns-in_err-value-clause-constant
 returns-in_err-value-clause-constant g c =
@@ -87,7 +87,7 @@ returns-clause-value g c =
     let constant_is : c.constant_value-constant.result ≡ constant_value kind (byte_of held.sub) = c.constant_value-constant.ensures ∙ ap (λ (k : Kind). constant_value k (byte_of held.sub)) kind_is in
     let got = subst (λ (k : ℕ). slice_get (values_over held.sub (packed_blocks (λ n. bytes_at (g.S.Source.content c.select_blocks.new.self.source) (c.select_blocks.new.self.at + n * size_of c.select_blocks.new.self) (size_of c.select_blocks.new.self)) (count_of c.select_blocks.new.self)) k c.constant_value-constant.result) c.args.i ≡ Some c.in_ok-value.value) sized c.in_ok-value.ensures.value in
     subst (λ (o : Option (Slot × Subtable)). IfSome o (λ found. item (values_of kind found) c.args.i ≡ Some c.in_ok-value.value)) (sym kept.is)
-    (turned_value kind c.in-Some.found.slot content _ held.sub held.first c.select_blocks.new.self.at c.block_count.result (count_of c.select_blocks.new.self) c.block_bytes.result (size_of c.select_blocks.new.self)
+    (flipped_value kind c.in-Some.found.slot content _ held.sub held.first c.select_blocks.new.self.at c.block_count.result (count_of c.select_blocks.new.self) c.block_bytes.result (size_of c.select_blocks.new.self)
     c.constant_value-constant.result c.args.i c.in_ok-value.value c.block_count.ensures c.block_bytes.ensures.bytes (ap (g.S.Source.content) c.select_blocks.ensures.source) c.select_blocks.ensures.first c.select_blocks.ensures.count c.select_blocks.ensures.size constant_is got)
 
 pub returns-clause-requested : goal.returns-clause-requested
@@ -96,5 +96,5 @@ returns-clause-requested g c =
     let content : List ℕ = g.S.Source.content c.self.inside.blocks.source in
     let kept = one_opened _ c.args.self.now (buffer_len_of c.self.inside.blocks) (slots_in c.self.inside.index) c.slots.result.now c.self.inside.subs.items c.deref.result.now c.args.part c.args.side c.self.invariant.0 c.self.view_is c.slots.ensures.slots c.deref.ensures.value c.in-Some.found.slot c.in-Some.found.placed.now c.in-Some.ensures in
     let before = ap (g.S.Source.requested) c.select_blocks.ensures.source ∙ ap (λ (o : Opened). o.requested) c.self.view_is in
-    rw kept.is (asked_placed content held.sub held.first _ _ (size_of c.select_blocks.new.self) c.block_bytes.result c.block_bytes.ensures.bytes c.look_up.ensures.requested_none c.look_up.ensures.requested_one c.select_blocks.ensures.size
-    ∙ ap (λ (k : ℕ). asked_after (whole_sub content held) k) before)
+    rw kept.is (requested_placed content held.sub held.first _ _ (size_of c.select_blocks.new.self) c.block_bytes.result c.block_bytes.ensures.bytes c.look_up.ensures.requested_none c.look_up.ensures.requested_one c.select_blocks.ensures.size
+    ∙ ap (λ (k : ℕ). requested_after (whole_sub content held) k) before)

@@ -5,7 +5,7 @@ use Rattle.szg_file.specs.Index.{number_in}
 use Rattle.szg_file.specs.Opened.{Opened, opened_at, opened_table}
 use Rattle.szg_file.specs.Values.{number_of_value}
 use Rattle.szg_file.specs.declared.fault.MapFault.TheVariants.{OutsideMap}
-use Rattle.szg_file.proofs.OutlinedLaws.{there_opened, number_opened}
+use Rattle.szg_file.proofs.Openings.OutlinedLaws.{there_opened, number_opened}
 use Rattle.szg_file.proofs.opened.Opened.map_value.Goals as goal
 
 pub map_value-requires-clause-part : goal.map_value-requires-clause-part

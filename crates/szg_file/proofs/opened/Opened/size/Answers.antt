@@ -1,7 +1,7 @@
 use Rattle.std.proofs.Common.{◌∙◌, ap, option_map}
 use Rattle.szg_file.specs.Contents.{Slot, Subtable}
 use Rattle.szg_file.specs.Opened.{Opened, opened_at}
-use Rattle.szg_file.proofs.OutlinedLaws.{size_opened}
+use Rattle.szg_file.proofs.Openings.OutlinedLaws.{size_opened}
 use Rattle.szg_file.proofs.opened.Opened.size.Goals as goal
 
 pub returns : goal.returns

@@ -5,8 +5,8 @@ use Rattle.szg_file.specs.Held.{Shown, subtable_of}
 use Rattle.szg_file.specs.Lookup.{IsFound}
 use Rattle.szg_file.specs.Values.{subtable_at}
 use Rattle.szg_file.specs.contracts.table.Table.{the_view}
-use Rattle.szg_file.proofs.IndexLaws.{at_position}
-use Rattle.szg_file.proofs.TableFinds.{as_many, absent, present}
+use Rattle.szg_file.proofs.Tables.IndexLaws.{at_position}
+use Rattle.szg_file.proofs.Tables.TableFinds.{as_many, absent, present}
 use Rattle.szg_file.proofs.table.Table.find.Goals as goal
 
 pub returns-in_err-number-clause-found : goal.returns-in_err-number-clause-found

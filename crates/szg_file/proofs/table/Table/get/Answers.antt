@@ -5,7 +5,7 @@ use Rattle.szg_block.specs.Views as block
 use Rattle.szg_block.specs.Subtable.{packed_of, values_over}
 use Rattle.szg_file.specs.Lookup.{byte_of}
 use Rattle.szg_file.specs.Values.{subtable_at, constant_value}
-use Rattle.szg_file.proofs.TableFinds.{value_at}
+use Rattle.szg_file.proofs.Tables.TableFinds.{value_at}
 use Rattle.szg_file.proofs.table.Table.get.Goals as goal
 
 pub returns : goal.returns

@@ -5,8 +5,8 @@ use Rattle.szg_block.specs.Views as block
 use Rattle.szg_block.specs.Subtable.{packed_of, values_over}
 use Rattle.szg_file.specs.Lookup.{byte_of}
 use Rattle.szg_file.specs.Values.{subtable_at, constant_value}
-use Rattle.szg_file.proofs.TableFinds.{value_at}
-use Rattle.szg_file.proofs.StepsFound.{steps_at}
+use Rattle.szg_file.proofs.Tables.TableFinds.{value_at}
+use Rattle.szg_file.proofs.Tables.StepsFound.{steps_at}
 use Rattle.szg_file.proofs.table.Table.get_counted.Goals as goal
 
 pub returns-clause-value : goal.returns-clause-value

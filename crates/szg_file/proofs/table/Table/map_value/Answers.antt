@@ -6,7 +6,7 @@ use Rattle.szg_file.specs.Index.{Index, slot_in, number_in}
 use Rattle.szg_file.specs.Values.{subtable_at, number_of_value}
 use Rattle.szg_file.specs.declared.fault.MapFault.TheVariants.{OutsideMap}
 use Rattle.szg_file.specs.contracts.table.Table.{the_view}
-use Rattle.szg_file.proofs.IndexLaws.{slot_there, number_of_table}
+use Rattle.szg_file.proofs.Tables.IndexLaws.{slot_there, number_of_table}
 use Rattle.szg_file.proofs.table.Table.map_value.Goals as goal
 
 pub map_value-requires-clause-part : goal.map_value-requires-clause-part

@@ -4,7 +4,7 @@ use Rattle.szg_file.specs.Held.{Shown}
 use Rattle.szg_file.specs.Index.{Index, slot_in}
 use Rattle.szg_file.specs.Values.{subtable_at}
 use Rattle.szg_file.specs.contracts.table.Table.{the_view}
-use Rattle.szg_file.proofs.IndexLaws.{size_of_table}
+use Rattle.szg_file.proofs.Tables.IndexLaws.{size_of_table}
 use Rattle.szg_file.proofs.table.Table.size.Goals as goal
 
 pub returns : goal.returns

@@ -1,0 +1,105 @@
+-- A subtable as the builder makes it follows the builder's rule.
+use Rattle.std.proofs.Common.{ℕ, zero, suc, ◌≡◌, ◌+◌, ◌-◌, ◌*◌, ◌^◌, ◌<◌, ◌≤◌, Bool, List, [], ◌∷◌, ◌++◌, length, map, drop, Option, Some, None, refl, sym, ap, ◌∙◌, arith, inl, inr, append-nil}
+use Rattle.std.specs.Prelude.{option_map, if◌then◌else◌}
+use Rattle.std.specs.List.{slice_get}
+use Rattle.std.proofs.Math.Nat.{le-div_iff_mul-le}
+use Rattle.std.proofs.Math.Seq.{drop-append_seam}
+use Rattle.std.proofs.lemmas.Nat.{pow_pos}
+use Rattle.std.proofs.lemmas.Bool.{cases_lt, lt-ltb, le-ltb}
+use Rattle.std.proofs.lemmas.List.{length-map}
+use Rattle.std.proofs.lemmas.Option.{slice_get-map}
+use Rattle.szg_block.specs.Layout.{SparseEntry}
+use Rattle.szg_block.specs.Block.{start}
+use Rattle.szg_block.specs.Sound.{entry_count, middle_of_span}
+use Rattle.szg_block.specs.declared.Entry.{Entry}
+use Rattle.szg_file.specs.Contents.{Head, layout_of}
+use Rattle.szg_file.specs.Held.{sparse_of}
+use Rattle.szg_build.specs.Building.{IsIndexOf, IsExtended, extras_for}
+use Rattle.szg_build.specs.Rule.{IsSpanIndex, extra_lengths}
+use Rattle.szg_build.proofs.Builders.Entries.{start-front}
+
+-- ---- extra lengths
+
+-- the last entry of a sparse index, as the code holds it
+pub extended_as : (sparse : List Entry) (lengths after : List ℕ) (extra : ℕ) (last : Option SparseEntry) → option_map sparse_of (slice_get sparse (length sparse - 1)) ≡ last →
+    extra ≡ length (extras_for (length lengths) last) → after ≡ lengths ++ extras_for (length lengths) last → IsExtended (map sparse_of sparse) lengths after extra
+extended_as sparse lengths after extra last is count joined =
+    let e : slice_get (map sparse_of sparse) (length (map sparse_of sparse) - 1) ≡ last =
+    ap (λ (k : ℕ). slice_get (map sparse_of sparse) (k - 1)) (length-map sparse sparse_of) ∙ slice_get-map sparse_of sparse (length sparse - 1) ∙ is in
+    (count ∙ ap (λ (o : Option SparseEntry). length (extras_for (length lengths) o)) (sym e), joined ∙ ap (λ (o : Option SparseEntry). lengths ++ extras_for (length lengths) o) (sym e))
+
+-- there are no extra lengths if the last entry leads to a block, or if there is no entry
+pub extras_inside : (blocks : ℕ) (entry : SparseEntry) → entry.block < blocks → extras_for blocks (Some entry) ≡ []
+extras_inside blocks entry lt = ap (λ (b : Bool). if b then [] else 65535 ∷ []) (lt-ltb entry.block blocks lt)
+
+pub extras_beyond : (blocks : ℕ) (entry : SparseEntry) → blocks ≤ entry.block → extras_for blocks (Some entry) ≡ 65535 ∷ []
+extras_beyond blocks entry le = ap (λ (b : Bool). if b then [] else 65535 ∷ []) (le-ltb entry.block blocks le)
+
+pub extended_none : (sparse : List Entry) (lengths : List ℕ) → slice_get sparse (length sparse - 1) ≡ None → IsExtended (map sparse_of sparse) lengths lengths 0
+extended_none sparse lengths none = extended_as sparse lengths lengths 0 None (ap (option_map sparse_of) none) refl (sym (append-nil lengths))
+
+pub extended_same : (sparse : List Entry) (lengths : List ℕ) (entry : Entry) → slice_get sparse (length sparse - 1) ≡ Some entry → entry.block < length lengths → IsExtended (map sparse_of sparse) lengths lengths 0
+extended_same sparse lengths entry last lt =
+    let no : extras_for (length lengths) (Some (sparse_of entry)) ≡ [] = extras_inside (length lengths) (sparse_of entry) lt in
+    extended_as sparse lengths lengths 0 (Some (sparse_of entry)) (ap (option_map sparse_of) last) (ap length (sym no)) (sym (append-nil lengths) ∙ ap (λ (z : List ℕ). lengths ++ z) (sym no))
+
+pub extended_one : (sparse : List Entry) (lengths after : List ℕ) (entry : Entry) → slice_get sparse (length sparse - 1) ≡ Some entry → length lengths ≤ entry.block → after ≡ lengths ++ 65535 ∷ [] →
+    IsExtended (map sparse_of sparse) lengths after 1
+extended_one sparse lengths after entry last le more =
+    let one : extras_for (length lengths) (Some (sparse_of entry)) ≡ 65535 ∷ [] = extras_beyond (length lengths) (sparse_of entry) le in
+    extended_as sparse lengths after 1 (Some (sparse_of entry)) (ap (option_map sparse_of) last) (ap length (sym one)) (more ∙ ap (λ (z : List ℕ). lengths ++ z) (sym one))
+
+-- a subtable that has a value has a span
+span_some : (span_bits size : ℕ) → 0 < size → 0 < entry_count span_bits size
+unfolding entry_count
+span_some span_bits size some =
+    let w : ℕ = 2 ^ span_bits in
+    let p : 0 < w = pow_pos span_bits in
+    let m : 1 * w ≤ size + w - 1 = omega (arith, some) in
+    (le-div_iff_mul-le p).1 m
+
+there_at : (sparse : List SparseEntry) (i : ℕ) → i < length sparse → (entry : SparseEntry) × (slice_get sparse i ≡ Some entry)
+there_at [] i lt = absurd (omega (arith, lt))
+there_at (x ∷ sparse) zero lt = (x, refl)
+there_at (x ∷ sparse) (suc i) lt = there_at sparse i (omega (arith, lt))
+
+extras_are : (own : List ℕ) (span_bits size : ℕ) (sparse : List SparseEntry) → IsIndexOf own span_bits sparse → length sparse ≡ entry_count span_bits size → start own (length own) ≡ size → 0 < size →
+    extras_for (length own) (slice_get sparse (length sparse - 1)) ≡ extra_lengths span_bits size
+extras_are own span_bits size sparse index count total some =
+    let spans : 0 < entry_count span_bits size = span_some span_bits size some in
+    let last = there_at sparse (length sparse - 1) (omega (arith, count, spans)) in
+    let stated = index.good (length sparse - 1) last.0 last.1 in
+    let middle : ℕ = middle_of_span span_bits (entry_count span_bits size - 1) in
+    let same : middle_of_span span_bits (length sparse - 1) ≡ middle = ap (λ (k : ℕ). middle_of_span span_bits (k - 1)) count in
+    elim (cases_lt middle size) [
+      | inl less ↦
+          ap (extras_for (length own)) last.1 ∙ extras_inside (length own) last.0 (stated.inside (omega (arith, less, same, total))).0
+          ∙ sym (ap (λ (b : Bool). if b then [] else 65535 ∷ []) (lt-ltb middle size less))
+      | inr more ↦
+          let at : last.0.block ≡ length own = stated.beyond (omega (arith, more, same, total)) in
+          ap (extras_for (length own)) last.1 ∙ extras_beyond (length own) last.0 (omega (arith, at))
+          ∙ sym (ap (λ (b : Bool). if b then [] else 65535 ∷ []) (le-ltb middle size more))
+    ]
+
+-- ---- the sparse index
+
+pub index_is : (head : Head) (sparse : List SparseEntry) (own lengths : List ℕ) (size : ℕ) → IsIndexOf own head.span_bits sparse → length sparse ≡ entry_count head.span_bits size → start own (length own) ≡ size → 0 < size →
+    head.blocks ≡ length own → IsExtended sparse own lengths head.extra → IsSpanIndex (layout_of head sparse lengths) size
+index_is head sparse own lengths size index count total some blocks extended =
+    let extras : List ℕ = extras_for (length own) (slice_get sparse (length sparse - 1)) in
+    let same : extras ≡ extra_lengths head.span_bits size = extras_are own head.span_bits size sparse index count total some in
+    let front : (k : ℕ) → k ≤ length own → start lengths k ≡ start own k = λ k le. ap (λ (z : List ℕ). start z k) extended.1 ∙ start-front own extras k le in
+    record {
+      total = ap (start lengths) blocks ∙ front (length own) (omega arith) ∙ total;
+      entries = λ j entry there.
+          let stated = index.good j entry there in
+          record {
+            location = ap (λ (k : ℕ). k + entry.offset) (front entry.block stated.block) ∙ stated.place;
+            inside = λ lt.
+                let held = stated.inside (omega (arith, lt, total)) in
+                (omega (arith, held.0, blocks), omega (arith, held.1, front (entry.block + 1) (omega (arith, held.0))));
+            beyond = λ le. stated.beyond (omega (arith, le, total)) ∙ sym blocks;
+          };
+      extra = extended.0 ∙ ap length same;
+      lengths = ap (λ (k : ℕ). drop k lengths) blocks ∙ ap (drop (length own)) extended.1 ∙ drop-append_seam own extras ∙ same;
+    }

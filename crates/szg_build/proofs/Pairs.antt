@@ -1,0 +1,9 @@
+pub mod Tests
+pub mod PairingLaws
+pub mod Growing
+pub mod Triples
+pub mod Tallying
+pub mod LastCount
+pub mod LeafLaws
+pub mod RoundLaws
+pub mod ProposalLaws

@@ -1,0 +1,15 @@
+pub mod ReadingLaws
+pub mod FirstLine
+pub mod LineRead
+pub mod HeldLaws
+pub mod WordLaws
+pub mod NumberWords
+pub mod HexWords
+pub mod SayingLaws
+pub mod LineParses
+pub mod GoingLaws
+pub mod LackLaws
+pub mod LeastLaws
+pub mod MapReads
+pub mod RestLaws
+pub mod WholeLaws

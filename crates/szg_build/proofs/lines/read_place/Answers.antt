@@ -1,7 +1,0 @@
-use Rattle.std.proofs.Common.{rules, []}
-use Rattle.szg_build.specs.Fronts.{said, sub_line}
-use Rattle.szg_build.proofs.LineSays.{reads_told}
-use Rattle.szg_build.proofs.lines.read_place.Goals as goal
-
-pub returns-clause-lines : goal.returns-clause-lines
-returns-clause-lines g c = reads_told (said (sub_line c.args.place)) (λ _. []) (λ text told gave. search rules) c.read_told.ensures.lines

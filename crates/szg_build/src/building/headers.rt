@@ -1,0 +1,67 @@
+//! Counts the bytes of a table before its sparse indexes. The padding before the blocks depends on this count, and so
+//! does the best packing of a small table with exactly one subtable that is not constant.
+//!
+//! Only the safety of this code is proved: the builder uses the count only to compare its tries.
+use crate::Plan;
+use szg_file::Map;
+use szg_values::Kind;
+
+/// The bytes of the magic and of byte 4.
+const FIRST: u64 = 5;
+
+/// Returns whether a list makes a subtable that is not constant.
+fn has_blocks(kind: Kind, values: &[u16]) -> bool {
+    let Some(first) = values.first() else {
+        return false;
+    };
+    match kind {
+        Kind::Wdl => values.iter().any(|value| *value != *first),
+        Kind::Dtz => values.iter().any(|value| *value != 0),
+    }
+}
+
+/// Returns how many lists make a subtable that is not constant.
+pub(crate) fn count_with_blocks(kind: Kind, lists: &[&[u16]]) -> usize {
+    lists.iter().filter(|list| has_blocks(kind, list)).count()
+}
+
+/// Rounds an offset up to an even number.
+fn to_even(offset: u64) -> u64 {
+    offset.saturating_add(offset % 2)
+}
+
+/// Returns the offset after a map. `offset` is where the map, or the padding before it, begins.
+fn after_map(offset: u64, map: &Map) -> u64 {
+    match map {
+        Map::Bytes(lists) => lists.iter().fold(offset, |sum, list| {
+            sum.saturating_add(1).saturating_add(list.len() as u64)
+        }),
+        Map::Wide(lists) => lists.iter().fold(to_even(offset), |sum, list| {
+            sum.saturating_add(2)
+                .saturating_add((list.len() as u64).saturating_mul(2))
+        }),
+    }
+}
+
+/// Returns the number of bytes of a table before its sparse indexes, without the header of the one subtable that is not
+/// constant. None if more than one is not constant, since the padding then depends on all of them. `with_blocks` of the
+/// `count` subtables are not constant.
+pub(crate) fn count_other_bytes(plan: &Plan, count: usize, with_blocks: usize) -> Option<u64> {
+    if with_blocks > 1 {
+        return None;
+    }
+    let mut offset = FIRST;
+    for part in &plan.parts {
+        offset = offset
+            .saturating_add(part.order.len() as u64)
+            .saturating_add(part.men.len() as u64);
+    }
+    let constant = count.saturating_sub(with_blocks) as u64;
+    offset = to_even(offset).saturating_add(constant.saturating_mul(2));
+    for item in &plan.maps {
+        if let Some(map) = item {
+            offset = after_map(offset, map);
+        }
+    }
+    Some(to_even(offset))
+}

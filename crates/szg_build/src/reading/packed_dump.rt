@@ -1,0 +1,282 @@
+//! A dump whose subtables were packed while it was read, and its table.
+ghost use Rattle.std.specs.Prelude.{◌≡◌, ◌⊎◌, map, true, IfOk, Err, Some};
+ghost use Rattle.std.specs.List.{AllByRecursion};
+ghost use Rattle.szg_file.specs.Accepted.{IsAccepted};
+ghost use Rattle.szg_build.specs.Chosen.{numbers_in, plan_by};
+ghost use Rattle.szg_build.specs.Packed.{gathered_dump, lists_held, packed_values, AreFlagsOf, ArePacked, IsPackedSub, IsSettled};
+ghost use Rattle.szg_build.specs.Plan.{build_fault};
+ghost use Rattle.szg_build.specs.Shown.{plan_seen};
+ghost use Rattle.szg_build.specs.Tabling.{IsBuiltBy, IsChoiceOf, HasNoFault};
+ghost use Rattle.szg_build.specs.declared.BuildFault.{BuildFault};
+ghost use Rattle.szg_build.specs.declared.building.Choice.{Choice};
+
+use crate::building::headers::count_other_bytes;
+use crate::building::{Choice, Packing};
+use crate::reading::gathering::{Gathered, Subs, list_all};
+use crate::reading::packing::{PackedSub, pack_again};
+use crate::refusing::{MAX_ROUNDS, are_bits_valid, are_maps_valid};
+use crate::table::{build_by, byte4_of, maps_fit, padded, parts_fit};
+use crate::watching::Watcher;
+use crate::{BuildFault, Plan};
+use std::alloc::{AllocError, Global};
+use std::marker::Model;
+use szg_block::Sub;
+use szg_file::typed::end_bytes;
+use szg_file::{Fields, Table, subtable_sizes};
+
+/// The content of a dump, whose subtables were packed while it was read.
+#[derive(Drop)]
+pub struct PackedDump {
+    gathered: Gathered,
+    choice: Choice,
+}
+
+impl Model for PackedDump {
+    ghost use Rattle.szg_build.specs.Packed.{gathered_dump, ArePacked};
+    ghost use Rattle.szg_build.specs.Chosen.{ToBuild};
+
+    ghost Value = { ToBuild };
+
+    ghost view = { λ packed. record { dump = gathered_dump packed.gathered; choice = packed.choice } };
+
+    ghost invariant = { λ packed. ArePacked packed.gathered.front.kind packed.choice packed.gathered.subs };
+}
+
+/// Wraps what was read.
+pub(crate) fn packed_dump(gathered: Gathered, choice: Choice) -> PackedDump
+    requires { ArePacked gathered.front.kind choice gathered.subs }
+    ensures { result ≡ record { dump = gathered_dump gathered; choice = choice } }
+{
+    PackedDump { gathered, choice }
+}
+
+impl PackedDump {
+    ghost use Rattle.std.specs.Prelude.{◌≡◌, ◌⊎◌, map, IfOk, Err, Some};
+    ghost use Rattle.std.specs.List.{AllByRecursion};
+    ghost use Rattle.szg_file.specs.Accepted.{IsAccepted};
+    ghost use Rattle.szg_build.specs.Built.{subtables_in};
+    ghost use Rattle.szg_build.specs.Chosen.{plan_by, IsBuiltAs, IsCodedTable};
+    ghost use Rattle.szg_build.specs.Plan.{build_fault};
+    ghost use Rattle.szg_build.specs.Rule.{byte4_for, constant_for, constant_in, HasSpanIndex};
+    ghost use Rattle.szg_build.specs.declared.BuildFault.{BuildFault};
+
+    /// Builds the table, as `build_watched` and `build_small_watched` do from the dump's lists: with the same subtables
+    /// and the same padding. `watcher` sees each subtable that is built or packed again now, and the end.
+    ///
+    /// Errors: the fault that `build_watched` or `build_small_watched` returns for the dump's lists, or `Memory` if
+    /// memory was refused. To find the fault, all values are listed again.
+    pub fn build<V: Watcher>(self, alloc: Global, watcher: &mut V) -> Result<Table, BuildFault>
+        ensures refused { (fault : BuildFault) → result ≡ Err fault → (fault ≡ BuildFault.Memory) ⊎ (build_fault (plan_by self.choice self.dump) self.dump.lists ≡ Some fault) }
+        ensures built { IfOk result (λ t. IsBuiltAs self.choice self.dump t.contents) }
+        ensures accepted { IfOk result (λ t. IsAccepted t.contents t.filled) }
+        ensures byte4 { IfOk result (λ t. t.contents.byte4 ≡ byte4_for self.dump.material) }
+        ensures constants { IfOk result (λ t. map constant_in t.contents.subtables ≡ map (constant_for self.dump.kind) self.dump.lists) }
+        ensures codes { IfOk result (λ t. IsCodedTable self.choice t.contents) }
+        ensures index { IfOk result (λ t. AllByRecursion (λ pair. HasSpanIndex pair.0.size pair.1) (subtables_in t.contents)) }
+        ensures padding { IfOk result (λ t. AllByRecursion (λ byte. byte ≡ 0) t.filled) }
+    {
+        let PackedDump { gathered, choice } = self;
+        let built = build_gathered(alloc, gathered, choice, watcher);
+        watcher.end();
+        built
+    }
+}
+
+/// Returns whether packed subtables have these sizes.
+fn have_sizes(sizes: &[u64], packed: &[PackedSub]) -> bool
+    ensures { result ≡ true → sizes.now ≡ map (λ p. p.size) packed.now }
+{
+    sizes.len() == packed.len()
+        && sizes
+            .iter()
+            .zip(packed)
+            .all(|(size, sub)| sub.size == *size)
+}
+
+/// Returns whether a plan has no fault and `packed` are all its subtables.
+fn are_complete(plan: &Plan, packed: &[PackedSub]) -> bool
+    requires { (choice : Choice) × AllByRecursion (IsPackedSub plan.now.kind choice) packed.now }
+    ensures { result ≡ true → HasNoFault (plan_seen plan.now) (map (packed_values plan.now.kind) packed.now) }
+{
+    parts_fit(&plan.parts);
+    let Some(sizes) = subtable_sizes(&plan.material, plan.kind, &plan.parts) else {
+        return false;
+    };
+    if !have_sizes(sizes.as_slice(), packed) {
+        return false;
+    }
+    if !are_bits_valid(plan) || plan.rounds > MAX_ROUNDS {
+        return false;
+    }
+    are_maps_valid(plan)
+}
+
+/// Returns the subtables.
+fn subs_of(alloc: Global, packed: Vec<PackedSub>) -> Result<Vec<Sub>, AllocError>
+    ensures { IfOk result (λ subs. subs.items ≡ map (λ p. p.sub) packed.items) }
+{
+    packed.into_iter().map(|p| p.sub).collect(alloc)
+}
+
+/// If a small table has exactly one subtable with blocks, packs this subtable again, since its best packing depends on
+/// the table's other bytes. Otherwise returns `packed` unchanged.
+fn settle<V: Watcher>(
+    alloc: Global,
+    plan: &Plan,
+    choice: Choice,
+    packed: Vec<PackedSub>,
+    watcher: &mut V,
+) -> Result<Vec<PackedSub>, AllocError>
+    requires { AllByRecursion (IsPackedSub plan.now.kind choice) packed.items }
+    ensures { IfOk result (λ settled. IsSettled plan.now.kind choice packed.items settled.items) }
+{
+    let Choice::Small = choice else {
+        return Ok(packed);
+    };
+    let count = packed.len();
+    let with_blocks = packed.iter().filter(|sub| sub.has_blocks()).count();
+    let other_bytes = count_other_bytes(plan, count, with_blocks);
+    if other_bytes.is_none() {
+        return Ok(packed);
+    }
+    let mut settled = Vec::new(alloc);
+    'subs: for sub in packed {
+        if sub.has_blocks() {
+            watcher.subtable(settled.len() + 1, count, sub.size as usize);
+            let again = pack_again(alloc, plan.kind, &sub, other_bytes, watcher)?;
+            settled.push(again)?;
+        } else {
+            settled.push(sub)?;
+        }
+    }
+    Ok(settled)
+}
+
+/// Assembles the table of a plan from its packed subtables. If a small table has exactly one subtable with blocks, this
+/// subtable is packed again.
+fn assemble<V: Watcher>(
+    alloc: Global,
+    plan: Plan,
+    choice: Choice,
+    packed: Vec<PackedSub>,
+    watcher: &mut V,
+) -> Result<Table, AllocError>
+    requires is_valid { HasNoFault (plan_seen plan) (map (packed_values plan.kind) packed.items) }
+    requires packed { AllByRecursion (IsPackedSub plan.kind choice) packed.items }
+    requires flags { AreFlagsOf plan.kind packed.items plan.flags.items }
+    ensures built { IfOk result (λ t. IsBuiltBy choice (plan_seen plan) (map (packed_values plan.kind) packed.items) t.contents) }
+    ensures accepted { IfOk result (λ t. IsAccepted t.contents t.filled) }
+    ensures padding { IfOk result (λ t. AllByRecursion (λ byte. byte ≡ 0) t.filled) }
+{
+    maps_fit(&plan.maps);
+    let settled = settle(alloc, &plan, choice, packed, watcher)?;
+    let byte4 = byte4_of(&plan.material);
+    let last = end_bytes(byte4, &plan.last);
+    let subs = subs_of(alloc, settled)?;
+    let fields = Fields {
+        material: plan.material,
+        kind: plan.kind,
+        byte4,
+        parts: plan.parts,
+        subs,
+        maps: plan.maps,
+        fill: Vec::new(alloc),
+        last,
+    };
+    padded(alloc, fields)
+}
+
+/// Returns the lists as slices.
+fn lend<'a>(alloc: Global, lists: &'a [Vec<u16>]) -> Result<Vec<&'a [u16]>, AllocError>
+    ensures { IfOk result (λ slices. map (λ slice. slice.now) slices.items ≡ map (λ list. list.items) lists.now) }
+{
+    let mut slices = Vec::new(alloc);
+    'lists: for list in lists {
+        slices.push(list.as_slice())?;
+    }
+    Ok(slices)
+}
+
+/// Lists all values and builds the table from the lists. Errors: the first fault of the plan and the lists, or `Memory`
+/// if memory was refused.
+fn build_lists<V: Watcher>(
+    alloc: Global,
+    plan: &Plan,
+    choice: Choice,
+    packed: &[PackedSub],
+    rest: Vec<Vec<u16>>,
+    watcher: &mut V,
+) -> Result<Table, BuildFault>
+    requires choice { IsChoiceOf (plan_seen plan.now) choice }
+    requires packed { AllByRecursion (IsPackedSub plan.now.kind choice) packed.now }
+    ensures refused { (fault : BuildFault) → result ≡ Err fault → (fault ≡ BuildFault.Memory) ⊎ (build_fault (plan_seen plan.now) (lists_held plan.now.kind packed.now (map (λ list. list.items) rest.items)) ≡ Some fault) }
+    ensures built { IfOk result (λ t. IsBuiltBy choice (plan_seen plan.now) (lists_held plan.now.kind packed.now (map (λ list. list.items) rest.items)) t.contents) }
+    ensures accepted { IfOk result (λ t. IsAccepted t.contents t.filled) }
+    ensures padding { IfOk result (λ t. AllByRecursion (λ byte. byte ≡ 0) t.filled) }
+{
+    let Ok(lists) = list_all(alloc, plan.kind, packed, rest) else {
+        return Err(BuildFault::Memory);
+    };
+    let Ok(lent) = lend(alloc, &lists) else {
+        return Err(BuildFault::Memory);
+    };
+    build_by(alloc, plan, choice, &lent, watcher)
+}
+
+/// Returns the numbers of a choice. For a small table, whose packing does not use them, returns numbers that pass the
+/// checks of a plan.
+fn numbers_of(choice: Choice) -> Packing
+    ensures { result ≡ numbers_in choice }
+{
+    match choice {
+        Choice::Fixed(packing) => packing,
+        Choice::Small => Packing {
+            block_bits: 5,
+            span_bits: 1,
+            rounds: 0,
+        },
+    }
+}
+
+/// Builds the table of what was read: from the packed subtables if all are packed and the plan has no fault, else from
+/// lists of all values.
+fn build_gathered<V: Watcher>(
+    alloc: Global,
+    gathered: Gathered,
+    choice: Choice,
+    watcher: &mut V,
+) -> Result<Table, BuildFault>
+    requires { ArePacked gathered.front.kind choice gathered.subs }
+    ensures refused { (fault : BuildFault) → result ≡ Err fault → (fault ≡ BuildFault.Memory) ⊎ (build_fault (plan_by choice (gathered_dump gathered)) (gathered_dump gathered).lists ≡ Some fault) }
+    ensures built { IfOk result (λ t. IsBuiltBy choice (plan_by choice (gathered_dump gathered)) (gathered_dump gathered).lists t.contents) }
+    ensures accepted { IfOk result (λ t. IsAccepted t.contents t.filled) }
+    ensures padding { IfOk result (λ t. AllByRecursion (λ byte. byte ≡ 0) t.filled) }
+{
+    let Gathered { front, subs } = gathered;
+    let Subs {
+        flags,
+        maps,
+        packed,
+        rest,
+    } = subs;
+    let numbers = numbers_of(choice);
+    let last = front.last;
+    let plan = Plan {
+        material: front.material,
+        kind: front.kind,
+        parts: front.parts,
+        block_bits: numbers.block_bits,
+        span_bits: numbers.span_bits,
+        rounds: numbers.rounds,
+        flags,
+        maps,
+        last,
+    };
+    if rest.is_empty() && are_complete(&plan, &packed) {
+        return match assemble(alloc, plan, choice, packed, watcher) {
+            Ok(table) => Ok(table),
+            Err(_failed) => Err(BuildFault::Memory),
+        };
+    }
+    build_lists(alloc, &plan, choice, &packed, rest, watcher)
+}

@@ -1,0 +1,90 @@
+//! The values of a subtable as they are read from a dump. In form 2, values that are all equal are not listed.
+ghost use Rattle.std.specs.Prelude.{◌≡◌, ◌+◌, ◌++◌, ◌<◌, ◌^◌, [], length, replicate, IfOk, OnOk};
+ghost use Rattle.szg_build.specs.Packed.{values_held};
+
+use std::alloc::{AllocError, AllocFailed, Global};
+
+/// The values of a subtable.
+#[derive(Drop)]
+pub(crate) enum Values {
+    /// The same value `count` times.
+    Run { value: u16, count: u64 },
+    /// A list of values.
+    Listed(Vec<u16>),
+}
+
+/// Appends a run of equal values to a list.
+fn push_run(list: &mut Vec<u16>, size: u64, value: u16) -> Result<(), AllocFailed<u16>>
+    ensures { OnOk result (list.new.items ≡ list.old.items ++ replicate size value) }
+{
+    'values: for _value in 0..size {
+        list.push(value)?;
+    }
+    Ok(())
+}
+
+/// Lists a run of `count` equal values.
+fn list_run(alloc: Global, value: u16, count: u64) -> Result<Vec<u16>, AllocError>
+    ensures { IfOk result (λ list. list.items ≡ replicate count value) }
+{
+    let mut list = Vec::new(alloc);
+    push_run(&mut list, count, value)?;
+    Ok(list)
+}
+
+impl Values {
+    /// Creates an empty list of values, as a run of length 0.
+    pub(crate) fn new() -> Values
+        ensures { values_held result ≡ [] }
+    {
+        Values::Run { value: 0, count: 0 }
+    }
+
+    /// Appends a run of equal values. The values become a list only when a second, different value is appended.
+    pub(crate) fn with_run(self, alloc: Global, size: u64, value: u16) -> Result<Values, AllocError>
+        requires { length (values_held self) + size < 2 ^ 64 }
+        ensures { IfOk result (λ more. values_held more ≡ values_held self ++ replicate size value) }
+    {
+        match self {
+            Values::Listed(mut list) => {
+                push_run(&mut list, size, value)?;
+                Ok(Values::Listed(list))
+            }
+            Values::Run {
+                value: first,
+                count,
+            } => {
+                if count == 0 {
+                    return Ok(Values::Run { value, count: size });
+                }
+                if first == value {
+                    return Ok(Values::Run {
+                        value,
+                        count: count + size,
+                    });
+                }
+                let mut list = list_run(alloc, first, count)?;
+                push_run(&mut list, size, value)?;
+                Ok(Values::Listed(list))
+            }
+        }
+    }
+
+    /// Returns the number of values.
+    pub(crate) fn len(&self) -> usize {
+        match self {
+            Values::Run { count, .. } => *count as usize,
+            Values::Listed(list) => list.len(),
+        }
+    }
+
+    /// Lists the values.
+    pub(crate) fn into_list(self, alloc: Global) -> Result<Vec<u16>, AllocError>
+        ensures { IfOk result (λ list. list.items ≡ values_held self) }
+    {
+        match self {
+            Values::Listed(list) => Ok(list),
+            Values::Run { value, count } => list_run(alloc, value, count),
+        }
+    }
+}

@@ -1,0 +1,234 @@
+//! Spells a list of leaves with the symbols of a dictionary at the least total cost: by a shortest path from the start
+//! of the list to its end.
+//!
+//! Only the safety of this code is proved: a spelling is only a proposal, and proposals are tested.
+ghost use Rattle.std.specs.Prelude.{◌≡◌, ◌<◌, length};
+
+use crate::pairing::leaves::MAX_SYMBOLS;
+use crate::pairing::numbering::at;
+use std::alloc::{AllocError, Global};
+use szg_pairs::entry::{is_leaf, left, right};
+
+/// No node.
+const NO_NODE: u32 = u32::MAX;
+
+/// The cost of a node at which no symbol ends.
+const NO_COST: u64 = u64::MAX;
+
+/// The number of costs kept at a time; it is above the greatest number of values of a symbol.
+const KEPT: usize = 512;
+
+/// A node of a prefix tree of expansions. The leaf symbols on the path from the root to this node, its own `leaf`
+/// included, are a prefix of the expansion of some symbol.
+#[derive(Clone, Copy)]
+struct Node {
+    leaf: u16,
+    /// The cheapest symbol whose expansion is exactly these leaf symbols. There is none if `cost` is `NO_COST`.
+    symbol: u16,
+    cost: u64,
+    child: u32,
+    sibling: u32,
+}
+
+/// The tree of the expansions of a dictionary's symbols. The root has no node. The first nodes are its children: one
+/// for each leaf symbol, at the index that is the symbol's number.
+#[derive(Drop)]
+struct Tree {
+    nodes: Vec<Node>,
+}
+
+/// Returns a node of `leaf` at which no symbol ends.
+fn bare(leaf: u16, sibling: u32) -> Node {
+    Node {
+        leaf,
+        symbol: 0,
+        cost: NO_COST,
+        child: NO_NODE,
+        sibling,
+    }
+}
+
+impl Tree {
+    /// Creates the tree of a dictionary in which symbol s costs `costs[s]`.
+    fn new(alloc: Global, entries: &[[u8; 3]], costs: &[u64]) -> Result<Tree, AllocError> {
+        let mut tree = Tree {
+            nodes: Vec::new(alloc),
+        };
+        for (number, entry) in entries.iter().enumerate() {
+            if is_leaf(*entry) {
+                tree.nodes
+                    .push(bare(number.min(MAX_SYMBOLS) as u16, NO_NODE))?;
+            }
+        }
+        for (number, cost) in costs.iter().enumerate() {
+            let leaves = expansion(alloc, entries, number.min(MAX_SYMBOLS) as u16)?;
+            tree.insert(&leaves, number.min(MAX_SYMBOLS) as u16, *cost)?;
+        }
+        Ok(tree)
+    }
+
+    /// Returns the child for `leaf` among a node's children, of which `first` is the first; `NO_NODE` if there is none.
+    fn child(&self, first: u32, leaf: u16) -> usize {
+        let mut next = first as usize;
+        for _ in 0..self.nodes.len() {
+            if next >= self.nodes.len() {
+                break;
+            }
+            let node = self.nodes[next];
+            if node.leaf == leaf {
+                return next;
+            }
+            next = node.sibling as usize;
+        }
+        NO_NODE as usize
+    }
+
+    /// Returns the child of `parent` for `leaf`; creates it if there is none.
+    fn child_or_new(&mut self, parent: usize, leaf: u16) -> Result<usize, AllocError> {
+        if parent >= self.nodes.len() {
+            return Ok(NO_NODE as usize);
+        }
+        let node = self.nodes[parent];
+        let found = self.child(node.child, leaf);
+        if found < self.nodes.len() {
+            return Ok(found);
+        }
+        let new = self.nodes.len();
+        self.nodes.push(bare(leaf, node.child))?;
+        self.nodes[parent] = Node {
+            child: new.min(NO_NODE as usize) as u32,
+            ..node
+        };
+        Ok(new)
+    }
+
+    /// Adds a symbol that expands to these leaves.
+    fn insert(&mut self, leaves: &[u16], symbol: u16, cost: u64) -> Result<(), AllocError> {
+        let mut place = NO_NODE as usize;
+        for (depth, leaf) in leaves.iter().enumerate() {
+            place = if depth == 0 {
+                usize::from(*leaf)
+            } else {
+                self.child_or_new(place, *leaf)?
+            };
+        }
+        if place < self.nodes.len() {
+            let node = self.nodes[place];
+            if cost < node.cost {
+                self.nodes[place] = Node {
+                    symbol,
+                    cost,
+                    ..node
+                };
+            }
+        }
+        Ok(())
+    }
+}
+
+/// Returns the leaf symbols that a symbol expands to.
+fn expansion(alloc: Global, entries: &[[u8; 3]], symbol: u16) -> Result<Vec<u16>, AllocError> {
+    let mut leaves = Vec::new(alloc);
+    let mut waiting = Vec::new(alloc);
+    waiting.push(symbol)?;
+    for _ in 0..KEPT.saturating_mul(2) {
+        let Some(next) = waiting.pop() else {
+            break;
+        };
+        let place = usize::from(next);
+        if place < entries.len() {
+            let entry = entries[place];
+            if is_leaf(entry) {
+                leaves.push(next)?;
+            } else {
+                waiting.push(right(entry))?;
+                waiting.push(left(entry))?;
+            }
+        }
+    }
+    Ok(leaves)
+}
+
+/// The cheapest spelling from an index on: its first symbol, its cost, and how many nodes were visited to find it.
+#[derive(Clone, Copy)]
+struct Cheapest {
+    symbol: u16,
+    cost: u64,
+    steps: u64,
+}
+
+/// Returns the cheapest spelling of the leaves from index `place` on. `kept` has the costs of the cheapest spellings
+/// from later indexes on: for index n at `n % KEPT`.
+fn cheapest_from(tree: &Tree, leaves: &[u16], place: usize, kept: &[u64]) -> Cheapest
+    requires place { place < length leaves.now }
+    requires kept { length kept.now ≡ 512 }
+{
+    let mut best = Cheapest {
+        symbol: 0,
+        cost: NO_COST,
+        steps: 0,
+    };
+    let mut next = usize::from(leaves[place]);
+    for end in place.saturating_add(1)..leaves.len().saturating_add(1) {
+        if next >= tree.nodes.len() {
+            break;
+        }
+        let node = tree.nodes[next];
+        best.steps = best.steps.saturating_add(1);
+        if node.cost != NO_COST {
+            let cost = node.cost.saturating_add(kept[end % KEPT]);
+            if cost < best.cost {
+                best.symbol = node.symbol;
+                best.cost = cost;
+            }
+        }
+        if node.child == NO_NODE || end >= leaves.len() {
+            break;
+        }
+        next = tree.child(node.child, leaves[end]);
+    }
+    best
+}
+
+/// A text that spells a list of leaves, and how many nodes were visited to find it.
+#[derive(Drop)]
+pub(crate) struct Spelling {
+    pub symbols: Vec<u16>,
+    pub steps: u64,
+}
+
+/// Spells leaves with the least total cost, where symbol s costs `costs[s]` and has `lens[s]` values. First the best
+/// symbol is chosen at each index, from the last to the first; then the symbols of the text are collected.
+pub(crate) fn spell(
+    alloc: Global,
+    leaves: &[u16],
+    entries: &[[u8; 3]],
+    lens: &[u16],
+    costs: &[u64],
+) -> Result<Spelling, AllocError> {
+    let tree = Tree::new(alloc, entries, costs)?;
+    let mut kept_costs = vec![in alloc; 0u64; KEPT]?;
+    let kept = kept_costs.as_mut_slice();
+    let mut choices = vec![in alloc; 0u16; leaves.len()]?;
+    let mut steps = 0u64;
+    for later in 0..leaves.len() {
+        let place = leaves.len() - 1 - later;
+        let found = cheapest_from(&tree, leaves, place, kept);
+        steps = steps.saturating_add(found.steps);
+        kept[place % KEPT] = found.cost;
+        if place < choices.len() {
+            choices[place] = found.symbol;
+        }
+    }
+    let mut symbols = Vec::new(alloc);
+    let mut place = 0usize;
+    for _ in 0..choices.len() {
+        if place >= choices.len() {
+            break;
+        }
+        let symbol = choices[place];
+        symbols.push(symbol)?;
+        place = place.saturating_add(usize::from(at(lens, symbol).max(1)));
+    }
+    Ok(Spelling { symbols, steps })
+}

@@ -1,0 +1,112 @@
+//! The values of a subtable in memory, a block at a time.
+ghost use Rattle.std.specs.Prelude.{◌≡◌, ◌+◌, ◌*◌, ◌<◌, ◌≤◌, ◌^◌, [], ◌++◌, length, true, false, IfOk};
+ghost use Rattle.szg_block.specs.Block.{block_at};
+ghost use Rattle.szg_block.specs.Subtable.{packed_of, IsShaped, IsSoundOver};
+ghost use Rattle.szg_build.specs.BlockValues.{blocks_of, left_of, IsAtBlock};
+
+use std::alloc::AllocError;
+use std::marker::Model;
+use szg_block::{Sub, decode_block};
+
+/// Returns block `n` of `packed`, whose blocks have `2^block_bits` bytes each.
+fn block_of(packed: &[u8], block_bits: u8, n: usize) -> &[u8]
+    requires bits { block_bits ≤ 18 }
+    requires there { (n + 1) * 2 ^ block_bits ≤ length packed.now }
+    ensures block { result.now ≡ block_at block_bits packed.now n }
+    ensures whole { length result.now ≡ 2 ^ block_bits }
+{
+    let bytes = 1 << block_bits;
+    let first = n * bytes;
+    &packed[first..first + bytes]
+}
+
+/// Returns the number of a subtable's blocks; 0 if it is constant.
+fn block_count(sub: &Sub) -> u32
+    ensures { result ≡ blocks_of sub.now }
+{
+    match sub {
+        Sub::Constant { .. } => 0,
+        Sub::Pairs { blocks, .. } => *blocks,
+    }
+}
+
+/// Decodes the values of block `n` into `values`, in place of what `values` held. Returns the number of values before
+/// the next block. Errors: an allocation was refused.
+fn decode_at(
+    sub: &Sub,
+    size: u64,
+    n: u32,
+    before: u64,
+    values: &mut Vec<u16>,
+) -> Result<u64, AllocError>
+    requires at { IsAtBlock sub.now size n before }
+    requires there { n < blocks_of sub.now }
+    ensures values { IfOk result (λ _. (left_of sub.now size n).values ≡ values.new.items ++ (left_of sub.now size (n + 1)).values) }
+    ensures next { IfOk result (λ next. IsAtBlock sub.now size (n + 1) next) }
+{
+    values.clear();
+    let Sub::Pairs {
+        block_bits,
+        lengths,
+        packed,
+        ..
+    } = sub
+    else {
+        unreachable!()
+    };
+    let block = block_of(packed, *block_bits, n as usize);
+    decode_block(sub, size, n, before, block, values)?;
+    Ok(before + u64::from(lengths[n as usize]) + 1)
+}
+
+/// The blocks of a subtable that are still to be decoded.
+#[derive(Drop)]
+pub struct BlockValues<'a> {
+    sub: &'a Sub,
+    size: u64,
+    // the number of the next block
+    next: u32,
+    // the number of values before it
+    before: u64,
+}
+
+impl<'a> Model for BlockValues<'a> {
+    ghost use Rattle.szg_build.specs.BlockValues.{Left, left_of, IsAtBlock};
+
+    ghost Value = { Left };
+
+    ghost view = { λ left. left_of left.sub.now left.size left.next };
+
+    ghost invariant = { λ left. IsAtBlock left.sub.now left.size left.next left.before };
+}
+
+impl<'a> BlockValues<'a> {
+    /// Decodes the values of the next block into `values`, in place of what it held. False if no block is left. Errors:
+    /// an allocation was refused.
+    pub fn decode_next(&mut self, values: &mut Vec<u16>) -> Result<bool, AllocError>
+        ensures values { IfOk result (λ more. more ≡ true → self.old.values ≡ values.new.items ++ self.new.values) }
+        ensures fewer { IfOk result (λ more. more ≡ true → self.new.blocks < self.old.blocks) }
+        ensures none { IfOk result (λ more. more ≡ false → self.old.values ≡ []) }
+    {
+        if self.next >= block_count(self.sub) {
+            return Ok(false);
+        }
+        self.before = decode_at(self.sub, self.size, self.next, self.before, values)?;
+        self.next += 1;
+        Ok(true)
+    }
+}
+
+/// Returns all blocks of a sound subtable that is not constant, still to be decoded.
+pub(crate) fn blocks_from(sub: &Sub, size: u64) -> BlockValues<'_>
+    requires shaped { IsShaped sub.now size }
+    requires sound { IsSoundOver sub.now (packed_of sub.now) size }
+    ensures { result ≡ left_of sub.now size 0 }
+{
+    BlockValues {
+        sub,
+        size,
+        next: 0,
+        before: 0,
+    }
+}

@@ -1,0 +1,101 @@
+//! Reads a file, and writes the dump of its table while it is read.
+ghost use Rattle.std.specs.Prelude.{◌≡◌, ◌⊎◌, [], IsErrOf, IsTrue, OnOk, true};
+ghost use Rattle.szg_io.specs.Device.{HasFailed};
+ghost use Rattle.szg_io.specs.Moved.{Gives, Takes};
+ghost use Rattle.szg_file.specs.Checked.{IsTable};
+ghost use Rattle.szg_file.specs.Held.{Shown, file_bytes};
+ghost use Rattle.szg_file.specs.Index.{index_of};
+ghost use Rattle.szg_build.specs.Built.{IsDumpOf};
+ghost use Rattle.szg_build.specs.Dump.{Dump};
+ghost use Rattle.szg_build.specs.Shown.{form_of};
+ghost use Rattle.szg_build.specs.Text.{dump_text};
+ghost use Rattle.szg_build.specs.declared.writing.dumping.StreamFault.TheVariants.{Output};
+
+use crate::writing::streaming::{begin_dump, end_dump};
+use std::alloc::Global;
+use szg_file::{Ahead, ReadFault, TableIndex, WriteFault, stream_values};
+use szg_io::{Input, Output};
+
+/// Why a dump was not written whole while its file was read. A beginning of its text may have been written.
+#[derive(Clone, Copy, Debug, PartialEq, Eq, Drop)]
+pub enum StreamFault {
+    /// The file is refused, or its index or its last bytes are not those passed to `stream_dump`.
+    Changed,
+    /// The reader failed.
+    Input,
+    /// The writer failed.
+    Output,
+    /// Memory was refused.
+    Memory,
+}
+
+impl From<WriteFault> for StreamFault {
+    ghost from_gives = { λ _ fault. fault ≡ Output };
+
+    fn from(_fault: WriteFault) -> StreamFault {
+        StreamFault::Output
+    }
+}
+
+/// Reads the file of a table that has this index and these last sixteen bytes, from the reader's first byte on, and
+/// writes the text of its dump: in form 1 a line for each value, in form 2 a line for each maximal run of equal values.
+/// The lines of a block's values are written once the block passed its check. Of the blocks, one at a time is kept in
+/// memory, with its values.
+///
+/// A first reading by `stream_values` with `NoSink` returns the index and the last bytes. Errors: `Changed` if the file
+/// is not that of such a table, `Input` if the reader failed, `Output` if the writer failed, `Memory` if memory was
+/// refused. A part of the text may have been written then.
+pub fn stream_dump<R: Input + Ahead, W: Output>(
+    alloc: Global,
+    index: &TableIndex,
+    last: &[u8; 16],
+    form: u8,
+    input: &mut R,
+    output: &mut W,
+) -> Result<(), StreamFault>
+    requires form { (form ≡ 1) ⊎ (form ≡ 2) }
+    requires first { R.moved input.old ≡ [] }
+    // exactly the file of a table with this index was read, and exactly the text of its dump was written
+    ensures dumped { OnOk result ((t : Shown) × IsTable index.now.material index.now.kind t × (index.now ≡ index_of t.contents) × Takes R.Input input.old input.new (file_bytes t) 1
+        × (dump : Dump) × IsDumpOf dump t.contents × Gives W.Output output.old output.new (dump_text (form_of form) dump) 0) }
+    ensures input { IsErrOf result StreamFault.Input → HasFailed (R.failures input.old) (R.failures input.new) (R.interrupted input.new) }
+    ensures may_fail { IsErrOf result StreamFault.Input → IsTrue (R.may_fail input.old) }
+{
+    let mut sink = begin_dump(index, last, form, output)?;
+    let material = index.material().copy();
+    match stream_values(alloc, material, index.kind(), input, &mut sink, output) {
+        Ok(stated) => {
+            if !has_same_front(&stated, index, last) {
+                return Err(StreamFault::Changed);
+            }
+        }
+        Err(fault) => return Err(stopped(fault, sink.failed)),
+    }
+    end_dump(&mut sink, output)?;
+    Ok(())
+}
+
+/// Returns whether a table that was read has this index and these last bytes. `stated` are the index and the last bytes
+/// that were read; material and kind are the same.
+fn has_same_front(stated: &(TableIndex, [u8; 16]), index: &TableIndex, last: &[u8; 16]) -> bool
+    ensures parts { (result ≡ true) → stated.now.0.parts ≡ index.now.parts }
+    ensures flags { (result ≡ true) → stated.now.0.flags ≡ index.now.flags }
+    ensures maps { (result ≡ true) → stated.now.0.maps ≡ index.now.maps }
+    ensures last { (result ≡ true) → stated.now.1 ≡ last.now }
+{
+    let (seen, end) = stated;
+    seen.has_same(index) && end == last
+}
+
+/// Converts a fault of `stream_values` into a `StreamFault`. If the writer failed (`failed`), the sink refused values,
+/// so `stream_values` returned `Memory`; the result is then `Output`.
+fn stopped(fault: ReadFault, failed: bool) -> StreamFault
+    ensures { (result ≡ StreamFault.Input) → fault ≡ ReadFault.Device }
+{
+    match fault {
+        ReadFault::Refused { .. } => StreamFault::Changed,
+        ReadFault::Device => StreamFault::Input,
+        ReadFault::Memory if failed => StreamFault::Output,
+        ReadFault::Memory => StreamFault::Memory,
+    }
+}

@@ -1,0 +1,351 @@
+//! Writes the dump of a table whose values come block by block.
+ghost use Rattle.std.specs.Prelude.{◌≡◌, ℕ, ◌+◌, ◌≤◌, ◌<◌, ◌⊎◌, [], ◌∷◌, ◌++◌, drop, length, min, map, replicate, get_or, true, false, None, Ok, OnOk, OnErr, Err, IsErrOf, IfOk, IsTrue, List};
+ghost use Rattle.szg_io.specs.Device.{HasFailed};
+ghost use Rattle.szg_io.specs.Moved.{Gives, Takes};
+ghost use Rattle.szg_values.specs.declared.Kind.{Kind};
+ghost use Rattle.szg_file.specs.Index.{index_of, slots_in};
+ghost use Rattle.szg_build.specs.Dump.{parts_of, subtable_ids_of};
+ghost use Rattle.szg_build.specs.Shown.{form_of};
+ghost use Rattle.szg_build.specs.Streaming.{Goes, IsDone, head_count, head_lines, heads_of, heads_text, no_head, sub_of, text_left};
+ghost use Rattle.szg_build.specs.Text.{flags_lines, front_lines, lines_text, part_lines, flat_map_beside, value_lines};
+ghost use Rattle.szg_build.specs.Writing.{Writing};
+
+use crate::places::places;
+use crate::writing::dump_sink::DumpSink;
+use crate::writing::outgoing::{Outgoing, flush};
+use crate::writing::{
+    put_flags_and_map, put_front, put_number, put_pair, put_parts, put_subtable_id, run_length,
+};
+use szg_file::{SinkFault, TableIndex, ValueSink, WriteFault};
+use szg_io::Output;
+use szg_values::Kind;
+
+// ---- runs
+
+/// Writes the line of a run, unless the run is empty.
+fn put_run<W: Output>(
+    count: u64,
+    value: u16,
+    output: &mut W,
+    outgoing: &mut Outgoing,
+) -> Result<(), WriteFault>
+    ensures written { OnOk result (Writing {X = Unit {0}} (lines_text (value_lines (form_of 2) (replicate count value))) outgoing.old outgoing.new W.Output output.old output.new (Ok tt)) }
+    ensures failed { OnErr result (HasFailed (W.failures output.old) (W.failures output.new) (W.interrupted output.new)) }
+{
+    if count == 0 {
+        return Ok(());
+    }
+    put_pair(b"", count, u64::from(value), output, outgoing)
+}
+
+/// Writes a value `count` times, each time on a line.
+fn put_same<W: Output>(
+    count: u64,
+    value: u16,
+    output: &mut W,
+    outgoing: &mut Outgoing,
+) -> Result<(), WriteFault>
+    ensures written { OnOk result (Writing {X = Unit {0}} (lines_text (value_lines (form_of 1) (replicate count value))) outgoing.old outgoing.new W.Output output.old output.new (Ok tt)) }
+    ensures failed { OnErr result (HasFailed (W.failures output.old) (W.failures output.new) (W.interrupted output.new)) }
+{
+    'lines: for _done in 0..count {
+        put_number(b"", u64::from(value), output, outgoing)?;
+    }
+    Ok(())
+}
+
+/// Writes equal values in form `form`.
+fn put_equal<W: Output>(
+    form: u8,
+    count: u64,
+    value: u16,
+    output: &mut W,
+    outgoing: &mut Outgoing,
+) -> Result<(), WriteFault>
+    ensures written { OnOk result (Writing {X = Unit {0}} (lines_text (value_lines (form_of form) (replicate count value))) outgoing.old outgoing.new W.Output output.old output.new (Ok tt)) }
+    ensures failed { OnErr result (HasFailed (W.failures output.old) (W.failures output.new) (W.interrupted output.new)) }
+{
+    if form == 2 {
+        put_run(count, value, output, outgoing)
+    } else {
+        put_same(count, value, output, outgoing)
+    }
+}
+
+// ---- the lines before a subtable's values
+
+/// Returns the number of subtables for which the index has a slot (part, side and size), and in DTZ also flags and an
+/// item in the list of maps.
+fn count_heads(index: &TableIndex) -> usize
+    ensures { result ≡ length (heads_of index.now) }
+{
+    match index.kind() {
+        Kind::Wdl => index.slots().len(),
+        Kind::Dtz => {
+            let flagged = index.slots().len().min(index.flags().len());
+            flagged.min(index.maps().len())
+        }
+    }
+}
+
+/// Returns the number of subtables of a table.
+fn count_subs(index: &TableIndex) -> usize
+    ensures { result ≡ head_count index.now }
+{
+    let places = places(index.material(), index.kind());
+    places.len().min(count_heads(index))
+}
+
+/// Writes the flags and the map of subtable `s` of a DTZ table. For a WDL table it writes nothing.
+fn put_flags_of<W: Output>(
+    index: &TableIndex,
+    s: usize,
+    output: &mut W,
+    outgoing: &mut Outgoing,
+) -> Result<(), WriteFault>
+    requires { s < length (heads_of index.now) }
+    ensures written { OnOk result (Writing {X = Unit {0}} (lines_text (flags_lines index.now.kind (sub_of (get_or (heads_of index.now) s no_head)))) outgoing.old outgoing.new W.Output output.old output.new (Ok tt)) }
+    ensures failed { OnErr result (HasFailed (W.failures output.old) (W.failures output.new) (W.interrupted output.new)) }
+{
+    match index.kind() {
+        Kind::Wdl => Ok(()),
+        Kind::Dtz => {
+            let flags = index.flags()[s] % 32;
+            put_flags_and_map(flags, &index.maps()[s], output, outgoing)
+        }
+    }
+}
+
+/// Returns the number of values of subtable `s`.
+fn size_of(index: &TableIndex, s: usize) -> u64
+    requires { s < length (heads_of index.now) }
+    ensures { result ≡ (get_or (heads_of index.now) s no_head).size }
+{
+    let slot = index.slots()[s];
+    slot.size
+}
+
+/// Writes the lines before the values of subtable `s`.
+fn put_head<W: Output>(
+    index: &TableIndex,
+    s: usize,
+    output: &mut W,
+    outgoing: &mut Outgoing,
+) -> Result<(), WriteFault>
+    requires { s < head_count index.now }
+    ensures written { OnOk result (Writing {X = Unit {0}} (lines_text (head_lines index.now.kind (get_or (subtable_ids_of index.now.material index.now.kind) s (0, 0)) (get_or (heads_of index.now) s no_head))) outgoing.old outgoing.new W.Output output.old output.new (Ok tt)) }
+    ensures failed { OnErr result (HasFailed (W.failures output.old) (W.failures output.new) (W.interrupted output.new)) }
+{
+    let places = places(index.material(), index.kind());
+    put_subtable_id(places[s], output, outgoing)?;
+    put_flags_of(index, s, output, outgoing)?;
+    put_number(b"values ", size_of(index, s), output, outgoing)
+}
+
+/// Writes the lines before the values of each subtable from number `from` on.
+fn put_heads<W: Output>(
+    index: &TableIndex,
+    from: usize,
+    output: &mut W,
+    outgoing: &mut Outgoing,
+) -> Result<(), WriteFault>
+    ensures written { OnOk result (Writing {X = Unit {0}} (heads_text index.now.kind (drop from (subtable_ids_of index.now.material index.now.kind)) (drop from (heads_of index.now))) outgoing.old outgoing.new W.Output output.old output.new (Ok tt)) }
+    ensures failed { OnErr result (HasFailed (W.failures output.old) (W.failures output.new) (W.interrupted output.new)) }
+{
+    'subtables: for s in from..count_subs(index) {
+        put_head(index, s, output, outgoing)?;
+    }
+    Ok(())
+}
+
+// ---- the sink
+
+/// Creates a sink for the dump of a table with this index, and writes the lines before the subtables.
+pub(crate) fn begin_dump<'a, W: Output>(
+    index: &'a TableIndex,
+    last: &[u8; 16],
+    form: u8,
+    output: &mut W,
+) -> Result<DumpSink<'a>, WriteFault>
+    requires { (form ≡ 1) ⊎ (form ≡ 2) }
+    ensures index { IfOk result (λ sink. sink.index.now ≡ index.now) }
+    ensures begun { IfOk result (λ sink. (sink.form ≡ form) × (sink.next ≡ 0) × (sink.left ≡ 0) × (sink.count ≡ 0)) }
+    ensures given { IfOk result (λ sink. (bytes : List ℕ) × Gives W.Output output.old output.new bytes 0
+        × (bytes ++ sink.outgoing.held.items ≡ lines_text (front_lines (form_of form) index.now.material index.now.kind last.now) ++ lines_text (flat_map_beside part_lines (parts_of index.now.material) index.now.parts))) }
+    ensures failed { OnErr result (HasFailed (W.failures output.old) (W.failures output.new) (W.interrupted output.new)) }
+    ensures quiet { OnOk result (W.failures output.new ≡ W.failures output.old) }
+{
+    let mut outgoing = Outgoing::new();
+    let material = index.material();
+    put_front(form, material, index.kind(), last, output, &mut outgoing)?;
+    put_parts(material, index.parts(), output, &mut outgoing)?;
+    Ok(DumpSink {
+        index,
+        form,
+        next: 0,
+        left: 0,
+        count: 0,
+        value: 0,
+        outgoing,
+        failed: false,
+    })
+}
+
+/// Writes the lines of the current run, and then the lines before the values of the next subtable.
+fn begin_sub<W: Output>(sink: &mut DumpSink<'_>, output: &mut W) -> Result<(), WriteFault>
+    requires whole { sink.old.left ≡ 0 }
+    requires there { sink.old.next < head_count sink.old.index.now }
+    ensures goes { OnOk result (Goes W.Output [] sink.old output.old sink.new output.new) }
+    ensures next { OnOk result (sink.new.next ≡ sink.old.next + 1) }
+    ensures failed { OnErr result (HasFailed (W.failures output.old) (W.failures output.new) (W.interrupted output.new)) }
+    ensures index { OnOk result (sink.new.index ≡ sink.old.index) }
+{
+    put_equal(
+        sink.form,
+        sink.count,
+        sink.value,
+        output,
+        &mut sink.outgoing,
+    )?;
+    put_head(sink.index, sink.next, output, &mut sink.outgoing)?;
+    sink.count = 0;
+    sink.left = size_of(sink.index, sink.next);
+    sink.next += 1;
+    Ok(())
+}
+
+/// Begins subtables until the current one needs a value. False if none of the subtables left does.
+fn find_room<W: Output>(sink: &mut DumpSink<'_>, output: &mut W) -> Result<bool, WriteFault>
+    ensures goes { OnOk result (Goes W.Output [] sink.old output.old sink.new output.new) }
+    ensures room { IfOk result (λ found. found ≡ true → 0 < sink.new.left) }
+    ensures none { IfOk result (λ found. found ≡ false → IsDone sink.new) }
+    ensures failed { OnErr result (HasFailed (W.failures output.old) (W.failures output.new) (W.interrupted output.new)) }
+{
+    'begun: while sink.left == 0 {
+        if sink.next >= count_subs(sink.index) {
+            return Ok(false);
+        }
+        begin_sub(sink, output)?;
+    }
+    Ok(true)
+}
+
+/// Adds `count` equal values, all of which the current subtable still needs. If they do not lengthen the current run,
+/// its lines are written first.
+fn add_run<W: Output>(
+    sink: &mut DumpSink<'_>,
+    value: u16,
+    count: u64,
+    output: &mut W,
+) -> Result<(), WriteFault>
+    requires some { 0 < count }
+    requires within { count ≤ sink.old.left }
+    ensures goes { OnOk result (Goes W.Output (replicate count value) sink.old output.old sink.new output.new) }
+    ensures failed { OnErr result (HasFailed (W.failures output.old) (W.failures output.new) (W.interrupted output.new)) }
+{
+    if sink.count > 0 && sink.value == value {
+        sink.left -= count;
+        sink.count += count;
+        return Ok(());
+    }
+    put_equal(
+        sink.form,
+        sink.count,
+        sink.value,
+        output,
+        &mut sink.outgoing,
+    )?;
+    sink.left -= count;
+    sink.value = value;
+    sink.count = count;
+    Ok(())
+}
+
+/// Adds a value `count` times.
+pub(crate) fn add_same<W: Output>(
+    sink: &mut DumpSink<'_>,
+    value: u16,
+    count: u64,
+    output: &mut W,
+) -> Result<(), WriteFault>
+    ensures goes { OnOk result (Goes W.Output (replicate count value) sink.old output.old sink.new output.new) }
+    ensures failed { OnErr result (HasFailed (W.failures output.old) (W.failures output.new) (W.interrupted output.new)) }
+{
+    let mut more = count;
+    'values: while more > 0 {
+        if !find_room(sink, output)? {
+            return Ok(());
+        }
+        let now = more.min(sink.left);
+        add_run(sink, value, now, output)?;
+        more -= now;
+    }
+    Ok(())
+}
+
+/// Adds values to the dump. Values after those of the last subtable are ignored.
+pub(crate) fn add_values<W: Output>(
+    sink: &mut DumpSink<'_>,
+    values: &[u16],
+    output: &mut W,
+) -> Result<(), WriteFault>
+    ensures goes { OnOk result (Goes W.Output values.now sink.old output.old sink.new output.new) }
+    ensures failed { OnErr result (HasFailed (W.failures output.old) (W.failures output.new) (W.interrupted output.new)) }
+{
+    let mut from = 0;
+    'runs: while from < values.len() {
+        let count = run_length(&values[from..]);
+        add_same(sink, values[from], count as u64, output)?;
+        from += count;
+    }
+    Ok(())
+}
+
+/// Writes the rest of the dump after the last values, and the bytes that are still buffered.
+pub(crate) fn end_dump<W: Output>(sink: &mut DumpSink<'_>, output: &mut W) -> Result<(), WriteFault>
+    ensures given { OnOk result (Gives W.Output output.old output.new (sink.old.outgoing.held.items ++ text_left sink.old []) 0) }
+    ensures failed { OnErr result (HasFailed (W.failures output.old) (W.failures output.new) (W.interrupted output.new)) }
+{
+    put_equal(
+        sink.form,
+        sink.count,
+        sink.value,
+        output,
+        &mut sink.outgoing,
+    )?;
+    put_heads(sink.index, sink.next, output, &mut sink.outgoing)?;
+    flush(output, &mut sink.outgoing)
+}
+
+impl<W: Output> ValueSink<W> for DumpSink<'_> {
+    ghost use Rattle.std.specs.Prelude.{true};
+    ghost use Rattle.szg_build.specs.Streaming.{Goes};
+
+    ghost wanted = { λ _ _ _. true };
+
+    ghost accepts = { λ s out values s' out'. Goes W.Output values s out s' out' };
+
+    fn wants(&self, _part: u8, _side: u8) -> bool {
+        true
+    }
+
+    fn put(&mut self, values: &[u16], out: &mut W) -> Result<(), SinkFault> {
+        match add_values(self, values, out) {
+            Ok(()) => Ok(()),
+            Err(_) => {
+                self.failed = true;
+                Err(SinkFault)
+            }
+        }
+    }
+
+    fn put_same(&mut self, value: u16, count: u64, out: &mut W) -> Result<(), SinkFault> {
+        match add_same(self, value, count, out) {
+            Ok(()) => Ok(()),
+            Err(_) => {
+                self.failed = true;
+                Err(SinkFault)
+            }
+        }
+    }
+}

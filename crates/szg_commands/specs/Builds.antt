@@ -1,0 +1,80 @@
+-- What building the table of a dump does to the reader and to the writer.
+use Rattle.std.specs.Prelude.{◌≡◌, ◌⊎◌, List, [], ℕ, Option, Some}
+use Rattle.szg_io.specs.Moved.{Takes, Gives}
+use Rattle.szg_io.specs.declared.device.Input as input
+use Rattle.szg_io.specs.declared.device.Output as output
+use Rattle.szg_file.specs.Accepted.{IsAccepted}
+use Rattle.szg_file.specs.Contents.{Contents}
+use Rattle.szg_file.specs.Held.{Shown, file_bytes}
+use Rattle.szg_build.specs.Built.{IsBuilt, IsBuiltSmall, dump_plan}
+use Rattle.szg_build.specs.Dump.{Dump}
+use Rattle.szg_build.specs.Grammar.{dump_format}
+use Rattle.szg_build.specs.Lines.{Verdict, good, verdict}
+use Rattle.szg_build.specs.Plan.{Plan, build_fault}
+use Rattle.szg_build.specs.Reading.{IsLineFault, IsPlanFault, EndsWith}
+use Rattle.szg_build.specs.declared.BuildFault.{BuildFault}
+use Rattle.szg_build.specs.declared.building.Choice.{Choice}
+use Rattle.szg_build.specs.declared.building.Choice.TheVariants as by_choice
+use Rattle.szg_commands.specs.declared.refusal.Refusal.{Refusal}
+use Rattle.szg_commands.specs.declared.refusal.Refusal.TheVariants as why
+use Rattle.szg_commands.specs.declared.request.Packing.{Packing}
+use Rattle.szg_commands.specs.declared.request.Packing.TheVariants.{Fixed, Small}
+
+-- the plan of a dump's table; the numbers of a small plan bind nothing
+abbrev pub plan_in : Packing → Dump → Plan
+plan_in (Fixed sizes) dump = dump_plan dump sizes.block_bits sizes.span_bits sizes.rounds
+plan_in Small dump = dump_plan dump 5 1 0
+
+-- how the builder packs it
+abbrev pub choice_in : Packing → Choice
+choice_in (Fixed sizes) = by_choice.Fixed (record { block_bits = sizes.block_bits; span_bits = sizes.span_bits; rounds = sizes.rounds })
+choice_in Small = by_choice.Small
+
+-- the table that is built of a dump
+abbrev pub IsBuiltIn : Packing → Dump → Contents → Type 0
+IsBuiltIn (Fixed sizes) dump t = IsBuilt (plan_in (Fixed sizes) dump) dump.lists t
+IsBuiltIn Small dump t = IsBuiltSmall (plan_in Small dump) dump.lists t
+
+-- Exactly the text of this dump was taken from the reader.
+pub record IsTextOf {R : Type 0} (reading : input.Ghosts R) (reader reader' : R) (dump : Dump) : Type 0 where
+  pub bytes : List ℕ
+  pub taken : Takes reading reader reader' bytes 1
+  pub lines : ℕ
+  pub tells : verdict dump_format 0 bytes ≡ good dump lines []
+
+-- Just the text of a dump was taken from the reader, and just the file of an accepted table that is built of it in this
+-- packing was given to the writer.
+pub record IsMade {R W : Type 0} (reading : input.Ghosts R) (writing : output.Ghosts W) (packing : Packing)
+    (reader reader' : R) (writer writer' : W) : Type 0 where
+  pub dump : Dump
+  pub text : IsTextOf reading reader reader' dump
+  pub table : Shown
+  pub built : IsBuiltIn packing dump table.contents
+  pub accepted : IsAccepted table.contents table.filled
+  pub given : Gives writing writer writer' (file_bytes table) 0
+
+-- the verdict on a text refuses it by this
+abbrev pub IsTextRefusal : Verdict Dump → Refusal → Option (List ℕ) → Type 0
+IsTextRefusal v (why.Line number fault) coming = IsLineFault v number fault × EndsWith v coming
+IsTextRefusal v (why.Build fault) coming = IsPlanFault v fault
+IsTextRefusal v refusal coming = ⊥
+
+-- The bytes that were taken are no dump, and the refusal is their verdict's.
+pub record IsRefusedText {R : Type 0} (reading : input.Ghosts R) (reader reader' : R) (refusal : Refusal) : Type 0 where
+  pub bytes : List ℕ
+  pub taken : Takes reading reader reader' bytes 1
+  pub refused : IsTextRefusal (verdict dump_format 0 bytes) refusal (reading.coming reader')
+
+-- The plan and the lists of values are refused by this.
+abbrev pub IsRefusedPlan : Plan → List (List ℕ) → Refusal → Type 0
+IsRefusedPlan plan lists refusal = (fault : BuildFault) × (refusal ≡ why.Build fault) × (build_fault plan lists ≡ Some fault)
+
+-- A dump was read, and no table can be built of it.
+pub record IsRefusedDump {R : Type 0} (reading : input.Ghosts R) (packing : Packing) (reader reader' : R) (refusal : Refusal) : Type 0 where
+  pub dump : Dump
+  pub text : IsTextOf reading reader reader' dump
+  pub refused : IsRefusedPlan (plan_in packing dump) dump.lists refusal
+
+-- No table was built: the text is refused, or its dump.
+abbrev pub IsUnmade : {R : Type 0} → input.Ghosts R → Packing → R → R → Refusal → Type 0
+IsUnmade reading packing reader reader' refusal = IsRefusedText reading reader reader' refusal ⊎ IsRefusedDump reading packing reader reader' refusal

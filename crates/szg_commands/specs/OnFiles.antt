@@ -1,0 +1,215 @@
+-- What a command on files by their paths does.
+use Rattle.std.specs.Borrow.{Bor}
+use Rattle.std.specs.Prelude.{◌≡◌, ◌⊎◌, ℕ, List, map, Option, Some, None, IsSome, option_map, Ok, Err}
+use Rattle.szg_io.specs.declared.device.Input as input
+use Rattle.szg_io.specs.declared.device.Output as output
+use Rattle.szg_io.specs.Device.{HasFailed}
+use Rattle.szg_io.specs.Moved.{Takes, Gives}
+use Rattle.szg_file.specs.Accepted.{IsAccepted}
+use Rattle.szg_file.specs.Held.{Shown, file_bytes}
+use Rattle.szg_build.specs.Dump as stated
+use Rattle.szg_files.specs.Draft.{published_target, published_text}
+use Rattle.szg_files.specs.FileSystem.{IsOpened}
+use Rattle.szg_files.specs.declared.draft.Published.{Published}
+use Rattle.szg_named.specs.Requested.{files_to_check}
+use Rattle.szg_named.specs.Verdicts.{IsReport, plain_options}
+use Rattle.szg_named.specs.declared.many.CheckOptions.{CheckOptions}
+use Rattle.szg_named.specs.declared.stop.Stop.TheVariants as check_stops
+use Rattle.szg_named.specs.declared.stop.Tally.{Tally}
+use Rattle.szg_commands.specs.Answers.{IsAnswer}
+use Rattle.szg_commands.specs.Builds.{IsBuiltIn, IsTextOf}
+use Rattle.szg_commands.specs.Chosen.{AsksFor, AsksForJob, AsksForNoJob, AsksForNone}
+use Rattle.szg_commands.specs.Fronts.{AnswersIn, MeetsIn}
+use Rattle.szg_commands.specs.Outcome.{OnDone, OnRefused, OnWords}
+use Rattle.szg_commands.specs.RefusalLines.{refusal_line}
+use Rattle.szg_commands.specs.Requests.{IsBegunBy, IsCarriedOut, IsListed, IsRefusedWith, IsTableOf, Meets}
+use Rattle.clap.specs.declared.parser.matches.ArgMatches.{ArgMatches}
+use Rattle.szg_commands.specs.declared.command_line.CommandForm.{CommandForm}
+use Rattle.szg_commands.specs.declared.file_words.FileJob.{FileJob}
+use Rattle.szg_commands.specs.declared.file_words.FileJob.TheVariants.{Check, LookUp, Run}
+use Rattle.szg_commands.specs.declared.refusal.Refusal.{Refusal}
+use Rattle.szg_commands.specs.declared.on_files.Ending.{Ending}
+use Rattle.szg_commands.specs.declared.on_files.Ending.TheVariants as endings
+use Rattle.szg_commands.specs.declared.outcome.Outcome.{Outcome}
+use Rattle.szg_commands.specs.declared.outcome.Outcome.TheVariants as outcomes
+use Rattle.szg_commands.specs.declared.request.Request.{Request}
+use Rattle.szg_commands.specs.declared.request.Task.{Task}
+use Rattle.szg_commands.specs.declared.request.Task.TheVariants.{OnTable, Build}
+
+-- ---- one task
+
+-- Just the file of an accepted table, or the text of a dump, was taken from the reader, and this text is the task's answer.
+abbrev pub IsAnswerOf : {R : Type 0} → input.Ghosts R → Task → R → R → List ℕ → Type 0
+IsAnswerOf reading (OnTable request) reader reader' text =
+    (table : Shown) × IsTableOf request table × Takes reading reader reader' (file_bytes table) 1 × IsAnswer request.action request.part request.side table text
+IsAnswerOf reading (Build packing) reader reader' text =
+    (dump : stated.Dump) × IsTextOf reading reader reader' dump × (table : Shown) × IsBuiltIn packing dump table.contents
+    × IsAccepted table.contents table.filled × (text ≡ file_bytes table)
+
+-- The file that was asked for has just the task's answer.
+abbrev pub IsPublishedBy : {R : Type 0} → input.Ghosts R → Task → List ℕ → R → R → Published → Type 0
+IsPublishedBy reading task target reader reader' published =
+    (published_target published ≡ target) × IsAnswerOf reading task reader reader' (published_text published)
+
+-- The task was carried out: its answer was given to the writer, or is in the file that was asked for.
+abbrev pub IsCarriedTo : {R W : Type 0} → input.Ghosts R → output.Ghosts W → Task → Option (List ℕ) → R → R → W → W → Option Published → Type 0
+IsCarriedTo reading writing task None reader reader' writer writer' None = IsCarriedOut reading writing task reader reader' writer writer'
+IsCarriedTo reading writing task (Some target) reader reader' writer writer' (Some published) =
+    (writer' ≡ writer) × IsPublishedBy reading task target reader reader' published
+IsCarriedTo reading writing task target reader reader' writer writer' published = ⊥
+
+-- The same, on the file that the system opened at a path.
+abbrev pub IsCarriedFrom : {S F W : Type 0} → (S → List ℕ → Option (List ℕ)) → (S → ℕ) → input.Ghosts F → output.Ghosts W → Task → List ℕ → Option (List ℕ) → S → S → W → W → Option Published → Type 0
+IsCarriedFrom {F = F} content failures reading writing task source target system system' writer writer' published =
+    (file : F) × (file' : F) × IsOpened content failures reading system system' source file
+    × IsCarriedTo reading writing task target file file' writer writer' published
+
+-- The file that was asked for has just the task's answer on the file that the system opened at a path.
+abbrev pub IsPublishedFrom : {S F : Type 0} → (S → List ℕ → Option (List ℕ)) → (S → ℕ) → input.Ghosts F → Task → List ℕ → List ℕ → S → S → Published → Type 0
+IsPublishedFrom {F = F} content failures reading task source target system system' published =
+    (file : F) × (file' : F) × IsOpened content failures reading system system' source file × IsPublishedBy reading task target file file' published
+
+-- The task meets a refusal on the file that the system opened at a path.
+abbrev pub MeetsFrom : {S F : Type 0} → (S → List ℕ → Option (List ℕ)) → (S → ℕ) → input.Ghosts F → Task → List ℕ → S → S → Refusal → Type 0
+MeetsFrom {F = F} content failures reading task source system system' refusal =
+    (file : F) × (file' : F) × IsOpened content failures reading system system' source file × Meets reading task file file' refusal
+
+-- Memory was refused: nothing was written, or, by `values`, a beginning of the answer.
+abbrev pub IsStarted : {R W : Type 0} → input.Ghosts R → output.Ghosts W → Task → R → R → W → W → Type 0
+IsStarted reading writing task reader reader' writer writer' = (writer' ≡ writer) ⊎ IsBegunBy reading writing task reader reader' writer writer'
+
+-- The same, on a file that the system opened at a path.
+abbrev pub IsStartedFrom : {S F W : Type 0} → (S → List ℕ → Option (List ℕ)) → (S → ℕ) → input.Ghosts F → output.Ghosts W → Task → List ℕ → S → S → W → W → Type 0
+IsStartedFrom {F = F} content failures reading writing task source system system' writer writer' =
+    (writer' ≡ writer) ⊎ ((file : F) × (file' : F) × IsOpened content failures reading system system' source file × IsBegunBy reading writing task file file' writer writer')
+
+-- Nothing was written, or the writer failed.
+abbrev pub IsUnwritten : {W : Type 0} → output.Ghosts W → W → W → Type 0
+IsUnwritten writing writer writer' = (writer' ≡ writer) ⊎ HasFailed (writing.failures writer) (writing.failures writer') (writing.interrupted writer')
+
+-- The task lists the values of a file for the writer: they are written while the file is read.
+abbrev pub IsListing : {S T : Type 0} → Task → Option S → Option T → Type 0
+IsListing task source target = (request : Request) × (task ≡ OnTable request) × IsListed request.action × IsSome source × (target ≡ None)
+
+-- ---- how a command line ends
+
+-- A task that names files was carried out, or refused, or a device failed or memory was refused.
+abbrev pub EndsTask : Ending → (Option Published → Type 0) → Type 0 → Type 0 → Type 0 → Type 0
+EndsTask (endings.Done published) Done Refused Failed Short = Done published
+EndsTask endings.Refused Done Refused Failed Short = Refused
+EndsTask (endings.Failed failure) Done Refused Failed Short = Failed
+EndsTask endings.Device Done Refused Failed Short = Failed
+EndsTask endings.Memory Done Refused Failed Short = Short
+EndsTask (endings.Checked stated) Done Refused Failed Short = ⊥
+EndsTask (endings.Words outcome) Done Refused Failed Short = ⊥
+
+-- Files were checked: all of them, or the writer failed, or memory was refused.
+abbrev pub AreChecked : Ending → (Tally → Type 0) → Type 0 → Type 0
+AreChecked (endings.Checked (Ok tally)) Report Failed = Report tally
+AreChecked (endings.Checked (Err check_stops.Device)) Report Failed = Failed
+AreChecked (endings.Checked (Err check_stops.Memory)) Report Failed = Unit {0}
+AreChecked ending Report Failed = ⊥
+
+-- What a run on a reader does: the clauses of `run`. The words may as well ask for no job on files.
+pub record HasRun {R W : Type 0} (finds : CommandForm → List (List ℕ) → ArgMatches → Type 0) (refuses : CommandForm → List (List ℕ) → Type 0) (reading : input.Ghosts R) (writing : output.Ghosts W)
+    (words : List (List ℕ)) (outcome : Outcome) (reader reader' : R) (writer writer' : W) : Type 0 where
+  pub stated : OnDone outcome ((task : Task) × AsksFor finds words task × IsCarriedOut reading writing task reader reader' writer writer')
+  pub refused : OnRefused outcome ((task : Task) × AsksFor finds words task × IsRefusedWith reading writing task reader reader' writer writer')
+  pub none : OnWords outcome ((reader' ≡ reader) × (writer' ≡ writer) × (AsksForNone finds refuses words ⊎ AsksForNoJob finds refuses words))
+  pub calls : (bytes : List ℕ) × Takes reading reader reader' bytes 1
+  pub device : (outcome ≡ outcomes.Device) → (HasFailed (reading.failures reader) (reading.failures reader') (reading.interrupted reader') × (writer' ≡ writer))
+      ⊎ HasFailed (writing.failures writer) (writing.failures writer') (writing.interrupted writer')
+  pub memory : (outcome ≡ outcomes.Memory) → (writer' ≡ writer) ⊎ ((task : Task) × AsksFor finds words task × IsBegunBy reading writing task reader reader' writer writer')
+
+-- A look-up was answered by the front of the file at a path: just its line was given to the writer.
+abbrev pub HasLookedUp : {S F W : Type 0} → (S → List ℕ → Option (List ℕ)) → (S → ℕ) → input.Ghosts F → output.Ghosts W → Request → List ℕ → S → S → W → W → Type 0
+HasLookedUp {F = F} content failures filing writing request source system system' writer writer' =
+    (file : F) × IsOpened content failures filing system system' source file
+    × (text : List ℕ) × AnswersIn filing request file text × Gives writing writer writer' text 0
+
+-- It met a refusal, and just its line was given to the writer.
+abbrev pub HasRefusedLookUp : {S F W : Type 0} → (S → List ℕ → Option (List ℕ)) → (S → ℕ) → input.Ghosts F → output.Ghosts W → Request → List ℕ → S → S → W → W → Type 0
+HasRefusedLookUp {F = F} content failures filing writing request source system system' writer writer' =
+    (file : F) × IsOpened content failures filing system system' source file
+    × (refusal : Refusal) × MeetsIn filing request file refusal × Gives writing writer writer' (refusal_line refusal) 0
+
+-- A task was carried out on the file at a path, and the reader stays; or on the reader, and the system stays.
+abbrev pub HasDoneTask : {S F R W : Type 0} → (S → List ℕ → Option (List ℕ)) → (S → ℕ) → input.Ghosts F → input.Ghosts R → output.Ghosts W → Task → Option (Bor (List ℕ)) → Option (Bor (List ℕ)) → S → S → R → R → W → W → Option Published → Type 0
+HasDoneTask content failures filing reading writing task (Some source) target system system' reader reader' writer writer' published =
+    (reader' ≡ reader) × IsCarriedFrom content failures filing writing task source.now (option_map (λ path. path.now) target) system system' writer writer' published
+HasDoneTask content failures filing reading writing task None target system system' reader reader' writer writer' published =
+    (system' ≡ system) × IsCarriedTo reading writing task (option_map (λ path. path.now) target) reader reader' writer writer' published
+
+-- A task met a refusal so, and just its line was given to the writer.
+abbrev pub HasRefusedTask : {S F R W : Type 0} → (S → List ℕ → Option (List ℕ)) → (S → ℕ) → input.Ghosts F → input.Ghosts R → output.Ghosts W → Task → Option (Bor (List ℕ)) → S → S → R → R → W → W → Type 0
+HasRefusedTask content failures filing reading writing task (Some source) system system' reader reader' writer writer' =
+    (reader' ≡ reader) × (refusal : Refusal) × MeetsFrom content failures filing task source.now system system' refusal × Gives writing writer writer' (refusal_line refusal) 0
+HasRefusedTask content failures filing reading writing task None system system' reader reader' writer writer' =
+    (system' ≡ system) × (refusal : Refusal) × Meets reading task reader reader' refusal × Gives writing writer writer' (refusal_line refusal) 0
+
+-- Memory was refused to a task so.
+abbrev pub IsShortOfMemory : {S F R W : Type 0} → (S → List ℕ → Option (List ℕ)) → (S → ℕ) → input.Ghosts F → input.Ghosts R → output.Ghosts W → Task → Option (Bor (List ℕ)) → S → S → R → R → W → W → Type 0
+IsShortOfMemory content failures filing reading writing task (Some source) system system' reader reader' writer writer' =
+    (reader' ≡ reader) × IsStartedFrom content failures filing writing task source.now system system' writer writer'
+IsShortOfMemory content failures filing reading writing task None system system' reader reader' writer writer' =
+    (system' ≡ system) × IsStarted reading writing task reader reader' writer writer'
+
+-- ---- what the words ask for
+
+-- The words ask to check these files, with these options.
+abbrev pub IsCheckOf : FileJob → CheckOptions → List (List ℕ) → Type 0
+IsCheckOf (Check options found) options' paths = (options' ≡ options) × (paths ≡ map (λ path. path.now) found.items)
+IsCheckOf job options' paths = ⊥
+
+abbrev pub AsksToCheck : (CommandForm → List (List ℕ) → ArgMatches → Type 0) → List (List ℕ) → CheckOptions → List (List ℕ) → Type 0
+AsksToCheck finds words options paths = ((files_to_check words ≡ Some paths) × (options ≡ plain_options)) ⊎ ((job : FileJob) × AsksForJob finds words job × IsCheckOf job options paths)
+
+-- The task that the words ask for was carried out; or the look-up was answered by a front, no file was written, and the
+-- reader stays.
+abbrev pub HasDone : {S F R W : Type 0} → (CommandForm → List (List ℕ) → ArgMatches → Type 0) → (S → List ℕ → Option (List ℕ)) → (S → ℕ) → input.Ghosts F → input.Ghosts R → output.Ghosts W → List (List ℕ) → S → S → R → R → W → W → Option Published → Type 0
+HasDone finds content failures filing reading writing words system system' reader reader' writer writer' published =
+    ((task : Task) × (source : Option (Bor (List ℕ))) × (target : Option (Bor (List ℕ))) × AsksForJob finds words (Run task source target)
+    × HasDoneTask content failures filing reading writing task source target system system' reader reader' writer writer' published)
+    ⊎ ((request : Request) × (source : Bor (List ℕ)) × AsksForJob finds words (LookUp request source) × (published ≡ None) × (reader' ≡ reader)
+    × HasLookedUp content failures filing writing request source.now system system' writer writer')
+
+-- The task that they ask for met a refusal; or the look-up by a front did, and the reader stays.
+abbrev pub HasRefused : {S F R W : Type 0} → (CommandForm → List (List ℕ) → ArgMatches → Type 0) → (S → List ℕ → Option (List ℕ)) → (S → ℕ) → input.Ghosts F → input.Ghosts R → output.Ghosts W → List (List ℕ) → S → S → R → R → W → W → Type 0
+HasRefused finds content failures filing reading writing words system system' reader reader' writer writer' =
+    ((task : Task) × (source : Option (Bor (List ℕ))) × (target : Option (Bor (List ℕ))) × AsksForJob finds words (Run task source target)
+    × HasRefusedTask content failures filing reading writing task source system system' reader reader' writer writer')
+    ⊎ ((request : Request) × (source : Bor (List ℕ)) × AsksForJob finds words (LookUp request source) × (reader' ≡ reader)
+    × HasRefusedLookUp content failures filing writing request source.now system system' writer writer')
+
+-- The words ask for the values or the dump of a file, for the writer: they are written while the file is read.
+abbrev pub AsksToList : (CommandForm → List (List ℕ) → ArgMatches → Type 0) → List (List ℕ) → Type 0
+AsksToList finds words = (task : Task) × (source : Option (Bor (List ℕ))) × (target : Option (Bor (List ℕ))) × AsksForJob finds words (Run task source target) × IsListing task source target
+
+-- A file or a device failed: nothing was written, or the writer failed. Of values that are written while a file is read
+-- a part may be written; which, it doesn't say.
+abbrev pub HasStopped : {W : Type 0} → (CommandForm → List (List ℕ) → ArgMatches → Type 0) → output.Ghosts W → List (List ℕ) → W → W → Type 0
+HasStopped finds writing words writer writer' = AsksToList finds words ⊎ IsUnwritten writing writer writer'
+
+-- Memory was refused: nothing was written, or, by `values`, a beginning of the answer; with the same exception.
+abbrev pub HasShort : {S F R W : Type 0} → (CommandForm → List (List ℕ) → ArgMatches → Type 0) → (S → List ℕ → Option (List ℕ)) → (S → ℕ) → input.Ghosts F → input.Ghosts R → output.Ghosts W → List (List ℕ) → S → S → R → R → W → W → Type 0
+HasShort finds content failures filing reading writing words system system' reader reader' writer writer' =
+    AsksToList finds words ⊎ ((writer' ≡ writer)
+    ⊎ ((task : Task) × (source : Option (Bor (List ℕ))) × (target : Option (Bor (List ℕ))) × AsksForJob finds words (Run task source target)
+    × IsShortOfMemory content failures filing reading writing task source system system' reader reader' writer writer'))
+
+-- What was done, by the ending.
+abbrev pub EndsWell : {S F R W : Type 0} → (CommandForm → List (List ℕ) → ArgMatches → Type 0) → (CommandForm → List (List ℕ) → Type 0) → (S → List ℕ → Option (List ℕ)) → (S → ℕ) → input.Ghosts F → input.Ghosts R → output.Ghosts W → List (List ℕ) → Ending → S → S → R → R → W → W → Type 0
+EndsWell finds refuses content failures filing reading writing words (endings.Checked stated) system system' reader reader' writer writer' =
+    (options : CheckOptions) × (paths : List (List ℕ)) × AsksToCheck finds words options paths × (reader' ≡ reader)
+    × AreChecked (endings.Checked stated) (IsReport content failures filing writing options paths system system' writer writer')
+    (HasFailed (writing.failures writer) (writing.failures writer') (writing.interrupted writer'))
+EndsWell finds refuses content failures filing reading writing words (endings.Done published) system system' reader reader' writer writer' =
+    HasDone finds content failures filing reading writing words system system' reader reader' writer writer' published
+EndsWell finds refuses content failures filing reading writing words endings.Refused system system' reader reader' writer writer' =
+    HasRefused finds content failures filing reading writing words system system' reader reader' writer writer'
+EndsWell finds refuses content failures filing reading writing words (endings.Words outcome) system system' reader reader' writer writer' =
+    (system' ≡ system) × HasRun finds refuses reading writing words outcome reader reader' writer writer'
+EndsWell finds refuses content failures filing reading writing words (endings.Failed failure) system system' reader reader' writer writer' = HasStopped finds writing words writer writer'
+EndsWell finds refuses content failures filing reading writing words endings.Device system system' reader reader' writer writer' = HasStopped finds writing words writer writer'
+EndsWell finds refuses content failures filing reading writing words endings.Memory system system' reader reader' writer writer' =
+    HasShort finds content failures filing reading writing words system system' reader reader' writer writer'

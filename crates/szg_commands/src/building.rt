@@ -1,0 +1,110 @@
+//! The command that builds a table of a dump.
+ghost use Rattle.std.specs.Prelude.{◌≡◌, ◌⊎◌, ℕ, List, IfOk, OnOk, IsErrOf};
+ghost use Rattle.szg_io.specs.Device.{HasFailed};
+ghost use Rattle.szg_io.specs.Moved.{Takes};
+ghost use Rattle.szg_file.specs.Accepted.{IsAccepted};
+ghost use Rattle.szg_build.specs.Chosen.{plan_by, IsBuiltAs};
+ghost use Rattle.szg_commands.specs.Builds.{IsMade, IsRefusedPlan, IsRefusedText, IsTextOf, IsUnmade, choice_in};
+ghost use Rattle.szg_commands.specs.declared.refusal.Refusal.{Refusal};
+
+use crate::refusal::{Refusal, Stop};
+use crate::request::Packing;
+use std::alloc::Global;
+use szg_build::{BuildFault, Choice, DumpReadFault, PackedDump, Watcher, read_packed};
+use szg_file::{Table, write};
+use szg_io::{Input, Output};
+
+/// Reads a dump, builds its table, which `watcher` sees, and writes the table's file, or returns why not; where it is
+/// refused nothing was written.
+pub fn build_and_write<R: Input, W: Output, V: Watcher>(
+    alloc: Global,
+    packing: Packing,
+    reader: &mut R,
+    writer: &mut W,
+    watcher: &mut V,
+) -> Result<(), Stop>
+    // Just the text of a dump was read, and just the file of a table that is built of it was written.
+    ensures stated { OnOk result (IsMade R.Input W.Output packing reader.old reader.new writer.old writer.new) }
+    ensures calls { (bytes : List ℕ) × Takes R.Input reader.old reader.new bytes 1 }
+    ensures device { IsErrOf result Stop.Device → (HasFailed (R.failures reader.old) (R.failures reader.new) (R.interrupted reader.new) × (writer.new ≡ writer.old)) ⊎ HasFailed (W.failures writer.old) (W.failures writer.new) (W.interrupted writer.new) }
+    ensures refused { (refusal : Refusal) → IsErrOf result (Stop.Refused refusal) → (writer.new ≡ writer.old) × IsUnmade R.Input packing reader.old reader.new refusal }
+    ensures memory { IsErrOf result Stop.Memory → writer.new ≡ writer.old }
+{
+    let packed = read_dump_to_build(alloc, packing, reader, watcher)?;
+    let table = table_of(alloc, packed, watcher)?;
+    match write(&table, writer) {
+        Ok(()) => Ok(()),
+        Err(_) => Err(Stop::Device),
+    }
+}
+
+/// Returns how the builder packs a table.
+fn choice_of(packing: Packing) -> Choice
+    ensures { result ≡ choice_in packing }
+{
+    match packing {
+        Packing::Fixed(sizes) => Choice::Fixed(szg_build::Packing {
+            block_bits: sizes.block_bits,
+            span_bits: sizes.span_bits,
+            rounds: sizes.rounds,
+        }),
+        Packing::Small => Choice::Small,
+    }
+}
+
+/// Reads a dump and packs its subtables.
+fn read_dump_to_build<R: Input, V: Watcher>(
+    alloc: Global,
+    packing: Packing,
+    reader: &mut R,
+    watcher: &mut V,
+) -> Result<PackedDump, Stop>
+    ensures text { IfOk result (λ packed. IsTextOf R.Input reader.old reader.new packed.dump) }
+    ensures choice { IfOk result (λ packed. packed.choice ≡ choice_in packing) }
+    ensures calls { (bytes : List ℕ) × Takes R.Input reader.old reader.new bytes 1 }
+    ensures device { IsErrOf result Stop.Device → HasFailed (R.failures reader.old) (R.failures reader.new) (R.interrupted reader.new) }
+    ensures refused { (refusal : Refusal) → IsErrOf result (Stop.Refused refusal) → IsRefusedText R.Input reader.old reader.new refusal }
+{
+    match read_packed(alloc, choice_of(packing), reader, watcher) {
+        Ok(dump) => Ok(dump),
+        Err(DumpReadFault::Line { line, fault }) => {
+            Err(Stop::Refused(Refusal::Line(line, fault)))
+        }
+        Err(DumpReadFault::Build(fault)) => Err(Stop::Refused(Refusal::Build(fault))),
+        Err(DumpReadFault::Device) => Err(Stop::Device),
+        Err(DumpReadFault::Memory) => Err(Stop::Memory),
+    }
+}
+
+/// Builds the table of a dump.
+fn table_of<V: Watcher>(alloc: Global, packed: PackedDump, watcher: &mut V) -> Result<Table, Stop>
+    ensures built { IfOk result (λ t. IsBuiltAs packed.choice packed.dump t.contents) }
+    ensures accepted { IfOk result (λ t. IsAccepted t.contents t.filled) }
+    ensures refused { (refusal : Refusal) → IsErrOf result (Stop.Refused refusal) → IsRefusedPlan (plan_by packed.choice packed.dump) packed.dump.lists refusal }
+    ensures only { IsErrOf result Stop.Device → ⊥ }
+{
+    match packed.build(alloc, watcher) {
+        Ok(table) => Ok(table),
+        Err(fault) => Err(stop_of(fault)),
+    }
+}
+
+/// Why the command isn't carried out where no table was built.
+fn stop_of(fault: BuildFault) -> Stop
+    ensures refused { (refusal : Refusal) → result ≡ Stop.Refused refusal → (refusal ≡ Refusal.Build fault) × (fault ≡ BuildFault.Memory → ⊥) }
+    ensures only { result ≡ Stop.Device → ⊥ }
+    ensures memory { result ≡ Stop.Memory → fault ≡ BuildFault.Memory }
+{
+    let stated = match fault {
+        BuildFault::Memory => return Stop::Memory,
+        BuildFault::Order => BuildFault::Order,
+        BuildFault::Bits => BuildFault::Bits,
+        BuildFault::Rounds => BuildFault::Rounds,
+        BuildFault::Count => BuildFault::Count,
+        BuildFault::Length(list) => BuildFault::Length(list),
+        BuildFault::Value(list) => BuildFault::Value(list),
+        BuildFault::TooManyValues(list) => BuildFault::TooManyValues(list),
+        BuildFault::Map => BuildFault::Map,
+    };
+    Stop::Refused(Refusal::Build(stated))
+}

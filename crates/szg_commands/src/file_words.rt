@@ -1,0 +1,245 @@
+//! Command lines that name files.
+ghost use Rattle.std.specs.Prelude.{◌≡◌, ◌⊎◌, true, false, IfErr, IfOk, codes, map, option_map};
+ghost use Rattle.std.specs.Str.{bytes_eq};
+ghost use Rattle.clap.specs.Matches.{first_value, found_of};
+ghost use Rattle.clap.specs.Values.{kind_of as kind_of_error};
+ghost use Rattle.szg_named.specs.Named.{name_given, named_as};
+ghost use Rattle.szg_commands.specs.Requested.{parsed_report_format};
+ghost use Rattle.szg_commands.specs.Chosen.{AsksForJob, AsksForNoJob, IsWordsFault};
+ghost use Rattle.szg_commands.specs.Jobs.{AreOptionsIn, IsJobIn, kind_given};
+ghost use Rattle.szg_commands.specs.Words.{word_of};
+
+use crate::command_line::CommandForm;
+use crate::finding::Finder;
+use crate::fronts::is_look_up;
+use crate::numbers::NumberFault;
+use crate::request::{
+    Request, Task, conflict_error, is_given, kind_of, missing_command, number_error, packing_in,
+    request_on, unused_by_plan, usage_error,
+};
+use clap::error::ErrorKind;
+use clap::{ArgMatches, Error};
+use std::alloc::{AllocError, Global};
+use szg_named::{CheckOptions, Naming, ReportFormat, named_as, named_by};
+
+/// What a command line that names files asks for.
+#[derive(Drop)]
+pub enum FileJob<'a> {
+    /// The check of files.
+    Check {
+        options: CheckOptions<'a>,
+        paths: Vec<&'a str>,
+    },
+    /// A task on the file at `source`, else on standard input; its answer goes to the file at `target`, else to standard
+    /// output.
+    Run {
+        task: Task<'a>,
+        source: Option<&'a str>,
+        target: Option<&'a str>,
+    },
+    /// A look-up in the file at `source`, by its front.
+    LookUp {
+        request: Request<'a>,
+        source: &'a str,
+    },
+}
+
+/// Why the words of a command that names files make no job.
+#[derive(Clone, Copy)]
+enum WordsFault<'a> {
+    /// A word is none of its argument's numbers.
+    Number(NumberFault<'a>),
+    /// The file's ending names no kind, and none is given.
+    Kind,
+    /// A growth was refused.
+    Memory,
+}
+
+impl<'a> From<NumberFault<'a>> for WordsFault<'a> {
+    ghost use Rattle.std.specs.Prelude.{◌≡◌};
+    ghost use Rattle.szg_commands.specs.declared.file_words.WordsFault.TheVariants.{Number};
+
+    ghost from_gives = { λ fault stated. stated ≡ Number fault };
+
+    fn from(fault: NumberFault<'a>) -> WordsFault<'a> {
+        WordsFault::Number(fault)
+    }
+}
+
+/// What is printed if no kind is known.
+const KIND_MISSING: &str =
+    "the file's ending is neither .rtbw nor .rtbz: give its kind by '--kind <KIND>'";
+
+/// Whether a word is an option that only commands on files have.
+fn is_file_option(word: &str) -> bool {
+    word.starts_with("-o")
+        || word.starts_with("--output")
+        || word.starts_with("--name")
+        || word.starts_with("--kind")
+        || word.starts_with("--allow-trailing")
+        || word.starts_with("--format")
+}
+
+/// Whether the option takes the next word as its value, in each form of `build`.
+fn takes_value(word: &str) -> bool {
+    matches!(word, "--plan" | "--block" | "--span" | "--rounds")
+}
+
+/// Whether the words of `build` name a file: an option of files, or a word that is neither an option nor its value.
+fn build_names_files(words: &[&str]) -> bool {
+    let mut is_value = false;
+    'words: for word in words {
+        if is_file_option(word) {
+            return true;
+        }
+        if !is_value && !word.starts_with('-') {
+            return true;
+        }
+        is_value = takes_value(word);
+    }
+    false
+}
+
+/// Whether a command line names files: a word that ends as a table's file does, an option that only files have, or a
+/// dump's file.
+pub fn names_files(words: &[&str]) -> bool {
+    if words.len() < 3 {
+        return false;
+    }
+    let rest = &words[2..];
+    if words[1] == "build" {
+        return build_names_files(rest);
+    }
+    'rest: for word in rest {
+        if named_by(word).is_some() || is_file_option(word) {
+            return true;
+        }
+    }
+    false
+}
+
+/// What the words of a command that names files ask for.
+pub fn parse_files<'a, F: Finder>(
+    alloc: Global,
+    finder: &F,
+    words: &'a [&'a str],
+) -> Result<FileJob<'a>, Error>
+    ensures queried { IfOk result (AsksForJob F.finds (map (λ word. word.now) words.now)) }
+    ensures none { IfErr result (λ error. (kind_of_error error ≡ ErrorKind.OutOfMemory) ⊎ AsksForNoJob F.finds F.refuses (map (λ word. word.now) words.now)) }
+{
+    let form = CommandForm::Files;
+    let matches = finder.find(alloc, words, form)?;
+    let Some((command, chosen)) = matches.subcommand() else {
+        return Err(missing_command(alloc, form)?);
+    };
+    if let Some(argument) = unused_by_plan(chosen) {
+        return Err(conflict_error(alloc, command, form, argument)?);
+    }
+    match job_in(alloc, command, chosen) {
+        Ok(job) => Ok(job),
+        Err(WordsFault::Number(fault)) => Err(number_error(alloc, command, form, fault)?),
+        Err(WordsFault::Kind) => Err(usage_error(
+            alloc,
+            command,
+            form,
+            ErrorKind::MissingRequiredArgument,
+            KIND_MISSING,
+        )?),
+        Err(WordsFault::Memory) => Err(Error::from(AllocError)),
+    }
+}
+
+/// The name and the kind that are given.
+fn naming_in<'a>(chosen: &ArgMatches<'a>) -> Naming<'a>
+    ensures name { name_given result ≡ first_value (found_of chosen.now) (codes "name") }
+    ensures kind { result.kind ≡ kind_given (found_of chosen.now) }
+{
+    let kind = match chosen.get_str("kind") {
+        Some(word) => Some(kind_of(Some(word))),
+        None => None,
+    };
+    Naming {
+        name: chosen.get_str("name"),
+        kind,
+    }
+}
+
+/// The form of a report; for a reader if there is no word.
+fn report_format_of(word: Option<&str>) -> ReportFormat
+    ensures { result ≡ parsed_report_format (option_map (λ text. text.now) word.entry) }
+{
+    match word {
+        Some("tsv") => ReportFormat::Tsv,
+        Some("json") => ReportFormat::Json,
+        _ => ReportFormat::Text,
+    }
+}
+
+/// The job that a command and its words make.
+fn job_in<'a>(
+    alloc: Global,
+    command: &str,
+    chosen: &ArgMatches<'a>,
+) -> Result<FileJob<'a>, WordsFault<'a>>
+    ensures job { IfOk result (IsJobIn command.now (found_of chosen.now)) }
+    ensures none { IfErr result (IsWordsFault command.now (found_of chosen.now)) }
+{
+    match command {
+        "check" => check_in(alloc, chosen),
+        "build" => Ok(FileJob::Run {
+            task: Task::Build(packing_in(chosen)?),
+            source: chosen.get_str("DUMP"),
+            target: chosen.get_str("output"),
+        }),
+        _ => table_job_in(command, chosen),
+    }
+}
+
+/// How files are to be checked.
+fn options_in<'a>(chosen: &ArgMatches<'a>) -> CheckOptions<'a>
+    ensures { AreOptionsIn (found_of chosen.now) result }
+{
+    CheckOptions {
+        naming: naming_in(chosen),
+        allow_trailing: is_given(chosen.get_str("allow-trailing"), "true"),
+        format: report_format_of(chosen.get_str("format")),
+    }
+}
+
+/// The files that are to be checked.
+fn check_in<'a>(alloc: Global, chosen: &ArgMatches<'a>) -> Result<FileJob<'a>, WordsFault<'a>>
+    ensures job { IfOk result (IsJobIn (codes "check") (found_of chosen.now)) }
+    ensures none { IfErr result (λ fault. fault ≡ WordsFault.Memory) }
+{
+    let options = options_in(chosen);
+    let found = chosen.get_strs("FILE").unwrap_or(&[]);
+    let mut paths = Vec::new(alloc);
+    if paths.extend_from_slice(found).is_err() {
+        return Err(WordsFault::Memory);
+    }
+    Ok(FileJob::Check { options, paths })
+}
+
+/// The request on the table at a path.
+fn table_job_in<'a>(command: &str, chosen: &ArgMatches<'a>) -> Result<FileJob<'a>, WordsFault<'a>>
+    requires { bytes_eq command.now (codes "build") ≡ false }
+    ensures job { IfOk result (IsJobIn command.now (found_of chosen.now)) }
+    ensures none { IfErr result (IsWordsFault command.now (found_of chosen.now)) }
+{
+    let path = chosen.get_str("FILE").unwrap_or("");
+    let Some((name, kind)) = named_as(naming_in(chosen), path) else {
+        return Err(WordsFault::Kind);
+    };
+    let request = request_on(command, chosen, name, kind)?;
+    if is_look_up(&request.action) && !is_given(chosen.get_str("verify"), "true") {
+        return Ok(FileJob::LookUp {
+            request,
+            source: path,
+        });
+    }
+    Ok(FileJob::Run {
+        task: Task::OnTable(request),
+        source: Some(path),
+        target: chosen.get_str("output"),
+    })
+}

@@ -1,0 +1,323 @@
+//! Look-ups in a file by its front: the file is read and checked up to its blocks, and then at most one block.
+
+ghost use Rattle.std.specs.Prelude.{◌≡◌, ℕ, ◌+◌, ◌≤◌, ◌<◌, [], length, Ok, IfOk, IfSome, IfErr, IsErrOf, IsNone, IsSome, IsSomeAnd, Some, option_map, string_bytes, false, true};
+ghost use Rattle.szg_file.specs.Index.{slot_in};
+ghost use Rattle.szg_file.specs.Unread.{front_in};
+ghost use Rattle.szg_place.specs.Front.{as_number};
+ghost use Rattle.szg_place.specs.Spots.{place_fault, spot_of};
+ghost use Rattle.szg_place.specs.Tables.{numbering_in};
+ghost use Rattle.szg_commands.specs.Answers.{number_of_class, spot_line};
+ghost use Rattle.szg_commands.specs.Fronts.{AnswersIn, IsBadBlockAt, IsBlockRead, IsDecodedAt, IsFetchedIn, IsFrontTaken, IsLookUp, IsLookUpAnswer, IsLookUpRefused, IsMapRefusal, IsMeaningLine, IsUnfetched, IsUnhad, IsUnopened, MeetsIn};
+ghost use Rattle.szg_commands.specs.Refusals.{index_refusal, place_refusal};
+ghost use Rattle.szg_files.specs.declared.file_system.FileFault.{FileFault as Fault};
+ghost use Rattle.szg_commands.specs.declared.refusal.Refusal.{Refusal};
+
+use crate::placements::{class_line, spot_line};
+use crate::refusal::{Refusal, Stop};
+use crate::request::{Action, Class, Request};
+use std::alloc::{AllocError, Global};
+use std::io::ErrorKind;
+use szg_file::{FetchFault, FrontTable, MapFault, ReadFault, TableIndex, Wanted, read_front_table};
+use szg_files::{FileFault, FileSystem, RangeFault, Reasons, read_range};
+use szg_io::Input;
+use szg_place::{Spot, class_of, index_in};
+use szg_values::{Kind, Material, Placement};
+
+/// A table opened by its front.
+#[derive(Drop)]
+pub struct OpenedFront {
+    pub front: FrontTable,
+    /// The number of bytes that were read.
+    pub read: u64,
+    /// The number of bytes of the file.
+    pub size: u64,
+}
+
+/// Why a look-up has no answer.
+#[derive(Clone, Copy)]
+pub enum LookUpStop {
+    /// It is refused.
+    Refused(Refusal),
+    /// The file failed, or memory was short.
+    Failed(FileFault),
+}
+
+impl From<AllocError> for LookUpStop {
+    ghost use Rattle.std.specs.Prelude.{◌≡◌};
+    ghost use Rattle.szg_files.specs.declared.file_system.FileFault.TheVariants.{Memory};
+    ghost use Rattle.szg_commands.specs.declared.fronts.LookUpStop.TheVariants.{Failed};
+
+    ghost from_gives = { λ _ stop. stop ≡ Failed Memory };
+
+    fn from(_failed: AllocError) -> LookUpStop {
+        LookUpStop::Failed(FileFault::Memory)
+    }
+}
+
+/// Whether an action is a look-up: it needs a table's front, and at most one block.
+pub fn is_look_up(action: &Action) -> bool
+    ensures yes { (result ≡ true) → IsLookUp action.now }
+    ensures no { (result ≡ false) → IsLookUp action.now → ⊥ }
+{
+    matches!(
+        action,
+        Action::Get(_) | Action::Index(_) | Action::Probe(..)
+    )
+}
+
+/// Opens the table of the request's name and kind by its front, from the first byte of a file of `size` bytes.
+fn opened_front<F: Input>(
+    alloc: Global,
+    request: &Request,
+    size: u64,
+    file: &mut F,
+) -> Result<OpenedFront, Stop>
+    requires unread { F.moved file.old ≡ [] }
+    requires looks { IsLookUp request.now.action }
+    ensures front { IfOk result (λ opened. IsFrontTaken F.Input request.now size file.old file.new opened) }
+    ensures refused { (refusal : Refusal) → IsErrOf result (Stop.Refused refusal) → IsUnopened F.Input request.now size file.old file.new refusal }
+{
+    let material = match Material::parse(request.name) {
+        Ok(material) => material,
+        Err(fault) => return Err(Stop::Refused(Refusal::Name(fault))),
+    };
+    let (front, read) = match read_front_table(alloc, material, request.kind, size, file) {
+        Ok(found) => found,
+        Err(ReadFault::Refused { place, reason }) => {
+            return Err(Stop::Refused(Refusal::At(place, reason)));
+        }
+        Err(ReadFault::Device) => return Err(Stop::Device),
+        Err(ReadFault::Memory) => return Err(Stop::Memory),
+    };
+    Ok(OpenedFront { front, read, size })
+}
+
+/// Reads the bytes of a block after the front of `read` bytes; none if no block is wanted.
+fn block_read<S: FileSystem>(
+    alloc: Global,
+    system: &S,
+    file: S::File,
+    read: u64,
+    wanted: Option<Wanted>,
+) -> Result<Vec<u8>, FileFault>
+    ensures block { IfOk result (λ block. IsBlockRead S.File.Input file read wanted block.items) }
+    ensures failed { IfErr result (λ fault. IsSomeAnd wanted (IsUnhad S.File.Input file read fault)) }
+{
+    let mut block = Vec::new(alloc);
+    let Some(Wanted { place, count }) = wanted else {
+        return Ok(block);
+    };
+    if place < read {
+        return Err(FileFault::System(ErrorKind::InvalidData.into()));
+    }
+    let skipped = place - read;
+    if block.resize(count as usize, 0).is_err() {
+        return Err(FileFault::Memory);
+    }
+    match read_range(system, file, skipped, &mut block) {
+        Ok(()) => Ok(block),
+        Err(RangeFault::Ended) => Err(FileFault::System(ErrorKind::UnexpectedEof.into())),
+        Err(RangeFault::Failed(fault)) => Err(fault),
+    }
+}
+
+/// Returns the value of a spot. It reads the value's block, and verifies it.
+fn value_by<S: FileSystem>(
+    alloc: Global,
+    system: &S,
+    file: S::File,
+    opened: &OpenedFront,
+    spot: Spot,
+) -> Result<u16, LookUpStop>
+    requires below { IsSomeAnd (slot_in opened.now.front.index spot.part spot.side) (λ slot. spot.index < slot.size) }
+    requires room { opened.now.read ≤ opened.now.size }
+    requires size { opened.now.front.length ≡ opened.now.size }
+    ensures value { IfOk result (λ value. IsFetchedIn S.File.Input file opened.now.front opened.now.read opened.now.size (λ content t. IsDecodedAt t spot.part spot.side spot.index value)) }
+    ensures refused { (refusal : Refusal) → IsErrOf result (LookUpStop.Refused refusal) → IsFetchedIn S.File.Input file opened.now.front opened.now.read opened.now.size (λ content t. IsBadBlockAt content t spot.part spot.side spot.index refusal) }
+    ensures failed { (fault : Fault) → IsErrOf result (LookUpStop.Failed fault) → IsUnfetched S.File.Input file opened.now.front opened.now.read opened.now.size spot.part spot.side spot.index fault }
+{
+    let front = &opened.front;
+    let wanted = front.find(spot.part, spot.side, spot.index);
+    let block = match block_read(alloc, system, file, opened.read, wanted) {
+        Ok(block) => block,
+        Err(fault) => return Err(LookUpStop::Failed(fault)),
+    };
+    match front.value_in(spot.part, spot.side, spot.index, &block) {
+        Ok(value) => Ok(value),
+        Err(FetchFault::Block { number, offset }) => {
+            Err(LookUpStop::Refused(Refusal::Block(number, offset)))
+        }
+        // no file has such a block: it has the length that `find` returned
+        Err(FetchFault::Source) => {
+            Err(LookUpStop::Failed(FileFault::System(ErrorKind::UnexpectedEof.into())))
+        }
+    }
+}
+
+/// Checks that the opened table has the index, and returns its spot.
+fn requested_spot(front: &FrontTable, part: u8, side: u8, index: u64) -> Result<Spot, Refusal>
+    ensures spot { IfOk result (λ spot. spot ≡ record { part = part; side = side; index = index }) }
+    ensures below { IfOk result (λ spot. IsSomeAnd (slot_in front.now.index part side) (λ slot. index < slot.size)) }
+    ensures refused { IfErr result (λ refusal. index_refusal (option_map (λ slot. slot.size) (slot_in front.now.index part side)) index ≡ Some refusal) }
+{
+    let Some(size) = front.index().size(part, side) else {
+        return Err(Refusal::Part);
+    };
+    if index < size {
+        Ok(Spot { part, side, index })
+    } else {
+        Err(Refusal::Index)
+    }
+}
+
+/// The number of a DTZ value of a part in a class.
+fn number_in(index: &TableIndex, part: u8, class: Class, value: u16) -> Result<u32, MapFault>
+    requires kind { index.now.kind ≡ Kind.Dtz }
+    requires part { IsSome (slot_in index.now part 0) }
+    ensures { result ≡ as_number index.now part (number_of_class class) value }
+{
+    index.map_value(part, class.number(), value)
+}
+
+/// The line of what a value means: in a WDL table its class, in a DTZ table its number in a class.
+fn meaning_line(
+    alloc: Global,
+    index: &TableIndex,
+    part: u8,
+    class: Class,
+    value: u16,
+) -> Result<String, LookUpStop>
+    requires { index.now.kind ≡ Kind.Dtz → IsSome (slot_in index.now part 0) }
+    ensures stated { IfOk result (λ line. IsMeaningLine index.now.kind index.now part class value (string_bytes line)) }
+    ensures refused { (refusal : Refusal) → IsErrOf result (LookUpStop.Refused refusal) → IsMapRefusal index.now.kind index.now part class value refusal }
+{
+    match index.kind() {
+        Kind::Wdl => Ok(class_line(alloc, class_of(value))?),
+        Kind::Dtz => match number_in(index, part, class, value) {
+            Ok(number) => Ok(format!(in alloc; "{number}\n")?),
+            Err(fault) => Err(LookUpStop::Refused(Refusal::Map(fault))),
+        },
+    }
+}
+
+/// The line of the value at an index.
+fn get_line<S: FileSystem>(
+    alloc: Global,
+    system: &S,
+    file: S::File,
+    opened: &OpenedFront,
+    request: &Request,
+    index: u64,
+) -> Result<String, LookUpStop>
+    requires room { opened.now.read ≤ opened.now.size }
+    requires size { opened.now.front.length ≡ opened.now.size }
+    ensures stated { IfOk result (λ line. IsFetchedIn S.File.Input file opened.now.front opened.now.read opened.now.size (λ content t. IsLookUpAnswer (Action.Get index) request.now.part request.now.side t (string_bytes line))) }
+    ensures refused { (refusal : Refusal) → IsErrOf result (LookUpStop.Refused refusal) → IsFetchedIn S.File.Input file opened.now.front opened.now.read opened.now.size (λ content t. IsLookUpRefused (Action.Get index) request.now.part request.now.side content t refusal) }
+{
+    let spot = match requested_spot(&opened.front, request.part, request.side, index) {
+        Ok(spot) => spot,
+        Err(refusal) => return Err(LookUpStop::Refused(refusal)),
+    };
+    let value = match value_by(alloc, system, file, opened, spot) {
+        Ok(value) => value,
+        Err(stop) => return Err(stop),
+    };
+    Ok(format!(in alloc; "{value}\n")?)
+}
+
+/// The line of a placement's spot. It reads no block.
+fn index_line(
+    alloc: Global,
+    front: &FrontTable,
+    placement: &Placement,
+) -> Result<String, LookUpStop>
+    ensures stated { IfOk result (λ line. IsNone (place_fault (numbering_in front.now.index) placement.now) × (string_bytes line ≡ spot_line (spot_of (numbering_in front.now.index) placement.now))) }
+    ensures refused { (refusal : Refusal) → IsErrOf result (LookUpStop.Refused refusal) → place_refusal (place_fault (numbering_in front.now.index) placement.now) ≡ Some refusal }
+{
+    match index_in(front.index(), placement) {
+        Ok(spot) => Ok(spot_line(alloc, spot)?),
+        Err(fault) => Err(LookUpStop::Refused(Refusal::Place(fault))),
+    }
+}
+
+/// The line of a placement's class or number.
+fn probe_line<S: FileSystem>(
+    alloc: Global,
+    system: &S,
+    file: S::File,
+    opened: &OpenedFront,
+    placement: &Placement,
+    class: Class,
+) -> Result<String, LookUpStop>
+    requires room { opened.now.read ≤ opened.now.size }
+    requires size { opened.now.front.length ≡ opened.now.size }
+    ensures stated { IfOk result (λ line. (part side : ℕ) → IsFetchedIn S.File.Input file opened.now.front opened.now.read opened.now.size (λ content t. IsLookUpAnswer (Action.Probe placement.now class) part side t (string_bytes line))) }
+    ensures refused { (refusal : Refusal) → IsErrOf result (LookUpStop.Refused refusal) → (part side : ℕ) → IsFetchedIn S.File.Input file opened.now.front opened.now.read opened.now.size (λ content t. IsLookUpRefused (Action.Probe placement.now class) part side content t refusal) }
+{
+    let spot = match index_in(opened.front.index(), placement) {
+        Ok(spot) => spot,
+        Err(fault) => return Err(LookUpStop::Refused(Refusal::Place(fault))),
+    };
+    let value = match value_by(alloc, system, file, opened, spot) {
+        Ok(value) => value,
+        Err(stop) => return Err(stop),
+    };
+    meaning_line(alloc, opened.front.index(), spot.part, class, value)
+}
+
+/// The line of a look-up's answer.
+fn look_up_line<S: FileSystem>(
+    alloc: Global,
+    system: &S,
+    file: S::File,
+    opened: &OpenedFront,
+    request: &Request,
+) -> Result<String, LookUpStop>
+    requires looks { IsLookUp request.now.action }
+    requires room { opened.now.read ≤ opened.now.size }
+    requires size { opened.now.front.length ≡ opened.now.size }
+    ensures stated { IfOk result (λ line. IsFetchedIn S.File.Input file opened.now.front opened.now.read opened.now.size (λ content t. IsLookUpAnswer request.now.action request.now.part request.now.side t (string_bytes line))) }
+    ensures refused { (refusal : Refusal) → IsErrOf result (LookUpStop.Refused refusal) → IsFetchedIn S.File.Input file opened.now.front opened.now.read opened.now.size (λ content t. IsLookUpRefused request.now.action request.now.part request.now.side content t refusal) }
+{
+    match &request.action {
+        Action::Get(index) => get_line(alloc, system, file, opened, request, *index),
+        Action::Index(placement) => index_line(alloc, &opened.front, placement),
+        Action::Probe(placement, class) => {
+            probe_line(alloc, system, file, opened, placement, *class)
+        }
+        _ => unreachable!(),
+    }
+}
+
+/// The line of a look-up's answer in a file that was opened: it reads the file's front, and at most one block.
+pub fn answer_in<S: FileSystem>(
+    alloc: Global,
+    system: &S,
+    file: S::File,
+    request: &Request,
+) -> Result<String, LookUpStop>
+    requires unread { S.File.moved file ≡ [] }
+    requires looks { IsLookUp request.now.action }
+    ensures stated { IfOk result (λ line. AnswersIn S.File.Input request.now file (string_bytes line)) }
+    ensures refused { (refusal : Refusal) → IsErrOf result (LookUpStop.Refused refusal) → MeetsIn S.File.Input request.now file refusal }
+{
+    let mut file = file;
+    let size = match system.len(&file) {
+        Ok(size) => size,
+        Err(fault) => return Err(LookUpStop::Failed(fault)),
+    };
+    match opened_front(alloc, request, size, &mut file) {
+        Ok(opened) => look_up_line(alloc, system, file, &opened, request),
+        Err(Stop::Refused(refusal)) => Err(LookUpStop::Refused(refusal)),
+        Err(Stop::Memory) => Err(LookUpStop::Failed(FileFault::Memory)),
+        Err(Stop::Device) => Err(LookUpStop::Failed(read_failure(&file))),
+    }
+}
+
+/// Why a read of a file failed.
+fn read_failure(file: &impl Reasons) -> FileFault {
+    match file.reason() {
+        Some(error) => FileFault::System(error),
+        None => FileFault::System(ErrorKind::Other.into()),
+    }
+}

@@ -1,0 +1,34 @@
+//! The commands of the program `szg`: what a command line asks for, what is written for it, and the status at the end.
+#![tactic(auto)]
+
+mod arguments;
+mod building;
+mod command_line;
+mod commands;
+mod description;
+mod file_words;
+mod finding;
+mod fronts;
+mod lookups;
+mod meant;
+mod men;
+mod numbers;
+mod on_files;
+mod outcome;
+mod placements;
+mod progress;
+mod refusal;
+mod refusal_lines;
+mod request;
+mod running;
+mod saying;
+mod statuses;
+mod streaming;
+
+pub use commands::{run, run_by};
+pub use finding::{Clap, Finder};
+pub use on_files::{Ending, FileFailure, run_words};
+pub use outcome::Outcome;
+pub use progress::ProgressLine;
+pub use running::{run_given, words_given};
+pub use statuses::no_words_status;

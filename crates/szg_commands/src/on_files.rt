@@ -1,0 +1,470 @@
+//! Commands on files by their paths.
+ghost use Rattle.std.specs.Prelude.{◌≡◌, ◌⊎◌, None, Some, IfErr, IfOk, IsErrOf, IfSome, map, option_map};
+ghost use Rattle.szg_files.specs.Draft.{draft_target, published_target, published_text, text_of};
+ghost use Rattle.szg_io.specs.Device.{HasFailed};
+ghost use Rattle.szg_io.specs.Moved.{Gives};
+ghost use Rattle.szg_named.specs.Requested.{files_to_check};
+ghost use Rattle.szg_named.specs.Verdicts.{IsReport, plain_options};
+ghost use Rattle.szg_commands.specs.Fronts.{IsLookUp};
+ghost use Rattle.szg_commands.specs.OnFiles.{AreChecked, EndsTask, EndsWell, HasDoneTask, HasLookedUp, HasRefusedLookUp, HasRefusedTask, IsCarriedFrom, IsCarriedTo, IsListing, IsPublishedBy, IsPublishedFrom, IsShortOfMemory, IsStarted, IsStartedFrom, IsUnwritten, MeetsFrom};
+ghost use Rattle.szg_commands.specs.RefusalLines.{refusal_line};
+ghost use Rattle.szg_commands.specs.Requests.{Meets, IsListed};
+ghost use Rattle.szg_commands.specs.declared.on_files.FileFailure.{FileFailure};
+ghost use Rattle.szg_commands.specs.declared.on_files.FileStop.{FileStop};
+ghost use Rattle.szg_commands.specs.declared.refusal.Refusal.{Refusal};
+
+use crate::commands::{carry_out, refuse, run_by, words_outcome};
+use crate::file_words::{FileJob, names_files, parse_files};
+use crate::finding::Finder;
+use crate::fronts::{LookUpStop, answer_in};
+use crate::outcome::Outcome;
+use crate::refusal::{Refusal, Stop};
+use crate::request::{Request, Task};
+use crate::saying::say;
+use crate::streaming::{is_listed, stream_from};
+use std::alloc::Global;
+use std::rt::Files;
+use std::time::Clock;
+use szg_build::Watcher;
+use szg_file::Ahead;
+use szg_files::{Draft, FileFault, FileSystem, Published, Reasons};
+use szg_io::{Input, Output};
+use szg_named::{CheckOptions, Tally, check_files, files_to_check};
+
+/// A file that can't be opened, read or written, and why.
+#[derive(Clone, Copy)]
+pub struct FileFailure<'a> {
+    pub path: &'a str,
+    pub fault: FileFault,
+}
+
+/// Why a task that names files wasn't carried out.
+#[derive(Clone, Copy)]
+pub enum FileStop<'a> {
+    /// It is refused.
+    Refused(Refusal),
+    /// A file failed.
+    Failed(FileFailure<'a>),
+    /// Standard input or output failed.
+    Device,
+    /// A growth was refused.
+    Memory,
+}
+
+/// Carries a task out on `input`, and writes its answer to the file at `target`: whole, or not at all.
+fn carry_out_into<'a, I: Input, R: Files, V: Watcher>(
+    alloc: Global,
+    task: &Task,
+    input: &mut I,
+    files: &'a R,
+    target: &'a str,
+    watcher: &mut V,
+) -> Result<Published<'a>, FileStop<'a>>
+    ensures stated { IfOk result (λ published. IsPublishedBy I.Input task.now target.now input.old input.new published) }
+    ensures refused { (refusal : Refusal) → IsErrOf result (FileStop.Refused refusal) → Meets I.Input task.now input.old input.new refusal }
+{
+    let mut draft = match Draft::create(alloc, files, target) {
+        Ok(draft) => draft,
+        Err(fault) => return Err(failed(target, fault)),
+    };
+    match carry_out(alloc, task, input, &mut draft.file, watcher) {
+        Ok(()) => published(draft, target),
+        Err(Stop::Refused(refusal)) => {
+            draft.discard();
+            Err(FileStop::Refused(refusal))
+        }
+        Err(Stop::Memory) => {
+            draft.discard();
+            Err(FileStop::Memory)
+        }
+        Err(Stop::Device) => match draft.abandon() {
+            Some(fault) => Err(failed(target, fault)),
+            None => Err(FileStop::Device),
+        },
+    }
+}
+
+/// Why a file stops a task.
+pub fn failed(path: &str, fault: FileFault) -> FileStop<'_>
+    ensures refused { (refusal : Refusal) → (result ≡ FileStop.Refused refusal) → ⊥ }
+    ensures memory { (result ≡ FileStop.Memory) → fault ≡ FileFault.Memory }
+{
+    match fault {
+        FileFault::Memory => FileStop::Memory,
+        FileFault::NotRegular => FileStop::Failed(FileFailure {
+            path,
+            fault: FileFault::NotRegular,
+        }),
+        FileFault::System(error) => FileStop::Failed(FileFailure {
+            path,
+            fault: FileFault::System(error),
+        }),
+    }
+}
+
+/// Flushes a draft to the disk, and renames it over its target.
+fn published<'a, R: Files>(
+    draft: Draft<'a, R>,
+    target: &'a str,
+) -> Result<Published<'a>, FileStop<'a>>
+    ensures text { IfOk result (λ published. published_text published ≡ text_of draft.entry.file) }
+    ensures target { IfOk result (λ published. published_target published ≡ draft_target draft.entry) }
+    ensures refused { (refusal : Refusal) → IsErrOf result (FileStop.Refused refusal) → ⊥ }
+{
+    let sealed = match draft.seal() {
+        Ok(sealed) => sealed,
+        Err(fault) => return Err(failed(target, fault)),
+    };
+    match sealed.publish() {
+        Ok(published) => Ok(published),
+        Err(fault) => Err(failed(target, fault)),
+    }
+}
+
+/// Carries a task out on `input`; its answer goes to the file at `target`, else to `writer`. Where it is refused nothing
+/// was written.
+fn carry_out_to<'a, I: Input, R: Files, W: Output, V: Watcher>(
+    alloc: Global,
+    task: &Task,
+    input: &mut I,
+    files: &'a R,
+    target: Option<&'a str>,
+    writer: &mut W,
+    watcher: &mut V,
+) -> Result<Option<Published<'a>>, FileStop<'a>>
+    ensures stated { IfOk result (λ published. IsCarriedTo I.Input W.Output task.now (option_map (λ path. path.now) target.entry) input.old input.new writer.old writer.new published) }
+    ensures refused { (refusal : Refusal) → IsErrOf result (FileStop.Refused refusal) → (writer.new ≡ writer.old) × Meets I.Input task.now input.old input.new refusal }
+    ensures failed { (failure : FileFailure) → IsErrOf result (FileStop.Failed failure) → writer.new ≡ writer.old }
+    ensures device { IsErrOf result FileStop.Device → IsUnwritten W.Output writer.old writer.new }
+    ensures memory { IsErrOf result FileStop.Memory → IsStarted I.Input W.Output task.now input.old input.new writer.old writer.new }
+{
+    match target {
+        Some(target) => match carry_out_into(alloc, task, input, files, target, watcher) {
+            Ok(published) => Ok(Some(published)),
+            Err(stop) => Err(stop),
+        },
+        None => match carry_out(alloc, task, input, writer, watcher) {
+            Ok(()) => Ok(None),
+            Err(Stop::Refused(refusal)) => Err(FileStop::Refused(refusal)),
+            Err(Stop::Device) => Err(FileStop::Device),
+            Err(Stop::Memory) => Err(FileStop::Memory),
+        },
+    }
+}
+
+/// Carries a task out on the file at `source`; its answer goes to the file at `target`, else to `writer`. Where it is
+/// refused nothing was written.
+fn carry_out_from<'a, S: FileSystem, R: Files, W: Output, V: Watcher>(
+    alloc: Global,
+    task: &Task,
+    source: &'a str,
+    target: Option<&'a str>,
+    system: &mut S,
+    files: &'a R,
+    writer: &mut W,
+    watcher: &mut V,
+) -> Result<Option<Published<'a>>, FileStop<'a>>
+    ensures stated { IfOk result (λ published. IsCarriedFrom S.content S.failures S.File.Input W.Output task.now source.now (option_map (λ path. path.now) target.entry) system.old system.new writer.old writer.new published) }
+    ensures refused { (refusal : Refusal) → IsErrOf result (FileStop.Refused refusal) → (writer.new ≡ writer.old)
+        × MeetsFrom S.content S.failures S.File.Input task.now source.now system.old system.new refusal }
+    ensures failed { (failure : FileFailure) → IsErrOf result (FileStop.Failed failure) → IsUnwritten W.Output writer.old writer.new }
+    ensures device { IsErrOf result FileStop.Device → IsUnwritten W.Output writer.old writer.new }
+    ensures memory { IsErrOf result FileStop.Memory → IsStartedFrom S.content S.failures S.File.Input W.Output task.now source.now system.old system.new writer.old writer.new }
+{
+    let mut file = match system.open(source) {
+        Ok(file) => file,
+        Err(fault) => return Err(failed(source, fault)),
+    };
+    match carry_out_to(alloc, task, &mut file, files, target, writer, watcher) {
+        Ok(published) => Ok(published),
+        Err(FileStop::Device) => match file.reason() {
+            Some(error) => Err(failed(source, FileFault::System(error))),
+            None => Err(FileStop::Device),
+        },
+        Err(FileStop::Refused(refusal)) => Err(FileStop::Refused(refusal)),
+        Err(FileStop::Failed(failure)) => Err(FileStop::Failed(failure)),
+        Err(FileStop::Memory) => Err(FileStop::Memory),
+    }
+}
+
+/// Writes the values or the dump of the file at `source`, while it is read, to the file at `target`: whole, or not at all.
+fn stream_into<'a, S: FileSystem, R: Files>(
+    alloc: Global,
+    request: &Request,
+    source: &'a str,
+    target: &'a str,
+    system: &mut S,
+    files: &'a R,
+) -> Result<Published<'a>, FileStop<'a>>
+where
+    S::File: Ahead,
+    requires listed { IsListed request.now.action }
+    ensures stated { IfOk result (λ published. IsPublishedFrom S.content S.failures S.File.Input (Task.OnTable request.now) source.now target.now system.old system.new published) }
+    ensures refused { (refusal : Refusal) → IsErrOf result (FileStop.Refused refusal) → MeetsFrom S.content S.failures S.File.Input (Task.OnTable request.now) source.now system.old system.new refusal }
+{
+    let mut draft = match Draft::create(alloc, files, target) {
+        Ok(draft) => draft,
+        Err(fault) => return Err(failed(target, fault)),
+    };
+    match stream_from(alloc, request, source, system, &mut draft.file) {
+        Ok(()) => published(draft, target),
+        Err(FileStop::Device) => match draft.abandon() {
+            Some(fault) => Err(failed(target, fault)),
+            None => Err(FileStop::Device),
+        },
+        Err(stop) => {
+            draft.discard();
+            Err(stop)
+        }
+    }
+}
+
+/// Writes the values or the dump of the file at `source`, while it is read, to the file at `target`, else to `writer`.
+fn stream_to<'a, S: FileSystem, R: Files, W: Output>(
+    alloc: Global,
+    request: &Request,
+    source: &'a str,
+    target: Option<&'a str>,
+    system: &mut S,
+    files: &'a R,
+    writer: &mut W,
+) -> Result<Option<Published<'a>>, FileStop<'a>>
+where
+    S::File: Ahead,
+    requires listed { IsListed request.now.action }
+    ensures stated { IfOk result (λ published. IsCarriedFrom S.content S.failures S.File.Input W.Output (Task.OnTable request.now) source.now (option_map (λ path. path.now) target.entry) system.old system.new writer.old writer.new published) }
+    ensures refused { (refusal : Refusal) → IsErrOf result (FileStop.Refused refusal) → (writer.new ≡ writer.old)
+        × MeetsFrom S.content S.failures S.File.Input (Task.OnTable request.now) source.now system.old system.new refusal }
+    ensures stopped { (stop : FileStop) → IsErrOf result stop → (target.entry ≡ None) ⊎ (writer.new ≡ writer.old) }
+{
+    match target {
+        Some(target) => match stream_into(alloc, request, source, target, system, files) {
+            Ok(published) => Ok(Some(published)),
+            Err(stop) => Err(stop),
+        },
+        None => match stream_from(alloc, request, source, system, writer) {
+            Ok(()) => Ok(None),
+            Err(stop) => Err(stop),
+        },
+    }
+}
+
+/// Carries a task out on the file at `source`, as `carry_out_from`. Values and dumps are written while the file is read.
+fn carry_out_file<'a, S: FileSystem, R: Files, W: Output, V: Watcher>(
+    alloc: Global,
+    task: &Task,
+    source: &'a str,
+    target: Option<&'a str>,
+    system: &mut S,
+    files: &'a R,
+    writer: &mut W,
+    watcher: &mut V,
+) -> Result<Option<Published<'a>>, FileStop<'a>>
+where
+    S::File: Ahead,
+    ensures stated { IfOk result (λ published. IsCarriedFrom S.content S.failures S.File.Input W.Output task.now source.now (option_map (λ path. path.now) target.entry) system.old system.new writer.old writer.new published) }
+    ensures refused { (refusal : Refusal) → IsErrOf result (FileStop.Refused refusal) → (writer.new ≡ writer.old)
+        × MeetsFrom S.content S.failures S.File.Input task.now source.now system.old system.new refusal }
+    // where values are written while the file is read, a part of them may be written then
+    ensures failed { (failure : FileFailure) → IsErrOf result (FileStop.Failed failure) → IsListing task.now (Some source.now) target.entry ⊎ IsUnwritten W.Output writer.old writer.new }
+    ensures device { IsErrOf result FileStop.Device → IsListing task.now (Some source.now) target.entry ⊎ IsUnwritten W.Output writer.old writer.new }
+    ensures memory { IsErrOf result FileStop.Memory → IsListing task.now (Some source.now) target.entry ⊎ IsStartedFrom S.content S.failures S.File.Input W.Output task.now source.now system.old system.new writer.old writer.new }
+{
+    if let Task::OnTable(request) = task {
+        if is_listed(&request.action) {
+            return stream_to(alloc, request, source, target, system, files, writer);
+        }
+    }
+    carry_out_from(alloc, task, source, target, system, files, writer, watcher)
+}
+
+/// How a command line ended.
+#[derive(Drop)]
+pub enum Ending<'a> {
+    /// Files were checked, up to a fault of the output or of memory.
+    Checked(Result<Tally, szg_named::Stop>),
+    /// A task was carried out that names files: the file that was written, if one was asked for.
+    Done(Option<Published<'a>>),
+    /// It was refused: the refusal's line was written.
+    Refused,
+    /// A file failed.
+    Failed(FileFailure<'a>),
+    /// Standard input or output failed.
+    Device,
+    /// A growth was refused.
+    Memory,
+    /// The command line is one on the standard streams, or its words make no command.
+    Words(Outcome),
+}
+
+/// Writes why a task that names files is refused.
+fn refused<'a, W: Output>(alloc: Global, refusal: Refusal, writer: &mut W) -> Ending<'a>
+    ensures { EndsTask result (λ published. ⊥) (Gives W.Output writer.old writer.new (refusal_line refusal) 0)
+        (HasFailed (W.failures writer.old) (W.failures writer.new) (W.interrupted writer.new)) (writer.new ≡ writer.old) }
+{
+    match refuse(alloc, refusal, writer) {
+        Outcome::Refused => Ending::Refused,
+        Outcome::Memory => Ending::Memory,
+        _ => Ending::Device,
+    }
+}
+
+/// Runs a task on the file at `source`.
+fn run_from<'a, S: FileSystem, D: Files, W: Output, V: Watcher>(
+    alloc: Global,
+    task: &Task,
+    source: &'a str,
+    target: Option<&'a str>,
+    system: &mut S,
+    files: &'a D,
+    writer: &mut W,
+    watcher: &mut V,
+) -> Ending<'a>
+where
+    S::File: Ahead,
+    ensures { EndsTask result (λ published. IsCarriedFrom S.content S.failures S.File.Input W.Output task.now source.now (option_map (λ path. path.now) target.entry) system.old system.new writer.old writer.new published)
+        ((refusal : Refusal) × MeetsFrom S.content S.failures S.File.Input task.now source.now system.old system.new refusal × Gives W.Output writer.old writer.new (refusal_line refusal) 0)
+        (IsListing task.now (Some source.now) target.entry ⊎ IsUnwritten W.Output writer.old writer.new)
+        (IsListing task.now (Some source.now) target.entry ⊎ IsStartedFrom S.content S.failures S.File.Input W.Output task.now source.now system.old system.new writer.old writer.new) }
+{
+    match carry_out_file(alloc, task, source, target, system, files, writer, watcher) {
+        Ok(published) => Ending::Done(published),
+        Err(FileStop::Refused(refusal)) => refused(alloc, refusal, writer),
+        Err(FileStop::Failed(failure)) => Ending::Failed(failure),
+        Err(FileStop::Device) => Ending::Device,
+        Err(FileStop::Memory) => Ending::Memory,
+    }
+}
+
+/// Runs a task on the reader.
+fn run_to<'a, R: Input, D: Files, W: Output, V: Watcher>(
+    alloc: Global,
+    task: &Task,
+    target: Option<&'a str>,
+    files: &'a D,
+    reader: &mut R,
+    writer: &mut W,
+    watcher: &mut V,
+) -> Ending<'a>
+    ensures { EndsTask result (λ published. IsCarriedTo R.Input W.Output task.now (option_map (λ path. path.now) target.entry) reader.old reader.new writer.old writer.new published)
+        ((refusal : Refusal) × Meets R.Input task.now reader.old reader.new refusal × Gives W.Output writer.old writer.new (refusal_line refusal) 0)
+        (IsUnwritten W.Output writer.old writer.new) (IsStarted R.Input W.Output task.now reader.old reader.new writer.old writer.new) }
+{
+    match carry_out_to(alloc, task, reader, files, target, writer, watcher) {
+        Ok(published) => Ending::Done(published),
+        Err(FileStop::Refused(refusal)) => refused(alloc, refusal, writer),
+        Err(FileStop::Failed(failure)) => Ending::Failed(failure),
+        Err(FileStop::Device) => Ending::Device,
+        Err(FileStop::Memory) => Ending::Memory,
+    }
+}
+
+/// Runs a task on the file at `source`, else on the reader.
+fn run_task<'a, R: Input, W: Output, S: FileSystem, D: Files, V: Watcher>(
+    alloc: Global,
+    task: &Task,
+    source: Option<&'a str>,
+    target: Option<&'a str>,
+    system: &mut S,
+    files: &'a D,
+    reader: &mut R,
+    writer: &mut W,
+    watcher: &mut V,
+) -> Ending<'a>
+where
+    S::File: Ahead,
+    ensures { EndsTask result (HasDoneTask S.content S.failures S.File.Input R.Input W.Output task.now source.entry target.entry system.old system.new reader.old reader.new writer.old writer.new)
+        (HasRefusedTask S.content S.failures S.File.Input R.Input W.Output task.now source.entry system.old system.new reader.old reader.new writer.old writer.new)
+        (IsListing task.now source.entry target.entry ⊎ IsUnwritten W.Output writer.old writer.new)
+        (IsListing task.now source.entry target.entry ⊎ IsShortOfMemory S.content S.failures S.File.Input R.Input W.Output task.now source.entry system.old system.new reader.old reader.new writer.old writer.new) }
+{
+    match source {
+        Some(source) => run_from(alloc, task, source, target, system, files, writer, watcher),
+        None => run_to(alloc, task, target, files, reader, writer, watcher),
+    }
+}
+
+/// How a look-up ends where its file fails.
+fn failed_ending(path: &str, fault: FileFault) -> Ending<'_>
+    ensures { EndsTask result (λ published. ⊥) ⊥ (fault ≡ FileFault.Memory → ⊥) (fault ≡ FileFault.Memory) }
+{
+    match fault {
+        FileFault::Memory => Ending::Memory,
+        fault => Ending::Failed(FileFailure { path, fault }),
+    }
+}
+
+/// Looks a value or a placement up in the file at `source`, by the file's front.
+fn run_look_up<'a, S: FileSystem, W: Output>(
+    alloc: Global,
+    request: &Request,
+    source: &'a str,
+    system: &mut S,
+    writer: &mut W,
+) -> Ending<'a>
+    requires { IsLookUp request.now.action }
+    ensures { EndsTask result (λ published. (published ≡ None) × HasLookedUp S.content S.failures S.File.Input W.Output request.now source.now system.old system.new writer.old writer.new)
+        (HasRefusedLookUp S.content S.failures S.File.Input W.Output request.now source.now system.old system.new writer.old writer.new)
+        (IsUnwritten W.Output writer.old writer.new) (writer.new ≡ writer.old) }
+{
+    let file = match system.open(source) {
+        Ok(file) => file,
+        Err(fault) => return failed_ending(source, fault),
+    };
+    match answer_in(alloc, system, file, request) {
+        Ok(line) => match say(writer, line.as_bytes()) {
+            Ok(()) => Ending::Done(None),
+            Err(_) => Ending::Device,
+        },
+        Err(LookUpStop::Refused(refusal)) => refused(alloc, refusal, writer),
+        Err(LookUpStop::Failed(fault)) => failed_ending(source, fault),
+    }
+}
+
+/// Runs a command line: on the files of a system where it names these, else on the reader. Of the machine it writes files,
+/// and reads the clock. `watcher` sees a build.
+pub fn run_words<'a, P: Finder, R: Input, W: Output, S: FileSystem, D: Files + Clock, V: Watcher>(
+    alloc: Global,
+    finder: &P,
+    words: &'a [&'a str],
+    system: &mut S,
+    machine: &'a D,
+    reader: &mut R,
+    writer: &mut W,
+    watcher: &mut V,
+) -> Ending<'a>
+where
+    S::File: Ahead,
+    // It asks to check files and gives no options: they were checked in their order, just their lines and the summary
+    // were written, and the reader stays.
+    ensures files { IfSome (files_to_check (map (λ word. word.now) words.now)) (λ paths. (reader.new ≡ reader.old)
+        × AreChecked result (IsReport S.content S.failures S.File.Input W.Output plain_options paths system.old system.new writer.old writer.new) (HasFailed (W.failures writer.old) (W.failures writer.new) (W.interrupted writer.new))) }
+    // Whatever the words: what was done is what the ending says.
+    ensures ending { EndsWell P.finds P.refuses S.content S.failures S.File.Input R.Input W.Output (map (λ word. word.now) words.now) result system.old system.new reader.old reader.new writer.old writer.new }
+{
+    if let Some(paths) = files_to_check(words) {
+        let options = CheckOptions::plain();
+        return Ending::Checked(check_files(alloc, system, machine, options, paths, writer));
+    }
+    if !names_files(words) {
+        return Ending::Words(run_by(alloc, finder, words, reader, writer, watcher));
+    }
+    match parse_files(alloc, finder, words) {
+        Ok(FileJob::Check { options, paths }) => {
+            Ending::Checked(check_files(alloc, system, machine, options, &paths, writer))
+        }
+        Ok(
+            FileJob::Run {
+                task,
+                source,
+                target,
+            },
+        ) => run_task(
+            alloc, &task, source, target, system, machine, reader, writer, watcher,
+        ),
+        Ok(FileJob::LookUp { request, source }) => {
+            run_look_up(alloc, &request, source, system, writer)
+        }
+        Err(error) => Ending::Words(words_outcome(error)),
+    }
+}

@@ -1,0 +1,76 @@
+use std::alloc::{AllocError, AllocFailed};
+use szg_build::{BuildFault, DumpFault};
+use szg_file::{MapFault, Reason};
+use szg_place::PlaceFault;
+use szg_values::{NameFault, PlacementFault};
+
+/// Why a command is refused, in the order in which it meets these.
+#[derive(Clone, Copy)]
+pub enum Refusal {
+    /// The name is no material's.
+    Name(NameFault),
+    /// A word isn't a man's letter, a file and a rank.
+    Man,
+    /// The men make no placement.
+    Placement(PlacementFault),
+    /// The bytes are no table's: the offset and the reason.
+    At(u64, Reason),
+    /// A line, from 1, is none of a dump.
+    Line(u64, DumpFault),
+    /// The dump is well-formed, and no table can be built of it.
+    Build(BuildFault),
+    /// The table has no such part or side.
+    Part,
+    /// The subtable has no such index.
+    Index,
+    /// The value's block doesn't decode: its number in its part and side, and its offset in the file.
+    Block(u32, u64),
+    /// The table has no index for the placement, or no placement for the index.
+    Place(PlaceFault),
+    /// The table has no number for the placement in the class.
+    Map(MapFault),
+}
+
+/// Why a command wasn't carried out.
+#[derive(Drop)]
+pub enum Stop {
+    /// It is refused.
+    Refused(Refusal),
+    /// The reader or the writer failed.
+    Device,
+    /// A growth was refused.
+    Memory,
+}
+
+impl From<Refusal> for Stop {
+    ghost use Rattle.std.specs.Prelude.{◌≡◌};
+    ghost use Rattle.szg_commands.specs.declared.refusal.Stop.TheVariants.{Refused};
+
+    ghost from_gives = { λ refusal stop. stop ≡ Refused refusal };
+
+    fn from(refusal: Refusal) -> Stop {
+        Stop::Refused(refusal)
+    }
+}
+
+impl From<AllocError> for Stop {
+    ghost use Rattle.std.specs.Prelude.{◌≡◌};
+    ghost use Rattle.szg_commands.specs.declared.refusal.Stop.TheVariants.{Memory};
+
+    ghost from_gives = { λ _ stop. stop ≡ Memory };
+
+    fn from(_failed: AllocError) -> Stop {
+        Stop::Memory
+    }
+}
+
+impl<T: Drop> From<AllocFailed<T>> for Stop {
+    ghost use Rattle.std.specs.Prelude.{◌≡◌};
+    ghost use Rattle.szg_commands.specs.declared.refusal.Stop.TheVariants.{Memory};
+
+    ghost from_gives = { λ _ stop. stop ≡ Memory };
+
+    fn from(_failed: AllocFailed<T>) -> Stop {
+        Stop::Memory
+    }
+}

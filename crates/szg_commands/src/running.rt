@@ -1,0 +1,123 @@
+//! A run of the program: a command line on a machine's files and on an input and an output.
+ghost use Rattle.std.specs.Prelude.{◌≡◌, IfOk, OnErr, OnOk, map, string_bytes};
+
+use crate::finding::Clap;
+use crate::meant::meant_name;
+use crate::on_files::{Ending, run_words};
+use crate::outcome::Outcome;
+use crate::statuses::{ending_status, status_of};
+use std::alloc::{AllocError, Global};
+use std::env::{self, Env};
+use std::io::{self, BufWriter, Read, Write};
+use std::process::ExitCode;
+use std::rt::Files;
+use std::time::Clock;
+use szg_build::Watcher;
+use szg_files::{Disk, Monitored};
+use szg_io::Std;
+
+/// The words of the command line.
+pub fn words_given(rt: &(impl Env + AllocGlobal)) -> io::Result<Vec<String>> {
+    Ok(env::args(rt)?.collect(rt.alloc())?)
+}
+
+/// The words as texts.
+fn texts_of<'a>(alloc: Global, words: &'a [String]) -> Result<Vec<&'a str>, AllocError>
+    ensures { IfOk result (λ texts. map (λ text. text.now) texts.items ≡ map (λ word. string_bytes word) words.now) }
+{
+    let mut texts = Vec::new(alloc);
+    'words: for word in words {
+        texts.push(word.as_str())?;
+    }
+    Ok(texts)
+}
+
+/// The ending of a run after the last flush of the output: a device's failure if the flush failed.
+fn finish<'a>(ending: Ending<'a>, flushed: io::Result<()>) -> Ending<'a>
+    ensures done { OnOk flushed (result ≡ ending.entry) }
+    ensures failed { OnErr flushed (result ≡ Ending.Device) }
+{
+    match flushed {
+        Ok(()) => ending,
+        Err(_) => Ending::Device,
+    }
+}
+
+/// Whether something was refused.
+fn is_refused(ending: &Ending<'_>) -> bool {
+    match ending {
+        Ending::Words(Outcome::Refused) | Ending::Refused => true,
+        Ending::Checked(Ok(tally)) => tally.refused > 0,
+        _ => false,
+    }
+}
+
+/// Prints on standard error, for each word with the sides exchanged, the name that is meant.
+fn print_meant(rt: &(impl Eprint + AllocGlobal), texts: &[&str]) {
+    'texts: for text in texts {
+        if let Ok(Some(meant)) = meant_name(rt.alloc(), text) {
+            let _ = eprintln!(rt; "{text}: the side with more men comes first: {meant}");
+        }
+    }
+}
+
+/// Runs the words of a command line on a machine's files, on an input and an output; faults are printed on standard error.
+/// `watcher` sees a build.
+pub fn run_given(
+    rt: &(impl Eprint + AllocGlobal),
+    machine: &(impl Files + Clock),
+    words: &[String],
+    input: impl Read + Drop,
+    output: impl Write + Drop,
+    watcher: &mut impl Watcher,
+) -> ExitCode {
+    let Ok(texts) = texts_of(rt.alloc(), words) else {
+        return status_of(rt, &Outcome::Memory);
+    };
+    let (ending, is_closed) = run_on_streams(
+        rt.alloc(),
+        machine,
+        texts.as_slice(),
+        input,
+        output,
+        watcher,
+    );
+    if is_refused(&ending) && !is_closed {
+        print_meant(rt, texts.as_slice());
+    }
+    ending_status(rt, ending, is_closed)
+}
+
+/// Runs the words on a machine's files, on an input and an output; also whether the reader of the output closed it.
+/// Nothing that follows a table or a dump is taken from the input, so it isn't read ahead.
+fn run_on_streams<'a, D: Files + Clock>(
+    alloc: Global,
+    machine: &'a D,
+    texts: &'a [&'a str],
+    input: impl Read + Drop,
+    output: impl Write + Drop,
+    watcher: &mut impl Watcher,
+) -> (Ending<'a>, bool) {
+    let Ok(mut writer) = BufWriter::new(alloc, Monitored::new(output)) else {
+        return (Ending::Memory, false);
+    };
+    let mut disk = Disk::new(alloc, machine);
+    let mut reader = Std::new(input);
+    let mut output = Std::new(&mut writer);
+    let ending = run_words(
+        alloc,
+        &Clap,
+        texts,
+        &mut disk,
+        machine,
+        &mut reader,
+        &mut output,
+        watcher,
+    );
+    let flushed = writer.flush();
+    let is_closed = match writer.get_ref().error() {
+        Some(error) => error.kind() == io::ErrorKind::BrokenPipe,
+        None => false,
+    };
+    (finish(ending, flushed), is_closed)
+}

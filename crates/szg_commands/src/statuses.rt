@@ -1,0 +1,92 @@
+//! The statuses with which the program ends, and the lines on standard error that come with them.
+ghost use Rattle.std.specs.Prelude.{◌≡◌, ◌⊎◌, false, true, IfErr, IfOk};
+ghost use Rattle.std.specs.Process.{exit_status};
+ghost use Rattle.szg_commands.specs.Outcome.{OnDone, OnRefused, status_of};
+ghost use Rattle.szg_commands.specs.Statuses.{HasStatus, stop_status, tally_status};
+
+use crate::on_files::{Ending, FileFailure};
+use crate::outcome::Outcome;
+use std::io;
+use std::process::ExitCode;
+use szg_named::{Stop, Tally, fault_text};
+
+/// The status where the words of the command line can't be had: one is no text, or memory is short.
+pub fn no_words_status(rt: &impl Eprint, error: &io::Error) -> ExitCode
+    ensures { exit_status result ≡ 0 → ⊥ }
+{
+    if error.kind() == io::ErrorKind::OutOfMemory {
+        return status_of(rt, &Outcome::Memory);
+    }
+    match eprintln!(rt; "a word of the command line is no text") {
+        Ok(()) => ExitCode::from(2),
+        Err(_) => ExitCode::from(Outcome::Device.status()),
+    }
+}
+
+/// The status of an outcome, whose fault is printed on standard error; a device's where that fails.
+pub fn status_of(rt: &impl Eprint, outcome: &Outcome) -> ExitCode
+    ensures status { (exit_status result ≡ status_of outcome.now) ⊎ (exit_status result ≡ 3) }
+    // Where nothing is printed, nothing fails.
+    ensures done { OnDone outcome.now (exit_status result ≡ 0) }
+    ensures refused { OnRefused outcome.now (exit_status result ≡ 1) }
+{
+    let stated = match outcome {
+        Outcome::Done | Outcome::Refused => Ok(()),
+        Outcome::Device => eprintln!(rt; "device fault"),
+        Outcome::Memory => eprintln!(rt; "out of memory"),
+        Outcome::Words(error) => eprint!(rt; "{error}"),
+    };
+    ExitCode::from(match stated {
+        Ok(()) => outcome.status(),
+        Err(_) => Outcome::Device.status(),
+    })
+}
+
+/// The status of a check of files: 1 where one is refused, else 3 where one can't be read.
+fn files_status(rt: &impl Eprint, stated: Result<Tally, Stop>) -> ExitCode
+    ensures checked { IfOk stated (λ tally. exit_status result ≡ tally_status tally) }
+    ensures stopped { IfErr stated (λ stop. (exit_status result ≡ stop_status stop) ⊎ (exit_status result ≡ 3)) }
+{
+    match stated {
+        Ok(tally) if tally.refused > 0 => ExitCode::from(1),
+        Ok(tally) if tally.unread > 0 => ExitCode::from(3),
+        Ok(_) => ExitCode::from(0),
+        Err(Stop::Device) => status_of(rt, &Outcome::Device),
+        Err(Stop::Memory) => status_of(rt, &Outcome::Memory),
+    }
+}
+
+/// The status where a file failed: the file and the reason are printed on standard error.
+fn failure_status(rt: &(impl Eprint + AllocGlobal), failure: FileFailure<'_>) -> ExitCode
+    ensures { (exit_status result ≡ 3) ⊎ (exit_status result ≡ 4) }
+{
+    let FileFailure { path, fault } = failure;
+    let Ok(reason) = fault_text(rt.alloc(), &fault) else {
+        return status_of(rt, &Outcome::Memory);
+    };
+    let _ = eprintln!(rt; "{path}: {reason}");
+    ExitCode::from(Outcome::Device.status())
+}
+
+/// The status of a run. Nothing is printed if the reader of the output closed it.
+pub fn ending_status(
+    rt: &(impl Eprint + AllocGlobal),
+    ending: Ending<'_>,
+    is_closed: bool,
+) -> ExitCode
+    ensures closed { (is_closed ≡ true) → exit_status result ≡ 3 }
+    ensures open { (is_closed ≡ false) → HasStatus ending.entry (exit_status result) }
+{
+    if is_closed {
+        return ExitCode::from(Outcome::Device.status());
+    }
+    match ending {
+        Ending::Words(outcome) => status_of(rt, &outcome),
+        Ending::Checked(stated) => files_status(rt, stated),
+        Ending::Done(_) => status_of(rt, &Outcome::Done),
+        Ending::Refused => status_of(rt, &Outcome::Refused),
+        Ending::Failed(failure) => failure_status(rt, failure),
+        Ending::Device => status_of(rt, &Outcome::Device),
+        Ending::Memory => status_of(rt, &Outcome::Memory),
+    }
+}

@@ -1,0 +1,14 @@
+pub mod CompleteLaws
+pub mod CutLaws
+pub mod DecodedLaws
+pub mod EachLaws
+pub mod FileLaws
+pub mod FormatLaws
+pub mod GoodHeads
+pub mod GoodLaws
+pub mod GoodWhole
+pub mod HeadLaws
+pub mod RefusalLaws
+pub mod TableLaws
+pub mod UnreadLaws
+pub mod WholeLaws

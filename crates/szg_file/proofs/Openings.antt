@@ -1,0 +1,10 @@
+pub mod ForwardLaws
+pub mod FrontFinds
+pub mod FrontInputs
+pub mod FrontLaws
+pub mod FrontValid
+pub mod FrontTables
+pub mod OpenedLaws
+pub mod OutlinedLaws
+pub mod PlacingLaws
+pub mod WantedLaws

@@ -1,0 +1,238 @@
+-- Look-ups in a table that was opened by its front: the subtable, the bytes of the value's block, and the value.
+use Rattle.std.proofs.Common.{◌≡◌, ℕ, ◌+◌, ◌-◌, ◌*◌, ◌^◌, ◌<◌, ◌≤◌, List, length, take, drop, refl, sym, ap, subst, ◌∙◌, arith, drop-drop, Option, Some, None, option_map}
+use Rattle.std.specs.Prelude.{Result, Ok, Err, IfOk, IfErr, IfSome, MatchOption, position, slice_get, option_and_then}
+use Rattle.std.proofs.Math.Nat.{mul-le-mul_right}
+use Rattle.std.proofs.lemmas.List.{length-map, length-drop, length-take-le, take-take, drop-take}
+use Rattle.std.proofs.lemmas.Option.{slice_get-map}
+use Rattle.szg_values.specs.declared.Kind.{Kind}
+use Rattle.szg_block.specs.Block.{block_at, block_values}
+use Rattle.szg_block.specs.BlocksTrait.{bytes_at, raised}
+use Rattle.szg_block.specs.Sound.{SpellsNeeded}
+use Rattle.szg_block.specs.Steps.{block_location}
+use Rattle.szg_block.specs.Subtable.{layout_of, IsShapedHead, HasSoundIndex}
+use Rattle.szg_block.specs.declared.Sub.{Sub}
+use Rattle.szg_block.specs.declared.Sub.TheVariants.{Constant, Pairs}
+use Rattle.szg_block.proofs.Deciding.{has_total-true, first_bad_entry-None}
+use Rattle.szg_file.specs.Contents.{Contents, Slot, slots, Subtable}
+use Rattle.szg_file.specs.Fetching.{IsSpot, NamesBadBlock}
+use Rattle.szg_file.specs.FrontTable.{FrontKept, IsFrontOf}
+use Rattle.szg_file.specs.Index.{Index, slots_in, slot_in}
+use Rattle.szg_file.specs.Lookup.{byte_of}
+use Rattle.szg_file.specs.Opened.{requested_after}
+use Rattle.szg_file.specs.Placed.{whole_sub, blocks_size, Fits, IsSlotted}
+use Rattle.szg_file.specs.Unread.{front_at, IsDecoded, IsUnread}
+use Rattle.szg_file.specs.Wanted.{IsSpelledBy, wanted_block}
+use Rattle.szg_file.specs.Values.{subtable_at, constant_value}
+use Rattle.szg_file.specs.declared.reading.dropping.PlacedSub.{PlacedSub}
+use Rattle.szg_file.specs.declared.opened.fetching.FetchFault.{FetchFault}
+use Rattle.szg_file.specs.declared.opened.fetching.FetchFault.TheVariants.{Block, Source}
+use Rattle.szg_file.specs.declared.opened.fetching.Spot.{Spot}
+use Rattle.szg_file.proofs.Openings.OpenedLaws.{all_at}
+use Rattle.szg_file.proofs.Readers.PlacedSubs.{placed_at}
+use Rattle.szg_file.proofs.Tables.TableFinds.{is_at, side_lengths, side_at, found_there}
+
+-- ---- the subtable
+
+pub record IsFrontFound (kept : FrontKept) (content : List ℕ) (part side : ℕ) (slot : Slot) (sub : PlacedSub) : Type 0 where
+  pub is : front_at kept.index.material kept.index.kind content part side ≡ Some (slot, whole_sub content sub)
+  pub unread : IsUnread slot (whole_sub content sub)
+  pub fits : Fits (length content) kept.room sub
+
+module _ (kept : FrontKept) (content : List ℕ) (h : IsFrontOf kept content) where
+  pub as_many_slots : length (slots_in kept.index) ≡ length kept.subs
+  as_many_slots =
+      let t : Contents = h.table in
+      ap (λ (x : Index). length (slots_in x)) h.index_is ∙ side_lengths IsUnread (slots t.material t.kind t.parts) t.subtables h.unread
+      ∙ ap (λ (z : List Subtable). length z) (sym h.subs_are) ∙ length-map kept.subs (whole_sub content)
+
+  pub front_found : (part side : ℕ) (slot : Slot) (sub : PlacedSub) → IsSlotted (slots_in kept.index) kept.subs part side slot sub → IsFrontFound kept content part side slot sub
+  front_found part side slot sub (n, there, at, held) =
+      let t : Contents = h.table in
+      let here = subst (λ (x : Index). slice_get (slots_in x) n ≡ Some slot) h.index_is at in
+      let whole = subst (λ (z : List Subtable). slice_get z n ≡ Some (whole_sub content sub)) h.subs_are (slice_get-map (whole_sub content) kept.subs n ∙ ap (option_map (whole_sub content)) held) in
+      record {
+        is = ap (option_and_then (λ t. subtable_at t part side)) h.there
+            ∙ found_there part side (slots t.material t.kind t.parts) t.subtables n slot (whole_sub content sub) (ap (λ (x : Index). position (is_at part side) (slots_in x)) (sym h.index_is) ∙ there) here whole;
+        unread = side_at IsUnread (slots t.material t.kind t.parts) t.subtables h.unread n slot (whole_sub content sub) here whole;
+        fits = all_at (Fits (length content) kept.room) kept.subs n sub h.fits held;
+      }
+
+-- the slot that was found, by lists that equal the table's
+module _ (kept : FrontKept) (placed : List Slot) (subs : List PlacedSub) (part side : ℕ) (same : placed ≡ slots_in kept.index) (same_subs : subs ≡ kept.subs) where
+  pub many_slots : (content : List ℕ) → IsFrontOf kept content → length placed ≤ length subs
+  many_slots content h = let many = as_many_slots kept content h in omega (arith, many, ap length same, ap length same_subs)
+
+  pub no_front_slot : position (is_at part side) placed ≡ None → slot_in kept.index part side ≡ None
+  no_front_slot none =
+      ap (λ (z : List Slot). option_and_then (λ n. slice_get z n) (position (is_at part side) z)) (sym same) ∙ ap (option_and_then (λ n. slice_get placed n)) none
+
+  pub one_front_slot : (slot : Slot) (sub : PlacedSub) → IsSlotted placed subs part side slot sub → slot_in kept.index part side ≡ Some slot
+  one_front_slot slot sub (n, there, at, held) =
+      ap (λ (z : List Slot). option_and_then (λ n. slice_get z n) (position (is_at part side) z)) (sym same) ∙ ap (option_and_then (λ n. slice_get placed n)) there ∙ at
+
+  pub one_front_found : (content : List ℕ) → IsFrontOf kept content → (slot : Slot) (sub : PlacedSub) → IsSlotted placed subs part side slot sub → IsFrontFound kept content part side slot sub
+  one_front_found content h slot sub held =
+      front_found kept content h part side slot sub
+      (subst (λ (z : List Slot). IsSlotted z kept.subs part side slot sub) same (subst (λ (z : List PlacedSub). IsSlotted placed z part side slot sub) same_subs held))
+
+-- ---- its properties
+
+pub unread_known : (slot : Slot) (content : List ℕ) (sub : Sub) (first : ℕ) → IsUnread slot (whole_sub content (placed_at sub first)) → IsShapedHead sub slot.size × HasSoundIndex sub slot.size
+unread_known slot content (Constant flags byte) first h =
+    let least = h.0 in
+    let most = h.1 in
+    ((omega (arith, least, most), tt), tt)
+unread_known slot content (Pairs flags block_bits span_bits extra blocks code dict sparse lengths packed) first h =
+    let few = h.0.flags in (
+      (
+        omega (arith, few),
+        record {
+          block_bits = h.0.block_bits;
+          some_span = h.0.span_some;
+          span_bits = h.0.span_bits;
+          symbols = h.0.symbols;
+          sparse = h.1;
+          lengths = h.2;
+        },
+      ),
+      (has_total-true _ slot.size h.3.0, first_bad_entry-None _ h.3.1),
+    )
+
+-- ---- the bytes of the block
+
+block_is_at : (block_bits blocks first n : ℕ) (content : List ℕ) → n < blocks → block_at block_bits (bytes_at content first (blocks * 2 ^ block_bits)) n ≡ bytes_at content (first + n * 2 ^ block_bits) (2 ^ block_bits)
+unfolding block_at
+block_is_at block_bits blocks first n content there =
+    let w : ℕ = 2 ^ block_bits in
+    let k : ℕ = blocks * w - n * w in
+    let more : (n + 1) * w ≤ blocks * w = mul-le-mul_right w (omega arith) in
+    let next : (n + 1) * w ≡ n * w + w = omega arith in
+    let split : blocks * w ≡ n * w + k = omega (arith, more, next) in
+    let long : w ≤ k = omega (arith, more, next) in
+    ap (λ (m : ℕ). take w (drop (n * w) (take m (drop first content)))) split
+    ∙ ap (λ (z : List ℕ). take w z) (drop-take (n * w) k (drop first content))
+    ∙ take-take w k (drop (n * w) (drop first content)) long
+    ∙ ap (λ (z : List ℕ). take w z) (drop-drop (n * w) first content)
+
+-- the bytes of the value's block end within those of all blocks
+pub spot_inside : (sub : Sub) (first i count : ℕ) (spot : Spot) → IsSpot (placed_at sub first) i spot → first + blocks_size sub ≤ count → spot.offset + spot.count ≤ count
+spot_inside (Constant flags byte) first i count spot h inside = absurd h
+spot_inside (Pairs flags block_bits span_bits extra blocks code dict sparse lengths packed) first i count spot h inside =
+    let w : ℕ = 2 ^ block_bits in
+    let n : ℕ = spot.value.block in
+    let there = h.there in
+    let more : (n + 1) * w ≤ blocks * w = mul-le-mul_right w (omega (arith, there)) in
+    let next : (n + 1) * w ≡ n * w + w = omega arith in
+    omega (arith, more, next, h.offset, h.count, inside)
+
+-- ---- the value
+
+pub constant_decoded : (kind : Kind) (slot : Slot) (content : List ℕ) (sub : Sub) (first i value : ℕ) → layout_of sub ≡ None → value ≡ constant_value kind (byte_of sub) → IsDecoded kind (slot, whole_sub content (placed_at sub first)) i value
+constant_decoded kind slot content (Constant flags byte) first i value none is = is
+constant_decoded kind slot content (Pairs flags block_bits span_bits extra blocks code dict sparse lengths packed) first i value none is = absurd (cc none)
+
+pub value_decoded : (kind : Kind) (slot : Slot) (content : List ℕ) (sub : Sub) (first i value : ℕ) (spot : Spot) (block : List ℕ) → IsSpot (placed_at sub first) i spot → block ≡ bytes_at content spot.offset spot.count →
+    IfSome (layout_of sub) (λ layout. SpellsNeeded layout slot.size (block_location layout i).list block) → IfSome (layout_of sub) (λ layout. slice_get (block_values layout block) (block_location layout i).item ≡ Some value) →
+    IsDecoded kind (slot, whole_sub content (placed_at sub first)) i value
+value_decoded kind slot content (Constant flags byte) first i value spot block h is verified stated = absurd h
+value_decoded kind slot content (Pairs flags block_bits span_bits extra blocks code dict sparse lengths packed) first i value spot block h is verified stated =
+    let sub : Sub = Pairs flags block_bits span_bits extra blocks code dict sparse lengths packed in
+    let here : block ≡ block_at block_bits (bytes_at content first (blocks * 2 ^ block_bits)) spot.value.block =
+    is ∙ ap (λ (k : ℕ). bytes_at content k spot.count) h.offset ∙ ap (λ (k : ℕ). bytes_at content (first + spot.value.block * 2 ^ block_bits) k) h.count ∙ sym (block_is_at block_bits blocks first spot.value.block content h.there) in
+    let at = here ∙ ap (λ (k : ℕ). block_at block_bits (bytes_at content first (blocks * 2 ^ block_bits)) k) h.block in
+    subst (λ (z : List ℕ). IfSome (layout_of sub) (λ layout. SpellsNeeded layout slot.size (block_location layout i).list z × (slice_get (block_values layout z) (block_location layout i).item ≡ Some value))) at (verified, stated)
+
+pub bad_named : (slot : Slot) (content : List ℕ) (sub : Sub) (first i : ℕ) (spot : Spot) (block : List ℕ) (fault : FetchFault) → IsSpot (placed_at sub first) i spot → block ≡ bytes_at content spot.offset spot.count →
+    fault ≡ Block spot.value.block spot.offset → IfSome (layout_of sub) (λ layout. ¬ SpellsNeeded layout slot.size (block_location layout i).list block) →
+    NamesBadBlock content (slot, whole_sub content (placed_at sub first)) i fault
+bad_named slot content (Constant flags byte) first i spot block fault h is e bad = absurd h
+bad_named slot content (Pairs flags block_bits span_bits extra blocks code dict sparse lengths packed) first i spot block fault h is e bad =
+    let sub : Sub = Pairs flags block_bits span_bits extra blocks code dict sparse lengths packed in
+    let packed_bytes : List ℕ = bytes_at content first (blocks * 2 ^ block_bits) in
+    let at : block_at block_bits packed_bytes spot.value.block ≡ bytes_at content spot.offset (2 ^ block_bits) =
+    block_is_at block_bits blocks first spot.value.block content h.there ∙ ap (λ (k : ℕ). bytes_at content k (2 ^ block_bits)) (sym h.offset) in
+    let here : block ≡ block_at block_bits packed_bytes spot.value.block = is ∙ ap (λ (k : ℕ). bytes_at content spot.offset k) h.count ∙ sym at in
+    let not_spelled : IfSome (layout_of sub) (λ layout. ¬ SpellsNeeded layout slot.size spot.value.block (block_at block_bits packed_bytes spot.value.block)) =
+    subst (λ (z : List ℕ). IfSome (layout_of sub) (λ layout. ¬ SpellsNeeded layout slot.size spot.value.block z)) here
+    (subst (λ (k : ℕ). IfSome (layout_of sub) (λ layout. ¬ SpellsNeeded layout slot.size k block)) (sym h.block) bad) in
+    subst (λ (f : FetchFault). NamesBadBlock content (slot, whole_sub content (placed_at sub first)) i f) (sym e) ((h.block, not_spelled), at)
+
+-- ---- the bytes that a value needs
+
+pub wanted_none : (content : List ℕ) (sub : Sub) (first i : ℕ) → layout_of sub ≡ None → wanted_block (whole_sub content (placed_at sub first)) i ≡ None
+wanted_none content (Constant flags byte) first i none = refl
+wanted_none content (Pairs flags block_bits span_bits extra blocks code dict sparse lengths packed) first i none = absurd (cc none)
+
+pub wanted_spot : (content : List ℕ) (sub : Sub) (first i : ℕ) (spot : Spot) → IsSpot (placed_at sub first) i spot →
+    wanted_block (whole_sub content (placed_at sub first)) i ≡ Some (bytes_at content spot.offset spot.count)
+wanted_spot content (Constant flags byte) first i spot h = absurd h
+wanted_spot content (Pairs flags block_bits span_bits extra blocks code dict sparse lengths packed) first i spot h =
+    let bytes : List ℕ = bytes_at content first (blocks * 2 ^ block_bits) in
+    ap (λ (n : ℕ). Some (block_at block_bits bytes n)) (sym h.block)
+    ∙ ap (λ (z : List ℕ). Some z) (block_is_at block_bits blocks first spot.value.block content h.there)
+    ∙ ap (λ (k : ℕ). Some (bytes_at content k (2 ^ block_bits))) (sym h.offset)
+    ∙ ap (λ (k : ℕ). Some (bytes_at content spot.offset k)) (sym h.count)
+
+-- the block that the caller brings is the value's
+pub wanted_brought : (content : List ℕ) (sub : Sub) (first i : ℕ) (spot : Spot) (block : List ℕ) → IsSpot (placed_at sub first) i spot →
+    IfSome (wanted_block (whole_sub content (placed_at sub first)) i) (λ wanted. wanted ≡ block) → block ≡ bytes_at content spot.offset spot.count
+wanted_brought content sub first i spot block h is = sym (subst (λ (o : Option (List ℕ)). IfSome o (λ wanted. wanted ≡ block)) (wanted_spot content sub first i spot h) is)
+
+pub block_long : (content : List ℕ) (offset count : ℕ) (block : List ℕ) → block ≡ bytes_at content offset count → offset + count ≤ length content → length block ≡ count
+block_long content offset count block is inside =
+    let left : length (drop offset content) ≡ length content - offset = length-drop offset content in
+    ap (λ (z : List ℕ). length z) is ∙ length-take-le count (drop offset content) (omega (arith, left, inside))
+
+-- a subtable without a block has the first case, one with a block the second
+pub unwanted : (content : List ℕ) (sub : Sub) (first i : ℕ) (A : Type 0) (B : List ℕ → Type 0) → layout_of sub ≡ None → A → MatchOption (wanted_block (whole_sub content (placed_at sub first)) i) A B
+unwanted content sub first i A B none a = subst (λ (o : Option (List ℕ)). MatchOption o A B) (sym (wanted_none content sub first i none)) a
+
+pub wanted_long : (content : List ℕ) (sub : Sub) (first i : ℕ) (spot : Spot) (A : Type 0) (B : ℕ → Type 0) → IsSpot (placed_at sub first) i spot → first + blocks_size sub ≤ length content → B spot.count →
+    MatchOption (wanted_block (whole_sub content (placed_at sub first)) i) A (λ wanted. B (length wanted))
+wanted_long content sub first i spot A B h inside b =
+    let bytes : List ℕ = bytes_at content spot.offset spot.count in
+    let long : length bytes ≡ spot.count = block_long content spot.offset spot.count bytes refl (spot_inside sub first i (length content) spot h inside) in
+    subst (λ (o : Option (List ℕ)). MatchOption o A (λ wanted. B (length wanted))) (sym (wanted_spot content sub first i spot h)) (subst B (sym long) b)
+
+-- a block's fault is not that of a wrong length
+pub no_source : (r : Result ℕ FetchFault) (number offset : ℕ) → IfErr r (λ fault. fault ≡ Block number offset) → r ≡ Err Source → ⊥
+no_source (Ok value) number offset h e = cc e
+no_source (Err fault) number offset h e =
+    let source : fault ≡ Source = cc e in
+    let no : ◌≡◌ {A = FetchFault} Source (Block number offset) = sym source ∙ h in
+    cc no
+
+-- ---- the value that any bytes spell
+
+pub constant_spelled : (content : List ℕ) (sub : Sub) (first i : ℕ) (block : List ℕ) (stated : Option ℕ) → layout_of sub ≡ None → IsSpelledBy block (whole_sub content (placed_at sub first)) i stated
+constant_spelled content (Constant flags byte) first i block stated none = tt
+constant_spelled content (Pairs flags block_bits span_bits extra blocks code dict sparse lengths packed) first i block stated none = absurd (cc none)
+
+pub block_spelled : (content : List ℕ) (sub : Sub) (first i value : ℕ) (spot : Spot) (block : List ℕ) → IsSpot (placed_at sub first) i spot → length block ≡ spot.count →
+    IfSome (layout_of sub) (λ layout. slice_get (block_values layout block) (block_location layout i).item ≡ Some value) → IsSpelledBy block (whole_sub content (placed_at sub first)) i (Some value)
+block_spelled content (Constant flags byte) first i value spot block h long stated = absurd h
+block_spelled content (Pairs flags block_bits span_bits extra blocks code dict sparse lengths packed) first i value spot block h long stated = (λ e. sym stated, λ no. absurd (no (long ∙ h.count)))
+
+-- ---- the source
+
+pub spot_roomy : (sub : Sub) (first i room : ℕ) (spot : Spot) → IsSpot (placed_at sub first) i spot → IfSome (layout_of sub) (λ layout. 2 ^ layout.block_bits ≤ room) → spot.count ≤ room
+spot_roomy (Constant flags byte) first i room spot h roomy = absurd h
+spot_roomy (Pairs flags block_bits span_bits extra blocks code dict sparse lengths packed) first i room spot h roomy = omega (arith, h.count, roomy)
+
+pub constant_requested : (content : List ℕ) (sub : Sub) (first queried : ℕ) → layout_of sub ≡ None → queried ≡ requested_after (whole_sub content (placed_at sub first)) queried
+constant_requested content (Constant flags byte) first queried none = refl
+constant_requested content (Pairs flags block_bits span_bits extra blocks code dict sparse lengths packed) first queried none = absurd (cc none)
+
+pub spot_requested : (content : List ℕ) (sub : Sub) (first i old new long : ℕ) (spot : Spot) → IsSpot (placed_at sub first) i spot → new ≡ raised old long → long ≡ spot.count → new ≡ requested_after (whole_sub content (placed_at sub first)) old
+spot_requested content (Constant flags byte) first i old new long spot h one e = absurd h
+spot_requested content (Pairs flags block_bits span_bits extra blocks code dict sparse lengths packed) first i old new long spot h one e = one ∙ ap (λ (k : ℕ). raised old k) (e ∙ h.count)
+
+-- ---- two clauses of one result
+
+pub ok_both : {X E : Type 0} (r : Result X E) (P Q S : X → Type 0) → IfOk r P → IfOk r Q → ((x : X) → P x → Q x → S x) → IfOk r S
+ok_both (Ok x) P Q S h k both = both x h k
+ok_both (Err e) P Q S h k both = tt
+
+pub err_both : {X E : Type 0} (r : Result X E) (P Q S : E → Type 0) → IfErr r P → IfErr r Q → ((e : E) → P e → Q e → S e) → IfErr r S
+err_both (Ok x) P Q S h k both = tt
+err_both (Err e) P Q S h k both = both e h k

@@ -1,0 +1,34 @@
+-- The lists of a table that was read are at most as long as the growth that was counted, which is within the bound
+-- of the reader state.
+use Rattle.std.proofs.Common.{◌≡◌, ℕ, ◌+◌, ◌*◌, ◌≤◌, List, [], length, option_map, ap, arith}
+use Rattle.std.proofs.lemmas.List.{length-map}
+use Rattle.szg_values.specs.declared.Kind.{Kind}
+use Rattle.szg_values.specs.Material.{Sides}
+use Rattle.szg_file.specs.declared.reading.front.Front.{Front}
+use Rattle.szg_file.specs.declared.reading.Pieces.{Pieces}
+use Rattle.szg_file.specs.FilePieces.{contents_of}
+use Rattle.szg_file.specs.Grown.{HasCounted, pieces_lengths}
+use Rattle.szg_file.specs.Held.{Shown, file_bytes, part_of, subtable_of, map_of}
+use Rattle.szg_file.specs.Grown.{part_length}
+use Rattle.szg_file.specs.WholeRead.{sub_lengths, map_lengths, list_lengths}
+use Rattle.szg_file.proofs.Readers.Grown.{sum_shown}
+
+-- the table of these contents, with the padding bytes of the reader state
+abbrev pub shown_by : Sides → Kind → Pieces → Front → Shown
+shown_by m k p front = record { contents = contents_of m k p; filled = front.fill.items }
+
+pub lists_were_counted : (m : Sides) (k : Kind) (p : Pieces) (first last : Front) (bytes : List ℕ) →
+    first.place ≡ 0 → first.growth ≡ 0 → first.fill.items ≡ [] →
+    last.place ≡ first.place + length bytes → bytes ≡ file_bytes (shown_by m k p last) → HasCounted first last 0 (pieces_lengths p) →
+    list_lengths (shown_by m k p last) ≤ 4 * length (file_bytes (shown_by m k p last)) + 65536
+lists_were_counted m k p first last bytes place growth fill far whole counted =
+    let parts = sum_shown part_length part_of p.parts.bytes.items in
+    let subs = sum_shown sub_lengths subtable_of p.subs.items in
+    let maps = sum_shown map_lengths (option_map map_of) p.maps.items in
+    let part_count = length-map p.parts.bytes.items part_of in
+    let sub_count = length-map p.subs.items subtable_of in
+    let map_count = length-map p.maps.items (option_map map_of) in
+    let none : length first.fill.items ≡ 0 = ap length fill in
+    let long : length bytes ≡ length (file_bytes (shown_by m k p last)) = ap length whole in
+    let bound = last.bound in
+    omega (arith, counted, parts, subs, maps, part_count, sub_count, map_count, place, growth, none, far, long, bound)

@@ -1,0 +1,10 @@
+pub mod AssembledLaws
+pub mod Bytes
+pub mod Compared
+pub mod IndexLaws
+pub mod OnlyWanted
+pub mod SoundLaws
+pub mod Standing
+pub mod StepsFound
+pub mod TableFinds
+pub mod IndexGroups

@@ -1,0 +1,5 @@
+pub mod FileLengths
+pub mod SectionLaws
+pub mod TallyLaws
+pub mod WritingLaws
+pub mod WrittenFile

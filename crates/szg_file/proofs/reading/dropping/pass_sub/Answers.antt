@@ -1,0 +1,59 @@
+use Rattle.std.proofs.Common.{◌≡◌, ℕ, refl, ap, None, length, List, sym, arith}
+use Rattle.std.proofs.lemmas.List.{length-take-le}
+use Rattle.std.proofs.lemmas.Result.{err_from_is_err_and}
+use Rattle.szg_block.specs.Subtable.{layout_of}
+use Rattle.szg_file.specs.File.{filled_to}
+use Rattle.szg_file.specs.declared.fault.ReadFault.TheVariants.{Memory}
+use Rattle.szg_file.proofs.Readers.PassedBlocks.{valid_at}
+use Rattle.szg_file.proofs.Readers.PlacedSubs.{lacks_first, reads_unfilled, reads_constant, constant_fits, placed_fits, reads_placed, reads_placed_stopped, ends_at, room_is, roomy_for, still_long}
+use Rattle.szg_file.proofs.reading.dropping.pass_sub.Goals as goal
+
+pub returns-then-is_constant-clause-blocks : goal.returns-then-is_constant-clause-blocks
+returns-then-is_constant-clause-blocks g c =
+    rw (← c.measured.view_is) (reads_constant c.measured.inside.slot c.measured.inside.sub 0 (c.is_constant.ensures.0 c.if-is_constant.true))
+
+pub returns-then-is_constant-clause-fits : goal.returns-then-is_constant-clause-fits
+returns-then-is_constant-clause-fits g c = constant_fits _ _ c.measured.inside.sub (c.is_constant.ensures.0 c.if-is_constant.true)
+
+pub returns-in_err-make_room-clause-blocks : goal.returns-in_err-make_room-clause-blocks
+returns-in_err-make_room-clause-blocks g c =
+    let p = err_from_is_err_and c.from_residual-in_err-make_room.result c.from_residual-in_err-make_room.ensures.1 in
+    let memory : c.in_err-make_room.field-0.0 ≡ Memory = let e = c.in_err-make_room.ensures.memory in cc in
+    rw (p.1, p.2, memory) (lacks_first _ _)
+
+pub returns-in_err-take_fill-clause-blocks : goal.returns-in_err-take_fill-clause-blocks
+returns-in_err-take_fill-clause-blocks g c =
+    let p = err_from_is_err_and c.from_residual-in_err-take_fill.result c.from_residual-in_err-take_fill.ensures.1 in
+    let some : layout_of c.measured.inside.sub ≡ None → ⊥ = λ e. let t = c.is_constant.ensures.1 e in cc in
+    rw (p.1, p.2, ← c.measured.view_is) (reads_unfilled c.measured.inside.slot c.measured.inside.sub _ c.in_err-take_fill.field-0.0 some c.in_err-take_fill.ensures.fill)
+
+pub returns-in_err-pass_blocks_to-clause-blocks : goal.returns-in_err-pass_blocks_to-clause-blocks
+returns-in_err-pass_blocks_to-clause-blocks g c =
+    let p = err_from_is_err_and c.from_residual-in_err-pass_blocks_to.result c.from_residual-in_err-pass_blocks_to.ensures.1 in
+    let some : layout_of c.measured.inside.sub ≡ None → ⊥ = λ e. let t = c.is_constant.ensures.1 e in cc in
+    let read = rw c.expect.ensures.same at c.in_err-pass_blocks_to.ensures.blocks in
+    rw (p.1, p.2, ← c.measured.view_is) (reads_placed_stopped c.measured.inside.slot c.measured.inside.slot.size c.measured.inside.sub c.in_err-pass_blocks_to.field-0.0 _ _ refl some c.in_ok-take_fill.ensures.fill read)
+
+pub pass_blocks_to-requires-clause-room : goal.pass_blocks_to-requires-clause-room
+pass_blocks_to-requires-clause-room g c =
+    let long : length c.deref_mut.result.now ≡ length c.make_room.new.buffer.items = ap (λ (l : List ℕ). length l) c.deref_mut.ensures.value in
+    room_is c.measured.inside.sub c.block_bytes-size.result _ c.block_bytes-size.ensures.bytes
+    (length-take-le c.block_bytes-size.result c.deref_mut.result.now (omega (arith, long, c.in_ok-make_room.ensures.room)))
+
+pub returns-clause-blocks : goal.returns-clause-blocks
+returns-clause-blocks g c =
+    let some : layout_of c.measured.inside.sub ≡ None → ⊥ = λ e. let t = c.is_constant.ensures.1 e in cc in
+    let at = valid_at (filled_to 64) _ _ c.requires.at c.in_ok-take_fill.ensures.fill in
+    let read = rw c.expect.ensures.same at c.in_ok-pass_blocks_to.ensures.blocks in
+    let ends = ends_at c.measured.inside.slot.size c.measured.inside.sub c.take_fill.new.front c.pass_blocks_to.new.front g.R.Input c.take_fill.new.input c.pass_blocks_to.new.input at c.in_ok-pass_blocks_to.ensures.count read in
+    rw (← c.measured.view_is) (reads_placed c.measured.inside.slot c.measured.inside.slot.size c.measured.inside.sub refl some at ends c.in_ok-take_fill.ensures.fill read)
+
+pub returns-clause-fits : goal.returns-clause-fits
+returns-clause-fits g c =
+    let some : layout_of c.measured.inside.sub ≡ None → ⊥ = λ e. let t = c.is_constant.ensures.1 e in cc in
+    let at = valid_at (filled_to 64) _ _ c.requires.at c.in_ok-take_fill.ensures.fill in
+    let read = rw c.expect.ensures.same at c.in_ok-pass_blocks_to.ensures.blocks in
+    let ends = ends_at c.measured.inside.slot.size c.measured.inside.sub c.take_fill.new.front c.pass_blocks_to.new.front g.R.Input c.take_fill.new.input c.pass_blocks_to.new.input at c.in_ok-pass_blocks_to.ensures.count read in
+    let long = still_long c.make_room.new.buffer.len c.buffer-1.given c.make_room.new.buffer.items (sym c.make_room.new.buffer.ok.0) in
+    placed_fits _ _ c.take_fill.new.front.place c.measured.inside.sub some ends
+    (roomy_for c.measured.inside.sub c.block_bytes-size.result _ c.block_bytes-size.ensures.bytes (omega (arith, long, c.in_ok-make_room.ensures.room)))

@@ -1,0 +1,15 @@
+use Rattle.std.proofs.Common.{◌≡◌, ◌+◌, ◌*◌, ◌≤◌, ◌^◌, length, map, take, Ok}
+use Rattle.szg_file.specs.File.{Begun, each, head_field, begun}
+use Rattle.szg_file.specs.Reading.{Reading}
+use Rattle.szg_file.specs.Grown.{HasCounted, begun_lengths}
+use Rattle.szg_file.proofs.reading.heads.read_heads.Given as goal
+
+abbrev pub invariant-slots : goal.invariant-slots
+invariant-slots g l = record {
+  read : Reading (each head_field (take l.slot-index l.slots)) (λ list. map (λ (b : Begun). b.subtable) list.items) l.fn.front l.front g.R.Input l.fn.input l.input (Ok l.list);
+  made : l.list.items ≡ begun (take l.slot-index l.slots) (map (λ (b : Begun). b.subtable) l.list.items);
+  count : length l.list.items ≡ l.slot-index;
+  place : l.front.place ≤ l.fn.front.place + l.slot-index * 2 ^ 18;
+  growth : l.front.growth + 2 * l.fn.front.place ≤ l.fn.front.growth + 2 * l.front.place + l.slot-index;
+  grown : HasCounted l.fn.front l.front 0 (length l.list.items + begun_lengths l.list.items);
+}

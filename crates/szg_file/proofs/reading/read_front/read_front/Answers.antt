@@ -1,0 +1,57 @@
+use Rattle.std.proofs.Common.{◌≡◌, ap, List, Ok, Err, refl}
+use Rattle.std.proofs.lemmas.Result.{err_from_is_err_and}
+use Rattle.szg_values.specs.declared.Kind.{Kind}
+use Rattle.szg_values.specs.Material.{Sides}
+use Rattle.szg_file.specs.Contents.{slots}
+use Rattle.szg_file.specs.File.{Begun, begun, each, sparse_field, lengths_field}
+use Rattle.szg_file.specs.FilePieces.{Opened, opened, opening_field, measured_field}
+use Rattle.szg_file.specs.Format.{Format, means, ◌>>=◌}
+use Rattle.szg_file.specs.FrontRead.{front_read}
+use Rattle.szg_file.specs.Unread.{FrontRead}
+use Rattle.szg_file.proofs.Grammar.EachLaws.{then-then}
+use Rattle.szg_file.proofs.Openings.FrontLaws.{after_opening}
+use Rattle.szg_file.proofs.Readers.ReadingLaws.{reads_then, reads_stopped, reads_nothing}
+use Rattle.szg_file.proofs.Readers.Taken.{reads_equal}
+use Rattle.szg_file.proofs.reading.read_front.read_front.Goals as goal
+
+-- the contents of a front whose sparse indexes and block lengths were read
+abbrev made : Opened → List Begun → Format FrontRead
+made o measured = means (record { byte4 = o.byte4; parts = o.parts; maps = o.maps; measured = measured })
+
+-- what follows the opening: the sparse indexes and block lengths
+steps : (m : Sides) (k : Kind) (o : Opened) → measured_field (begun (slots m k o.parts) o.heads) >>= made o ≡ after_opening m k o
+steps m k o = then-then (each sparse_field (begun (slots m k o.parts) o.heads)) (each lengths_field) (made o)
+
+pub returns-in_err-byte4-clause-front : goal.returns-in_err-byte4-clause-front
+returns-in_err-byte4-clause-front g c =
+    let m : Sides = c.args.material.now in
+    let k : Kind = c.args.kind in
+    let p = err_from_is_err_and c.from_residual.result c.from_residual.ensures.1 in
+    rw (p.1, p.2) (reads_stopped (opening_field m k) (after_opening m k) opened _ c.in_err-byte4.field-0.0 c.in_err-byte4.ensures.opening)
+
+pub returns-in_err-measured-clause-front : goal.returns-in_err-measured-clause-front
+returns-in_err-measured-clause-front g c =
+    let m : Sides = c.args.material.now in
+    let k : Kind = c.args.kind in
+    let o : Opened = opened c.in_ok-byte4.field-0 in
+    let list : List Begun = begun (slots m k o.parts) o.heads in
+    let at : c.in_ok-byte4.field-0.heads.items ≡ list = c.in_ok-byte4.ensures.begun in
+    let p = err_from_is_err_and c.from_residual-in_err-measured.result c.from_residual-in_err-measured.ensures.1 in
+    rw (p.1, p.2)
+    (reads_then (opening_field m k) (after_opening m k) opened _ c.in_ok-byte4.field-0 c.in_ok-byte4.ensures.opening
+    (reads_equal (measured_field list >>= made o) (after_opening m k o) _ (Err c.in_err-measured.field-0.0) (steps m k o)
+    (reads_stopped (measured_field list) (made o) (λ measured. measured.items) _ c.in_err-measured.field-0.0
+    (reads_equal (measured_field c.in_ok-byte4.field-0.heads.items) (measured_field list) (λ measured. measured.items) (Err c.in_err-measured.field-0.0) (ap measured_field at) c.in_err-measured.ensures.lengths))))
+
+pub returns-clause-front : goal.returns-clause-front
+returns-clause-front g c =
+    let m : Sides = c.args.material.now in
+    let k : Kind = c.args.kind in
+    let o : Opened = opened c.in_ok-byte4.field-0 in
+    let list : List Begun = begun (slots m k o.parts) o.heads in
+    let at : c.in_ok-byte4.field-0.heads.items ≡ list = c.in_ok-byte4.ensures.begun in
+    reads_then (opening_field m k) (after_opening m k) opened front_read c.in_ok-byte4.field-0 c.in_ok-byte4.ensures.opening
+    (reads_equal (measured_field list >>= made o) (after_opening m k o) _ (Ok _) (steps m k o)
+    (reads_then (measured_field list) (made o) (λ measured. measured.items) front_read c.in_ok-measured.measured
+    (reads_equal (measured_field c.in_ok-byte4.field-0.heads.items) (measured_field list) (λ measured. measured.items) (Ok c.in_ok-measured.measured) (ap measured_field at) c.in_ok-measured.ensures.lengths)
+    (reads_nothing _ front_read _ refl)))

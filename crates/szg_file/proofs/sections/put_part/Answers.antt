@@ -1,7 +1,0 @@
-use Rattle.szg_file.proofs.SectionLaws.{took_none, took_field}
-use Rattle.szg_file.proofs.sections.put_part.Goals as goal
-
-pub returns : goal.returns
-returns g c =
-    let takes = g.S.SectionSink.takes in
-    took_field takes c.deref.ensures.value c.bytes.ensures (took_field takes c.deref-2.ensures.value c.bytes-2.ensures (took_none takes _ _))

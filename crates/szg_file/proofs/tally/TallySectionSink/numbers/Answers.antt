@@ -1,7 +1,0 @@
-use Rattle.std.proofs.Common.{arith}
-use Rattle.szg_file.proofs.FileLengths.{pairs-length}
-use Rattle.szg_file.proofs.TallyLaws.{counts_field}
-use Rattle.szg_file.proofs.tally.TallySectionSink.numbers.Goals as goal
-
-pub returns : goal.returns
-returns g c = counts_field _ _ (pairs-length c.args.list.now) (omega (arith, c.field.ensures.place)) c.field.ensures.fill

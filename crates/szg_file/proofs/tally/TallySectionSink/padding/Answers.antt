@@ -1,5 +1,0 @@
-use Rattle.szg_file.proofs.TallyLaws.{counts_padding}
-use Rattle.szg_file.proofs.tally.TallySectionSink.padding.Goals as goal
-
-pub returns : goal.returns
-returns g c = counts_padding c.args.unit c.requires.whole c.skip.ensures

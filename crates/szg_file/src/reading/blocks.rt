@@ -1,0 +1,170 @@
+ghost use Rattle.std.specs.Prelude.{◌≡◌, ◌+◌, ◌*◌, ◌≤◌, ◌<◌, ◌^◌, length, map, take, drop, OnOk, IfSome, IfNone, IsSomeAnd, IsTrue, ◌↔◌, None, IfOk};
+ghost use Rattle.szg_code.specs.Acceptance.{IsCode};
+ghost use Rattle.szg_block.specs.Block.{start};
+ghost use Rattle.szg_block.specs.Subtable.{layout_of, IsShapedHead};
+ghost use Rattle.szg_file.specs.File.{each, block_field, blocks_from, blocks_field};
+ghost use Rattle.szg_file.specs.Held.{subtable_of};
+ghost use Rattle.szg_file.specs.Reading.{Reading};
+ghost use Rattle.szg_file.specs.Grown.{HasCounted, begun_lengths, subs_lengths};
+ghost use Rattle.szg_file.specs.WholeRead.{sub_lengths};
+
+use crate::begun::Measured;
+use crate::fault::{ReadFault, Reason};
+use crate::reading::front::{Front, append};
+use crate::reading::taking::{take_fill, take_more};
+use crate::typed::code_fits;
+use std::alloc::Global;
+use szg_block::{Sub, check_block_from};
+use szg_io::Input;
+
+/// Reads the blocks of each subtable that is not constant.
+pub fn read_blocks<R: Input>(
+    alloc: Global,
+    list: Vec<Measured>,
+    input: &mut R,
+    front: &mut Front,
+) -> Result<Vec<Sub>, ReadFault>
+    requires place { front.old.place < 2 ^ 60 }
+    requires few { length list.items ≤ 8 }
+    requires paid { front.old.growth ≤ 2 * front.old.place + 2 ^ 14 }
+    ensures blocks { Reading (each blocks_field list.items) (λ subs. map subtable_of subs.items) front.old front.new R.Input input.old input.new result }
+    ensures place { OnOk result (front.new.place ≤ front.old.place + 2 ^ 55) }
+    ensures growth { OnOk result (front.new.growth + 2 * front.old.place ≤ front.old.growth + 2 * front.new.place + 8) }
+    ensures count { IfOk result (λ subs. length subs.items ≡ length list.items) }
+    ensures grown { IfOk result (λ subs. HasCounted front.old front.new (begun_lengths list.items) (length subs.items + subs_lengths subs.items)) }
+{
+    let mut subs = Vec::new(alloc);
+    'subtables: for measured in list {
+        let sub = read_sub(alloc, measured, input, front)?;
+        append(&mut subs, sub, front)?;
+    }
+    Ok(subs)
+}
+
+/// Reads one subtable's blocks into it, after their padding. A constant subtable has none.
+fn read_sub<R: Input>(
+    alloc: Global,
+    measured: Measured,
+    input: &mut R,
+    front: &mut Front,
+) -> Result<Sub, ReadFault>
+    requires place { front.old.place < 2 ^ 60 + 2 ^ 55 }
+    requires paid { front.old.growth ≤ 2 * front.old.place + 2 ^ 15 }
+    ensures blocks { Reading (blocks_field measured) subtable_of front.old front.new R.Input input.old input.new result }
+    ensures place { OnOk result (front.new.place ≤ front.old.place + 2 ^ 51) }
+    ensures growth { OnOk result (front.new.growth + 2 * front.old.place ≤ front.old.growth + 2 * front.new.place) }
+    ensures grown { IfOk result (λ sub. HasCounted front.old front.new (sub_lengths measured.subtable) (sub_lengths (subtable_of sub))) }
+{
+    let Measured { slot, mut sub, .. } = measured;
+    if is_constant(&sub) {
+        return Ok(sub);
+    }
+    take_fill(alloc, 64, input, front)?;
+    let taken = take_packed(alloc, &sub, slot.size, input, front)?;
+    if let Sub::Pairs { packed, .. } = &mut sub {
+        *packed = taken;
+    }
+    Ok(sub)
+}
+
+pub fn is_constant(sub: &Sub) -> bool
+    ensures { IsTrue result ↔ (layout_of sub.now ≡ None) }
+{
+    match sub {
+        Sub::Constant { .. } => true,
+        Sub::Pairs { .. } => false,
+    }
+}
+
+/// Reads the blocks of a subtable in order, each with its check.
+fn take_packed<R: Input>(
+    alloc: Global,
+    sub: &Sub,
+    size: u64,
+    input: &mut R,
+    front: &mut Front,
+) -> Result<Vec<u8>, ReadFault>
+    requires place { front.old.place < 2 ^ 61 }
+    requires paid { front.old.growth ≤ 2 * front.old.place + 2 ^ 15 }
+    requires shaped { IsShapedHead sub.now size }
+    ensures blocks { IfSome (layout_of sub.now) (λ layout. Reading (blocks_from layout size 0 layout.blocks) (λ packed. packed.items) front.old front.new R.Input input.old input.new result) }
+    ensures place { OnOk result (front.new.place ≤ front.old.place + 2 ^ 50) }
+    ensures growth { OnOk result (front.new.growth + 2 * front.old.place ≤ front.old.growth + 2 * front.new.place) }
+    ensures grown { IfOk result (λ packed. HasCounted front.old front.new 0 (length packed.items)) }
+{
+    let mut packed = Vec::new(alloc);
+    let Sub::Pairs {
+        blocks,
+        code,
+        lengths,
+        ..
+    } = sub
+    else {
+        return Ok(packed);
+    };
+    code_fits(code);
+    let mut before = 0;
+    'each_block: for n in 0..*blocks {
+        take_block(&mut packed, sub, size, n, before, input, front)?;
+        before += lengths[n as usize] as u64 + 1;
+    }
+    Ok(packed)
+}
+
+/// Reads block `n`, appends it to `packed`, and checks it there. `before` is the number of values in the blocks
+/// before it.
+fn take_block<R: Input>(
+    packed: &mut Vec<u8>,
+    sub: &Sub,
+    size: u64,
+    n: u32,
+    before: u64,
+    input: &mut R,
+    front: &mut Front,
+) -> Result<(), ReadFault>
+    requires place { front.old.place < 2 ^ 61 + 2 ^ 50 }
+    requires paid { front.old.growth ≤ 2 * front.old.place + 2 ^ 15 }
+    requires shaped { IsShapedHead sub.now size }
+    requires code { IfSome (layout_of sub.now) (λ layout. IsCode layout.code) }
+    requires there { IsSomeAnd (layout_of sub.now) (λ layout. n < layout.blocks) }
+    requires before { IsSomeAnd (layout_of sub.now) (λ layout. before ≡ start layout.lengths n) }
+    ensures block { IfSome (layout_of sub.now) (λ layout. Reading (block_field layout size n) (λ _. drop (length packed.old.items) packed.new.items) front.old front.new R.Input input.old input.new result) }
+    ensures kept { OnOk result (take (length packed.old.items) packed.new.items ≡ packed.old.items) }
+    ensures place { OnOk result (front.new.place ≤ front.old.place + 2 ^ 18) }
+    ensures growth { OnOk result (front.new.growth + 2 * front.old.place ≤ front.old.growth + 2 * front.new.place) }
+    ensures grown { OnOk result (HasCounted front.old front.new (length packed.old.items) (length packed.new.items)) }
+{
+    let place = front.place;
+    let at = packed.len();
+    take_more(packed, block_bytes(sub), input, front)?;
+    match check_block_from(sub, size, n, before, &packed[at..]) {
+        Ok(()) => Ok(()),
+        Err(_) => Err(ReadFault::Refused {
+            place,
+            reason: Reason::Word,
+        }),
+    }
+}
+
+/// Returns the number of bytes of each block, 0 for a constant subtable.
+pub fn block_bytes(sub: &Sub) -> u64
+    requires { IfSome (layout_of sub.now) (λ layout. layout.block_bits ≤ 18) }
+    ensures bytes { IfSome (layout_of sub.now) (λ layout. result ≡ 2 ^ layout.block_bits) }
+    ensures none { IfNone (layout_of sub.now) (result ≡ 0) }
+    ensures most { result ≤ 2 ^ 18 }
+{
+    match sub {
+        Sub::Constant { .. } => 0,
+        Sub::Pairs { block_bits, .. } => 1 << *block_bits,
+    }
+}
+
+/// Returns the number of blocks, 0 for a constant subtable.
+pub fn block_count(sub: &Sub) -> u32
+    ensures { IfSome (layout_of sub.now) (λ layout. result ≡ layout.blocks) }
+{
+    match sub {
+        Sub::Constant { .. } => 0,
+        Sub::Pairs { blocks, .. } => *blocks,
+    }
+}

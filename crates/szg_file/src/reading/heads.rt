@@ -1,0 +1,303 @@
+ghost use Rattle.std.specs.Prelude.{◌≡◌, ◌≢◌, ◌+◌, ◌-◌, ◌*◌, ◌≤◌, ◌<◌, ◌^◌, length, map, nat_lt, nat_le, ◌&&◌, false, OnOk, IfOk};
+ghost use Rattle.szg_code.specs.Acceptance.{IsCode};
+ghost use Rattle.szg_file.specs.Contents.{has_bit};
+ghost use Rattle.szg_file.specs.File.{each, head_field, packed_head, byte_where, lowest_list, code_with, dictionary, begun};
+ghost use Rattle.szg_file.specs.HeadPieces.{sizes_field, entries_field, Refuses, entries_refusal};
+ghost use Rattle.szg_file.specs.Held.{subtable_of, IsHeaded};
+ghost use Rattle.szg_file.specs.Reading.{Reading};
+ghost use Rattle.szg_file.specs.Grown.{HasCounted, begun_lengths};
+ghost use Rattle.szg_file.specs.WholeRead.{sub_lengths};
+
+use crate::begun::{Begun, Slot};
+use crate::fault::{ReadFault, Reason};
+use crate::flags::has_bit;
+use crate::reading::front::{Front, append};
+use crate::reading::taking::{
+    read_byte, read_number, take_entries, take_field, take_numbers, take_spare,
+};
+use byteorder::{ByteOrder, LittleEndian};
+use std::alloc::Global;
+use szg_block::Sub;
+use szg_code::{Code, CodeFault};
+use szg_io::Input;
+use szg_pairs::{Dict, DictFault};
+
+/// Reads the header of each subtable: its flags, and one byte of a constant subtable, or else the sizes, the code
+/// and the dictionary of its packed values (de Man's format).
+///
+/// `BlockBits`, `SpanBits`, `CodeLengths`, `LowestOrder`, `TooFull`, `Child`, `Cycle` and `LongSymbol` are checked
+/// in the order of a header's bytes.
+pub fn read_heads<R: Input>(
+    alloc: Global,
+    slots: &[Slot],
+    input: &mut R,
+    front: &mut Front,
+) -> Result<Vec<Begun>, ReadFault>
+    requires place { front.old.place < 2 ^ 60 }
+    requires few { length slots.now ≤ 8 }
+    requires paid { front.old.growth ≤ 2 * front.old.place + 2 ^ 14 }
+    ensures heads { Reading (each head_field slots.now) (λ list. map (λ begun. begun.subtable) list.items) front.old front.new R.Input input.old input.new result }
+    ensures begun { IfOk result (λ list. list.items ≡ begun slots.now (map (λ begun. begun.subtable) list.items)) }
+    ensures count { IfOk result (λ list. length list.items ≡ length slots.now) }
+    ensures place { OnOk result (front.new.place ≤ front.old.place + 2 ^ 22) }
+    ensures growth { OnOk result (front.new.growth + 2 * front.old.place ≤ front.old.growth + 2 * front.new.place + 8) }
+    ensures grown { IfOk result (λ list. HasCounted front.old front.new 0 (length list.items + begun_lengths list.items)) }
+{
+    let mut list = Vec::new(alloc);
+    'slots: for slot in slots {
+        let begun = read_head(alloc, *slot, input, front)?;
+        append(&mut list, begun, front)?;
+    }
+    Ok(list)
+}
+
+/// Reads the header of a subtable.
+fn read_head<R: Input>(
+    alloc: Global,
+    slot: Slot,
+    input: &mut R,
+    front: &mut Front,
+) -> Result<Begun, ReadFault>
+    requires place { front.old.place + 2 ^ 18 < 2 ^ 62 }
+    requires paid { front.old.growth ≤ 2 * front.old.place + 2 ^ 15 }
+    ensures head { Reading (head_field slot) (λ begun. begun.subtable) front.old front.new R.Input input.old input.new result }
+    ensures slot { IfOk result (λ begun. begun ≡ record { slot = slot; subtable = begun.subtable; index = 0 }) }
+    ensures place { OnOk result (front.new.place ≤ front.old.place + 2 ^ 18) }
+    ensures growth { OnOk result (front.new.growth + 2 * front.old.place ≤ front.old.growth + 2 * front.new.place) }
+    ensures grown { IfOk result (λ begun. HasCounted front.old front.new 0 (sub_lengths begun.subtable)) }
+{
+    let flags = read_byte(input, front)?;
+    if has_bit(7, flags) {
+        let byte = read_byte(input, front)?;
+        return Ok(Begun {
+            slot,
+            sub: Sub::Constant { flags, byte },
+        });
+    }
+    let sub = read_packed_head(alloc, flags, input, front)?;
+    Ok(Begun { slot, sub })
+}
+
+/// Reads the header of a subtable that is not constant, after its flags.
+fn read_packed_head<R: Input>(
+    alloc: Global,
+    flags: u8,
+    input: &mut R,
+    front: &mut Front,
+) -> Result<Sub, ReadFault>
+    requires flags { has_bit 7 flags ≡ false }
+    requires place { front.old.place + 200000 < 2 ^ 62 }
+    requires paid { front.old.growth ≤ 2 * front.old.place + 2 ^ 15 }
+    ensures head { Reading (packed_head flags) subtable_of front.old front.new R.Input input.old input.new result }
+    ensures headed { IfOk result IsHeaded }
+    ensures place { OnOk result (front.new.place ≤ front.old.place + 200000) }
+    ensures growth { OnOk result (front.new.growth + 2 * front.old.place ≤ front.old.growth + 2 * front.new.place) }
+    ensures grown { IfOk result (λ sub. HasCounted front.old front.new 0 (sub_lengths (subtable_of sub))) }
+{
+    let block_bits = read_block_bits(input, front)?;
+    let span_bits = read_span_bits(input, front)?;
+    let sizes = read_sizes(input, front)?;
+    let lowest = read_lowest(alloc, sizes.min, sizes.max, input, front)?;
+    let dict = read_dictionary(alloc, input, front)?;
+    let code = lowest.with_symbols(dict.symbols());
+    Ok(Sub::Pairs {
+        flags,
+        block_bits,
+        span_bits,
+        extra: sizes.extra,
+        blocks: sizes.blocks,
+        code,
+        dict,
+        sparse: Vec::new(alloc),
+        lengths: Vec::new(alloc),
+        packed: Vec::new(alloc),
+    })
+}
+
+/// Reads the block bits: a block has 2^bits bytes, at most 2^18.
+fn read_block_bits<R: Input>(input: &mut R, front: &mut Front) -> Result<u8, ReadFault>
+    requires { front.old.place < 2 ^ 62 }
+    ensures bits { Reading (byte_where (λ bits. nat_le bits 18) Reason.BlockBits) (λ bits. bits) front.old front.new R.Input input.old input.new result }
+    ensures most { IfOk result (λ bits. bits ≤ 18) }
+    ensures place { OnOk result (front.new.place ≡ front.old.place + 1) }
+    ensures growth { OnOk result (front.new.growth ≡ front.old.growth) }
+    ensures grown { OnOk result (HasCounted front.old front.new 0 0) }
+{
+    let place = front.place;
+    let bits = read_byte(input, front)?;
+    if bits > 18 {
+        return Err(ReadFault::Refused {
+            place,
+            reason: Reason::BlockBits,
+        });
+    }
+    Ok(bits)
+}
+
+/// Reads the span bits: each entry of the sparse index covers a span of 2^bits positions, 2 to 2^31.
+fn read_span_bits<R: Input>(input: &mut R, front: &mut Front) -> Result<u8, ReadFault>
+    requires { front.old.place < 2 ^ 62 }
+    ensures bits { Reading (byte_where (λ bits. nat_lt 0 bits && nat_le bits 31) Reason.SpanBits) (λ bits. bits) front.old front.new R.Input input.old input.new result }
+    ensures some { IfOk result (λ bits. 1 ≤ bits) }
+    ensures most { IfOk result (λ bits. bits ≤ 31) }
+    ensures place { OnOk result (front.new.place ≡ front.old.place + 1) }
+    ensures growth { OnOk result (front.new.growth ≡ front.old.growth) }
+    ensures grown { OnOk result (HasCounted front.old front.new 0 0) }
+{
+    let place = front.place;
+    let bits = read_byte(input, front)?;
+    if bits == 0 || bits > 31 {
+        return Err(ReadFault::Refused {
+            place,
+            reason: Reason::SpanBits,
+        });
+    }
+    Ok(bits)
+}
+
+/// The sizes that follow the span bits in a header: the number of extra lengths, the number of blocks, and the
+/// least and the greatest code length.
+#[derive(Clone, Copy)]
+pub struct HeadSizes {
+    pub extra: u8,
+    pub blocks: u32,
+    pub min: u8,
+    pub max: u8,
+}
+
+/// Returns whether a code may have these least and greatest lengths.
+fn are_lengths(min: u8, max: u8) -> bool
+    ensures { result ≡ (nat_lt 0 min && nat_le min max && nat_le max 32) }
+{
+    0 < min && min <= max && max <= 32
+}
+
+/// Reads the sizes after the span bits at once, because no check comes between them.
+fn read_sizes<R: Input>(input: &mut R, front: &mut Front) -> Result<HeadSizes, ReadFault>
+    requires { front.old.place < 2 ^ 62 }
+    ensures sizes { Reading sizes_field (λ sizes. sizes) front.old front.new R.Input input.old input.new result }
+    ensures some { IfOk result (λ sizes. 1 ≤ sizes.min) }
+    ensures in_order { IfOk result (λ sizes. sizes.min ≤ sizes.max) }
+    ensures most { IfOk result (λ sizes. sizes.max ≤ 32) }
+    ensures place { OnOk result (front.new.place ≡ front.old.place + 7) }
+    ensures growth { OnOk result (front.new.growth ≡ front.old.growth) }
+    ensures grown { OnOk result (HasCounted front.old front.new 0 0) }
+{
+    let place = front.place + 5;
+    let mut piece = [0; 7];
+    take_field(input, front, &mut piece)?;
+    let sizes = HeadSizes {
+        extra: piece[0],
+        blocks: LittleEndian::read_u32(&piece[1..]),
+        min: piece[6],
+        max: piece[5],
+    };
+    if !are_lengths(sizes.min, sizes.max) {
+        return Err(ReadFault::Refused {
+            place,
+            reason: Reason::CodeLengths,
+        });
+    }
+    Ok(sizes)
+}
+
+/// Reads the lowest symbol of each length. Returns the code with 0 symbols; their number is read later.
+fn read_lowest<R: Input>(
+    alloc: Global,
+    min: u8,
+    max: u8,
+    input: &mut R,
+    front: &mut Front,
+) -> Result<Code, ReadFault>
+    requires some { 1 ≤ min }
+    requires in_order { min ≤ max }
+    requires most { max ≤ 32 }
+    requires place { front.old.place + 64 < 2 ^ 62 }
+    requires paid { front.old.growth ≤ 2 * front.old.place + 2 ^ 15 }
+    ensures lowest { Reading (lowest_list min max) (λ code. code.lowest) front.old front.new R.Input input.old input.new result }
+    ensures code { IfOk result (λ code. code ≡ code_with min max code.lowest 0) }
+    ensures accepted { IfOk result IsCode }
+    ensures place { OnOk result (front.new.place ≡ front.old.place + 2 * (max + 1 - min)) }
+    ensures growth { OnOk result (front.new.growth ≡ front.old.growth + 3 * (max + 1 - min)) }
+    ensures grown { IfOk result (λ code. HasCounted front.old front.new 0 (length code.lowest)) }
+{
+    let place = front.place;
+    let lowest = take_numbers(alloc, u64::from(max + 1 - min), input, front)?;
+    match Code::new(min, max, lowest, 0) {
+        Ok(code) => Ok(code),
+        // the lengths were checked before
+        Err(CodeFault::Lengths) => unreachable!(),
+        Err(CodeFault::LowestOrder(item)) => Err(ReadFault::Refused {
+            place: place + 2 * u64::from(item),
+            reason: Reason::LowestOrder,
+        }),
+        Err(CodeFault::TooFull(item)) => Err(ReadFault::Refused {
+            place: place + 2 * u64::from(item),
+            reason: Reason::TooFull,
+        }),
+    }
+}
+
+/// Reads the dictionary: its number of entries, the entries, and a padding byte if the number is odd.
+fn read_dictionary<R: Input>(
+    alloc: Global,
+    input: &mut R,
+    front: &mut Front,
+) -> Result<Dict, ReadFault>
+    requires place { front.old.place + 196608 < 2 ^ 62 }
+    requires paid { front.old.growth ≤ 2 * front.old.place + 2 ^ 15 }
+    ensures dictionary { Reading dictionary (λ dict. dict) front.old front.new R.Input input.old input.new result }
+    ensures place { OnOk result (front.new.place ≤ front.old.place + 196608) }
+    ensures growth { OnOk result (front.new.growth + 2 * front.old.place ≤ front.old.growth + 2 * front.new.place) }
+    ensures grown { IfOk result (λ dict. HasCounted front.old front.new 0 (2 * length dict)) }
+{
+    let count = read_number(input, front)?;
+    let dict = read_entries(alloc, count, input, front)?;
+    take_spare(alloc, (count % 2) as u8, input, front)?;
+    Ok(dict)
+}
+
+/// Reads `count` entries of a dictionary.
+fn read_entries<R: Input>(
+    alloc: Global,
+    count: u16,
+    input: &mut R,
+    front: &mut Front,
+) -> Result<Dict, ReadFault>
+    requires place { front.old.place + 3 * count < 2 ^ 62 }
+    requires paid { front.old.growth ≤ 2 * front.old.place + 2 ^ 15 }
+    ensures entries { Reading (entries_field count) (λ dict. dict) front.old front.new R.Input input.old input.new result }
+    ensures place { OnOk result (front.new.place ≡ front.old.place + 3 * count) }
+    ensures growth { OnOk result (front.new.growth ≡ front.old.growth + 4 * count) }
+    ensures grown { IfOk result (λ dict. HasCounted front.old front.new 0 (2 * length dict)) }
+{
+    let place = front.place;
+    let entries = take_entries(alloc, u64::from(count), input, front)?;
+    match Dict::new(alloc, entries) {
+        Ok(dict) => Ok(dict),
+        Err(fault) => Err(entries_refusal(place, fault)),
+    }
+}
+
+/// Returns the refusal for a fault of entries that begin at offset `place`.
+fn entries_refusal(place: u64, fault: DictFault) -> ReadFault
+    requires { place < 2 ^ 62 }
+    ensures refused { fault ≢ DictFault.Memory → Refuses (entries_refusal place fault) result }
+    ensures memory { fault ≡ DictFault.Memory → result ≡ ReadFault.Memory }
+{
+    match fault {
+        DictFault::Child(symbol) => ReadFault::Refused {
+            place: place + 3 * u64::from(symbol),
+            reason: Reason::Child,
+        },
+        DictFault::Cycle(symbol) => ReadFault::Refused {
+            place: place + 3 * u64::from(symbol),
+            reason: Reason::Cycle,
+        },
+        DictFault::LongSymbol(symbol) => ReadFault::Refused {
+            place: place + 3 * u64::from(symbol),
+            reason: Reason::LongSymbol,
+        },
+        DictFault::Memory => ReadFault::Memory,
+    }
+}

@@ -1,0 +1,153 @@
+ghost use Rattle.std.specs.Prelude.{ℕ, ◌≡◌, ◌+◌, ◌*◌, ◌≤◌, ◌<◌, ◌^◌, length, map, OnOk, IfOk, IfSome, IfNone, None};
+ghost use Rattle.szg_block.specs.Subtable.{layout_of, IsShapedHead};
+ghost use Rattle.szg_file.specs.File.{each, sparse_field, lengths_field, index_check};
+ghost use Rattle.szg_file.specs.FilePieces.{measured_field};
+ghost use Rattle.szg_file.specs.Reading.{Reading, Checks};
+ghost use Rattle.szg_file.specs.Grown.{HasCounted, begun_lengths};
+ghost use Rattle.szg_file.specs.WholeRead.{sub_lengths};
+ghost use Rattle.szg_file.specs.Loading.{MayTake, TakesFew, TakesAs};
+ghost use Rattle.szg_file.specs.Format.{Format};
+ghost use Rattle.std.specs.List.{sum_by};
+
+use crate::begun::{Begun, Indexed, Measured};
+use crate::fault::{ReadFault, Reason};
+use crate::reading::front::{Front, append};
+use crate::reading::taking::{take_numbers, take_sparse};
+use std::alloc::Global;
+use szg_block::{Sub, SubFault, check_index, entry_count};
+use szg_io::Input;
+
+/// Passes each item of a list, in order, to `take`, which reads more of it. Returns the results.
+fn take_each<
+    T: Drop,
+    U: Drop,
+    R: Input,
+    F: Fn(Global, T, &mut R, &mut Front) -> Result<U, ReadFault>,
+>(
+    alloc: Global,
+    list: Vec<T>,
+    take: F,
+    input: &mut R,
+    front: &mut Front,
+) -> Result<Vec<U>, ReadFault>
+    requires may { MayTake F.Fn take }
+    requires few { TakesFew F.Fn take }
+    requires place { front.old.place < 2 ^ 60 }
+    requires short { length list.items ≤ 8 }
+    requires paid { front.old.growth ≤ 2 * front.old.place + 2 ^ 14 }
+    ensures each { (field : T → Format U) (before : T → ℕ) (after : U → ℕ) → TakesAs F.Fn R.Input take field before after → Reading (each field list.items) (λ taken. taken.items) front.old front.new R.Input input.old input.new result × IfOk result (λ taken. HasCounted front.old front.new (sum_by before list.items) (length taken.items + sum_by after taken.items)) }
+    ensures count { IfOk result (λ taken. length taken.items ≡ length list.items) }
+    ensures place { OnOk result (front.new.place ≤ front.old.place + 2 ^ 40) }
+    ensures growth { OnOk result (front.new.growth + 2 * front.old.place ≤ front.old.growth + 2 * front.new.place + 8) }
+{
+    let mut taken = Vec::new(alloc);
+    'items: for item in list {
+        let next = take(alloc, item, input, front)?;
+        append(&mut taken, next, front)?;
+    }
+    Ok(taken)
+}
+
+/// Reads one subtable's sparse index into it, and records its offset. A constant subtable has none.
+fn read_index<R: Input>(
+    alloc: Global,
+    begun: Begun,
+    input: &mut R,
+    front: &mut Front,
+) -> Result<Indexed, ReadFault>
+    requires place { front.old.place < 2 ^ 60 + 2 ^ 40 }
+    requires paid { front.old.growth ≤ 2 * front.old.place + 2 ^ 15 }
+    ensures index { Reading (sparse_field begun) (λ indexed. indexed) front.old front.new R.Input input.old input.new result }
+    ensures place { OnOk result (front.new.place ≤ front.old.place + 2 ^ 36) }
+    ensures growth { OnOk result (front.new.growth + 2 * front.old.place ≤ front.old.growth + 2 * front.new.place) }
+    ensures grown { IfOk result (λ indexed. HasCounted front.old front.new (sub_lengths begun.subtable) (sub_lengths indexed.subtable)) }
+{
+    let Begun { slot, mut sub } = begun;
+    let mut index = 0;
+    if let Sub::Pairs {
+        span_bits,
+        sparse,
+        ..
+    } = &mut sub
+    {
+        index = front.place;
+        *sparse = take_sparse(alloc, entry_count(slot.size, *span_bits), input, front)?;
+    }
+    Ok(Indexed { slot, sub, index })
+}
+
+/// Reads the sparse index of each subtable that is not constant, and then the block lengths of each.
+pub fn read_lengths<R: Input>(
+    alloc: Global,
+    list: Vec<Begun>,
+    input: &mut R,
+    front: &mut Front,
+) -> Result<Vec<Measured>, ReadFault>
+    requires place { front.old.place < 2 ^ 59 }
+    requires few { length list.items ≤ 8 }
+    requires paid { front.old.growth ≤ 2 * front.old.place + 2 ^ 13 }
+    ensures lengths { Reading (measured_field list.items) (λ measured. measured.items) front.old front.new R.Input input.old input.new result }
+    ensures slots { IfOk result (λ measured. map (λ measured. measured.slot) measured.items ≡ map (λ begun. begun.slot) list.items) }
+    ensures count { IfOk result (λ measured. length measured.items ≡ length list.items) }
+    ensures place { OnOk result (front.new.place ≤ front.old.place + 2 ^ 41) }
+    ensures growth { OnOk result (front.new.growth + 2 * front.old.place ≤ front.old.growth + 2 * front.new.place + 16) }
+    ensures grown { IfOk result (λ measured. HasCounted front.old front.new (begun_lengths list.items) (2 * length measured.items + begun_lengths measured.items)) }
+{
+    let indexed = take_each(alloc, list, read_index, input, front)?;
+    let measured = take_each(alloc, indexed, read_measured, input, front)?;
+    Ok(measured)
+}
+
+/// Reads one subtable's block lengths into it, and checks them and the sparse index. A constant subtable has none.
+fn read_measured<R: Input>(
+    alloc: Global,
+    indexed: Indexed,
+    input: &mut R,
+    front: &mut Front,
+) -> Result<Measured, ReadFault>
+    requires place { front.old.place < 2 ^ 60 + 2 ^ 40 }
+    requires paid { front.old.growth ≤ 2 * front.old.place + 2 ^ 15 }
+    ensures lengths { Reading (lengths_field indexed) (λ measured. measured) front.old front.new R.Input input.old input.new result }
+    ensures place { OnOk result (front.new.place ≤ front.old.place + 2 ^ 36) }
+    ensures growth { OnOk result (front.new.growth + 2 * front.old.place ≤ front.old.growth + 2 * front.new.place) }
+    ensures grown { IfOk result (λ measured. HasCounted front.old front.new (sub_lengths indexed.subtable) (sub_lengths measured.subtable)) }
+{
+    let Indexed {
+        slot,
+        mut sub,
+        index,
+    } = indexed;
+    let place = front.place;
+    if let Sub::Pairs {
+        extra,
+        blocks,
+        lengths,
+        ..
+    } = &mut sub
+    {
+        let count = *blocks as u64 + *extra as u64;
+        *lengths = take_numbers(alloc, count, input, front)?;
+    }
+    if let Some((place, reason)) = index_refusal(&sub, slot.size, place, index) {
+        return Err(ReadFault::Refused { place, reason });
+    }
+    Ok(Measured { slot, sub, index })
+}
+
+/// Checks block lengths that begin at offset `place` and a sparse index that begins at offset `index`. Returns the
+/// first failing check with its offset.
+fn index_refusal(sub: &Sub, size: u64, place: u64, index: u64) -> Option<(u64, Reason)>
+    requires shaped { IsShapedHead sub.now size }
+    requires size { size < 2 ^ 33 }
+    requires index { index < 2 ^ 61 }
+    ensures checks { IfSome (layout_of sub.now) (λ layout. Checks (index_check place index layout size) result) }
+    ensures constant { IfNone (layout_of sub.now) (result ≡ None) }
+{
+    match check_index(sub, size) {
+        Ok(()) => None,
+        Err(SubFault::ShortTotal) => Some((place, Reason::ShortTotal)),
+        Err(SubFault::SparseEntry(entry)) => Some((index + 6 * entry, Reason::SparseEntry)),
+        // this check has no other fault
+        Err(SubFault::Word(_)) => None,
+    }
+}

@@ -1,0 +1,101 @@
+//! Reading and checking a whole file without keeping blocks.
+ghost use Rattle.std.specs.Prelude.{◌≡◌, ◌+◌, ◌*◌, ◌^◌, ◌≤◌, ◌<◌, [], length, map, IfOk, OnOk, IsErrOf};
+ghost use Rattle.std.specs.List.{AllByRecursion};
+ghost use Rattle.szg_file.specs.Contents.{slots};
+ghost use Rattle.szg_file.specs.File.{file};
+ghost use Rattle.szg_file.specs.FilePieces.{packed_field};
+ghost use Rattle.szg_file.specs.Held.{part_of};
+ghost use Rattle.szg_file.specs.Outline.{outlined};
+ghost use Rattle.szg_file.specs.Placed.{whole_sub, Fits};
+ghost use Rattle.szg_file.specs.Reading.{Reading, Lacking};
+ghost use Rattle.szg_file.specs.Streaming.{Accepted, wanted_of, wanted_values};
+ghost use Rattle.szg_file.specs.Values.{slotted};
+
+use crate::begun::Begun;
+use crate::fault::ReadFault;
+use crate::opened::forward::Ahead;
+use crate::reading::dropping::{PlacedSub, pass_subs};
+use crate::reading::front::Front;
+use crate::reading::index::read_lengths;
+use crate::reading::parts::Parts;
+use crate::reading::sink::ValueSink;
+use crate::reading::{Opening, read_ending, read_opening};
+use crate::table::Map;
+use std::alloc::Global;
+use szg_io::Input;
+use szg_values::{Kind, Material};
+
+/// The contents of a whole file except its material and kind, its padding bytes and its blocks.
+#[derive(Drop)]
+pub struct Outline {
+    pub byte4: u8,
+    pub parts: Parts,
+    pub subs: Vec<PlacedSub>,
+    pub maps: Vec<Option<Map>>,
+    pub last: [u8; 16],
+}
+
+/// Reads the sparse indexes, the block lengths and the blocks. Of the blocks it keeps the offsets.
+fn outline_subtables<R: Input + Ahead, W, K: ValueSink<W>>(
+    alloc: Global,
+    kind: Kind,
+    heads: Vec<Begun>,
+    buffer: &mut Vec<u8>,
+    input: &mut R,
+    front: &mut Front,
+    sink: &mut K,
+    out: &mut W,
+) -> Result<Vec<PlacedSub>, ReadFault>
+    requires place { front.old.place < 2 ^ 24 }
+    requires paid { front.old.growth ≤ 2 * front.old.place + 20 }
+    requires few { length heads.items ≤ 8 }
+    requires at { front.old.place ≡ length (R.moved input.old) }
+    ensures packed { Reading (packed_field heads.items) (λ subs. map (whole_sub (R.moved input.new)) subs.items) front.old front.new R.Input input.old input.new result }
+    ensures fits { IfOk result (λ subs. AllByRecursion (Fits (length (R.moved input.new)) (length buffer.new.items)) subs.items) }
+    ensures place { OnOk result (front.new.place < 2 ^ 56) }
+    ensures growth { OnOk result (front.new.growth ≤ 2 * front.new.place + 44) }
+    ensures many { IfOk result (λ subs. length subs.items ≡ length heads.items) }
+    ensures accepted { IfOk result (λ subs. Accepted K.accepts (wanted_values (K.wanted sink.old) kind (slotted (map (λ begun. begun.slot) heads.items) (map (whole_sub (R.moved input.new)) subs.items))) sink.old out.old sink.new out.new) }
+{
+    let measured = read_lengths(alloc, heads, input, front)?;
+    pass_subs(alloc, kind, measured, buffer, input, front, sink, out)
+}
+
+/// Reads a whole file. Each block is read into the buffer, which grows to the longest. The values that the sink wants
+/// are handed to it in file order. Errors: as `read`; `Memory` too if the sink takes no more values.
+pub fn read_outline<R: Input + Ahead, W, K: ValueSink<W>>(
+    alloc: Global,
+    material: &Material,
+    kind: Kind,
+    buffer: &mut Vec<u8>,
+    input: &mut R,
+    front: &mut Front,
+    sink: &mut K,
+    out: &mut W,
+) -> Result<Outline, ReadFault>
+    requires place { front.old.place ≡ 0 }
+    requires growth { front.old.growth ≡ 0 }
+    requires first { R.moved input.old ≡ [] }
+    ensures outline { Reading (file material.now kind) (outlined material.now kind (R.moved input.new)) front.old front.new R.Input input.old input.new result }
+    ensures place { OnOk result (front.new.place < 2 ^ 57) }
+    ensures memory { IsErrOf result ReadFault.Memory → Lacking (file material.now kind) front.old R.Input input.old input.new }
+    ensures slots { IfOk result (λ o. o.parts.slots.items ≡ slots material.now kind (map part_of o.parts.bytes.items)) }
+    ensures fits { IfOk result (λ o. AllByRecursion (Fits (length (R.moved input.new)) (length buffer.new.items)) o.subs.items) }
+    ensures accepted { IfOk result (λ o. Accepted K.accepts (wanted_of (K.wanted sink.old) (outlined material.now kind (R.moved input.new) o)) sink.old out.old sink.new out.new) }
+{
+    let Opening {
+        byte4,
+        parts,
+        heads,
+        maps,
+    } = read_opening(alloc, material, kind, input, front)?;
+    let subs = outline_subtables(alloc, kind, heads, buffer, input, front, sink, out)?;
+    let last = read_ending(alloc, input, front)?;
+    Ok(Outline {
+        byte4,
+        parts,
+        subs,
+        maps,
+        last,
+    })
+}

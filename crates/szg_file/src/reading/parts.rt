@@ -1,0 +1,245 @@
+ghost use Rattle.std.specs.Prelude.{ℕ, ◌≡◌, ◌+◌, ◌*◌, ◌≤◌, ◌<◌, ◌^◌, ◌∷◌, ◌++◌, [], length, map, if◌then◌else◌, None, OnOk, IfOk, IfErr, IfSome, OnErr, Err};
+ghost use Rattle.std.specs.List.{range_with_len};
+ghost use Rattle.szg_values.specs.Material.{man_codes};
+ghost use Rattle.szg_count.specs.Groups.{IsPart, nibbles_of, order_fault, size_of};
+ghost use Rattle.szg_file.specs.Contents.{slots, part_slots, part_numbers, side_numbers, order_bytes};
+ghost use Rattle.szg_file.specs.File.{each, part_field, part_checks, order_check};
+ghost use Rattle.szg_file.specs.Format.{means, refuses};
+ghost use Rattle.szg_file.specs.Held.{part_of};
+ghost use Rattle.szg_file.specs.Parts.{part_with, slots_with};
+ghost use Rattle.szg_file.specs.Reading.{Reading};
+ghost use Rattle.szg_file.specs.Grown.{HasCounted, parts_lengths};
+ghost use Rattle.szg_file.specs.Grown.{part_length};
+
+use crate::begun::Slot;
+use crate::fault::{ReadFault, Reason};
+use crate::reading::front::{Front, append, grow};
+use crate::reading::taking::take_field;
+use crate::table::PartBytes;
+use arrayvec::ArrayVec;
+use std::alloc::Global;
+use szg_count::{Groups, Order, OrderFault};
+use szg_io::Input;
+use szg_values::{Kind, Material};
+
+/// The parts of a file, and the slots of their subtables.
+#[derive(Drop)]
+pub struct Parts {
+    pub bytes: Vec<PartBytes>,
+    /// At most two for each of four parts. They need no allocation.
+    pub slots: ArrayVec<Slot, 8>,
+}
+
+/// Returns the number of order bytes of a part.
+pub fn order_count(material: &Material) -> usize
+    ensures number { result ≡ order_bytes material.now }
+    ensures some { 1 ≤ result }
+    ensures few { result ≤ 2 }
+{
+    if material.has_pawns() && material.other_pawns() > 0 {
+        2
+    } else {
+        1
+    }
+}
+
+/// Returns the number of men of a material.
+pub fn man_count(material: &Material) -> usize
+    ensures number { result ≡ length (man_codes material.now) }
+    ensures some { 3 ≤ result }
+    ensures few { result ≤ 6 }
+{
+    material.men().len()
+}
+
+/// Returns whether each part has subtables for both sides: in WDL, unless the material is symmetric.
+pub fn has_two_sides(material: &Material, kind: Kind) -> bool
+    ensures { side_numbers material.now kind ≡ (if result then 0 ∷ 1 ∷ [] else 0 ∷ []) }
+{
+    match kind {
+        Kind::Wdl => !material.symmetric(),
+        Kind::Dtz => false,
+    }
+}
+
+/// Returns the number of positions of a side of a part that begins at offset `place`. Errors: the offset and the reason
+/// of the refusal, for the first failing check of the side's order.
+fn side_size(
+    material: &Material,
+    part: u8,
+    side: u8,
+    place: u64,
+    order: &[u8],
+    men: &[u8],
+) -> Result<u64, (u64, Reason)>
+    requires part { IsPart material.now part }
+    requires side { side < 2 }
+    requires place { place < 2 ^ 61 }
+    requires order { length order.now ≤ 2 }
+    requires men { length men.now ≤ 6 }
+    ensures is_valid { OnOk result (order_fault material.now (nibbles_of side order.now men.now) ≡ None) }
+    ensures size { IfOk result (λ size. size ≡ size_of material.now part (nibbles_of side order.now men.now)) }
+    ensures fits { IfOk result (λ size. size < 2 ^ 33) }
+    ensures refuses { IfErr result (λ refusal. order_check place (length order.now) (order_fault material.now (nibbles_of side order.now men.now)) ≡ refuses refusal.0 refusal.1) }
+{
+    let after = place + order.len() as u64;
+    match Groups::of(material, part, &Order::of_side(side, order, men)) {
+        Ok(groups) => Ok(groups.size()),
+        Err(OrderFault::Pieces) => Err((after, Reason::Pieces)),
+        Err(OrderFault::PawnsFirst) => Err((after, Reason::PawnsFirst)),
+        Err(OrderFault::OrderPlace) => Err((place, Reason::OrderPlace)),
+    }
+}
+
+/// The sizes of the sides of a part.
+#[derive(Clone, Copy)]
+pub struct SideSizes {
+    pub first: u64,
+    pub second: Option<u64>,
+}
+
+/// Returns the sizes of the sides of a part that begins at offset `place`. Errors: the offset and the reason of its
+/// refusal.
+pub fn part_sizes(
+    material: &Material,
+    kind: Kind,
+    part: u8,
+    place: u64,
+    order: &[u8],
+    men: &[u8],
+) -> Result<SideSizes, (u64, Reason)>
+    requires part { IsPart material.now part }
+    requires order { length order.now ≡ order_bytes material.now }
+    requires men { length men.now ≤ 6 }
+    requires place { place < 2 ^ 61 }
+    ensures passes { OnOk result (part_checks material.now kind place (part_with order.now men.now) ≡ means tt) }
+    ensures slots { IfOk result (λ sizes. part_slots material.now (side_numbers material.now kind) part (part_with order.now men.now) ≡ slots_with part sizes.first sizes.second) }
+    ensures fits { IfOk result (λ sizes. (sizes.first < 2 ^ 33) × IfSome sizes.second (λ second. second < 2 ^ 33)) }
+    ensures refuses { IfErr result (λ refusal. part_checks material.now kind place (part_with order.now men.now) ≡ refuses refusal.0 refusal.1) }
+{
+    let first = side_size(material, part, 0, place, order, men)?;
+    if !has_two_sides(material, kind) {
+        return Ok(SideSizes {
+            first,
+            second: None,
+        });
+    }
+    let second = side_size(material, part, 1, place, order, men)?;
+    Ok(SideSizes {
+        first,
+        second: Some(second),
+    })
+}
+
+/// Returns a copy of bytes that were already read.
+fn copied(alloc: Global, bytes: &[u8], front: &mut Front) -> Result<Vec<u8>, ReadFault>
+    requires few { length bytes.now ≤ 8 }
+    requires place { front.old.place < 2 ^ 61 }
+    requires paid { front.old.growth ≤ 2 * front.old.place + 2 ^ 15 }
+    ensures bytes { IfOk result (λ list. list.items ≡ bytes.now) }
+    ensures growth { OnOk result (front.new.growth ≡ front.old.growth + length bytes.now) }
+    ensures place { OnOk result (front.new.place ≡ front.old.place) }
+    ensures fill { OnOk result (front.new.fill.items ≡ front.old.fill.items) }
+    ensures memory { OnErr result (result ≡ Err ReadFault.Memory) }
+{
+    let mut list = Vec::new(alloc);
+    grow(&mut list, bytes.len(), front)?;
+    list.extend_from_slice(bytes)?;
+    Ok(list)
+}
+
+/// Reads a part; returns it with the sizes of its sides.
+fn read_part<R: Input>(
+    alloc: Global,
+    material: &Material,
+    kind: Kind,
+    part: u8,
+    input: &mut R,
+    front: &mut Front,
+) -> Result<(PartBytes, SideSizes), ReadFault>
+    requires part { IsPart material.now part }
+    requires place { front.old.place < 2 ^ 60 }
+    requires paid { front.old.growth ≤ 2 * front.old.place + 2 ^ 14 }
+    ensures part { Reading (part_field material.now kind) (λ read. part_of read.0) front.old front.new R.Input input.old input.new result }
+    ensures slots { IfOk result (λ read. part_slots material.now (side_numbers material.now kind) part (part_of read.0) ≡ slots_with part read.1.first read.1.second) }
+    ensures fits { IfOk result (λ read. (read.1.first < 2 ^ 33) × IfSome read.1.second (λ second. second < 2 ^ 33)) }
+    ensures place { OnOk result (front.new.place ≤ front.old.place + 8) }
+    ensures growth { OnOk result (front.new.growth + front.old.place ≡ front.old.growth + front.new.place) }
+    ensures grown { IfOk result (λ read. HasCounted front.old front.new 0 (part_length (part_of read.0))) }
+{
+    let place = front.place;
+    let orders = order_count(material);
+    let size = orders + man_count(material);
+    let mut piece = [0; 8];
+    take_field(input, front, &mut piece[..size])?;
+    let order = &piece[..orders];
+    let men = &piece[orders..size];
+    let sizes = match part_sizes(material, kind, part, place, order, men) {
+        Ok(sizes) => sizes,
+        Err((place, reason)) => return Err(ReadFault::Refused { place, reason }),
+    };
+    let order = copied(alloc, order, front)?;
+    let men = copied(alloc, men, front)?;
+    Ok((PartBytes { order, men }, sizes))
+}
+
+/// Returns the number of parts of a file: four with pawns, else one.
+pub fn part_count(material: &Material) -> u8
+    ensures numbers { part_numbers material.now ≡ range_with_len 0 result }
+    ensures parts { (part : ℕ) → part < result → IsPart material.now part }
+    ensures some { 0 < result }
+    ensures few { result ≤ 4 }
+{
+    if material.has_pawns() { 4 } else { 1 }
+}
+
+/// Appends the slots of a part.
+pub fn push_slots(slots: &mut ArrayVec<Slot, 8>, part: u8, sizes: SideSizes)
+    requires part { part < 4 }
+    requires first { sizes.first < 2 ^ 33 }
+    requires second { IfSome sizes.second (λ second. second < 2 ^ 33) }
+    requires room { length slots.old.items ≤ 6 }
+    ensures { slots.new.items ≡ slots.old.items ++ slots_with part sizes.first sizes.second }
+{
+    slots.push(Slot {
+        part,
+        side: 0,
+        size: sizes.first,
+    });
+    if let Some(second) = sizes.second {
+        slots.push(Slot {
+            part,
+            side: 1,
+            size: second,
+        });
+    }
+}
+
+/// Reads the parts.
+pub fn read_parts<R: Input>(
+    alloc: Global,
+    material: &Material,
+    kind: Kind,
+    input: &mut R,
+    front: &mut Front,
+) -> Result<Parts, ReadFault>
+    requires place { front.old.place < 2 ^ 59 }
+    requires paid { front.old.growth ≤ 2 * front.old.place }
+    ensures parts { Reading (each (λ _. part_field material.now kind) (part_numbers material.now)) (λ parts. map part_of parts.bytes.items) front.old front.new R.Input input.old input.new result }
+    ensures slots { IfOk result (λ parts. parts.slots.items ≡ slots material.now kind (map part_of parts.bytes.items)) }
+    ensures few { IfOk result (λ parts. length parts.slots.items ≤ 8) }
+    ensures place { OnOk result (front.new.place ≤ front.old.place + 32) }
+    ensures growth { OnOk result (front.new.growth + 2 * front.old.place ≤ front.old.growth + 2 * front.new.place + 4) }
+    ensures grown { IfOk result (λ parts. HasCounted front.old front.new 0 (length parts.bytes.items + parts_lengths parts.bytes.items)) }
+{
+    let mut parts = Parts {
+        bytes: Vec::new(alloc),
+        slots: ArrayVec::new(),
+    };
+    'parts: for part in 0..part_count(material) {
+        let (bytes, sizes) = read_part(alloc, material, kind, part, input, front)?;
+        append(&mut parts.bytes, bytes, front)?;
+        push_slots(&mut parts.slots, part, sizes);
+    }
+    Ok(parts)
+}

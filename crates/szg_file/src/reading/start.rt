@@ -1,0 +1,106 @@
+ghost use Rattle.std.specs.Prelude.{◌≡◌, ◌<◌, bytes_eq, OnOk};
+ghost use Rattle.szg_values.specs.Material.{has_pawns};
+ghost use Rattle.szg_file.specs.Contents.{has_bit};
+ghost use Rattle.szg_file.specs.File.{magic_of, magic_field, byte4_field, split_agrees, agrees};
+ghost use Rattle.szg_file.specs.Reading.{Reading, start_field};
+ghost use Rattle.szg_file.specs.Grown.{HasCounted};
+
+use crate::fault::{ReadFault, Reason};
+use crate::flags::has_bit;
+use crate::reading::front::Front;
+use crate::reading::taking::take_field;
+use szg_io::Input;
+use szg_values::{Kind, Material};
+
+/// Returns the first four bytes of a file of a kind.
+pub fn magic(kind: Kind) -> [u8; 4]
+    ensures { result ≡ magic_of kind }
+{
+    match kind {
+        Kind::Wdl => [0x71, 0xE8, 0x23, 0x5D],
+        Kind::Dtz => [0xD7, 0x66, 0x0C, 0xA5],
+    }
+}
+
+fn read_magic<R: Input>(kind: Kind, input: &mut R, front: &mut Front) -> Result<(), ReadFault>
+    requires { front.old.place ≡ 0 }
+    ensures magic { Reading (magic_field kind) (λ _. tt) front.old front.new R.Input input.old input.new result }
+    ensures place { OnOk result (front.new.place ≡ 4) }
+    ensures growth { OnOk result (front.new.growth ≡ front.old.growth) }
+    ensures grown { OnOk result (HasCounted front.old front.new 0 0) }
+{
+    let mut piece = [0; 4];
+    take_field(input, front, &mut piece)?;
+    if piece != magic(kind) {
+        return Err(ReadFault::Refused {
+            place: 0,
+            reason: Reason::Magic,
+        });
+    }
+    Ok(())
+}
+
+/// Returns whether bit 1 of byte 4 is set exactly if the material has pawns.
+pub fn pawns_as(material: &Material, byte: u8) -> bool
+    ensures { result ≡ agrees (has_bit 1 byte) (has_pawns material.now) }
+{
+    has_bit(1, byte) == material.has_pawns()
+}
+
+/// Returns whether bit 0 of byte 4 of a WDL file is set exactly if the material is not symmetric. True for a DTZ
+/// file.
+pub fn splits_as(material: &Material, kind: Kind, byte: u8) -> bool
+    ensures { result ≡ split_agrees material.now kind byte }
+{
+    match kind {
+        Kind::Wdl => has_bit(0, byte) != material.symmetric(),
+        Kind::Dtz => true,
+    }
+}
+
+fn read_byte4<R: Input>(
+    material: &Material,
+    kind: Kind,
+    input: &mut R,
+    front: &mut Front,
+) -> Result<u8, ReadFault>
+    requires { front.old.place ≡ 4 }
+    ensures byte { Reading (byte4_field material.now kind) (λ byte. byte) front.old front.new R.Input input.old input.new result }
+    ensures place { OnOk result (front.new.place ≡ 5) }
+    ensures growth { OnOk result (front.new.growth ≡ front.old.growth) }
+    ensures grown { OnOk result (HasCounted front.old front.new 0 0) }
+{
+    let mut piece = [0];
+    take_field(input, front, &mut piece)?;
+    let byte = piece[0];
+    if !splits_as(material, kind, byte) {
+        return Err(ReadFault::Refused {
+            place: 4,
+            reason: Reason::SplitBit,
+        });
+    }
+    if !pawns_as(material, byte) {
+        return Err(ReadFault::Refused {
+            place: 4,
+            reason: Reason::PawnBit,
+        });
+    }
+    Ok(byte)
+}
+
+/// Reads the magic and byte 4; returns byte 4.
+pub fn read_start<R: Input>(
+    material: &Material,
+    kind: Kind,
+    input: &mut R,
+    front: &mut Front,
+) -> Result<u8, ReadFault>
+    requires place { front.old.place ≡ 0 }
+    ensures start { Reading (start_field material.now kind) (λ byte. byte) front.old front.new R.Input input.old input.new result }
+    ensures place { OnOk result (front.new.place ≡ 5) }
+    ensures growth { OnOk result (front.new.growth ≡ front.old.growth) }
+    ensures grown { OnOk result (HasCounted front.old front.new 0 0) }
+{
+    read_magic(kind, input, front)?;
+    read_byte4(material, kind, input, front)
+}

@@ -1,0 +1,306 @@
+//! Reading from a device: fields, numbers, lists and padding.
+ghost use Rattle.std.specs.Prelude.{◌≡◌, ◌+◌, ◌*◌, ◌≤◌, ◌<◌, ◌^◌, length, map, take, drop, Err, OnOk, IfOk, OnErr, IsErrOf};
+ghost use Rattle.szg_file.specs.Format.{field, means};
+ghost use Rattle.szg_file.specs.File.{filled_to, rows_field, number_field};
+ghost use Rattle.szg_file.specs.Held.{sparse_of, numbers_field, sparse_rows, spare_field};
+ghost use Rattle.szg_file.specs.Reading.{Reading};
+ghost use Rattle.szg_file.specs.Grown.{HasCounted};
+
+use crate::fault::{ReadFault, Reason};
+use crate::reading::front::{Front, grow};
+use byteorder::{ByteOrder, LittleEndian};
+use std::alloc::Global;
+use std::mem;
+use szg_block::Entry;
+use szg_io::{Input, take_whole};
+
+/// Reads a field into `piece`, which it fills.
+pub fn take_field<R: Input>(
+    input: &mut R,
+    front: &mut Front,
+    piece: &mut [u8],
+) -> Result<(), ReadFault>
+    requires { front.old.place + length piece.old < 2 ^ 64 }
+    ensures field { Reading (field (length piece.new) means) (λ _. piece.new) front.old front.new R.Input input.old input.new result }
+    ensures place { OnOk result (front.new.place ≡ front.old.place + length piece.new) }
+    ensures growth { OnOk result (front.new.growth ≡ front.old.growth) }
+    ensures grown { OnOk result (HasCounted front.old front.new 0 0) }
+    ensures memory { IsErrOf result ReadFault.Memory → ⊥ }
+{
+    let Ok(got) = take_whole(input, piece) else {
+        return Err(ReadFault::Device);
+    };
+    if got < piece.len() {
+        let place = front.place + got as u64;
+        return Err(ReadFault::Refused {
+            place,
+            reason: Reason::Truncated,
+        });
+    }
+    front.place += got as u64;
+    Ok(())
+}
+
+/// Reads a byte.
+pub fn read_byte<R: Input>(input: &mut R, front: &mut Front) -> Result<u8, ReadFault>
+    requires { front.old.place < 2 ^ 62 }
+    ensures byte { Reading (number_field 1) (λ byte. byte) front.old front.new R.Input input.old input.new result }
+    ensures place { OnOk result (front.new.place ≡ front.old.place + 1) }
+    ensures growth { OnOk result (front.new.growth ≡ front.old.growth) }
+    ensures grown { OnOk result (HasCounted front.old front.new 0 0) }
+{
+    let mut piece = [0; 1];
+    take_field(input, front, &mut piece)?;
+    Ok(piece[0])
+}
+
+/// Reads a two-byte number.
+pub fn read_number<R: Input>(input: &mut R, front: &mut Front) -> Result<u16, ReadFault>
+    requires { front.old.place < 2 ^ 62 }
+    ensures number { Reading (number_field 2) (λ number. number) front.old front.new R.Input input.old input.new result }
+    ensures place { OnOk result (front.new.place ≡ front.old.place + 2) }
+    ensures growth { OnOk result (front.new.growth ≡ front.old.growth) }
+    ensures grown { OnOk result (HasCounted front.old front.new 0 0) }
+{
+    let mut piece = [0; 2];
+    take_field(input, front, &mut piece)?;
+    Ok(LittleEndian::read_u16(&piece))
+}
+
+/// The greatest number of bytes that are read into a list at once. Lists may be 65,536 items ahead of the bytes
+/// read; this is half of that, and the rest is for items that few bytes account for.
+const PIECE: u64 = 32768;
+
+/// Reads `size` bytes, at most 32,768, and appends them to a list.
+fn take_piece<R: Input>(
+    list: &mut Vec<u8>,
+    size: usize,
+    input: &mut R,
+    front: &mut Front,
+) -> Result<(), ReadFault>
+    requires most { size ≤ 32768 }
+    requires place { front.old.place + size < 2 ^ 62 }
+    requires paid { front.old.growth ≤ 2 * front.old.place + 2 ^ 15 }
+    ensures field { Reading (field size means) (λ _. drop (length list.old.items) list.new.items) front.old front.new R.Input input.old input.new result }
+    ensures kept { OnOk result (take (length list.old.items) list.new.items ≡ list.old.items) }
+    ensures longer { OnOk result (length list.new.items ≡ length list.old.items + size) }
+    ensures place { OnOk result (front.new.place ≡ front.old.place + size) }
+    ensures growth { OnOk result (front.new.growth ≡ front.old.growth + size) }
+    ensures grown { OnOk result (HasCounted front.old front.new (length list.old.items) (length list.new.items)) }
+{
+    grow(list, size, front)?;
+    let at = list.len();
+    if list.resize(at + size, 0).is_err() {
+        return Err(ReadFault::Memory);
+    }
+    take_field(input, front, &mut list[at..])?;
+    Ok(())
+}
+
+/// Reads a field of `count` bytes into a new list, in chunks.
+pub fn take_bytes<R: Input>(
+    alloc: Global,
+    count: u64,
+    input: &mut R,
+    front: &mut Front,
+) -> Result<Vec<u8>, ReadFault>
+    requires place { front.old.place + count < 2 ^ 62 }
+    requires paid { front.old.growth ≤ 2 * front.old.place + 2 ^ 15 }
+    ensures field { Reading (field count means) (λ list. list.items) front.old front.new R.Input input.old input.new result }
+    ensures count { IfOk result (λ list. length list.items ≡ count) }
+    ensures place { OnOk result (front.new.place ≡ front.old.place + count) }
+    ensures growth { OnOk result (front.new.growth ≡ front.old.growth + count) }
+    ensures grown { IfOk result (λ list. HasCounted front.old front.new 0 (length list.items)) }
+{
+    let mut list = Vec::new(alloc);
+    take_more(&mut list, count, input, front)?;
+    Ok(list)
+}
+
+/// Reads a field of `count` bytes in chunks, and appends it to a list.
+pub fn take_more<R: Input>(
+    list: &mut Vec<u8>,
+    count: u64,
+    input: &mut R,
+    front: &mut Front,
+) -> Result<(), ReadFault>
+    requires place { front.old.place + count < 2 ^ 62 }
+    requires paid { front.old.growth ≤ 2 * front.old.place + 2 ^ 15 }
+    ensures field { Reading (field count means) (λ _. drop (length list.old.items) list.new.items) front.old front.new R.Input input.old input.new result }
+    ensures kept { OnOk result (take (length list.old.items) list.new.items ≡ list.old.items) }
+    ensures longer { OnOk result (length list.new.items ≡ length list.old.items + count) }
+    ensures place { OnOk result (front.new.place ≡ front.old.place + count) }
+    ensures growth { OnOk result (front.new.growth ≡ front.old.growth + count) }
+    ensures grown { OnOk result (HasCounted front.old front.new (length list.old.items) (length list.new.items)) }
+{
+    let mut left = count;
+    'pieces: while left > 0 {
+        let size = left.min(PIECE);
+        take_piece(list, size as usize, input, front)?;
+        left -= size;
+    }
+    Ok(())
+}
+
+/// Reads `count` padding bytes, at most 63.
+pub fn take_spare<R: Input>(
+    alloc: Global,
+    count: u8,
+    input: &mut R,
+    front: &mut Front,
+) -> Result<(), ReadFault>
+    requires count { count < 64 }
+    requires place { front.old.place < 2 ^ 62 }
+    requires paid { front.old.growth ≤ 2 * front.old.place + 2 ^ 15 }
+    ensures fill { Reading (spare_field count) (λ _. tt) front.old front.new R.Input input.old input.new result }
+    ensures place { OnOk result (front.new.place ≡ front.old.place + count) }
+    ensures growth { OnOk result (front.new.growth ≡ front.old.growth + count) }
+    ensures grown { OnOk result (HasCounted front.old front.new 0 0) }
+{
+    let size = count as usize;
+    let mut piece = [0; 64];
+    take_field(input, front, &mut piece[..size])?;
+    let mut fill = mem::replace(&mut front.fill, Vec::new(alloc));
+    grow(&mut fill, size, front)?;
+    if fill.extend_from_slice(&piece[..size]).is_err() {
+        return Err(ReadFault::Memory);
+    }
+    front.fill = fill;
+    Ok(())
+}
+
+/// Reads the padding up to a multiple of `unit`, which is 2 or 64.
+pub fn take_fill<R: Input>(
+    alloc: Global,
+    unit: u8,
+    input: &mut R,
+    front: &mut Front,
+) -> Result<(), ReadFault>
+    requires some { 0 < unit }
+    requires most { unit ≤ 64 }
+    requires place { front.old.place < 2 ^ 62 }
+    requires paid { front.old.growth ≤ 2 * front.old.place + 2 ^ 15 }
+    ensures fill { Reading (filled_to unit) (λ _. tt) front.old front.new R.Input input.old input.new result }
+    ensures place { OnOk result (front.new.place < front.old.place + 64) }
+    ensures growth { OnOk result (front.new.growth + front.old.place ≡ front.old.growth + front.new.place) }
+    ensures grown { OnOk result (HasCounted front.old front.new 0 0) }
+{
+    let rest = (front.place % unit as u64) as u8;
+    take_spare(alloc, (unit - rest) % unit, input, front)
+}
+
+/// The greatest number of items for which space is reserved at once. Each takes two bytes or more, so their number
+/// is below `PIECE`.
+const ROWS: usize = 16384;
+
+/// Reserves space in a list to which `left` more items will be appended, unless space for `room` items is left.
+/// Returns the number of items for which there is space.
+#[inline(always)]
+fn grow_ahead<T>(
+    list: &mut Vec<T>,
+    room: usize,
+    left: usize,
+    front: &mut Front,
+) -> Result<usize, ReadFault>
+    requires some { 0 < left }
+    requires room { room ≤ left }
+    requires paid { front.old.growth + left ≤ 2 * front.old.place + 2 ^ 15 + room }
+    requires place { front.old.place < 2 ^ 62 }
+    ensures some { IfOk result (λ new. 0 < new) }
+    ensures most { IfOk result (λ new. new ≤ left) }
+    ensures items { list.new.items ≡ list.old.items }
+    ensures growth { IfOk result (λ new. front.new.growth + room ≡ front.old.growth + new) }
+    ensures place { front.new.place ≡ front.old.place }
+    ensures fill { front.new.fill.items ≡ front.old.fill.items }
+    ensures memory { OnErr result (result ≡ Err ReadFault.Memory) }
+{
+    if room > 0 {
+        return Ok(room);
+    }
+    let more = left.min(ROWS);
+    grow(list, more, front)?;
+    Ok(more)
+}
+
+/// Reads `count` two-byte numbers as one field.
+pub fn take_numbers<R: Input>(
+    alloc: Global,
+    count: u64,
+    input: &mut R,
+    front: &mut Front,
+) -> Result<Vec<u16>, ReadFault>
+    requires place { front.old.place + 2 * count < 2 ^ 62 }
+    requires paid { front.old.growth ≤ 2 * front.old.place + 2 ^ 15 }
+    ensures rows { Reading (numbers_field count) (λ list. list.items) front.old front.new R.Input input.old input.new result }
+    ensures place { OnOk result (front.new.place ≡ front.old.place + 2 * count) }
+    ensures count { IfOk result (λ list. length list.items ≡ count) }
+    ensures growth { OnOk result (front.new.growth ≡ front.old.growth + 3 * count) }
+    ensures grown { IfOk result (λ list. HasCounted front.old front.new 0 (length list.items)) }
+{
+    let bytes = take_bytes(alloc, 2 * count, input, front)?;
+    let rows = bytes.as_slice();
+    let mut list = Vec::new(alloc);
+    let mut room = 0;
+    'rows: for i in 0..rows.len() / 2 {
+        room = grow_ahead(&mut list, room, rows.len() / 2 - i, front)? - 1;
+        let number = LittleEndian::read_u16(&rows[2 * i..]);
+        list.push(number)?;
+    }
+    Ok(list)
+}
+
+/// Reads `count` dictionary entries, three bytes each, as one field.
+pub fn take_entries<R: Input>(
+    alloc: Global,
+    count: u64,
+    input: &mut R,
+    front: &mut Front,
+) -> Result<Vec<[u8; 3]>, ReadFault>
+    requires place { front.old.place + 3 * count < 2 ^ 62 }
+    requires paid { front.old.growth ≤ 2 * front.old.place + 2 ^ 15 }
+    ensures rows { Reading (rows_field 3 count) (λ list. list.items) front.old front.new R.Input input.old input.new result }
+    ensures place { OnOk result (front.new.place ≡ front.old.place + 3 * count) }
+    ensures count { IfOk result (λ list. length list.items ≡ count) }
+    ensures growth { OnOk result (front.new.growth ≡ front.old.growth + 4 * count) }
+    ensures grown { IfOk result (λ list. HasCounted front.old front.new 0 (2 * length list.items)) }
+{
+    let bytes = take_bytes(alloc, 3 * count, input, front)?;
+    let rows = bytes.as_slice();
+    let mut list = Vec::new(alloc);
+    let mut room = 0;
+    'rows: for i in 0..rows.len() / 3 {
+        room = grow_ahead(&mut list, room, rows.len() / 3 - i, front)? - 1;
+        let row = &rows[3 * i..];
+        list.push([row[0], row[1], row[2]])?;
+    }
+    Ok(list)
+}
+
+/// Reads `count` entries of a sparse index, six bytes each, as one field.
+pub fn take_sparse<R: Input>(
+    alloc: Global,
+    count: u64,
+    input: &mut R,
+    front: &mut Front,
+) -> Result<Vec<Entry>, ReadFault>
+    requires place { front.old.place + 6 * count < 2 ^ 62 }
+    requires paid { front.old.growth ≤ 2 * front.old.place + 2 ^ 15 }
+    ensures rows { Reading (sparse_rows count) (λ list. map sparse_of list.items) front.old front.new R.Input input.old input.new result }
+    ensures place { OnOk result (front.new.place ≡ front.old.place + 6 * count) }
+    ensures count { IfOk result (λ list. length list.items ≡ count) }
+    ensures growth { OnOk result (front.new.growth ≡ front.old.growth + 7 * count) }
+    ensures grown { IfOk result (λ list. HasCounted front.old front.new 0 (length list.items)) }
+{
+    let bytes = take_bytes(alloc, 6 * count, input, front)?;
+    let rows = bytes.as_slice();
+    let mut list = Vec::new(alloc);
+    let mut room = 0;
+    'rows: for i in 0..rows.len() / 6 {
+        room = grow_ahead(&mut list, room, rows.len() / 6 - i, front)? - 1;
+        let row = &rows[6 * i..];
+        let block = LittleEndian::read_u32(row);
+        let offset = LittleEndian::read_u16(&row[4..]);
+        list.push(Entry { block, offset })?;
+    }
+    Ok(list)
+}

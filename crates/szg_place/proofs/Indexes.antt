@@ -1,0 +1,10 @@
+pub mod Spotted
+pub mod Indexing
+pub mod Accepted
+pub mod Found
+pub mod Grouped
+pub mod Indexed
+pub mod Probed
+pub mod FrontProbes
+pub mod IndexAgain
+pub mod SlottedIndex

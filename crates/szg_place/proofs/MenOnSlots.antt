@@ -1,0 +1,12 @@
+pub mod Pieces
+pub mod FirstPawn
+pub mod Carried
+pub mod Codes
+pub mod Standing
+pub mod Slotted
+pub mod Ready
+pub mod SeatedMen
+pub mod Keys
+pub mod SortedSlots
+pub mod SlotCodes
+pub mod SlotGroups

@@ -1,0 +1,4 @@
+pub mod Stated
+pub mod BoardStated
+pub mod Stating
+pub mod Placed

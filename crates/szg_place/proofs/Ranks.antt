@@ -1,0 +1,10 @@
+pub mod Ranking
+pub mod Lists
+pub mod Ways
+pub mod Numbered
+pub mod TripleRanks
+pub mod KingRanks
+pub mod NumberedSets
+pub mod LeadPawns
+pub mod FreeSquares
+pub mod Leading

@@ -1,5 +1,0 @@
-use Rattle.szg_place.proofs.places.set_place_by.Given as goal
-
--- the groups before
-abbrev pub ghost-later_place_by : goal.ghost-later_place_by
-ghost-later_place_by g a = g.before

@@ -1,6 +1,0 @@
-use Rattle.std.proofs.Common.{arith}
-use Rattle.szg_place.proofs.Slotted.{IsIn-at}
-use Rattle.szg_place.proofs.traits.codes_key.Goals as goal
-
-pub code_key-key-requires : goal.code_key-key-requires
-code_key-key-requires c = c.requires.small _ (IsIn-at c.args.codes.now c.loop-code.code-index 0 (omega arith))

@@ -1,0 +1,56 @@
+//! The side that a table stores.
+
+ghost use Rattle.std.specs.Prelude.{◌≡◌, ◌%◌, ◌&&◌, not, [], slice_index, if◌then◌else◌};
+ghost use Rattle.szg_values.specs.Material.{has_pawns, is_symmetric};
+ghost use Rattle.szg_place.specs.Layout.{is_dtz, layout_in};
+ghost use Rattle.szg_place.specs.Spots.{is_wrong_side};
+
+use szg_count::MaterialInfo;
+use szg_values::Kind;
+
+/// Returns the side of the subtable for a side to move: the same in WDL, 0 in DTZ, where each part has one subtable.
+pub fn side_at(kind: Kind, queried: u8) -> u8
+    ensures { result ≡ (if is_dtz kind then 0 else queried) }
+{
+    match kind {
+        Kind::Wdl => queried,
+        Kind::Dtz => 0,
+    }
+}
+
+// Returns byte `i` of a list; 0 after its end.
+fn byte_at(bytes: &[u8], i: usize) -> u8
+    ensures { result ≡ slice_index bytes.now i }
+{
+    if i < bytes.len() { bytes[i] } else { 0 }
+}
+
+/// Returns whether a DTZ subtable stores another side to move than `queried`. False in WDL, and if both sides have the
+/// same men and there are no pawns.
+pub fn is_wrong_side(
+    material: &MaterialInfo,
+    kind: Kind,
+    flags: &[u8],
+    part: u8,
+    queried: u8,
+) -> bool
+    ensures { result ≡ is_wrong_side (layout_in kind material.now [] flags.now) part queried }
+{
+    match kind {
+        Kind::Wdl => false,
+        Kind::Dtz => !is_alike(material) && stored_side(flags, part) != queried,
+    }
+}
+
+fn is_alike(material: &MaterialInfo) -> bool
+    ensures { result ≡ (is_symmetric material.now && not (has_pawns material.now)) }
+{
+    material.symmetric() && !material.has_pawns()
+}
+
+/// Returns the side to move whose values a DTZ table stores for a part: the lowest bit of the part's flags.
+pub fn stored_side(flags: &[u8], part: u8) -> u8
+    ensures { result ≡ slice_index flags.now part % 2 }
+{
+    byte_at(flags, usize::from(part)) % 2
+}

@@ -1,0 +1,4 @@
+//! Tests of placements and indexes: `szg_place`.
+
+mod indexes;
+mod placements;
