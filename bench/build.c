@@ -41,14 +41,14 @@ static const struct form FORMS[] = {
 
 static uint64_t state;
 
-/* a number below `most`, of a generator that always gives the same ones */
+/* a number below `most`, of a generator that always returns the same sequence */
 static uint32_t below(uint32_t most)
 {
     state = state * 6364136223846793005u + 1442695040888963407u;
     return (uint32_t)((state >> 33) % most);
 }
 
-/* runs of eight values or so; the smaller a value the more often it stands */
+/* runs of about eight values; the smaller a value, the more often it occurs */
 static void fill_skewed(uint16_t *values, size_t size)
 {
     uint16_t value = 0;

@@ -95,7 +95,7 @@ static int count_values(struct table *t, int symbol, bool *known)
     return t->symbol_len[symbol];
 }
 
-/* reads the head of a side; gives what stands behind it */
+/* reads the header of a side; returns what follows it */
 static const uint8_t *read_head(struct table *t, const uint8_t *file, const uint8_t *p)
 {
     t->n.block_bits = p[1];
@@ -195,7 +195,7 @@ __attribute__((noinline)) static uint16_t look_up(const struct table *t, uint64_
     return left_of(t->pairs + 3 * symbol);
 }
 
-/* the words of one block, up to so many values; where a list is given, their values go there */
+/* decodes the words of one block, up to `wanted` values; if a list is passed, their values are stored there */
 static bool read_block(const struct table *t, const uint8_t *p, int64_t wanted, uint16_t *list)
 {
     int min = t->n.min, bits = 0;

@@ -21,7 +21,7 @@ static bool is_side(const char *letters, size_t length) {
     return true;
 }
 
-/* Whether the first side may stand before the second: more men, or at equal numbers earlier letters in K Q R B N P. */
+/* Whether the first side may precede the second: more men, or at equal numbers earlier letters in K Q R B N P. */
 static bool is_first(const char *first, size_t first_length, const char *second, size_t second_length) {
     if (first_length != second_length) return first_length > second_length;
     for (size_t i = 0; i < first_length; i++) {
@@ -410,7 +410,7 @@ const reader_subtable *reader_subtable_of(const reader_table *t, int part, int s
     return part < t->part_count && side < t->side_count ? &t->subtables[part * t->side_count + side] : NULL;
 }
 
-/* The word that begins the bits at *at: its symbol, with *at moved behind it, or -1. */
+/* The word that begins the bits at *at: its symbol, with *at moved past it, or -1. */
 static int32_t next_symbol(const reader_subtable *sub, const uint8_t *block, uint64_t *at) {
     uint64_t bits = (uint64_t)8 << sub->block_bits, v = 0;
     for (int length = 1; length <= sub->max && *at + (uint64_t)length <= bits; length++) {
