@@ -13,3 +13,4 @@ pub mod RefusalLaws
 pub mod TableLaws
 pub mod WordBits
 pub mod PackedLaws
+pub mod PassLaws

@@ -1,5 +1,5 @@
 //! A dump whose subtables were packed while it was read, and its table.
-ghost use Rattle.std.specs.Prelude.{◌≡◌, ◌⊎◌, map, true, IfOk, Err, Some};
+ghost use Rattle.std.specs.Prelude.{◌≡◌, ◌⊎◌, map, true, IfOk, Err, None, Some};
 ghost use Rattle.std.specs.List.{AllByRecursion};
 ghost use Rattle.szg_file.specs.Accepted.{IsAccepted};
 ghost use Rattle.szg_build.specs.Chosen.{numbers_in, plan_by};
@@ -51,7 +51,7 @@ pub(crate) fn packed_dump(gathered: Gathered, choice: Choice) -> PackedDump
 }
 
 impl PackedDump {
-    ghost use Rattle.std.specs.Prelude.{◌≡◌, ◌⊎◌, map, IfOk, Err, Some};
+    ghost use Rattle.std.specs.Prelude.{◌≡◌, ◌⊎◌, map, IfOk, Err, None, Some};
     ghost use Rattle.std.specs.List.{AllByRecursion};
     ghost use Rattle.szg_file.specs.Accepted.{IsAccepted};
     ghost use Rattle.szg_build.specs.Built.{subtables_in};
@@ -67,6 +67,7 @@ impl PackedDump {
     /// memory was refused. To find the fault, all values are listed again.
     pub fn build<V: Watcher>(self, alloc: Global, watcher: &mut V) -> Result<Table, BuildFault>
         ensures refused { (fault : BuildFault) → result ≡ Err fault → (fault ≡ BuildFault.Memory) ⊎ (build_fault (plan_by self.choice self.dump) self.dump.lists ≡ Some fault) }
+        ensures no_fault { IfOk result (λ _. build_fault (plan_by self.choice self.dump) self.dump.lists ≡ None) }
         ensures built { IfOk result (λ t. IsBuiltAs self.choice self.dump t.contents) }
         ensures accepted { IfOk result (λ t. IsAccepted t.contents t.filled) }
         ensures byte4 { IfOk result (λ t. t.contents.byte4 ≡ byte4_for self.dump.material) }
@@ -210,6 +211,7 @@ fn build_lists<V: Watcher>(
     requires choice { IsChoiceOf (plan_seen plan.now) choice }
     requires packed { AllByRecursion (IsPackedSub plan.now.kind choice) packed.now }
     ensures refused { (fault : BuildFault) → result ≡ Err fault → (fault ≡ BuildFault.Memory) ⊎ (build_fault (plan_seen plan.now) (lists_held plan.now.kind packed.now (map (λ list. list.items) rest.items)) ≡ Some fault) }
+    ensures no_fault { IfOk result (λ _. build_fault (plan_seen plan.now) (lists_held plan.now.kind packed.now (map (λ list. list.items) rest.items)) ≡ None) }
     ensures built { IfOk result (λ t. IsBuiltBy choice (plan_seen plan.now) (lists_held plan.now.kind packed.now (map (λ list. list.items) rest.items)) t.contents) }
     ensures accepted { IfOk result (λ t. IsAccepted t.contents t.filled) }
     ensures padding { IfOk result (λ t. AllByRecursion (λ byte. byte ≡ 0) t.filled) }
@@ -248,6 +250,7 @@ fn build_gathered<V: Watcher>(
 ) -> Result<Table, BuildFault>
     requires { ArePacked gathered.front.kind choice gathered.subs }
     ensures refused { (fault : BuildFault) → result ≡ Err fault → (fault ≡ BuildFault.Memory) ⊎ (build_fault (plan_by choice (gathered_dump gathered)) (gathered_dump gathered).lists ≡ Some fault) }
+    ensures no_fault { IfOk result (λ _. build_fault (plan_by choice (gathered_dump gathered)) (gathered_dump gathered).lists ≡ None) }
     ensures built { IfOk result (λ t. IsBuiltBy choice (plan_by choice (gathered_dump gathered)) (gathered_dump gathered).lists t.contents) }
     ensures accepted { IfOk result (λ t. IsAccepted t.contents t.filled) }
     ensures padding { IfOk result (λ t. AllByRecursion (λ byte. byte ≡ 0) t.filled) }

@@ -10,4 +10,4 @@ returns c = λ e.
     let parts = parts_as plan.material plan.kind c.deref-2.result.now plan.parts.items c.deref-2.ensures.value c.in-Some.ensures.parts in
     let same = c.as_slice.ensures.value ∙ c.in-Some.ensures.sizes ∙ sizes_as plan.material plan.kind c.deref-2.result.now plan.parts.items c.deref-2.ensures.value in
     packed_are_valid c.requires.0 (plan_seen plan) c.args.packed.now c.as_slice.result.now c.requires.1 parts same (c.if-not-have_sizes.ensures refl) (sym c.if-not-are_bits_valid.ensures)
-    (omega (arith, c.if-plan-gt-MAX_ROUNDS.false)) (sym c.are_maps_valid.ensures ∙ e)
+    (omega arith) (sym c.are_maps_valid.ensures ∙ e)

@@ -1,4 +1,4 @@
-use Rattle.std.proofs.Common.{◌≡◌, ◌⊎◌, Some, map, subst}
+use Rattle.std.proofs.Common.{◌≡◌, ◌⊎◌, None, Some, map, subst}
 use Rattle.std.specs.Prelude.{IfOk}
 use Rattle.szg_build.specs.Chosen.{plan_by, IsBuiltAs, IsCodedTable, ToBuild}
 use Rattle.szg_build.specs.Packed.{gathered_dump}
@@ -13,6 +13,10 @@ use Rattle.szg_build.proofs.reading.packed_dump.PackedDump.build.Goals as goal
 pub returns-clause-refused : goal.returns-clause-refused
 returns-clause-refused g c = λ why e.
     subst (λ (z : ToBuild). (why ≡ fault.Memory) ⊎ (build_fault (plan_by z.choice z.dump) z.dump.lists ≡ Some why)) c.self.view_is (c.build_gathered-built.ensures.refused why e)
+
+pub returns-clause-no_fault : goal.returns-clause-no_fault
+returns-clause-no_fault g c =
+    subst (λ (z : ToBuild). IfOk c.build_gathered-built.result (λ _. build_fault (plan_by z.choice z.dump) z.dump.lists ≡ None)) c.self.view_is c.build_gathered-built.ensures.no_fault
 
 pub returns-clause-built : goal.returns-clause-built
 returns-clause-built g c =
