@@ -71,7 +71,9 @@ impl Values {
     }
 
     /// Returns the number of values.
-    pub(crate) fn len(&self) -> usize {
+    pub(crate) fn len(&self) -> usize
+        ensures { result ≡ length (values_held self.now) }
+    {
         match self {
             Values::Run { count, .. } => *count as usize,
             Values::Listed(list) => list.len(),
