@@ -1,22 +1,19 @@
 -- Subtables of a dump that are packed while it is read.
-use Rattle.std.proofs.Common.{◌≡◌, ℕ, zero, suc, ◌+◌, ◌<◌, ◌≤◌, ◌^◌, Bool, true, false, List, [], ◌∷◌, ◌++◌, length, map, replicate, refl, sym, ap, subst, ◌∙◌, append_assoc, append-nil, add-one, arith, inl, inr, Option, Some, None, Result, Ok, Err}
-use Rattle.std.specs.Prelude.{◌==◌, ◌⊎◌, not, nat_le, nat_lt, IfErr, IfOk, IfSome, MatchOption, if◌then◌else◌}
-use Rattle.std.specs.List.{AllByRecursion, list_all, list_any}
-use Rattle.std.proofs.lemmas.Bool.{eqb-true, eq-eqb, false_from_ne_true, leb-true}
+use Rattle.std.proofs.Common.{◌≡◌, ℕ, zero, suc, ◌+◌, ◌<◌, ◌≤◌, ◌^◌, Bool, true, false, List, [], ◌∷◌, ◌++◌, length, map, replicate, refl, sym, ap, subst, ◌∙◌, append_assoc, append-nil, arith, inl, inr, Some, None}
+use Rattle.std.specs.Prelude.{◌==◌, not, nat_le, if◌then◌else◌}
+use Rattle.std.specs.List.{AllByRecursion, list_any}
+use Rattle.std.proofs.lemmas.Bool.{eqb-true, false_from_ne_true, leb-true}
 use Rattle.std.proofs.lemmas.List.{length-append, length-map, length-replicate, map-append}
 use Rattle.szg_values.specs.declared.Kind.{Kind}
 use Rattle.szg_values.specs.declared.Kind.TheVariants.{Wdl, Dtz}
 use Rattle.szg_values.specs.Material.{has_pawns, is_symmetric}
 use Rattle.szg_block.specs.Subtable.{packed_of, IsShaped, IsSoundOver}
 use Rattle.szg_block.specs.declared.Sub.{Sub}
-use Rattle.szg_block.specs.declared.Sub.TheVariants.{Constant}
 use Rattle.szg_file.specs.Accepted.{AreBytes, IsPart, SideBySide}
 use Rattle.szg_file.specs.Contents.{Contents, Slot, Subtable, constant, has_bit, part_numbers, slots}
 use Rattle.szg_file.specs.Held.{subtable_of}
 use Rattle.szg_file.specs.Values.{constant_value, values_in}
 use Rattle.szg_file.proofs.Tables.TableFinds.{shaped_and_sound}
-use Rattle.szg_build.specs.declared.BuildFault.{BuildFault}
-use Rattle.szg_build.specs.declared.BuildFault.TheVariants as fault
 use Rattle.szg_build.specs.declared.building.Choice.{Choice}
 use Rattle.szg_build.specs.declared.building.Packing.{Packing}
 use Rattle.szg_build.specs.declared.building.Choice.TheVariants.{Fixed, Small}
@@ -27,10 +24,10 @@ use Rattle.szg_build.specs.Built.{dump_plan}
 use Rattle.szg_build.specs.Chosen.{numbers_in, plan_by, IsBuiltAs, IsCodedTable}
 use Rattle.szg_build.specs.Dump.{Dump}
 use Rattle.szg_build.specs.Plan.{Plan, different_values, greatest_value, has_maps}
-use Rattle.szg_build.specs.Building.{IsBuiltSub, IsByRule, IsCodedBy}
+use Rattle.szg_build.specs.Building.{IsBuiltSub, IsCodedBy}
 use Rattle.szg_build.specs.Rule.{byte4_for, constant_for}
 use Rattle.szg_build.specs.Tabling.{AreBuilt, IsBuildable, IsBuiltBare, IsBuiltBy, IsChoiceOf, IsOfItems, HasNoFault}
-use Rattle.szg_build.specs.Packed.{flags_in, gathered_dump, lists_held, lists_in, packed_values, AreFlagsOf, ArePacked, IsAdded, IsListedOn, IsPackedAs, IsPackedOn, IsPackedSub, IsSettled}
+use Rattle.szg_build.specs.Packed.{flags_in, gathered_dump, lists_in, packed_values, AreFlagsOf, ArePacked, IsAdded, IsPackedAs, IsPackedSub, IsSettled}
 use Rattle.szg_build.specs.Wholes.{only_in_dtz}
 use Rattle.szg_build.proofs.Pairs.LeafLaws.{values_below-few, values_below-missing}
 use Rattle.szg_build.proofs.Builders.RefusalLaws.{bits_parsed}
@@ -216,14 +213,6 @@ packed_sizes kind choice (p ∷ packed) h =
 pub packed_fit : (kind : Kind) (choice : Choice) (packed : List PackedSub) → AllByRecursion (IsPackedSub kind choice) packed → AllByRecursion (IsBuildable kind) (map (packed_values kind) packed)
 packed_fit kind choice [] h = tt
 packed_fit kind choice (p ∷ packed) h = (h.0.fits, packed_fit kind choice packed h.1)
-
--- ---- refusals
-
--- a fault is want of memory or the one that is due
-pub fault_due : {A : Type 0} (r : Result A BuildFault) (o : Option BuildFault) → MatchOption o (IfErr r (λ stated. stated ≡ fault.Memory)) (λ stated. r ≡ Err stated) →
-    (f : BuildFault) → r ≡ Err f → (f ≡ fault.Memory) ⊎ (o ≡ Some f)
-fault_due r None h f e = inl (subst (λ z. IfErr z (λ stated. stated ≡ fault.Memory)) e h)
-fault_due r (Some g) h f e = let same : g ≡ f = cc (sym h ∙ e) in inr (ap Some same)
 
 -- ---- the table
 

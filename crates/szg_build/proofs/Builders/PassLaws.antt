@@ -1,13 +1,11 @@
 -- A plan and lists of values without faults are not refused.
-use Rattle.std.proofs.Common.{ℕ, ◌≡◌, ◌+◌, ◌≤◌, Bool, true, false, cond, List, [], ◌∷◌, ◌++◌, length, map, refl, sym, ap, subst, ◌∙◌, append-nil, arith, Option, Some, None, Result, Ok, Err}
-use Rattle.std.specs.Prelude.{◌==◌, not, nat_lt, nat_le, IfErr, IfOk, MatchOption}
+use Rattle.std.proofs.Common.{ℕ, ◌≡◌, ◌+◌, ◌≤◌, Bool, true, false, cond, List, [], ◌∷◌, ◌++◌, length, map, refl, sym, ap, subst, ◌∙◌, append-nil, arith, Option, Some, None}
+use Rattle.std.specs.Prelude.{◌==◌, not, nat_lt, nat_le}
 use Rattle.std.specs.List.{AllByRecursion, list_any, position, prefix_len, zip}
 use Rattle.std.proofs.lemmas.Bool.{eq-eqb, le-leb}
 use Rattle.std.proofs.lemmas.Bool.Decides.{nat_tests}
 use Rattle.std.proofs.lemmas.List.{length-map}
 use Rattle.szg_file.specs.Contents.{slots}
-use Rattle.szg_build.specs.declared.BuildFault.{BuildFault}
-use Rattle.szg_build.specs.declared.BuildFault.TheVariants as fault
 use Rattle.szg_build.specs.declared.building.Choice.{Choice}
 use Rattle.szg_build.specs.declared.building.Packing.{Packing}
 use Rattle.szg_build.specs.declared.reading.gathering.Gathered.{Gathered}
@@ -73,12 +71,6 @@ nothing_refused plan lists h =
     (bits_pass plan lists h) (le-leb plan.rounds 4000 h.range.rounds) (eq-eqb (length lists) (length sizes) count) lengths values many h.maps
 
 -- ---- a dump's table
-
--- where a table is returned, no fault is due
-pub none_due : {A : Type 0} (r : Result A BuildFault) (o : Option BuildFault) → MatchOption o (IfErr r (λ stated. stated ≡ fault.Memory)) (λ stated. r ≡ Err stated) → IfOk r (λ _. o ≡ None)
-none_due (Ok x) None h = refl
-none_due (Ok x) (Some f) h = absurd (cc h)
-none_due (Err e) o h = tt
 
 -- all that was read is packed, and has no fault
 pub whole_passes : (choice : Choice) (gathered : Gathered) (numbers : Packing) → numbers ≡ numbers_in choice → gathered.subs.rest.items ≡ [] →

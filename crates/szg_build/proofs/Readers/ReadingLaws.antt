@@ -15,8 +15,7 @@ use Rattle.szg_build.specs.declared.dump.DumpReadFault.{DumpReadFault}
 use Rattle.szg_build.specs.declared.dump.DumpReadFault.TheVariants.{Line, Build, Device, Memory}
 use Rattle.szg_build.specs.Lines.{Lines, means, refuses, of_line, of_plan, Verdict, good, refused, ended, verdict, ◌>>=◌}
 use Rattle.szg_build.specs.Dump.{Dump}
-use Rattle.szg_build.specs.declared.dump.Dump as declared
-use Rattle.szg_build.specs.Shown.{dump_seen, FollowsLines, TookLines}
+use Rattle.szg_build.specs.Shown.{FollowsLines, TookLines}
 use Rattle.szg_build.specs.Reading.{IsLineFault, IsPlanFault, EndsWith, LinesAnswer, retry_rounds, ReadsLines}
 use Rattle.szg_build.proofs.Texts.LinesLaws.{continued, verdict-then, good-more, refused-more}
 

@@ -64,7 +64,7 @@ impl PackedDump {
     /// and the same padding. `watcher` sees each subtable that is built or packed again now, and the end.
     ///
     /// Errors: the fault that `build_watched` or `build_small_watched` returns for the dump's lists, or `Memory` if
-    /// memory was refused. To find the fault, all values are listed again.
+    /// memory was refused. To find the fault, all values are listed again. If there is a fault, no table is returned.
     pub fn build<V: Watcher>(self, alloc: Global, watcher: &mut V) -> Result<Table, BuildFault>
         ensures refused { (fault : BuildFault) → result ≡ Err fault → (fault ≡ BuildFault.Memory) ⊎ (build_fault (plan_by self.choice self.dump) self.dump.lists ≡ Some fault) }
         ensures no_fault { IfOk result (λ _. build_fault (plan_by self.choice self.dump) self.dump.lists ≡ None) }

@@ -1,4 +1,3 @@
-use Rattle.std.proofs.Common.{arith}
 use Rattle.szg_build.proofs.Builders.PackedLaws.{dtz_run, wdl_run}
 use Rattle.szg_build.proofs.reading.packing.run_byte.Goals as goal
 

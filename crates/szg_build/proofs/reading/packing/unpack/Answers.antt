@@ -1,6 +1,3 @@
-use Rattle.std.proofs.Common.{ap, ◌∙◌}
-use Rattle.szg_block.specs.Views.{values_shown}
-use Rattle.szg_file.proofs.Tables.TableFinds.{values_found}
 use Rattle.szg_build.proofs.Builders.PackedLaws.{packed_sound}
 use Rattle.szg_build.proofs.reading.packing.unpack.Goals as goal
 
