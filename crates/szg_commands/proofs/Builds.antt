@@ -1,9 +1,9 @@
 -- The plan of a dump, and why it is refused.
-use Rattle.std.proofs.Common.{◌≡◌, ◌⊎◌, Option, Some, ap, subst, inl, inr}
+use Rattle.std.proofs.Common.{◌≡◌, ◌⊎◌, Option, None, Some, ap, subst, inl, inr}
 use Rattle.szg_file.specs.Contents.{Contents}
 use Rattle.szg_build.specs.Chosen.{plan_by, IsBuiltAs}
 use Rattle.szg_build.specs.Dump.{Dump}
-use Rattle.szg_build.specs.Plan.{Plan}
+use Rattle.szg_build.specs.Plan.{Plan, build_fault}
 use Rattle.szg_build.specs.declared.BuildFault.{BuildFault}
 use Rattle.szg_build.specs.declared.BuildFault.TheVariants as faults
 use Rattle.szg_build.specs.declared.building.Choice.{Choice}
@@ -17,9 +17,10 @@ pub plan_of : (packing : Packing) (choice : Choice) (dump : Dump) → choice ≡
 plan_of (Fixed sizes) choice dump e = ap (λ (z : Choice). plan_by z dump) e
 plan_of Small choice dump e = ap (λ (z : Choice). plan_by z dump) e
 
-pub built_of : (packing : Packing) (choice : Choice) (dump : Dump) (t : Contents) → choice ≡ choice_in packing → IsBuiltAs choice dump t → IsBuiltIn packing dump t
-built_of (Fixed sizes) choice dump t e h = subst (λ (z : Choice). IsBuiltAs z dump t) e h
-built_of Small choice dump t e h = subst (λ (z : Choice). IsBuiltAs z dump t) e h
+pub built_of : (packing : Packing) (choice : Choice) (dump : Dump) (t : Contents) → choice ≡ choice_in packing → build_fault (plan_by choice dump) dump.lists ≡ None → IsBuiltAs choice dump t →
+    IsBuiltIn packing dump t
+built_of (Fixed sizes) choice dump t e n h = (subst (λ (z : Choice). build_fault (plan_by z dump) dump.lists ≡ None) e n, subst (λ (z : Choice). IsBuiltAs z dump t) e h)
+built_of Small choice dump t e n h = (subst (λ (z : Choice). build_fault (plan_by z dump) dump.lists ≡ None) e n, subst (λ (z : Choice). IsBuiltAs z dump t) e h)
 
 pub refused_of : (packing : Packing) (choice : Choice) (dump : Dump) (refusal : Refusal) → choice ≡ choice_in packing → IsRefusedPlan (plan_by choice dump) dump.lists refusal → IsRefusedPlan (plan_in packing dump) dump.lists refusal
 refused_of packing choice dump refusal e h = subst (λ (z : Plan). IsRefusedPlan z dump.lists refusal) (plan_of packing choice dump e) h

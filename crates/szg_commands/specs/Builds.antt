@@ -1,5 +1,5 @@
 -- What building the table of a dump does to the reader and to the writer.
-use Rattle.std.specs.Prelude.{◌≡◌, ◌⊎◌, List, [], ℕ, Option, Some}
+use Rattle.std.specs.Prelude.{◌≡◌, ◌⊎◌, List, [], ℕ, Option, None, Some}
 use Rattle.szg_io.specs.Moved.{Takes, Gives}
 use Rattle.szg_io.specs.declared.device.Input as input
 use Rattle.szg_io.specs.declared.device.Output as output
@@ -30,10 +30,14 @@ abbrev pub choice_in : Packing → Choice
 choice_in (Fixed sizes) = by_choice.Fixed (record { block_bits = sizes.block_bits; span_bits = sizes.span_bits; rounds = sizes.rounds })
 choice_in Small = by_choice.Small
 
--- the table that is built of a dump
+-- a dump and its plan have no fault
+abbrev pub IsFaultless : Packing → Dump → Type 0
+IsFaultless packing dump = build_fault (plan_in packing dump) dump.lists ≡ None
+
+-- the table that is built of a dump without faults
 abbrev pub IsBuiltIn : Packing → Dump → Contents → Type 0
-IsBuiltIn (Fixed sizes) dump t = IsBuilt (plan_in (Fixed sizes) dump) dump.lists t
-IsBuiltIn Small dump t = IsBuiltSmall (plan_in Small dump) dump.lists t
+IsBuiltIn (Fixed sizes) dump t = IsFaultless (Fixed sizes) dump × IsBuilt (plan_in (Fixed sizes) dump) dump.lists t
+IsBuiltIn Small dump t = IsFaultless Small dump × IsBuiltSmall (plan_in Small dump) dump.lists t
 
 -- Exactly the text of this dump was taken from the reader.
 pub record IsTextOf {R : Type 0} (reading : input.Ghosts R) (reader reader' : R) (dump : Dump) : Type 0 where

@@ -1,9 +1,10 @@
 //! The command that builds a table of a dump.
-ghost use Rattle.std.specs.Prelude.{◌≡◌, ◌⊎◌, ℕ, List, IfOk, OnOk, IsErrOf};
+ghost use Rattle.std.specs.Prelude.{◌≡◌, ◌⊎◌, ℕ, List, None, IfOk, OnOk, IsErrOf};
 ghost use Rattle.szg_io.specs.Device.{HasFailed};
 ghost use Rattle.szg_io.specs.Moved.{Takes};
 ghost use Rattle.szg_file.specs.Accepted.{IsAccepted};
 ghost use Rattle.szg_build.specs.Chosen.{plan_by, IsBuiltAs};
+ghost use Rattle.szg_build.specs.Plan.{build_fault};
 ghost use Rattle.szg_commands.specs.Builds.{IsMade, IsRefusedPlan, IsRefusedText, IsTextOf, IsUnmade, choice_in};
 ghost use Rattle.szg_commands.specs.declared.refusal.Refusal.{Refusal};
 
@@ -78,6 +79,7 @@ fn read_dump_to_build<R: Input, V: Watcher>(
 
 /// Builds the table of a dump.
 fn table_of<V: Watcher>(alloc: Global, packed: PackedDump, watcher: &mut V) -> Result<Table, Stop>
+    ensures no_fault { IfOk result (λ _. build_fault (plan_by packed.choice packed.dump) packed.dump.lists ≡ None) }
     ensures built { IfOk result (λ t. IsBuiltAs packed.choice packed.dump t.contents) }
     ensures accepted { IfOk result (λ t. IsAccepted t.contents t.filled) }
     ensures refused { (refusal : Refusal) → IsErrOf result (Stop.Refused refusal) → IsRefusedPlan (plan_by packed.choice packed.dump) packed.dump.lists refusal }

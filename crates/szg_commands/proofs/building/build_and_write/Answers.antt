@@ -1,4 +1,4 @@
-use Rattle.std.proofs.Common.{inr, refl, rules}
+use Rattle.std.proofs.Common.{inr, refl}
 use Rattle.std.proofs.lemmas.Result.{err_from_is_err_and}
 use Rattle.szg_build.proofs.Readers.ReadingLaws.{same_error}
 use Rattle.szg_commands.proofs.Builds.{built_of, refused_of}
@@ -11,7 +11,7 @@ returns-in-Ok-clause-stated g c =
       dump = packed.dump;
       text = c.in_ok-packed.ensures.text;
       table = c.in_ok-table.table;
-      built = built_of c.args.packing packed.choice packed.dump c.in_ok-table.table.contents c.in_ok-packed.ensures.choice c.in_ok-table.ensures.built;
+      built = built_of c.args.packing packed.choice packed.dump c.in_ok-table.table.contents c.in_ok-packed.ensures.choice c.in_ok-table.ensures.no_fault c.in_ok-table.ensures.built;
       accepted = c.in_ok-table.ensures.accepted;
       given = c.in-Ok.ensures.ok;
     }
