@@ -1,4 +1,4 @@
-use Rattle.std.proofs.Common.{rules, ◌≡◌, ◌+◌, ◌<◌, ◌≤◌, length, arith}
+use Rattle.std.proofs.Common.{rules}
 use Rattle.szg_files.proofs.RangeLaws.{range_known}
 use Rattle.szg_files.proofs.ranges.read_range.Goals as goal
 
