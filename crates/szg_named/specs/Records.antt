@@ -1,5 +1,5 @@
 -- The records of a report for programs.
-use Rattle.std.specs.Prelude.{◌≡◌, ℕ, ◌/◌, ◌%◌, ◌==◌, ◌||◌, nat_lt, Bool, true, false, if◌then◌else◌, List, [], ◌∷◌, ◌++◌, flat_map, codes, decimal, Option, Some, None, IsSome}
+use Rattle.std.specs.Prelude.{◌≡◌, ℕ, ◌/◌, ◌%◌, ◌==◌, ◌||◌, nat_lt, Bool, true, if◌then◌else◌, List, [], ◌∷◌, ◌++◌, flat_map, codes, decimal, Option, Some, None, IsSome}
 use Rattle.std.specs.List.{concat}
 use Rattle.szg_named.specs.Lines.{IsLine, escaped_byte, hex_digit, name_word, reason_word, summary_text}
 use Rattle.szg_named.specs.declared.file_verdict.FileVerdict.{FileVerdict}

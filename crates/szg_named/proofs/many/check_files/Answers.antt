@@ -1,4 +1,4 @@
-use Rattle.std.proofs.Common.{ℕ, ◌+◌, ◌<◌, List, [], ◌∷◌, ◌++◌, length, refl, rules, arith}
+use Rattle.std.proofs.Common.{ℕ, ◌<◌, List, [], ◌∷◌, ◌++◌, length, refl, rules, arith}
 use Rattle.szg_io.specs.Moved.{Gives}
 use Rattle.szg_io.proofs.DeviceLaws.{Gives-on, Gives-none}
 use Rattle.szg_named.proofs.Reporting.{reports_next, counts_more, counts_once}
