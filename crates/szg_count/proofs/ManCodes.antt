@@ -1,11 +1,11 @@
 -- Man codes, their keys, and the lead pawns' code.
-use Rattle.std.proofs.Common.{◌≡◌, ℕ, zero, suc, ◌+◌, ◌*◌, ◌%◌, ◌^◌, ◌<◌, inl, inr, List, length, map, refl, sym, ap, ◌∙◌, Bool, true, false, cond, arith}
+use Rattle.std.proofs.Common.{◌≡◌, ℕ, zero, suc, ◌+◌, ◌*◌, ◌%◌, ◌^◌, ◌<◌, inl, inr, List, map, refl, sym, ap, ◌∙◌, Bool, true, false, cond, arith}
 use Rattle.std.specs.Prelude.{◌==◌, nat_lt, nat_le}
 use Rattle.std.specs.List.{list_all, range_with_len}
 use Rattle.std.proofs.Math.Bool.{◌&&◌, ◌||◌}
 use Rattle.std.proofs.lemmas.Bool.{eqb-true, lt-ltb}
 use Rattle.szg_values.specs.Men.{code_of}
-use Rattle.szg_values.specs.Material.{Sides, has_pawns, pawn_count, first_leads, lead_pawn_code, man_codes}
+use Rattle.szg_values.specs.Material.{Sides, has_pawns, pawn_count, lead_pawn_code, man_codes}
 use Rattle.szg_values.specs.declared.Man.{Man}
 use Rattle.szg_values.specs.declared.Man.TheVariants.{Pawn, Knight, Bishop, Rook, Queen, King}
 use Rattle.szg_count.specs.Laws.{IsIn}

@@ -1,12 +1,11 @@
 -- Men that stand are a placement, if their number and their kings are right.
 use Rattle.std.proofs.Common.{◌≡◌, ◌∙◌, ◌/◌, ◌%◌, ℕ, Bool, true, false, ap, sym, refl, Some, None, length, inl, inr, List}
-use Rattle.std.specs.Prelude.{◌&&◌, ◌==◌, not, if◌then◌else◌, Option}
-use Rattle.std.proofs.lemmas.Bool.{and_parts, and_from, cases_Bool, eqb-true, eq-eqb}
+use Rattle.std.specs.Prelude.{◌&&◌, ◌==◌}
+use Rattle.std.proofs.lemmas.Bool.{and_parts, and_from, cases_Bool, eqb-true}
 use Rattle.szg_values.specs.Material.{is_count}
 use Rattle.szg_values.specs.Placement.{PlacedMan, AreStanding, placement_fault, men_key, number_of, has_men}
 use Rattle.szg_values.specs.declared.Man.TheVariants.{King}
 use Rattle.szg_values.specs.declared.Color.TheVariants.{White, Black}
-use Rattle.szg_values.specs.declared.PlacementFault.{PlacementFault}
 use Rattle.szg_values.specs.declared.PlacementFault.TheVariants as fault
 use Rattle.szg_values.proofs.MenKeys.{kings_told, kings_kept}
 use Rattle.szg_values.proofs.Sound.{no_fault_found}

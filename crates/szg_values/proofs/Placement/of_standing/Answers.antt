@@ -1,8 +1,6 @@
-use Rattle.std.proofs.Common.{rules, ◌≡◌, ◌∙◌, ◌/◌, ◌%◌, ◌^◌, ap, ℕ, Bool, true, false, sym, Some, None}
-use Rattle.std.specs.Prelude.{◌&&◌, ◌==◌, length, IsSome, IsNone}
+use Rattle.std.proofs.Common.{rules, ◌∙◌, ◌/◌, ◌%◌, ap, ℕ, sym}
+use Rattle.std.specs.Prelude.{◌&&◌, ◌==◌}
 use Rattle.szg_values.specs.Material.{is_count}
-use Rattle.szg_values.specs.Placement.{placement_fault, men_key}
-use Rattle.szg_values.specs.declared.PlacementFault.TheVariants as fault
 use Rattle.szg_values.proofs.Complete.{complete_fault, incomplete_fault}
 use Rattle.szg_values.proofs.Placement.of_standing.Goals as goal
 

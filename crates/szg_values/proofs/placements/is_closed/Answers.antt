@@ -1,4 +1,4 @@
-use Rattle.std.proofs.Common.{◌≡◌, ◌∙◌, ap, ℕ, Bool}
+use Rattle.std.proofs.Common.{◌∙◌, ap, ℕ, Bool}
 use Rattle.std.specs.Prelude.{◌||◌, slice_index}
 use Rattle.std.specs.Int.Bits.{bit_or}
 use Rattle.szg_values.specs.Men.{code_of}
