@@ -1,4 +1,4 @@
-use Rattle.std.proofs.Common.{◌∙◌, List, map, sym, ap, subst, arith}
+use Rattle.std.proofs.Common.{◌∙◌, ap, subst, arith}
 use Rattle.std.proofs.lemmas.List.{length-map}
 use Rattle.szg_count.specs.Grouped.{AreGroupsOf}
 use Rattle.szg_count.specs.Groups.{Nibbles, nibbles_of, order_fault}

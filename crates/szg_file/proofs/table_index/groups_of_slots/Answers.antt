@@ -1,8 +1,8 @@
-use Rattle.std.proofs.Common.{length, get_or, ◌<◌, ◌∙◌, List, map, refl, sym, ap, subst, arith, Some}
+use Rattle.std.proofs.Common.{length, get_or, ◌∙◌, List, map, sym, ap, subst, arith, Some}
 use Rattle.szg_values.specs.Material.{Sides}
 use Rattle.szg_count.specs.Laws.{IsIn}
 use Rattle.szg_count.proofs.Differ.{IsIn-at}
-use Rattle.szg_file.specs.Contents.{Part, Slot}
+use Rattle.szg_file.specs.Contents.{Slot}
 use Rattle.szg_file.specs.Held.{part_of}
 use Rattle.szg_file.specs.Index.{AreSlotGroups, IsOrderedSlot}
 use Rattle.szg_file.specs.declared.table.PartBytes.{PartBytes}

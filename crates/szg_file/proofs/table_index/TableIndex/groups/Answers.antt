@@ -1,4 +1,4 @@
-use Rattle.std.proofs.Common.{◌∙◌, get_or, map, option_map, sym, ap, subst, arith, Some, length, refl}
+use Rattle.std.proofs.Common.{◌∙◌, get_or, map, option_map, sym, ap, subst, arith, Some, length}
 use Rattle.std.proofs.lemmas.Option.{slice_get-get_or}
 use Rattle.szg_count.specs.declared.side_groups.SideGroups.{SideGroups}
 use Rattle.std.specs.Prelude.{List, Option, IsSomeAnd}
