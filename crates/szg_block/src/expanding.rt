@@ -11,7 +11,7 @@ use crate::blocks::{Blocks, SourceFault, Whole, blocks_in};
 use crate::lengths::needed_from;
 use crate::packed::block_of;
 use crate::paged::Paged;
-use crate::probing::{Steps, find_value, look_up};
+use crate::probing::{Steps, find_value, load_early, look_up};
 use crate::source::Source;
 use crate::words::push_values;
 use std::alloc::{AllocError, Global};
@@ -77,6 +77,10 @@ impl<'a> Sound<'a, Whole<'a>> {
         requires { i < self.now.size }
         ensures { slice_get (values_shown self.now) i ≡ Some result }
     {
+        // always true; the test keeps the read in the program
+        if !load_early(self.sub, self.size, i) {
+            return self.constant;
+        }
         let mut blocks = self.blocks;
         match find_value(self.sub, self.size, self.constant, i, &mut blocks) {
             Ok(value) => value,
