@@ -11,7 +11,7 @@
 #include <time.h>
 #include <unistd.h>
 
-enum { LOOK_UPS = 1 << 17, ROUNDS = 5, MOST = 4 };
+enum { LOOK_UPS = 1 << 17, ROUNDS = 15, MOST = 4 };
 
 /* How a table is opened and shared by threads, and a thread's look-up. */
 struct way {
@@ -170,9 +170,10 @@ static void time_way(const struct way *timed)
             least(&threads[i], time_threads(counts[i]));
             least(&processes[i], time_processes(counts[i]));
         }
-    printf("%s: 1, 2, 4 threads %.1f, %.1f, %.1f ns a look-up, ratio of 4 to 1 %.2f; processes %.1f, %.1f, %.1f ns, ratio %.2f\n",
+    printf("%s: 1, 2, 4 threads %.1f, %.1f, %.1f ns a look-up, ratio of 4 to 1 %.2f; processes %.1f, %.1f, %.1f ns, ratio %.2f; "
+           "2 and 4 threads beside processes %.2f, %.2f\n",
            way->title, threads[0], threads[1], threads[2], threads[2] / threads[0], processes[0], processes[1], processes[2],
-           processes[2] / processes[0]);
+           processes[2] / processes[0], threads[1] / processes[1], threads[2] / processes[2]);
 }
 
 int main(int count, char **words)
