@@ -1,6 +1,6 @@
 /* Times look-ups by 1, 2 and 4 threads that share one table: threads TABLE. The times are processor time a look-up, the
- * least of several rounds. Beside them stand as many processes with a table each: what the processor's cores and caches
- * cost there, they cost in threads too, and the ratio of the two is the cost of sharing. */
+ * least of fifteen rounds. It also times as many processes with a table each. What the processor's cores and caches cost
+ * threads, they cost processes, too, so the ratio of the two is the cost of sharing. */
 #include "szg.h"
 #include <pthread.h>
 #include <stdio.h>
@@ -171,7 +171,7 @@ static void time_way(const struct way *timed)
             least(&processes[i], time_processes(counts[i]));
         }
     printf("%s: 1, 2, 4 threads %.1f, %.1f, %.1f ns a look-up, ratio of 4 to 1 %.2f; processes %.1f, %.1f, %.1f ns, ratio %.2f; "
-           "2 and 4 threads beside processes %.2f, %.2f\n",
+           "ratio of threads to processes at 2 and 4 %.2f, %.2f\n",
            way->title, threads[0], threads[1], threads[2], threads[2] / threads[0], processes[0], processes[1], processes[2],
            processes[2] / processes[0], threads[1] / processes[1], threads[2] / processes[2]);
 }

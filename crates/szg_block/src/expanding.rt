@@ -77,7 +77,7 @@ impl<'a> Sound<'a, Whole<'a>> {
         requires { i < self.now.size }
         ensures { slice_get (values_shown self.now) i ≡ Some result }
     {
-        // always true; the test keeps the read in the program
+        // always true, but the compiler doesn't know it, so it keeps the read
         if !load_early(self.sub, self.size, i) {
             return self.constant;
         }

@@ -34,7 +34,7 @@ choice_in Small = by_choice.Small
 abbrev pub IsFaultless : Packing → Dump → Type 0
 IsFaultless packing dump = build_fault (plan_in packing dump) dump.lists ≡ None
 
--- the table that is built of a dump without faults
+-- the table that is built of a dump, if neither the dump nor its plan has a fault
 abbrev pub IsBuiltIn : Packing → Dump → Contents → Type 0
 IsBuiltIn (Fixed sizes) dump t = IsFaultless (Fixed sizes) dump × IsBuilt (plan_in (Fixed sizes) dump) dump.lists t
 IsBuiltIn Small dump t = IsFaultless Small dump × IsBuiltSmall (plan_in Small dump) dump.lists t

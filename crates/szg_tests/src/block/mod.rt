@@ -172,6 +172,7 @@ fn check_steps<'a>(
     moves: u64,
 ) {
     assert!(rt; i < sound.size());
+    assert!(rt; sound.get(i) == value, "at {i}");
     let steps = Steps {
         moves,
         words: 1,
@@ -232,7 +233,8 @@ fn entries_at_second_blocks(alloc: Global, count: u32) -> Result<Vec<Entry>, All
     Ok(sparse)
 }
 
-/// 2^20 blocks of one value each. Adding lengths from the first block on in each call would take hours.
+/// 2^20 blocks of one value each: as many bytes as a look-up needs to load blocks early. Adding lengths from the first block
+/// on in each call would take hours.
 #[test]
 fn many_blocks(rt: HostRuntime) {
     let count: u32 = 1 << 20;
