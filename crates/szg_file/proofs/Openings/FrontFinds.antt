@@ -215,9 +215,18 @@ block_spelled content (Pairs flags block_bits span_bits extra blocks code dict s
 
 -- ---- the source
 
-pub spot_roomy : (sub : Sub) (first i room : ℕ) (spot : Spot) → IsSpot (placed_at sub first) i spot → IfSome (layout_of sub) (λ layout. 2 ^ layout.block_bits ≤ room) → spot.count ≤ room
+spot_roomy : (sub : Sub) (first i room : ℕ) (spot : Spot) → IsSpot (placed_at sub first) i spot → IfSome (layout_of sub) (λ layout. 2 ^ layout.block_bits ≤ room) → spot.count ≤ room
 spot_roomy (Constant flags byte) first i room spot h roomy = absurd h
 spot_roomy (Pairs flags block_bits span_bits extra blocks code dict sparse lengths packed) first i room spot h roomy = omega (arith, h.count, roomy)
+
+-- the caller's buffer holds the block
+pub spot_fits : (sub : Sub) (first i room : ℕ) (spot : Spot) (buffer : List ℕ) → IsSpot (placed_at sub first) i spot → IfSome (layout_of sub) (λ layout. 2 ^ layout.block_bits ≤ room) → room ≤ length buffer →
+    spot.count ≤ length buffer
+spot_fits sub first i room spot buffer h roomy long = omega (arith, spot_roomy sub first i room spot h roomy, long)
+
+pub spot_taken : (sub : Sub) (first i room : ℕ) (spot : Spot) (buffer : List ℕ) → IsSpot (placed_at sub first) i spot → IfSome (layout_of sub) (λ layout. 2 ^ layout.block_bits ≤ room) → room ≤ length buffer →
+    length (take spot.count buffer) ≡ spot.count
+spot_taken sub first i room spot buffer h roomy long = length-take-le spot.count buffer (spot_fits sub first i room spot buffer h roomy long)
 
 pub constant_requested : (content : List ℕ) (sub : Sub) (first queried : ℕ) → layout_of sub ≡ None → queried ≡ requested_after (whole_sub content (placed_at sub first)) queried
 constant_requested content (Constant flags byte) first queried none = refl

@@ -111,14 +111,33 @@ fn read_block<S: Source>(source: &mut S, offset: u64, block: &mut [u8]) -> Resul
 }
 
 impl FrontTable {
-    ghost use Rattle.std.specs.Prelude.{ℕ, List, ◌≡◌, ◌≢◌, ◌↔◌, ◌+◌, ◌<◌, ◌≤◌, Err, None, Some, IfErr, IfOk, IfSome, IsOk, IsSomeAnd, MatchOption, length};
+    ghost use Rattle.std.specs.Prelude.{ℕ, List, ◌≡◌, ◌≢◌, ◌↔◌, ◌+◌, ◌^◌, ◌<◌, ◌≤◌, Err, None, Some, IfErr, IfOk, IfSome, IsOk, IsSomeAnd, MatchOption, length};
     ghost use Rattle.szg_block.specs.BlocksTrait.{Rose, bytes_at};
     ghost use Rattle.szg_file.specs.Wanted.{IsSpelledBy, wanted_block};
     ghost use Rattle.szg_file.specs.Fetching.{NamesBadBlock};
     ghost use Rattle.szg_file.specs.FrontTable.{IsFrontOf};
     ghost use Rattle.szg_file.specs.Index.{slot_in};
     ghost use Rattle.szg_file.specs.Opened.{requested_after};
+    ghost use Rattle.szg_file.specs.Placed.{blocks_size, whole_sub};
+    ghost use Rattle.szg_block.specs.Subtable.{layout_of, HasSoundIndex, IsShapedHead};
     ghost use Rattle.szg_file.specs.Unread.{front_at, IsDecoded};
+
+    // Returns the slot of value `i` of a part's side, with its subtable.
+    fn slotted(&self, part: u8, side: u8, i: u64) -> Slotted<'_>
+        requires { IsSomeAnd (slot_in self.now.index part side) (λ slot. i < slot.size) }
+        ensures below { i < result.slot.size }
+        ensures head { IsShapedHead result.placed.now.sub result.slot.size }
+        ensures index { HasSoundIndex result.placed.now.sub result.slot.size }
+        ensures inside { result.placed.now.first + blocks_size result.placed.now.sub ≤ self.now.length }
+        ensures short { self.now.length < 2 ^ 64 }
+        ensures roomy { IfSome (layout_of result.placed.now.sub) (λ layout. 2 ^ layout.block_bits ≤ self.now.room) }
+        ensures front { (content : List ℕ) → IsFrontOf self.now content → front_at self.now.index.material self.now.index.kind content part side ≡ Some (result.slot, whole_sub content result.placed.now) }
+    {
+        let Some(found) = slotted_at(self.index.slots(), &self.subs, part, side) else {
+            unreachable!()
+        };
+        found
+    }
 
     /// Returns value `i` of a part's side, decoded from the file's bytes. It verifies the value's block; a constant
     /// subtable needs none. Allocates nothing. Any number of threads may call it on one table.
@@ -130,9 +149,7 @@ impl FrontTable {
         ensures value { IsFrontOf self.now bytes.now → IfOk result (λ value. IfSome (front_at self.now.index.material self.now.index.kind bytes.now part side) (λ found. IsDecoded self.now.index.kind found i value)) }
         ensures fault { IsFrontOf self.now bytes.now → IfErr result (λ fault. IfSome (front_at self.now.index.material self.now.index.kind bytes.now part side) (λ found. NamesBadBlock bytes.now found i fault)) }
     {
-        let Some(found) = slotted_at(self.index.slots(), &self.subs, part, side) else {
-            unreachable!()
-        };
+        let found = self.slotted(part, side, i);
         let Some(spot) = spot_of(&found, i) else {
             return Ok(constant_value(self.index.kind(), &found.placed.sub));
         };
@@ -149,9 +166,7 @@ impl FrontTable {
         ensures wanted { (content : List ℕ) → IsFrontOf self.now content → IfSome (front_at self.now.index.material self.now.index.kind content part side) (λ found. MatchOption result (wanted_block found.1 i ≡ None) (λ wanted. wanted_block found.1 i ≡ Some (bytes_at content wanted.place wanted.count))) }
         ensures inside { IfSome result (λ wanted. wanted.place + wanted.count ≤ self.now.length) }
     {
-        let Some(found) = slotted_at(self.index.slots(), &self.subs, part, side) else {
-            unreachable!()
-        };
+        let found = self.slotted(part, side, i);
         let Some(spot) = spot_of(&found, i) else {
             return None;
         };
@@ -174,9 +189,7 @@ impl FrontTable {
         // also if `block` has other bytes than the file
         ensures spelled { IfOk result (λ value. (content : List ℕ) → IsFrontOf self.now content → IfSome (front_at self.now.index.material self.now.index.kind content part side) (λ found. IsSpelledBy block.now found.1 i (Some value))) }
     {
-        let Some(found) = slotted_at(self.index.slots(), &self.subs, part, side) else {
-            unreachable!()
-        };
+        let found = self.slotted(part, side, i);
         let Some(spot) = spot_of(&found, i) else {
             return Ok(constant_value(self.index.kind(), &found.placed.sub));
         };
@@ -215,9 +228,7 @@ impl FrontTable {
         ensures content { S.content source.new ≡ S.content source.old }
         ensures requested { IsFrontOf self.now (S.content source.old) → IfSome (front_at self.now.index.material self.now.index.kind (S.content source.old) part side) (λ found. S.requested source.new ≡ requested_after found.1 (S.requested source.old)) }
     {
-        let Some(found) = slotted_at(self.index.slots(), &self.subs, part, side) else {
-            unreachable!()
-        };
+        let found = self.slotted(part, side, i);
         let Some(spot) = spot_of(&found, i) else {
             return Ok(constant_value(self.index.kind(), &found.placed.sub));
         };

@@ -1,99 +1,34 @@
-use Rattle.std.proofs.Common.{◌<◌, ◌∙◌, ap, subst, arith, Option}
-use Rattle.std.specs.Prelude.{IsSomeAnd}
+use Rattle.std.proofs.Common.{◌∙◌, length, ap, arith}
 use Rattle.szg_values.specs.declared.Kind.{Kind}
-use Rattle.szg_file.specs.Contents.{Slot}
 use Rattle.szg_file.specs.Lookup.{byte_of}
 use Rattle.szg_file.specs.Values.{constant_value}
-use Rattle.szg_file.specs.FrontTable.{FrontKept, IsFrontOf}
-use Rattle.szg_file.specs.Index.{slots_in}
-use Rattle.szg_file.proofs.Openings.FrontFinds.{many_slots, no_front_slot, one_front_found, unread_known, spot_inside, constant_decoded, value_decoded, bad_named, ok_both, err_both}
+use Rattle.szg_file.specs.FrontTable.{FrontKept}
+use Rattle.szg_file.proofs.Openings.FrontFinds.{spot_inside, constant_decoded, value_decoded, bad_named, ok_both, err_both}
 use Rattle.szg_file.proofs.opened.front_table.FrontTable.get_in.Goals as goal
 
-pub slotted_at-requires : goal.slotted_at-requires
-slotted_at-requires c =
-    let own : IsFrontOf c.args.self.now c.self.invariant.0 = subst (λ (k : FrontKept). IsFrontOf k c.self.invariant.0) c.self.view_is c.self.invariant.1 in
-    let placed = c.slots.ensures.slots ∙ ap (λ (k : FrontKept). slots_in k.index) c.self.view_is in
-    let subs = c.deref.ensures.value ∙ ap (λ (k : FrontKept). k.subs) c.self.view_is in
-    many_slots c.args.self.now c.slots.result.now c.deref.result.now c.args.part c.args.side placed subs c.self.invariant.0 own
-
-pub unreachable-requires : goal.unreachable-requires
-unreachable-requires c =
-    let placed = c.slots.ensures.slots ∙ ap (λ (k : FrontKept). slots_in k.index) c.self.view_is in
-    let subs = c.deref.ensures.value ∙ ap (λ (k : FrontKept). k.subs) c.self.view_is in
-    subst (λ (o : Option Slot). IsSomeAnd o (λ slot. c.args.i < slot.size)) (no_front_slot c.args.self.now c.slots.result.now c.deref.result.now c.args.part c.args.side placed subs c.in_default.ensures) c.requires
-
-pub spot_of-requires-clause-head : goal.spot_of-requires-clause-head
-spot_of-requires-clause-head c =
-    let own : IsFrontOf c.args.self.now c.self.invariant.0 = subst (λ (k : FrontKept). IsFrontOf k c.self.invariant.0) c.self.view_is c.self.invariant.1 in
-    let placed = c.slots.ensures.slots ∙ ap (λ (k : FrontKept). slots_in k.index) c.self.view_is in
-    let subs = c.deref.ensures.value ∙ ap (λ (k : FrontKept). k.subs) c.self.view_is in
-    let found = one_front_found c.args.self.now c.slots.result.now c.deref.result.now c.args.part c.args.side placed subs c.self.invariant.0 own c.in-Some.found.slot c.in-Some.found.placed.now c.in-Some.ensures in
-    (unread_known c.in-Some.found.slot c.self.invariant.0 c.in-Some.found.placed.now.sub c.in-Some.found.placed.now.first found.unread).0
-
-pub spot_of-requires-clause-index : goal.spot_of-requires-clause-index
-spot_of-requires-clause-index c =
-    let own : IsFrontOf c.args.self.now c.self.invariant.0 = subst (λ (k : FrontKept). IsFrontOf k c.self.invariant.0) c.self.view_is c.self.invariant.1 in
-    let placed = c.slots.ensures.slots ∙ ap (λ (k : FrontKept). slots_in k.index) c.self.view_is in
-    let subs = c.deref.ensures.value ∙ ap (λ (k : FrontKept). k.subs) c.self.view_is in
-    let found = one_front_found c.args.self.now c.slots.result.now c.deref.result.now c.args.part c.args.side placed subs c.self.invariant.0 own c.in-Some.found.slot c.in-Some.found.placed.now c.in-Some.ensures in
-    (unread_known c.in-Some.found.slot c.self.invariant.0 c.in-Some.found.placed.now.sub c.in-Some.found.placed.now.first found.unread).1
-
-pub spot_of-requires-clause-inside : goal.spot_of-requires-clause-inside
-spot_of-requires-clause-inside c =
-    let own : IsFrontOf c.args.self.now c.self.invariant.0 = subst (λ (k : FrontKept). IsFrontOf k c.self.invariant.0) c.self.view_is c.self.invariant.1 in
-    let placed = c.slots.ensures.slots ∙ ap (λ (k : FrontKept). slots_in k.index) c.self.view_is in
-    let subs = c.deref.ensures.value ∙ ap (λ (k : FrontKept). k.subs) c.self.view_is in
-    let found = one_front_found c.args.self.now c.slots.result.now c.deref.result.now c.args.part c.args.side placed subs c.self.invariant.0 own c.in-Some.found.slot c.in-Some.found.placed.now c.in-Some.ensures in
-    omega (arith, found.fits.inside, own.long, own.short)
-
-pub returns-in_default-spot_of-clause-value : goal.returns-in_default-spot_of-clause-value
-returns-in_default-spot_of-clause-value c = λ h.
-    let placed = c.slots.ensures.slots ∙ ap (λ (k : FrontKept). slots_in k.index) c.self.view_is in
-    let subs = c.deref.ensures.value ∙ ap (λ (k : FrontKept). k.subs) c.self.view_is in
-    let found = one_front_found c.args.self.now c.slots.result.now c.deref.result.now c.args.part c.args.side placed subs c.args.bytes.now h c.in-Some.found.slot c.in-Some.found.placed.now c.in-Some.ensures in
-    rw (found.is, ← ap (λ (k : FrontKept). k.index.kind) c.self.view_is)
-    (constant_decoded c.self.inside.index.kind c.in-Some.found.slot c.args.bytes.now c.in-Some.found.placed.now.sub c.in-Some.found.placed.now.first c.args.i _ c.in_default-spot_of.ensures.none (c.constant_value.ensures ∙ ap (λ (k : Kind). constant_value k (byte_of c.in-Some.found.placed.now.sub)) c.kind.ensures))
+pub returns-in_default-clause-value : goal.returns-in_default-clause-value
+returns-in_default-clause-value c = λ h.
+    let found = c.slotted-found.ensures.front c.args.bytes.now h in
+    rw (found, ← ap (λ (k : FrontKept). k.index.kind) c.self.view_is)
+    (constant_decoded c.self.inside.index.kind c.slotted-found.result.slot c.args.bytes.now c.slotted-found.result.placed.now.sub c.slotted-found.result.placed.now.first c.args.i _ c.in_default.ensures.none (c.constant_value.ensures ∙ ap (λ (k : Kind). constant_value k (byte_of c.slotted-found.result.placed.now.sub)) c.kind.ensures))
 
 pub returns-in_default-bytes_from-clause-fault : goal.returns-in_default-bytes_from-clause-fault
 returns-in_default-bytes_from-clause-fault c = λ h.
-    let placed = c.slots.ensures.slots ∙ ap (λ (k : FrontKept). slots_in k.index) c.self.view_is in
-    let subs = c.deref.ensures.value ∙ ap (λ (k : FrontKept). k.subs) c.self.view_is in
-    let found = one_front_found c.args.self.now c.slots.result.now c.deref.result.now c.args.part c.args.side placed subs c.args.bytes.now h c.in-Some.found.slot c.in-Some.found.placed.now c.in-Some.ensures in
-    let within = spot_inside c.in-Some.found.placed.now.sub c.in-Some.found.placed.now.first c.args.i _ c.in-Some-spot_of.spot c.in-Some-spot_of.ensures.spot found.fits.inside in
+    let within = spot_inside c.slotted-found.result.placed.now.sub c.slotted-found.result.placed.now.first c.args.i (length c.args.bytes.now) c.in-Some.spot c.in-Some.ensures.spot (omega (arith, c.slotted-found.ensures.inside, h.long)) in
     absurd (omega (arith, within, c.in_default-bytes_from.ensures.none))
-
-pub value_at-requires-clause-head : goal.value_at-requires-clause-head
-value_at-requires-clause-head c =
-    let own : IsFrontOf c.args.self.now c.self.invariant.0 = subst (λ (k : FrontKept). IsFrontOf k c.self.invariant.0) c.self.view_is c.self.invariant.1 in
-    let placed = c.slots.ensures.slots ∙ ap (λ (k : FrontKept). slots_in k.index) c.self.view_is in
-    let subs = c.deref.ensures.value ∙ ap (λ (k : FrontKept). k.subs) c.self.view_is in
-    let found = one_front_found c.args.self.now c.slots.result.now c.deref.result.now c.args.part c.args.side placed subs c.self.invariant.0 own c.in-Some.found.slot c.in-Some.found.placed.now c.in-Some.ensures in
-    (unread_known c.in-Some.found.slot c.self.invariant.0 c.in-Some.found.placed.now.sub c.in-Some.found.placed.now.first found.unread).0
-
-pub value_at-requires-clause-index : goal.value_at-requires-clause-index
-value_at-requires-clause-index c =
-    let own : IsFrontOf c.args.self.now c.self.invariant.0 = subst (λ (k : FrontKept). IsFrontOf k c.self.invariant.0) c.self.view_is c.self.invariant.1 in
-    let placed = c.slots.ensures.slots ∙ ap (λ (k : FrontKept). slots_in k.index) c.self.view_is in
-    let subs = c.deref.ensures.value ∙ ap (λ (k : FrontKept). k.subs) c.self.view_is in
-    let found = one_front_found c.args.self.now c.slots.result.now c.deref.result.now c.args.part c.args.side placed subs c.self.invariant.0 own c.in-Some.found.slot c.in-Some.found.placed.now c.in-Some.ensures in
-    (unread_known c.in-Some.found.slot c.self.invariant.0 c.in-Some.found.placed.now.sub c.in-Some.found.placed.now.first found.unread).1
 
 pub returns-clause-value : goal.returns-clause-value
 returns-clause-value c = λ h.
-    let placed = c.slots.ensures.slots ∙ ap (λ (k : FrontKept). slots_in k.index) c.self.view_is in
-    let subs = c.deref.ensures.value ∙ ap (λ (k : FrontKept). k.subs) c.self.view_is in
-    let found = one_front_found c.args.self.now c.slots.result.now c.deref.result.now c.args.part c.args.side placed subs c.args.bytes.now h c.in-Some.found.slot c.in-Some.found.placed.now c.in-Some.ensures in
+    let found = c.slotted-found.ensures.front c.args.bytes.now h in
     ok_both c.value_at.result _ _ _ c.value_at.ensures.verified c.value_at.ensures.value (λ value verified stated.
-    rw found.is
-    (value_decoded c.args.self.now.index.kind c.in-Some.found.slot c.args.bytes.now c.in-Some.found.placed.now.sub c.in-Some.found.placed.now.first c.args.i value c.in-Some-spot_of.spot c.in-Some-bytes_from.block.now
-    c.in-Some-spot_of.ensures.spot c.in-Some-bytes_from.ensures.there verified stated))
+    rw found
+    (value_decoded c.args.self.now.index.kind c.slotted-found.result.slot c.args.bytes.now c.slotted-found.result.placed.now.sub c.slotted-found.result.placed.now.first c.args.i value c.in-Some.spot c.in-Some-bytes_from.block.now
+    c.in-Some.ensures.spot c.in-Some-bytes_from.ensures.there verified stated))
 
 pub returns-clause-fault : goal.returns-clause-fault
 returns-clause-fault c = λ h.
-    let placed = c.slots.ensures.slots ∙ ap (λ (k : FrontKept). slots_in k.index) c.self.view_is in
-    let subs = c.deref.ensures.value ∙ ap (λ (k : FrontKept). k.subs) c.self.view_is in
-    let found = one_front_found c.args.self.now c.slots.result.now c.deref.result.now c.args.part c.args.side placed subs c.args.bytes.now h c.in-Some.found.slot c.in-Some.found.placed.now c.in-Some.ensures in
+    let found = c.slotted-found.ensures.front c.args.bytes.now h in
     err_both c.value_at.result _ _ _ c.value_at.ensures.fault c.value_at.ensures.bad (λ fault is bad.
-    rw found.is
-    (bad_named c.in-Some.found.slot c.args.bytes.now c.in-Some.found.placed.now.sub c.in-Some.found.placed.now.first c.args.i c.in-Some-spot_of.spot c.in-Some-bytes_from.block.now fault
-    c.in-Some-spot_of.ensures.spot c.in-Some-bytes_from.ensures.there is bad))
+    rw found
+    (bad_named c.slotted-found.result.slot c.args.bytes.now c.slotted-found.result.placed.now.sub c.slotted-found.result.placed.now.first c.args.i c.in-Some.spot c.in-Some-bytes_from.block.now fault
+    c.in-Some.ensures.spot c.in-Some-bytes_from.ensures.there is bad))
