@@ -12,9 +12,7 @@ ghost use Rattle.szg_count.specs.Groups as count;
 
 use crate::begun::Slot;
 use crate::passing::{are_maps_valid, are_subs_valid};
-use crate::reading::parts::{
-    Parts, SideSizes, man_count, order_count, part_count, part_sizes, push_slots,
-};
+use crate::reading::parts::{Parts, SideSizes, order_count, part_count, part_sizes, push_slots};
 use crate::reading::start::{pawns_as, splits_as};
 use crate::table::{Map, PartBytes, Table};
 use crate::table_index::index_of_subs;
@@ -120,7 +118,7 @@ fn sizes_of(
     ensures slots { IfSome result (λ sizes. part_slots material.now (side_numbers material.now kind) number (part_with order.now men.now) ≡ slots_with number sizes.first sizes.second) }
     ensures fits { IfSome result (λ sizes. (sizes.first < 2 ^ 33) × IfSome sizes.second (λ second. second < 2 ^ 33)) }
 {
-    if order.len() != order_count(material) || men.len() != man_count(material) {
+    if order.len() != order_count(material) || men.len() != material.men().len() {
         return None;
     }
     match part_sizes(material, kind, number, 0, order, men) {

@@ -95,25 +95,6 @@ pub fn read_opening<R: Input>(
     })
 }
 
-/// Reads the sparse indexes, the block lengths and the blocks of subtables whose headers were read.
-fn read_subtables<R: Input>(
-    alloc: Global,
-    heads: Vec<Begun>,
-    input: &mut R,
-    front: &mut Front,
-) -> Result<Vec<Sub>, ReadFault>
-    requires place { front.old.place < 2 ^ 24 }
-    requires paid { front.old.growth ≤ 2 * front.old.place + 20 }
-    requires few { length heads.items ≤ 8 }
-    ensures packed { Reading (packed_field heads.items) (λ subs. map subtable_of subs.items) front.old front.new R.Input input.old input.new result }
-    ensures place { OnOk result (front.new.place < 2 ^ 56) }
-    ensures growth { OnOk result (front.new.growth ≤ 2 * front.new.place + 44) }
-    ensures grown { IfOk result (λ subs. HasCounted front.old front.new (begun_lengths heads.items) (2 * length subs.items + subs_lengths subs.items)) }
-{
-    let measured = read_lengths(alloc, heads, input, front)?;
-    read_blocks(alloc, measured, input, front)
-}
-
 /// Reads the padding after the blocks, and the last sixteen bytes.
 pub fn read_ending<R: Input>(
     alloc: Global,
@@ -154,7 +135,8 @@ fn read_pieces<R: Input>(
         heads,
         maps,
     } = read_opening(alloc, material, kind, input, front)?;
-    let subs = read_subtables(alloc, heads, input, front)?;
+    let measured = read_lengths(alloc, heads, input, front)?;
+    let subs = read_blocks(alloc, measured, input, front)?;
     let last = read_ending(alloc, input, front)?;
     Ok(Pieces {
         byte4,

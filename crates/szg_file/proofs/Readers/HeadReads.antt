@@ -24,7 +24,7 @@ use Rattle.szg_file.specs.File.{rows_field, none_fails, lowest_check, entries_ch
 use Rattle.szg_file.specs.HeadPieces.{Refuses, entries_field, lowest_refusal, entries_refusal}
 use Rattle.szg_file.specs.Reading.{Reading}
 use Rattle.szg_io.specs.declared.device.Input.{Ghosts}
-use Rattle.szg_file.proofs.Readers.ReadingLaws.{reads_then, reads_stopped, reads_refused}
+use Rattle.szg_file.proofs.Readers.ReadingLaws.{reads_then, reads_stopped, reads_nothing, reads_refused}
 use Rattle.szg_file.proofs.Readers.Taken.{reads_like}
 use Rattle.szg_file.proofs.Readers.LoopReads.{reads_lacking}
 
@@ -106,7 +106,7 @@ entries_none : (place : ℕ) (entries : List (List ℕ)) → IsDictionary entrie
 entries_none place entries is_valid None h = refl
 entries_none place entries is_valid (Some fault) h = absurd (h.1 (dictionaries.accepted_has_no_fault entries is_valid fault h.0))
 
-pub entries_pass : (place : ℕ) (entries : List (List ℕ)) → IsDictionary entries → entries_check place entries ≡ means tt
+entries_pass : (place : ℕ) (entries : List (List ℕ)) → IsDictionary entries → entries_check place entries ≡ means tt
 entries_pass place entries is_valid =
     checks_as place (first_child entries) (first_cycle entries) (first_long entries)
     ∙ entries_none place entries is_valid (fault_of (first_child entries) (first_cycle entries) (first_long entries))
@@ -135,6 +135,29 @@ entries_stated place entries fault r wrong stated lacks there =
     let full : fault ≡ dict.Memory → ⊥ = λ e. there (lacks e) in
     subst (λ (f : Format (Unit {0})). Refuses f r) (sym (entries_refused place entries fault wrong full)) (stated full)
 
+-- the format after the entries: their checks
+abbrev after_rows : ℕ → List (List ℕ) → Format (List (List ℕ))
+after_rows place entries = entries_check place entries >> means entries
+
+-- entries that were not read whole
+pub entries_unread : {X Y R : Type 0} (count : ℕ) (view : X → List (List ℕ)) (view' : Y → List (List ℕ)) {o n : Front}
+    {dev : Ghosts R} {i k : R} (fault : ReadFault) →
+    Reading (rows_field 3 count) view o n dev i k (Err fault) →
+    Reading (entries_field count) view' o n dev i k (Err fault)
+entries_unread count view view' {o = o} fault h =
+    reads_like (rows_field 3 count >>= after_rows o.place) (entries_field count) view' (Err fault) (λ bytes. refl)
+    (reads_stopped (rows_field 3 count) (after_rows o.place) view view' fault h)
+
+-- entries that were read and that are accepted
+pub entries_read : {X Y R : Type 0} (count : ℕ) (view : X → List (List ℕ)) (view' : Y → List (List ℕ)) {o n : Front}
+    {dev : Ghosts R} {i k : R} (x : X) (y : Y) → view' y ≡ view x → IsDictionary (view x) →
+    Reading (rows_field 3 count) view o n dev i k (Ok x) →
+    Reading (entries_field count) view' o n dev i k (Ok y)
+entries_read count view view' {o = o} x y same is_valid h =
+    reads_like (rows_field 3 count >>= after_rows o.place) (entries_field count) view' (Ok y) (λ bytes. refl)
+    (reads_then (rows_field 3 count) (after_rows o.place) view view' x h
+    (reads_nothing (after_rows o.place (view x)) view' y (ap (λ (f : Format (Unit {0})). f >> means (view x)) (entries_pass o.place (view x) is_valid) ∙ ap means (sym same))))
+
 -- entries that were read and that are refused
 pub entries_stopped : {X Y R : Type 0} (count : ℕ) (view : X → List (List ℕ)) (view' : Y → List (List ℕ)) {o n : Front}
     {dev : Ghosts R} {i k : R} (x : X) (r : ReadFault) →
@@ -142,15 +165,11 @@ pub entries_stopped : {X Y R : Type 0} (count : ℕ) (view : X → List (List �
     Reading (rows_field 3 count) view o n dev i k (Ok x) →
     Reading (entries_field count) view' o n dev i k (Err r)
 entries_stopped count view view' {o = o} x (Refused place why) stated h =
-    let rest : List (List ℕ) → Format (List (List ℕ)) = λ entries. entries_check o.place entries >> means entries in
-    reads_like (rows_field 3 count >>= rest) (entries_field count) view' (Err (Refused place why)) (λ bytes. refl)
-    (reads_then (rows_field 3 count) rest view view' x h
-    (reads_refused (rest (view x)) view' place why (ap (λ (f : Format (Unit {0})). f >> means (view x)) (stated (λ no. absurd cc)))))
+    reads_like (rows_field 3 count >>= after_rows o.place) (entries_field count) view' (Err (Refused place why)) (λ bytes. refl)
+    (reads_then (rows_field 3 count) (after_rows o.place) view view' x h
+    (reads_refused (after_rows o.place (view x)) view' place why (ap (λ (f : Format (Unit {0})). f >> means (view x)) (stated (λ no. absurd cc)))))
 entries_stopped count view view' x Device stated h = absurd (stated (λ no. absurd cc))
-entries_stopped count view view' {o = o} x Memory stated h =
-    let rest : List (List ℕ) → Format (List (List ℕ)) = λ entries. entries_check o.place entries >> means entries in
-    reads_like (rows_field 3 count >>= rest) (entries_field count) view' (Err Memory) (λ bytes. refl)
-    (reads_stopped (rows_field 3 count) rest view view' Memory (reads_lacking (rows_field 3 count) view view x h))
+entries_stopped count view view' x Memory stated h = entries_unread count view view' Memory (reads_lacking (rows_field 3 count) view view x h)
 
 -- a fault that equals `Memory`
 pub memory_is : {Y : Type 0} (fault : ReadFault) → ◌≡◌ {A = Result Y ReadFault} (Err fault) (Err Memory) → fault ≡ Memory

@@ -1,5 +1,6 @@
 -- A whole file is read in three stages, and the result of `read` follows from one reading of it.
 use Rattle.std.proofs.Common.{◌≡◌, ℕ, List, sym, ap, subst, ◌∙◌, Option, Ok, Err}
+use Rattle.std.specs.Prelude.{Result}
 use Rattle.szg_values.specs.declared.Kind.{Kind}
 use Rattle.szg_values.specs.Material.{Sides}
 use Rattle.szg_file.specs.declared.reading.front.Front.{Front}
@@ -46,8 +47,16 @@ abbrev pub after_start : Sides → Kind → ℕ → Format Opened
 after_start material kind byte = each (λ _. part_field material kind) (part_numbers material) >>= after_parts material kind byte
 
 -- the sparse indexes and the block lengths, and then the blocks
-pub packed_steps : (list : List Begun) → packed_field list ≡ measured_field list >>= each blocks_field
+packed_steps : (list : List Begun) → packed_field list ≡ measured_field list >>= each blocks_field
 packed_steps list = sym (then-then (each sparse_field list) (each lengths_field) (each blocks_field))
+
+pub packed_unmeasured : {X Y R : Type 0} (list : List Begun) (view : X → List Begun) (view' : Y → List Subtable) {o n : Front} {dev : Ghosts R} {i k : R} (fault : ReadFault) →
+    Reading (measured_field list) view o n dev i k (Err fault) → Reading (packed_field list) view' o n dev i k (Err fault)
+packed_unmeasured list view view' fault h = rw (packed_steps list) (reads_stopped (measured_field list) (each blocks_field) view view' fault h)
+
+pub packed_measured : {X Y R : Type 0} (list : List Begun) (view : X → List Begun) (view' : Y → List Subtable) {o m n : Front} {dev : Ghosts R} {i j k : R} (v : X) {r : Result Y ReadFault} →
+    Reading (measured_field list) view o m dev i j (Ok v) → Reading (each blocks_field (view v)) view' m n dev j k r → Reading (packed_field list) view' o n dev i k r
+packed_measured list view view' v first second = rw (packed_steps list) (reads_then (measured_field list) (each blocks_field) view view' v first second)
 
 -- ---- the three stages are the file
 

@@ -165,13 +165,6 @@ pub struct HeadSizes {
     pub max: u8,
 }
 
-/// Returns whether a code may have these least and greatest lengths.
-fn are_lengths(min: u8, max: u8) -> bool
-    ensures { result ≡ (nat_lt 0 min && nat_le min max && nat_le max 32) }
-{
-    0 < min && min <= max && max <= 32
-}
-
 /// Reads the sizes after the span bits at once, because no check comes between them.
 fn read_sizes<R: Input>(input: &mut R, front: &mut Front) -> Result<HeadSizes, ReadFault>
     requires { front.old.place < 2 ^ 62 }
@@ -192,7 +185,7 @@ fn read_sizes<R: Input>(input: &mut R, front: &mut Front) -> Result<HeadSizes, R
         min: piece[6],
         max: piece[5],
     };
-    if !are_lengths(sizes.min, sizes.max) {
+    if sizes.min == 0 || sizes.min > sizes.max || sizes.max > 32 {
         return Err(ReadFault::Refused {
             place,
             reason: Reason::CodeLengths,
@@ -252,31 +245,14 @@ fn read_dictionary<R: Input>(
     ensures grown { IfOk result (λ dict. HasCounted front.old front.new 0 (2 * length dict)) }
 {
     let count = read_number(input, front)?;
-    let dict = read_entries(alloc, count, input, front)?;
-    take_spare(alloc, (count % 2) as u8, input, front)?;
-    Ok(dict)
-}
-
-/// Reads `count` entries of a dictionary.
-fn read_entries<R: Input>(
-    alloc: Global,
-    count: u16,
-    input: &mut R,
-    front: &mut Front,
-) -> Result<Dict, ReadFault>
-    requires place { front.old.place + 3 * count < 2 ^ 62 }
-    requires paid { front.old.growth ≤ 2 * front.old.place + 2 ^ 15 }
-    ensures entries { Reading (entries_field count) (λ dict. dict) front.old front.new R.Input input.old input.new result }
-    ensures place { OnOk result (front.new.place ≡ front.old.place + 3 * count) }
-    ensures growth { OnOk result (front.new.growth ≡ front.old.growth + 4 * count) }
-    ensures grown { IfOk result (λ dict. HasCounted front.old front.new 0 (2 * length dict)) }
-{
     let place = front.place;
     let entries = take_entries(alloc, u64::from(count), input, front)?;
-    match Dict::new(alloc, entries) {
-        Ok(dict) => Ok(dict),
-        Err(fault) => Err(entries_refusal(place, fault)),
-    }
+    let dict = match Dict::new(alloc, entries) {
+        Ok(dict) => dict,
+        Err(fault) => return Err(entries_refusal(place, fault)),
+    };
+    take_spare(alloc, (count % 2) as u8, input, front)?;
+    Ok(dict)
 }
 
 /// Returns the refusal for a fault of entries that begin at offset `place`.

@@ -35,32 +35,6 @@ pub struct Outline {
     pub last: [u8; 16],
 }
 
-/// Reads the sparse indexes, the block lengths and the blocks. Of the blocks it keeps the offsets.
-fn outline_subtables<R: Input + Ahead, W, K: ValueSink<W>>(
-    alloc: Global,
-    kind: Kind,
-    heads: Vec<Begun>,
-    buffer: &mut Vec<u8>,
-    input: &mut R,
-    front: &mut Front,
-    sink: &mut K,
-    out: &mut W,
-) -> Result<Vec<PlacedSub>, ReadFault>
-    requires place { front.old.place < 2 ^ 24 }
-    requires paid { front.old.growth ≤ 2 * front.old.place + 20 }
-    requires few { length heads.items ≤ 8 }
-    requires at { front.old.place ≡ length (R.moved input.old) }
-    ensures packed { Reading (packed_field heads.items) (λ subs. map (whole_sub (R.moved input.new)) subs.items) front.old front.new R.Input input.old input.new result }
-    ensures fits { IfOk result (λ subs. AllByRecursion (Fits (length (R.moved input.new)) (length buffer.new.items)) subs.items) }
-    ensures place { OnOk result (front.new.place < 2 ^ 56) }
-    ensures growth { OnOk result (front.new.growth ≤ 2 * front.new.place + 44) }
-    ensures many { IfOk result (λ subs. length subs.items ≡ length heads.items) }
-    ensures accepted { IfOk result (λ subs. Accepted K.accepts (wanted_values (K.wanted sink.old) kind (slotted (map (λ begun. begun.slot) heads.items) (map (whole_sub (R.moved input.new)) subs.items))) sink.old out.old sink.new out.new) }
-{
-    let measured = read_lengths(alloc, heads, input, front)?;
-    pass_subs(alloc, kind, measured, buffer, input, front, sink, out)
-}
-
 /// Reads a whole file. Each block is read into the buffer, which grows to the longest. The values that the sink wants
 /// are handed to it in file order. Errors: as `read`; `Memory` too if the sink takes no more values.
 pub fn read_outline<R: Input + Ahead, W, K: ValueSink<W>>(
@@ -89,7 +63,8 @@ pub fn read_outline<R: Input + Ahead, W, K: ValueSink<W>>(
         heads,
         maps,
     } = read_opening(alloc, material, kind, input, front)?;
-    let subs = outline_subtables(alloc, kind, heads, buffer, input, front, sink, out)?;
+    let measured = read_lengths(alloc, heads, input, front)?;
+    let subs = pass_subs(alloc, kind, measured, buffer, input, front, sink, out)?;
     let last = read_ending(alloc, input, front)?;
     Ok(Outline {
         byte4,

@@ -43,15 +43,6 @@ pub fn order_count(material: &Material) -> usize
     }
 }
 
-/// Returns the number of men of a material.
-pub fn man_count(material: &Material) -> usize
-    ensures number { result ≡ length (man_codes material.now) }
-    ensures some { 3 ≤ result }
-    ensures few { result ≤ 6 }
-{
-    material.men().len()
-}
-
 /// Returns whether each part has subtables for both sides: in WDL, unless the material is symmetric.
 pub fn has_two_sides(material: &Material, kind: Kind) -> bool
     ensures { side_numbers material.now kind ≡ (if result then 0 ∷ 1 ∷ [] else 0 ∷ []) }
@@ -169,7 +160,7 @@ fn read_part<R: Input>(
 {
     let place = front.place;
     let orders = order_count(material);
-    let size = orders + man_count(material);
+    let size = orders + material.men().len();
     let mut piece = [0; 8];
     take_field(input, front, &mut piece[..size])?;
     let order = &piece[..orders];

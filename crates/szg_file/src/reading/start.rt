@@ -1,14 +1,14 @@
 ghost use Rattle.std.specs.Prelude.{◌≡◌, ◌<◌, bytes_eq, OnOk};
 ghost use Rattle.szg_values.specs.Material.{has_pawns};
 ghost use Rattle.szg_file.specs.Contents.{has_bit};
-ghost use Rattle.szg_file.specs.File.{magic_of, magic_field, byte4_field, split_agrees, agrees};
+ghost use Rattle.szg_file.specs.File.{magic_of, split_agrees, agrees};
 ghost use Rattle.szg_file.specs.Reading.{Reading, start_field};
 ghost use Rattle.szg_file.specs.Grown.{HasCounted};
 
 use crate::fault::{ReadFault, Reason};
 use crate::flags::has_bit;
 use crate::reading::front::Front;
-use crate::reading::taking::take_field;
+use crate::reading::taking::{read_byte, take_field};
 use szg_io::Input;
 use szg_values::{Kind, Material};
 
@@ -20,24 +20,6 @@ pub fn magic(kind: Kind) -> [u8; 4]
         Kind::Wdl => [0x71, 0xE8, 0x23, 0x5D],
         Kind::Dtz => [0xD7, 0x66, 0x0C, 0xA5],
     }
-}
-
-fn read_magic<R: Input>(kind: Kind, input: &mut R, front: &mut Front) -> Result<(), ReadFault>
-    requires { front.old.place ≡ 0 }
-    ensures magic { Reading (magic_field kind) (λ _. tt) front.old front.new R.Input input.old input.new result }
-    ensures place { OnOk result (front.new.place ≡ 4) }
-    ensures growth { OnOk result (front.new.growth ≡ front.old.growth) }
-    ensures grown { OnOk result (HasCounted front.old front.new 0 0) }
-{
-    let mut piece = [0; 4];
-    take_field(input, front, &mut piece)?;
-    if piece != magic(kind) {
-        return Err(ReadFault::Refused {
-            place: 0,
-            reason: Reason::Magic,
-        });
-    }
-    Ok(())
 }
 
 /// Returns whether bit 1 of byte 4 is set exactly if the material has pawns.
@@ -58,21 +40,28 @@ pub fn splits_as(material: &Material, kind: Kind, byte: u8) -> bool
     }
 }
 
-fn read_byte4<R: Input>(
+/// Reads the magic and byte 4, each with its checks; returns byte 4.
+pub fn read_start<R: Input>(
     material: &Material,
     kind: Kind,
     input: &mut R,
     front: &mut Front,
 ) -> Result<u8, ReadFault>
-    requires { front.old.place ≡ 4 }
-    ensures byte { Reading (byte4_field material.now kind) (λ byte. byte) front.old front.new R.Input input.old input.new result }
+    requires place { front.old.place ≡ 0 }
+    ensures start { Reading (start_field material.now kind) (λ byte. byte) front.old front.new R.Input input.old input.new result }
     ensures place { OnOk result (front.new.place ≡ 5) }
     ensures growth { OnOk result (front.new.growth ≡ front.old.growth) }
     ensures grown { OnOk result (HasCounted front.old front.new 0 0) }
 {
-    let mut piece = [0];
+    let mut piece = [0; 4];
     take_field(input, front, &mut piece)?;
-    let byte = piece[0];
+    if piece != magic(kind) {
+        return Err(ReadFault::Refused {
+            place: 0,
+            reason: Reason::Magic,
+        });
+    }
+    let byte = read_byte(input, front)?;
     if !splits_as(material, kind, byte) {
         return Err(ReadFault::Refused {
             place: 4,
@@ -86,21 +75,4 @@ fn read_byte4<R: Input>(
         });
     }
     Ok(byte)
-}
-
-/// Reads the magic and byte 4; returns byte 4.
-pub fn read_start<R: Input>(
-    material: &Material,
-    kind: Kind,
-    input: &mut R,
-    front: &mut Front,
-) -> Result<u8, ReadFault>
-    requires place { front.old.place ≡ 0 }
-    ensures start { Reading (start_field material.now kind) (λ byte. byte) front.old front.new R.Input input.old input.new result }
-    ensures place { OnOk result (front.new.place ≡ 5) }
-    ensures growth { OnOk result (front.new.growth ≡ front.old.growth) }
-    ensures grown { OnOk result (HasCounted front.old front.new 0 0) }
-{
-    read_magic(kind, input, front)?;
-    read_byte4(material, kind, input, front)
 }
