@@ -90,20 +90,11 @@ pub fn index_of_placed(
     ensures { result ≡ index_with material kind (map part_of parts.bytes.items) (map (λ placed. flags_byte (subtable_of placed.sub)) subs.now) (map (option_map map_of) maps.items) }
 {
     parts_fit(&parts);
-    let flags = flags_of_placed(subs);
-    TableIndex::new(material, kind, parts, flags, maps)
-}
-
-/// Returns the flag bytes of subtables whose blocks are not in memory.
-pub fn flags_of_placed(subs: &[PlacedSub]) -> ArrayVec<u8, 8>
-    requires { length subs.now ≤ 8 }
-    ensures { result.items ≡ map (λ placed. flags_byte (subtable_of placed.sub)) subs.now }
-{
     let mut flags = ArrayVec::new();
     for placed in subs {
         flags.push(flags_of(&placed.sub));
     }
-    flags
+    TableIndex::new(material, kind, parts, flags, maps)
 }
 
 // Returns the groups of the subtables' men, in file order.

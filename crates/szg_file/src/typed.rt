@@ -22,13 +22,6 @@ pub fn words_fit(list: &[u16])
     ensures { AreNumbers 2 list.now }
 {}
 
-/// Numbers of one byte and of four bytes fit their types.
-fn numbers_fit(flags: u8, extra: u8, blocks: u32)
-    ensures flags { flags < 256 }
-    ensures extra { extra < 256 }
-    ensures blocks { blocks < 2 ^ 32 }
-{}
-
 /// Block and offset of an entry of a sparse index fit their types.
 fn entry_fits(block: u32, offset: u16)
     ensures block { block < 2 ^ 32 }
@@ -73,7 +66,7 @@ pub(crate) fn sub_fits(sub: &Sub)
             packed,
             ..
         } => {
-            numbers_fit(*flags, *extra, *blocks);
+            let _numbers = (*flags, *extra, *blocks);
             code_fits(code);
             let _symbols = dict.symbols();
             words_fit(code.lowest());

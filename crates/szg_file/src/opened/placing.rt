@@ -66,14 +66,6 @@ fn place_blocks(sub: &Sub, place: u64) -> Extent
     }
 }
 
-/// Returns the larger of two lengths.
-fn longer(a: usize, b: usize) -> usize
-    ensures first { a ≤ result }
-    ensures second { b ≤ result }
-{
-    if a < b { b } else { a }
-}
-
 /// Computes the offsets of each subtable's blocks. The padding of the first begins at offset `place`, and each
 /// subtable follows the previous one. Errors: an allocation was refused.
 pub fn place_subs(alloc: Global, list: Vec<Measured>, place: u64) -> Result<PlacedSubs, AllocError>
@@ -90,7 +82,7 @@ pub fn place_subs(alloc: Global, list: Vec<Measured>, place: u64) -> Result<Plac
     'subtables: for measured in list {
         let Measured { sub, .. } = measured;
         let at = place_blocks(&sub, end);
-        room = longer(room, block_bytes(&sub) as usize);
+        room = room.max(block_bytes(&sub) as usize);
         subs.push(PlacedSub {
             sub,
             first: at.first,

@@ -1,4 +1,4 @@
-use Rattle.std.proofs.Common.{sym, subst, arith}
+use Rattle.std.proofs.Common.{sym, subst, arith, rules}
 use Rattle.std.specs.List.{AllByRecursion}
 use Rattle.std.specs.Prelude.{map}
 use Rattle.szg_file.specs.Accepted.{AreNumbers, IsEntry}
@@ -9,9 +9,9 @@ use Rattle.szg_file.proofs.typed.sub_fits.Goals as goal
 pub returns-in-Pairs : goal.returns-in-Pairs
 returns-in-Pairs c =
     subst (λ sub. IsTyped (subtable_of sub)) (sym c.in-Pairs.is) (record {
-      flags = c.numbers_fit.ensures.flags;
-      extra = c.numbers_fit.ensures.extra;
-      blocks = c.numbers_fit.ensures.blocks;
+      flags = search rules;
+      extra = search rules;
+      blocks = search rules;
       code = c.code_fits.ensures;
       lowest = subst (λ z. AreNumbers 2 z) c.lowest.ensures c.words_fit.ensures;
       dictionary = c.symbols-symbols.ensures.dictionary;

@@ -1,4 +1,4 @@
-use Rattle.std.proofs.Common.{ℕ, List, ◌≡◌, ◌∙◌, ◌+◌, ◌∷◌, [], ◌++◌, length, map, take, refl, sym, ap, subst, arith}
+use Rattle.std.proofs.Common.{ℕ, List, ◌≡◌, ◌≤◌, ◌∙◌, ◌+◌, ◌∷◌, [], ◌++◌, length, map, take, refl, sym, ap, subst, arith, rules}
 use Rattle.std.specs.List.{AllByRecursion}
 use Rattle.std.proofs.lemmas.List.{length_push}
 use Rattle.std.proofs.lemmas.Iterator.Adapters.{YieldsList-from_vec}
@@ -37,6 +37,8 @@ subtables-preserved c =
     let ends = c.place_blocks-at.ensures.end in
     let after = ends_after c.subtables.end one in
     let pushed = c.in_ok-push.ensures.items in
+    let kept : c.subtables.room ≤ c.max-room.result = search rules in
+    let held : c.block_bytes.result ≤ c.max-room.result = search rules in
     record {
       subs = λ content. ap (map (whole_sub content)) pushed
           ∙ placed_more content c.args.place done c.in-Some.measured c.subtables.subs.items c.measured.inside.sub c.place_blocks-at.result.first c.subtables.end (c.subtables.invariant.subs content) c.subtables.invariant.end is first
@@ -45,7 +47,7 @@ subtables-preserved c =
           ∙ sym (end_more c.args.place done c.in-Some.measured) ∙ sym (ap (λ (l : List Begun). unread_end c.args.place l) taken);
       few = omega (arith, c.subtables.invariant.few, c.place_blocks-at.ensures.long, longer);
       fits = λ content inside.
-          subst (λ (l : List PlacedSub). AllByRecursion (Fits (length content) c.longer-room.result) l) (sym pushed)
-          (fits_more (length content) c.subtables.room c.longer-room.result c.subtables.end c.subtables.subs.items c.measured.inside.sub c.place_blocks-at.result.first c.block_bytes.result
-          (c.subtables.invariant.fits content (omega (arith, after, ends, inside))) c.longer-room.ensures.first first (omega (arith, ends, inside)) c.block_bytes.ensures.bytes c.longer-room.ensures.second);
+          subst (λ (l : List PlacedSub). AllByRecursion (Fits (length content) c.max-room.result) l) (sym pushed)
+          (fits_more (length content) c.subtables.room c.max-room.result c.subtables.end c.subtables.subs.items c.measured.inside.sub c.place_blocks-at.result.first c.block_bytes.result
+          (c.subtables.invariant.fits content (omega (arith, after, ends, inside))) kept first (omega (arith, ends, inside)) c.block_bytes.ensures.bytes held);
     }

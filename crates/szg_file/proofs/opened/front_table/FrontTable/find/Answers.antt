@@ -1,5 +1,3 @@
-use Rattle.std.proofs.Common.{◌<◌, ◌∙◌, ap, subst, arith, Option}
-use Rattle.szg_file.specs.FrontTable.{FrontKept}
 use Rattle.szg_file.proofs.Openings.FrontFinds.{spot_inside, wanted_none, wanted_spot}
 use Rattle.szg_file.proofs.opened.front_table.FrontTable.find.Goals as goal
 

@@ -1,4 +1,4 @@
-use Rattle.std.proofs.Common.{ℕ, List, ◌<◌, ◌∙◌, ap, sym, subst, arith, Option}
+use Rattle.std.proofs.Common.{◌<◌, ◌∙◌, ap, subst, arith, Option}
 use Rattle.std.specs.Prelude.{IsSomeAnd}
 use Rattle.szg_file.specs.Contents.{Slot}
 use Rattle.szg_file.specs.FrontTable.{FrontKept, IsFrontOf}

@@ -1,5 +1,5 @@
-use Rattle.std.proofs.Common.{◌≡◌, length, ◌<◌, ◌∙◌, ap, refl, subst, arith, Option}
-use Rattle.std.specs.Prelude.{◌≢◌, ◌↔◌, ℕ, Result, Err, IsSomeAnd}
+use Rattle.std.proofs.Common.{◌≡◌, length, ◌∙◌, ap, refl, arith}
+use Rattle.std.specs.Prelude.{◌≢◌, ◌↔◌, ℕ, Result, Err}
 use Rattle.szg_values.specs.declared.Kind.{Kind}
 use Rattle.szg_file.specs.Lookup.{byte_of}
 use Rattle.szg_file.specs.Values.{constant_value}
