@@ -22,11 +22,11 @@ ghost use Rattle.szg_file.specs.Format.{verdict};
 ghost use Rattle.szg_file.specs.Contents.{slots};
 ghost use Rattle.szg_file.specs.File.{file, begun};
 ghost use Rattle.szg_file.specs.Accepted.{IsAccepted};
-ghost use Rattle.szg_file.specs.Held.{file_bytes, part_of, subtable_of};
+ghost use Rattle.szg_file.specs.Held.{file_bytes, part_of};
 ghost use Rattle.szg_file.specs.Reading.{Reading, Lacking};
 ghost use Rattle.szg_file.specs.WholeRead.{FollowsVerdict, TookBytes, list_lengths};
-ghost use Rattle.szg_file.specs.FilePieces.{opening_field, packed_field, ending_field, opened, contents_of};
-ghost use Rattle.szg_file.specs.Grown.{HasCounted, begun_lengths, subs_lengths, opening_lengths, pieces_lengths};
+ghost use Rattle.szg_file.specs.FilePieces.{opening_field, ending_field, opened, contents_of};
+ghost use Rattle.szg_file.specs.Grown.{HasCounted, opening_lengths, pieces_lengths};
 
 use crate::begun::Begun;
 use crate::fault::ReadFault;

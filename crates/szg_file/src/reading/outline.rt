@@ -1,17 +1,14 @@
 //! Reading and checking a whole file without keeping blocks.
-ghost use Rattle.std.specs.Prelude.{◌≡◌, ◌+◌, ◌*◌, ◌^◌, ◌≤◌, ◌<◌, [], length, map, IfOk, OnOk, IsErrOf};
+ghost use Rattle.std.specs.Prelude.{◌≡◌, ◌+◌, ◌^◌, ◌<◌, [], length, map, IfOk, OnOk, IsErrOf};
 ghost use Rattle.std.specs.List.{AllByRecursion};
 ghost use Rattle.szg_file.specs.Contents.{slots};
 ghost use Rattle.szg_file.specs.File.{file};
-ghost use Rattle.szg_file.specs.FilePieces.{packed_field};
 ghost use Rattle.szg_file.specs.Held.{part_of};
 ghost use Rattle.szg_file.specs.Outline.{outlined};
-ghost use Rattle.szg_file.specs.Placed.{whole_sub, Fits};
+ghost use Rattle.szg_file.specs.Placed.{Fits};
 ghost use Rattle.szg_file.specs.Reading.{Reading, Lacking};
-ghost use Rattle.szg_file.specs.Streaming.{Accepted, wanted_of, wanted_values};
-ghost use Rattle.szg_file.specs.Values.{slotted};
+ghost use Rattle.szg_file.specs.Streaming.{Accepted, wanted_of};
 
-use crate::begun::Begun;
 use crate::fault::ReadFault;
 use crate::opened::forward::Ahead;
 use crate::reading::dropping::{PlacedSub, pass_subs};

@@ -1,6 +1,5 @@
 ghost use Rattle.std.specs.Prelude.{ℕ, ◌≡◌, ◌+◌, ◌*◌, ◌≤◌, ◌<◌, ◌^◌, ◌∷◌, ◌++◌, [], length, map, if◌then◌else◌, None, OnOk, IfOk, IfErr, IfSome, OnErr, Err};
 ghost use Rattle.std.specs.List.{range_with_len};
-ghost use Rattle.szg_values.specs.Material.{man_codes};
 ghost use Rattle.szg_count.specs.Groups.{IsPart, nibbles_of, order_fault, size_of};
 ghost use Rattle.szg_file.specs.Contents.{slots, part_slots, part_numbers, side_numbers, order_bytes};
 ghost use Rattle.szg_file.specs.File.{each, part_field, part_checks, order_check};
