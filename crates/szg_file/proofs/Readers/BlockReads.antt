@@ -49,6 +49,18 @@ reads_block (Some layout) size n bytes piece {f = f} code long spells taken =
     (reads_equal (field bytes means) (field (2 ^ layout.block_bits) means) (λ (_ : Unit {0}). piece) (Ok tt) (ap (λ (z : ℕ). field z means) long) taken)
     (reads_nothing (next piece) (λ (_ : Unit {0}). piece) tt passes))
 
+-- a block that was not read whole
+pub reads_block_stopped : {R : Type 0} (o : Option Layout) (size n bytes : ℕ) (view view' : Unit {0} → List ℕ) (fault : ReadFault) {f m : Front}
+    {dev : Ghosts R} {i k : R} →
+    IfSome o (λ layout. bytes ≡ 2 ^ layout.block_bits) → Reading (field bytes means) view f m dev i k (Err fault) →
+    IfSome o (λ layout. Reading (block_field layout size n) view' f m dev i k (Err fault))
+reads_block_stopped None size n bytes view view' fault long taken = tt
+reads_block_stopped (Some layout) size n bytes view view' fault {f = f} long taken =
+    let next : List ℕ → Format (List ℕ) = then_checked layout size n f.place in
+    reads_like (field (2 ^ layout.block_bits) means >>= next) (block_field layout size n) view' (Err fault) (λ text. refl)
+    (reads_stopped (field (2 ^ layout.block_bits) means) next view view' fault
+    (reads_equal (field bytes means) (field (2 ^ layout.block_bits) means) view (Err fault) (ap (λ (z : ℕ). field z means) long) taken))
+
 -- any other block is refused at its first byte
 pub reads_block_refused : {R : Type 0} (o : Option Layout) (size n bytes : ℕ) (piece : List ℕ) (view : Unit {0} → List ℕ) {f m : Front}
     {dev : Ghosts R} {i k : R} →

@@ -76,7 +76,7 @@ pub fn is_constant(sub: &Sub) -> bool
     }
 }
 
-/// Reads the blocks of a subtable in order, each with its check.
+/// Reads the blocks of a subtable in order, and checks each when it was read.
 fn take_packed<R: Input>(
     alloc: Global,
     sub: &Sub,
@@ -105,45 +105,18 @@ fn take_packed<R: Input>(
     code_fits(code);
     let mut before = 0;
     'each_block: for n in 0..*blocks {
-        take_block(&mut packed, sub, size, n, before, input, front)?;
+        let place = front.place;
+        let at = packed.len();
+        take_more(&mut packed, block_bytes(sub), input, front)?;
+        let Ok(()) = check_block_from(sub, size, n, before, &packed[at..]) else {
+            return Err(ReadFault::Refused {
+                place,
+                reason: Reason::Word,
+            });
+        };
         before += lengths[n as usize] as u64 + 1;
     }
     Ok(packed)
-}
-
-/// Reads block `n`, appends it to `packed`, and checks it there. `before` is the number of values in the blocks
-/// before it.
-fn take_block<R: Input>(
-    packed: &mut Vec<u8>,
-    sub: &Sub,
-    size: u64,
-    n: u32,
-    before: u64,
-    input: &mut R,
-    front: &mut Front,
-) -> Result<(), ReadFault>
-    requires place { front.old.place < 2 ^ 61 + 2 ^ 50 }
-    requires paid { front.old.growth ≤ 2 * front.old.place + 2 ^ 15 }
-    requires shaped { IsShapedHead sub.now size }
-    requires code { IfSome (layout_of sub.now) (λ layout. IsCode layout.code) }
-    requires there { IsSomeAnd (layout_of sub.now) (λ layout. n < layout.blocks) }
-    requires before { IsSomeAnd (layout_of sub.now) (λ layout. before ≡ start layout.lengths n) }
-    ensures block { IfSome (layout_of sub.now) (λ layout. Reading (block_field layout size n) (λ _. drop (length packed.old.items) packed.new.items) front.old front.new R.Input input.old input.new result) }
-    ensures kept { OnOk result (take (length packed.old.items) packed.new.items ≡ packed.old.items) }
-    ensures place { OnOk result (front.new.place ≤ front.old.place + 2 ^ 18) }
-    ensures growth { OnOk result (front.new.growth + 2 * front.old.place ≤ front.old.growth + 2 * front.new.place) }
-    ensures grown { OnOk result (HasCounted front.old front.new (length packed.old.items) (length packed.new.items)) }
-{
-    let place = front.place;
-    let at = packed.len();
-    take_more(packed, block_bytes(sub), input, front)?;
-    match check_block_from(sub, size, n, before, &packed[at..]) {
-        Ok(()) => Ok(()),
-        Err(_) => Err(ReadFault::Refused {
-            place,
-            reason: Reason::Word,
-        }),
-    }
 }
 
 /// Returns the number of bytes of each block, 0 for a constant subtable.
