@@ -1,13 +1,11 @@
 //! Tests of a proposed dictionary and text. They assume nothing about how the two were made.
-ghost use Rattle.std.specs.Prelude.{ℕ, ◌≡◌, ◌+◌, ◌<◌, ◌≤◌, ◌⊎◌, true, false, List, length, slice_get, slice_index_or, Some, None, IfOk, IfSome};
+ghost use Rattle.std.specs.Prelude.{ℕ, ◌≡◌, ◌+◌, ◌<◌, ◌≤◌, ◌⊎◌, true, false, List, length, slice_get, slice_index_or, Some, IfOk, IfSome};
 ghost use Rattle.std.specs.List.{AllByRecursion};
-ghost use Rattle.szg_code.specs.Canonical.{IsIn};
-ghost use Rattle.szg_pairs.specs.Dictionary.{IsDictionary};
 ghost use Rattle.szg_pairs.specs.Entry.{is_leaf};
 ghost use Rattle.szg_pairs.specs.Expansion.{expansion_of};
 ghost use Rattle.szg_file.specs.Accepted.{AreBytes};
 ghost use Rattle.szg_build.specs.Building.{AreLens, IsRound, IsSymbolAt};
-ghost use Rattle.szg_build.specs.Pairing.{IsInPair, IsUsed, pairs_in, values_of};
+ghost use Rattle.szg_build.specs.Pairing.{IsUsed, pairs_in, values_of};
 
 use crate::pairing::leaves::{MAX_SYMBOLS, Paired, count_different};
 use crate::pairing::proposing::Proposal;
@@ -15,33 +13,6 @@ use std::alloc::{AllocError, Global};
 use szg_file::typed::bytes_fit;
 use szg_pairs::entry::{is_leaf, left, right};
 use szg_pairs::{Dict, DictFault};
-
-/// Returns whether all symbols are below `count`.
-fn are_below(symbols: &[u16], count: usize) -> bool
-    ensures { result ≡ true → AllByRecursion (λ s. s < count) symbols.now }
-{
-    for symbol in symbols {
-        if usize::from(*symbol) >= count {
-            return false;
-        }
-    }
-    true
-}
-
-/// Returns whether `values` are the values of a symbol. The length of `values` must be the number of the symbol's
-/// values.
-fn is_expansion(dict: &Dict, symbol: u16, values: &[u16]) -> bool
-    requires there { symbol < length dict.now }
-    requires many { length values.now ≡ length (expansion_of dict.now symbol) }
-    ensures { result ≡ true → values.now ≡ expansion_of dict.now symbol }
-{
-    for place in 0..dict.len(symbol) {
-        if dict.value_at(symbol, place) != values[usize::from(place)] {
-            return false;
-        }
-    }
-    true
-}
 
 /// Returns whether the values from `start` on are those of a symbol. If `seen` is an offset at which the symbol's
 /// values are known to be, the two ranges of `values` are compared.
@@ -53,10 +24,15 @@ fn is_at(dict: &Dict, symbol: u16, values: &[u16], start: usize, seen: Option<us
 {
     let length = usize::from(dict.len(symbol));
     let here = &values[start..start + length];
-    match seen {
-        Some(first) => here == &values[first..first + length],
-        None => is_expansion(dict, symbol, here),
+    if let Some(first) = seen {
+        return here == &values[first..first + length];
     }
+    for place in 0..dict.len(symbol) {
+        if dict.value_at(symbol, place) != here[usize::from(place)] {
+            return false;
+        }
+    }
+    true
 }
 
 /// Returns whether the values of symbols, joined, are `values`.
@@ -88,17 +64,6 @@ fn expands_to(
     Ok(start == values.len())
 }
 
-/// Marks the symbols that occur in a text.
-fn mark_symbols(symbols: &[u16], marks: &mut [bool])
-    requires { AllByRecursion (λ s. s < length marks.old) symbols.now }
-    ensures count { length marks.new ≡ length marks.old }
-    ensures marked { (s : ℕ) → slice_index_or marks.new s false ≡ true → (slice_index_or marks.old s false ≡ true) ⊎ IsIn symbols.now s }
-{
-    for symbol in symbols {
-        marks[usize::from(*symbol)] = true;
-    }
-}
-
 /// Marks `half`, a symbol of pair `pair`, unless it is the pair itself.
 fn mark_half(marks: &mut [bool], half: u16, pair: usize)
     ensures count { length marks.new ≡ length marks.old }
@@ -107,19 +72,6 @@ fn mark_half(marks: &mut [bool], half: u16, pair: usize)
     let half = usize::from(half);
     if half < marks.len() && half != pair {
         marks[half] = true;
-    }
-}
-
-/// Marks the symbols that are halves of a pair, not counting a pair as a half of itself.
-fn mark_halves(entries: &[[u8; 3]], marks: &mut [bool])
-    ensures count { length marks.new ≡ length marks.old }
-    ensures marked { (s : ℕ) → slice_index_or marks.new s false ≡ true → (slice_index_or marks.old s false ≡ true) ⊎ IsInPair entries.now s }
-{
-    for (pair, entry) in entries.iter().enumerate() {
-        if !is_leaf(*entry) {
-            mark_half(marks, left(*entry), pair);
-            mark_half(marks, right(*entry), pair);
-        }
     }
 }
 
@@ -136,15 +88,26 @@ fn are_marked(entries: &[[u8; 3]], marks: &[bool]) -> bool
     true
 }
 
-/// Returns whether each pair occurs in the text or in another pair.
+/// Returns whether each symbol of the text is in the dictionary, and each pair occurs in the text or in another pair.
 fn are_used(alloc: Global, entries: &[[u8; 3]], symbols: &[u16]) -> Result<bool, AllocError>
-    requires { AllByRecursion (λ s. s < length entries.now) symbols.now }
-    ensures { IfOk result (λ used. used ≡ true → IsUsed entries.now symbols.now) }
+    ensures below { IfOk result (λ used. used ≡ true → AllByRecursion (λ s. s < length entries.now) symbols.now) }
+    ensures used { IfOk result (λ used. used ≡ true → IsUsed entries.now symbols.now) }
 {
     let mut unmarked = vec![in alloc; false; entries.len()]?;
     let marks = unmarked.as_mut_slice();
-    mark_symbols(symbols, marks);
-    mark_halves(entries, marks);
+    for symbol in symbols {
+        let symbol = usize::from(*symbol);
+        if symbol >= marks.len() {
+            return Ok(false);
+        }
+        marks[symbol] = true;
+    }
+    for (pair, entry) in entries.iter().enumerate() {
+        if !is_leaf(*entry) {
+            mark_half(marks, left(*entry), pair);
+            mark_half(marks, right(*entry), pair);
+        }
+    }
     Ok(are_marked(entries, marks))
 }
 
@@ -162,7 +125,7 @@ pub(crate) fn count_pairs_in(entries: &[[u8; 3]]) -> usize
     count
 }
 
-/// For proofs alone: the entries have three bytes each.
+/// For proofs alone: entries have three bytes each.
 fn fit_three_bytes(entries: &[[u8; 3]])
     ensures { AllByRecursion (AreBytes 3) entries.now }
 {
@@ -171,65 +134,10 @@ fn fit_three_bytes(entries: &[[u8; 3]])
     }
 }
 
-/// Returns the dictionary with these entries. None if it is not accepted.
-fn dictionary_of(alloc: Global, entries: &[[u8; 3]]) -> Result<Option<Dict>, AllocError>
-    requires { length entries.now ≤ 65535 }
-    ensures { IfOk result (λ found. IfSome found (λ dict. dict ≡ entries.now)) }
-{
-    match Dict::new(alloc, entries.to_vec(alloc)?) {
-        Ok(dict) => Ok(Some(dict)),
-        Err(DictFault::Memory) => Err(AllocError),
-        Err(_) => Ok(None),
-    }
-}
-
-/// Returns the number of values of each symbol of a dictionary.
-fn lengths_of(alloc: Global, dict: &Dict) -> Result<Vec<u16>, AllocError>
-    ensures lens { IfOk result (λ lens. AreLens dict.now lens.items) }
-    ensures dictionary { IfOk result (λ lens. IsDictionary dict.now) }
-{
-    let mut lens = Vec::new(alloc);
-    for symbol in 0..dict.symbols() {
-        lens.push(dict.len(symbol))?;
-    }
-    Ok(lens)
-}
-
-/// Tests a dictionary's entries and a text of symbols; returns the number of values of each symbol. None if there are
-/// too many entries, if the number of leaves is not the number of different values, if a symbol of the text is not in
-/// the dictionary, if a pair occurs neither in the text nor in another pair, if the dictionary is not accepted, or if
-/// the text does not expand to `values`.
-fn tested(
-    alloc: Global,
-    values: &[u16],
-    entries: &[[u8; 3]],
-    symbols: &[u16],
-) -> Result<Option<Vec<u16>>, AllocError>
-    requires { AllByRecursion (λ v. v ≤ 4095) values.now }
-    ensures round { IfOk result (λ found. IfSome found (λ lens. IsRound values.now (length (pairs_in entries.now)) entries.now symbols.now)) }
-    ensures lens { IfOk result (λ found. IfSome found (λ lens. AreLens entries.now lens.items)) }
-{
-    let pairs = count_pairs_in(entries);
-    if entries.len() > MAX_SYMBOLS || entries.len() - pairs != count_different(values) {
-        return Ok(None);
-    }
-    if !are_below(symbols, entries.len()) {
-        return Ok(None);
-    }
-    if !are_used(alloc, entries, symbols)? {
-        return Ok(None);
-    }
-    let Some(dict) = dictionary_of(alloc, entries)? else {
-        return Ok(None);
-    };
-    if !expands_to(alloc, &dict, symbols, values)? {
-        return Ok(None);
-    }
-    fit_three_bytes(entries);
-    Ok(Some(lengths_of(alloc, &dict)?))
-}
-
-/// Returns a proposal together with the number of values of each symbol. None if the proposal fails a test.
+/// Tests a proposal, and returns it together with the number of values of each symbol. None if there are too many
+/// entries, if the number of leaves is not the number of different values, if a symbol of the text is not in the
+/// dictionary, if a pair occurs neither in the text nor in another pair, if the dictionary is not accepted, or if the
+/// text does not expand to `values`.
 pub(crate) fn accept(
     alloc: Global,
     values: &[u16],
@@ -240,9 +148,27 @@ pub(crate) fn accept(
     ensures lens { IfOk result (λ found. IfSome found (λ p. AreLens p.entries.items p.lens.items)) }
 {
     let Proposal { entries, symbols } = proposal;
-    let Some(lens) = tested(alloc, values, &entries, &symbols)? else {
+    let (listed, text) = (entries.as_slice(), symbols.as_slice());
+    let pairs = count_pairs_in(listed);
+    if listed.len() > MAX_SYMBOLS || listed.len() - pairs != count_different(values) {
         return Ok(None);
+    }
+    if !are_used(alloc, listed, text)? {
+        return Ok(None);
+    }
+    let dict = match Dict::new(alloc, listed.to_vec(alloc)?) {
+        Ok(dict) => dict,
+        Err(DictFault::Memory) => return Err(AllocError),
+        Err(_) => return Ok(None),
     };
+    if !expands_to(alloc, &dict, text, values)? {
+        return Ok(None);
+    }
+    let mut lens = Vec::new(alloc);
+    for symbol in 0..dict.symbols() {
+        lens.push(dict.len(symbol))?;
+    }
+    fit_three_bytes(listed);
     Ok(Some(Paired {
         entries,
         lens,

@@ -6,11 +6,11 @@
 //! unless there are more pairs to count than symbols left. They are also counted and listed anew when no listed pair is
 //! left. The bounds for the pairs that get lists then double, so this happens a bounded number of times. The whole
 //! takes time linear in the length of the text.
-use crate::pairing::cells::Cells;
+use crate::pairing::cells::{Cells, length_in};
 use crate::pairing::leaves::{MAX_SYMBOLS, Paired, entry};
 use crate::pairing::occurrences::Occurrences;
 use crate::pairing::tally::{Enough, Tally};
-use crate::pairing::{LEAST_COUNT, Pair};
+use crate::pairing::{LEAST_COUNT, MAX_VALUES, Pair, replace};
 use crate::watching::Watcher;
 use std::alloc::{AllocError, Global};
 
@@ -47,40 +47,31 @@ struct Making {
 }
 
 impl Making {
-    /// Returns the square of the number of symbols: the number of pairs that are counted.
-    fn table(&self) -> u64 {
-        let symbols = self.entries.len().min(MAX_SYMBOLS) as u64;
-        symbols * symbols
-    }
-
-    /// Returns a number above all symbols that the rounds can make. Each round makes the text at least `LEAST_COUNT`
-    /// symbols shorter.
-    fn width(&self) -> u16 {
-        let rounds = self.rounds.saturating_sub(self.done) as usize;
-        let to_come = rounds.min(self.text.cells().len() / LEAST_COUNT as usize);
-        self.entries.len().saturating_add(to_come).min(MAX_SYMBOLS) as u16
-    }
-
     /// Adds a pair to the dictionary as the next symbol, and returns this symbol. None if no more pairs may be made, or
-    /// if a symbol of the pair is not in the dictionary.
+    /// if a symbol of the pair is not in the dictionary. The symbol gets at most `MAX_VALUES` cells and values.
     fn add(&mut self, pair: Pair) -> Result<Option<u16>, AllocError> {
         let new = self.entries.len();
         let is_over = self.done >= self.rounds || new >= MAX_SYMBOLS;
         if is_over || usize::from(pair.left) >= new || usize::from(pair.right) >= new {
             return Ok(None);
         }
+        let Cells { lens, values, .. } = &mut self.text;
+        let cells = length_in(lens, pair.left) + length_in(lens, pair.right);
+        let length = length_in(values, pair.left) + length_in(values, pair.right);
+        let most = MAX_VALUES as usize;
+        lens.push(cells.min(most) as u16)?;
+        values.push(length.min(most) as u16)?;
         self.entries.push(entry(pair.left, pair.right))?;
-        self.text.add_pair(pair)?;
         self.done = self.done.saturating_add(1);
         Ok(Some(new as u16))
     }
 
     /// Returns how often a pair must occur to get a list. If the text has fewer symbols than there can be pairs, this
-    /// is `LEAST_COUNT`: each pair that may be made and occurs that often gets a list.
-    fn least_count(&self, tally: &Tally, most: u32) -> u32 {
-        let width = u64::from(self.width());
-        let symbols = self.text.cells().len() as u64;
-        if width * width > symbols {
+    /// is `LEAST_COUNT`: each pair that may be made and occurs that often gets a list. All symbols, also those to come,
+    /// are below `width`.
+    fn least_count(&self, tally: &Tally, most: u32, width: u16) -> u32 {
+        let symbols = self.text.cells.len() as u64;
+        if u64::from(width) * u64::from(width) > symbols {
             return LEAST_COUNT;
         }
         let rounds = u64::from(self.rounds.saturating_sub(self.done));
@@ -111,14 +102,16 @@ impl Making {
         let Some(best) = tally.most_frequent(&self.text) else {
             return Ok(false);
         };
-        let pass = (self.text.cells().len() as u64).saturating_add(self.table());
+        let pairs = (self.entries.len() as u64).saturating_pow(2);
+        let pass = (self.text.cells.len() as u64).saturating_add(pairs);
         if u64::from(best.count) < pass / DENSE_PART {
             return self.make_listed(alloc, tally, best.count, watcher);
         }
         let Some(new) = self.add(best.pair)? else {
             return Ok(false);
         };
-        self.text.join_everywhere(best.pair, new);
+        replace(&mut self.text.cells, best.pair, new);
+        self.text.lens.fill(1);
         Ok(true)
     }
 
@@ -131,9 +124,13 @@ impl Making {
         most: u32,
         watcher: &mut V,
     ) -> Result<bool, AllocError> {
-        let least = self.least_count(&tally, most);
-        let mut occurrences = Occurrences::new(alloc, &self.text, tally, least, self.width())?;
-        let mut symbols = self.text.cells().len();
+        let mut symbols = self.text.cells.len();
+        // each round makes the text at least `LEAST_COUNT` symbols shorter
+        let rounds = self.rounds.saturating_sub(self.done) as usize;
+        let to_come = rounds.min(symbols / LEAST_COUNT as usize);
+        let width = self.entries.len().saturating_add(to_come).min(MAX_SYMBOLS) as u16;
+        let least = self.least_count(&tally, most, width);
+        let mut occurrences = Occurrences::new(alloc, &self.text, tally, least, width)?;
         let mut is_more = true;
         for _ in self.done..self.rounds {
             watcher.round(self.done, self.rounds);
@@ -148,7 +145,8 @@ impl Making {
             };
             let made = occurrences.make(alloc, &mut self.text, picked, new)?;
             symbols = symbols.saturating_sub(made);
-            if symbols <= self.text.cells().len() / 2 && self.table() <= symbols as u64 {
+            let is_halved = symbols <= self.text.cells.len() / 2;
+            if is_halved && self.entries.len().saturating_pow(2) <= symbols {
                 break;
             }
         }
@@ -172,7 +170,11 @@ pub(crate) fn with_pairs<V: Watcher>(
     } = begun;
     let mut making = Making {
         entries,
-        text: Cells::new(alloc, symbols, lens)?,
+        text: Cells {
+            cells: symbols,
+            lens: vec![in alloc; 1; lens.len()]?,
+            values: lens,
+        },
         done: 0,
         rounds,
         more: 1,
@@ -182,11 +184,9 @@ pub(crate) fn with_pairs<V: Watcher>(
             break;
         }
     }
-    let Making { entries, text, .. } = making;
-    let (symbols, lens) = text.into_symbols();
     Ok(Paired {
-        entries,
-        lens,
-        symbols,
+        entries: making.entries,
+        lens: making.text.values,
+        symbols: making.text.cells,
     })
 }

@@ -1,6 +1,6 @@
 //! Makes pairs: the proposed ones if they pass the tests, otherwise one pair a round, with all pairs counted again in
 //! each round.
-ghost use Rattle.std.specs.Prelude.{ℕ, ◌≡◌, ◌+◌, ◌*◌, ◌<◌, ◌≤◌, ◌^◌, ◌↔◌, true, IsTrue, List, length, slice_index, IfOk, IfSome, IfNone, OnOk};
+ghost use Rattle.std.specs.Prelude.{ℕ, ◌≡◌, ◌+◌, ◌<◌, ◌≤◌, true, List, length, slice_index, IfOk, IfSome, IfNone, OnOk};
 ghost use Rattle.std.specs.List.{AllByRecursion};
 ghost use Rattle.szg_build.specs.Building.{AreLens, IsCandidate, IsPairing, IsRound};
 ghost use Rattle.szg_build.specs.Pairing.{IsFinished, pair_count, pairs_in};
@@ -10,36 +10,13 @@ use crate::pairing::accepting::{accept, count_pairs_in};
 use crate::pairing::leaves::{MAX_SYMBOLS, Paired, begin, entry};
 use crate::pairing::numbering::numbered_by_count;
 use crate::pairing::proposing::{Proposal, with_pairs};
-use crate::pairing::{LEAST_COUNT, Pair, count_pairs, is_short, replace};
+use crate::pairing::{LEAST_COUNT, MAX_VALUES, Pair, count_pairs, replace};
 use crate::shrinking::shrink;
 use crate::watching::Watcher;
 use std::alloc::{AllocError, Global};
 
-/// Returns a pair that may be made and occurs at least four times. None if there is none.
-fn find_pair(counts: &[u8], lens: &[u16]) -> Option<Pair>
-    requires few { length lens.now ≤ 4095 }
-    requires room { length counts.now ≡ length lens.now * length lens.now }
-    ensures left { IfSome result (λ pair. pair.left < length lens.now) }
-    ensures right { IfSome result (λ pair. pair.right < length lens.now) }
-    ensures short { IfSome result (λ pair. slice_index lens.now pair.left + slice_index lens.now pair.right ≤ 256) }
-    ensures often { IfSome result (λ pair. 4 ≤ slice_index counts.now (pair.left * length lens.now + pair.right)) }
-    ensures none { IfNone result ((left right : ℕ) → left < length lens.now → right < length lens.now → slice_index lens.now left + slice_index lens.now right ≤ 256 →
-        slice_index counts.now (left * length lens.now + right) < 4) }
-{
-    let width = lens.len();
-    for left in 0..width {
-        for right in 0..width {
-            let count = u32::from(counts[left * width + right]);
-            if count >= LEAST_COUNT && is_short(lens[left], lens[right]) {
-                return Some(Pair {
-                    left: left as u16,
-                    right: right as u16,
-                });
-            }
-        }
-    }
-    None
-}
+/// The greatest number of values whose offsets fit in four bytes, the size of a stored offset.
+const MAX_OFFSETS: usize = u32::MAX as usize;
 
 /// Counts all pairs, and returns one that may be made and occurs at least four times. None if there is none.
 fn find_remaining_pair(
@@ -57,9 +34,22 @@ fn find_remaining_pair(
     if width == 0 {
         return Ok(None);
     }
-    let mut counts = vec![in alloc; 0; width * width]?;
-    count_pairs(&mut counts, width, symbols);
-    Ok(find_pair(&counts, lens))
+    let mut zeros = vec![in alloc; 0; width * width]?;
+    let counts = zeros.as_mut_slice();
+    count_pairs(counts, width, symbols);
+    for left in 0..width {
+        for right in 0..width {
+            let count = u32::from(counts[left * width + right]);
+            let values = u32::from(lens[left]) + u32::from(lens[right]);
+            if count >= LEAST_COUNT && values <= MAX_VALUES {
+                return Ok(Some(Pair {
+                    left: left as u16,
+                    right: right as u16,
+                }));
+            }
+        }
+    }
+    Ok(None)
 }
 
 /// Adds a pair to the dictionary as the next symbol, and replaces the pair's occurrences in the text by this symbol.
@@ -127,13 +117,6 @@ fn is_finished(alloc: Global, paired: &Paired, rounds: u32) -> Result<bool, Allo
     Ok(false)
 }
 
-/// Returns whether each offset in a list of values fits in four bytes, the size of a stored offset.
-fn has_short_offsets(values: &[u16]) -> bool
-    ensures { IsTrue result ↔ (length values.now < 2 ^ 32) }
-{
-    values.len() <= u32::MAX as usize
-}
-
 /// Makes at most `rounds` pairs, each of which occurs at least four times. If the proposal is accepted, they are the
 /// proposed pairs: in each round a most frequent one. Otherwise, or if there are 2^32 values or more, they are the
 /// pairs that `find_remaining_pair` finds.
@@ -148,7 +131,7 @@ pub(crate) fn pair_up<V: Watcher>(
     ensures pairing { IfOk result (λ p. IsPairing values.now rounds p.entries.items p.symbols.items) }
     ensures lens { IfOk result (λ p. AreLens p.entries.items p.lens.items) }
 {
-    if rounds > 0 && has_short_offsets(values) {
+    if rounds > 0 && values.len() <= MAX_OFFSETS {
         let begun = begin(alloc, values)?;
         let Paired {
             entries,
@@ -179,7 +162,7 @@ pub(crate) fn pair_for_small_table<V: Watcher>(
     ensures lens { IfOk result (λ p. AreLens p.entries.items p.lens.items) }
 {
     let begun = begin(alloc, values)?;
-    if !has_short_offsets(values) {
+    if values.len() > MAX_OFFSETS {
         return Ok(begun);
     }
     let shrunk = shrink(alloc, begun, other_bytes, watcher)?;

@@ -1,4 +1,4 @@
-use Rattle.std.proofs.Common.{ℕ, ◌≡◌, ◌+◌, ◌*◌, ◌<◌, ◌≤◌, min, Bool, true, List, [], ◌∷◌, ◌++◌, length, take, get_or, set, sym, ap, ◌∙◌, subst, arith}
+use Rattle.std.proofs.Common.{ℕ, ◌≡◌, ◌+◌, ◌*◌, ◌<◌, ◌≤◌, min, Bool, true, List, [], ◌∷◌, ◌++◌, length, take, get_or, set, refl, sym, ap, ◌∙◌, subst, arith}
 use Rattle.std.proofs.lemmas.List.{take_more, take_all}
 use Rattle.szg_build.specs.Counting.{is_free}
 use Rattle.szg_build.proofs.Pairs.LastCount.{IsCounted, counted_one, counted_pair, counted_all}
@@ -24,24 +24,23 @@ symbols-preserved c =
     let read : s ≡ get_or c.args.symbols.now i 0 = c.from-symbol.ensures in
     let below : s < n = subst (λ (k : ℕ). k < n) (sym read) (c.requires.below i inside) in
     let long : n * n ≤ length c.symbols.counts = omega (arith, c.requires.room, c.symbols.auto.counts) in
-    let made = c.makes_pair-paired.ensures in
-    let stays = c.stays_free-free.ensures in
+    let free : Bool = is_free c.symbols.begun c.symbols.last c.symbols.free s in
     elim c.if-paired.branch [
       | then-paired w ↦
           let place : ℕ = c.symbols.last * n + s in
           let written : c.if-paired.counts ≡ set c.symbols.counts place (min (get_or c.symbols.counts place 0 + 1) most) =
           w.counts-is ∙ ap (λ (k : ℕ). set c.symbols.counts place k) w.saturating_add-count.ensures in
-          let counted = counted_pair n most c.symbols.counts (take i c.args.symbols.now) c.symbols.begun c.symbols.free c.symbols.last s old (sym made ∙ w.if-paired.true) c.symbols.invariant.below below long in
+          let counted = counted_pair n most c.symbols.counts (take i c.args.symbols.now) c.symbols.begun c.symbols.free c.symbols.last s old w.if-paired.true c.symbols.invariant.below below long in
           record {
-            counted = subst (λ (z : List ℕ). IsCounted n most z (take (i + 1) c.args.symbols.now) true s c.stays_free-free.result) (sym written)
-                (named n most i s c.symbols.last (set c.symbols.counts place (min (get_or c.symbols.counts place 0 + 1) most)) c.args.symbols.now c.symbols.begun c.symbols.free c.stays_free-free.result inside read stays counted);
+            counted = subst (λ (z : List ℕ). IsCounted n most z (take (i + 1) c.args.symbols.now) true s free) (sym written)
+                (named n most i s c.symbols.last (set c.symbols.counts place (min (get_or c.symbols.counts place 0 + 1) most)) c.args.symbols.now c.symbols.begun c.symbols.free free inside read refl counted);
             below = below;
           }
       | else-paired w ↦
-          let counted = counted_one n most c.symbols.counts (take i c.args.symbols.now) c.symbols.begun c.symbols.free c.symbols.last s old (sym made ∙ w.if-paired.false) in
+          let counted = counted_one n most c.symbols.counts (take i c.args.symbols.now) c.symbols.begun c.symbols.free c.symbols.last s old w.if-paired.false in
           record {
-            counted = subst (λ (z : List ℕ). IsCounted n most z (take (i + 1) c.args.symbols.now) true s c.stays_free-free.result) (sym w.counts-is)
-                (named n most i s c.symbols.last c.symbols.counts c.args.symbols.now c.symbols.begun c.symbols.free c.stays_free-free.result inside read stays counted);
+            counted = subst (λ (z : List ℕ). IsCounted n most z (take (i + 1) c.args.symbols.now) true s free) (sym w.counts-is)
+                (named n most i s c.symbols.last c.symbols.counts c.args.symbols.now c.symbols.begun c.symbols.free free inside read refl counted);
             below = below;
           }
     ]

@@ -1,5 +1,5 @@
 use Rattle.std.proofs.Common.{ℕ, ◌+◌, ◌*◌, ◌<◌, ◌≤◌, length, get_or}
-use Rattle.szg_build.proofs.pairing.rounds.find_pair.Given as goal
+use Rattle.szg_build.proofs.pairing.rounds.find_remaining_pair.Given as goal
 
 -- no pair that may be made with a left symbol so far occurs four times
 abbrev pub invariant-loop-left : goal.invariant-loop-left
