@@ -1,21 +1,21 @@
 -- What the tests of a proposal establish: the invariant of each of their loops.
 use Rattle.std.proofs.Common.{ℕ, zero, suc, ◌≡◌, ◌+◌, ◌<◌, ◌≤◌, Bool, true, false, cond, List, [], ◌∷◌, ◌++◌, Option, Some, None, length, take, drop, replicate, get_or, set, refl, sym, ap, subst, ◌∙◌, arith, inl, inr, length-append}
-use Rattle.std.specs.Prelude.{◌⊎◌, not, IfSome}
+use Rattle.std.specs.Prelude.{not, IfSome}
 use Rattle.std.specs.List.{slice_get, AllByRecursion}
 use Rattle.std.proofs.lemmas.Bool.{cases_order, cases_eq}
 use Rattle.std.proofs.lemmas.List.{get_or-set_same, get_or-set_other, take-append-drop, take-take, drop-take, take_more, flat_map_more}
 use Rattle.std.proofs.lemmas.List.Elements.{filter-append}
 use Rattle.std.proofs.lemmas.Option.{get_or_from_slice_get}
 use Rattle.szg_code.specs.Canonical.{IsIn}
-use Rattle.szg_pairs.specs.Entry.{left_of, right_of, is_leaf}
+use Rattle.szg_pairs.specs.Entry.{is_leaf}
 use Rattle.szg_pairs.specs.Expansion.{expansion_of}
 use Rattle.szg_pairs.specs.Dictionary.{IsDictionary}
 use Rattle.szg_build.proofs.Pairs.LeafLaws.{default_at}
 use Rattle.szg_file.specs.Accepted.{AreBytes, AreNumbers}
 use Rattle.szg_build.specs.Plan.{different_values}
-use Rattle.szg_build.specs.Pairing.{pair_count, pairs_in, values_of, IsInPair, IsUsed}
+use Rattle.szg_build.specs.Pairing.{pair_count, pairs_in, values_of, IsUsed}
 use Rattle.szg_build.specs.Building.{IsRound, IsPairing, IsSymbolAt}
-use Rattle.szg_build.proofs.Pairs.LeafLaws.{all_push, get_or-last, get_or-front}
+use Rattle.szg_build.proofs.Pairs.LeafLaws.{all_push}
 
 -- ---- numbers below a bound
 
@@ -100,11 +100,6 @@ marked_more P marks i here old s marked =
       | inr other ↦ old s (sym (get_or-set_other marks i s true false other) ∙ marked)
     ]
 
--- an entry is a pair, of which one half is another symbol
-pub in_pair : (entries : List (List ℕ)) (other : ℕ) (e : List ℕ) (s half : ℕ) → slice_get entries other ≡ Some e → is_leaf e ≡ false → s ≡ half → (left_of e ≡ half) ⊎ (right_of e ≡ half) → ¬ (other ≡ s) → IsInPair entries s
-in_pair entries other e s half there pair same (inl left) another = record { other = other; entry = e; there = there; pair = pair; half = inl (left ∙ sym same); another = another }
-in_pair entries other e s half there pair same (inr right) another = record { other = other; entry = e; there = there; pair = pair; half = inr (right ∙ sym same); another = another }
-
 -- ---- pairs
 
 by_leaf : (xs : List (List ℕ)) (e : List ℕ) (b : Bool) → is_leaf e ≡ b → length (pairs_in (xs ++ e ∷ [])) ≡ cond b (length (pairs_in xs)) (length (pairs_in xs) + 1)
@@ -121,32 +116,6 @@ pairs_more xs i e b inside read h =
 pub triples_more : (entries : List (List ℕ)) (i : ℕ) → i < length entries → length (get_or entries i []) ≡ 3 → AreNumbers 1 (get_or entries i []) → AllByRecursion (AreBytes 3) (take i entries) → AllByRecursion (AreBytes 3) (take (i + 1) entries)
 triples_more entries i inside long small all =
     subst (λ (z : List (List ℕ)). AllByRecursion (AreBytes 3) z) (sym (take_more entries i [] inside)) (all_push (AreBytes 3) (take i entries) (get_or entries i []) all (long, small))
-
--- ---- lengths
-
-pub lens_push : (entries : List (List ℕ)) (lens after : List ℕ) (i n : ℕ) → length lens ≡ i → ((s : ℕ) → s < i → get_or lens s 0 ≡ length (expansion_of entries s)) →
-    after ≡ lens ++ n ∷ [] → n ≡ length (expansion_of entries i) → (s : ℕ) → s < i + 1 → get_or after s 0 ≡ length (expansion_of entries s)
-lens_push entries lens after i n count old made is s there =
-    subst (λ (z : List ℕ). get_or z s 0 ≡ length (expansion_of entries s)) (sym made)
-    (elim (cases_order s i) [
-      | inl same ↦
-          let at : s ≡ length lens = omega (arith, same, count) in
-          ap (λ (k : ℕ). get_or (lens ++ n ∷ []) k 0) at ∙ get_or-last lens n ∙ is ∙ ap (λ (k : ℕ). length (expansion_of entries k)) (sym same)
-      | inr (inl less) ↦ get_or-front lens n s (omega (arith, less, count)) ∙ old s less
-      | inr (inr more) ↦ absurd (omega (arith, more, there))
-    ])
-
--- a symbol that is marked after both loops is in the text or in another pair
-pub used : (entries : List (List ℕ)) (symbols : List ℕ) (s : ℕ) (start one two : List Bool) → get_or start s false ≡ false → get_or two s false ≡ true →
-    (get_or one s false ≡ true → (get_or start s false ≡ true) ⊎ IsIn symbols s) → (get_or two s false ≡ true → (get_or one s false ≡ true) ⊎ IsInPair entries s) → IsIn symbols s ⊎ IsInPair entries s
-used entries symbols s start one two none marked text pairs =
-    elim (pairs marked) [
-      | inl before ↦ elim (text before) [
-        | inl was ↦ absurd (let no : false ≡ true = sym none ∙ was in cc)
-        | inr in_text ↦ inl in_text
-      ]
-      | inr in_other ↦ inr in_other
-    ]
 
 -- ---- a proposal that passes is a round, and a finished one a pairing
 
