@@ -15,10 +15,12 @@ mod spelling;
 mod tries;
 mod trimming;
 
+use crate::building::sizing::choose_sizes;
 use crate::pairing::leaves::{MAX_SYMBOLS, Paired};
 use crate::pairing::proposing::{Proposal, with_pairs};
+use crate::shrinking::costs::BIT;
 use crate::shrinking::dropping::without_poor;
-use crate::shrinking::tries::{Best, Blend, bits, copy_of, counted};
+use crate::shrinking::tries::{Best, Blend, copy_of};
 use crate::shrinking::trimming::{polish, trim};
 use crate::watching::{Unwatched, Watcher};
 use std::alloc::{AllocError, Global};
@@ -44,7 +46,7 @@ const ROUNDS: u64 = 61;
 const FEW_PAIRS: u32 = 256;
 
 /// The bounds that one call of `drop_pairs` tries: `first`, then `step` more each time, up to `last`. A pair that is no
-/// half of a kept pair is dropped if it saves less than the bound, in bits times 2^`FRACTION`.
+/// half of a kept pair is dropped if it saves less than the bound, in bits times `BIT`.
 #[derive(Clone, Copy)]
 struct Bounds {
     first: u64,
@@ -52,11 +54,24 @@ struct Bounds {
     last: u64,
 }
 
-/// Drops the pairs that save the fewest bits, with a rising bound, and spells the values again after each step. Offers
+/// The first bounds for a list of at most `FEW_VALUES` values.
+const FIRST_BOUNDS: Bounds = Bounds {
+    first: 8 * BIT,
+    step: 4 * BIT,
+    last: 64 * BIT,
+};
+
+/// The bounds for a longer list.
+const FEW_BOUNDS: Bounds = Bounds {
+    first: 16 * BIT,
+    step: 16 * BIT,
+    last: 48 * BIT,
+};
+
+/// Drops the pairs that save the fewest bits, with a rising bound, and spells the leaves again after each step. Offers
 /// each text to `best`.
 fn drop_pairs<V: Watcher>(
     alloc: Global,
-    leaves: &[u16],
     start: Paired,
     bounds: Bounds,
     blend: Blend,
@@ -70,30 +85,13 @@ fn drop_pairs<V: Watcher>(
             break;
         }
         watcher.attempt(best.tries, Some(best.bytes()));
-        let rest = without_poor(alloc, counted(alloc, &paired)?, least)?;
-        let next = best.spelled(alloc, leaves, rest, blend)?;
+        let rest = without_poor(alloc, &paired, least)?;
+        let next = best.spelled(alloc, rest, blend)?;
         best.offer(alloc, &next)?;
         paired = next;
         least = least.saturating_add(bounds.step.max(1));
     }
     Ok(())
-}
-
-/// Returns the first bounds for a list of `values` values.
-fn bounds_for(values: usize) -> Bounds {
-    if values > FEW_VALUES {
-        Bounds {
-            first: bits(16),
-            step: bits(16),
-            last: bits(48),
-        }
-    } else {
-        Bounds {
-            first: bits(8),
-            step: bits(4),
-            last: bits(64),
-        }
-    }
 }
 
 /// Tries the texts without pairs, with 256 pairs and with all pairs. Returns the best of them, and the last one.
@@ -104,7 +102,14 @@ fn begin_tries<V: Watcher>(
     watcher: &mut V,
 ) -> Result<(Best, Paired), AllocError> {
     let values = begun.symbols.len() as u64;
-    let mut best = Best::new(alloc, copy_of(alloc, &begun)?, values, other_bytes, BUDGET)?;
+    let mut best = Best {
+        leaves: begun.symbols.to_vec(alloc)?,
+        paired: copy_of(alloc, &begun)?,
+        cost: choose_sizes(alloc, values, &begun, other_bytes)?.cost,
+        other_bytes,
+        budget: BUDGET,
+        tries: 1,
+    };
     let few = with_pairs(alloc, copy_of(alloc, &begun)?, FEW_PAIRS, &mut Unwatched)?;
     best.offer(alloc, &few)?;
     let all = with_pairs(alloc, begun, MAX_SYMBOLS as u32, watcher)?;
@@ -116,7 +121,6 @@ fn begin_tries<V: Watcher>(
 /// differ from round to round.
 fn add_pairs<V: Watcher>(
     alloc: Global,
-    leaves: &[u16],
     best: &mut Best,
     watcher: &mut V,
 ) -> Result<(), AllocError> {
@@ -131,14 +135,14 @@ fn add_pairs<V: Watcher>(
             &mut Unwatched,
         )?;
         let bounds = Bounds {
-            first: bits(12),
-            step: bits(8).saturating_sub(bits(round % 7)) / 2,
-            last: bits(64),
+            first: 12 * BIT,
+            step: (8 - round % 7) * (BIT / 2),
+            last: 64 * BIT,
         };
         let blend = Blend {
-            quarters: round.wrapping_mul(2) % 5,
+            quarters: round * 2 % 5,
         };
-        drop_pairs(alloc, leaves, more, bounds, blend, best, watcher)?;
+        drop_pairs(alloc, more, bounds, blend, best, watcher)?;
     }
     Ok(())
 }
@@ -151,32 +155,26 @@ pub(crate) fn shrink<V: Watcher>(
     other_bytes: Option<u64>,
     watcher: &mut V,
 ) -> Result<Proposal, AllocError> {
-    let leaves = begun.symbols.to_vec(alloc)?;
+    let is_short = begun.symbols.len() <= FEW_VALUES;
+    let (first, tries) = if is_short {
+        (FIRST_BOUNDS, 4)
+    } else {
+        (FEW_BOUNDS, 1)
+    };
     watcher.attempt(0, None);
     let (mut best, all) = begin_tries(alloc, begun, other_bytes, watcher)?;
-    let first = bounds_for(leaves.len());
-    drop_pairs(
-        alloc,
-        &leaves,
-        all,
-        first,
-        Blend { quarters: 2 },
-        &mut best,
-        watcher,
-    )?;
-    let is_short = leaves.len() <= FEW_VALUES;
+    let blend = Blend { quarters: 2 };
+    drop_pairs(alloc, all, first, blend, &mut best, watcher)?;
     if is_short {
-        add_pairs(alloc, &leaves, &mut best, watcher)?;
+        add_pairs(alloc, &mut best, watcher)?;
         if best.paired.entries.len() <= FEW_SYMBOLS {
-            trim(alloc, &leaves, TRIM_BUDGET, &mut best, watcher)?;
+            trim(alloc, TRIM_BUDGET, &mut best, watcher)?;
         }
     }
-    let tries = if is_short { 4 } else { 1 };
-    polish(alloc, &leaves, tries, &mut best)?;
-    let Paired {
-        entries,
-        symbols,
-        ..
-    } = best.paired;
-    Ok(Proposal { entries, symbols })
+    polish(alloc, tries, &mut best)?;
+    let Best { paired, .. } = best;
+    Ok(Proposal {
+        entries: paired.entries,
+        symbols: paired.symbols,
+    })
 }

@@ -2,12 +2,16 @@
 //!
 //! Only the safety of this code is proved, not its estimates: they only decide which pairs are kept and how values are
 //! spelled.
+use szg_pairs::entry::{left, right};
 
 /// The number of fractional bits of a logarithm and of an estimate.
-pub(crate) const FRACTION: u32 = 16;
+const FRACTION: u32 = 16;
 
-/// Returns the logarithm of a number to the base 2, times 2^`FRACTION`, rounded down; 0 for 0.
-fn log2(number: u64) -> u64 {
+/// One bit as an estimate.
+pub(crate) const BIT: u64 = 1 << FRACTION;
+
+/// Returns the logarithm of a number to the base 2, times `BIT`, rounded down; 0 for 0.
+pub(crate) fn log2(number: u64) -> u64 {
     if number == 0 {
         return 0;
     }
@@ -23,9 +27,14 @@ fn log2(number: u64) -> u64 {
     log
 }
 
-/// Returns a number times its logarithm as `log2` returns it.
-fn weighed(number: u64) -> u64 {
-    number.wrapping_mul(log2(number))
+/// Returns the count of a symbol; 0 if `symbol` is after the end of `counts`.
+pub(crate) fn count_at(counts: &[u64], symbol: u16) -> u64 {
+    let place = usize::from(symbol);
+    if place < counts.len() {
+        counts[place]
+    } else {
+        0
+    }
 }
 
 /// How many symbols a text has, and how often the most frequent one occurs.
@@ -35,59 +44,53 @@ pub(crate) struct Totals {
     pub most: u64,
 }
 
-/// Returns the number of bits by which a text's words exceed its entropy because no word is shorter than one bit, times
-/// 2^`FRACTION`. Only a symbol that is more than half of the text has less than one bit of entropy.
-fn excess(totals: Totals) -> u64 {
+/// Estimates the bits of a text's words, times `BIT` and modulo 2^64: its entropy, and the bits by which the words
+/// exceed it because no word is shorter than one bit. `counts` may leave out symbols that occur equally often in two
+/// texts whose estimates are compared: they would change both estimates by the same number.
+fn bits_of(totals: Totals, counts: &[u64]) -> u64 {
     let Totals { symbols, most } = totals;
-    if most <= symbols / 2 {
+    let log = log2(symbols);
+    let mut bits = symbols.wrapping_mul(log);
+    for count in counts {
+        bits = bits.wrapping_sub(count.wrapping_mul(log2(*count)));
+    }
+    // only a symbol that is more than half of the text has less than one bit of entropy
+    if most > symbols / 2 {
+        let excess = BIT.wrapping_add(log2(most)).wrapping_sub(log);
+        bits = bits.wrapping_add(most.wrapping_mul(excess));
+    }
+    bits
+}
+
+/// Estimates the bits that a pair saves in a text with these counts and totals, times `BIT`, plus 1; the bits of its
+/// dictionary entry are not deducted. The pair occurs `count` times. Returns 0 exactly if it does not occur.
+pub(crate) fn saved(counts: &[u64], entry: [u8; 3], count: u64, totals: Totals) -> u64 {
+    if count == 0 {
         return 0;
     }
-    most.wrapping_mul(1 << FRACTION)
-        .wrapping_add(weighed(most))
-        .wrapping_sub(most.wrapping_mul(log2(symbols)))
-}
-
-/// Estimates the bits that a pair saves, times 2^`FRACTION`; the bits of its dictionary entry are not deducted. The
-/// pair occurs `count` times, its halves occur `left` and `right` times outside of it, and `is_double` is whether the
-/// halves are equal.
-pub(crate) fn saved_by(count: u64, left: u64, right: u64, is_double: bool, totals: Totals) -> u64 {
-    let total = totals.symbols;
-    let longer = weighed(total.saturating_add(count));
-    let with = weighed(total)
-        .wrapping_sub(weighed(count))
-        .wrapping_sub(weighed(left));
-    let halves = if is_double {
-        weighed(left.saturating_add(count.saturating_mul(2)))
+    let is_double = left(entry) == right(entry);
+    // how often the halves occur outside of the pair, and in the text in which the pair is written as its halves; two
+    // equal halves are one symbol, the left one
+    let left = count_at(counts, left(entry));
+    let (right, more_left, more_right) = if is_double {
+        (0, count.saturating_mul(2), 0)
     } else {
-        weighed(left.saturating_add(count)).wrapping_add(weighed(right.saturating_add(count)))
+        (count_at(counts, right(entry)), count, count)
     };
-    let other = if is_double { 0 } else { weighed(right) };
-    let each = if is_double {
-        count.saturating_mul(2)
-    } else {
-        count
-    };
-    // the totals of the text in which the pair is written as its halves
+    let all_left = left.saturating_add(more_left);
+    let all_right = right.saturating_add(more_right);
     let before = Totals {
-        symbols: total.saturating_add(count),
-        most: totals
-            .most
-            .max(left.saturating_add(each))
-            .max(right.saturating_add(each)),
+        symbols: totals.symbols.saturating_add(count),
+        most: totals.most.max(all_left).max(all_right),
     };
-    let saved = longer
-        .wrapping_sub(halves)
-        .wrapping_sub(with.wrapping_sub(other))
-        .wrapping_add(excess(before))
-        .wrapping_sub(excess(totals));
+    let saved = bits_of(before, &[all_left, all_right]).wrapping_sub(bits_of(
+        totals,
+        &[count, left, right],
+    ));
     // a saving near 0 may be rounded to a negative number
-    if saved > u64::MAX / 2 { 0 } else { saved }
-}
-
-/// Estimates the bits of a symbol that occurs `count` times in a text of `total` symbols, times 2^`FRACTION`; at least
-/// one bit.
-pub(crate) fn bits_for(count: u64, total: u64) -> u64 {
-    log2(total.max(1))
-        .saturating_sub(log2(count.max(1)))
-        .max(1 << FRACTION)
+    if saved > u64::MAX / 2 {
+        1
+    } else {
+        saved.saturating_add(1)
+    }
 }

@@ -30,22 +30,20 @@ struct Node {
     sibling: u32,
 }
 
+/// A node at which no symbol ends, without children and without a next sibling.
+const BARE: Node = Node {
+    leaf: 0,
+    symbol: 0,
+    cost: NO_COST,
+    child: NO_NODE,
+    sibling: NO_NODE,
+};
+
 /// The tree of the expansions of a dictionary's symbols. The root has no node. The first nodes are its children: one
 /// for each leaf symbol, at the index that is the symbol's number.
 #[derive(Drop)]
 struct Tree {
     nodes: Vec<Node>,
-}
-
-/// Returns a node of `leaf` at which no symbol ends.
-fn bare(leaf: u16, sibling: u32) -> Node {
-    Node {
-        leaf,
-        symbol: 0,
-        cost: NO_COST,
-        child: NO_NODE,
-        sibling,
-    }
 }
 
 impl Tree {
@@ -56,13 +54,12 @@ impl Tree {
         };
         for (number, entry) in entries.iter().enumerate() {
             if is_leaf(*entry) {
-                tree.nodes
-                    .push(bare(number.min(MAX_SYMBOLS) as u16, NO_NODE))?;
+                let leaf = number.min(MAX_SYMBOLS) as u16;
+                tree.nodes.push(Node { leaf, ..BARE })?;
             }
         }
         for (number, cost) in costs.iter().enumerate() {
-            let leaves = expansion(alloc, entries, number.min(MAX_SYMBOLS) as u16)?;
-            tree.insert(&leaves, number.min(MAX_SYMBOLS) as u16, *cost)?;
+            tree.insert(alloc, entries, number.min(MAX_SYMBOLS) as u16, *cost)?;
         }
         Ok(tree)
     }
@@ -83,8 +80,11 @@ impl Tree {
         NO_NODE as usize
     }
 
-    /// Returns the child of `parent` for `leaf`; creates it if there is none.
-    fn child_or_new(&mut self, parent: usize, leaf: u16) -> Result<usize, AllocError> {
+    /// Returns the child of `parent`, or of the root if this is None, for `leaf`; creates it if there is none.
+    fn child_or_new(&mut self, parent: Option<usize>, leaf: u16) -> Result<usize, AllocError> {
+        let Some(parent) = parent else {
+            return Ok(usize::from(leaf));
+        };
         if parent >= self.nodes.len() {
             return Ok(NO_NODE as usize);
         }
@@ -94,7 +94,11 @@ impl Tree {
             return Ok(found);
         }
         let new = self.nodes.len();
-        self.nodes.push(bare(leaf, node.child))?;
+        self.nodes.push(Node {
+            leaf,
+            sibling: node.child,
+            ..BARE
+        })?;
         self.nodes[parent] = Node {
             child: new.min(NO_NODE as usize) as u32,
             ..node
@@ -102,16 +106,35 @@ impl Tree {
         Ok(new)
     }
 
-    /// Adds a symbol that expands to these leaves.
-    fn insert(&mut self, leaves: &[u16], symbol: u16, cost: u64) -> Result<(), AllocError> {
-        let mut place = NO_NODE as usize;
-        for (depth, leaf) in leaves.iter().enumerate() {
-            place = if depth == 0 {
-                usize::from(*leaf)
-            } else {
-                self.child_or_new(place, *leaf)?
+    /// Adds the path of a symbol's expansion. The symbol ends there if it costs less than the one that ended there
+    /// before.
+    fn insert(
+        &mut self,
+        alloc: Global,
+        entries: &[[u8; 3]],
+        symbol: u16,
+        cost: u64,
+    ) -> Result<(), AllocError> {
+        let mut end = None;
+        let mut waiting = Vec::new(alloc);
+        waiting.push(symbol)?;
+        for _ in 0..KEPT.saturating_mul(2) {
+            let Some(next) = waiting.pop() else {
+                break;
             };
+            let place = usize::from(next);
+            if place >= entries.len() {
+                continue;
+            }
+            let entry = entries[place];
+            if is_leaf(entry) {
+                end = Some(self.child_or_new(end, next)?);
+            } else {
+                waiting.push(right(entry))?;
+                waiting.push(left(entry))?;
+            }
         }
+        let place = end.unwrap_or(NO_NODE as usize);
         if place < self.nodes.len() {
             let node = self.nodes[place];
             if cost < node.cost {
@@ -124,29 +147,6 @@ impl Tree {
         }
         Ok(())
     }
-}
-
-/// Returns the leaf symbols that a symbol expands to.
-fn expansion(alloc: Global, entries: &[[u8; 3]], symbol: u16) -> Result<Vec<u16>, AllocError> {
-    let mut leaves = Vec::new(alloc);
-    let mut waiting = Vec::new(alloc);
-    waiting.push(symbol)?;
-    for _ in 0..KEPT.saturating_mul(2) {
-        let Some(next) = waiting.pop() else {
-            break;
-        };
-        let place = usize::from(next);
-        if place < entries.len() {
-            let entry = entries[place];
-            if is_leaf(entry) {
-                leaves.push(next)?;
-            } else {
-                waiting.push(right(entry))?;
-                waiting.push(left(entry))?;
-            }
-        }
-    }
-    Ok(leaves)
 }
 
 /// The cheapest spelling from an index on: its first symbol, its cost, and how many nodes were visited to find it.

@@ -1,11 +1,10 @@
 //! Tries for a small table: dictionaries and texts for one list of values. The try that costs least is kept.
 //!
 //! Only the safety of this code is proved: its result is a proposal, and proposals are tested.
-use crate::building::sizing::{bytes_at, choose_sizes, words_for};
+use crate::building::sizing::{choose_sizes, words_for};
 use crate::pairing::leaves::Paired;
-use crate::pairing::numbering::counts_of;
-use crate::shrinking::costs::{FRACTION, bits_for};
-use crate::shrinking::dropping::{Counted, without_unused};
+use crate::shrinking::costs::{BIT, log2};
+use crate::shrinking::dropping::{Kept, without_unused};
 use crate::shrinking::spelling::spell;
 use std::alloc::{AllocError, Global};
 
@@ -19,21 +18,16 @@ pub(crate) struct Blend {
 /// The best dictionary and text so far, and what they cost.
 #[derive(Drop)]
 pub(crate) struct Best {
+    /// What each text expands to.
+    pub leaves: Vec<u16>,
     pub paired: Paired,
     pub cost: u64,
-    /// The number of values.
-    values: u64,
     /// As in `choose_sizes`.
-    other_bytes: Option<u64>,
+    pub other_bytes: Option<u64>,
     /// How many more nodes of the trees of `spell` may be visited.
     pub budget: u64,
     /// The number of tries so far.
     pub tries: u64,
-}
-
-/// Returns `number` times 2^`FRACTION`: `number` bits as a cost.
-pub(crate) fn bits(number: u64) -> u64 {
-    number.saturating_mul(1 << FRACTION)
 }
 
 /// Returns a copy.
@@ -45,44 +39,20 @@ pub(crate) fn copy_of(alloc: Global, paired: &Paired) -> Result<Paired, AllocErr
     })
 }
 
-/// Returns a copy of a dictionary, and how often its symbols occur in the text.
-pub(crate) fn counted(alloc: Global, paired: &Paired) -> Result<Counted, AllocError> {
-    Ok(Counted {
-        entries: paired.entries.to_vec(alloc)?,
-        lens: paired.lens.to_vec(alloc)?,
-        counts: counts_of(alloc, paired.entries.len(), &paired.symbols)?,
-    })
-}
-
 impl Best {
-    /// Creates the state from a first text of `values` values. `budget` is the number of nodes that may be visited.
-    pub fn new(
-        alloc: Global,
-        paired: Paired,
-        values: u64,
-        other_bytes: Option<u64>,
-        budget: u64,
-    ) -> Result<Best, AllocError> {
-        let cost = choose_sizes(alloc, values, &paired, other_bytes)?.cost;
-        Ok(Best {
-            paired,
-            cost,
-            values,
-            other_bytes,
-            budget,
-            tries: 1,
-        })
-    }
-
     /// Returns the approximate number of bytes with the best text: those of its subtable and, if `other_bytes` is
     /// known, also the table's other bytes before the sparse indexes.
     pub fn bytes(&self) -> u64 {
-        bytes_at(self.cost, self.other_bytes)
+        match self.other_bytes {
+            None => self.cost,
+            Some(_) => self.cost / 64,
+        }
     }
 
     /// Returns what a try costs.
     pub fn cost_of(&self, alloc: Global, tried: &Paired) -> Result<u64, AllocError> {
-        Ok(choose_sizes(alloc, self.values, tried, self.other_bytes)?.cost)
+        let values = self.leaves.len() as u64;
+        Ok(choose_sizes(alloc, values, tried, self.other_bytes)?.cost)
     }
 
     /// Copies `tried` into `paired` if it costs less than the best text. Returns whether it does.
@@ -97,20 +67,20 @@ impl Best {
         Ok(true)
     }
 
-    /// Spells the values with a dictionary, and drops the pairs that the new text does not need. A symbol's cost is
+    /// Spells the leaves with a dictionary, and drops the pairs that the new text does not need. A symbol's cost is
     /// `4 - quarters` quarters of the length of its word in the code chosen by the dictionary's counts, and `quarters`
     /// quarters of the bits estimated from its count.
     pub fn spelled(
         &mut self,
         alloc: Global,
-        leaves: &[u16],
-        dictionary: Counted,
+        dictionary: Kept,
         blend: Blend,
     ) -> Result<Paired, AllocError> {
-        let Counted {
+        let Kept {
             entries,
             lens,
             counts,
+            ..
         } = dictionary;
         let words = words_for(alloc, &counts, true)?;
         let total = counts
@@ -119,11 +89,15 @@ impl Best {
         let rest = 4u64.saturating_sub(blend.quarters);
         let mut costs = Vec::new(alloc);
         for (count, length) in counts.iter().zip(&words.lengths) {
-            let word = bits(u64::from(*length)).saturating_mul(rest);
-            let estimated = bits_for(*count, total).saturating_mul(blend.quarters);
-            costs.push(word.saturating_add(estimated))?;
+            let word = u64::from(*length).saturating_mul(BIT);
+            // a word has at least one bit
+            let estimated = log2(total).saturating_sub(log2(*count)).max(BIT);
+            let blended = word
+                .saturating_mul(rest)
+                .saturating_add(estimated.saturating_mul(blend.quarters));
+            costs.push(blended)?;
         }
-        let spelling = spell(alloc, leaves, &entries, &lens, &costs)?;
+        let spelling = spell(alloc, &self.leaves, &entries, &lens, &costs)?;
         self.budget = self.budget.saturating_sub(spelling.steps);
         let spelled = Paired {
             entries,
