@@ -19,17 +19,11 @@ ghost use Rattle.szg_build.specs.Plan.{different_values};
 ghost use Rattle.szg_build.specs.Rule.{HasSpanIndex, HasTruncatedBinary, IsTruncatedBinary};
 
 use crate::building::blocks::{Cut, fill_blocks};
-use crate::building::coding::{choose_code_by_counts, truncated_binary_code};
-use crate::building::sizing::choose_sizes;
+use crate::building::coding::choose_code;
 use crate::building::sparse::sparse_index;
-use crate::pairing::accepting::count_pairs_in;
 use crate::pairing::leaves::Paired;
-use crate::pairing::numbering::counts_of;
-use crate::pairing::rounds::{pair_for_small_table, pair_up};
-use crate::watching::Watcher;
 use std::alloc::{AllocError, Global};
 use szg_block::{Entry, Sub};
-use szg_code::Code;
 use szg_pairs::{Dict, DictFault};
 
 /// How a subtable is packed.
@@ -53,21 +47,6 @@ pub enum Choice {
     Small,
 }
 
-/// Creates a dictionary from entries that are known to be accepted.
-fn dictionary(alloc: Global, entries: Vec<[u8; 3]>) -> Result<Dict, AllocError>
-    requires few { length entries.items ≤ 4095 }
-    requires accepted { IsDictionary entries.items }
-    ensures { IfOk result (λ dict. dict ≡ entries.items) }
-{
-    match Dict::new(alloc, entries) {
-        Ok(dict) => Ok(dict),
-        Err(DictFault::Memory) => Err(AllocError),
-        Err(DictFault::Child(_)) => unreachable!(),
-        Err(DictFault::Cycle(_)) => unreachable!(),
-        Err(DictFault::LongSymbol(_)) => unreachable!(),
-    }
-}
-
 /// Appends one extra length, for 65,536 values, if the last sparse entry points past the blocks. Returns the number
 /// of lengths appended.
 fn push_extra(lengths: &mut Vec<u16>, sparse: &[Entry]) -> Result<u8, AllocError>
@@ -84,29 +63,10 @@ fn push_extra(lengths: &mut Vec<u16>, sparse: &[Entry]) -> Result<u8, AllocError
     Ok(1)
 }
 
-/// Chooses a code for a dictionary's symbols: if `is_huffman`, a Huffman code by the symbols' counts in the text
-/// `symbols` (the symbols that expand to the values); else the truncated binary code, whose words have at most two
-/// lengths.
-fn code_for(
-    alloc: Global,
-    dict: &Dict,
-    symbols: &[u16],
-    is_huffman: bool,
-) -> Result<Code, AllocError>
-    requires some { 1 ≤ length dict.now }
-    requires few { length dict.now ≤ 4095 }
-    ensures chosen { IfOk result (λ code. IsChosen (length dict.now) code) }
-    ensures rule { is_huffman ≡ false → IfOk result (λ code. IsTruncatedBinary (length dict.now) code) }
-{
-    if is_huffman {
-        let counts = counts_of(alloc, usize::from(dict.symbols()), symbols)?;
-        return choose_code_by_counts(alloc, &counts);
-    }
-    truncated_binary_code(alloc, dict.symbols())
-}
-
-/// Builds a subtable with blocks from values and the pairs made of them.
-fn build_paired(
+/// Builds a subtable with blocks from values and the pairs made of them. If `is_huffman`, its code is a Huffman code by
+/// the symbols' counts in the text (the symbols that expand to the values); else it is the truncated binary code, whose
+/// words have at most two lengths.
+pub(crate) fn build_paired(
     alloc: Global,
     values: &[u16],
     flags: u8,
@@ -130,8 +90,14 @@ fn build_paired(
         symbols,
         ..
     } = paired;
-    let dict = dictionary(alloc, entries)?;
-    let code = code_for(alloc, &dict, &symbols, is_huffman)?;
+    let dict = match Dict::new(alloc, entries) {
+        Ok(dict) => dict,
+        Err(DictFault::Memory) => return Err(AllocError),
+        Err(DictFault::Child(_)) => unreachable!(),
+        Err(DictFault::Cycle(_)) => unreachable!(),
+        Err(DictFault::LongSymbol(_)) => unreachable!(),
+    };
+    let code = choose_code(alloc, &dict, &symbols, is_huffman)?;
     let Cut {
         mut lengths,
         packed,
@@ -151,57 +117,4 @@ fn build_paired(
         lengths,
         packed,
     })
-}
-
-/// Builds a subtable with blocks from values.
-pub(crate) fn build_pairs<V: Watcher>(
-    alloc: Global,
-    values: &[u16],
-    flags: u8,
-    packing: Packing,
-    watcher: &mut V,
-) -> Result<Sub, AllocError>
-    requires some { 0 < length values.now }
-    requires few { length values.now < 2 ^ 33 }
-    requires small { AllByRecursion (λ v. v ≤ 4095) values.now }
-    requires different { length (different_values values.now) ≤ 4095 }
-    requires least_block { 5 ≤ packing.block_bits }
-    requires most_block { packing.block_bits ≤ 10 }
-    requires least_span { 1 ≤ packing.span_bits }
-    requires most_span { packing.span_bits ≤ 16 }
-    requires rounds { packing.rounds ≤ 4000 }
-    ensures made { IfOk result (λ sub. IsMadeSub values.now flags packing.block_bits packing.span_bits packing.rounds (subtable_of sub)) }
-    ensures rule { IfOk result (λ sub. HasTruncatedBinary (subtable_of sub)) }
-    ensures index { IfOk result (λ sub. HasSpanIndex (length values.now) (subtable_of sub)) }
-{
-    let paired = pair_up(alloc, values, packing.rounds, watcher)?;
-    build_paired(alloc, values, flags, paired, packing, false)
-}
-
-/// Builds a subtable with blocks for a small table. Its pairs are those of `pair_for_small_table`. Its block bits, its
-/// span bits and the kind of its code are those of `choose_sizes`. `other_bytes` is as in `choose_sizes`.
-pub(crate) fn build_small_pairs<V: Watcher>(
-    alloc: Global,
-    values: &[u16],
-    flags: u8,
-    other_bytes: Option<u64>,
-    watcher: &mut V,
-) -> Result<Sub, AllocError>
-    requires some { 0 < length values.now }
-    requires few { length values.now < 2 ^ 33 }
-    requires small { AllByRecursion (λ v. v ≤ 4095) values.now }
-    requires different { length (different_values values.now) ≤ 4095 }
-    ensures made { IfOk result (λ sub. IsMadeSmall values.now flags (subtable_of sub)) }
-    ensures index { IfOk result (λ sub. HasSpanIndex (length values.now) (subtable_of sub)) }
-{
-    let paired = pair_for_small_table(alloc, values, other_bytes, watcher)?;
-    let pairs = count_pairs_in(&paired.entries);
-    let size = values.len() as u64;
-    let sizes = choose_sizes(alloc, size, &paired, other_bytes)?;
-    let packing = Packing {
-        block_bits: sizes.block_bits,
-        span_bits: sizes.span_bits,
-        rounds: pairs as u32,
-    };
-    build_paired(alloc, values, flags, paired, packing, sizes.is_huffman)
 }

@@ -36,30 +36,17 @@ fn copy_lists<T: Copy>(alloc: Global, lists: &[Vec<T>; 4]) -> Result<[Vec<T>; 4]
     Ok([wins, losses, cursed_wins, blessed_losses])
 }
 
-/// Copies a map, if there is one.
-fn copy_map(alloc: Global, map: &Option<Map>) -> Result<Option<Map>, AllocError>
-    ensures { IfOk result (λ copy. option_map map_of copy ≡ option_map map_of map.now) }
-{
-    match map {
-        None => Ok(None),
-        Some(Map::Bytes(lists)) => {
-            let copies = copy_lists(alloc, lists)?;
-            Ok(Some(Map::Bytes(copies)))
-        }
-        Some(Map::Wide(lists)) => {
-            let copies = copy_lists(alloc, lists)?;
-            Ok(Some(Map::Wide(copies)))
-        }
-    }
-}
-
 /// Copies maps.
 pub(crate) fn copy_maps(alloc: Global, maps: &[Option<Map>]) -> Result<Vec<Option<Map>>, AllocError>
     ensures { IfOk result (λ copies. map (option_map map_of) copies.items ≡ map (option_map map_of) maps.now) }
 {
     let mut copies = Vec::new(alloc);
     'maps: for item in maps {
-        let copy = copy_map(alloc, item)?;
+        let copy = match item {
+            None => None,
+            Some(Map::Bytes(lists)) => Some(Map::Bytes(copy_lists(alloc, lists)?)),
+            Some(Map::Wide(lists)) => Some(Map::Wide(copy_lists(alloc, lists)?)),
+        };
         copies.push(copy)?;
     }
     Ok(copies)

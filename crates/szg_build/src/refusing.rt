@@ -24,20 +24,14 @@ pub(crate) fn are_bits_valid(plan: &Plan) -> bool
     5 <= plan.block_bits && plan.block_bits <= 10 && 1 <= plan.span_bits && plan.span_bits <= 16
 }
 
-/// Returns the greatest value that a kind of table may have.
-pub(crate) fn greatest_of(kind: Kind) -> u16
-    ensures { result ≡ greatest_value kind }
+/// Returns whether a list has a value above the greatest of its kind of table.
+pub(crate) fn has_above(kind: Kind, values: &[u16]) -> bool
+    ensures { result ≡ list_any (λ v. nat_lt (greatest_value kind) v) values.now }
 {
-    match kind {
+    let greatest = match kind {
         Kind::Wdl => 4,
         Kind::Dtz => 4095,
-    }
-}
-
-/// Returns whether a list has a value above `greatest`.
-pub(crate) fn has_above(values: &[u16], greatest: u16) -> bool
-    ensures { result ≡ list_any (λ v. nat_lt greatest v) values.now }
-{
+    };
     values.iter().any(|v| *v > greatest)
 }
 
@@ -55,8 +49,7 @@ fn wrong_length(sizes: &[u64], lists: &[&[u16]]) -> Option<usize>
 fn wrong_value(kind: Kind, lists: &[&[u16]]) -> Option<usize>
     ensures { result ≡ position (λ list. list_any (λ v. nat_lt (greatest_value kind) v) list.now) lists.now }
 {
-    let greatest = greatest_of(kind);
-    lists.iter().position(|list| has_above(list, greatest))
+    lists.iter().position(|list| has_above(kind, list))
 }
 
 /// Returns the index of the first list with more than 4,095 different values.
@@ -83,98 +76,55 @@ pub(crate) fn is_wide(flags: u8) -> bool
     (flags / 16) % 2 == 1
 }
 
-/// Returns whether the length of each list of bytes fits one byte.
-fn are_short(lists: &[Vec<u8>]) -> bool
-    ensures { result ≡ list_all (λ list. nat_lt (length list.items) (2 ^ 8)) lists.now }
-{
-    lists.iter().all(|list| list.len() < 256)
-}
-
-/// Returns whether the length of each list of two-byte items fits two bytes.
-fn are_short_wide(lists: &[Vec<u16>]) -> bool
-    ensures { result ≡ list_all (λ list. nat_lt (length list.items) (2 ^ 16)) lists.now }
-{
-    lists.iter().all(|list| list.len() < 65536)
-}
-
-/// Returns whether flags require a map of bytes and the lists fit their length fields.
-fn is_narrow_for(flags: u8, lists: &[Vec<u8>]) -> bool
-    ensures { result ≡ (has_bit 1 flags && not (has_bit 4 flags) && list_all (λ list. nat_lt (length list) (2 ^ 8)) (map (λ list. list.items) lists.now)) }
-{
-    if !is_mapped(flags) {
-        return false;
-    }
-    if is_wide(flags) {
-        return false;
-    }
-    are_short(lists)
-}
-
-/// Returns whether flags require a wide map and the lists fit their length fields.
-fn is_wide_for(flags: u8, lists: &[Vec<u16>]) -> bool
-    ensures { result ≡ (has_bit 1 flags && has_bit 4 flags && list_all (λ list. nat_lt (length list) (2 ^ 16)) (map (λ list. list.items) lists.now)) }
-{
-    if !is_mapped(flags) {
-        return false;
-    }
-    if !is_wide(flags) {
-        return false;
-    }
-    are_short_wide(lists)
-}
-
-/// Returns whether a map is what the flags require.
+/// Returns whether a map is what the flags require, and its lists fit their length fields.
 fn is_map_for(flags: u8, item: &Option<Map>) -> bool
     ensures { result ≡ is_map_of (flags, option_map map_of item.now) }
 {
-    match item {
-        None => !is_mapped(flags),
-        Some(Map::Bytes(lists)) => is_narrow_for(flags, lists),
-        Some(Map::Wide(lists)) => is_wide_for(flags, lists),
-    }
-}
-
-/// Returns whether each flags byte is below 32: only its bits 0 to 4 may be set.
-fn are_flags(flags: &[u8]) -> bool
-    ensures { result ≡ list_all (λ byte. nat_lt byte 32) flags.now }
-{
-    flags.iter().all(|byte| *byte < 32)
-}
-
-/// Returns whether each map is what its flags require.
-fn are_maps_for(flags: &[u8], maps: &[Option<Map>]) -> bool
-    ensures { result ≡ list_all (λ pair. is_map_of (pair.0, option_map map_of pair.1)) (zip flags.now maps.now) }
-{
-    flags
-        .iter()
-        .zip(maps)
-        .all(|(byte, item)| is_map_for(*byte, item))
-}
-
-/// Returns whether a DTZ plan has flags and an optional map for each part, and each map is what its flags require.
-fn each_has_map(plan: &Plan) -> bool
-    ensures { result ≡ ((length plan.now.flags.items == length (part_numbers plan.now.material)) && (length plan.now.maps.items == length (part_numbers plan.now.material)) && list_all (λ byte. nat_lt byte 32) plan.now.flags.items && list_all (λ pair. is_map_of (pair.0, option_map map_of pair.1)) (zip plan.now.flags.items plan.now.maps.items)) }
-{
-    let parts = part_count(&plan.material) as usize;
-    if plan.flags.len() != parts {
+    let Some(map) = item else {
+        return !is_mapped(flags);
+    };
+    if !is_mapped(flags) {
         return false;
     }
-    if plan.maps.len() != parts {
-        return false;
+    match map {
+        Map::Bytes(lists) => {
+            if is_wide(flags) {
+                return false;
+            }
+            lists.iter().all(|list| list.len() < 256)
+        }
+        Map::Wide(lists) => {
+            if !is_wide(flags) {
+                return false;
+            }
+            lists.iter().all(|list| list.len() < 65536)
+        }
     }
-    if !are_flags(&plan.flags) {
-        return false;
-    }
-    are_maps_for(&plan.flags, &plan.maps)
 }
 
-/// Returns whether a plan has the flags and maps that its kind requires.
+/// Returns whether a plan has the flags and maps that its kind requires. In WDL there are none. In DTZ each part has
+/// flags below 32 and the map that they require.
 pub(crate) fn are_maps_valid(plan: &Plan) -> bool
     ensures { result ≡ has_maps (plan_seen plan.now) }
 {
     match plan.kind {
         Kind::Wdl => plan.flags.is_empty() && plan.maps.is_empty(),
-        Kind::Dtz => each_has_map(plan),
+        Kind::Dtz => {
+            let parts = part_count(&plan.material) as usize;
+            if plan.flags.len() != parts {
+                return false;
+            }
+            if plan.maps.len() != parts {
+                return false;
+            }
+            if !plan.flags.iter().all(|byte| *byte < 32) {
+                return false;
+            }
+            plan.flags
+                .iter()
+                .zip(&plan.maps)
+                .all(|(byte, item)| is_map_for(*byte, item))
+        }
     }
 }
 

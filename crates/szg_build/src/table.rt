@@ -13,7 +13,6 @@ ghost use Rattle.szg_build.specs.Rule.{byte4_for, constant_for, constant_in, Has
 ghost use Rattle.szg_build.specs.Shown.{plan_seen, small_seen};
 ghost use Rattle.szg_build.specs.Tabling.{AreBuilt, IsBuildable, IsBuiltBare, IsBuiltBy, IsChoiceOf, IsInRange, IsOfBytes, IsOfItems, HasNoFault};
 
-use crate::building::blocks::pad;
 use crate::building::headers::{count_other_bytes, count_with_blocks};
 use crate::building::subtables::build_sub;
 use crate::building::{Choice, Packing};
@@ -39,39 +38,26 @@ pub(crate) fn parts_fit(parts: &[PartBytes])
     }
 }
 
-fn short_lists_fit(lists: &[Vec<u8>])
-    ensures { AllByRecursion (AreNumbers 1) (map (λ list. list.items) lists.now) }
-{
-    'lists: for list in lists {
-        bytes_fit(list);
-    }
-}
-
-fn wide_lists_fit(lists: &[Vec<u16>])
-    ensures { AllByRecursion (AreNumbers 2) (map (λ list. list.items) lists.now) }
-{
-    'lists: for list in lists {
-        words_fit(list);
-    }
-}
-
-/// For proofs alone: the items of a map's lists fit their width.
-fn item_fits(item: &Option<Map>)
-    ensures { IsOfItems (option_map map_of item.now) }
-{
-    match item {
-        None => {}
-        Some(Map::Bytes(lists)) => short_lists_fit(lists),
-        Some(Map::Wide(lists)) => wide_lists_fit(lists),
-    }
-}
-
 /// For proofs alone: the items of maps fit their widths.
 pub(crate) fn maps_fit(maps: &[Option<Map>])
     ensures { AllByRecursion IsOfItems (map (option_map map_of) maps.now) }
 {
     'maps: for item in maps {
-        item_fits(item);
+        match item {
+            None => {}
+            Some(Map::Bytes([wins, losses, cursed_wins, blessed_losses])) => {
+                bytes_fit(wins);
+                bytes_fit(losses);
+                bytes_fit(cursed_wins);
+                bytes_fit(blessed_losses);
+            }
+            Some(Map::Wide([wins, losses, cursed_wins, blessed_losses])) => {
+                words_fit(wins);
+                words_fit(losses);
+                words_fit(cursed_wins);
+                words_fit(blessed_losses);
+            }
+        }
     }
 }
 
@@ -91,15 +77,6 @@ pub(crate) fn byte4_of(material: &Material) -> u8
     }
 }
 
-/// Returns the flags at index `n`; 0 after the last.
-fn flags_at(flags: &[u8], n: usize) -> u8
-    requires { AllByRecursion (λ byte. byte < 32) flags.now }
-    ensures flags { result ≡ slice_index flags.now n }
-    ensures small { result < 32 }
-{
-    if n < flags.len() { flags[n] } else { 0 }
-}
-
 /// Builds the subtables of lists of values.
 fn build_subs<V: Watcher>(
     alloc: Global,
@@ -117,41 +94,11 @@ fn build_subs<V: Watcher>(
     let mut subs = Vec::new(alloc);
     'lists: for (n, list) in lists.iter().enumerate() {
         watcher.subtable(n + 1, lists.len(), list.len());
-        let flags = flags_at(&plan.flags, n);
+        let flags = plan.flags.get(n).copied().unwrap_or(0);
         let sub = build_sub(alloc, plan.kind, list, flags, choice, other_bytes, watcher)?;
         subs.push(sub)?;
     }
     Ok(subs)
-}
-
-/// Builds all of a table but its padding.
-fn build_fields<V: Watcher>(
-    alloc: Global,
-    plan: &Plan,
-    choice: Choice,
-    lists: &[&[u16]],
-    watcher: &mut V,
-) -> Result<Fields, AllocError>
-    requires is_valid { HasNoFault (plan_seen plan.now) (map (λ list. list.now) lists.now) }
-    requires choice { IsChoiceOf (plan_seen plan.now) choice }
-    ensures { IfOk result (λ fields. IsBuiltBare choice (plan_seen plan.now) (map (λ list. list.now) lists.now) (fields_shown fields).contents) }
-{
-    maps_fit(&plan.maps);
-    let subs = build_subs(alloc, plan, choice, lists, watcher)?;
-    let parts = copy_parts(alloc, &plan.parts)?;
-    let maps = copy_maps(alloc, &plan.maps)?;
-    let byte4 = byte4_of(&plan.material);
-    let last = end_bytes(byte4, &plan.last);
-    Ok(Fields {
-        material: plan.material.copy(),
-        kind: plan.kind,
-        byte4,
-        parts,
-        subs,
-        maps,
-        fill: Vec::new(alloc),
-        last,
-    })
 }
 
 /// Fills in the padding of `fields`, which have none yet, with zeros, and creates the table.
@@ -161,9 +108,7 @@ pub(crate) fn padded(alloc: Global, mut fields: Fields) -> Result<Table, AllocEr
     ensures accepted { IfOk result (λ t. IsAccepted t.contents t.filled) }
     ensures padding { IfOk result (λ t. AllByRecursion (λ byte. byte ≡ 0) t.filled) }
 {
-    let queried = fields.fill_asked() as usize;
-    let mut fill = Vec::new(alloc);
-    pad(&mut fill, queried)?;
+    let fill = vec![in alloc; 0u8; fields.fill_asked() as usize]?;
     fields.fill = fill;
     Ok(Table::assemble(fields))
 }
@@ -182,7 +127,22 @@ fn build_table<V: Watcher>(
     ensures accepted { IfOk result (λ t. IsAccepted t.contents t.filled) }
     ensures padding { IfOk result (λ t. AllByRecursion (λ byte. byte ≡ 0) t.filled) }
 {
-    let fields = build_fields(alloc, plan, choice, lists, watcher)?;
+    maps_fit(&plan.maps);
+    let subs = build_subs(alloc, plan, choice, lists, watcher)?;
+    let parts = copy_parts(alloc, &plan.parts)?;
+    let maps = copy_maps(alloc, &plan.maps)?;
+    let byte4 = byte4_of(&plan.material);
+    let last = end_bytes(byte4, &plan.last);
+    let fields = Fields {
+        material: plan.material.copy(),
+        kind: plan.kind,
+        byte4,
+        parts,
+        subs,
+        maps,
+        fill: Vec::new(alloc),
+        last,
+    };
     padded(alloc, fields)
 }
 

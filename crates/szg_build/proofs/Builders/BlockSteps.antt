@@ -1,15 +1,16 @@
 -- The steps of filling blocks: one more word, one more whole block, all blocks.
-use Rattle.std.proofs.Common.{ℕ, suc, ◌≡◌, ◌+◌, ◌-◌, ◌*◌, ◌^◌, ◌<◌, ◌≤◌, Bool, List, [], ◌∷◌, ◌++◌, true, false, length, replicate, get_or, refl, sym, ap, subst, ◌∙◌, arith, inl, inr, length-append, append_assoc, append-nil}
-use Rattle.std.specs.Prelude.{◌⊎◌, ◌↔◌, IsTrue}
+use Rattle.std.proofs.Common.{ℕ, suc, ◌≡◌, ◌+◌, ◌-◌, ◌*◌, ◌%◌, ◌^◌, ◌<◌, ◌≤◌, Bool, List, [], ◌∷◌, ◌++◌, true, false, length, replicate, take, get_or, refl, sym, ap, subst, ◌∙◌, arith, inl, inr, length-append, append_assoc, append-nil}
+use Rattle.std.specs.Prelude.{◌⊎◌}
 use Rattle.std.specs.List.{concat, AllByRecursion}
 use Rattle.std.proofs.Math.Nat.{pow-le-pow_right}
-use Rattle.std.proofs.lemmas.List.{length-replicate}
+use Rattle.std.proofs.lemmas.List.{length-replicate, take_all}
 use Rattle.std.proofs.lemmas.Grind.{flat_map-append}
 use Rattle.szg_code.specs.Bits.{bits}
 use Rattle.szg_code.specs.Canonical.{CanonicalCode, IsWord}
 use Rattle.szg_code.specs.Spelling.{Spells}
 use Rattle.szg_code.specs.Laws.{Appended}
 use Rattle.szg_code.proofs.ByteBits.{bits-append}
+use Rattle.szg_code.proofs.Numbers.{mod-small}
 use Rattle.szg_code.proofs.ReadBack.{written_list_is_spelled}
 use Rattle.szg_pairs.specs.Expansion.{expansion_of}
 use Rattle.szg_file.specs.Accepted.{AreNumbers}
@@ -133,12 +134,6 @@ filling_done code entries b symbols lengths packed words values block after bloc
 
 -- ---- for the bodies
 
-pub holds : {P : Type 0} (b : Bool) → (IsTrue b ↔ P) → b ≡ true → P
-holds b h e = h.0 e
-
-pub fails : {P : Type 0} (b : Bool) → (IsTrue b ↔ P) → b ≡ false → P → ⊥
-fails b h e p = let is : b ≡ true = h.1 p in cc
-
 pub block_large : (b : ℕ) → 5 ≤ b → 32 ≤ 2 ^ b
 block_large b h = pow-le-pow_right {n = 2} (omega arith) {i = 5} {j = b} h
 
@@ -149,6 +144,21 @@ padded_block b words fill bytes n is whole = record {
   rest = fill ++ bits (replicate n 0);
   joined = bits-append bytes (replicate n 0) ∙ ap (λ (z : List Bool). z ++ bits (replicate n 0)) is ∙ append_assoc words fill (bits (replicate n 0));
 }
+
+-- the list of bytes, filled up to the end of the block
+pub resized : (old bytes packed all : List ℕ) (size end block : ℕ) → packed ≡ old ++ bytes → size ≡ length packed → length bytes ≤ block → end ≡ length old + block →
+    all ≡ take end packed ++ replicate (end - size) 0 → all ≡ old ++ (bytes ++ replicate (block - length bytes) 0)
+resized old bytes packed all size end block e sized fits is h =
+    let long : length packed ≡ length old + length bytes = ap length e ∙ length-append old bytes in
+    let rest : end - size ≡ block - length bytes = omega (arith, long, sized, is, fits) in
+    h ∙ ap (λ (z : List ℕ). z ++ replicate (end - size) 0) (take_all end packed (omega (arith, long, is, fits))) ∙ ap (λ (k : ℕ). packed ++ replicate k 0) rest
+    ∙ ap (λ (z : List ℕ). z ++ replicate (block - length bytes) 0) e ∙ append_assoc old bytes (replicate (block - length bytes) 0)
+
+-- the number of bits of a block, as the code computes it
+pub block_room : (b : ℕ) → b ≤ 10 → 8 * 2 ^ b % 18446744073709551616 ≡ 8 * 2 ^ b
+block_room b few =
+    let small : 2 ^ b ≤ 2 ^ 10 = pow-le-pow_right {n = 2} (omega arith) {i = b} {j = 10} few in
+    mod-small (8 * 2 ^ b) 18446744073709551616 (omega (arith, small))
 
 -- a block into which a symbol does not fit any more is not empty
 pub full_some : (code : CanonicalCode) (entries : List (List ℕ)) (b : ℕ) (symbols lengths packed : List ℕ) (words : List Bool) (values k n : ℕ) → IsFilling code entries b symbols lengths packed words values → 32 ≤ 2 ^ b →

@@ -1,10 +1,9 @@
 -- Subtables of lists of values: constant ones, and those made with pairs.
-use Rattle.std.proofs.Common.{ℕ, zero, suc, ◌≡◌, ◌<◌, ◌≤◌, arith, Bool, true, false, List, [], ◌∷◌, length, take, replicate, Option, Some, None, Result, Ok, Err, refl, sym, ap, subst, ◌∙◌}
+use Rattle.std.proofs.Common.{ℕ, zero, suc, ◌≡◌, ◌<◌, ◌≤◌, arith, Bool, true, false, List, [], ◌∷◌, length, get_or, replicate, Option, Some, None, Result, Ok, Err, refl, sym, ap, subst, ◌∙◌}
 use Rattle.std.specs.Prelude.{◌==◌, ◌&&◌, IfOk, if◌then◌else◌}
-use Rattle.std.specs.List.{AllByRecursion, list_all, slice_get}
+use Rattle.std.specs.List.{AllByRecursion, list_all}
 use Rattle.std.proofs.lemmas.Bool.{eq-eqb}
-use Rattle.std.proofs.lemmas.List.{take_all}
-use Rattle.szg_values.specs.declared.Kind.TheVariants.{Wdl}
+use Rattle.szg_values.specs.declared.Kind.TheVariants.{Wdl, Dtz}
 use Rattle.szg_values.specs.declared.Kind.{Kind}
 use Rattle.szg_file.specs.Contents.{Subtable, constant, pairs}
 use Rattle.szg_file.specs.Accepted.{IsPacked}
@@ -74,36 +73,17 @@ pub replicated_all : (one n : ℕ) → list_all (λ value. value == one) (replic
 replicated_all one zero = refl
 replicated_all one (suc n) = ap (λ (b : Bool). b && list_all (λ value. value == one) (replicate n one)) (eq-eqb one one refl) ∙ replicated_all one n
 
-pub all_taken : (one : ℕ) (values : List ℕ) (i : ℕ) → length values ≤ i → take i values ≡ replicate i one → list_all (λ value. value == one) values ≡ true
-all_taken one values i end e = ap (list_all (λ value. value == one)) (sym (take_all i values end) ∙ e) ∙ replicated_all one i
+-- a list whose values are all equal to its first one is constant in WDL, a list of zeros in DTZ
+pub wdl_constant : (values : List ℕ) (one : ℕ) → one ≡ get_or values 0 0 → list_all (λ value. value == one) values ≡ true → Some one ≡ constant_for Wdl values
+wdl_constant [] one e all = ap Some e
+wdl_constant (v ∷ values) one e all =
+    let own : list_all (λ value. value == v) (v ∷ values) ≡ true = subst (λ (k : ℕ). list_all (λ value. value == k) (v ∷ values) ≡ true) e all in
+    ap Some e ∙ sym (ap (λ (b : Bool). if b then Some v else None) own)
 
--- a WDL list whose values are all equal to the first is constant
-first_constant' : (values : List ℕ) (first : ℕ) → Some first ≡ slice_get values 0 → list_all (λ value. value == first) values ≡ true → Some first ≡ constant_for Wdl values
-first_constant' [] first e all = absurd cc
-first_constant' (v ∷ values) first e all =
-    let same : first ≡ v = cc in
-    let own : list_all (λ value. value == v) (v ∷ values) ≡ true = subst (λ (k : ℕ). list_all (λ value. value == k) (v ∷ values) ≡ true) same all in
-    ap Some same ∙ sym (ap (λ (b : Bool). if b then Some v else None) own)
-
-no_constant' : (values : List ℕ) (first : ℕ) → Some first ≡ slice_get values 0 → list_all (λ value. value == first) values ≡ false → None ≡ constant_for Wdl values
-no_constant' [] first e all = absurd cc
-no_constant' (v ∷ values) first e all =
-    let same : first ≡ v = cc in
-    let own : list_all (λ value. value == v) (v ∷ values) ≡ false = subst (λ (k : ℕ). list_all (λ value. value == k) (v ∷ values) ≡ false) same all in
-    sym (ap (λ (b : Bool). if b then Some v else None) own)
-
-pub first_constant : (kind : Kind) (values : List ℕ) (first : ℕ) → kind ≡ Wdl → Some first ≡ slice_get values 0 → list_all (λ value. value == first) values ≡ true → Some first ≡ constant_for kind values
-first_constant kind values first wdl e all = first_constant' values first e all ∙ ap (λ (k : Kind). constant_for k values) (sym wdl)
-
-pub no_constant : (kind : Kind) (values : List ℕ) (first : ℕ) → kind ≡ Wdl → Some first ≡ slice_get values 0 → list_all (λ value. value == first) values ≡ false → None ≡ constant_for kind values
-no_constant kind values first wdl e all = no_constant' values first e all ∙ ap (λ (k : Kind). constant_for k values) (sym wdl)
-
-first_small' : (values : List ℕ) (first : ℕ) → Some first ≡ slice_get values 0 → AllByRecursion (λ v. v ≤ 4) values → first ≤ 4
-first_small' [] first e small = absurd cc
-first_small' (v ∷ values) first e small = let same : first ≡ v = cc in omega (arith, same, small.0)
-
-pub first_small : (kind : Kind) (values : List ℕ) (first : ℕ) → kind ≡ Wdl → Some first ≡ slice_get values 0 → AllByRecursion (λ v. v ≤ greatest_value kind) values → first ≤ 4
-first_small kind values first wdl e small = first_small' values first e (subst (λ (k : Kind). AllByRecursion (λ v. v ≤ greatest_value k) values) wdl small)
+pub dtz_constant : (values : List ℕ) (one : ℕ) → one ≡ 0 → list_all (λ value. value == one) values ≡ true → Some one ≡ constant_for Dtz values
+dtz_constant values one e all =
+    let own : list_all (λ value. value == 0) values ≡ true = subst (λ (k : ℕ). list_all (λ value. value == k) values ≡ true) e all in
+    ap Some e ∙ sym (ap (λ (b : Bool). if b then Some 0 else None) own)
 
 -- an option that has no value is None
 pub none_of : {A : Type 0} (o : Option A) → ((x : A) → o ≡ Some x → ⊥) → o ≡ None

@@ -443,6 +443,12 @@ table_copied choice plan lists byte4 subtables material parts items last e1 e2 e
     (subst (λ (i : List (Option Map)). IsBuiltBare choice plan lists (record { material = plan.material; kind = plan.kind; byte4 = byte4; parts = plan.parts; subtables = subtables; maps = i; last = last })) (sym e3)
     (subst (λ (l : List ℕ). IsBuiltBare choice plan lists (record { material = plan.material; kind = plan.kind; byte4 = byte4; parts = plan.parts; subtables = subtables; maps = plan.maps; last = l })) (sym e4) h)))
 
+-- flags are below 32, and those after the last are 0
+pub flag_at : (flags : List ℕ) (n : ℕ) → AllByRecursion (λ byte. byte < 32) flags → get_or flags n 0 < 32
+flag_at [] n h = omega arith
+flag_at (byte ∷ flags) zero h = h.0
+flag_at (byte ∷ flags) (suc n) h = flag_at flags n h.1
+
 -- zeros are bytes
 zeros : (n : ℕ) → AreBytes n (replicate n 0)
 zeros zero = (refl, tt)

@@ -36,38 +36,7 @@ struct Filling {
     values: u32,
 }
 
-/// Returns the number of bytes of a block.
-fn block_size(block_bits: u8) -> usize
-    requires { block_bits ≤ 10 }
-    ensures { result ≡ 2 ^ block_bits }
-{
-    1 << block_bits
-}
-
-/// Returns the word of a symbol that has one.
-fn word_of(code: &Code, symbol: u16) -> Word
-    requires there { (bits : List Bool) × IsWord code.now bits symbol }
-    ensures short { result.length ≤ 32 }
-    ensures spelled { result.number < 2 ^ result.length }
-    ensures word { IsWord code.now (bits_of_number result.length result.number) symbol }
-{
-    match word(code, symbol) {
-        Some(word) => word,
-        None => unreachable!(),
-    }
-}
-
-/// Appends `count` zero bytes.
-pub(crate) fn pad(bytes: &mut Vec<u8>, count: usize) -> Result<(), AllocError>
-    ensures { OnOk result (bytes.new.items ≡ bytes.old.items ++ replicate count 0) }
-{
-    for done in 0..count {
-        bytes.push(0)?;
-    }
-    Ok(())
-}
-
-/// Completes the block that is being filled: its words, padded with zero bits.
+/// Completes the block that is being filled: its words, padded with zero bits to 2^block_bits bytes.
 fn close(filling: &mut Filling, block_bits: u8) -> Result<(), AllocError>
     requires least_bits { 5 ≤ block_bits }
     requires most_bits { block_bits ≤ 10 }
@@ -79,23 +48,12 @@ fn close(filling: &mut Filling, block_bits: u8) -> Result<(), AllocError>
     ensures buffer { OnOk result (filling.new.buffer ≡ []) }
     ensures values { OnOk result (filling.new.values ≡ 0) }
 {
-    let bytes = filling.buffer.move_to(&mut filling.packed)?;
-    pad(&mut filling.packed, block_size(block_bits) - bytes)?;
+    let end = filling.packed.len() + (1 << block_bits);
+    filling.buffer.move_to(&mut filling.packed)?;
+    filling.packed.resize(end, 0)?;
     filling.lengths.push((filling.values - 1) as u16)?;
     filling.values = 0;
     Ok(())
-}
-
-/// Returns whether the current block has no room for a word of `bits` bits whose symbol has `values` values.
-fn is_full(filling: &Filling, bits: u64, values: u16, block_bits: u8) -> bool
-    requires bits { block_bits ≤ 10 }
-    requires fits { length filling.now.buffer ≤ 8 * 2 ^ block_bits }
-    requires most { filling.now.values ≤ 65536 }
-    requires short { bits ≤ 32 }
-    ensures { IsTrue result ↔ ((8 * 2 ^ block_bits < length filling.now.buffer + bits) ⊎ (65536 < filling.now.values + values)) }
-{
-    filling.buffer.len() + bits > 8 * block_size(block_bits) as u64
-        || filling.values + u32::from(values) > MAX_VALUES
 }
 
 /// Appends the word of a symbol to the block that is being filled, or to a new one if it does not fit.
@@ -115,14 +73,18 @@ fn add(
         IsFilling code.now dict.now block_bits (symbols ++ symbol ∷ []) filling.new.lengths.items filling.new.packed.items filling.new.buffer filling.new.values) }
     ensures some { OnOk result (0 < filling.new.values) }
 {
-    let word = word_of(code, symbol);
-    let bits = u64::from(word.length);
-    let values = dict.len(symbol);
-    if is_full(filling, bits, values, block_bits) {
+    let Some(word) = word(code, symbol) else {
+        unreachable!();
+    };
+    let values = u32::from(dict.len(symbol));
+    let room = 8u64 << block_bits;
+    if filling.buffer.len() + u64::from(word.length) > room
+        || filling.values + values > MAX_VALUES
+    {
         close(filling, block_bits)?;
     }
     filling.buffer.append(word)?;
-    filling.values += u32::from(values);
+    filling.values += values;
     Ok(())
 }
 

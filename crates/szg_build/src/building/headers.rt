@@ -9,38 +9,23 @@ use szg_values::Kind;
 /// The bytes of the magic and of byte 4.
 const FIRST: u64 = 5;
 
-/// Returns whether a list makes a subtable that is not constant.
-fn has_blocks(kind: Kind, values: &[u16]) -> bool {
-    let Some(first) = values.first() else {
-        return false;
-    };
-    match kind {
-        Kind::Wdl => values.iter().any(|value| *value != *first),
-        Kind::Dtz => values.iter().any(|value| *value != 0),
-    }
-}
-
 /// Returns how many lists make a subtable that is not constant.
 pub(crate) fn count_with_blocks(kind: Kind, lists: &[&[u16]]) -> usize {
-    lists.iter().filter(|list| has_blocks(kind, list)).count()
+    lists
+        .iter()
+        .filter(|list| {
+            let constant = match kind {
+                Kind::Wdl => list.first().copied().unwrap_or(0),
+                Kind::Dtz => 0,
+            };
+            list.iter().any(|value| *value != constant)
+        })
+        .count()
 }
 
 /// Rounds an offset up to an even number.
 fn to_even(offset: u64) -> u64 {
     offset.saturating_add(offset % 2)
-}
-
-/// Returns the offset after a map. `offset` is where the map, or the padding before it, begins.
-fn after_map(offset: u64, map: &Map) -> u64 {
-    match map {
-        Map::Bytes(lists) => lists.iter().fold(offset, |sum, list| {
-            sum.saturating_add(1).saturating_add(list.len() as u64)
-        }),
-        Map::Wide(lists) => lists.iter().fold(to_even(offset), |sum, list| {
-            sum.saturating_add(2)
-                .saturating_add((list.len() as u64).saturating_mul(2))
-        }),
-    }
 }
 
 /// Returns the number of bytes of a table before its sparse indexes, without the header of the one subtable that is not
@@ -59,9 +44,17 @@ pub(crate) fn count_other_bytes(plan: &Plan, count: usize, with_blocks: usize) -
     let constant = count.saturating_sub(with_blocks) as u64;
     offset = to_even(offset).saturating_add(constant.saturating_mul(2));
     for item in &plan.maps {
-        if let Some(map) = item {
-            offset = after_map(offset, map);
-        }
+        offset = match item {
+            None => offset,
+            Some(Map::Bytes(lists)) => lists.iter().fold(offset, |sum, list| {
+                sum.saturating_add(1).saturating_add(list.len() as u64)
+            }),
+            // padding to an even offset is before the items of two bytes
+            Some(Map::Wide(lists)) => lists.iter().fold(to_even(offset), |sum, list| {
+                sum.saturating_add(2)
+                    .saturating_add((list.len() as u64).saturating_mul(2))
+            }),
+        };
     }
     Some(to_even(offset))
 }

@@ -16,26 +16,8 @@ struct Walk {
     start: u64,
 }
 
-/// Moves on to the block that contains value `index`.
-fn advance(lengths: &[u16], walk: &mut Walk, index: u64)
-    requires there { walk.old.block < length lengths.now }
-    requires at { walk.old.start ≡ start lengths.now walk.old.block }
-    requires from { walk.old.start ≤ index }
-    requires inside { index < start lengths.now (length lengths.now) }
-    ensures there { walk.new.block < length lengths.now }
-    ensures at { walk.new.start ≡ start lengths.now walk.new.block }
-    ensures from { walk.new.start ≤ index }
-    ensures near { index < walk.new.start + 65536 }
-    ensures holds { index < start lengths.now (walk.new.block + 1) }
-{
-    'ahead: while index - walk.start > u64::from(lengths[walk.block]) {
-        walk.start += u64::from(lengths[walk.block]) + 1;
-        walk.block += 1;
-    }
-}
-
-/// Returns the sparse entry that leads to value `index`: the block that contains the value, and the offset in it. If
-/// `index` is `size` or more, the entry points past the last block.
+/// Moves on to the block that contains value `index`. Returns the sparse entry that leads to this value: the block, and
+/// the offset in it. If `index` is `size` or more, the entry points past the last block.
 fn entry_to(lengths: &[u16], walk: &mut Walk, index: u64, size: u64) -> Entry
     requires there { walk.old.block < length lengths.now }
     requires at { walk.old.start ≡ start lengths.now walk.old.block }
@@ -58,7 +40,10 @@ fn entry_to(lengths: &[u16], walk: &mut Walk, index: u64, size: u64) -> Entry
             offset: (index - size) as u16,
         };
     }
-    advance(lengths, walk, index);
+    'ahead: while index - walk.start > u64::from(lengths[walk.block]) {
+        walk.start += u64::from(lengths[walk.block]) + 1;
+        walk.block += 1;
+    }
     Entry {
         block: walk.block as u32,
         offset: (index - walk.start) as u16,

@@ -7,7 +7,10 @@ ghost use Rattle.szg_build.specs.Building.{IsBuiltSub, IsInBounds};
 ghost use Rattle.szg_build.specs.Plan.{different_values, greatest_value};
 ghost use Rattle.szg_build.specs.Rule.{constant_for};
 
-use crate::building::{Choice, build_pairs, build_small_pairs};
+use crate::building::sizing::choose_sizes;
+use crate::building::{Choice, Packing, build_paired};
+use crate::pairing::accepting::count_pairs_in;
+use crate::pairing::rounds::{pair_for_small_table, pair_up};
 use crate::watching::Watcher;
 use std::alloc::{AllocError, Global};
 use szg_block::Sub;
@@ -15,20 +18,6 @@ use szg_values::Kind;
 
 /// The highest bit of a flags byte, set only in a constant subtable.
 pub(crate) const CONSTANT: u8 = 128;
-
-/// Returns whether all values are `one`.
-fn are_all(values: &[u16], one: u16) -> bool
-    ensures same { result ≡ true → values.now ≡ replicate (length values.now) one }
-    ensures some { result ≡ false → 0 < length values.now }
-    ensures tested { result ≡ list_all (λ value. value == one) values.now }
-{
-    for value in values {
-        if *value != one {
-            return false;
-        }
-    }
-    true
-}
 
 /// Returns the byte of the constant subtable for a list; 0 for an empty list. A list makes a constant subtable in WDL
 /// if all its values are equal and below 256, in DTZ if all its values are 0. None for any other list.
@@ -38,22 +27,20 @@ pub(crate) fn constant_byte(kind: Kind, values: &[u16]) -> Option<u8>
     ensures some { IfNone result (0 < length values.now) }
     ensures rule { result ≡ constant_for kind values.now }
 {
-    match kind {
-        Kind::Wdl => {
-            let Some(first) = values.first() else {
-                return Some(0);
-            };
-            if *first < 256 && are_all(values, *first) {
-                Some(*first as u8)
-            } else {
-                None
-            }
-        }
-        Kind::Dtz => if are_all(values, 0) { Some(0) } else { None },
+    let constant = match kind {
+        Kind::Wdl => values.first().copied().unwrap_or(0),
+        Kind::Dtz => 0,
+    };
+    if constant < 256 && values.iter().all(|value| *value == constant) {
+        Some(constant as u8)
+    } else {
+        None
     }
 }
 
-/// Builds the subtable of a list of values, with the plan's flags (0 in WDL). `other_bytes` is as in `choose_sizes`.
+/// Builds the subtable of a list of values, with the plan's flags (0 in WDL). In a small table its pairs are those of
+/// `pair_for_small_table`; its block bits, its span bits and the kind of its code are those of `choose_sizes`, as is
+/// `other_bytes`.
 pub(crate) fn build_sub<V: Watcher>(
     alloc: Global,
     kind: Kind,
@@ -77,7 +64,19 @@ pub(crate) fn build_sub<V: Watcher>(
         });
     }
     match choice {
-        Choice::Fixed(packing) => build_pairs(alloc, values, flags, packing, watcher),
-        Choice::Small => build_small_pairs(alloc, values, flags, other_bytes, watcher),
+        Choice::Fixed(packing) => {
+            let paired = pair_up(alloc, values, packing.rounds, watcher)?;
+            build_paired(alloc, values, flags, paired, packing, false)
+        }
+        Choice::Small => {
+            let paired = pair_for_small_table(alloc, values, other_bytes, watcher)?;
+            let sizes = choose_sizes(alloc, values.len() as u64, &paired, other_bytes)?;
+            let packing = Packing {
+                block_bits: sizes.block_bits,
+                span_bits: sizes.span_bits,
+                rounds: count_pairs_in(&paired.entries) as u32,
+            };
+            build_paired(alloc, values, flags, paired, packing, sizes.is_huffman)
+        }
     }
 }

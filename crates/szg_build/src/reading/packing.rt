@@ -13,7 +13,7 @@ use crate::building::subtables::{CONSTANT, build_sub};
 use crate::building::{Choice, Packing};
 use crate::pairing::leaves::count_different;
 use crate::reading::values::Values;
-use crate::refusing::{MAX_DIFFERENT, MAX_ROUNDS, greatest_of, has_above};
+use crate::refusing::{MAX_DIFFERENT, MAX_ROUNDS, has_above};
 use crate::watching::Watcher;
 use crate::writing::stored::constant_value;
 use std::alloc::{AllocError, Global};
@@ -70,7 +70,7 @@ fn is_buildable(kind: Kind, values: &[u16]) -> bool
     if values.len() as u64 >= TOO_MANY {
         return false;
     }
-    if has_above(values, greatest_of(kind)) {
+    if has_above(kind, values) {
         return false;
     }
     count_different(values) <= MAX_DIFFERENT

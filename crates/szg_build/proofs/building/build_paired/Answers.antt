@@ -8,20 +8,34 @@ use Rattle.szg_block.specs.declared.Entry.{Entry}
 use Rattle.szg_file.specs.Contents.{Head}
 use Rattle.szg_file.specs.Held.{sparse_of}
 use Rattle.szg_build.specs.Building.{IsExtended, IsIndexOf}
+use Rattle.szg_pairs.specs.declared.DictFault.TheVariants.{Child, Cycle, Memory}
+use Rattle.szg_pairs.proofs.Accepting.{accepted_has_no_fault}
 use Rattle.szg_build.proofs.building.build_paired.Goals as goal
 
-pub code_for-requires-clause-some : goal.code_for-requires-clause-some
-code_for-requires-clause-some c =
+pub unreachable-requires : goal.unreachable-requires
+unreachable-requires c =
+    let is : c.in-Err-Child.field-0 ≡ Child c.in-Err-Child.field-0-0 = c.in-Err-Child.field-0-is in
+    let none : c.in-Err-Child.field-0 ≡ Memory = accepted_has_no_fault c.args.paired.entries.items c.requires.pairing.round.dictionary c.in-Err-Child.field-0 c.in-Err-Child.ensures.refused in
+    cc
+
+pub unreachable-requires-in-Err-Cycle : goal.unreachable-requires-in-Err-Cycle
+unreachable-requires-in-Err-Cycle c =
+    let is : c.in-Err-Cycle.field-0 ≡ Cycle c.in-Err-Cycle.field-0-0 = c.in-Err-Cycle.field-0-is in
+    let none : c.in-Err-Cycle.field-0 ≡ Memory = accepted_has_no_fault c.args.paired.entries.items c.requires.pairing.round.dictionary c.in-Err-Cycle.field-0 c.in-Err-Cycle.ensures.refused in
+    cc
+
+pub choose_code-requires-clause-some : goal.choose_code-requires-clause-some
+choose_code-requires-clause-some c =
     let round = c.requires.pairing.round in
     let es : List (List ℕ) = c.args.paired.entries.items in
     let ss : List ℕ = c.args.paired.symbols.items in
     let some : 0 < length es = entries_some es ss round.below (symbols_some es c.args.values.now ss round.same c.requires.some) in
-    omega (arith, some, ap length c.in_ok-dict.ensures)
+    omega (arith, some, ap length c.in-Ok.ensures.accepted.0)
 
 pub fill_blocks-requires-clause-below : goal.fill_blocks-requires-clause-below
 fill_blocks-requires-clause-below c =
-    below_as c.args.paired.entries.items c.in_ok-dict.dict c.args.paired.symbols.items c.deref-2.result.now
-    c.in_ok-dict.ensures c.deref-2.ensures.value
+    below_as c.args.paired.entries.items c.in-Ok.dict c.args.paired.symbols.items c.deref-2.result.now
+    c.in-Ok.ensures.accepted.0 c.deref-2.ensures.value
     c.requires.pairing.round.below
 
 pub fill_blocks-requires-clause-few : goal.fill_blocks-requires-clause-few
@@ -37,12 +51,12 @@ sparse_index-requires-clause-total c =
     let round = c.requires.pairing.round in
     let ss : List ℕ = c.deref-2.result.now in
     let own : c.in_ok-lengths.lengths.items ≡ c.in_ok-lengths.field-0.lengths.items = first_of (rw c.in_ok-lengths.lengths-is, cc, search rules) in
-    let e1 : c.in_ok-dict.dict ≡ c.args.paired.entries.items = c.in_ok-dict.ensures in
+    let e1 : c.in-Ok.dict ≡ c.args.paired.entries.items = c.in-Ok.ensures.accepted.0 in
     let e2 : ss ≡ c.args.paired.symbols.items = c.deref-2.ensures.value in
-    let same : values_of c.in_ok-dict.dict ss ≡ c.args.values.now = ap (λ (z : List (List ℕ)). values_of z ss) e1 ∙ ap (values_of c.args.paired.entries.items) e2 ∙ round.same in
+    let same : values_of c.in-Ok.dict ss ≡ c.args.values.now = ap (λ (z : List (List ℕ)). values_of z ss) e1 ∙ ap (values_of c.args.paired.entries.items) e2 ∙ round.same in
     let lengths : c.deref-3.result.now ≡ c.in_ok-lengths.field-0.lengths.items = first_of (cc (c.deref-3.ensures.value), cc (c.deref-3.ensures.value, own)) in
     subst (λ (z : List ℕ). start z (length z) ≡ length c.args.values.now) (sym lengths)
-    (cut_total c.in_ok-code.code c.in_ok-dict.dict c.args.packing.block_bits c.args.values.now ss (length c.in_ok-lengths.field-0.lengths.items)
+    (cut_total c.in_ok-code.code c.in-Ok.dict c.args.packing.block_bits c.args.values.now ss (length c.in_ok-lengths.field-0.lengths.items)
     c.in_ok-lengths.field-0.lengths.items c.in_ok-lengths.field-0.packed.items c.in_ok-lengths.ensures same)
 
 pub sparse_index-requires-clause-some : goal.sparse_index-requires-clause-some
@@ -53,11 +67,11 @@ returns-clause-index c =
     let round = c.requires.pairing.round in
     let ss : List ℕ = c.deref-2.result.now in
     let own : List ℕ = c.in_ok-lengths.field-0.lengths.items in
-    let e1 : c.in_ok-dict.dict ≡ c.args.paired.entries.items = c.in_ok-dict.ensures in
+    let e1 : c.in-Ok.dict ≡ c.args.paired.entries.items = c.in-Ok.ensures.accepted.0 in
     let e2 : ss ≡ c.args.paired.symbols.items = c.deref-2.ensures.value in
-    let same : values_of c.in_ok-dict.dict ss ≡ c.args.values.now = ap (λ (z : List (List ℕ)). values_of z ss) e1 ∙ ap (values_of c.args.paired.entries.items) e2 ∙ round.same in
+    let same : values_of c.in-Ok.dict ss ≡ c.args.values.now = ap (λ (z : List (List ℕ)). values_of z ss) e1 ∙ ap (values_of c.args.paired.entries.items) e2 ∙ round.same in
     let total : start own (length own) ≡ length c.args.values.now =
-    cut_total c.in_ok-code.code c.in_ok-dict.dict c.args.packing.block_bits c.args.values.now ss (length own) own c.in_ok-lengths.field-0.packed.items c.in_ok-lengths.ensures same in
+    cut_total c.in_ok-code.code c.in-Ok.dict c.args.packing.block_bits c.args.values.now ss (length own) own c.in_ok-lengths.field-0.packed.items c.in_ok-lengths.ensures same in
     let head : Head = record {
       flags = c.args.flags;
       block_bits = c.args.packing.block_bits;
@@ -65,7 +79,7 @@ returns-clause-index c =
       extra = c.in_ok-extra.extra;
       blocks = c.len-blocks.result;
       code = c.in_ok-code.code;
-      entries = c.in_ok-dict.dict;
+      entries = c.in-Ok.dict;
     } in
     let blocks : c.len-blocks.result ≡ length own = first_of (omega (arith, c.len-blocks.ensures, c.deref-3.ensures.len, ap length c.deref-3.ensures.value), omega (arith, c.len-blocks.ensures, c.in_ok-lengths.field-0.lengths.ok), search rules) in
     index_is head (map sparse_of c.in_ok-sparse.sparse.items) own c.push_extra.new.lengths.items (length c.args.values.now)

@@ -1,16 +1,17 @@
-use Rattle.std.proofs.Common.{ℕ, ◌≡◌, ◌+◌, ◌<◌, List, [], ◌∷◌, map, take, get_or, sym, ap, subst, ◌∙◌, arith}
-use Rattle.std.specs.List.{AllByRecursion}
+use Rattle.std.proofs.Common.{ℕ, ◌≡◌, ◌+◌, List, [], ◌∷◌, map, take, get_or, sym, ap, subst, ◌∙◌, arith, rules}
 use Rattle.std.proofs.lemmas.List.{map-append, take_all}
 use Rattle.szg_file.specs.Contents.{Subtable}
 use Rattle.szg_file.specs.Held.{subtable_of}
 use Rattle.szg_build.specs.Shown.{plan_seen}
 use Rattle.szg_build.specs.Tabling.{AreBuilt, IsBuildable}
 use Rattle.szg_build.proofs.Builders.SubLaws.{choice_in_bounds}
-use Rattle.szg_build.proofs.Builders.TableLaws.{built_next, lent_at}
+use Rattle.szg_build.proofs.Builders.TableLaws.{built_next, flag_at, lent_at}
 use Rattle.szg_build.proofs.table.build_subs.Goals as goal
 
-pub flags_at-flags-requires : goal.flags_at-flags-requires
-flags_at-flags-requires g c = subst (λ (z : List ℕ). AllByRecursion (λ byte. byte < 32) z) (sym c.deref.ensures.value) c.requires.range.flags
+pub build_sub-requires-clause-flags : goal.build_sub-requires-clause-flags
+build_sub-requires-clause-flags g c =
+    let flags : c.unwrap_or-flags.result ≡ get_or c.args.plan.now.flags.items c.lists.n 0 = search rules in
+    omega (arith, flags, flag_at c.args.plan.now.flags.items c.lists.n c.requires.range.flags)
 
 pub build_sub-requires-clause-few : goal.build_sub-requires-clause-few
 build_sub-requires-clause-few g c =
@@ -30,10 +31,10 @@ build_sub-requires-clause-choice g c = choice_in_bounds (plan_seen c.args.plan.n
 pub lists-preserved : goal.lists-preserved
 lists-preserved g c =
     let plan = plan_seen c.args.plan.now in
-    let flags : c.flags_at-flags.result ≡ get_or c.args.plan.now.flags.items c.lists.n 0 = c.flags_at-flags.ensures.flags ∙ ap (λ (z : List ℕ). get_or z c.lists.n 0) c.deref.ensures.value in
+    let flags : c.unwrap_or-flags.result ≡ get_or c.args.plan.now.flags.items c.lists.n 0 = search rules in
     subst (λ (z : List Subtable). AreBuilt c.args.choice plan c.args.plan.now.flags.items (map (λ list. list.now) (take (c.lists.n + 1) c.args.lists.now)) z)
     (sym (ap (map subtable_of) c.in_ok-push.ensures.items ∙ map-append subtable_of c.lists.subs.items (c.in_ok-sub.sub ∷ [])))
-    (built_next (λ list. list.now) c.args.choice plan c.args.plan.now.flags.items c.args.lists.now c.lists.n _ (map subtable_of c.lists.subs.items) (subtable_of c.in_ok-sub.sub) c.flags_at-flags.result
+    (built_next (λ list. list.now) c.args.choice plan c.args.plan.now.flags.items c.args.lists.now c.lists.n _ (map subtable_of c.lists.subs.items) (subtable_of c.in_ok-sub.sub) c.unwrap_or-flags.result
     c.lists-test.true c.lists.invariant flags c.in_ok-sub.ensures)
 
 pub returns : goal.returns

@@ -1,6 +1,6 @@
 use Rattle.std.proofs.Common.{◌≡◌, ◌-◌, ◌<◌, ◌≤◌, length}
 use Rattle.szg_block.specs.Block.{start}
-use Rattle.szg_build.proofs.building.sparse.advance.Given as goal
+use Rattle.szg_build.proofs.building.sparse.entry_to.Given as goal
 
 -- the block is there, and starts at the index or before it
 abbrev pub invariant-ahead : goal.invariant-ahead
