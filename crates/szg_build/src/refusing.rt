@@ -35,23 +35,6 @@ pub(crate) fn has_above(kind: Kind, values: &[u16]) -> bool
     values.iter().any(|v| *v > greatest)
 }
 
-/// Returns the index of the first list whose length is not its subtable's size.
-fn wrong_length(sizes: &[u64], lists: &[&[u16]]) -> Option<usize>
-    ensures { result ≡ position (λ pair. not (length pair.1.now == pair.0)) (zip sizes.now lists.now) }
-{
-    sizes
-        .iter()
-        .zip(lists)
-        .position(|(size, list)| list.len() as u64 != *size)
-}
-
-/// Returns the index of the first list with a value that is too great.
-fn wrong_value(kind: Kind, lists: &[&[u16]]) -> Option<usize>
-    ensures { result ≡ position (λ list. list_any (λ v. nat_lt (greatest_value kind) v) list.now) lists.now }
-{
-    lists.iter().position(|list| has_above(kind, list))
-}
-
 /// Returns the index of the first list with more than 4,095 different values.
 fn too_many_values(lists: &[&[u16]]) -> Option<usize>
     requires { All (λ list. AllByRecursion (λ v. v ≤ 4095) list.now) lists.now }
@@ -141,10 +124,14 @@ pub(crate) fn first_fault(plan: &Plan, sizes: &[u64], lists: &[&[u16]]) -> Optio
     if lists.len() != sizes.len() {
         return Some(BuildFault::Count);
     }
-    if let Some(n) = wrong_length(sizes, lists) {
+    if let Some(n) = sizes
+        .iter()
+        .zip(lists)
+        .position(|(size, list)| list.len() as u64 != *size)
+    {
         return Some(BuildFault::Length(n));
     }
-    if let Some(n) = wrong_value(plan.kind, lists) {
+    if let Some(n) = lists.iter().position(|list| has_above(plan.kind, list)) {
         return Some(BuildFault::Value(n));
     }
     if let Some(n) = too_many_values(lists) {

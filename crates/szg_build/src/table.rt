@@ -13,7 +13,7 @@ ghost use Rattle.szg_build.specs.Rule.{byte4_for, constant_for, constant_in, Has
 ghost use Rattle.szg_build.specs.Shown.{plan_seen, small_seen};
 ghost use Rattle.szg_build.specs.Tabling.{AreBuilt, IsBuildable, IsBuiltBare, IsBuiltBy, IsChoiceOf, IsInRange, IsOfBytes, IsOfItems, HasNoFault};
 
-use crate::building::headers::{count_other_bytes, count_with_blocks};
+use crate::building::headers::count_other_bytes;
 use crate::building::subtables::build_sub;
 use crate::building::{Choice, Packing};
 use crate::copies::{copy_maps, copy_parts};
@@ -24,7 +24,7 @@ use std::alloc::{AllocError, Global};
 use szg_block::Sub;
 use szg_file::typed::{bytes_fit, end_bytes, words_fit};
 use szg_file::{Fields, Map, PartBytes, Table, subtable_sizes};
-use szg_values::Material;
+use szg_values::{Kind, Material};
 
 // ---- for proofs alone: what types ensure
 
@@ -90,7 +90,17 @@ fn build_subs<V: Watcher>(
     requires lists { AllByRecursion (IsBuildable plan.now.kind) (map (λ list. list.now) lists.now) }
     ensures { IfOk result (λ subs. AreBuilt choice (plan_seen plan.now) plan.now.flags.items (map (λ list. list.now) lists.now) (map subtable_of subs.items)) }
 {
-    let other_bytes = count_other_bytes(plan, lists.len(), count_with_blocks(plan.kind, lists));
+    let with_blocks = lists
+        .iter()
+        .filter(|list| {
+            let constant = match plan.kind {
+                Kind::Wdl => list.first().copied().unwrap_or(0),
+                Kind::Dtz => 0,
+            };
+            list.iter().any(|value| *value != constant)
+        })
+        .count();
+    let other_bytes = count_other_bytes(plan, lists.len(), with_blocks);
     let mut subs = Vec::new(alloc);
     'lists: for (n, list) in lists.iter().enumerate() {
         watcher.subtable(n + 1, lists.len(), list.len());

@@ -4,29 +4,9 @@
 //! Only the safety of this code is proved: the builder uses the count only to compare its tries.
 use crate::Plan;
 use szg_file::Map;
-use szg_values::Kind;
 
 /// The bytes of the magic and of byte 4.
 const FIRST: u64 = 5;
-
-/// Returns how many lists make a subtable that is not constant.
-pub(crate) fn count_with_blocks(kind: Kind, lists: &[&[u16]]) -> usize {
-    lists
-        .iter()
-        .filter(|list| {
-            let constant = match kind {
-                Kind::Wdl => list.first().copied().unwrap_or(0),
-                Kind::Dtz => 0,
-            };
-            list.iter().any(|value| *value != constant)
-        })
-        .count()
-}
-
-/// Rounds an offset up to an even number.
-fn to_even(offset: u64) -> u64 {
-    offset.saturating_add(offset % 2)
-}
 
 /// Returns the number of bytes of a table before its sparse indexes, without the header of the one subtable that is not
 /// constant. None if more than one is not constant, since the padding then depends on all of them. `with_blocks` of the
@@ -35,6 +15,7 @@ pub(crate) fn count_other_bytes(plan: &Plan, count: usize, with_blocks: usize) -
     if with_blocks > 1 {
         return None;
     }
+    let to_even = |offset: u64| offset.saturating_add(offset % 2);
     let mut offset = FIRST;
     for part in &plan.parts {
         offset = offset
