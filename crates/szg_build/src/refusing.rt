@@ -35,16 +35,6 @@ pub(crate) fn has_above(kind: Kind, values: &[u16]) -> bool
     values.iter().any(|v| *v > greatest)
 }
 
-/// Returns the index of the first list with more than 4,095 different values.
-fn too_many_values(lists: &[&[u16]]) -> Option<usize>
-    requires { All (λ list. AllByRecursion (λ v. v ≤ 4095) list.now) lists.now }
-    ensures { result ≡ position (λ list. nat_lt 4095 (length (different_values list.now))) lists.now }
-{
-    lists
-        .iter()
-        .position(|list| count_different(list) > MAX_DIFFERENT)
-}
-
 /// Returns whether flags require a map.
 pub(crate) fn is_mapped(flags: u8) -> bool
     ensures { result ≡ has_bit 1 flags }
@@ -134,7 +124,10 @@ pub(crate) fn first_fault(plan: &Plan, sizes: &[u64], lists: &[&[u16]]) -> Optio
     if let Some(n) = lists.iter().position(|list| has_above(plan.kind, list)) {
         return Some(BuildFault::Value(n));
     }
-    if let Some(n) = too_many_values(lists) {
+    if let Some(n) = lists
+        .iter()
+        .position(|list| count_different(list) > MAX_DIFFERENT)
+    {
         return Some(BuildFault::TooManyValues(n));
     }
     (!are_maps_valid(plan)).then_some(BuildFault::Map)
