@@ -9,14 +9,11 @@ pub(crate) mod sizing;
 mod sparse;
 pub(crate) mod subtables;
 
-ghost use Rattle.std.specs.Prelude.{ℕ, ◌≡◌, ◌<◌, ◌≤◌, ◌^◌, ◌++◌, false, List, [], length, map, IfOk, OnOk};
-ghost use Rattle.std.specs.List.{AllByRecursion};
-ghost use Rattle.szg_pairs.specs.Dictionary.{IsDictionary};
+ghost use Rattle.std.specs.Prelude.{ℕ, ◌≡◌, ◌<◌, ◌≤◌, ◌^◌, ◌++◌, false, List, length, map, IfOk};
 ghost use Rattle.szg_file.specs.Accepted.{AreNumbers};
 ghost use Rattle.szg_file.specs.Held.{sparse_of, subtable_of};
-ghost use Rattle.szg_build.specs.Building.{IsChosen, IsExtended, IsMadeSmall, IsMadeSub, IsPairing};
-ghost use Rattle.szg_build.specs.Plan.{different_values};
-ghost use Rattle.szg_build.specs.Rule.{HasSpanIndex, HasTruncatedBinary, IsTruncatedBinary};
+ghost use Rattle.szg_build.specs.Building.{IsExtended, IsMadeSub, IsPairing};
+ghost use Rattle.szg_build.specs.Rule.{HasSpanIndex, HasTruncatedBinary};
 
 use crate::building::blocks::{Cut, fill_blocks};
 use crate::building::coding::choose_code;

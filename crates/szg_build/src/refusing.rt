@@ -1,9 +1,9 @@
 //! The checks of a plan and its lists that come after the check of its parts.
-ghost use Rattle.std.specs.Prelude.{◌≡◌, ◌≤◌, ◌==◌, ◌&&◌, ◌^◌, not, nat_lt, nat_le, length, map, option_map, Some};
-ghost use Rattle.std.specs.List.{All, AllByRecursion, list_all, list_any, position, zip};
-ghost use Rattle.szg_file.specs.Contents.{has_bit, part_numbers};
+ghost use Rattle.std.specs.Prelude.{◌≡◌, ◌==◌, ◌&&◌, nat_lt, nat_le, map, option_map, Some};
+ghost use Rattle.std.specs.List.{list_any};
+ghost use Rattle.szg_file.specs.Contents.{has_bit};
 ghost use Rattle.szg_file.specs.Held.{map_of};
-ghost use Rattle.szg_build.specs.Plan.{different_values, fault_for, greatest_value, has_maps, is_map_of};
+ghost use Rattle.szg_build.specs.Plan.{fault_for, greatest_value, has_maps, is_map_of};
 ghost use Rattle.szg_build.specs.Shown.{plan_seen};
 
 use crate::pairing::leaves::count_different;

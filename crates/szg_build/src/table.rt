@@ -1,8 +1,8 @@
 //! Builds a table from a plan and lists of values.
-ghost use Rattle.std.specs.Prelude.{◌≡◌, ◌<◌, ℕ, List, not, length, map, option_map, slice_index, Err, IfOk, IfErr, MatchOption};
+ghost use Rattle.std.specs.Prelude.{◌≡◌, ℕ, List, not, map, option_map, Err, IfOk, IfErr, MatchOption};
 ghost use Rattle.std.specs.List.{AllByRecursion};
 ghost use Rattle.szg_values.specs.Material.{has_pawns, is_symmetric};
-ghost use Rattle.szg_file.specs.Accepted.{AreNumbers, AreBytes, IsAccepted};
+ghost use Rattle.szg_file.specs.Accepted.{AreBytes, IsAccepted};
 ghost use Rattle.szg_file.specs.Assembled.{fields_shown};
 ghost use Rattle.szg_file.specs.Contents.{has_bit};
 ghost use Rattle.szg_file.specs.FileOf.{fill_asked};
@@ -11,7 +11,7 @@ ghost use Rattle.szg_build.specs.Built.{IsBuilt, IsBuiltSmall, subtables_in};
 ghost use Rattle.szg_build.specs.Plan.{build_fault};
 ghost use Rattle.szg_build.specs.Rule.{byte4_for, constant_for, constant_in, HasSpanIndex, HasTruncatedBinary};
 ghost use Rattle.szg_build.specs.Shown.{plan_seen, small_seen};
-ghost use Rattle.szg_build.specs.Tabling.{AreBuilt, IsBuildable, IsBuiltBare, IsBuiltBy, IsChoiceOf, IsInRange, IsOfBytes, IsOfItems, HasNoFault};
+ghost use Rattle.szg_build.specs.Tabling.{AreBuilt, IsBuildable, IsBuiltBy, IsChoiceOf, IsInRange, IsOfBytes, IsOfItems, HasNoFault};
 
 use crate::building::headers::count_other_bytes;
 use crate::building::subtables::build_sub;

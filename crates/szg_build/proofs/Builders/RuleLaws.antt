@@ -1,32 +1,20 @@
 -- A subtable as the builder makes it follows the builder's rule.
-use Rattle.std.proofs.Common.{ℕ, zero, suc, ◌≡◌, ◌+◌, ◌-◌, ◌*◌, ◌^◌, ◌<◌, ◌≤◌, Bool, List, [], ◌∷◌, ◌++◌, length, map, drop, Option, Some, None, refl, sym, ap, ◌∙◌, arith, inl, inr, append-nil}
-use Rattle.std.specs.Prelude.{option_map, if◌then◌else◌}
+use Rattle.std.proofs.Common.{ℕ, zero, suc, ◌≡◌, ◌+◌, ◌-◌, ◌*◌, ◌^◌, ◌<◌, ◌≤◌, Bool, List, [], ◌∷◌, length, drop, Some, refl, sym, ap, ◌∙◌, arith, inl, inr}
+use Rattle.std.specs.Prelude.{if◌then◌else◌}
 use Rattle.std.specs.List.{slice_get}
 use Rattle.std.proofs.Math.Nat.{le-div_iff_mul-le}
 use Rattle.std.proofs.Math.Seq.{drop-append_seam}
 use Rattle.std.proofs.lemmas.Nat.{pow_pos}
 use Rattle.std.proofs.lemmas.Bool.{cases_lt, lt-ltb, le-ltb}
-use Rattle.std.proofs.lemmas.List.{length-map}
-use Rattle.std.proofs.lemmas.Option.{slice_get-map}
 use Rattle.szg_block.specs.Layout.{SparseEntry}
 use Rattle.szg_block.specs.Block.{start}
 use Rattle.szg_block.specs.Sound.{entry_count, middle_of_span}
-use Rattle.szg_block.specs.declared.Entry.{Entry}
 use Rattle.szg_file.specs.Contents.{Head, layout_of}
-use Rattle.szg_file.specs.Held.{sparse_of}
 use Rattle.szg_build.specs.Building.{IsIndexOf, IsExtended, extras_for}
 use Rattle.szg_build.specs.Rule.{IsSpanIndex, extra_lengths}
 use Rattle.szg_build.proofs.Builders.Entries.{start-front}
 
 -- ---- extra lengths
-
--- the last entry of a sparse index, as the code holds it
-pub extended_as : (sparse : List Entry) (lengths after : List ℕ) (extra : ℕ) (last : Option SparseEntry) → option_map sparse_of (slice_get sparse (length sparse - 1)) ≡ last →
-    extra ≡ length (extras_for (length lengths) last) → after ≡ lengths ++ extras_for (length lengths) last → IsExtended (map sparse_of sparse) lengths after extra
-extended_as sparse lengths after extra last is count joined =
-    let e : slice_get (map sparse_of sparse) (length (map sparse_of sparse) - 1) ≡ last =
-    ap (λ (k : ℕ). slice_get (map sparse_of sparse) (k - 1)) (length-map sparse sparse_of) ∙ slice_get-map sparse_of sparse (length sparse - 1) ∙ is in
-    (count ∙ ap (λ (o : Option SparseEntry). length (extras_for (length lengths) o)) (sym e), joined ∙ ap (λ (o : Option SparseEntry). lengths ++ extras_for (length lengths) o) (sym e))
 
 -- there are no extra lengths if the last entry leads to a block, or if there is no entry
 pub extras_inside : (blocks : ℕ) (entry : SparseEntry) → entry.block < blocks → extras_for blocks (Some entry) ≡ []
@@ -34,20 +22,6 @@ extras_inside blocks entry lt = ap (λ (b : Bool). if b then [] else 65535 ∷ [
 
 pub extras_beyond : (blocks : ℕ) (entry : SparseEntry) → blocks ≤ entry.block → extras_for blocks (Some entry) ≡ 65535 ∷ []
 extras_beyond blocks entry le = ap (λ (b : Bool). if b then [] else 65535 ∷ []) (le-ltb entry.block blocks le)
-
-pub extended_none : (sparse : List Entry) (lengths : List ℕ) → slice_get sparse (length sparse - 1) ≡ None → IsExtended (map sparse_of sparse) lengths lengths 0
-extended_none sparse lengths none = extended_as sparse lengths lengths 0 None (ap (option_map sparse_of) none) refl (sym (append-nil lengths))
-
-pub extended_same : (sparse : List Entry) (lengths : List ℕ) (entry : Entry) → slice_get sparse (length sparse - 1) ≡ Some entry → entry.block < length lengths → IsExtended (map sparse_of sparse) lengths lengths 0
-extended_same sparse lengths entry last lt =
-    let no : extras_for (length lengths) (Some (sparse_of entry)) ≡ [] = extras_inside (length lengths) (sparse_of entry) lt in
-    extended_as sparse lengths lengths 0 (Some (sparse_of entry)) (ap (option_map sparse_of) last) (ap length (sym no)) (sym (append-nil lengths) ∙ ap (λ (z : List ℕ). lengths ++ z) (sym no))
-
-pub extended_one : (sparse : List Entry) (lengths after : List ℕ) (entry : Entry) → slice_get sparse (length sparse - 1) ≡ Some entry → length lengths ≤ entry.block → after ≡ lengths ++ 65535 ∷ [] →
-    IsExtended (map sparse_of sparse) lengths after 1
-extended_one sparse lengths after entry last le more =
-    let one : extras_for (length lengths) (Some (sparse_of entry)) ≡ 65535 ∷ [] = extras_beyond (length lengths) (sparse_of entry) le in
-    extended_as sparse lengths after 1 (Some (sparse_of entry)) (ap (option_map sparse_of) last) (ap length (sym one)) (more ∙ ap (λ (z : List ℕ). lengths ++ z) (sym one))
 
 -- a subtable that has a value has a span
 span_some : (span_bits size : ℕ) → 0 < size → 0 < entry_count span_bits size

@@ -1,7 +1,7 @@
 -- Subtables of lists of values: constant ones, and those made with pairs.
-use Rattle.std.proofs.Common.{ℕ, zero, suc, ◌≡◌, ◌<◌, ◌≤◌, arith, Bool, true, false, List, [], ◌∷◌, length, get_or, replicate, Option, Some, None, Result, Ok, Err, refl, sym, ap, subst, ◌∙◌}
+use Rattle.std.proofs.Common.{ℕ, zero, suc, ◌≡◌, ◌<◌, ◌≤◌, arith, Bool, true, List, [], ◌∷◌, length, get_or, replicate, Option, Some, None, Result, Ok, Err, refl, sym, ap, subst, ◌∙◌}
 use Rattle.std.specs.Prelude.{◌==◌, ◌&&◌, IfOk, if◌then◌else◌}
-use Rattle.std.specs.List.{AllByRecursion, list_all}
+use Rattle.std.specs.List.{list_all}
 use Rattle.std.proofs.lemmas.Bool.{eq-eqb}
 use Rattle.szg_values.specs.declared.Kind.TheVariants.{Wdl, Dtz}
 use Rattle.szg_values.specs.declared.Kind.{Kind}
@@ -10,7 +10,7 @@ use Rattle.szg_file.specs.Accepted.{IsPacked}
 use Rattle.szg_build.specs.declared.building.Packing.{Packing}
 use Rattle.szg_build.specs.declared.building.Choice.{Choice}
 use Rattle.szg_build.specs.declared.building.Choice.TheVariants.{Fixed, Small}
-use Rattle.szg_build.specs.Plan.{Plan, greatest_value}
+use Rattle.szg_build.specs.Plan.{Plan}
 use Rattle.szg_build.specs.Rule.{constant_for, HasSpanIndex, HasTruncatedBinary}
 use Rattle.szg_build.specs.Tabling.{IsInRange, IsChoiceOf}
 use Rattle.szg_build.specs.Building.{IsMadeSub, IsMadeSmall, IsBuiltSub, IsInBounds}

@@ -1,16 +1,12 @@
 //! Fills blocks with the words of symbols. Words are added to a block while their bits fit and their symbols have at
 //! most 65,536 values in total.
-ghost use Rattle.std.specs.Prelude.{ℕ, ◌≡◌, ◌+◌, ◌-◌, ◌*◌, ◌<◌, ◌≤◌, ◌^◌, ◌↔◌, ◌⊎◌, Bool, List, [], ◌∷◌, ◌++◌, length, replicate, IfOk, OnOk, IsTrue};
+ghost use Rattle.std.specs.Prelude.{ℕ, ◌≡◌, ◌+◌, ◌-◌, ◌*◌, ◌<◌, ◌≤◌, ◌^◌, List, [], ◌∷◌, ◌++◌, length, IfOk, OnOk};
 ghost use Rattle.std.specs.List.{AllByRecursion};
-ghost use Rattle.szg_code.specs.Acceptance.{IsCode};
-ghost use Rattle.szg_code.specs.Bits.{bits_of_number};
-ghost use Rattle.szg_code.specs.Canonical.{IsWord};
-ghost use Rattle.szg_pairs.specs.Expansion.{expansion_of};
 ghost use Rattle.szg_build.specs.Building.{IsBlockOf, IsChosen, IsCut, IsFilling};
 
 use crate::building::bitbuf::WordBits;
 use std::alloc::{AllocError, Global};
-use szg_code::{Code, Word, word};
+use szg_code::{Code, word};
 use szg_file::typed::{bytes_fit, words_fit};
 use szg_pairs::Dict;
 

@@ -1,10 +1,10 @@
 //! The sparse index: for each span that has a value, the block that contains the middle of the span, and the offset
 //! in it.
-ghost use Rattle.std.specs.Prelude.{ℕ, ◌≡◌, ◌+◌, ◌<◌, ◌≤◌, ◌^◌, length, map, IfOk};
+ghost use Rattle.std.specs.Prelude.{◌≡◌, ◌+◌, ◌<◌, ◌≤◌, ◌^◌, length, map, IfOk};
 ghost use Rattle.szg_block.specs.Block.{start};
-ghost use Rattle.szg_block.specs.Sound.{entry_count, middle_of_span};
+ghost use Rattle.szg_block.specs.Sound.{entry_count};
 ghost use Rattle.szg_file.specs.Held.{sparse_of};
-ghost use Rattle.szg_build.specs.Building.{IsEntryOf, IsIndexOf};
+ghost use Rattle.szg_build.specs.Building.{IsIndexOf};
 
 use std::alloc::{AllocError, Global};
 use szg_block::Entry;

@@ -1,6 +1,6 @@
 //! Builds a subtable from its values: a constant one, or one with blocks.
-ghost use Rattle.std.specs.Prelude.{◌≡◌, ◌==◌, ◌<◌, ◌≤◌, ◌^◌, length, replicate, false, true, IfNone, IfOk, IfSome};
-ghost use Rattle.std.specs.List.{AllByRecursion, list_all};
+ghost use Rattle.std.specs.Prelude.{◌≡◌, ◌==◌, ◌<◌, ◌≤◌, ◌^◌, length, replicate, false, IfNone, IfOk, IfSome};
+ghost use Rattle.std.specs.List.{AllByRecursion};
 ghost use Rattle.szg_file.specs.Held.{subtable_of};
 ghost use Rattle.szg_file.specs.Values.{constant_value};
 ghost use Rattle.szg_build.specs.Building.{IsBuiltSub, IsInBounds};

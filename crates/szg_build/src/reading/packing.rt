@@ -1,5 +1,5 @@
 //! Packs a subtable of a dump as soon as its values are read.
-ghost use Rattle.std.specs.Prelude.{◌≡◌, ◌<◌, ◌≤◌, ◌^◌, length, replicate, true, Some, IfOk, IfSome};
+ghost use Rattle.std.specs.Prelude.{◌≡◌, ◌<◌, ◌≤◌, replicate, true, Some, IfOk, IfSome};
 ghost use Rattle.szg_values.specs.declared.Kind.TheVariants.{Wdl};
 ghost use Rattle.szg_file.specs.Lookup.{byte_of};
 ghost use Rattle.szg_file.specs.Values.{constant_value as value_of_byte};

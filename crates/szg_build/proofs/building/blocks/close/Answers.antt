@@ -1,4 +1,4 @@
-use Rattle.std.proofs.Common.{ℕ, ◌-◌, ◌++◌, ◌≤◌, ◌^◌, false, length, replicate, arith, ap, ◌∙◌}
+use Rattle.std.proofs.Common.{ℕ, ◌-◌, ◌++◌, ◌≤◌, ◌^◌, false, length, replicate, arith}
 use Rattle.szg_block.proofs.Powers.{shifted_one}
 use Rattle.szg_build.proofs.Builders.BlockSteps.{padded_block, resized}
 use Rattle.szg_build.proofs.Builders.WordBits.{block_holds}

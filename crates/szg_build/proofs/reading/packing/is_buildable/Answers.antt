@@ -1,4 +1,4 @@
-use Rattle.std.proofs.Common.{sym, ◌∙◌, arith}
+use Rattle.std.proofs.Common.{sym, arith}
 use Rattle.std.proofs.lemmas.Bool.{leb-true}
 use Rattle.szg_build.specs.Plan.{greatest_value}
 use Rattle.szg_build.proofs.Builders.RefusalLaws.{below_4095, none_above}
