@@ -26,8 +26,8 @@ extern "C" {
 /* The version of this header. A library with the same major number serves a program compiled with it. */
 #define SZG_VERSION_MAJOR 1
 #define SZG_VERSION_MINOR 2
-#define SZG_VERSION_PATCH 2
-#define SZG_VERSION "1.2.2"
+#define SZG_VERSION_PATCH 3
+#define SZG_VERSION "1.2.3"
 
 enum szg_status {
     SZG_DONE = 0,    /* the call was carried out */

@@ -51,11 +51,6 @@ pub record AreMarks (values : List ℕ) (marks : List Bool) : Type 0 where
   pub count : length marks ≡ 4096
   pub each : (value : ℕ) → value < 4096 → slice_index_or marks value false ≡ list_any (λ v. v == value) values
 
--- for each value up to 4,095, the number of its symbol: how many different smaller values the list has
-pub record AreNumbered (values numbers : List ℕ) : Type 0 where
-  pub count : length numbers ≡ 4096
-  pub each : (value : ℕ) → value < 4096 → slice_index numbers value ≡ length (values_below value values)
-
 -- the leaves of the values below a bound
 abbrev pub leaves_below : ℕ → List ℕ → List (List ℕ)
 leaves_below bound values = map (λ value. entry_of value 4095) (values_below bound values)
