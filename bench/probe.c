@@ -1,5 +1,5 @@
 /* Times whole probes, from a placement to its class or number, by the C library and by Fathom, on the same files and the
- * same random placements: probe FOLDER NAME. Neither side looks at captures or moves. Without Fathom (FATHOM is not
+ * same random placements: probe FOLDER NAME [PLAN]. Neither side looks at captures or moves. Without Fathom (FATHOM is not
  * defined) the C library is timed alone. Each line has the least processor time of several rounds. */
 #include "szg.h"
 #ifdef FATHOM
@@ -182,7 +182,7 @@ static double least(int64_t (*sum)(bool), bool dtz, double best)
     return time < best ? time : best;
 }
 
-static void time_kind(const char *name, bool dtz)
+static void time_kind(const char *name, const char *plan, bool dtz)
 {
     double szg = 1e9, front = 1e9;
     const char *kind = dtz ? "dtz" : "wdl";
@@ -197,7 +197,7 @@ static void time_kind(const char *name, bool dtz)
         szg = least(sum_by_szg, dtz, szg);
         front = least(sum_by_front, dtz, front);
     }
-    printf("%s %s: szg_probe %.1f ns a probe, szg_front_probe %.1f ns", name, kind, szg, front);
+    printf("%s%s %s: szg_probe %.1f ns a probe, szg_front_probe %.1f ns", name, plan, kind, szg, front);
 #ifdef FATHOM
     printf(", Fathom %.1f ns, ratios %.2f and %.2f", fathom, szg / fathom, front / fathom);
 #endif
@@ -206,8 +206,9 @@ static void time_kind(const char *name, bool dtz)
 
 int main(int count, char **words)
 {
-    if (count != 3)
-        return fprintf(stderr, "probe FOLDER NAME\n"), 2;
+    if (count != 3 && count != 4)
+        return fprintf(stderr, "probe FOLDER NAME [PLAN]\n"), 2;
+    const char *plan = count == 4 ? words[3] : "";
 #ifdef FATHOM
     if (!tb_init(words[1]))
         fail("Fathom reads no tables there");
@@ -215,8 +216,8 @@ int main(int count, char **words)
     open_table(words[1], words[2], false, &wdl_table);
     open_table(words[1], words[2], true, &dtz_table);
     draw_placements(words[2]);
-    time_kind(words[2], false);
-    time_kind(words[2], true);
+    time_kind(words[2], plan, false);
+    time_kind(words[2], plan, true);
     for (int dtz = 0; dtz < 2; dtz++) {
         struct opened *t = dtz ? &dtz_table : &wdl_table;
         szg_close(&t->table);
