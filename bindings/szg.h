@@ -13,7 +13,8 @@
  * points to as many items as the length after it says, and is not NULL even if that is 0; no length is 2^63 bytes or more;
  * while a call runs, nobody else reads or writes what it writes, or writes what it reads; malloc, realloc and free of the
  * program are one allocator, which aligns as C requires; no call is made from a signal handler, or from the forked child of
- * a process with threads. The library calls nothing back, prints nothing and locks nothing. */
+ * a process with threads. The library calls nothing back, prints nothing and locks nothing. On Linux, blocks of 4 MB and more
+ * are mappings of its own, with huge pages where the kernel has some. */
 #ifndef SZG_H
 #define SZG_H
 #include <stdbool.h>
@@ -26,8 +27,8 @@ extern "C" {
 /* The version of this header. A library with the same major number serves a program compiled with it. */
 #define SZG_VERSION_MAJOR 1
 #define SZG_VERSION_MINOR 2
-#define SZG_VERSION_PATCH 3
-#define SZG_VERSION "1.2.3"
+#define SZG_VERSION_PATCH 4
+#define SZG_VERSION "1.2.4"
 
 enum szg_status {
     SZG_DONE = 0,    /* the call was carried out */

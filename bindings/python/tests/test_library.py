@@ -92,17 +92,17 @@ def test_a_text_longer_than_the_buffer_is_whole() -> None:
 
 def test_the_version_is_the_librarys(monkeypatch: pytest.MonkeyPatch) -> None:
     assert szg.version == szg.__version__ == _library._text(_library.library.szg_version)
-    for fine in ("1.2.3", "1.2.7"):
+    for fine in ("1.2.4", "1.2.7"):
         assert _library.require_version(fine) == fine
     for other in ("1.0.0", "1.3.0", "2.0.0", "1.10.0", ""):
-        with pytest.raises(ImportError, match=f"has the version {other}, and szg 1.2.3 needs its own$"):
+        with pytest.raises(ImportError, match=f"has the version {other}, and szg 1.2.4 needs its own$"):
             _library.require_version(other)
 
 
 def test_a_library_that_lacks_a_call_is_an_import_error(monkeypatch: pytest.MonkeyPatch) -> None:
     # the system's C library has none of the calls
     monkeypatch.setenv("SZG_LIBRARY", "libc.so.6")
-    with pytest.raises(ImportError, match="^libc.so.6 has no szg_version: szg 1.2.3 needs another library$"):
+    with pytest.raises(ImportError, match="^libc.so.6 has no szg_version: szg 1.2.4 needs another library$"):
         _library._load()
 
 

@@ -11,6 +11,8 @@ mod build;
 #[cfg(test)]
 mod code;
 #[cfg(test)]
+mod commands;
+#[cfg(test)]
 mod costs;
 #[cfg(test)]
 mod count;

@@ -1,9 +1,6 @@
 //! The program `szg`: checks, shows, copies, dumps and builds Syzygy table files, and looks values and placements up in them.
 #![tactic(auto)]
 
-#[cfg(test)]
-mod tests;
-
 use std::io::{self, IsTerminal};
 use std::process::ExitCode;
 use szg_commands::{ProgressLine, no_words_status, run_given, words_given};

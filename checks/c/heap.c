@@ -1,0 +1,241 @@
+/* The heap of the C library (bindings/heap.c): blocks that are made, resized and freed at random, with refusals and with blocks
+ * of malloc's at multiples of 2 MB. Linked with malloc, free, mmap, munmap, mremap and madvise wrapped, so that it also sees how
+ * many bytes are mapped, and whether all are returned. The status is 0 if all is as expected. */
+#define _GNU_SOURCE
+#include <errno.h>
+#include <stdbool.h>
+#include <stdint.h>
+#include <stdio.h>
+#include <stdlib.h>
+#include <string.h>
+#include <sys/mman.h>
+
+enum { BLOCKS = 24, STEPS = 6000, MB = 1 << 20 };
+struct tried {
+    bool ok;
+    void *block;
+};
+struct tried rattle_alloc(size_t size, size_t align);
+struct tried rattle_realloc(void *block, size_t kept, size_t size, size_t align);
+void rattle_dealloc(void *block);
+
+void *__real_malloc(size_t size);
+void __real_free(void *block);
+void *__real_mmap(void *at, size_t length, int protection, int flags, int file, off_t offset);
+int __real_munmap(void *at, size_t length);
+void *__real_mremap(void *old, size_t length, size_t size, int flags, void *at);
+int __real_madvise(void *at, size_t length, int advice);
+
+static int64_t plain, mapped, until_refusal = INT64_MAX, at_boundary;
+static size_t last_mapped;
+static void *advised_at;
+static size_t advised;
+
+static void expect(bool is_so, const char *what)
+{
+    if (!is_so) {
+        fprintf(stderr, "heap: %s\n", what);
+        exit(1);
+    }
+}
+
+static bool refuses(void)
+{
+    return until_refusal-- == 0;
+}
+
+/* Every third block of less than 64 KB is at a multiple of 2 MB. */
+void *__wrap_malloc(size_t size)
+{
+    static int count;
+    expect(size != 0, "no byte was requested, for which malloc may return NULL");
+    if (refuses())
+        return NULL;
+    bool is_at = size < 65536 && ++count % 3 == 0;
+    void *block = is_at ? aligned_alloc(2 * MB, (size + 2 * MB - 1) / (2 * MB) * (2 * MB)) : __real_malloc(size);
+    at_boundary += is_at && block != NULL;
+    plain += block != NULL;
+    return block;
+}
+
+void __wrap_free(void *block)
+{
+    plain -= block != NULL;
+    __real_free(block);
+}
+
+/* Every second mapping begins 37 pages later than the kernel has it. */
+void *__wrap_mmap(void *at, size_t length, int protection, int flags, int file, off_t offset)
+{
+    expect(at == NULL && protection == (PROT_READ | PROT_WRITE) && flags == (MAP_PRIVATE | MAP_ANONYMOUS) && file == -1 && offset == 0, "another mapping is requested");
+    static int count;
+    size_t shift = ++count % 2 ? 37 * 4096 : 0;
+    last_mapped = length;
+    char *start = refuses() ? MAP_FAILED : __real_mmap(at, length + shift, protection, flags, file, offset);
+    if (start == MAP_FAILED)
+        return MAP_FAILED;
+    mapped += (int64_t)length;
+    __real_munmap(start, shift);
+    return start + shift;
+}
+
+int __wrap_munmap(void *at, size_t length)
+{
+    unsigned char resident;
+    expect((uintptr_t)at % 4096 == 0 && length % 4096 == 0 && mincore(at, 4096, &resident) == 0, "what is unmapped was not mapped");
+    mapped -= (int64_t)length;
+    return __real_munmap(at, length);
+}
+
+/* A refused call has unmapped the target, as the kernel may do. Another call replaces it, and unmaps the old place. */
+void *__wrap_mremap(void *old, size_t length, size_t size, int flags, void *at)
+{
+    expect(flags == (MREMAP_MAYMOVE | MREMAP_FIXED) && length < size, "another remapping is requested");
+    if (refuses()) {
+        expect(__wrap_munmap(at, size) == 0, "the target was not mapped");
+        return MAP_FAILED;
+    }
+    void *moved = __real_mremap(old, length, size, flags, at);
+    mapped -= moved != MAP_FAILED ? (int64_t)length : 0;
+    return moved;
+}
+
+/* Every second advice is given to the kernel. */
+int __wrap_madvise(void *at, size_t length, int advice)
+{
+    static int count;
+    advised_at = at;
+    advised = advice == MADV_HUGEPAGE ? length : 0;
+    if (++count % 2 == 0)
+        return __real_madvise(at, length, advice);
+    errno = ENOMEM;
+    return -1;
+}
+
+static uint32_t draw(void)
+{
+    static uint64_t state = 1;
+    state = state * 6364136223846793005u + 1442695040888963407u;
+    return (uint32_t)(state >> 33);
+}
+
+/* Half of the sizes are below 100 bytes, others below 3 MB, near 4 MB, or below 20 MB. */
+static size_t draw_size(void)
+{
+    uint32_t kind = draw() % 8;
+    return kind < 4 ? draw() % 100 : kind < 6 ? draw() % (3 * MB) : kind == 6 ? 4 * MB - 2 + draw() % 5 : draw() % (20 * MB);
+}
+
+static uint8_t byte_of(uint32_t seed, size_t at) { return (uint8_t)(seed + at * 7 + (at >> 12) * 13); }
+
+/* Some bytes of a block: the first and the last ones, and every 509th. */
+#define EACH_BYTE(at, size) for (size_t at = 0; at < (size); at += at < 40 || at + 40 > (size) ? 1 : 509)
+
+static void fill(uint8_t *block, size_t size, uint32_t seed)
+{
+    EACH_BYTE(at, size) block[at] = byte_of(seed, at);
+}
+
+/* The first `kept` bytes of a block that was filled with `size` bytes. */
+static void expect_bytes(const uint8_t *block, size_t kept, size_t size, uint32_t seed)
+{
+    EACH_BYTE(at, size) if (at < kept) expect(block[at] == byte_of(seed, at), "a byte was lost");
+}
+
+static void expect_place(const struct tried *got, size_t size)
+{
+    uintptr_t at = (uintptr_t)got->block;
+    expect(got->ok && at % 16 == 0, "a block is not aligned");
+    expect(at % (2 * MB) == 0 || size < 4 * MB, "a large block is not at a multiple of 2 MB");
+}
+
+static size_t length_of(size_t size) { return (size + 2 * MB - 1) / (2 * MB) * (2 * MB); }
+
+struct held {
+    uint8_t *block;
+    size_t size;
+    uint32_t seed;
+};
+static struct held held[BLOCKS];
+
+/* Blocks at multiples of 2 MB are mapped up to the next such multiple, with a page before each, and nothing else is. */
+static void expect_mapped(void)
+{
+    int64_t due = 0;
+    for (int i = 0; i < BLOCKS; i++)
+        if (held[i].block != NULL && (uintptr_t)held[i].block % (2 * MB) == 0)
+            due += (int64_t)length_of(held[i].size != 0 ? held[i].size : 1) + 4096;
+    expect(mapped == due, "more or fewer bytes are mapped than the blocks need");
+}
+
+/* Sizes that no machine has: their mappings are as long as they must be, and refused. */
+static void try_huge_sizes(void)
+{
+    const size_t sizes[] = {(size_t)5 << 30, ((size_t)1 << 46) + 1, ((size_t)1 << 63) - 1};
+    for (size_t i = 0; i < sizeof sizes / sizeof *sizes; i++) {
+        until_refusal = 0;
+        struct tried got = rattle_alloc(sizes[i], 16);
+        until_refusal = INT64_MAX;
+        expect(!got.ok && got.block != NULL && last_mapped >= sizes[i], "too short a mapping for a huge block");
+    }
+}
+
+static void resize(struct held *h, bool may_be_refused)
+{
+    size_t size = draw_size(), kept = draw() % 4 ? h->size : h->size / 2;
+    if (kept > size)
+        kept = size;
+    until_refusal = may_be_refused ? draw() % 3 : INT64_MAX;
+    struct tried got = rattle_realloc(h->block, kept, size, 16);
+    until_refusal = INT64_MAX;
+    if (!got.ok) {
+        expect(may_be_refused && got.block != NULL, "a refusal without a cause, or with NULL");
+        expect_bytes(h->block, h->size, h->size, h->seed);
+        return;
+    }
+    expect_place(&got, size);
+    expect_bytes(got.block, kept, h->size, h->seed);
+    *h = (struct held){got.block, size, draw()};
+    fill(h->block, h->size, h->seed);
+}
+
+static void step(struct held *h, bool may_be_refused)
+{
+    if (h->block == NULL) {
+        size_t size = draw_size();
+        until_refusal = may_be_refused ? draw() % 2 : INT64_MAX;
+        struct tried got = rattle_alloc(size, 16);
+        until_refusal = INT64_MAX;
+        if (!got.ok) {
+            expect(may_be_refused && got.block != NULL, "a refusal without a cause, or with NULL");
+            return;
+        }
+        expect_place(&got, size);
+        expect(size < 4 * MB || (advised_at == got.block && advised == length_of(size)), "no huge pages are requested for a large block");
+        *h = (struct held){got.block, size, draw()};
+        fill(h->block, h->size, h->seed);
+    } else if (draw() % 3) {
+        resize(h, may_be_refused);
+    } else {
+        expect_bytes(h->block, h->size, h->size, h->seed);
+        rattle_dealloc(h->block);
+        h->block = NULL;
+    }
+}
+
+int main(void)
+{
+    for (int i = 0; i < STEPS; i++) {
+        step(&held[draw() % BLOCKS], draw() % 4 == 0);
+        expect_mapped();
+    }
+    try_huge_sizes();
+    for (int i = 0; i < BLOCKS; i++)
+        if (held[i].block != NULL) {
+            expect_bytes(held[i].block, held[i].size, held[i].size, held[i].seed);
+            rattle_dealloc(held[i].block);
+        }
+    expect(at_boundary > 100, "malloc returned few blocks at multiples of 2 MB");
+    expect(plain == 0 && mapped == 0, "memory was not returned");
+    return 0;
+}
