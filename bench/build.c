@@ -6,13 +6,8 @@
  * build KIND SIZE              writes a list of SIZE values of the kind, each in two bytes
  * build LIST SIZE ROUNDS       builds a table of the list of SIZE values in the file LIST; prints the seconds, the peak
  *                              of memory in MB, and the bytes of the table's file */
-#include <inttypes.h>
-#include <stdint.h>
-#include <stdio.h>
-#include <stdlib.h>
-#include <string.h>
+#include "bench.h"
 #include <sys/resource.h>
-#include <time.h>
 
 enum { BUILT = 0, WANT_OF_MEMORY = 2 };
 
@@ -85,13 +80,6 @@ static const struct kind KINDS[] = {
     {"uniform", fill_uniform},
     {"nearly constant", fill_nearly_constant},
 };
-
-static double now(void)
-{
-    struct timespec t;
-    clock_gettime(CLOCK_PROCESS_CPUTIME_ID, &t);
-    return t.tv_sec + 1e-9 * t.tv_nsec;
-}
 
 /* builds one table; stops the program where it isn't built */
 static uint64_t build(const struct form *form, const uint16_t *values, uint32_t rounds)

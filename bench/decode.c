@@ -1,11 +1,6 @@
 /* Decodes one large block of words by szg_code's `next` and by a plain C decoder of the same form (that of
  * de Man's probing code), and prints the ratio of their times. */
-#include <inttypes.h>
-#include <stdint.h>
-#include <stdio.h>
-#include <stdlib.h>
-#include <string.h>
-#include <time.h>
+#include "bench.h"
 
 enum { MIN = 2, MAX = 12, LENGTHS = MAX - MIN + 1, ROUNDS = 15, PAD = 16 };
 
@@ -67,13 +62,6 @@ static uint64_t plain_decode(const uint8_t *bytes, size_t len, uint64_t *mixed)
     }
     *mixed = mix;
     return count;
-}
-
-static double now(void)
-{
-    struct timespec t;
-    clock_gettime(CLOCK_PROCESS_CPUTIME_ID, &t);
-    return t.tv_sec + 1e-9 * t.tv_nsec;
 }
 
 int main(int argc, char **argv)

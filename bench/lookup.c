@@ -2,15 +2,9 @@
  * plain C of the form of de Man's probing code, and prints the ratios of times; then looks the same values up by the
  * calls of the C library: lookup TABLE SIZE LIBRARY. With a fourth word it prints only what a look-up that verifies its
  * block costs beside one that doesn't. */
+#include "bench.h"
 #include "../bindings/szg.h"
 #include <dlfcn.h>
-#include <inttypes.h>
-#include <stdbool.h>
-#include <stdint.h>
-#include <stdio.h>
-#include <stdlib.h>
-#include <string.h>
-#include <time.h>
 
 enum { LOOK_UPS = 1 << 20, ROUNDS = 15, PASSES = 8, LEAF = 0xFFF, MOST_LENGTHS = 32, MOST_VALUES = 256 };
 
@@ -261,13 +255,6 @@ static bool read_blocks(const struct table *t, uint16_t *list)
 /* how many values are looked up: of longer blocks fewer */
 static size_t look_ups = LOOK_UPS;
 
-static double now(void)
-{
-    struct timespec t;
-    clock_gettime(CLOCK_PROCESS_CPUTIME_ID, &t);
-    return t.tv_sec + 1e-9 * t.tv_nsec;
-}
-
 static uint64_t szg(const struct table *t, struct work work, const uint32_t *indexes, size_t count)
 {
     return szg_bench_subtable(&work, &t->n, t->lowest, t->n.max - t->n.min + 1, t->pairs, 3 * (size_t)t->n.symbols,
@@ -279,18 +266,6 @@ static uint64_t szg(const struct table *t, struct work work, const uint32_t *ind
 struct times {
     double plain, szg;
 };
-
-static void least(double *best, double time)
-{
-    if (time < *best)
-        *best = time;
-}
-
-static void fail(const char *what)
-{
-    fprintf(stderr, "%s differ\n", what);
-    exit(1);
-}
 
 /* work in plain C, over values at these indexes or over all blocks, and what it came to */
 typedef uint64_t plain_work(const struct table *t, const uint32_t *indexes);
@@ -308,7 +283,7 @@ static uint64_t check_all(const struct table *t, const uint32_t *indexes)
     (void)indexes;
     for (int k = 0; k < PASSES; k++)
         if (!read_blocks(t, NULL))
-            fail("the checks");
+            fail("the checks differ");
     return 0;
 }
 
@@ -319,7 +294,7 @@ static uint64_t list_all(const struct table *t, const uint32_t *indexes)
     for (int k = 0; k < PASSES; k++) {
         uint16_t *list = malloc(2 * t->n.size);
         if (!read_blocks(t, list))
-            fail("the checks");
+            fail("the checks differ");
         mix = 31 * (31 * mix + list[0]) + list[t->n.size - 1];
         free(list);
     }
@@ -340,7 +315,7 @@ static struct times time_work(plain_work *plain, struct work work, const struct 
         szg(t, (struct work){0, 0}, indexes, 0);
         double t3 = now();
         if (mix != other)
-            fail("the values");
+            fail("the values differ");
         least(&in_c, t1 - t0);
         least(&whole, t2 - t1);
         least(&begun, t3 - t2);
@@ -389,7 +364,7 @@ static double time_source(const struct table *t, const uint32_t *indexes, const 
         szg_bench_opened(name, sizeof name, file, length, indexes, 0);
         double t2 = now();
         if (mix != other)
-            fail("the look-ups by a source");
+            fail("the look-ups by a source differ");
         least(&whole, t1 - t0);
         least(&begun, t2 - t1);
     }
@@ -411,7 +386,7 @@ static struct called time_calls(const struct table *t, const uint32_t *indexes, 
     szg_answer answer;
     if (szg.open("KQRvK", 5, false, file, length, &table, &answer) != SZG_DONE ||
         szg.open_front("KQRvK", 5, false, file, length, &front, &answer) != SZG_DONE)
-        fail("the files");
+        fail("the files differ");
     for (int round = 0; round < ROUNDS; round++) {
         uint64_t mix = look_all_up(t, indexes), held = 0, placed = 0, verified = 0;
         uint16_t value = 0;
@@ -435,7 +410,7 @@ static struct called time_calls(const struct table *t, const uint32_t *indexes, 
         }
         double t3 = now();
         if (mix != held || mix != placed || mix != verified)
-            fail("the look-ups of the C library");
+            fail("the look-ups of the C library differ");
         least(&best.get, t1 - t0);
         least(&best.by_range, t2 - t1);
         least(&best.verified, t3 - t2);

@@ -1,17 +1,14 @@
 /* Opens a large table once, as one way does it, and probes it once; prints the wall and processor time of both together and
  * what stays on the heap: open FOLDER front|checked|fathom. The table is that of open_table.py. */
+#include "bench.h"
 #include "szg.h"
 #ifdef FATHOM
 #include "fathom.h"
 #endif
 #include <fcntl.h>
 #include <malloc.h>
-#include <stdio.h>
-#include <stdlib.h>
-#include <string.h>
 #include <sys/mman.h>
 #include <sys/stat.h>
-#include <time.h>
 #include <unistd.h>
 
 static const char NAME[] = "KQRBNvK";
@@ -19,19 +16,6 @@ static const szg_man MEN[] = {{SZG_KING, SZG_WHITE, 4}, {SZG_QUEEN, SZG_WHITE, 3
                               {SZG_BISHOP, SZG_WHITE, 2}, {SZG_KNIGHT, SZG_WHITE, 1}, {SZG_KING, SZG_BLACK, 60}};
 enum { MEN_COUNT = sizeof MEN / sizeof *MEN, LATER = 1 << 16 };
 static const uint64_t SIZE = 31332ull * 61 * 60 * 59;
-
-static void fail(const char *what)
-{
-    fprintf(stderr, "open: %s\n", what);
-    exit(1);
-}
-
-static double now(clockid_t clock)
-{
-    struct timespec t;
-    clock_gettime(clock, &t);
-    return (double)t.tv_sec + 1e-9 * (double)t.tv_nsec;
-}
 
 static size_t heap(void)
 {
@@ -130,10 +114,10 @@ int main(int count, char **words)
         if (strcmp(words[2], WAYS[i].word))
             continue;
         size_t held = heap();
-        double wall = now(CLOCK_MONOTONIC), processor = now(CLOCK_PROCESS_CPUTIME_ID);
+        double wall = clock_seconds(CLOCK_MONOTONIC), processor = clock_seconds(CLOCK_PROCESS_CPUTIME_ID);
         WAYS[i].open(words[1]);
-        wall = now(CLOCK_MONOTONIC) - wall;
-        processor = now(CLOCK_PROCESS_CPUTIME_ID) - processor;
+        wall = clock_seconds(CLOCK_MONOTONIC) - wall;
+        processor = clock_seconds(CLOCK_PROCESS_CPUTIME_ID) - processor;
         printf("%s: %.1f ms, %.1f ms of processor time, %.0f KB kept on the heap\n", WAYS[i].title, 1e3 * wall, 1e3 * processor,
                (double)(heap() - held) / 1024);
         return 0;

@@ -1,14 +1,11 @@
 /* Times whole probes, from a placement to its class or number, by the C library and by Fathom, on the same files and the
  * same random placements: probe FOLDER NAME [PLAN]. Neither side looks at captures or moves. Without Fathom (FATHOM is not
  * defined) the C library is timed alone. Each line has the least processor time of several rounds. */
+#include "bench.h"
 #include "szg.h"
 #ifdef FATHOM
 #include "fathom.h"
 #endif
-#include <stdio.h>
-#include <stdlib.h>
-#include <string.h>
-#include <time.h>
 
 enum { PLACEMENTS = 1 << 16, ROUNDS = 15, MOST_MEN = 6 };
 
@@ -33,19 +30,6 @@ struct opened {
 static struct opened wdl_table = {SZG_NO_TABLE, SZG_NO_FRONT, NULL, 0}, dtz_table = {SZG_NO_TABLE, SZG_NO_FRONT, NULL, 0};
 static int men_count;
 
-static void fail(const char *what)
-{
-    fprintf(stderr, "probe: %s\n", what);
-    exit(1);
-}
-
-static double now(void)
-{
-    struct timespec t;
-    clock_gettime(CLOCK_PROCESS_CPUTIME_ID, &t);
-    return (double)t.tv_sec + 1e-9 * (double)t.tv_nsec;
-}
-
 static void open_table(const char *folder, const char *name, bool dtz, struct opened *t)
 {
     char path[4096];
@@ -62,12 +46,6 @@ static void open_table(const char *folder, const char *name, bool dtz, struct op
         szg_open_front(name, strlen(name), dtz, t->bytes, t->length, &t->front, &answer) != SZG_DONE)
         fail(path);
     fclose(file);
-}
-
-static uint32_t draw(uint64_t *state)
-{
-    *state = *state * 6364136223846793005u + 1442695040888963407u;
-    return (uint32_t)(*state >> 33);
 }
 
 static bool kings_touch(const struct placement *p)
@@ -172,7 +150,7 @@ static int64_t sum_by_fathom(bool dtz)
 #endif
 
 /* The least time of a probe, in nanoseconds. */
-static double least(int64_t (*sum)(bool), bool dtz, double best)
+static double best_time(int64_t (*sum)(bool), bool dtz, double best)
 {
     int64_t due = sum_by_szg(dtz);
     double t0 = now();
@@ -192,10 +170,10 @@ static void time_kind(const char *name, const char *plan, bool dtz)
 #endif
     for (int round = 0; round < ROUNDS; round++) {
 #ifdef FATHOM
-        fathom = least(sum_by_fathom, dtz, fathom);
+        fathom = best_time(sum_by_fathom, dtz, fathom);
 #endif
-        szg = least(sum_by_szg, dtz, szg);
-        front = least(sum_by_front, dtz, front);
+        szg = best_time(sum_by_szg, dtz, szg);
+        front = best_time(sum_by_front, dtz, front);
     }
     printf("%s%s %s: szg_probe %.1f ns a probe, szg_front_probe %.1f ns", name, plan, kind, szg, front);
 #ifdef FATHOM

@@ -1,14 +1,11 @@
 /* Times look-ups by 1, 2 and 4 threads that share one table: threads TABLE. The times are processor time a look-up, the
  * least of fifteen rounds. It also times as many processes with a table each. What the processor's cores and caches cost
  * threads, they cost processes, too, so the ratio of the two is the cost of sharing. */
+#include "bench.h"
 #include "szg.h"
 #include <pthread.h>
-#include <stdio.h>
-#include <stdlib.h>
-#include <string.h>
 #include <sys/mman.h>
 #include <sys/wait.h>
-#include <time.h>
 #include <unistd.h>
 
 enum { LOOK_UPS = 1 << 17, ROUNDS = 15, MOST = 4 };
@@ -34,43 +31,32 @@ static double (*times)[MOST];
 static const struct way *way;
 static pthread_barrier_t start;
 
-static void fail(const char *what)
+static void require(uint32_t status, const char *what)
 {
-    fprintf(stderr, "threads: %s\n", what);
-    exit(1);
+    if (status != SZG_DONE)
+        fail(what);
 }
 
 static void open_handle(int thread)
 {
     szg_answer answer;
-    if (szg_open("KQRvK", 5, false, file, length, &handles[thread].table, &answer) != SZG_DONE)
-        fail("the table is refused");
+    require(szg_open("KQRvK", 5, false, file, length, &handles[thread].table, &answer), "the table is refused");
 }
 
-static void share_handle(int thread)
+static void open_front(int thread)
 {
-    if (szg_share(&handles[0].table, &handles[thread].table) != SZG_DONE)
-        fail("the table is not shared");
+    szg_answer answer;
+    require(szg_open_front("KQRvK", 5, false, file, length, &handles[thread].front, &answer), "the front is refused");
 }
+
+static void share_handle(int thread) { require(szg_share(&handles[0].table, &handles[thread].table), "the table is not shared"); }
+static void share_front(int thread) { require(szg_share_front(&handles[0].front, &handles[thread].front), "the front is not shared"); }
 
 static uint16_t get_by_handle(int thread, uint64_t index)
 {
     uint16_t value = 0;
     szg_get(&handles[thread].table, 0, 0, index, &value);
     return value;
-}
-
-static void open_front(int thread)
-{
-    szg_answer answer;
-    if (szg_open_front("KQRvK", 5, false, file, length, &handles[thread].front, &answer) != SZG_DONE)
-        fail("the front is refused");
-}
-
-static void share_front(int thread)
-{
-    if (szg_share_front(&handles[0].front, &handles[thread].front) != SZG_DONE)
-        fail("the front is not shared");
 }
 
 static uint16_t get_by_front(int thread, uint64_t index)
@@ -81,21 +67,14 @@ static uint16_t get_by_front(int thread, uint64_t index)
     return value;
 }
 
-static double now(void)
-{
-    struct timespec t;
-    clock_gettime(CLOCK_THREAD_CPUTIME_ID, &t);
-    return (double)t.tv_sec + 1e-9 * (double)t.tv_nsec;
-}
-
 /* One round of look-ups; returns its processor time a look-up in nanoseconds. */
 static double look_all_up(int thread)
 {
     uint64_t mix = 0;
-    double t0 = now();
+    double t0 = clock_seconds(CLOCK_THREAD_CPUTIME_ID);
     for (size_t k = 0; k < LOOK_UPS; k++)
         mix = 31 * mix + way->look_up(thread, indexes[k]);
-    double time = now() - t0;
+    double time = clock_seconds(CLOCK_THREAD_CPUTIME_ID) - t0;
     if (mix != due)
         fail("the values differ");
     return time / LOOK_UPS * 1e9;
@@ -149,12 +128,6 @@ static double time_processes(int count)
             fail("no process");
     }
     return mean(count);
-}
-
-static void least(double *best, double time)
-{
-    if (*best == 0 || time < *best)
-        *best = time;
 }
 
 static void time_way(const struct way *timed)

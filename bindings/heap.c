@@ -6,7 +6,9 @@
  * A look-up in a table of tens of megabytes reads a block at a random place, and with pages of 4 KB it waits for the page's
  * translation as well as for memory. So a block of 4 MB or more is a mapping of its own, at a multiple of 2 MB, and the
  * kernel is asked to back it with huge pages. Where it has none to give, the block is used as it is. Elsewhere than on Linux
- * on x86-64 all blocks are malloc's. */
+ * on x86-64 all blocks are malloc's.
+ *
+ * Before main it also looks at the processor. */
 #define _GNU_SOURCE
 #include <stdbool.h>
 #include <stddef.h>
@@ -14,7 +16,13 @@
 #include <stdlib.h>
 #include <string.h>
 #if defined(__linux__) && defined(__x86_64__)
+#include <cpuid.h>
 #include <sys/mman.h>
+#include <sys/uio.h>
+#include <unistd.h>
+#ifndef MAP_FIXED_NOREPLACE
+#define MAP_FIXED_NOREPLACE 0x100000
+#endif
 #endif
 
 /* The result of an allocation: whether it succeeded, and the block. After a refusal the pointer is not NULL, and must not be
@@ -35,6 +43,18 @@ static struct tried tried(void *block)
 }
 
 #if defined(__linux__) && defined(__x86_64__)
+/* The crate is compiled for x86-64-v2. On an older processor glibc refuses to load the shared library, or a program that needs
+ * it; this is for a static program, and for another C library. */
+__attribute__((constructor)) static void require_processor(void)
+{
+    static const char text[] = "szg: this processor lacks a feature of x86-64-v2, which libszg needs\n";
+    const unsigned needed = bit_SSSE3 | bit_CMPXCHG16B | bit_SSE4_1 | bit_SSE4_2 | bit_POPCNT;
+    unsigned a = 0, b = 0, c = 0, d = 0;
+    if (__get_cpuid(1, &a, &b, &c, &d) != 0 && (c & needed) == needed)
+        return;
+    _exit(write(STDERR_FILENO, text, sizeof text - 1) < 0 ? 126 : 127);
+}
+
 #define HUGE_PAGE ((size_t)2 << 20)
 #define LARGE ((size_t)4 << 20)
 /* The page before a mapped block begins with the length of the block's mapping. */
@@ -65,13 +85,24 @@ static void *map(size_t length)
         return NULL;
     char *block = start + (HUGE_PAGE - (uintptr_t)start % HUGE_PAGE), *end = start + whole;
     size_t before = (size_t)(block - start) - PAGE, after = (size_t)(end - block) - length;
-    if (before != 0)
-        munmap(start, before);
-    if (after != 0)
-        munmap(block + length, after);
-    /* an advice: whether it is taken changes no result */
-    (void)madvise(block, length, MADV_HUGEPAGE);
-    *length_of(block) = length;
+    if (before == 0 || munmap(start, before) == 0) {
+        start = block - PAGE;
+        if (after == 0 || munmap(block + length, after) == 0) {
+            *length_of(block) = length;
+            return block;
+        }
+    }
+    /* at its limit of mappings the kernel cuts nothing out of one that it has joined to a neighbour */
+    munmap(start, (size_t)(end - start));
+    return NULL;
+}
+
+/* The same with a request for huge pages, which is an advice: whether it is taken changes no result. */
+static void *map_advised(size_t length)
+{
+    void *block = map(length);
+    if (block != NULL)
+        (void)madvise(block, length, MADV_HUGEPAGE);
     return block;
 }
 
@@ -80,24 +111,50 @@ static void unmap(void *block)
     munmap((char *)block - PAGE, PAGE + *length_of(block));
 }
 
-/* Gives a mapped block another length, with the bytes that fit. A longer one moves with its pages, and no byte is copied. */
+/* Whether a mapped block that begins with its own address is still there, after the kernel refused to move another one over
+ * it. It may have been unmapped by then. Then it is mapped again, unless another thread has mapped something there: what that
+ * is the kernel reads, since it may not be readable. */
+static bool is_kept(void *block, size_t length)
+{
+    void *again = mmap(block, length, PROT_READ | PROT_WRITE, MAP_PRIVATE | MAP_ANONYMOUS | MAP_FIXED_NOREPLACE, -1, 0);
+    if (again == block)
+        return true;
+    if (again != MAP_FAILED)
+        munmap(again, length); /* to a kernel before 4.17 the address is a wish */
+    void *first = NULL;
+    struct iovec to = {&first, sizeof first}, from = {block, sizeof first};
+    return process_vm_readv(getpid(), &to, 1, &from, 1, 0) == sizeof first && first == block;
+}
+
+/* Gives a mapped block another length, with the bytes that fit. A longer one moves with its pages, and no byte is copied;
+ * unless the kernel refuses that, as near its limit of mappings. Then the bytes are copied, and returned piece by piece. */
 static void *remap(void *block, size_t length)
 {
+    char *from = block;
     size_t old = *length_of(block);
     if (length <= old) {
-        if (length < old && munmap((char *)block + length, old - length) == 0)
+        if (length < old && munmap(from + length, old - length) == 0)
             *length_of(block) = length;
         return block;
     }
-    void *moved = map(length);
+    char *moved = map(length);
     if (moved == NULL)
         return NULL;
+    *(void **)(void *)moved = moved;
     if (mremap(block, old, length, MREMAP_MAYMOVE | MREMAP_FIXED, moved) == MAP_FAILED) {
-        /* the kernel may have unmapped the target before it refused, and another thread may have mapped something there */
-        munmap((char *)moved - PAGE, PAGE);
-        return NULL;
+        if (!is_kept(moved, length)) {
+            munmap(moved - PAGE, PAGE);
+            return NULL;
+        }
+        (void)madvise(moved, length, MADV_HUGEPAGE);
+        munmap(from - PAGE, PAGE);
+        for (size_t at = 0; at < old; at += HUGE_PAGE) {
+            memcpy(moved + at, from + at, HUGE_PAGE);
+            munmap(from + at, HUGE_PAGE);
+        }
+        return moved;
     }
-    munmap((char *)block - PAGE, PAGE);
+    munmap(from - PAGE, PAGE);
     return moved;
 }
 
@@ -108,7 +165,7 @@ static void *alloc(size_t size)
     if (size < LARGE && (block == NULL || !is_mapped(block)))
         return block;
     free(block);
-    return map(mapped_length(size));
+    return map_advised(mapped_length(size));
 }
 
 static void dealloc(void *block)

@@ -13,8 +13,16 @@
  * points to as many items as the length after it says, and is not NULL even if that is 0; no length is 2^63 bytes or more;
  * while a call runs, nobody else reads or writes what it writes, or writes what it reads; malloc, realloc and free of the
  * program are one allocator, which aligns as C requires; no call is made from a signal handler, or from the forked child of
- * a process with threads. The library calls nothing back, prints nothing and locks nothing. On Linux, blocks of 4 MB and more
- * are mappings of its own, with huge pages where the kernel has some. */
+ * a process with threads, unless malloc may be called there (after fork it may with glibc). The library calls nothing back,
+ * prints nothing and locks nothing; only where the processor lacks a feature of x86-64-v2, for which it is compiled, it isn't
+ * loaded, or prints so before main and ends the program with status 127. On Linux, blocks of 4 MB and more are mappings of its own, with huge pages where the kernel
+ * has some.
+ *
+ * Stack: szg_check, szg_size, szg_values, szg_values_at, szg_open and szg_open_front use less than 56 KB, the other calls less
+ * than 8 KB. Whether it is there is not checked.
+ *
+ * Mapped files: a file that is truncated must not be read by its map any more. A call that does is ended by the system with
+ * SIGBUS, and so is the program. Where others may truncate the file, read its bytes: szg_front_find says which. */
 #ifndef SZG_H
 #define SZG_H
 #include <stdbool.h>
@@ -57,7 +65,8 @@ enum szg_status {
     SZG_OUTSIDE_MAP = 16, /* the value is not in the DTZ table's map */
 
     SZG_CHANGED = 17, /* the bytes can't be those of the file: szg_front_value got more or fewer of them than szg_front_find
-                         counts, or another call on a front fewer than szg_open_front */
+                         counts, or szg_front_get or szg_front_probe so few that the end of the value's block is missing.
+                         No call has it for a constant subtable, whose values need no bytes */
 
     SZG_BAD_BLOCK = 18 /* the block that has the value does not decode: the file is damaged there */
 };
@@ -99,21 +108,30 @@ uint32_t szg_check(const char *name, size_t name_length, bool dtz, const uint8_t
 uint32_t szg_size(const char *name, size_t name_length, bool dtz, const uint8_t *bytes, size_t length,
                   uint8_t part, uint8_t side, uint64_t *size, szg_answer *answer);
 
-/* All values of a part's side. `count` is its number of positions. With another status than SZG_DONE the list stays. */
+/* All stored values of a part's side (see szg_get). `count` is its number of positions. With another status than SZG_DONE the
+ * list stays. */
 uint32_t szg_values(const char *name, size_t name_length, bool dtz, const uint8_t *bytes, size_t length,
                     uint8_t part, uint8_t side, uint16_t *values, size_t count, szg_answer *answer);
 
-/* The values at these indexes, in their order; their number is the length of the shorter list. With another status than
- * SZG_DONE the list stays. */
+/* The stored values at these indexes (see szg_get), in their order; their number is the length of the shorter list. With
+ * another status than SZG_DONE the list stays. */
 uint32_t szg_values_at(const char *name, size_t name_length, bool dtz, const uint8_t *bytes, size_t length,
                        uint8_t part, uint8_t side, const uint64_t *indexes, size_t index_count,
                        uint16_t *values, size_t value_count, szg_answer *answer);
 
 /* A table in memory, with a copy of all that it needs of the file. Initialise it with SZG_NO_TABLE, let only the calls change
- * it, do not copy it, and pass it to one call at a time. Each call writes to the handle, so handles of different threads are
- * best kept in different cache lines. */
+ * it, and pass it to one call at a time. A copy of the struct is no second handle: only one of the two may be used from then
+ * on, as after a move, since to close both is to free the table twice. Each call writes to the handle, so handles of different
+ * threads are best kept in different cache lines. */
 typedef struct szg_table { void *held; } szg_table;
-#define SZG_NO_TABLE {0}
+
+/* A handle that holds no table, to initialise or to assign. A static handle is one without it, since its bytes are 0: ISO C
+ * takes this as no constant. */
+#ifdef __cplusplus
+#define SZG_NO_TABLE (szg_table{})
+#else
+#define SZG_NO_TABLE ((szg_table){0})
+#endif
 
 /* Opens a table. The handle's previous table is closed, also if the call is refused. Here and in the other calls with an
  * answer, except szg_check, *answer stays with another status than SZG_REFUSED. */
@@ -121,20 +139,23 @@ uint32_t szg_open(const char *name, size_t name_length, bool dtz, const uint8_t 
                   szg_table *table, szg_answer *answer);
 
 /* Makes `second` a second handle of the table that `table` holds, without a copy. The table is freed when the last of its
- * handles is closed or opens another. The previous table of `second` is closed, also if the call is refused. */
+ * handles is closed or opens another. The previous table of `second` is closed first, also if the call is refused: so
+ * szg_share(&t, &t) closes t and returns SZG_CLOSED. */
 uint32_t szg_share(szg_table *table, szg_table *second);
 
-/* The value at an index of a part's side. With another status than SZG_DONE *value stays. */
+/* The stored value at an index of a part's side, which isn't always the position's: see szg_probe. In a WDL table it is the
+ * class plus 2, in a DTZ table what szg_number takes. With another status than SZG_DONE *value stays. */
 uint32_t szg_get(szg_table *table, uint8_t part, uint8_t side, uint64_t index, uint16_t *value);
 
 /* The number of positions of a part's side. With another status than SZG_DONE *size stays. */
 uint32_t szg_positions(szg_table *table, uint8_t part, uint8_t side, uint64_t *size);
 
-/* All values of a part's side. `count` is its number of positions. With another status than SZG_DONE the list stays. */
+/* All stored values of a part's side (see szg_get). `count` is its number of positions. With another status than SZG_DONE the
+ * list stays. */
 uint32_t szg_all(szg_table *table, uint8_t part, uint8_t side, uint16_t *values, size_t count);
 
-/* The distance in plies of a DTZ value in a class: 2 win, 1 cursed win, -1 blessed loss, -2 loss. SZG_RANGE: a WDL table, a
- * part that does not exist, or a class below -2 or above 2. SZG_DRAW and SZG_OUTSIDE_MAP: there is no number. With another
+/* The number of plies of a stored DTZ value in a class (2 win, 1 cursed win, -1 blessed loss, -2 loss): see szg_probe for what
+ * it counts. SZG_RANGE: a WDL table, a part that does not exist, or a class below -2 or above 2. SZG_DRAW and SZG_OUTSIDE_MAP: there is no number. With another
  * status than SZG_DONE *number stays. */
 uint32_t szg_number(szg_table *table, uint8_t part, int8_t class_of_position, uint16_t value, uint32_t *number);
 
@@ -174,10 +195,15 @@ uint32_t szg_index(szg_table *table, const szg_man *men, size_t count, uint8_t m
 uint32_t szg_placement(szg_table *table, uint8_t part, uint8_t side, uint64_t index, szg_man *men, size_t capacity,
                        size_t *count, uint8_t *mover);
 
-/* Probes the table for a placement. A WDL table has its class for the side to move (2 win, 1 cursed win, 0 draw, -1 blessed
- * loss, -2 loss) and ignores `class_of_position`. A DTZ table has the distance to zeroing in this class, in plies and
- * without sign; distances that the table counts in moves are doubled. In a DTZ table SZG_RANGE means a class below -2 or
- * above 2. With another status than SZG_DONE *outcome stays. */
+/* Returns what the table stores for a placement, which isn't the result of the position where a capture (WDL), or a capture or
+ * pawn move (DTZ), decides: there a table may hold whatever value makes the file small. En passant and the fifty-move counter
+ * aren't known to a table either. A result needs moves, which this library doesn't make: bindings/examples/full_probing.py
+ * gets one by python-chess. A WDL table stores the class for the side to move (2 win, 1 cursed win, 0 draw, -1 blessed loss,
+ * -2 loss) and ignores `class_of_position`. A DTZ table stores a number n of plies without sign for this class: it counts the
+ * plies before the zeroing one (a capture, a pawn move or mate), in the classes 1 and -1 from the 101st on. So DTZ is n + 1
+ * for a win, n + 101 for a cursed win, -(n + 101) for a blessed loss, -(n + 1) for a loss. What the table counts in moves is
+ * doubled, and the distance may be one ply more. In a DTZ table SZG_RANGE means a class below -2 or above 2. With another
+ * status than SZG_DONE *outcome stays. */
 uint32_t szg_probe(szg_table *table, const szg_man *men, size_t count, uint8_t mover, int8_t class_of_position,
                    int64_t *outcome);
 
@@ -195,10 +221,16 @@ void szg_close(szg_table *table);
  * Threads that share a front use a szg_front each, made by szg_share_front, as with the other handles: the front stays in
  * memory once, and no call waits for another. All of them may read the same bytes at a time. */
 
-/* An opened front. Initialise it with SZG_NO_FRONT, let only the calls change it, do not copy it, and pass it to one call at
- * a time. Each call writes to the handle, as with szg_table. */
+/* An opened front. Initialise it with SZG_NO_FRONT, let only the calls change it, and pass it to one call at a time. What
+ * szg_table says of copies and of cache lines holds here, too. */
 typedef struct szg_front { void *held; } szg_front;
-#define SZG_NO_FRONT {0}
+
+/* A handle that holds no front, as SZG_NO_TABLE. */
+#ifdef __cplusplus
+#define SZG_NO_FRONT (szg_front{})
+#else
+#define SZG_NO_FRONT ((szg_front){0})
+#endif
 
 /* A block that doesn't decode. */
 typedef struct szg_bad_block {
@@ -218,9 +250,9 @@ uint32_t szg_share_front(szg_front *front, szg_front *second);
 /* The number of positions of a part's side. With another status than SZG_DONE *size stays. */
 uint32_t szg_front_size(szg_front *front, uint8_t part, uint8_t side, uint64_t *size);
 
-/* The value at an index of a part's side. `bytes` are those of the file that szg_open_front was given. SZG_BAD_BLOCK: the
- * block that has the value doesn't decode, and *bad names it. SZG_CHANGED: there are fewer bytes than when the front was
- * opened. With another status than SZG_DONE *value stays, with another than SZG_BAD_BLOCK *bad stays. */
+/* The stored value at an index of a part's side, as szg_get. `bytes` are those of the file that szg_open_front was given. SZG_BAD_BLOCK: the
+ * block that has the value doesn't decode, and *bad names it. SZG_CHANGED: the block that has the value ends after these
+ * bytes. With another status than SZG_DONE *value stays, with another than SZG_BAD_BLOCK *bad stays. */
 uint32_t szg_front_get(szg_front *front, const uint8_t *bytes, size_t length, uint8_t part, uint8_t side,
                        uint64_t index, uint16_t *value, szg_bad_block *bad);
 
@@ -234,7 +266,7 @@ typedef struct szg_byte_range {
  * as by pread. With another status than SZG_DONE *range stays. */
 uint32_t szg_front_find(szg_front *front, uint8_t part, uint8_t side, uint64_t index, szg_byte_range *range);
 
-/* The value at an index of a part's side, decoded from `block`, the `count` bytes of the file at the range that
+/* The stored value at an index of a part's side, decoded from `block`, the `count` bytes of the file at the range that
  * szg_front_find returned for this index. In a constant subtable no byte is read. If they are the file's, the status and the
  * value are those of szg_front_get. SZG_BAD_BLOCK: the block doesn't decode, and *bad names it. SZG_CHANGED: there are more
  * or fewer bytes. Other bytes of the same number may decode to another value, the one that their words spell. With another
@@ -250,7 +282,7 @@ uint32_t szg_front_index(szg_front *front, const szg_man *men, size_t count, uin
 uint32_t szg_front_placement(szg_front *front, uint8_t part, uint8_t side, uint64_t index, szg_man *men, size_t capacity,
                              size_t *count, uint8_t *mover);
 
-/* The class or the distance of a placement, as szg_probe, decoded from the bytes of the file. SZG_BAD_BLOCK and SZG_CHANGED as
+/* The stored class or number of a placement, as szg_probe, decoded from the bytes of the file. SZG_BAD_BLOCK and SZG_CHANGED as
  * szg_front_get. With another status than SZG_DONE *outcome stays, with another than SZG_BAD_BLOCK *bad stays. */
 uint32_t szg_front_probe(szg_front *front, const uint8_t *bytes, size_t length, const szg_man *men, size_t count,
                          uint8_t mover, int8_t class_of_position, int64_t *outcome, szg_bad_block *bad);

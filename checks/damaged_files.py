@@ -9,9 +9,8 @@ import sys
 from pathlib import Path
 from typing import Iterator, NamedTuple
 
+from common import sample
 from table_reader import Reader, Refused
-
-DATA = Path(__file__).resolve().parent.parent / "data"
 
 
 class Damaged(NamedTuple):
@@ -22,7 +21,7 @@ class Damaged(NamedTuple):
     place: int
 
 
-SAMPLES = {
+FILES = {
     "constant": ("knvk_wdl_constant.rtbw", "KNvK", "wdl"),
     "paired": ("kqvk_wdl_paired.rtbw", "KQvK", "wdl"),
     "mapped": ("kpvk_dtz_mapped.rtbz", "KPvK", "dtz"),
@@ -50,16 +49,12 @@ CHANGES = [
 ]
 
 
-def sample(which: str) -> "tuple[bytes, str, str]":
-    file, name, kind = SAMPLES[which]
-    return (DATA / file).read_bytes(), name, kind
-
-
 def damaged() -> Iterator[Damaged]:
-    data, name, kind = sample("constant")
-    yield Damaged("Truncated", name, kind, data[:79], 79)
+    file, name, kind = FILES["constant"]
+    yield Damaged("Truncated", name, kind, sample(file)[:79], 79)
     for reason, which, at, changed, place in CHANGES:
-        data, name, kind = sample(which)
+        file, name, kind = FILES[which]
+        data = sample(file)
         yield Damaged(reason, name, kind, data[:at] + changed + data[at + len(changed):], place)
 
 

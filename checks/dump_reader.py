@@ -1,4 +1,4 @@
-"""A second writer and reader of dumps, plain and slow, written from docs/FORMAT.md, section 15, alone. `checks/fuzz`
+"""A second writer and reader of dumps, plain and slow, written from docs/FORMAT.md, section 14, alone. `checks/fuzz`
 holds the program against it."""
 import itertools
 import re

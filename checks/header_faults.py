@@ -5,7 +5,6 @@ header_faults.py HEADER LIBRARY DATA DAMAGED
 Exchanged are the names of neighbouring enumerators, and neighbouring fields of structs. LIBRARY is libszg.a; DATA and
 DAMAGED are as for enumerators.c. CC is the C compiler. The status is 0 if each is caught.
 """
-import os
 import re
 import subprocess
 import sys
@@ -14,7 +13,8 @@ from concurrent.futures import ThreadPoolExecutor
 from pathlib import Path
 from typing import Iterator, Tuple
 
-PROGRAM = Path(__file__).resolve().parent / "c/enumerators.c"
+from common import CC, ROOT
+
 WRAPPED = "-Wl,--wrap=malloc,--wrap=realloc"
 
 
@@ -45,7 +45,7 @@ def passes(header: str, library: str, data: str, damaged: str) -> bool:
     with tempfile.TemporaryDirectory() as folder:
         (Path(folder) / "szg.h").write_text(header)
         program = f"{folder}/enumerators"
-        words = [os.environ.get("CC", "cc"), "-O1", f"-I{folder}", "-o", program, str(PROGRAM), library, WRAPPED]
+        words = [CC, "-O1", f"-I{folder}", "-o", program, str(ROOT / "checks/c/enumerators.c"), library, WRAPPED]
         built = subprocess.run(words, capture_output=True, text=True)
         if built.returncode:
             sys.exit(f"enumerators.c is not compiled with an exchange:\n{built.stderr}")

@@ -3,35 +3,20 @@
 import os
 import subprocess
 import sys
-from pathlib import Path
 
-ROOT = Path(__file__).resolve().parent.parent
-PROGRAM = ROOT / "crates/szg_tool/out/szg_tool"
-SAMPLES = [
-    ("KNvK", "wdl", "knvk_wdl_constant.rtbw", ["w", "Kb1", "Na1", "kc1"]),
-    ("KQvK", "wdl", "kqvk_wdl_unpaired.rtbw", ["w", "Ke8", "Qa1", "kh1"]),
-    ("KQvK", "wdl", "kqvk_wdl_paired.rtbw", ["b", "Ke8", "Qa1", "kh1"]),
-    ("KPvK", "dtz", "kpvk_dtz_mapped.rtbz", ["w", "Ke1", "Pa2", "ke8"]),
-]
-COMMANDS = [
-    ["check"], ["show"], ["get", "0"], ["get", "0", "--steps"], ["values"], ["copy"], ["placement", "0"]
-]
+from common import PROGRAM, SAMPLES, compile_c, sample
+
+COMMANDS_OF_TABLES = [["check"], ["show"], ["get", "0"], ["get", "0", "--steps"], ["values"], ["copy"], ["placement", "0"]]
 COMMANDS_OF_MEN = ["index", "probe"]
 FORMS = ["1", "2"]
-
-
-def compiler(name):
-    return os.environ.get("CC", name)
 
 
 class Preloaded:
     """Runs programs with the library before the C library, by the library's settings."""
 
     def __init__(self, folder):
-        self.library = folder / "refuse.so"
+        self.library = compile_c(folder / "refuse.so", "-shared", "-fPIC", "checks/refuse.c", "-ldl")
         self.told = folder / "asked"
-        source = ROOT / "checks/refuse.c"
-        subprocess.run([compiler("cc"), "-O2", "-shared", "-fPIC", "-o", self.library, source, "-ldl"], check=True)
 
     def run(self, words, data, **settings):
         """The status, the output and the errors; `data` is bytes, or a file that is open."""
@@ -56,11 +41,11 @@ def run_plain(words, data):
 
 def runs_of_samples():
     """For each command on each sample a label, the words and the input; `build` on the sample's dump in both forms."""
-    for name, kind, sample, men in SAMPLES:
-        table = (ROOT / "data" / sample).read_bytes()
-        commands = COMMANDS + [["dump", "--form", form] for form in FORMS] + [[command, *men] for command in COMMANDS_OF_MEN]
+    for name, kind, file, men in SAMPLES:
+        table = sample(file)
+        commands = COMMANDS_OF_TABLES + [["dump", "--form", form] for form in FORMS] + [[command, *men.split()] for command in COMMANDS_OF_MEN]
         for command, *more in commands:
-            yield f"{' '.join([command, *more])} {sample}", [PROGRAM, command, name, kind, *more], table
+            yield f"{' '.join([command, *more])} {file}", [PROGRAM, command, name, kind, *more], table
         for form in FORMS:
             dump = run_plain([PROGRAM, "dump", name, kind, "--form", form], table)
-            yield f"build, from form {form}, {sample}", [PROGRAM, "build"], dump
+            yield f"build, from form {form}, {file}", [PROGRAM, "build"], dump

@@ -386,7 +386,7 @@ def words_of(sub, block):
 
 
 def shown(table):
-    """What `szg show` prints of a table (section 12)."""
+    """What `szg show` prints of a table (docs/CLI.md)."""
     lines = [f"name {table.material.name}", f"kind {table.kind}", f"bytes {table.at}", f"flags {table.flags}"]
     lines += [f"part {'abcd'[p]} order {order.hex()} men {men.hex()}" for p, (order, men, _) in enumerate(table.parts)]
     for number, sub in enumerate(table.subs):

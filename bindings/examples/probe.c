@@ -1,6 +1,6 @@
 /* Probes placements in a folder of WDL tables, by four threads: probe FOLDER < PLACEMENTS
  * Each line of standard input is a placement, as "w Ke8 Qa1 kh1": who moves, and the men. Printed is a line for each, in
- * their order: the class for the side to move (2, 1, 0, -1, -2), or "status N" with the status of the call, or "no table".
+ * their order: the stored class for the side to move (2, 1, 0, -1, -2), or "status N" with the status of the call, or "no table".
  * Each file is mapped, and its front opened once; a block is verified when a placement needs it. A handle serves one call
  * at a time, so each thread has its own of each front; the threads share the maps.
  * The exit status is 0, or 64 for a bad command line, 66 if the folder or a file cannot be read or is refused. */

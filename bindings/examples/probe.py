@@ -1,8 +1,9 @@
 #!/usr/bin/env python3
 """Probes positions in a folder of tables: probe.py FOLDER < FENS
 
-Each line of standard input is a FEN. Printed is the class for the side to move and, where it is not a draw and the DTZ
-table stores this side, the distance to zeroing in plies; or what is missing.
+Each line of standard input is a FEN. Printed is the stored class for the side to move and, where it is not a draw and the DTZ
+table stores this side, the stored number of plies; or what is missing. Where a capture or a pawn move decides these are not
+the position's: full_probing.py gets those.
 """
 import sys
 

@@ -1,7 +1,7 @@
 /* Prints what a table stores for a placement: values FILE NAME wdl|dtz w|b MAN..,
  * as values KQvK.rtbw KQvK wdl w Ke8 Qa1 kh1
- * For a WDL table it is the class (2, 1, 0, -1, -2), for a DTZ table the number of a win. The status is that of the call that
- * refuses, 64 for a fault of words, 66 where the file cannot be read. */
+ * For a WDL table it is the stored class (2, 1, 0, -1, -2), for a DTZ table the number of a win; szg_probe says what they mean.
+ * The status is that of the call that refuses, 64 for a fault of words, 66 where the file cannot be read. */
 #include "szg.h"
 #include <ctype.h>
 #include <stdio.h>

@@ -1,6 +1,5 @@
 /* Compares the library with the reader of table_reader.h on made and changed tables: cases COUNT SEED FOLDER
  * or on one file: cases --file NAME wdl|dtz FILE
- * or writes made tables as seeds of libFuzzer (guided.c): cases --seeds COUNT SEED FOLDER
  *
  * Prints the counts; a file with a difference is written into FOLDER. The status is 1 if there is any. */
 #include "compare.h"
@@ -57,30 +56,10 @@ static int compare_file(char **words) {
     return compare_report(false);
 }
 
-static int write_seeds(char **words) {
-    static made_table made;
-    static uint8_t input[NAMED + MADE_MOST];
-    for (uint64_t i = 0; i < strtoull(words[0], NULL, 10); i++) {
-        char path[4096];
-        random_seed(strtoull(words[1], NULL, 10) * 1000003 + i);
-        make_table(&made);
-        snprintf(path, sizeof path, "%s/seed%llu", words[2], (unsigned long long)i);
-        FILE *file = fopen(path, "wb");
-        if (!file) {
-            perror(path);
-            return 2;
-        }
-        fwrite(input, 1, input_of_made(&made, input, sizeof input), file);
-        fclose(file);
-    }
-    return 0;
-}
-
 int main(int count, char **words) {
     if (count == 5 && strcmp(words[1], "--file") == 0) return compare_file(words + 2);
-    if (count == 5 && strcmp(words[1], "--seeds") == 0) return write_seeds(words + 2);
     if (count != 4) {
-        fprintf(stderr, "cases COUNT SEED FOLDER, or cases --file NAME wdl|dtz FILE, or cases --seeds COUNT SEED FOLDER\n");
+        fprintf(stderr, "cases COUNT SEED FOLDER, or cases --file NAME wdl|dtz FILE\n");
         return 2;
     }
     compare_begin(words[3], strtoull(words[2], NULL, 10));

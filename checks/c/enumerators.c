@@ -177,6 +177,5 @@ int main(int count, char **words) {
     refused_men(words[1]);
     other_statuses(words[1]);
     szg_close(&table);
-    if (!failed) puts("all as expected");
-    return failed;
+    return ended();
 }

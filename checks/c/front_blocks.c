@@ -136,15 +136,6 @@ static void closed(szg_front *front) {
     want("bad block that stays", bad.block + (int64_t)bad.offset, 77 + 78);
 }
 
-static void times(const char *file, szg_front *front) {
-    uint16_t value = 0;
-    uint64_t sum = 0;
-    int count = 200000;
-    double begun = now();
-    for (int i = 0; i < count; i++) { look_up(front, 0, 0, i & 15, &value); sum += value; }
-    printf("%s: %.1f ns a look-up by byte range near a block's begin (%llu)\n", file, (now() - begun) * 1e9 / count, (unsigned long long)sum);
-}
-
 static void table(const char *folder, const char *file, const char *name, bool dtz) {
     size_t length = load(folder, file);
     szg_answer answer = {0, 0};
@@ -166,14 +157,12 @@ static void table(const char *folder, const char *file, const char *name, bool d
     for (uint8_t part = 0; part <= 4; part++)
         for (uint8_t s = 0; s <= 2; s++) side(&table, &second, length, part, s);
     wrong(&table, &second, length);
-    times(file, &second);
     szg_close_front(&second);
     closed(&second);
     szg_close(&table);
 }
 
 int main(int count, char **words) {
-    each_sample(count > 1 ? words[1] : "data", table);
-    if (!failed) puts("all as expected");
-    return failed;
+    each_sample(folder_of(count, words), table);
+    return ended();
 }

@@ -158,7 +158,6 @@ static void attempt(const char *folder, const char *sample, const char *name, bo
 }
 
 int main(int count, char **words) {
-    each_sample(count > 1 ? words[1] : "data", attempt);
-    puts(failed ? "fronts: faults" : "all as expected");
-    return failed;
+    each_sample(folder_of(count, words), attempt);
+    return ended();
 }

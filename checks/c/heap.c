@@ -1,6 +1,7 @@
 /* The heap of the C library (bindings/heap.c): blocks that are made, resized and freed at random, with refusals and with blocks
  * of malloc's at multiples of 2 MB. Linked with malloc, free, mmap, munmap, mremap and madvise wrapped, so that it also sees how
- * many bytes are mapped, and whether all are returned. The status is 0 if all is as expected. */
+ * many bytes are mapped, and whether all are returned. Then a block grows near the kernel's limit of mappings. The status is 0
+ * if all is as expected. */
 #define _GNU_SOURCE
 #include <errno.h>
 #include <stdbool.h>
@@ -28,7 +29,10 @@ int __real_madvise(void *at, size_t length, int advice);
 
 static int64_t plain, mapped, until_refusal = INT64_MAX, at_boundary;
 static size_t last_mapped;
-static void *advised_at;
+/* What becomes of the target of a remapping that is refused: it stays, it is unmapped, another thread maps something there. */
+enum target { KEPT, UNMAPPED, TAKEN, UNREADABLE };
+static enum target target_of_refused;
+static void *advised_at, *foreign;
 static size_t advised;
 
 static void expect(bool is_so, const char *what)
@@ -64,9 +68,16 @@ void __wrap_free(void *block)
     __real_free(block);
 }
 
-/* Every second mapping begins 37 pages later than the kernel has it. */
+/* Every second mapping begins 37 pages later than the kernel has it. A mapping at an address is one that was there before. */
 void *__wrap_mmap(void *at, size_t length, int protection, int flags, int file, off_t offset)
 {
+    if (at != NULL) {
+        expect(flags == (MAP_PRIVATE | MAP_ANONYMOUS | MAP_FIXED_NOREPLACE) && file == -1, "another mapping is requested at an address");
+        void *found = __real_mmap(at, length, protection, flags, file, offset);
+        expect((found == at) == (target_of_refused == UNMAPPED), "the target of a refused remapping is taken for another one");
+        mapped += found == at ? (int64_t)length : 0;
+        return found;
+    }
     expect(at == NULL && protection == (PROT_READ | PROT_WRITE) && flags == (MAP_PRIVATE | MAP_ANONYMOUS) && file == -1 && offset == 0, "another mapping is requested");
     static int count;
     size_t shift = ++count % 2 ? 37 * 4096 : 0;
@@ -87,17 +98,39 @@ int __wrap_munmap(void *at, size_t length)
     return __real_munmap(at, length);
 }
 
-/* A refused call has unmapped the target, as the kernel may do. Another call replaces it, and unmaps the old place. */
+/* A refused call may have unmapped the target, and another thread may have mapped something there. A call that is carried out
+ * replaces it, and unmaps the old place. */
 void *__wrap_mremap(void *old, size_t length, size_t size, int flags, void *at)
 {
     expect(flags == (MREMAP_MAYMOVE | MREMAP_FIXED) && length < size, "another remapping is requested");
     if (refuses()) {
-        expect(__wrap_munmap(at, size) == 0, "the target was not mapped");
+        target_of_refused = (target_of_refused + 1) % 4;
+        if (target_of_refused != KEPT)
+            expect(__wrap_munmap(at, size) == 0, "the target was not mapped");
+        if (target_of_refused == TAKEN || target_of_refused == UNREADABLE) {
+            expect(foreign == NULL, "two targets are taken at once");
+            foreign = __real_mmap(at, 4096, target_of_refused == TAKEN ? PROT_READ | PROT_WRITE : PROT_NONE,
+                                  MAP_PRIVATE | MAP_ANONYMOUS | MAP_FIXED_NOREPLACE, -1, 0);
+            expect(foreign == at, "nothing can be mapped there");
+        }
         return MAP_FAILED;
     }
     void *moved = __real_mremap(old, length, size, flags, at);
     mapped -= moved != MAP_FAILED ? (int64_t)length : 0;
     return moved;
+}
+
+/* What another thread has mapped is as it was. */
+static void expect_foreign(void)
+{
+    if (foreign == NULL)
+        return;
+    unsigned char resident;
+    expect(mincore(foreign, 4096, &resident) == 0, "what another thread has mapped was unmapped");
+    if (target_of_refused == TAKEN)
+        expect(*(char *)foreign == 0, "what another thread has mapped was changed");
+    expect(__real_munmap(foreign, 4096) == 0, "what another thread has mapped was unmapped");
+    foreign = NULL;
 }
 
 /* Every second advice is given to the kernel. */
@@ -188,6 +221,7 @@ static void resize(struct held *h, bool may_be_refused)
     until_refusal = may_be_refused ? draw() % 3 : INT64_MAX;
     struct tried got = rattle_realloc(h->block, kept, size, 16);
     until_refusal = INT64_MAX;
+    expect_foreign();
     if (!got.ok) {
         expect(may_be_refused && got.block != NULL, "a refusal without a cause, or with NULL");
         expect_bytes(h->block, h->size, h->size, h->seed);
@@ -223,6 +257,69 @@ static void step(struct held *h, bool may_be_refused)
     }
 }
 
+/* A block grows where the kernel refuses to move its pages: its bytes are copied; it is refused where another thread has mapped
+ * something in the way. */
+static void copy_where_moving_is_refused(void)
+{
+    for (int i = 0; i < 12; i++) {
+        struct tried block = rattle_alloc(5 * MB, 16);
+        expect(block.ok, "no memory");
+        fill(block.block, 5 * MB, 3);
+        until_refusal = 1;
+        struct tried got = rattle_realloc(block.block, 5 * MB, 11 * MB, 16);
+        until_refusal = INT64_MAX;
+        expect(got.ok == (target_of_refused == KEPT || target_of_refused == UNMAPPED), "a block is copied, or refused, at the wrong time");
+        expect_foreign();
+        expect_bytes(got.ok ? got.block : block.block, 5 * MB, 5 * MB, 3);
+        expect(mapped == (got.ok ? 12 : 6) * (int64_t)MB + 4096, "more or fewer bytes are mapped than a copied block needs");
+        rattle_dealloc(got.ok ? got.block : block.block);
+    }
+}
+
+/* The bytes of this process's addresses. */
+static size_t addresses(void)
+{
+    size_t pages = 0;
+    FILE *file = fopen("/proc/self/statm", "r");
+    expect(file != NULL && fscanf(file, "%zu", &pages) == 1, "the size of the process is not known");
+    fclose(file);
+    return pages * 4096;
+}
+
+/* Near the kernel's limit of mappings, with 0 to 8 that are left, a block grows, and its bytes are copied, or it is refused; no
+ * address is lost. The other mappings are single pages, each of another protection than the one before it. */
+static void grow_near_limit(void)
+{
+    enum { MOST = 1 << 20, NEAR = 9 };
+    char **pages = malloc(MOST * sizeof *pages);
+    uint8_t *blocks[NEAR];
+    int count = 0, grown = 0;
+    expect(pages != NULL, "no memory");
+    for (int i = 0; i < NEAR; i++) {
+        struct tried block = rattle_alloc(8 * MB, 16);
+        expect(block.ok, "no memory");
+        fill(blocks[i] = block.block, 8 * MB, 5);
+    }
+    while (count < MOST && (pages[count] = __real_mmap(NULL, 4096, count % 2 ? PROT_READ : PROT_NONE, MAP_PRIVATE | MAP_ANONYMOUS, -1, 0)) != MAP_FAILED)
+        count++;
+    expect(count < MOST, "the kernel has no limit of mappings");
+    for (int i = 0; i < NEAR; i++) {
+        size_t before = addresses();
+        struct tried got = rattle_realloc(blocks[i], 8 * MB, 24 * MB, 16);
+        blocks[i] = got.ok ? got.block : blocks[i];
+        expect_bytes(blocks[i], 8 * MB, 8 * MB, 5);
+        expect(addresses() == before + (got.ok ? 16 * (size_t)MB : 0), "addresses were lost near the limit of mappings");
+        grown += got.ok;
+        __real_munmap(pages[--count], 4096);
+    }
+    expect(grown > 5, "few blocks grew near the limit of mappings");
+    while (count > 0)
+        __real_munmap(pages[--count], 4096);
+    for (int i = 0; i < NEAR; i++)
+        rattle_dealloc(blocks[i]);
+    free(pages);
+}
+
 int main(void)
 {
     for (int i = 0; i < STEPS; i++) {
@@ -235,6 +332,8 @@ int main(void)
             expect_bytes(held[i].block, held[i].size, held[i].size, held[i].seed);
             rattle_dealloc(held[i].block);
         }
+    copy_where_moving_is_refused();
+    grow_near_limit();
     expect(at_boundary > 100, "malloc returned few blocks at multiples of 2 MB");
     expect(plain == 0 && mapped == 0, "memory was not returned");
     return 0;

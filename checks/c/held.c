@@ -15,7 +15,6 @@ static void table(const char *folder, const char *file, const char *name, bool d
     uint64_t size = 0, again = 0;
     uint32_t number = 0;
     want("number", szg_number(&t, 0, 2, 0, &number), dtz ? SZG_DONE : SZG_RANGE);
-    if (dtz) printf("%s: value 0 of a win is %u\n", file, number);
     want("number of a draw", szg_number(&t, 0, 0, 0, &number), dtz ? SZG_DRAW : SZG_RANGE);
     want("number of no class", szg_number(&t, 0, 3, 0, &number), SZG_RANGE);
     want("number past the map", szg_number(&t, 0, 2, 65535, &number), dtz ? SZG_OUTSIDE_MAP : SZG_RANGE);
@@ -38,11 +37,6 @@ static void table(const char *folder, const char *file, const char *name, bool d
     want("outside", szg_get(&t, 0, 0, size, &value), SZG_RANGE);
     want("no part", szg_get(&t, 4, 0, 0, &value), SZG_RANGE);
     want("no side", szg_get(&t, 0, 2, 0, &value), SZG_RANGE);
-    double begun = now();
-    uint64_t sum = 0;
-    int count = 20000000;
-    for (int i = 0; i < count; i++) { szg_get(&t, 0, 0, i & 15, &value); sum += value; }
-    printf("%s: %.1f ns a get near a block's begin (%llu)\n", file, (now() - begun) * 1e9 / count, (unsigned long long)sum);
     szg_close(&t);
     szg_close(&t);
     want("closed", szg_get(&t, 0, 0, 0, &value), SZG_CLOSED);
@@ -50,8 +44,6 @@ static void table(const char *folder, const char *file, const char *name, bool d
 }
 
 int main(int count, char **words) {
-    const char *folder = count > 1 ? words[1] : "data";
-    each_sample(folder, table);
-    if (!failed) puts("all as expected");
-    return failed;
+    each_sample(folder_of(count, words), table);
+    return ended();
 }

@@ -146,7 +146,7 @@ static void other_side(void) {
 }
 
 int main(int count, char **words) {
-    const char *folder = count > 1 ? words[1] : "data";
+    const char *folder = folder_of(count, words);
     static const uint8_t knight[9] = {6, 0, 1, 2, 0, 0, 6, 1, 2};
     refused("closed", 0, 0, 0, SZG_MAX_MEN, SZG_CLOSED);
     size_t n = load(folder, "knvk_wdl_constant.rtbw");
@@ -171,6 +171,5 @@ int main(int count, char **words) {
     szg_close(&table);
     szg_close_front(&front);
     refused("closed again", 0, 0, 0, SZG_MAX_MEN, SZG_CLOSED);
-    if (!failed) puts("all as expected");
-    return failed;
+    return ended();
 }

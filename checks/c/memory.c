@@ -155,10 +155,6 @@ static void table(const char *folder, const char *file, const char *name, bool d
 }
 
 int main(int count, char **words) {
-    const char *folder = count > 1 ? words[1] : "data";
-    table(folder, "knvk_wdl_constant.rtbw", "KNvK", false);
-    table(folder, "kqvk_wdl_paired.rtbw", "KQvK", false);
-    table(folder, "kpvk_dtz_mapped.rtbz", "KPvK", true);
-    if (!failed) puts("all as expected");
-    return failed;
+    each_sample(folder_of(count, words), table);
+    return ended();
 }

@@ -50,7 +50,6 @@ static void hold_bishops(const char *order) {
 static void all_of_queen(void) {
     szg_man men[3] = {{SZG_KING, SZG_WHITE, 0}, {SZG_QUEEN, SZG_WHITE, 0}, {SZG_KING, SZG_BLACK, 0}};
     int64_t probes = 0, outcome = 0;
-    double begun = (double)clock();
     for (int i = 0; i < 1 << 19; i++) {
         for (int k = 0; k < 3; k++) men[k].square = i >> 6 * k & 63;
         bool apart = men[0].square != men[1].square && men[0].square != men[2].square && men[1].square != men[2].square;
@@ -65,8 +64,7 @@ static void all_of_queen(void) {
         want("class", outcome, value - 2);
         probes++;
     }
-    printf("%lld placements, %.0f ns for each probe, index and get together\n", (long long)probes,
-           ((double)clock() - begun) / CLOCKS_PER_SEC * 1e9 / (double)probes);
+    want("placements", probes, 2 * 64 * 63 * 62);
 }
 
 static void no_placements(void) {
@@ -90,7 +88,7 @@ static void no_placements(void) {
 }
 
 int main(int count, char **words) {
-    const char *folder = count > 1 ? words[1] : "data";
+    const char *folder = folder_of(count, words);
     probe_is("Kb1 Na1 kc1", SZG_WHITE, 0, SZG_CLOSED, 0);
     index_is("Kb1 Na1 kc1", SZG_WHITE, SZG_CLOSED, (szg_spot){0, 0, 0});
 
@@ -129,6 +127,5 @@ int main(int count, char **words) {
     probe_is("Ke1 Pa2 ke8", SZG_BLACK, 2, SZG_WRONG_SIDE, 0);
 
     szg_close(&table);
-    if (!failed) puts("all as expected");
-    return failed;
+    return ended();
 }

@@ -1,61 +1,91 @@
-/* Threads that ask one table at once, each by a handle of its own: threads FOLDER. The status is 0 where all is as
- * expected. */
+/* Threads that ask one table or one opened front in one map at once, each by a handle of its own and without a lock: threads
+ * FOLDER. The status is 0 where all is as expected. */
 #include "trying.h"
 #include <pthread.h>
 
-enum { THREADS = 4, ROUNDS = 20 };
+enum { THREADS = 4, ROUNDS = 12 };
 
 static uint16_t *values;
 static uint64_t size;
+static size_t length;
 
-struct asker {
+/* A table or an opened front, and what its thread finds. */
+struct handle {
+    bool is_front;
     szg_table table;
+    szg_front front;
     uint64_t faults;
     pthread_t thread;
 };
 
+static uint32_t share(struct handle *from, struct handle *to) {
+    to->is_front = from->is_front;
+    return from->is_front ? szg_share_front(&from->front, &to->front) : szg_share(&from->table, &to->table);
+}
+
+static uint32_t get(struct handle *handle, uint64_t i, uint16_t *value) {
+    szg_bad_block bad;
+    return handle->is_front ? szg_front_get(&handle->front, bytes, length, 0, 0, i, value, &bad) : szg_get(&handle->table, 0, 0, i, value);
+}
+
+static uint32_t size_by(struct handle *handle) {
+    return handle->is_front ? szg_front_size(&handle->front, 0, 0, &size) : szg_positions(&handle->table, 0, 0, &size);
+}
+
+static void let_go(struct handle *handle) {
+    szg_close(&handle->table);
+    szg_close_front(&handle->front);
+}
+
 static void *ask(void *given) {
-    struct asker *asker = given;
+    struct handle *own = given;
     for (int round = 0; round < ROUNDS; round++)
         for (uint64_t i = 0; i < size; i += 7) {
             uint16_t value = 77;
-            szg_table mine = SZG_NO_TABLE;
-            if (i % 49 == 0 && szg_share(&asker->table, &mine) != SZG_DONE) asker->faults++;
-            szg_table *asked = mine.held ? &mine : &asker->table;
-            if (szg_get(asked, 0, 0, i, &value) != SZG_DONE || value != values[i]) asker->faults++;
-            szg_close(&mine);
+            struct handle shared = {own->is_front, SZG_NO_TABLE, SZG_NO_FRONT, 0, 0};
+            bool is_shared = i % 49 == 0 && share(own, &shared) == SZG_DONE;
+            own->faults += i % 49 == 0 && !is_shared;
+            if (get(is_shared ? &shared : own, i, &value) != SZG_DONE || value != values[i]) own->faults++;
+            let_go(&shared);
         }
-    szg_close(&asker->table);
+    let_go(own);
     return NULL;
 }
 
-int main(int count, char **words) {
-    size_t length = load(count > 1 ? words[1] : "data", "kqvk_wdl_unpaired.rtbw");
-
-    szg_table table = SZG_NO_TABLE, none = SZG_NO_TABLE;
+static void try_threads(bool is_front) {
+    struct handle first = {is_front, SZG_NO_TABLE, SZG_NO_FRONT, 0, 0}, none = first, own[THREADS];
     szg_answer answer;
-    struct asker askers[THREADS] = {{SZG_NO_TABLE, 0, 0}};
-    uint64_t faults = szg_open("KQvK", 4, false, bytes, length, &table, &answer) != SZG_DONE;
-    faults += szg_positions(&table, 0, 0, &size) != SZG_DONE;
-    values = malloc(size * sizeof *values);
-    faults += !values || szg_all(&table, 0, 0, values, size) != SZG_DONE;
-    if (faults) return puts("no table"), 1;
+    want("open", is_front ? szg_open_front("KQvK", 4, false, bytes, length, &first.front, &answer)
+                          : szg_open("KQvK", 4, false, bytes, length, &first.table, &answer), SZG_DONE);
+    for (int i = 0; i < THREADS; i++) own[i] = none;
 
     /* a handle that holds a table lets it go for the one that it shares, or for none */
-    faults += szg_share(&table, &askers[0].table) != SZG_DONE;
-    faults += szg_share(&none, &askers[0].table) != SZG_CLOSED;
-    faults += szg_positions(&askers[0].table, 0, 0, &size) != SZG_CLOSED;
+    want("share", share(&first, &own[0]), SZG_DONE);
+    want("share none", share(&none, &own[0]), SZG_CLOSED);
+    want("size of none", size_by(&own[0]), SZG_CLOSED);
 
+    want("size", size_by(&first), SZG_DONE);
     for (int i = 0; i < THREADS; i++) {
-        faults += szg_share(&table, &askers[i].table) != SZG_DONE;
-        faults += pthread_create(&askers[i].thread, NULL, ask, &askers[i]) != 0;
+        want("share", share(&first, &own[i]), SZG_DONE);
+        want("thread", pthread_create(&own[i].thread, NULL, ask, &own[i]), 0);
     }
+    let_go(&first);
+    for (int i = 0; i < THREADS; i++) {
+        pthread_join(own[i].thread, NULL);
+        want(is_front ? "faults of a thread by a front" : "faults of a thread", (int64_t)own[i].faults, 0);
+    }
+}
+
+int main(int count, char **words) {
+    szg_table table = SZG_NO_TABLE;
+    szg_answer answer;
+    length = load(folder_of(count, words), "kqvk_wdl_unpaired.rtbw");
+    want("open", szg_open("KQvK", 4, false, bytes, length, &table, &answer), SZG_DONE);
+    want("size", szg_positions(&table, 0, 0, &size), SZG_DONE);
+    values = malloc(size * sizeof *values);
+    want("values", szg_all(&table, 0, 0, values, size), SZG_DONE);
     szg_close(&table);
-    for (int i = 0; i < THREADS; i++) {
-        pthread_join(askers[i].thread, NULL);
-        faults += askers[i].faults;
-    }
+    if (!failed) try_threads(false), try_threads(true);
     free(values);
-    puts(faults ? "threads: faults" : "all as expected");
-    return faults != 0;
+    return ended();
 }

@@ -1,4 +1,6 @@
 """The package's face, and what becomes of each status of the library."""
+import ctypes
+import gc
 import inspect
 import os
 import pickle
@@ -47,7 +49,8 @@ def test_the_examples_of_the_readme_run(folder: Path, monkeypatch: pytest.Monkey
 
 
 def test_errors_are_pickled() -> None:
-    for error in (szg.Refused(7, "Word"), szg.Untold("Man"), szg.Changed("it"), szg.MissingTableError("none"), szg.BadBlock(3, 320)):
+    for error in (szg.Refused(7, "Word"), szg.Refused(7, "Word", "KQvK.rtbw"), szg.Untold("Man"), szg.Changed("it"), szg.MissingTableError("none"),
+                  szg.BadBlock(3, 320), szg.BadBlock(3, 320, "KQvK.rtbw")):
         again = pickle.loads(pickle.dumps(error))
         assert type(again) is type(error) and str(again) == str(error) and vars(again) == vars(error)
 
@@ -92,17 +95,18 @@ def test_a_text_longer_than_the_buffer_is_whole() -> None:
 
 def test_the_version_is_the_librarys(monkeypatch: pytest.MonkeyPatch) -> None:
     assert szg.version == szg.__version__ == _library._text(_library.library.szg_version)
-    for fine in ("1.2.4", "1.2.7"):
+    major, minor, patch = map(int, szg.__version__.split("."))
+    for fine in (szg.__version__, f"{major}.{minor}.{patch + 3}"):
         assert _library.require_version(fine) == fine
-    for other in ("1.0.0", "1.3.0", "2.0.0", "1.10.0", ""):
-        with pytest.raises(ImportError, match=f"has the version {other}, and szg 1.2.4 needs its own$"):
+    for other in (f"{major}.{minor + 1}.{patch}", f"{major + 1}.{minor}.{patch}", f"{major}.1{minor}.{patch}", ""):
+        with pytest.raises(ImportError, match=f"has the version {other}, and szg {szg.__version__} needs its own$"):
             _library.require_version(other)
 
 
 def test_a_library_that_lacks_a_call_is_an_import_error(monkeypatch: pytest.MonkeyPatch) -> None:
     # the system's C library has none of the calls
     monkeypatch.setenv("SZG_LIBRARY", "libc.so.6")
-    with pytest.raises(ImportError, match="^libc.so.6 has no szg_version: szg 1.2.4 needs another library$"):
+    with pytest.raises(ImportError, match=f"^libc.so.6 has no szg_version: szg {szg.__version__} needs another library$"):
         _library._load()
 
 
@@ -115,19 +119,17 @@ def test_a_library_that_lacks_a_call_is_an_import_error(monkeypatch: pytest.Monk
     (11, szg.Untold, "the table has no entry: Irregular"), (12, szg.Untold, "the table has no entry: KingsTouch"),
     (13, szg.Untold, "the table has no entry: WrongSide"), (14, szg.Untold, "the table has no entry: NoClass"),
     (15, szg.Untold, "the table has no entry: Draw"), (16, szg.Untold, "the table has no entry: OutsideMap"),
-    (17, szg.Changed, "the table's file was changed"), (18, RuntimeError, "the library returned the status 18"),
+    (17, szg.Changed, "the table's file was changed"), (18, szg.BadBlock, "block 0 at 0 does not decode"),
     (19, RuntimeError, "the library returned the status 19"),
 ])
 def test_each_status_of_a_call_is_an_exception(status: int, fault: type, said: str) -> None:
     with szg.Table("KQvK", "wdl", UNPAIRED.data) as table:
         front = table._opened._front
-        with pytest.raises(fault) as caught:
-            front(lambda *_: status)
-        assert type(caught.value) is fault and str(caught.value) == said
-        if status != _library.BAD_BLOCK:
-            with pytest.raises(fault, match=f"^{said}$"):
-                front.fetch(lambda *_: status, table._opened._bytes())
-        front(lambda *_: 0), front.fetch(lambda *_: 0, table._opened._bytes())
+        for call in (front, front.fetch) if status != _library.BAD_BLOCK else (front.fetch,):
+            with pytest.raises(fault) as caught:
+                call(lambda *_: status)
+            assert type(caught.value) is fault and str(caught.value) == said
+        front(lambda *_: 0), front.fetch(lambda *_: 0)
         assert table.get(11711) == 4
 
 
@@ -160,30 +162,68 @@ def test_verifying_at_opening_loses_no_want_of_memory(call, tmp_path: Path, monk
 
 
 def test_closing_lets_the_librarys_handles_go(tmp_path: Path, monkeypatch: pytest.MonkeyPatch) -> None:
-    """Each handle that is made is closed once, however the table goes."""
+    """Each handle that is made is closed once, however the table goes; no collection is waited for."""
     path = tmp_path / "KQvK.rtbw"
     path.write_bytes(UNPAIRED.data)
-    made, closed = [], []
+    open_handles = set()
     for name in ("szg_open_front", "szg_share_front"):
         def make(*words, call=getattr(_library.library, name), at=-2 if "open" in name else -1):
-            made.append(words[at]._obj)
-            return call(*words)
+            status = call(*words)
+            open_handles.add(words[at].held)
+            return status
         monkeypatch.setattr(_library.library, name, make)
 
-    def close(word, call=_library.library.szg_close_front):
-        closed.append(word._obj)
-        call(word)
-    monkeypatch.setattr(_library.library, "szg_close_front", close)
-    for count, way in enumerate(("closed", "dropped", "closed while it serves"), 1):
-        table = szg.Table.open(path)
-        table.get(0), table.size()
-        if way == "closed":
-            table.close()
-        if way == "closed while it serves":
-            table._opened._front(lambda *_: table.close() or 0)
+    def close(handle, call=_library.library.szg_close_front):
+        if handle.held:
+            open_handles.remove(handle.held)
+        call(handle)
+        assert not handle.held
+    assert hasattr(_library.Handle, "__del__")
+    monkeypatch.setattr(_library.Handle, "__del__", close)
+    gc.disable()
+    try:
+        for way in ("closed", "dropped", "closed while it serves", "closed by an exception", "shared by two calls"):
+            table = szg.Table.open(path)
+            table.get(0), table.size()
+            front = table._opened._front
+            assert len(open_handles) == 2
+            if way == "closed":
+                table.close()
+            if way == "closed while it serves":
+                front(lambda *_: table.close() or 0)
+            assert len(open_handles) == (0 if "closed" in way and "exception" not in way else 2)
+            if way == "closed by an exception":
+                pytest.raises(ZeroDivisionError, front, lambda *_: 1 // 0)
+                assert len(open_handles) == 1 and table.get(11711) == 4 and len(open_handles) == 2
+            if way == "shared by two calls":
+                # as a call that comes while another one shares: its front is opened once more
+                front._idle.clear(), front._first.clear()
+                assert table.get(11711) == 4 and len(open_handles) == 1
+            del table, front
+            assert not open_handles, way
+    finally:
+        gc.enable()
+
+
+def test_nothing_of_a_closed_table_stays_in_memory() -> None:
+    """By the C library's own count, over the sample with most symbols."""
+    class Info(ctypes.Structure):
+        _fields_ = [(name, ctypes.c_size_t) for name in "arena ordblks smblks hblks hblkhd usmblks fsmblks uordblks fordblks keepcost".split()]
+    system = ctypes.CDLL(None)
+    if not hasattr(system, "mallinfo2"):
+        pytest.skip("it needs glibc 2.33")
+    system.mallinfo2.restype = Info
+
+    def use(count: int) -> int:
+        for number in range(count):
+            table = szg.Table("KQvK", "wdl", UNPAIRED.data)
+            table.get(number), table.size()
+            if number % 2:
+                table.close()
         del table
-        assert len(made) == 2 * count and {id(one) for one in made} == {id(one) for one in closed}
-        assert all(not one.held for one in made)
+        return system.mallinfo2().uordblks
+    before = use(100)
+    assert use(1000) - before < 500_000
 
 
 def test_the_library_is_found(tmp_path: Path) -> None:

@@ -1,14 +1,20 @@
 """Single tables, held against the second reader."""
 import array
+import copy
+import ctypes
 import gc
 import mmap
+import os
+import pickle
+import resource
 import struct
+from pathlib import Path
 
 import pytest
 import szg
 from conftest import DAMAGED, KNIGHT, PAIRED, PAWN, UNPAIRED, Board, Sample, block_values
 from damaged_files import Damaged
-from szg import BISHOP, BLACK, KING, QUEEN, ROOK, WHITE
+from szg import BISHOP, BLACK, KING, QUEEN, ROOK, WHITE, _library, _mapped
 
 QUEEN_MEN = [(KING, WHITE, 60), (QUEEN, WHITE, 0), (KING, BLACK, 7)]
 PAWN_MEN = [(KING, WHITE, 4), (szg.PAWN, WHITE, 12), (KING, BLACK, 60)]
@@ -31,7 +37,8 @@ def opened(sample: Sample, tmp_path, way: str) -> szg.Table:
 def test_values_are_the_second_readers(each_sample: Sample, tmp_path, way: str) -> None:
     with opened(each_sample, tmp_path, way) as table:
         assert (table.name, table.kind) == (each_sample.name, each_sample.kind)
-        assert repr(table) == f"<szg.Table {each_sample.name} {each_sample.kind}>"
+        path = "" if way == "bytes" else f" {str(tmp_path / each_sample.file_name)!r}"
+        assert repr(table) == f"<szg.Table {each_sample.name} {each_sample.kind}{path}>"
         for sub in each_sample.read.subs:
             assert table.size(sub.part, sub.side) == sub.size
             assert table.values(sub.part, sub.side).tolist() == sub.all_values()
@@ -45,6 +52,7 @@ def test_values_are_the_second_readers(each_sample: Sample, tmp_path, way: str) 
                 with pytest.raises(IndexError):
                     call(part, side)
         assert table.verify() == len(each_sample.data)
+    assert repr(table) == f"<szg.Table {each_sample.name} {each_sample.kind}{path}, closed>"
 
 
 def test_what_follows_the_table_is_not_looked_at(each_sample: Sample, tmp_path) -> None:
@@ -98,6 +106,38 @@ def test_what_is_not_bytes_is_a_type_error(data: object) -> None:
         szg.Table("KQvK", "wdl", data)
 
 
+def test_an_array_that_is_not_contiguous_is_a_type_error(monkeypatch: pytest.MonkeyPatch) -> None:
+    """numpy raises ValueError for one."""
+    def refuse(*_: object) -> None:
+        raise ValueError("ndarray is not C-contiguous")
+    with monkeypatch.context() as patch:
+        patch.setattr(_library._python, "PyObject_GetBuffer", refuse)
+        with pytest.raises(TypeError, match="^data must be a contiguous bytes-like object, not bytes$"):
+            szg.Table("KQvK", "wdl", PAIRED.data)
+    numpy = pytest.importorskip("numpy")
+    square = numpy.zeros((70, 70), numpy.uint8)
+    for wrong in (square[::2], square.T, square[:, 1:]):
+        with pytest.raises(TypeError, match="^data must be a contiguous bytes-like object, not ndarray$"):
+            szg.Table("KQvK", "wdl", wrong)
+
+
+def test_another_package_has_its_own_argument_types() -> None:
+    class View(ctypes.Structure):
+        _fields_ = [("buf", ctypes.c_void_p)]
+    calls = ctypes.pythonapi.PyObject_GetBuffer, ctypes.pythonapi.PyBuffer_Release
+    before = [(call.argtypes, call.restype) for call in calls]
+    data = bytearray(PAIRED.data)
+    try:
+        for call in calls:
+            call.argtypes, call.restype = [ctypes.POINTER(View)], ctypes.c_void_p
+        szg.Table("KQvK", "wdl", data).close()
+        gc.collect()
+    finally:
+        for call, (arguments, result) in zip(calls, before):
+            call.argtypes, call.restype = arguments, result
+    data.append(0)
+
+
 def test_each_reason_with_its_byte(each_damaged: Damaged, tmp_path) -> None:
     """Opening finds each fault but one in a block, which `verify` finds."""
     name, kind, data = each_damaged.name, each_damaged.kind, each_damaged.data
@@ -109,11 +149,14 @@ def test_each_reason_with_its_byte(each_damaged: Damaged, tmp_path) -> None:
         calls += [lambda: opening[0]().verify(), lambda: opening[1]().verify()]
     else:
         calls += opening
-    for call in calls:
+    for number, call in enumerate(calls):
         with pytest.raises(szg.Refused) as caught:
             call()
         assert (caught.value.place, caught.value.reason) == (each_damaged.place, each_damaged.reason)
-        assert str(caught.value) == f"refused at {each_damaged.place}: {each_damaged.reason}"
+        # bytes and files in turn
+        of_file = number % 2 == 1
+        assert caught.value.path == (str(path) if of_file else None)
+        assert str(caught.value) == f"{path}: " * of_file + f"refused at {each_damaged.place}: {each_damaged.reason}"
         assert isinstance(caught.value, ValueError)
 
 
@@ -124,12 +167,13 @@ def test_opening_looks_at_no_block(tmp_path) -> None:
     data[sub.first_block:sub.first_block + (sub.block_count << sub.block_bits)] = bytes(sub.block_count << sub.block_bits)
     path = tmp_path / "KQvK.rtbw"
     path.write_bytes(data)
-    for table in (szg.Table("KQvK", "wdl", data), szg.Table.open(path)):
+    for table, of_file in ((szg.Table("KQvK", "wdl", data), None), (szg.Table.open(path), str(path))):
         assert table.size() == sub.size and table.index(QUEEN_MEN, WHITE).index == 11711
         for call in (lambda: table.get(11711), lambda: table.probe_wdl(QUEEN_MEN, WHITE)):
             with pytest.raises(szg.BadBlock) as caught:
                 call()
             assert caught.value.offset == sub.first_block + (caught.value.block << sub.block_bits)
+            assert caught.value.path == of_file
         for call in (table.verify, table.values):
             with pytest.raises(szg.Refused) as refused:
                 call()
@@ -167,7 +211,8 @@ def test_each_changed_byte_of_a_block_is_a_value_or_a_fault(each_sample: Sample)
 
 def test_a_bad_block_is_one_sentence() -> None:
     error = szg.BadBlock(3, 320)
-    assert (error.block, error.offset, str(error)) == (3, 320, "block 3 at 320 does not decode")
+    assert (error.block, error.offset, error.path, str(error)) == (3, 320, None, "block 3 at 320 does not decode")
+    assert str(szg.BadBlock(3, 320, "KQvK.rtbw")) == "KQvK.rtbw: block 3 at 320 does not decode"
     assert isinstance(error, ValueError) and not isinstance(error, szg.Refused)
 
 
@@ -223,9 +268,57 @@ def test_names_and_kinds(tmp_path) -> None:
     for wrong in (7, None, [tmp_path]):
         with pytest.raises(TypeError):
             szg.Table.open(wrong)
-    with pytest.raises(IsADirectoryError):
+    with pytest.raises(IsADirectoryError) as caught:
         (tmp_path / "KRvK.rtbw").mkdir()
         szg.Table.open(tmp_path / "KRvK.rtbw")
+    assert str(tmp_path / "KRvK.rtbw") in str(caught.value)
+
+
+def test_a_mapped_table_keeps_no_descriptor(tmp_path: Path) -> None:
+    """A thousand tables where sixteen more files may be open; they are unmapped when they go."""
+    path = tmp_path / "KQvK.rtbw"
+    path.write_bytes(UNPAIRED.data)
+
+    def maps() -> int:
+        return Path("/proc/self/maps").read_text().count(str(path))
+    limits = resource.getrlimit(resource.RLIMIT_NOFILE)
+    resource.setrlimit(resource.RLIMIT_NOFILE, (len(os.listdir("/proc/self/fd")) + 16, limits[1]))
+    try:
+        tables = [szg.Table.open(path) for _ in range(1000)]
+    finally:
+        resource.setrlimit(resource.RLIMIT_NOFILE, limits)
+    assert maps() == 1000 and all(table.get(11711) == 4 for table in tables)
+    tables[0].close()
+    assert maps() == 999
+    del tables
+    assert maps() == 0
+
+
+def test_a_file_that_the_system_maps_not_is_its_error(tmp_path: Path, monkeypatch: pytest.MonkeyPatch) -> None:
+    path = tmp_path / "KQvK.rtbw"
+    path.write_bytes(UNPAIRED.data)
+
+    def refuse(*_: int) -> int:
+        ctypes.set_errno(12)
+        return (1 << 64) - 1
+    monkeypatch.setattr(_mapped._system, "mmap", refuse)
+    with pytest.raises(OSError) as caught:
+        szg.Table.open(path)
+    assert str(caught.value) == f"[Errno 12] Cannot allocate memory: {str(path)!r}"
+
+
+@pytest.mark.parametrize("way", ["bytes", "path", "text of a path"])
+@pytest.mark.parametrize("again", [copy.copy, copy.deepcopy, lambda table: pickle.loads(pickle.dumps(table))])
+def test_a_copy_is_a_table_of_its_own(tmp_path: Path, way: str, again, monkeypatch: pytest.MonkeyPatch) -> None:
+    monkeypatch.chdir(tmp_path)
+    table = opened(UNPAIRED, Path("."), way)
+    monkeypatch.chdir("/")
+    second = again(table)
+    assert (type(second), second.name, second.kind, repr(second)) == (szg.Table, "KQvK", "wdl", repr(table))
+    table.close()
+    assert second.get(11711) == 4 and second.values().tolist() == UNPAIRED.read.subs[0].all_values()
+    with pytest.raises(ValueError, match="^the table is closed$"):
+        again(table)
 
 
 def test_a_closed_table(each_sample: Sample, tmp_path) -> None:

@@ -1,5 +1,7 @@
 """Folders of tables."""
+import copy
 import os
+import pickle
 from pathlib import Path
 
 import pytest
@@ -90,6 +92,7 @@ def test_a_file_that_is_no_table_is_refused_when_it_is_probed(folder: Path) -> N
             for call in (tables.probe_wdl_table, tables.get_wdl, tables.probe_wdl_table):
                 caught = pytest.raises(szg.Refused, call, ROOK_FEN).value
                 assert caught.reason in ("Truncated", "Pieces") and caught.place == (place if not data else 6)
+                assert str(caught).startswith(f"{folder / 'KRvK.rtbw'}: refused at ")
             assert tables.probe_wdl_table(QUEEN_FEN) == 2
     (folder / "KRvK.rtbw").unlink()
     with szg.open_tablebase(folder) as tables:
@@ -106,7 +109,7 @@ def test_a_bad_block_spoils_no_other_probe(folder: Path) -> None:
     with szg.open_tablebase(folder) as tables:
         for call in (tables.probe_wdl_table, tables.get_wdl):
             caught = pytest.raises(szg.BadBlock, call, QUEEN_FEN).value
-            assert (caught.block, caught.offset) == (block, at)
+            assert (caught.block, caught.offset, caught.path) == (block, at, str(folder / "KQvK.rtbw"))
         assert tables.probe_wdl_table("4K3/8/8/8/8/8/8/Q6k b") == 0
         assert tables.probe_dtz_table(PAWN_FEN, 2) == (600, 1)
 
@@ -137,10 +140,73 @@ def test_a_bound_on_open_tables(folder: Path) -> None:
         for _ in range(3):
             assert tables.probe_wdl_table(QUEEN_FEN) == 2
             assert tables.probe_dtz_table(PAWN_FEN, 2) == (600, 1)
-            assert sum(entry.table is not None for entry in tables._entries.values()) == 1
+            assert list(tables._tables) == [("KPvK", "dtz")]
     with szg.open_tablebase(folder) as tables:
         tables.probe_wdl_table(QUEEN_FEN), tables.probe_dtz_table(PAWN_FEN, 2)
-        assert sum(entry.table is not None for entry in tables._entries.values()) == 2
+        assert len(tables._tables) == 2
+    with szg.open_tablebase(folder, max_tables=2) as tables:
+        for call in (lambda: tables.probe_wdl_table(QUEEN_FEN), lambda: tables.probe_dtz_table(PAWN_FEN, 2), lambda: tables.probe_wdl_table(QUEEN_FEN),
+                     lambda: tables.probe_wdl_table("4k3/8/8/8/8/8/8/N3K3 w")):
+            call()
+        # the one that was probed longest ago went
+        assert list(tables._tables) == [("KQvK", "wdl"), ("KNvK", "wdl")]
+
+
+def test_what_goes_wrong_between_calls(folder: Path, tmp_path: Path, monkeypatch: pytest.MonkeyPatch) -> None:
+    """A call that comes in the middle of another one: it closes, it adds a folder, it opens the same table."""
+    other = tmp_path / "other"
+    other.mkdir()
+    (other / "KNvK.rtbw").write_bytes(KNIGHT.data[:11] + b"\x04" + KNIGHT.data[12:])
+    fen, opening = "4k3/8/8/8/8/8/8/N3K3 w", szg.Table.open
+    for bound in (None, 1):
+        for what in ("close", "add", "probe"):
+            tables, comes = szg.open_tablebase(folder, max_tables=bound), [True]
+            assert tables.probe_wdl_table(QUEEN_FEN) == 2
+
+            def opened(path: str) -> szg.Table:
+                if comes.pop() if comes else False:
+                    {"close": tables.close, "add": lambda: tables.add_directory(other), "probe": lambda: tables.probe_wdl_table(fen)}[what]()
+                return opening(path)
+            with monkeypatch.context() as patch:
+                patch.setattr(szg.Table, "open", opened)
+                if what == "close":
+                    pytest.raises(ValueError, tables.probe_wdl_table, fen)
+                else:
+                    assert tables.probe_wdl_table(fen) == (2 if what == "add" else 0)
+            assert not comes and len(tables._tables) == (0 if what == "close" else 2 if bound is None else 1)
+            tables.close()
+            assert not tables._tables
+
+
+def test_other_files_hide_no_folder(folder: Path) -> None:
+    for name in (".rtbw", ".rtbz", "..rtbw", "KQvK", "KNvK.rtbz.rtbz"):
+        (folder / name).write_bytes(UNPAIRED.data)
+    (folder / "KRvK.rtbz").symlink_to("nowhere")
+    (folder / "KBvK.rtbw").symlink_to("KBvK.rtbw")
+    os.mkfifo(folder / "KPvK.rtbw")
+    os.mkfifo(os.fsencode(folder) + b"/K\xffvK.rtbw")
+    with szg.open_tablebase(folder) as tables:
+        assert repr(tables) == "<szg.Tablebase with 3 tables>"
+        assert tables.probe_wdl_table(QUEEN_FEN) == 2 and tables.get_wdl(PAWN_FEN) is None
+    assert repr(tables) == "<szg.Tablebase with 0 tables, closed>"
+
+
+@pytest.mark.parametrize("again", [copy.copy, copy.deepcopy, lambda tables: pickle.loads(pickle.dumps(tables))])
+def test_a_copy_has_the_same_folders(folder: Path, tmp_path: Path, again, monkeypatch: pytest.MonkeyPatch) -> None:
+    other = tmp_path / "other"
+    other.mkdir()
+    (other / "KNvK.rtbw").write_bytes(KNIGHT.data[:11] + b"\x04" + KNIGHT.data[12:])
+    monkeypatch.chdir(folder.parent)
+    tables = szg.open_tablebase(folder.name, load_dtz=False, max_tables=1)
+    tables.add_directory("other", load_wdl=False), tables.add_directory("other")
+    monkeypatch.chdir("/")
+    second = again(tables)
+    tables.close()
+    assert second.probe_wdl_table("4k3/8/8/8/8/8/8/N3K3 w") == second.probe_wdl_table(QUEEN_FEN) == 2
+    assert second.get_dtz(PAWN_FEN, 2) is None and repr(second) == "<szg.Tablebase with 2 tables>"
+    assert list(second._tables) == [("KQvK", "wdl")]
+    with pytest.raises(ValueError, match="^the tablebase is closed$"):
+        again(tables)
 
 
 def test_a_closed_tablebase(folder: Path) -> None:
@@ -162,7 +228,7 @@ def test_names_of_materials(tmp_path: Path) -> None:
         (tmp_path / f"{name}.rtbw").write_bytes(b"")
     (tmp_path / "KQvKR.RTBW").write_bytes(b"")
     with szg.open_tablebase(tmp_path) as tables:
-        assert sorted(name for name, _ in tables._entries) == sorted(
+        assert sorted(name for name, _ in tables._paths) == sorted(
             ["KQvKR", "KNNvKB", "KBPvKN", "KQQvKQ", "KRvKR", "KPvKP", "KQRBNvK"])
         # each is asked by both colours
         for fen in ("4k3/8/8/8/8/8/8/nn2K2B w", "4k3/8/8/8/8/8/8/NN2K2b w", "4k3/8/8/8/8/8/8/q3K2R b"):

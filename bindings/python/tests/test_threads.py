@@ -131,7 +131,7 @@ def test_a_handle_serves_one_call_at_a_time() -> None:
         handles, lock, busy, most = table._opened._front, threading.Lock(), set(), [0]
 
         def slow(handle, *_) -> int:
-            address = id(handle._obj)
+            address = id(handle)
             with lock:
                 assert address not in busy
                 busy.add(address)

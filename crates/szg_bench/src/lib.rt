@@ -1,7 +1,8 @@
-//! The reader of words, the look-ups and the builder through a C interface, for the benchmarks in `bench/`.
+//! The reader of words, the look-ups, the builder and the rules of chess through a C interface, for `bench/` and `checks/`.
 #![tactic(auto)]
 
 mod building;
+mod chess;
 mod opened;
 
 ghost use Rattle.std.specs.Prelude.{◌^◌, ◌≤◌, length};

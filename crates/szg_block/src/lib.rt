@@ -13,12 +13,13 @@ ghost use Rattle.szg_block.specs.Sound.{SpellsNeeded, entry_count as entry_count
 ghost use Rattle.szg_block.specs.Subtable.{layout_of, packed_of, IsShaped, IsShapedHead, IsSoundOver, HasSoundIndex, IsFaultOf, IsIndexFault};
 ghost use Rattle.szg_block.specs.Views.{IsSound};
 
-pub use block_value::{checked_value, find_block, value_in_block};
+pub use block_value::checked_value;
 pub use blocks::{Blocks, SourceFault, Whole};
 pub use decoding::decode_block;
 pub use expanding::Sound;
 use lengths::{needed_from, total};
 use packed::first_bad_block;
+pub use packed::{block_count, block_of};
 pub use paged::Paged;
 pub use probing::{Steps, ValueLocation, locate_value, look_up};
 pub use source::{Image, Source};
@@ -268,8 +269,7 @@ pub fn check_block_from(
     }
 }
 
-/// Checks a subtable with `size` values. Accepts exactly the sound subtables; `find_block` and `value_in_block` require
-/// a sound one.
+/// Checks a subtable with `size` values. Accepts exactly the sound subtables.
 ///
 /// Errors: those of `check_index`, then those of `check_block` for each block in order.
 pub fn check(sub: &Sub, size: u64) -> Result<(), SubFault>

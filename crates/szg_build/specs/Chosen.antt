@@ -1,4 +1,5 @@
--- The table of a dump, packed as chosen.
+-- A table that is packed as chosen.
+use Rattle.std.specs.Prelude.{ℕ, List}
 use Rattle.std.specs.List.{AllByRecursion}
 use Rattle.szg_file.specs.Contents.{Contents}
 use Rattle.szg_build.specs.declared.building.Packing.{Packing}
@@ -23,10 +24,10 @@ numbers_in Small = record { block_bits = 5; span_bits = 1; rounds = 0 }
 abbrev pub plan_by : Choice → Dump → Plan
 plan_by choice dump = dump_plan dump (numbers_in choice).block_bits (numbers_in choice).span_bits (numbers_in choice).rounds
 
--- a table built from a dump, packed as chosen
-abbrev pub IsBuiltAs : Choice → Dump → Contents → Type 0
-IsBuiltAs (Fixed packing) dump t = IsBuilt (plan_by (Fixed packing) dump) dump.lists t
-IsBuiltAs Small dump t = IsBuiltSmall (plan_by Small dump) dump.lists t
+-- a table built from a plan and lists of values, packed as chosen
+abbrev pub IsBuiltAs : Choice → Plan → List (List ℕ) → Contents → Type 0
+IsBuiltAs (Fixed packing) plan lists t = IsBuilt plan lists t
+IsBuiltAs Small plan lists t = IsBuiltSmall plan lists t
 
 -- with fixed numbers all codes are those of the builder's rule
 abbrev pub IsCodedTable : Choice → Contents → Type 0

@@ -5,7 +5,6 @@ use Rattle.szg_values.specs.declared.Kind.TheVariants.{Wdl, Dtz}
 use Rattle.szg_file.specs.Contents as held
 use Rattle.szg_file.specs.Held.{part_of, map_of}
 use Rattle.szg_build.specs.declared.Plan.{Plan}
-use Rattle.szg_build.specs.declared.SmallPlan.{SmallPlan}
 use Rattle.szg_build.specs.declared.dump.Dump.{Dump}
 use Rattle.szg_build.specs.declared.dump.DumpReadFault.{DumpReadFault}
 use Rattle.szg_build.specs.declared.dump.DumpReadFault.TheVariants.{Line, Build, Device, Memory}
@@ -23,20 +22,6 @@ plan_seen plan = record {
   block_bits = plan.block_bits;
   span_bits = plan.span_bits;
   rounds = plan.rounds;
-  flags = plan.flags.items;
-  maps = map (option_map map_of) plan.maps.items;
-  last = plan.last;
-}
-
--- a small plan as a plan; the block bits, span bits and rounds filled in here are in their ranges, and do not matter
-abbrev pub small_seen : SmallPlan → seen.Plan
-small_seen plan = record {
-  material = plan.material;
-  kind = plan.kind;
-  parts = map part_of plan.parts.items;
-  block_bits = 5;
-  span_bits = 1;
-  rounds = 0;
   flags = plan.flags.items;
   maps = map (option_map map_of) plan.maps.items;
   last = plan.last;

@@ -74,9 +74,9 @@ pub(crate) fn table_subtable_ids(table: &Table) -> &'static [(u8, u8)]
 fn copy_dtz_flags(alloc: Global, table: &Table) -> Result<Vec<u8>, AllocError>
     ensures { IfOk result (λ flags. flags.items ≡ map (λ subtable. flags_of subtable % 32) table.now.contents.subtables) }
 {
-    let bytes = table.flags();
+    let bytes = table.index().flags();
     let mut flags = Vec::new(alloc);
-    for byte in bytes.as_slice() {
+    for byte in bytes {
         flags.push(*byte % 32)?;
     }
     Ok(flags)

@@ -22,7 +22,7 @@ pub use reading::dumpreading::{read_dump, read_packed};
 pub use reading::packed_dump::PackedDump;
 use szg_file::{Map, PartBytes};
 use szg_values::{Kind, Material};
-pub use table::{build, build_small, build_small_watched, build_watched};
+pub use table::{build, build_as};
 use thiserror::Error;
 pub use watching::{Unwatched, Watcher};
 pub use writing::block_values::BlockValues;
@@ -43,19 +43,6 @@ pub struct Plan {
     pub span_bits: u8,
     /// The greatest number of pairs that a dictionary gets, at most 4,000.
     pub rounds: u32,
-    /// The flags of each part in DTZ; empty in WDL. Likewise `maps`.
-    pub flags: Vec<u8>,
-    pub maps: Vec<Option<Map>>,
-    pub last: [u8; 16],
-}
-
-/// What a small table is built from, besides its values: a `Plan` without block bits, span bits and rounds. A small
-/// table is one whose packing is chosen by trial, so that it takes few bytes.
-#[derive(Drop)]
-pub struct SmallPlan {
-    pub material: Material,
-    pub kind: Kind,
-    pub parts: Vec<PartBytes>,
     /// The flags of each part in DTZ; empty in WDL. Likewise `maps`.
     pub flags: Vec<u8>,
     pub maps: Vec<Option<Map>>,

@@ -29,9 +29,8 @@ use crate::reading::incoming::Incoming;
 use crate::reading::line_parsing::GREATEST_COUNT;
 use crate::reading::lines::{read_number, read_part, read_run};
 use crate::reading::values::Values;
-use crate::refusing::{is_mapped, is_wide};
 use std::alloc::{AllocError, Global};
-use szg_file::{Map, PartBytes, part_count};
+use szg_file::{Map, PartBytes, has_bit, part_count};
 use szg_io::Input;
 use szg_values::Material;
 
@@ -175,10 +174,10 @@ pub(crate) fn read_map<R: Input>(
     ensures following { OnOk result (length (held_of incoming.new) ≤ following) }
     ensures memory { IsErrOf result DumpReadFault.Memory → LacksLines (map_text (has_bit 1 flags) (has_bit 4 flags)) following incoming.old R.Input input.old input.new }
 {
-    if !is_mapped(flags) {
+    if !has_bit(1, flags) {
         return Ok(None);
     }
-    if is_wide(flags) {
+    if has_bit(4, flags) {
         let wide = read_lists(alloc, following, input, incoming)?;
         return Ok(Some(Map::Wide(wide)));
     }

@@ -8,7 +8,7 @@ ghost use Rattle.szg_build.specs.Shown.{plan_seen};
 
 use crate::pairing::leaves::count_different;
 use crate::{BuildFault, Plan};
-use szg_file::{Map, part_count};
+use szg_file::{Map, has_bit, part_count};
 use szg_values::Kind;
 
 /// The greatest number of rounds of a plan.
@@ -18,10 +18,10 @@ pub(crate) const MAX_ROUNDS: u32 = 4000;
 pub(crate) const MAX_DIFFERENT: usize = 4095;
 
 /// Returns whether block bits and span bits are in their ranges.
-pub(crate) fn are_bits_valid(plan: &Plan) -> bool
-    ensures { result ≡ (nat_le 5 plan.now.block_bits && nat_le plan.now.block_bits 10 && nat_le 1 plan.now.span_bits && nat_le plan.now.span_bits 16) }
+pub(crate) fn are_bits_valid(block_bits: u8, span_bits: u8) -> bool
+    ensures { result ≡ (nat_le 5 block_bits && nat_le block_bits 10 && nat_le 1 span_bits && nat_le span_bits 16) }
 {
-    5 <= plan.block_bits && plan.block_bits <= 10 && 1 <= plan.span_bits && plan.span_bits <= 16
+    5 <= block_bits && block_bits <= 10 && 1 <= span_bits && span_bits <= 16
 }
 
 /// Returns whether a list has a value above the greatest of its kind of table.
@@ -35,39 +35,25 @@ pub(crate) fn has_above(kind: Kind, values: &[u16]) -> bool
     values.iter().any(|v| *v > greatest)
 }
 
-/// Returns whether flags require a map.
-pub(crate) fn is_mapped(flags: u8) -> bool
-    ensures { result ≡ has_bit 1 flags }
-{
-    (flags / 2) % 2 == 1
-}
-
-/// Returns whether flags have flag 16. A map with these flags has items of two bytes.
-pub(crate) fn is_wide(flags: u8) -> bool
-    ensures { result ≡ has_bit 4 flags }
-{
-    (flags / 16) % 2 == 1
-}
-
 /// Returns whether a map is what the flags require, and its lists fit their length fields.
 fn is_map_for(flags: u8, item: &Option<Map>) -> bool
     ensures { result ≡ is_map_of (flags, option_map map_of item.now) }
 {
     let Some(map) = item else {
-        return !is_mapped(flags);
+        return !has_bit(1, flags);
     };
-    if !is_mapped(flags) {
+    if !has_bit(1, flags) {
         return false;
     }
     match map {
         Map::Bytes(lists) => {
-            if is_wide(flags) {
+            if has_bit(4, flags) {
                 return false;
             }
             lists.iter().all(|list| list.len() < 256)
         }
         Map::Wide(lists) => {
-            if !is_wide(flags) {
+            if !has_bit(4, flags) {
                 return false;
             }
             lists.iter().all(|list| list.len() < 65536)
@@ -105,7 +91,7 @@ pub(crate) fn are_maps_valid(plan: &Plan) -> bool
 pub(crate) fn first_fault(plan: &Plan, sizes: &[u64], lists: &[&[u16]]) -> Option<BuildFault>
     ensures { result ≡ fault_for (Some sizes.now) (plan_seen plan.now) (map (λ list. list.now) lists.now) }
 {
-    if !are_bits_valid(plan) {
+    if !are_bits_valid(plan.block_bits, plan.span_bits) {
         return Some(BuildFault::Bits);
     }
     if plan.rounds > MAX_ROUNDS {

@@ -7,10 +7,11 @@ ghost use Rattle.szg_file.specs.Assembled.{fields_shown};
 ghost use Rattle.szg_file.specs.Contents.{has_bit};
 ghost use Rattle.szg_file.specs.FileOf.{fill_asked};
 ghost use Rattle.szg_file.specs.Held.{map_of, part_of, subtable_of};
-ghost use Rattle.szg_build.specs.Built.{IsBuilt, IsBuiltSmall, subtables_in};
+ghost use Rattle.szg_build.specs.Built.{IsBuilt, subtables_in};
+ghost use Rattle.szg_build.specs.Chosen.{IsBuiltAs, IsCodedTable};
 ghost use Rattle.szg_build.specs.Plan.{build_fault};
 ghost use Rattle.szg_build.specs.Rule.{byte4_for, constant_for, constant_in, HasSpanIndex, HasTruncatedBinary};
-ghost use Rattle.szg_build.specs.Shown.{plan_seen, small_seen};
+ghost use Rattle.szg_build.specs.Shown.{plan_seen};
 ghost use Rattle.szg_build.specs.Tabling.{AreBuilt, IsBuildable, IsBuiltBy, IsChoiceOf, IsInRange, IsOfBytes, IsOfItems, HasNoFault};
 
 use crate::building::headers::count_other_bytes;
@@ -19,7 +20,7 @@ use crate::building::{Choice, Packing};
 use crate::copies::{copy_maps, copy_parts};
 use crate::refusing::first_fault;
 use crate::watching::{Unwatched, Watcher};
-use crate::{BuildFault, Plan, SmallPlan};
+use crate::{BuildFault, Plan};
 use std::alloc::{AllocError, Global};
 use szg_block::Sub;
 use szg_file::typed::{bytes_fit, end_bytes, words_fit};
@@ -214,88 +215,41 @@ pub fn build(alloc: Global, plan: &Plan, lists: &[&[u16]]) -> Result<Table, Buil
     ensures index { IfOk result (λ t. AllByRecursion (λ pair. HasSpanIndex pair.0.size pair.1) (subtables_in t.contents)) }
     ensures padding { IfOk result (λ t. AllByRecursion (λ byte. byte ≡ 0) t.filled) }
 {
-    build_watched(alloc, plan, lists, &mut Unwatched)
-}
-
-/// Builds a table as `build` does. `watcher` sees each subtable and each round, and the end.
-pub fn build_watched<V: Watcher>(
-    alloc: Global,
-    plan: &Plan,
-    lists: &[&[u16]],
-    watcher: &mut V,
-) -> Result<Table, BuildFault>
-    ensures refused { MatchOption (build_fault (plan_seen plan.now) (map (λ list. list.now) lists.now))
-        (IfErr result (λ fault. fault ≡ BuildFault.Memory))
-        (λ fault. result ≡ Err fault) }
-    ensures built { IfOk result (λ t. IsBuilt (plan_seen plan.now) (map (λ list. list.now) lists.now) t.contents) }
-    ensures accepted { IfOk result (λ t. IsAccepted t.contents t.filled) }
-    ensures byte4 { IfOk result (λ t. t.contents.byte4 ≡ byte4_for plan.now.material) }
-    ensures constants { IfOk result (λ t. map constant_in t.contents.subtables ≡ map (constant_for plan.now.kind) (map (λ list. list.now) lists.now)) }
-    ensures codes { IfOk result (λ t. AllByRecursion HasTruncatedBinary t.contents.subtables) }
-    ensures index { IfOk result (λ t. AllByRecursion (λ pair. HasSpanIndex pair.0.size pair.1) (subtables_in t.contents)) }
-    ensures padding { IfOk result (λ t. AllByRecursion (λ byte. byte ≡ 0) t.filled) }
-{
     let packing = Packing {
         block_bits: plan.block_bits,
         span_bits: plan.span_bits,
         rounds: plan.rounds,
     };
-    let built = build_by(alloc, plan, Choice::Fixed(packing), lists, watcher);
-    watcher.end();
-    built
+    build_as(alloc, plan, Choice::Fixed(packing), lists, &mut Unwatched)
 }
 
-/// Builds a small table from a plan and the values of its subtables, which are listed in file order. How each subtable
-/// is packed is chosen by trial, within fixed budgets.
+/// Builds a table as `build` does, with its subtables packed as `choice` says: by the plan's numbers, or small.
+/// `watcher` sees each subtable, each round and each try, and the end.
 ///
-/// The pairs of each subtable are chosen by trial. Its code is a Huffman code or the truncated binary code, whichever
-/// takes fewer bytes. Its block bits and span bits are those with which it takes the fewest bytes, among those with
-/// which half a span has at most 32 blocks on average. A list of 2^32 values or more gets no pairs. Errors: those of
-/// `build` without `Bits` and `Rounds`.
-pub fn build_small(alloc: Global, plan: SmallPlan, lists: &[&[u16]]) -> Result<Table, BuildFault>
-    ensures refused { MatchOption (build_fault (small_seen plan) (map (λ list. list.now) lists.now))
-        (IfErr result (λ fault. fault ≡ BuildFault.Memory))
-        (λ fault. result ≡ Err fault) }
-    ensures built { IfOk result (λ t. IsBuiltSmall (small_seen plan) (map (λ list. list.now) lists.now) t.contents) }
-    ensures accepted { IfOk result (λ t. IsAccepted t.contents t.filled) }
-    ensures byte4 { IfOk result (λ t. t.contents.byte4 ≡ byte4_for plan.material) }
-    ensures constants { IfOk result (λ t. map constant_in t.contents.subtables ≡ map (constant_for plan.kind) (map (λ list. list.now) lists.now)) }
-    ensures index { IfOk result (λ t. AllByRecursion (λ pair. HasSpanIndex pair.0.size pair.1) (subtables_in t.contents)) }
-    ensures padding { IfOk result (λ t. AllByRecursion (λ byte. byte ≡ 0) t.filled) }
-{
-    build_small_watched(alloc, plan, lists, &mut Unwatched)
-}
-
-/// Builds a small table as `build_small` does. `watcher` sees each subtable, each round and each try, and the end.
-pub fn build_small_watched<V: Watcher>(
+/// The pairs of each subtable of a small table are chosen by trial, within fixed budgets. Its code is a Huffman code or
+/// the truncated binary code, whichever takes fewer bytes. Its block bits and span bits are those with which it takes
+/// the fewest bytes, among those with which half a span has at most 32 blocks on average. A list of 2^32 values or more
+/// gets no pairs. The plan's numbers don't matter then. Errors: those of `build`.
+pub fn build_as<V: Watcher>(
     alloc: Global,
-    plan: SmallPlan,
+    plan: &Plan,
+    choice: Choice,
     lists: &[&[u16]],
     watcher: &mut V,
 ) -> Result<Table, BuildFault>
-    ensures refused { MatchOption (build_fault (small_seen plan) (map (λ list. list.now) lists.now))
+    requires choice { IsChoiceOf (plan_seen plan.now) choice }
+    ensures refused { MatchOption (build_fault (plan_seen plan.now) (map (λ list. list.now) lists.now))
         (IfErr result (λ fault. fault ≡ BuildFault.Memory))
         (λ fault. result ≡ Err fault) }
-    ensures built { IfOk result (λ t. IsBuiltSmall (small_seen plan) (map (λ list. list.now) lists.now) t.contents) }
+    ensures built { IfOk result (λ t. IsBuiltAs choice (plan_seen plan.now) (map (λ list. list.now) lists.now) t.contents) }
     ensures accepted { IfOk result (λ t. IsAccepted t.contents t.filled) }
-    ensures byte4 { IfOk result (λ t. t.contents.byte4 ≡ byte4_for plan.material) }
-    ensures constants { IfOk result (λ t. map constant_in t.contents.subtables ≡ map (constant_for plan.kind) (map (λ list. list.now) lists.now)) }
+    ensures byte4 { IfOk result (λ t. t.contents.byte4 ≡ byte4_for plan.now.material) }
+    ensures constants { IfOk result (λ t. map constant_in t.contents.subtables ≡ map (constant_for plan.now.kind) (map (λ list. list.now) lists.now)) }
+    ensures codes { IfOk result (λ t. IsCodedTable choice t.contents) }
     ensures index { IfOk result (λ t. AllByRecursion (λ pair. HasSpanIndex pair.0.size pair.1) (subtables_in t.contents)) }
     ensures padding { IfOk result (λ t. AllByRecursion (λ byte. byte ≡ 0) t.filled) }
 {
-    let last = plan.last;
-    let numbered = Plan {
-        material: plan.material,
-        kind: plan.kind,
-        parts: plan.parts,
-        block_bits: 5,
-        span_bits: 1,
-        rounds: 0,
-        flags: plan.flags,
-        maps: plan.maps,
-        last,
-    };
-    let built = build_by(alloc, &numbered, Choice::Small, lists, watcher);
+    let built = build_by(alloc, plan, choice, lists, watcher);
     watcher.end();
     built
 }

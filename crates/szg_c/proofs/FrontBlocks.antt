@@ -6,7 +6,7 @@ use Rattle.szg_file.specs.Contents.{Slot, Subtable}
 use Rattle.szg_file.specs.Wanted.{wanted_block}
 use Rattle.szg_file.specs.declared.opened.fetching.FetchFault.{FetchFault}
 use Rattle.szg_file.specs.declared.opened.fetching.FetchFault.TheVariants.{Block, Source}
-use Rattle.szg_file.specs.declared.opened.wanted.Wanted.{Wanted}
+use Rattle.szg_file.specs.declared.opened.fetching.ByteRange.{ByteRange}
 use Rattle.szg_c.specs.FrontBlocks.{IsRangeOf}
 use Rattle.szg_c.specs.Fronts.{FetchReported}
 use Rattle.szg_c.specs.declared.front_blocks.RawByteRange.{RawByteRange}
@@ -23,13 +23,13 @@ weaker None P Q h make = tt
 weaker (Some x) P Q h make = make x h
 
 -- the range that was found is the one that the value needs
-pub range_stated : (w : Option Wanted) (b : Option (List ℕ)) (content : List ℕ) (range : RawByteRange) → MatchOption w (b ≡ None) (λ wanted. b ≡ Some (bytes_at content wanted.place wanted.count)) →
-    MatchOption w ((range.offset ≡ 0) × (range.count ≡ 0)) (λ wanted. (range.offset ≡ wanted.place) × (range.count ≡ wanted.count)) → IsRangeOf b content range
+pub range_stated : (w : Option ByteRange) (b : Option (List ℕ)) (content : List ℕ) (range : RawByteRange) → MatchOption w (b ≡ None) (λ wanted. b ≡ Some (bytes_at content wanted.offset wanted.count)) →
+    MatchOption w ((range.offset ≡ 0) × (range.count ≡ 0)) (λ wanted. (range.offset ≡ wanted.offset) × (range.count ≡ wanted.count)) → IsRangeOf b content range
 range_stated None None content range e are = are
 range_stated None (Some block) content range e are = absurd (cc e)
 range_stated (Some wanted) None content range e are = absurd (cc e)
 range_stated (Some wanted) (Some block) content range e are =
-    let same : block ≡ bytes_at content wanted.place wanted.count = cc e in
+    let same : block ≡ bytes_at content wanted.offset wanted.count = cc e in
     rw (are.0, are.1) same
 
 -- the status of bytes of another length, by the result

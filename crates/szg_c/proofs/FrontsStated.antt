@@ -3,22 +3,18 @@ use Rattle.std.proofs.Common.{◌≡◌, ◌<◌, ◌∙◌, ℕ, Bool, true, fa
 use Rattle.std.proofs.lemmas.Bool.{ltb-true}
 use Rattle.std.specs.Prelude.{◌⊎◌, nat_lt, is_some, IsSomeAnd, MatchOption}
 use Rattle.szg_values.specs.Material.{Sides, parsed}
-use Rattle.szg_file.specs.Contents.{Contents, Slot}
-use Rattle.szg_file.specs.Format.{Verdict, good, refused, truncated}
+use Rattle.szg_file.specs.Contents.{Slot}
 use Rattle.szg_file.specs.FrontTable.{FrontKept, IsFrontOf}
-use Rattle.szg_file.specs.Opened.{IsOpenRefusal}
-use Rattle.szg_file.specs.declared.fault.Reason.{Reason}
-use Rattle.szg_file.specs.declared.opened.OpenFault.TheVariants as fault
 use Rattle.szg_file.specs.declared.opened.fetching.FetchFault.{FetchFault}
 use Rattle.szg_file.specs.declared.opened.fetching.FetchFault.TheVariants.{Block, Source}
 use Rattle.szg_file.specs.declared.fault.MapFault.{MapFault}
 use Rattle.szg_file.specs.declared.fault.MapFault.TheVariants.{Draw, OutsideMap}
 use Rattle.szg_place.specs.declared.PlaceFault.{PlaceFault}
 use Rattle.szg_place.specs.declared.PlaceFault.TheVariants.{OtherMaterial, Irregular, KingsTouch, WrongSide}
-use Rattle.szg_place.specs.declared.FrontProbeFault.TheVariants.{Fetch}
-use Rattle.szg_c.specs.Fronts.{FetchReported, IsFaultReported, IsFront, ReportsFront, with_slot}
-use Rattle.szg_c.specs.Places.{map_status, place_status}
-use Rattle.szg_c.specs.Reported.{IsName, Refuses, kind_of_flag}
+use Rattle.szg_place.specs.declared.probes.Unprobed.TheVariants.{Fetch}
+use Rattle.szg_c.specs.Fronts.{FetchReported, IsFaultReported, IsFront, ReportsFront}
+use Rattle.szg_c.specs.Places.{map_status, place_status, with_slot}
+use Rattle.szg_c.specs.Reported.{IsName, kind_of_flag}
 use Rattle.szg_c.specs.declared.fronts.BadBlock.{BadBlock}
 
 abbrev is_below : Option ℕ → ℕ → Bool
@@ -82,12 +78,6 @@ map_not_done OutsideMap e = cc e
 pub is_front : (name : List ℕ) (dtz : Bool) (bytes : List ℕ) (material : Sides) (kept : FrontKept) → parsed name ≡ Ok material → kept.index.material ≡ material → kept.index.kind ≡ kind_of_flag dtz → IsFrontOf kept bytes →
     IsFront name dtz bytes kept
 is_front name dtz bytes material kept named m k of = (subst (λ (s : Sides). parsed name ≡ Ok s) (sym m) named, k, of)
-
--- a refusal to open is that of the verdict
-pub refuses : (v : Verdict Contents) (place : ℕ) (why : Reason) → IsOpenRefusal v (fault.Refused place why) → Refuses v place why
-refuses (good t filled rest) place why h = h
-refuses (refused at reason rest) place why h = h
-refuses (truncated count) place why h = h
 
 -- where it is held, or there is no memory for it, the call says so
 pub front_states : (name : List ℕ) (dtz : Bool) (bytes : List ℕ) (kept : FrontKept) (held : Option FrontKept) (status place reason : ℕ) → IsFront name dtz bytes kept →

@@ -6,8 +6,8 @@ pub mod FrontsStated
 pub mod TableKind
 pub mod HeldValues
 pub mod FrontBlocks
-pub mod Indexes
 pub mod SoundMen
 pub mod Sizes
 pub mod Values
+pub mod TableProbes
 mod Printing

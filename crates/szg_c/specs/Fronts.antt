@@ -4,7 +4,6 @@ use Rattle.szg_values.specs.Material.{Sides, parsed}
 use Rattle.szg_values.specs.Placement.{Board}
 use Rattle.szg_values.specs.declared.Kind.{Kind}
 use Rattle.szg_values.specs.declared.Kind.TheVariants.{Wdl, Dtz}
-use Rattle.szg_file.specs.Contents.{Slot}
 use Rattle.szg_file.specs.Fetching.{NamesBadBlock}
 use Rattle.szg_file.specs.Format.{verdict}
 use Rattle.szg_file.specs.FrontTable.{FrontKept, IsFrontOf}
@@ -12,18 +11,15 @@ use Rattle.szg_file.specs.Unread.{unread_file, front_at, IsDecoded}
 use Rattle.szg_file.specs.declared.fault.Reason.{Reason}
 use Rattle.szg_file.specs.declared.opened.fetching.FetchFault.{FetchFault}
 use Rattle.szg_file.specs.declared.opened.fetching.FetchFault.TheVariants.{Block, Source}
-use Rattle.szg_file.specs.Index.{Index, slot_in}
 use Rattle.szg_file.specs.declared.fault.MapFault.{MapFault}
-use Rattle.szg_place.specs.Front.{IsBadAt, IsMeant, IsValueAt, as_class, as_number, fault_in, spot_in}
-use Rattle.szg_place.specs.Layout.{is_dtz}
+use Rattle.szg_place.specs.Probes.{IsBadAt, IsMeant, IsValueAt, as_class, as_number}
 use Rattle.szg_place.specs.Spots.{place_fault, spot_of}
 use Rattle.szg_place.specs.Tables.{numbering_in}
-use Rattle.szg_place.specs.declared.Spot.{Spot}
-use Rattle.szg_place.specs.declared.FrontProbeFault.{FrontProbeFault}
-use Rattle.szg_place.specs.declared.FrontProbeFault.TheVariants.{Probe, Fetch}
-use Rattle.szg_place.specs.declared.ProbeFault.TheVariants.{Place, Map}
-use Rattle.szg_c.specs.Places.{is_class, map_status, number_or_status, place_status, spot_unless}
-use Rattle.szg_c.specs.Reported.{IsName, IsNoName, Refuses, kind_of_flag, number_of}
+use Rattle.szg_place.specs.declared.probes.Unprobed.{Unprobed}
+use Rattle.szg_place.specs.declared.probes.Unprobed.TheVariants.{Place, Fetch, Map}
+use Rattle.szg_file.specs.WholeRead.{Refuses}
+use Rattle.szg_c.specs.Places.{is_class, map_status, place_status}
+use Rattle.szg_c.specs.Reported.{IsName, IsNoName, kind_of_flag, number_of}
 use Rattle.szg_c.specs.declared.fronts.BadBlock.{BadBlock}
 
 -- the name is a material's, and this is the front of the table that the bytes begin with, blocks unchecked
@@ -45,11 +41,6 @@ abbrev pub ReportsFront : List ℕ → Bool → List ℕ → Type 0 → ℕ → 
 ReportsFront name dtz bytes done zero place reason = done
 ReportsFront name dtz bytes done (suc status) place reason = StopsFront name dtz bytes (suc status) place reason
 
--- a slot, if it has this index
-abbrev pub with_slot : Option Slot → ℕ → Option Slot
-with_slot None i = None
-with_slot (Some slot) i = if nat_lt i slot.size then Some slot else None
-
 -- what is written of a fault of a fetch, and its status
 abbrev pub FetchReported : FetchFault → BadBlock → BadBlock → ℕ → Type 0
 FetchReported (Block number offset) before after status = (status ≡ 18) × (after.block ≡ number) × (after.offset ≡ offset)
@@ -61,49 +52,38 @@ IsGot kept bytes part side index status value before after =
     (status ≡ 0 → IfSome (front_at kept.index.material kept.index.kind bytes part side) (λ found. IsDecoded kept.index.kind found index value))
     × ((status ≡ 0 → ⊥) → (fault : FetchFault) × FetchReported fault before after status × IfSome (front_at kept.index.material kept.index.kind bytes part side) (λ found. NamesBadBlock bytes found index fault))
 
--- ---- placements and numbers
-
--- where a front's table has a placement, if there is one
-abbrev pub front_spot : Index → Result Board ℕ → Result Spot ℕ
-front_spot x (Err status) = Err status
-front_spot x (Ok board) = spot_unless (place_fault (numbering_in x) board) (spot_of (numbering_in x) board)
-
--- the number of a value of a part in a class
-abbrev pub front_number : Index → ℕ → ℤ → ℕ → Result ℕ ℕ
-front_number x part class v =
-    if is_dtz x.kind && is_class class && is_some (slot_in x part 0) then number_or_status (as_number x part class v) else Err 4
-
 -- ---- outcomes
 
 -- the status of a probe's fault, and the bad block if it is one
-abbrev pub IsFaultReported : FrontProbeFault → ℕ → BadBlock → Type 0
-IsFaultReported (Probe (Place why)) status bad = status ≡ place_status why
-IsFaultReported (Probe (Map why)) status bad = status ≡ map_status why
+abbrev pub IsFaultReported : Unprobed FetchFault → ℕ → BadBlock → Type 0
+IsFaultReported (Place why) status bad = status ≡ place_status why
+IsFaultReported (Map why) status bad = status ≡ map_status why
 IsFaultReported (Fetch (Block number offset)) status bad = (status ≡ 18) × (bad.block ≡ number) × (bad.offset ≡ offset)
 IsFaultReported (Fetch Source) status bad = status ≡ 17
 
 -- the status and outcome of a class and of a number, or of the fault
-abbrev pub IsClassReported : Result (Option ℤ) FrontProbeFault → ℕ → ℤ → BadBlock → Type 0
+abbrev pub IsClassReported : Result (Option ℤ) (Unprobed FetchFault) → ℕ → ℤ → BadBlock → Type 0
 IsClassReported (Ok (Some class)) status outcome bad = (status ≡ 0) × (outcome ≡ class)
 IsClassReported (Ok None) status outcome bad = status ≡ 14
 IsClassReported (Err fault) status outcome bad = IsFaultReported fault status bad
 
-abbrev pub IsNumberReported : Result ℕ FrontProbeFault → ℕ → ℤ → BadBlock → Type 0
+abbrev pub IsNumberReported : Result ℕ (Unprobed FetchFault) → ℕ → ℤ → BadBlock → Type 0
 IsNumberReported (Ok number) status outcome bad = (status ≡ 0) × (outcome ≡ pos number)
 IsNumberReported (Err fault) status outcome bad = IsFaultReported fault status bad
 
 -- a probe's result: the fault of a refused placement; else what the value means out of a block that decodes, or the bad block
-pub record IsProbed {A : Type 0} (kept : FrontKept) (bytes : List ℕ) (board : Board) (meaning : ℕ → Result A MapFault) (r : Result A FrontProbeFault) : Type 0 where
-  pub refused : IfSome (fault_in kept board) (λ why. r ≡ Err (Probe (Place why)))
-  pub meant : IsFrontOf kept bytes → IsNone (fault_in kept board) → IsMeant (IsValueAt kept bytes (spot_in kept board)) (IsBadAt kept bytes (spot_in kept board)) meaning r
+pub record IsProbed {A : Type 0} (kept : FrontKept) (bytes : List ℕ) (board : Board) (meaning : ℕ → Result A MapFault) (r : Result A (Unprobed FetchFault)) : Type 0 where
+  pub refused : IfSome (place_fault (numbering_in kept.index) board) (λ why. r ≡ Err (Place why))
+  pub meant : IsNone (place_fault (numbering_in kept.index) board) → (let spot = spot_of (numbering_in kept.index) board in
+      IsMeant (λ v. IsFrontOf kept bytes → IsValueAt kept bytes spot v) (λ fault. IsFrontOf kept bytes → IsBadAt kept bytes spot fault) meaning r)
 
 -- a WDL table gives a placement's class, a DTZ table its number in a class
 abbrev pub IsClassOf : FrontKept → List ℕ → Board → ℕ → ℤ → BadBlock → Type 0
-IsClassOf kept bytes board status outcome bad = (r : Result (Option ℤ) FrontProbeFault) × IsProbed kept bytes board as_class r × IsClassReported r status outcome bad
+IsClassOf kept bytes board status outcome bad = (r : Result (Option ℤ) (Unprobed FetchFault)) × IsProbed kept bytes board as_class r × IsClassReported r status outcome bad
 
 abbrev pub IsNumberOf : FrontKept → List ℕ → ℤ → Board → ℕ → ℤ → BadBlock → Type 0
 IsNumberOf kept bytes class board status outcome bad =
-    (r : Result ℕ FrontProbeFault) × IsProbed kept bytes board (as_number kept.index (spot_in kept board).part class) r × IsNumberReported r status outcome bad
+    (r : Result ℕ (Unprobed FetchFault)) × IsProbed kept bytes board (as_number kept.index (spot_of (numbering_in kept.index) board).part class) r × IsNumberReported r status outcome bad
 
 abbrev pub IsOutcome : Kind → FrontKept → List ℕ → ℤ → Board → ℕ → ℤ → BadBlock → Type 0
 IsOutcome Wdl kept bytes class board status outcome bad = IsClassOf kept bytes board status outcome bad

@@ -3,13 +3,14 @@ use Rattle.std.specs.Prelude.{◌≡◌, ℕ, Bool, not, ◌&&◌, ◌||◌, ℤ
 use Rattle.szg_values.specs.Placement.{Board}
 use Rattle.szg_values.specs.declared.Kind.{Kind}
 use Rattle.szg_values.specs.declared.Kind.TheVariants.{Wdl, Dtz}
-use Rattle.szg_file.specs.Contents.{Contents, Slot, Subtable}
-use Rattle.szg_file.specs.Values.{subtable_at}
+use Rattle.szg_file.specs.Contents.{Contents, Slot}
+use Rattle.szg_file.specs.Index.{Index, slot_in}
 use Rattle.szg_file.specs.declared.fault.MapFault.{MapFault}
 use Rattle.szg_file.specs.declared.fault.MapFault.TheVariants.{Draw, OutsideMap}
-use Rattle.szg_place.specs.Layout.{Layout, is_dtz}
+use Rattle.szg_place.specs.Layout.{is_dtz}
+use Rattle.szg_place.specs.Probes.{as_number}
 use Rattle.szg_place.specs.Spots.{board_at, place_fault, placement_refusal, spot_of}
-use Rattle.szg_place.specs.Tables.{numbering_of, value_at, class_of, mapped_number}
+use Rattle.szg_place.specs.Tables.{numbering_in, numbering_of, value_at, class_of, mapped_number}
 use Rattle.szg_place.specs.declared.PlaceFault.{PlaceFault}
 use Rattle.szg_place.specs.declared.PlaceFault.TheVariants.{OtherMaterial, Irregular, KingsTouch, WrongSide}
 use Rattle.szg_place.specs.declared.Spot.{Spot}
@@ -35,10 +36,10 @@ abbrev pub spot_unless : Option PlaceFault → Spot → Result Spot ℕ
 spot_unless None spot = Ok spot
 spot_unless (Some why) spot = Err (place_status why)
 
--- the spot of a placement in a table, if there is a placement
-abbrev pub spot_result : Contents → Result Board ℕ → Result Spot ℕ
-spot_result t (Err status) = Err status
-spot_result t (Ok board) = spot_unless (place_fault (numbering_of t) board) (spot_of (numbering_of t) board)
+-- the spot of a placement in a table with this index, if there is a placement
+abbrev pub spot_result : Index → Result Board ℕ → Result Spot ℕ
+spot_result x (Err status) = Err status
+spot_result x (Ok board) = spot_unless (place_fault (numbering_in x) board) (spot_of (numbering_in x) board)
 
 -- the spot that C gets
 abbrev pub IsSpot : FoundSpot → Spot → Type 0
@@ -46,10 +47,10 @@ IsSpot found spot = (found.part ≡ spot.part) × (found.side ≡ spot.side) × 
 
 -- ---- placements of indexes
 
--- a subtable, if it has this index
-abbrev pub with_index : Option (Slot × Subtable) → ℕ → Option (Slot × Subtable)
-with_index None i = None
-with_index (Some found) i = if nat_lt i found.0.size then Some found else None
+-- a slot, if it has this index
+abbrev pub with_slot : Option Slot → ℕ → Option Slot
+with_slot None i = None
+with_slot (Some slot) i = if nat_lt i slot.size then Some slot else None
 
 -- a placement, unless a fault rules it out
 abbrev pub placement_unless : Option PlaceFault → Board → Result Board ℕ
@@ -61,8 +62,10 @@ board_or_status (Ok board) = Ok board
 board_or_status (Err why) = Err (place_status why)
 
 -- the placement of an index of a part's side, if the table has this index
-abbrev pub placement_result : Bool → Layout → ℕ → ℕ → ℕ → Result Board ℕ
-placement_result is_there l part side index = if is_there then placement_unless (placement_refusal l part side) (board_at l part side index) else Err RANGE
+abbrev pub placement_result : Index → ℕ → ℕ → ℕ → Result Board ℕ
+placement_result x part side index = if is_some (with_slot (slot_in x part side) index) then
+    placement_unless (placement_refusal (numbering_in x) part side) (board_at (numbering_in x) part side index)
+    else Err RANGE
 
 -- ---- distances
 
@@ -75,9 +78,9 @@ number_or_status (Err why) = Err (map_status why)
 number_or_status (Ok number) = Ok number
 
 -- the distance of a value of a part in a class
-abbrev pub number_result : Contents → ℕ → ℤ → ℕ → Result ℕ ℕ
-number_result t part class v =
-    if is_dtz t.kind && is_class class && is_some (subtable_at t part 0) then number_or_status (mapped_number t part class v) else Err 4
+abbrev pub number_result : Index → ℕ → ℤ → ℕ → Result ℕ ℕ
+number_result x part class v =
+    if is_dtz x.kind && is_class class && is_some (slot_in x part 0) then number_or_status (as_number x part class v) else Err 4
 
 -- ---- outcomes
 

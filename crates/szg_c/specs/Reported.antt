@@ -6,10 +6,11 @@ use Rattle.szg_values.specs.declared.Kind.TheVariants.{Wdl, Dtz}
 use Rattle.szg_values.specs.Material.{Sides, parsed}
 use Rattle.szg_file.specs.declared.fault.Reason.{Reason}
 use Rattle.szg_file.specs.declared.fault.Reason.TheVariants as reason
-use Rattle.szg_file.specs.Format.{Verdict, good, refused, truncated, verdict}
+use Rattle.szg_file.specs.Format.{Verdict, good, verdict}
 use Rattle.szg_file.specs.Contents.{Contents}
 use Rattle.szg_file.specs.File.{file}
 use Rattle.szg_file.specs.Held.{Shown}
+use Rattle.szg_file.specs.WholeRead.{Refuses}
 
 abbrev pub kind_of_flag : Bool → Kind
 kind_of_flag false = Wdl
@@ -47,12 +48,6 @@ IsName name = (material : Sides) × (parsed name ≡ Ok material)
 -- the format accepts the bytes, with this result
 abbrev pub Finds : Verdict Contents → Shown → Type 0
 Finds v t = (rest : List ℕ) × (v ≡ good t.contents t.filled rest)
-
--- the format refuses the bytes, at this offset and for this reason
-abbrev pub Refuses : Verdict Contents → ℕ → Reason → Type 0
-Refuses (good t filled rest) place why = ⊥
-Refuses (refused at reason rest) place why = (place ≡ at) × (why ≡ reason)
-Refuses (truncated count) place why = (place ≡ count) × (why ≡ reason.Truncated)
 
 -- the name is a material's, and the bytes begin with the file of this table
 abbrev pub IsTable : List ℕ → Bool → List ℕ → Shown → Type 0

@@ -4,14 +4,15 @@ ghost use Rattle.std.specs.declared.option.Option.TheVariants.{None, Some};
 ghost use Rattle.szg_file.specs.FrontTable.{IsFrontOf};
 ghost use Rattle.szg_file.specs.Index.{slot_in};
 ghost use Rattle.szg_c.specs.FrontBlocks.{IsBlockOf, IsFoundRange, IsLengthReported, IsSpelledIn};
-ghost use Rattle.szg_c.specs.Fronts.{IsGot, with_slot};
+ghost use Rattle.szg_c.specs.Fronts.{IsGot};
+ghost use Rattle.szg_c.specs.Places.{with_slot};
 
 use crate::fronts::{BadBlock, fetch_status, has_index};
 use crate::handle::{put, take};
 use crate::held_front::HeldFront;
 use crate::status::{BAD_BLOCK, CHANGED, CLOSED, DONE, RANGE};
 use std::alloc::Global;
-use szg_file::{FrontTable, Wanted};
+use szg_file::{ByteRange, FrontTable};
 
 /// A byte range of a file.
 #[repr(C)]
@@ -24,12 +25,12 @@ pub struct RawByteRange {
 }
 
 /// Converts a byte range for C; none becomes offset 0 and count 0.
-fn raw_range(found: Option<Wanted>) -> RawByteRange
-    ensures { MatchOption found ((result.offset ≡ 0) × (result.count ≡ 0)) (λ wanted. (result.offset ≡ wanted.place) × (result.count ≡ wanted.count)) }
+fn raw_range(found: Option<ByteRange>) -> RawByteRange
+    ensures { MatchOption found ((result.offset ≡ 0) × (result.count ≡ 0)) (λ wanted. (result.offset ≡ wanted.offset) × (result.count ≡ wanted.count)) }
 {
     match found {
         Some(wanted) => RawByteRange {
-            offset: wanted.place,
+            offset: wanted.offset,
             count: wanted.count,
         },
         None => RawByteRange {
@@ -46,10 +47,10 @@ fn find_in(table: &FrontTable, part: u8, side: u8, index: u64, range: &mut RawBy
     ensures inside { (result ≡ DONE) → range.new.offset + range.new.count ≤ table.now.length }
     ensures stays { (result ≡ DONE → ⊥) → range.new ≡ range.old }
 {
-    if !has_index(table, part, side, index) {
+    if !has_index(table.index(), part, side, index) {
         return RANGE;
     }
-    *range = raw_range(table.find(part, side, index));
+    *range = raw_range(table.locate(part, side, index).range());
     DONE
 }
 
@@ -99,10 +100,10 @@ fn value_of(
     ensures value_stays { (result ≡ DONE → ⊥) → value.new ≡ value.old }
     ensures bad_stays { (result ≡ BAD_BLOCK → ⊥) → bad.new ≡ bad.old }
 {
-    if !has_index(table, part, side, index) {
+    if !has_index(table.index(), part, side, index) {
         return RANGE;
     }
-    match table.value_in(part, side, index, block) {
+    match table.locate(part, side, index).decode(block) {
         Ok(found) => {
             *value = found;
             DONE

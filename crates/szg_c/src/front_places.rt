@@ -1,25 +1,21 @@
 //! Calls on the placements of an opened front.
 ghost use Rattle.std.specs.Prelude.{◌≡◌, ◌≤ℤ◌, pos, neg_ℤ, Err, IfSome, MatchResult, Ok};
 ghost use Rattle.std.specs.declared.option.Option.TheVariants.{None, Some};
-ghost use Rattle.szg_c.specs.Fronts.{IsClassReported, IsFaultReported, IsNumberReported, IsOutcome, IsOutcomeReported, IsProbed, front_number, front_spot};
-ghost use Rattle.szg_place.specs.Front.{as_class, as_number, spot_in as spot_of_front};
+ghost use Rattle.szg_c.specs.Fronts.{IsClassReported, IsFaultReported, IsNumberReported, IsOutcome, IsOutcomeReported, IsProbed};
+ghost use Rattle.szg_place.specs.Probes.{as_class, as_number};
 ghost use Rattle.szg_c.specs.Men.{board_of};
-ghost use Rattle.szg_c.specs.Places.{IsSpot};
+ghost use Rattle.szg_c.specs.Places.{IsSpot, number_result, spot_result};
 
 use crate::fronts::{BadBlock, fetch_status};
 use crate::handle::{put, take};
 use crate::held_front::HeldFront;
 use crate::men::{CodedMan, key_of_men, placement_or_fault, sound_men};
-use crate::places::{
-    FoundSpot, is_class, map_status, number_or_status, place_status, spot_or_status,
-};
+use crate::places::{FoundSpot, is_class, map_status, number_or_status, place_status, write_spot};
 use crate::status::{CLOSED, DONE, NO_CLASS, RANGE};
 use arrayvec::ArrayVec;
 use std::alloc::Global;
-use szg_file::{FrontTable, TableIndex};
-use szg_place::{
-    FrontProbeFault, ProbeFault, Spot, index_in_men, probe_dtz_front_in_men, probe_wdl_front_in_men,
-};
+use szg_file::{FetchFault, FrontTable, TableIndex};
+use szg_place::{FrontBytes, Unprobed, probe_class, probe_number};
 use szg_values::{Kind, PlacedMen};
 
 /// The part, side and index of these men with this mover.
@@ -36,53 +32,14 @@ pub extern "C" fn szg_front_index(
 ) -> u32
     ensures kept { front.new.value ≡ front.old.value }
     ensures closed { front.old.value ≡ None → (result ≡ 5) × (spot.new ≡ spot.old) }
-    ensures reported { IfSome front.old.value (λ f. MatchResult (front_spot f.index (board_of men.now mover)) (λ found. (result ≡ 0) × IsSpot spot.new found) (λ status. (result ≡ status) × (spot.new ≡ spot.old))) }
+    ensures reported { IfSome front.old.value (λ f. MatchResult (spot_result f.index (board_of men.now mover)) (λ found. (result ≡ 0) × IsSpot spot.new found) (λ status. (result ≡ status) × (spot.new ≡ spot.old))) }
 {
     let Some(held) = take(front, alloc) else {
         return CLOSED;
     };
-    let reported = spot_in(held.value(), men, mover);
+    let status = write_spot(held.value().index(), men, mover, spot);
     put(front, held);
-    match reported {
-        Ok(found) => {
-            spot.part = found.part;
-            spot.side = found.side;
-            spot.index = found.index;
-            DONE
-        }
-        Err(status) => status,
-    }
-}
-
-fn spot_in(table: &FrontTable, men: &[CodedMan], mover: u8) -> Result<Spot, u32>
-    ensures { result ≡ front_spot table.now.index (board_of men.now mover) }
-{
-    let mut placed_men = ArrayVec::new();
-    let Some(key) = key_of_men(men, mover, &mut placed_men) else {
-        return spot_or_fault(table.index(), men, mover);
-    };
-    let Some(placement) = sound_men(men, mover, &placed_men, key) else {
-        return spot_or_fault(table.index(), men, mover);
-    };
-    spot_of(table.index(), &placement)
-}
-
-/// The same, by one check of the men after the other.
-#[inline(never)]
-fn spot_or_fault(index: &TableIndex, men: &[CodedMan], mover: u8) -> Result<Spot, u32>
-    ensures { result ≡ front_spot index.now (board_of men.now mover) }
-{
-    match placement_or_fault(men, mover) {
-        Ok(placement) => spot_of(index, &PlacedMen::of(&placement)),
-        Err(status) => Err(status),
-    }
-}
-
-#[inline(always)]
-fn spot_of(index: &TableIndex, placement: &PlacedMen<'_>) -> Result<Spot, u32>
-    ensures { result ≡ front_spot index.now (Ok placement.now) }
-{
-    spot_or_status(index_in_men(index, placement))
+    status
 }
 
 /// The number of a DTZ value of a part in a class (2 win, 1 cursed win, -1 blessed loss, -2 loss).
@@ -100,7 +57,7 @@ pub extern "C" fn szg_front_number(
 ) -> u32
     ensures kept { front.new.value ≡ front.old.value }
     ensures closed { front.old.value ≡ None → (result ≡ 5) × (number.new ≡ number.old) }
-    ensures reported { IfSome front.old.value (λ f. MatchResult (front_number f.index part class value) (λ n. (result ≡ 0) × (number.new ≡ n)) (λ status. (result ≡ status) × (number.new ≡ number.old))) }
+    ensures reported { IfSome front.old.value (λ f. MatchResult (number_result f.index part class value) (λ n. (result ≡ 0) × (number.new ≡ n)) (λ status. (result ≡ status) × (number.new ≡ number.old))) }
 {
     let Some(held) = take(front, alloc) else {
         return CLOSED;
@@ -116,8 +73,8 @@ pub extern "C" fn szg_front_number(
     }
 }
 
-fn number_in(index: &TableIndex, part: u8, class: i8, value: u16) -> Result<u32, u32>
-    ensures { result ≡ front_number index.now part class value }
+pub fn number_in(index: &TableIndex, part: u8, class: i8, value: u16) -> Result<u32, u32>
+    ensures { result ≡ number_result index.now part class value }
 {
     if index.kind() != Kind::Dtz || !is_class(class) || index.size(part, 0).is_none() {
         return Err(RANGE);
@@ -220,7 +177,13 @@ fn outcome_of(
 {
     match table.index().kind() {
         Kind::Wdl => class_stated(
-            probe_wdl_front_in_men(table, bytes, placement),
+            probe_class(
+                FrontBytes {
+                    front: table,
+                    bytes,
+                },
+                placement,
+            ),
             outcome,
             bad,
         ),
@@ -229,7 +192,14 @@ fn outcome_of(
                 return RANGE;
             }
             number_result(
-                probe_dtz_front_in_men(table, bytes, placement, class),
+                probe_number(
+                    FrontBytes {
+                        front: table,
+                        bytes,
+                    },
+                    placement,
+                    class,
+                ),
                 outcome,
                 bad,
             )
@@ -239,7 +209,7 @@ fn outcome_of(
 
 /// Writes a class; returns the status.
 fn class_stated(
-    reported: Result<Option<i8>, FrontProbeFault>,
+    reported: Result<Option<i8>, Unprobed<FetchFault>>,
     outcome: &mut i64,
     bad: &mut BadBlock,
 ) -> u32
@@ -259,7 +229,7 @@ fn class_stated(
 
 /// Writes a number; returns the status.
 fn number_result(
-    reported: Result<u32, FrontProbeFault>,
+    reported: Result<u32, Unprobed<FetchFault>>,
     outcome: &mut i64,
     bad: &mut BadBlock,
 ) -> u32
@@ -277,14 +247,14 @@ fn number_result(
 }
 
 /// The status of a fault of a probe; a bad block is written to `bad`.
-fn report_probe_fault(fault: FrontProbeFault, bad: &mut BadBlock) -> u32
+fn report_probe_fault(fault: Unprobed<FetchFault>, bad: &mut BadBlock) -> u32
     ensures reported { IsFaultReported fault result bad.new }
     ensures stays { (result ≡ 18 → ⊥) → bad.new ≡ bad.old }
     ensures not_done { result ≡ 0 → ⊥ }
 {
     match fault {
-        FrontProbeFault::Probe(ProbeFault::Place(why)) => place_status(why),
-        FrontProbeFault::Probe(ProbeFault::Map(why)) => map_status(why),
-        FrontProbeFault::Fetch(why) => fetch_status(why, bad),
+        Unprobed::Place(why) => place_status(why),
+        Unprobed::Map(why) => map_status(why),
+        Unprobed::Fetch(why) => fetch_status(why, bad),
     }
 }

@@ -3,7 +3,8 @@ ghost use Rattle.std.specs.Prelude.{◌≡◌, ◌⊎◌, ℕ, List, IfErr, IfOk
 ghost use Rattle.std.specs.declared.option.Option.TheVariants.{None, Some};
 ghost use Rattle.szg_file.specs.FrontTable.{IsFrontOf};
 ghost use Rattle.szg_file.specs.Index.{slot_in};
-ghost use Rattle.szg_c.specs.Fronts.{FetchReported, IsFront, IsGot, ReportsFront, StopsFront, with_slot};
+ghost use Rattle.szg_c.specs.Fronts.{FetchReported, IsFront, IsGot, ReportsFront, StopsFront};
+ghost use Rattle.szg_c.specs.Places.{with_slot};
 
 use crate::handle::{hold, put, share, shut, take};
 use crate::held_front::HeldFront;
@@ -11,8 +12,8 @@ use crate::opening::{Answer, kind_of, material_of};
 use crate::shared::Shared;
 use crate::status::{BAD_BLOCK, CHANGED, CLOSED, DONE, MEMORY, NAME, RANGE, REFUSED, number_of};
 use std::alloc::Global;
-use szg_block::Image;
-use szg_file::{FetchFault, FrontTable, OpenFault, open_front};
+use szg_file::{FetchFault, FrontTable, ReadFault, TableIndex, open_front};
+use szg_io::Bytes;
 
 /// A block that doesn't decode.
 #[repr(C)]
@@ -40,16 +41,17 @@ fn front_in(
     let Some(material) = material_of(name) else {
         return Err(NAME);
     };
-    match open_front(alloc, material, kind_of(dtz), Image::new(bytes)) {
+    let size = bytes.len() as u64;
+    match open_front(alloc, material, kind_of(dtz), size, &mut Bytes::new(bytes)) {
         Ok((table, _)) => Ok(table),
-        Err((OpenFault::Refused { place, reason }, _)) => {
+        Err(ReadFault::Refused { place, reason }) => {
             answer.place = place;
             answer.reason = number_of(reason);
             Err(REFUSED)
         }
-        Err((OpenFault::Memory, _)) => Err(MEMORY),
+        Err(ReadFault::Memory) => Err(MEMORY),
         // bytes in memory never fail
-        Err((OpenFault::Source, _)) => unreachable!(),
+        Err(ReadFault::Device) => unreachable!(),
     }
 }
 
@@ -143,10 +145,10 @@ pub extern "C" fn szg_front_size(
 }
 
 /// Whether a table has this index.
-pub fn has_index(table: &FrontTable, part: u8, side: u8, index: u64) -> bool
-    ensures { result ≡ is_some (with_slot (slot_in table.now.index part side) index) }
+pub fn has_index(table: &TableIndex, part: u8, side: u8, index: u64) -> bool
+    ensures { result ≡ is_some (with_slot (slot_in table.now part side) index) }
 {
-    match table.index().size(part, side) {
+    match table.size(part, side) {
         Some(size) => index < size,
         None => false,
     }
@@ -181,10 +183,10 @@ fn value_in(
     ensures value_stays { (result ≡ 0 → ⊥) → value.new ≡ value.old }
     ensures bad_stays { (result ≡ 18 → ⊥) → bad.new ≡ bad.old }
 {
-    if !has_index(table, part, side, index) {
+    if !has_index(table.index(), part, side, index) {
         return RANGE;
     }
-    match table.get_in(bytes, part, side, index) {
+    match table.get(bytes, part, side, index) {
         Ok(found) => {
             *value = found;
             DONE

@@ -1,20 +1,20 @@
 //! Calls on a table by its handle.
 ghost use Rattle.std.specs.Prelude.{◌≡◌, ◌≢◌, ◌<◌, ◌⊎◌, length, IfSome, IsNone, IsSomeAnd, MatchResult};
 ghost use Rattle.std.specs.declared.option.Option.TheVariants.{None, Some};
+ghost use Rattle.szg_file.specs.Index.{index_of};
 ghost use Rattle.szg_file.specs.Values.{subtable_at, values_of, item};
 ghost use Rattle.szg_c.specs.Places.{number_result};
 ghost use Rattle.szg_c.specs.Reported.{Reports};
 
+use crate::front_places::number_in;
 use crate::handle::{hold, put, share, shut, take};
 use crate::held_table::HeldTable;
 use crate::opening::{Answer, open};
-use crate::places::{is_class, number_or_status};
 use crate::shared::Shared;
 use crate::status::{CLOSED, DONE, MEMORY, RANGE};
 use std::alloc::Global;
 use szg_file::Table;
 use szg_file::typed::table_fits;
-use szg_values::Kind;
 
 /// Opens the table of this name and kind that the bytes begin with. The handle's previous table is closed.
 #[unsafe(no_mangle)]
@@ -203,16 +203,6 @@ pub extern "C" fn szg_all(
     status
 }
 
-/// Returns the distance of a DTZ value in a class. Errors: a status.
-fn number_in(table: &Table, part: u8, class: i8, value: u16) -> Result<u32, u32>
-    ensures { result ≡ number_result table.now.contents part class value }
-{
-    if table.kind() != Kind::Dtz || !is_class(class) || table.size(part, 0).is_none() {
-        return Err(RANGE);
-    }
-    number_or_status(table.map_value(part, class, value))
-}
-
 /// Finds the distance in plies of a DTZ value in a class (2 win, 1 cursed win, -1 blessed loss, -2 loss).
 ///
 /// `CLOSED` if the handle has no table; `RANGE` for a WDL table, a class below -2 or above 2, or a part that does
@@ -229,12 +219,12 @@ pub extern "C" fn szg_number(
 ) -> u32
     ensures kept { table.new.value ≡ table.old.value }
     ensures closed { table.old.value ≡ None → (result ≡ 5) × (number.new ≡ number.old) }
-    ensures reported { IfSome table.old.value (λ t. MatchResult (number_result t.contents part class value) (λ n. (result ≡ 0) × (number.new ≡ n)) (λ status. (result ≡ status) × (number.new ≡ number.old))) }
+    ensures reported { IfSome table.old.value (λ t. MatchResult (number_result (index_of t.contents) part class value) (λ n. (result ≡ 0) × (number.new ≡ n)) (λ status. (result ≡ status) × (number.new ≡ number.old))) }
 {
     let Some(held) = take(table, alloc) else {
         return CLOSED;
     };
-    let reported = number_in(held.value(), part, class, value);
+    let reported = number_in(held.value().index(), part, class, value);
     put(table, held);
     match reported {
         Ok(found) => {

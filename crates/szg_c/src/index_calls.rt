@@ -1,13 +1,11 @@
 //! Calls on the placement of an index.
-ghost use Rattle.std.specs.Prelude.{◌≡◌, ◌<◌, Err, IfSome, MatchResult, Ok, Result, is_some, length};
+ghost use Rattle.std.specs.Prelude.{◌≡◌, ◌<◌, Err, IfSome, MatchResult, Ok, Result, length};
 ghost use Rattle.std.specs.declared.option.Option.TheVariants.{None, Some};
-ghost use Rattle.szg_file.specs.Index.{slot_in};
-ghost use Rattle.szg_file.specs.Values.{subtable_at};
-ghost use Rattle.szg_place.specs.Tables.{numbering_in, numbering_of};
-ghost use Rattle.szg_c.specs.Fronts.{with_slot};
+ghost use Rattle.szg_file.specs.Index.{index_of};
 ghost use Rattle.szg_c.specs.Men.{IsWritten, with_room};
-ghost use Rattle.szg_c.specs.Places.{board_or_status, placement_result, with_index};
+ghost use Rattle.szg_c.specs.Places.{board_or_status, placement_result};
 
+use crate::fronts::has_index;
 use crate::handle::{put, take};
 use crate::held_front::HeldFront;
 use crate::held_table::HeldTable;
@@ -15,8 +13,8 @@ use crate::men::{CodedMan, write_placement};
 use crate::places::place_status;
 use crate::status::{CLOSED, DONE, RANGE};
 use std::alloc::Global;
-use szg_file::{Table, TableIndex};
-use szg_place::{PlaceFault, placement_in, placement_of};
+use szg_file::TableIndex;
+use szg_place::{PlaceFault, Spot, placement};
 use szg_values::Placement;
 
 /// Writes the placement of an index of a part's side: the men to the beginning of `men`, their number to `count`, the
@@ -39,13 +37,13 @@ pub extern "C" fn szg_placement(
 ) -> u32
     ensures kept { table.new.value ≡ table.old.value }
     ensures closed { table.old.value ≡ None → result ≡ CLOSED }
-    ensures reported { IfSome table.old.value (λ t. MatchResult (with_room (length men.old) (placement_result (is_some (with_index (subtable_at t.contents part side) index)) (numbering_of t.contents) part side index)) (λ board. (result ≡ DONE) × IsWritten board men.old men.new count.new mover.new) (λ status. result ≡ status)) }
+    ensures reported { IfSome table.old.value (λ t. MatchResult (with_room (length men.old) (placement_result (index_of t.contents) part side index)) (λ board. (result ≡ DONE) × IsWritten board men.old men.new count.new mover.new) (λ status. result ≡ status)) }
     ensures stays { (result ≡ DONE → ⊥) → (men.new ≡ men.old) × (count.new ≡ count.old) × (mover.new ≡ mover.old) }
 {
     let Some(held) = take(table, alloc) else {
         return CLOSED;
     };
-    let reported = placement_at(held.value(), part, side, index);
+    let reported = placement_by(held.value().index(), part, side, index);
     put(table, held);
     written(reported, men, count, mover)
 }
@@ -66,7 +64,7 @@ pub extern "C" fn szg_front_placement(
 ) -> u32
     ensures kept { front.new.value ≡ front.old.value }
     ensures closed { front.old.value ≡ None → result ≡ CLOSED }
-    ensures reported { IfSome front.old.value (λ f. MatchResult (with_room (length men.old) (placement_result (is_some (with_slot (slot_in f.index part side) index)) (numbering_in f.index) part side index)) (λ board. (result ≡ DONE) × IsWritten board men.old men.new count.new mover.new) (λ status. result ≡ status)) }
+    ensures reported { IfSome front.old.value (λ f. MatchResult (with_room (length men.old) (placement_result f.index part side index)) (λ board. (result ≡ DONE) × IsWritten board men.old men.new count.new mover.new) (λ status. result ≡ status)) }
     ensures stays { (result ≡ DONE → ⊥) → (men.new ≡ men.old) × (count.new ≡ count.old) × (mover.new ≡ mover.old) }
 {
     let Some(held) = take(front, alloc) else {
@@ -77,44 +75,14 @@ pub extern "C" fn szg_front_placement(
     written(reported, men, count, mover)
 }
 
-/// Returns the placement of an index of a table. Errors: a status.
-fn placement_at(table: &Table, part: u8, side: u8, index: u64) -> Result<Placement, u32>
-    ensures { result ≡ placement_result (is_some (with_index (subtable_at table.now.contents part side) index)) (numbering_of table.now.contents) part side index }
-{
-    if !is_in_table(table, part, side, index) {
-        return Err(RANGE);
-    }
-    placement_or_status(placement_of(table, part, side, index))
-}
-
-/// Whether a table has this index.
-fn is_in_table(table: &Table, part: u8, side: u8, index: u64) -> bool
-    ensures { result ≡ is_some (with_index (subtable_at table.now.contents part side) index) }
-{
-    match table.size(part, side) {
-        Some(size) => index < size,
-        None => false,
-    }
-}
-
 /// Returns the placement of an index by a table's index. Errors: a status.
 fn placement_by(table: &TableIndex, part: u8, side: u8, index: u64) -> Result<Placement, u32>
-    ensures { result ≡ placement_result (is_some (with_slot (slot_in table.now part side) index)) (numbering_in table.now) part side index }
+    ensures { result ≡ placement_result table.now part side index }
 {
-    if !is_in_index(table, part, side, index) {
+    if !has_index(table, part, side, index) {
         return Err(RANGE);
     }
-    placement_or_status(placement_in(table, part, side, index))
-}
-
-/// Whether a table has this index, by the table's own index.
-fn is_in_index(table: &TableIndex, part: u8, side: u8, index: u64) -> bool
-    ensures { result ≡ is_some (with_slot (slot_in table.now part side) index) }
-{
-    match table.size(part, side) {
-        Some(size) => index < size,
-        None => false,
-    }
+    placement_or_status(placement(table, Spot { part, side, index }))
 }
 
 fn placement_or_status(reported: Result<Placement, PlaceFault>) -> Result<Placement, u32>

@@ -1,9 +1,10 @@
 //! Calls on a handle by placement.
 ghost use Rattle.std.specs.Prelude.{◌≡◌, ℤ, pos, Result, Ok, Err, IfSome, MatchResult};
 ghost use Rattle.std.specs.declared.option.Option.TheVariants.{None, Some};
+ghost use Rattle.szg_file.specs.Index.{index_of};
 ghost use Rattle.szg_c.specs.Men.{board_of};
 ghost use Rattle.szg_c.specs.Places.{IsSpot, is_class, map_status as map_fault_status, number_or_status, outcome_of, outcome_result, place_status as place_fault_status, spot_result};
-ghost use Rattle.szg_c.specs.Reporting.{class_or_status, distance_or_status, spot_or_status};
+ghost use Rattle.szg_c.specs.Reporting.{class_or_status, distance_or_status, fault_status};
 
 use crate::handle::{put, take};
 use crate::held_table::HeldTable;
@@ -14,8 +15,10 @@ use crate::status::{
 };
 use arrayvec::ArrayVec;
 use std::alloc::Global;
-use szg_file::{MapFault, Table};
-use szg_place::{PlaceFault, ProbeFault, Spot, index_of_men, probe_dtz_men, probe_wdl_men};
+use std::convert::Infallible;
+use szg_file::typed::table_fits;
+use szg_file::{MapFault, Table, TableIndex};
+use szg_place::{PlaceFault, Unprobed, locate, probe_class, probe_number};
 use szg_values::{Kind, PlacedMen};
 
 /// The location of a placement in a table.
@@ -45,12 +48,12 @@ pub extern "C" fn szg_index(
 ) -> u32
     ensures kept { table.new.value ≡ table.old.value }
     ensures closed { table.old.value ≡ None → (result ≡ 5) × (spot.new ≡ spot.old) }
-    ensures reported { IfSome table.old.value (λ t. MatchResult (spot_result t.contents (board_of men.now mover)) (λ found. (result ≡ 0) × IsSpot spot.new found) (λ status. (result ≡ status) × (spot.new ≡ spot.old))) }
+    ensures reported { IfSome table.old.value (λ t. MatchResult (spot_result (index_of t.contents) (board_of men.now mover)) (λ found. (result ≡ 0) × IsSpot spot.new found) (λ status. (result ≡ status) × (spot.new ≡ spot.old))) }
 {
     let Some(held) = take(table, alloc) else {
         return CLOSED;
     };
-    let status = write_spot(held.value(), men, mover, spot);
+    let status = write_spot(held.value().index(), men, mover, spot);
     put(table, held);
     status
 }
@@ -58,37 +61,37 @@ pub extern "C" fn szg_index(
 /// Writes the location of men in a table; returns the status. A `Result` with a `Spot` is matched once, where it is made,
 /// since each one that is passed on is copied.
 #[inline(always)]
-fn write_spot(table: &Table, men: &[CodedMan], mover: u8, spot: &mut FoundSpot) -> u32
-    ensures { MatchResult (spot_result table.now.contents (board_of men.now mover)) (λ found. (result ≡ 0) × IsSpot spot.new found) (λ status. (result ≡ status) × (spot.new ≡ spot.old)) }
+pub fn write_spot(index: &TableIndex, men: &[CodedMan], mover: u8, spot: &mut FoundSpot) -> u32
+    ensures { MatchResult (spot_result index.now (board_of men.now mover)) (λ found. (result ≡ 0) × IsSpot spot.new found) (λ status. (result ≡ status) × (spot.new ≡ spot.old)) }
 {
     let mut placed_men = ArrayVec::new();
     let Some(key) = key_of_men(men, mover, &mut placed_men) else {
-        return write_spot_or_fault(table, men, mover, spot);
+        return write_spot_or_fault(index, men, mover, spot);
     };
     let Some(placement) = sound_men(men, mover, &placed_men, key) else {
-        return write_spot_or_fault(table, men, mover, spot);
+        return write_spot_or_fault(index, men, mover, spot);
     };
-    write_spot_of(table, &placement, spot)
+    write_spot_of(index, &placement, spot)
 }
 
 /// The same, by one check of the men after the other.
 #[cold]
 #[inline(never)]
-fn write_spot_or_fault(table: &Table, men: &[CodedMan], mover: u8, spot: &mut FoundSpot) -> u32
-    ensures { MatchResult (spot_result table.now.contents (board_of men.now mover)) (λ found. (result ≡ 0) × IsSpot spot.new found) (λ status. (result ≡ status) × (spot.new ≡ spot.old)) }
+fn write_spot_or_fault(index: &TableIndex, men: &[CodedMan], mover: u8, spot: &mut FoundSpot) -> u32
+    ensures { MatchResult (spot_result index.now (board_of men.now mover)) (λ found. (result ≡ 0) × IsSpot spot.new found) (λ status. (result ≡ status) × (spot.new ≡ spot.old)) }
 {
     match placement_or_fault(men, mover) {
-        Ok(placement) => write_spot_of(table, &PlacedMen::of(&placement), spot),
+        Ok(placement) => write_spot_of(index, &PlacedMen::of(&placement), spot),
         Err(status) => status,
     }
 }
 
 /// Writes the location of a placement in a table; returns the status.
 #[inline(always)]
-fn write_spot_of(table: &Table, placement: &PlacedMen<'_>, spot: &mut FoundSpot) -> u32
-    ensures { MatchResult (spot_result table.now.contents (Ok placement.now)) (λ found. (result ≡ 0) × IsSpot spot.new found) (λ status. (result ≡ status) × (spot.new ≡ spot.old)) }
+fn write_spot_of(index: &TableIndex, placement: &PlacedMen<'_>, spot: &mut FoundSpot) -> u32
+    ensures { MatchResult (spot_result index.now (Ok placement.now)) (λ found. (result ≡ 0) × IsSpot spot.new found) (λ status. (result ≡ status) × (spot.new ≡ spot.old)) }
 {
-    match index_of_men(table, placement) {
+    match locate(index, placement) {
         Ok(found) => {
             spot.part = found.part;
             spot.side = found.side;
@@ -96,15 +99,6 @@ fn write_spot_of(table: &Table, placement: &PlacedMen<'_>, spot: &mut FoundSpot)
             DONE
         }
         Err(fault) => place_status(fault),
-    }
-}
-
-pub fn spot_or_status(reported: Result<Spot, PlaceFault>) -> Result<Spot, u32>
-    ensures { result ≡ spot_or_status reported }
-{
-    match reported {
-        Ok(spot) => Ok(spot),
-        Err(fault) => Err(place_status(fault)),
     }
 }
 
@@ -199,16 +193,27 @@ fn class_of(table: &Table, placement: &PlacedMen<'_>) -> Result<i64, u32>
     requires { table.now.contents.kind ≡ Kind.Wdl }
     ensures { result ≡ outcome_of Kind.Wdl table.now.contents (pos 0) placement.now }
 {
-    class_or_status(probe_wdl_men(table, placement))
+    class_or_status(probe_class(table, placement))
 }
 
-fn class_or_status(reported: Result<Option<i8>, PlaceFault>) -> Result<i64, u32>
+#[inline(always)]
+fn class_or_status(reported: Result<Option<i8>, Unprobed<Infallible>>) -> Result<i64, u32>
     ensures { result ≡ class_or_status reported }
 {
     match reported {
         Ok(Some(class)) => Ok(i64::from(class)),
         Ok(None) => Err(NO_CLASS),
-        Err(fault) => Err(place_status(fault)),
+        Err(fault) => Err(fault_status(fault)),
+    }
+}
+
+fn fault_status(fault: Unprobed<Infallible>) -> u32
+    ensures { result ≡ fault_status fault }
+{
+    match fault {
+        Unprobed::Place(fault) => place_status(fault),
+        Unprobed::Map(fault) => map_status(fault),
+        Unprobed::Fetch(never) => match never {},
     }
 }
 
@@ -221,16 +226,18 @@ fn distance_of(table: &Table, placement: &PlacedMen<'_>, class: i8) -> Result<i6
     if !is_class(class) {
         return Err(RANGE);
     }
-    distance_or_status(probe_dtz_men(table, placement, class))
+    // for proofs alone: the numbers of an accepted table are those of its index
+    table_fits(table);
+    distance_or_status(probe_number(table, placement, class))
 }
 
-fn distance_or_status(reported: Result<u32, ProbeFault>) -> Result<i64, u32>
+#[inline(always)]
+fn distance_or_status(reported: Result<u32, Unprobed<Infallible>>) -> Result<i64, u32>
     ensures { result ≡ distance_or_status reported }
 {
     match reported {
         Ok(number) => Ok(i64::from(number)),
-        Err(ProbeFault::Place(fault)) => Err(place_status(fault)),
-        Err(ProbeFault::Map(fault)) => Err(map_status(fault)),
+        Err(fault) => Err(fault_status(fault)),
     }
 }
 

@@ -6,12 +6,14 @@ ghost use Rattle.szg_c.specs.Reported.{Reports};
 ghost use Rattle.szg_c.specs.Lists.{AreValuesAt, HasIndexFrom};
 
 use crate::held::{size_in, values_in};
-use crate::opening::{Answer, open};
-use crate::status::{DONE, RANGE};
+use crate::opening::{Answer, kind_of, material_of, open};
+use crate::status::{DONE, MEMORY, NAME, RANGE, REFUSED, number_of};
 use std::alloc::Global;
-use szg_file::{Table, file_len};
+use szg_file::{NoSink, ReadFault, Table, scan};
+use szg_io::Bytes;
 
-/// Checks whether the bytes begin with a table's file, and finds the length of that file.
+/// Checks whether the bytes begin with a table's file, and finds the length of that file. It keeps one block in memory at a
+/// time.
 #[unsafe(no_mangle)]
 pub extern "C" fn szg_check(
     alloc: Global,
@@ -22,12 +24,30 @@ pub extern "C" fn szg_check(
 ) -> u32
     ensures { Reports name.now dtz bytes.now (λ t. answer.new.place ≡ length (file_bytes t)) (λ t. ⊥) result answer.new.place answer.new.reason }
 {
-    match open(alloc, name, dtz, bytes, answer) {
-        Ok(table) => {
-            answer.place = file_len(&table);
+    let Some(material) = material_of(name) else {
+        return NAME;
+    };
+    let mut input = Bytes::new(bytes);
+    match scan(
+        alloc,
+        material,
+        kind_of(dtz),
+        &mut input,
+        &mut NoSink,
+        &mut (),
+    ) {
+        Ok(scanned) => {
+            answer.place = scanned.length;
             DONE
         }
-        Err(status) => status,
+        Err(ReadFault::Refused { place, reason }) => {
+            answer.place = place;
+            answer.reason = number_of(reason);
+            REFUSED
+        }
+        Err(ReadFault::Memory) => MEMORY,
+        // bytes in memory never fail
+        Err(ReadFault::Device) => unreachable!(),
     }
 }
 

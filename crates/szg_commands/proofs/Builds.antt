@@ -17,10 +17,10 @@ pub plan_of : (packing : Packing) (choice : Choice) (dump : Dump) → choice ≡
 plan_of (Fixed sizes) choice dump e = ap (λ (z : Choice). plan_by z dump) e
 plan_of Small choice dump e = ap (λ (z : Choice). plan_by z dump) e
 
-pub built_of : (packing : Packing) (choice : Choice) (dump : Dump) (t : Contents) → choice ≡ choice_in packing → build_fault (plan_by choice dump) dump.lists ≡ None → IsBuiltAs choice dump t →
+pub built_of : (packing : Packing) (choice : Choice) (dump : Dump) (t : Contents) → choice ≡ choice_in packing → build_fault (plan_by choice dump) dump.lists ≡ None → IsBuiltAs choice (plan_by choice dump) dump.lists t →
     IsBuiltIn packing dump t
-built_of (Fixed sizes) choice dump t e n h = (subst (λ (z : Choice). build_fault (plan_by z dump) dump.lists ≡ None) e n, subst (λ (z : Choice). IsBuiltAs z dump t) e h)
-built_of Small choice dump t e n h = (subst (λ (z : Choice). build_fault (plan_by z dump) dump.lists ≡ None) e n, subst (λ (z : Choice). IsBuiltAs z dump t) e h)
+built_of (Fixed sizes) choice dump t e n h = (subst (λ (z : Choice). build_fault (plan_by z dump) dump.lists ≡ None) e n, subst (λ (z : Choice). IsBuiltAs z (plan_by z dump) dump.lists t) e h)
+built_of Small choice dump t e n h = (subst (λ (z : Choice). build_fault (plan_by z dump) dump.lists ≡ None) e n, subst (λ (z : Choice). IsBuiltAs z (plan_by z dump) dump.lists t) e h)
 
 pub refused_of : (packing : Packing) (choice : Choice) (dump : Dump) (refusal : Refusal) → choice ≡ choice_in packing → IsRefusedPlan (plan_by choice dump) dump.lists refusal → IsRefusedPlan (plan_in packing dump) dump.lists refusal
 refused_of packing choice dump refusal e h = subst (λ (z : Plan). IsRefusedPlan z dump.lists refusal) (plan_of packing choice dump e) h

@@ -12,7 +12,7 @@ use Rattle.szg_file.specs.Index.{Index, index_of, slot_in}
 use Rattle.szg_file.specs.Unread.{IsUnread, front_at, front_in}
 use Rattle.szg_file.specs.Values.{subtable_at}
 use Rattle.szg_file.specs.Wanted.{wanted_block}
-use Rattle.szg_file.specs.declared.opened.wanted.Wanted.{Wanted}
+use Rattle.szg_file.specs.declared.opened.fetching.ByteRange.{ByteRange}
 use Rattle.szg_file.proofs.Tables.IndexLaws.{slot_stated}
 use Rattle.szg_file.proofs.Tables.TableFinds.{side_lengths}
 use Rattle.szg_files.specs.declared.file_system.FileFault.{FileFault}
@@ -93,13 +93,13 @@ unbrought : (o : Option (List ℕ)) (block : List ℕ) → o ≡ None → IfSome
 unbrought o block e = subst (λ (z : Option (List ℕ)). IfSome z (λ wanted. wanted ≡ block)) (sym e) tt
 
 -- the bytes of a file that a value needs
-abbrev wants : ℕ → Option Wanted → List ℕ → Slot × Subtable → Type 0
-wants i wanted content found = MatchOption wanted (wanted_block found.1 i ≡ None) (λ w. wanted_block found.1 i ≡ Some (bytes_at content w.place w.count))
+abbrev wants : ℕ → Option ByteRange → List ℕ → Slot × Subtable → Type 0
+wants i wanted content found = MatchOption wanted (wanted_block found.1 i ≡ None) (λ w. wanted_block found.1 i ≡ Some (bytes_at content w.offset w.count))
 
 -- what is told of the bytes that a value needs, once they are read
 module _ {F : Type 0} (device : input.Ghosts F) (file : F) (kept : FrontKept) (read size part side i : ℕ) (block : List ℕ) (S : Slot → Type 0) (Stated : List ℕ → Slot × Subtable → Type 0)
     (room : read ≤ size) (long : kept.length ≡ size) (there : IsSomeAnd (slot_in kept.index part side) S) where
-  stated_in : (wanted : Option Wanted) (content : List ℕ) (h : IsFrontOf kept content) → IfSome (front_at kept.index.material kept.index.kind content part side) (wants i wanted content) →
+  stated_in : (wanted : Option ByteRange) (content : List ℕ) (h : IsFrontOf kept content) → IfSome (front_at kept.index.material kept.index.kind content part side) (wants i wanted content) →
       IfSome (front_at kept.index.material kept.index.kind content part side) (λ found. IfSome (wanted_block found.1 i) (λ wanted. wanted ≡ block) → Stated content found) →
       ((found : Slot × Subtable) → wants i wanted content found → IfSome (wanted_block found.1 i) (λ wanted. wanted ≡ block)) →
       IsSomeAnd (front_in kept.index.material kept.index.kind content) (λ t. IsSomeAnd (subtable_at t part side) (λ found. S found.0 × Stated content found))
@@ -114,9 +114,9 @@ module _ {F : Type 0} (device : input.Ghosts F) (file : F) (kept : FrontKept) (r
       (λ found s w value. (s, value (brings found w)))
       )
 
-  pub fetched_by : (wanted : Option Wanted) → IfSome wanted (λ w. w.place + w.count ≤ kept.length) →
+  pub fetched_by : (wanted : Option ByteRange) → IfSome wanted (λ w. w.offset + w.count ≤ kept.length) →
       ((content : List ℕ) → IsFrontOf kept content → IfSome (front_at kept.index.material kept.index.kind content part side)
-      (λ found. MatchOption wanted (wanted_block found.1 i ≡ None) (λ w. wanted_block found.1 i ≡ Some (bytes_at content w.place w.count)))) →
+      (λ found. MatchOption wanted (wanted_block found.1 i ≡ None) (λ w. wanted_block found.1 i ≡ Some (bytes_at content w.offset w.count)))) →
       IsBlockRead device file read wanted block →
       ((content : List ℕ) → IsFrontOf kept content → IfSome (front_at kept.index.material kept.index.kind content part side) (λ found. IfSome (wanted_block found.1 i) (λ wanted. wanted ≡ block) → Stated content found)) →
       IsFetchedIn device file kept read size (λ content t. IsSomeAnd (subtable_at t part side) (λ found. S found.0 × Stated content found))
@@ -133,8 +133,8 @@ module _ {F : Type 0} (device : input.Ghosts F) (file : F) (kept : FrontKept) (r
     taken = inr range;
     room = omega (arith, inside, place, count, long);
     stated = λ content h holds.
-        let at : bytes_at content w.place w.count ≡ block = ap (λ (k : ℕ). bytes_at content k w.count) place ∙ ap (λ (k : ℕ). bytes_at content (read + skipped) k) (sym count) ∙ holds in
-        stated_in (Some w) content h (finds content h) (values content h) (λ found e. brought (wanted_block found.1 i) block (bytes_at content w.place w.count) e at);
+        let at : bytes_at content w.offset w.count ≡ block = ap (λ (k : ℕ). bytes_at content k w.count) place ∙ ap (λ (k : ℕ). bytes_at content (read + skipped) k) (sym count) ∙ holds in
+        stated_in (Some w) content h (finds content h) (values content h) (λ found e. brought (wanted_block found.1 i) block (bytes_at content w.offset w.count) e at);
   }
 
 -- ---- failures
@@ -144,10 +144,10 @@ none_there None S h = absurd h
 none_there (Some found) S h = h.1
 
 -- the bytes of a block that can't be had are those that the value needs
-pub unhad_then : {F : Type 0} (device : input.Ghosts F) (file : F) (kept : FrontKept) (read part side i : ℕ) (fault : FileFault) (wanted : Option Wanted) → IsSomeAnd wanted (IsUnhad device file read fault) →
+pub unhad_then : {F : Type 0} (device : input.Ghosts F) (file : F) (kept : FrontKept) (read part side i : ℕ) (fault : FileFault) (wanted : Option ByteRange) → IsSomeAnd wanted (IsUnhad device file read fault) →
     ((content : List ℕ) → IsFrontOf kept content → IfSome (front_at kept.index.material kept.index.kind content part side)
-    (λ found. MatchOption wanted (wanted_block found.1 i ≡ None) (λ w. wanted_block found.1 i ≡ Some (bytes_at content w.place w.count)))) →
-    (wanted : Wanted) × IsWantedBy kept part side i wanted × IsUnhad device file read fault wanted
+    (λ found. MatchOption wanted (wanted_block found.1 i ≡ None) (λ w. wanted_block found.1 i ≡ Some (bytes_at content w.offset w.count)))) →
+    (wanted : ByteRange) × IsWantedBy kept part side i wanted × IsUnhad device file read fault wanted
 unhad_then device file kept read part side i fault None unhad finds = absurd unhad
 unhad_then device file kept read part side i fault (Some wanted) unhad finds = (wanted, finds, unhad)
 
@@ -166,10 +166,6 @@ front_long kept bytes size room front =
 pub ok_then : {X E : Type 0} (r : Result X E) (P Q : X → Type 0) → ((x : X) → P x → Q x) → IfOk r P → IfOk r Q
 ok_then (Ok x) P Q follows h = follows x h
 ok_then (Err e) P Q follows h = h
-
-pub some_and : (o : Option Slot) (S : Slot → Type 0) → IsSomeAnd o S → IsSome o
-some_and None S h = absurd h
-some_and (Some slot) S h = refl
 
 -- a placement that has a spot has no fault
 pub no_fault : (o : Option PlaceFault) (spot : Spot) → IfSome o (λ fault. ◌≡◌ {A = Result Spot PlaceFault} (Ok spot) (Err fault)) → IsNone o

@@ -8,12 +8,12 @@ use Rattle.szg_commands.specs.declared.on_files.FileStop.{FileStop}
 use Rattle.szg_commands.specs.declared.request.Task.{Task}
 use Rattle.szg_values.specs.Material.{IsMaterial, Sides, name_of}
 use Rattle.szg_file.specs.Accepted.{IsAccepted}
-use Rattle.szg_file.specs.Checked.{IsTable}
 use Rattle.szg_file.specs.Contents.{Contents, Slot, Subtable}
 use Rattle.szg_file.specs.Held.{Shown}
 use Rattle.szg_file.specs.Index.{Index, index_of, slot_in}
 use Rattle.szg_file.specs.Streaming.{only, wanted_of}
 use Rattle.szg_file.specs.Values.{subtable_at, values_of}
+use Rattle.szg_file.specs.WholeRead.{IsTable}
 use Rattle.szg_file.proofs.Tables.IndexLaws.{size_of_table}
 use Rattle.szg_file.proofs.Tables.OnlyWanted.{only_one}
 use Rattle.szg_commands.specs.Answers.{number_line}

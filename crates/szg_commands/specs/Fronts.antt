@@ -16,11 +16,11 @@ use Rattle.szg_file.specs.Values.{subtable_at}
 use Rattle.szg_file.specs.Wanted.{wanted_block}
 use Rattle.szg_file.specs.declared.fault.Reason.{Reason}
 use Rattle.szg_file.specs.declared.opened.fetching.FetchFault.TheVariants as fetch
-use Rattle.szg_file.specs.declared.opened.wanted.Wanted.{Wanted}
+use Rattle.szg_file.specs.declared.opened.fetching.ByteRange.{ByteRange}
 use Rattle.szg_files.specs.Ranges.{HasFailedIn, IsRangeOf}
 use Rattle.szg_files.specs.declared.file_system.FileFault.{FileFault}
 use Rattle.szg_files.specs.declared.file_system.FileFault.TheVariants.{Memory}
-use Rattle.szg_place.specs.Front.{as_number}
+use Rattle.szg_place.specs.Probes.{as_number}
 use Rattle.szg_place.specs.Spots.{place_fault, spot_of}
 use Rattle.szg_place.specs.Tables.{class_of, numbering_of}
 use Rattle.szg_commands.specs.Answers.{IsSpotLine, class_line, number_line, number_of_class}
@@ -106,10 +106,10 @@ pub record IsFrontTaken {F : Type 0} (device : input.Ghosts F) (request : Reques
   pub front : (content : List ℕ) → BeginsWith bytes size content → IsFrontOf opened.front content
 
 -- The bytes that a value needs were read after the front, if it needs any.
-abbrev pub IsBlockRead : {F : Type 0} → input.Ghosts F → F → ℕ → Option Wanted → List ℕ → Type 0
+abbrev pub IsBlockRead : {F : Type 0} → input.Ghosts F → F → ℕ → Option ByteRange → List ℕ → Type 0
 IsBlockRead device file read None block = block ≡ []
 IsBlockRead device file read (Some wanted) block =
-    (skipped : ℕ) × (wanted.place ≡ read + skipped) × (length block ≡ wanted.count) × IsRangeOf device file skipped block
+    (skipped : ℕ) × (wanted.offset ≡ read + skipped) × (length block ≡ wanted.count) × IsRangeOf device file skipped block
 
 -- After the front of `read` bytes at most a block was read, and of each file of `size` bytes with this front and with these
 -- bytes in the block's place `Stated` holds.
@@ -128,23 +128,23 @@ IsFetchedIn device file kept read size Stated =
 -- ---- failures
 
 -- These are the bytes that a value needs, of each file with the front.
-abbrev pub IsWantedBy : FrontKept → ℕ → ℕ → ℕ → Wanted → Type 0
+abbrev pub IsWantedBy : FrontKept → ℕ → ℕ → ℕ → ByteRange → Type 0
 IsWantedBy kept part side i wanted = (content : List ℕ) → IsFrontOf kept content → IfSome (front_at kept.index.material kept.index.kind content part side)
-    (λ found. wanted_block found.1 i ≡ Some (bytes_at content wanted.place wanted.count))
+    (λ found. wanted_block found.1 i ≡ Some (bytes_at content wanted.offset wanted.count))
 
 -- They begin before the end of the front of `read` bytes, or end after the file does.
-abbrev pub IsBeyond : {F : Type 0} → input.Ghosts F → F → ℕ → Wanted → Type 0
-IsBeyond device file read wanted = (wanted.place < read) ⊎ IfSome (device.coming file) (λ bytes. read + length bytes < wanted.place + wanted.count)
+abbrev pub IsBeyond : {F : Type 0} → input.Ghosts F → F → ℕ → ByteRange → Type 0
+IsBeyond device file read wanted = (wanted.offset < read) ⊎ IfSome (device.coming file) (λ bytes. read + length bytes < wanted.offset + wanted.count)
 
 -- They can't be had: memory was refused, the file failed, or they aren't there.
-abbrev pub IsUnhad : {F : Type 0} → input.Ghosts F → F → ℕ → FileFault → Wanted → Type 0
+abbrev pub IsUnhad : {F : Type 0} → input.Ghosts F → F → ℕ → FileFault → ByteRange → Type 0
 IsUnhad device file read fault wanted = (fault ≡ Memory) ⊎ HasFailedIn device file ⊎ IsBeyond device file read wanted
 
 -- A value's block can't be had; or it was read, and no file has that front and that block: so a block that doesn't decode is
 -- no failure.
 abbrev pub IsUnfetched : {F : Type 0} → input.Ghosts F → F → FrontKept → ℕ → ℕ → ℕ → ℕ → ℕ → FileFault → Type 0
 IsUnfetched device file kept read size part side i fault =
-    ((wanted : Wanted) × IsWantedBy kept part side i wanted × IsUnhad device file read fault wanted) ⊎ IsFetchedIn device file kept read size (λ content t. ⊥)
+    ((wanted : ByteRange) × IsWantedBy kept part side i wanted × IsUnhad device file read fault wanted) ⊎ IsFetchedIn device file kept read size (λ content t. ⊥)
 
 -- ---- a look-up in a file
 

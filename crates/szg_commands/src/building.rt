@@ -80,7 +80,7 @@ fn read_dump_to_build<R: Input, V: Watcher>(
 /// Builds the table of a dump.
 fn table_of<V: Watcher>(alloc: Global, packed: PackedDump, watcher: &mut V) -> Result<Table, Stop>
     ensures no_fault { IfOk result (λ _. build_fault (plan_by packed.choice packed.dump) packed.dump.lists ≡ None) }
-    ensures built { IfOk result (λ t. IsBuiltAs packed.choice packed.dump t.contents) }
+    ensures built { IfOk result (λ t. IsBuiltAs packed.choice (plan_by packed.choice packed.dump) packed.dump.lists t.contents) }
     ensures accepted { IfOk result (λ t. IsAccepted t.contents t.filled) }
     ensures refused { (refusal : Refusal) → IsErrOf result (Stop.Refused refusal) → IsRefusedPlan (plan_by packed.choice packed.dump) packed.dump.lists refusal }
     ensures only { IsErrOf result Stop.Device → ⊥ }

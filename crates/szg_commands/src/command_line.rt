@@ -165,13 +165,14 @@ fn about(name: &str) -> &'static str {
     match name {
         "check" => "Check a table file, and print ok and its length in bytes",
         "show" => "Print the header of a table file: its parts, orders, flags and sizes",
-        "get" => "Print the value at an index",
-        "values" => "Print all values of one part and side, one per line",
+        "get" => "Print the stored value at an index",
+        "values" => "Print all stored values of one part and side, one per line",
         "copy" => "Check a table file, and write it without any bytes that follow it",
         "dump" => "Print a table as text, which build takes",
         "build" => "Build a table file from a dump",
         "index" => "Print the part, side and index of a placement",
-        "probe" => "Print the result of a placement: its class (WDL) or a number of plies (DTZ)",
+        "probe" =>
+            "Print the stored value of a placement: not its result where a capture (WDL), or a capture or{n}pawn move (DTZ), decides; en passant and the fifty-move counter don't change it",
         _ => "Print the placement at an index: the side to move, and the men",
     }
 }

@@ -3,7 +3,7 @@
 ghost use Rattle.std.specs.Prelude.{◌≡◌, ℕ, ◌+◌, ◌≤◌, ◌<◌, [], length, Ok, IfOk, IfSome, IfErr, IsErrOf, IsNone, IsSome, IsSomeAnd, Some, option_map, string_bytes, false, true};
 ghost use Rattle.szg_file.specs.Index.{slot_in};
 ghost use Rattle.szg_file.specs.Unread.{front_in};
-ghost use Rattle.szg_place.specs.Front.{as_number};
+ghost use Rattle.szg_place.specs.Probes.{as_number};
 ghost use Rattle.szg_place.specs.Spots.{place_fault, spot_of};
 ghost use Rattle.szg_place.specs.Tables.{numbering_in};
 ghost use Rattle.szg_commands.specs.Answers.{number_of_class, spot_line};
@@ -17,11 +17,11 @@ use crate::refusal::{Refusal, Stop};
 use crate::request::{Action, Class, Request};
 use std::alloc::{AllocError, Global};
 use std::io::ErrorKind;
-use szg_file::{FetchFault, FrontTable, MapFault, ReadFault, TableIndex, Wanted, read_front_table};
+use szg_file::{ByteRange, FetchFault, FrontTable, MapFault, ReadFault, TableIndex, open_front};
 use szg_files::{FileFault, FileSystem, RangeFault, Reasons, read_range};
 use szg_io::Input;
-use szg_place::{Spot, class_of, index_in};
-use szg_values::{Kind, Material, Placement};
+use szg_place::{Spot, class_of, locate};
+use szg_values::{Kind, Material, PlacedMen, Placement};
 
 /// A table opened by its front.
 #[derive(Drop)]
@@ -81,7 +81,7 @@ fn opened_front<F: Input>(
         Ok(material) => material,
         Err(fault) => return Err(Stop::Refused(Refusal::Name(fault))),
     };
-    let (front, read) = match read_front_table(alloc, material, request.kind, size, file) {
+    let (front, read) = match open_front(alloc, material, request.kind, size, file) {
         Ok(found) => found,
         Err(ReadFault::Refused { place, reason }) => {
             return Err(Stop::Refused(Refusal::At(place, reason)));
@@ -98,19 +98,19 @@ fn block_read<S: FileSystem>(
     system: &S,
     file: S::File,
     read: u64,
-    wanted: Option<Wanted>,
+    wanted: Option<ByteRange>,
 ) -> Result<Vec<u8>, FileFault>
     ensures block { IfOk result (λ block. IsBlockRead S.File.Input file read wanted block.items) }
     ensures failed { IfErr result (λ fault. IsSomeAnd wanted (IsUnhad S.File.Input file read fault)) }
 {
     let mut block = Vec::new(alloc);
-    let Some(Wanted { place, count }) = wanted else {
+    let Some(ByteRange { offset, count }) = wanted else {
         return Ok(block);
     };
-    if place < read {
+    if offset < read {
         return Err(FileFault::System(ErrorKind::InvalidData.into()));
     }
-    let skipped = place - read;
+    let skipped = offset - read;
     if block.resize(count as usize, 0).is_err() {
         return Err(FileFault::Memory);
     }
@@ -137,17 +137,17 @@ fn value_by<S: FileSystem>(
     ensures failed { (fault : Fault) → IsErrOf result (LookUpStop.Failed fault) → IsUnfetched S.File.Input file opened.now.front opened.now.read opened.now.size spot.part spot.side spot.index fault }
 {
     let front = &opened.front;
-    let wanted = front.find(spot.part, spot.side, spot.index);
-    let block = match block_read(alloc, system, file, opened.read, wanted) {
+    let located = front.locate(spot.part, spot.side, spot.index);
+    let block = match block_read(alloc, system, file, opened.read, located.range()) {
         Ok(block) => block,
         Err(fault) => return Err(LookUpStop::Failed(fault)),
     };
-    match front.value_in(spot.part, spot.side, spot.index, &block) {
+    match located.decode(&block) {
         Ok(value) => Ok(value),
         Err(FetchFault::Block { number, offset }) => {
             Err(LookUpStop::Refused(Refusal::Block(number, offset)))
         }
-        // no file has such a block: it has the length that `find` returned
+        // no file has such a block: it has the range's length
         Err(FetchFault::Source) => {
             Err(LookUpStop::Failed(FileFault::System(ErrorKind::UnexpectedEof.into())))
         }
@@ -234,7 +234,7 @@ fn index_line(
     ensures stated { IfOk result (λ line. IsNone (place_fault (numbering_in front.now.index) placement.now) × (string_bytes line ≡ spot_line (spot_of (numbering_in front.now.index) placement.now))) }
     ensures refused { (refusal : Refusal) → IsErrOf result (LookUpStop.Refused refusal) → place_refusal (place_fault (numbering_in front.now.index) placement.now) ≡ Some refusal }
 {
-    match index_in(front.index(), placement) {
+    match locate(front.index(), &PlacedMen::of(placement)) {
         Ok(spot) => Ok(spot_line(alloc, spot)?),
         Err(fault) => Err(LookUpStop::Refused(Refusal::Place(fault))),
     }
@@ -254,7 +254,7 @@ fn probe_line<S: FileSystem>(
     ensures stated { IfOk result (λ line. (part side : ℕ) → IsFetchedIn S.File.Input file opened.now.front opened.now.read opened.now.size (λ content t. IsLookUpAnswer (Action.Probe placement.now class) part side t (string_bytes line))) }
     ensures refused { (refusal : Refusal) → IsErrOf result (LookUpStop.Refused refusal) → (part side : ℕ) → IsFetchedIn S.File.Input file opened.now.front opened.now.read opened.now.size (λ content t. IsLookUpRefused (Action.Probe placement.now class) part side content t refusal) }
 {
-    let spot = match index_in(opened.front.index(), placement) {
+    let spot = match locate(opened.front.index(), &PlacedMen::of(placement)) {
         Ok(spot) => spot,
         Err(fault) => return Err(LookUpStop::Refused(Refusal::Place(fault))),
     };

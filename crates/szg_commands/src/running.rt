@@ -5,6 +5,7 @@ use crate::finding::Clap;
 use crate::meant::meant_name;
 use crate::on_files::{Ending, run_words};
 use crate::outcome::Outcome;
+use crate::results::{asked_of, run_results};
 use crate::statuses::{ending_status, status_of};
 use std::alloc::{AllocError, Global};
 use std::env::{self, Env};
@@ -61,6 +62,26 @@ fn print_meant(rt: &(impl Eprint + AllocGlobal), texts: &[&str]) {
     }
 }
 
+/// Whether the words ask a DTZ table for a placement's number, and give no class.
+fn assumes_win(words: &[String]) -> bool {
+    let mut is_dtz = false;
+    'words: for word in words {
+        let word = word.as_str();
+        if word.starts_with("--class") || word == "wdl" || word == "--kind=wdl" {
+            return false;
+        }
+        is_dtz = is_dtz || word == "dtz" || word == "--kind=dtz" || word.ends_with(".rtbz");
+    }
+    is_dtz && words.len() > 2 && words[1].as_str() == "probe"
+}
+
+/// Prints on standard error the class for which a DTZ table is probed if the words give none.
+pub fn print_assumed_class(rt: &(impl Eprint + AllocGlobal), words: &[String]) {
+    if assumes_win(words) {
+        let _ = eprintln!(rt; "this is the number of a win: for another class give --class");
+    }
+}
+
 /// Runs the words of a command line on a machine's files, on an input and an output; faults are printed on standard error.
 /// `watcher` sees a build.
 pub fn run_given(
@@ -74,6 +95,9 @@ pub fn run_given(
     let Ok(texts) = texts_of(rt.alloc(), words) else {
         return status_of(rt, &Outcome::Memory);
     };
+    if let Some(asked) = asked_of(texts.as_slice()) {
+        return run_results(rt, machine, asked, input, output);
+    }
     let (ending, is_closed) = run_on_streams(
         rt.alloc(),
         machine,

@@ -22,7 +22,7 @@ use itoa::Buffer;
 use std::alloc::{AllocError, Global};
 use std::io::ErrorKind;
 use szg_build::{StreamFault, stream_dump};
-use szg_file::{Ahead, NoSink, ReadFault, SinkFault, TableIndex, ValueSink, stream_values};
+use szg_file::{Ahead, NoSink, ReadFault, Scanned, SinkFault, TableIndex, ValueSink, scan};
 use szg_files::{FileFault, FileSystem, Reasons};
 use szg_io::{Input, Output};
 use szg_values::Material;
@@ -147,24 +147,23 @@ pub fn is_listed(action: &Action) -> bool
     matches!(action, Action::Values | Action::Dump(_))
 }
 
-/// Checks the file of the request's name and kind. Returns the table's index and the file's last sixteen bytes. It keeps
-/// no block.
+/// Checks the file of the request's name and kind. It keeps no block.
 fn read_index<F: Input + Ahead>(
     alloc: Global,
     request: &Request,
     file: &mut F,
-) -> Result<(TableIndex, [u8; 16]), Stop>
+) -> Result<Scanned, Stop>
     requires placed { unplaced_refusal request.now.action ≡ None }
     requires first { F.moved file.old ≡ [] }
-    ensures table { IfOk result (λ stated. (t : Shown) × IsTableOf request.now t × (stated.0 ≡ index_of t.contents) × Takes F.Input file.old file.new (file_bytes t) 1) }
+    ensures table { IfOk result (λ scanned. (t : Shown) × IsTableOf request.now t × (scanned.index ≡ index_of t.contents) × Takes F.Input file.old file.new (file_bytes t) 1) }
     ensures refused { (refusal : Refusal) → IsErrOf result (Stop.Refused refusal) → Meets F.Input (Task.OnTable request.now) file.old file.new refusal }
 {
     let material = match Material::parse(request.name) {
         Ok(material) => material,
         Err(fault) => return Err(Stop::Refused(Refusal::Name(fault))),
     };
-    match stream_values(alloc, material, request.kind, file, &mut NoSink, &mut ()) {
-        Ok(stated) => Ok(stated),
+    match scan(alloc, material, request.kind, file, &mut NoSink, &mut ()) {
+        Ok(scanned) => Ok(scanned),
         Err(ReadFault::Refused { place, reason }) => {
             Err(Stop::Refused(Refusal::At(place, reason)))
         }
@@ -179,8 +178,8 @@ fn check_part<F: Input + Ahead>(alloc: Global, request: &Request, file: &mut F) 
     requires first { F.moved file.old ≡ [] }
     ensures refused { (refusal : Refusal) → IsErrOf result (Stop.Refused refusal) → Meets F.Input (Task.OnTable request.now) file.old file.new refusal }
 {
-    let stated = read_index(alloc, request, file)?;
-    let size = stated.0.size(request.part, request.side);
+    let scanned = read_index(alloc, request, file)?;
+    let size = scanned.index.size(request.part, request.side);
     part_found(size)
 }
 
@@ -226,9 +225,9 @@ fn write_lines<F: Input + Ahead, W: Output>(
         text: Vec::new(alloc),
         failed: false,
     };
-    match stream_values(alloc, material, request.kind, file, &mut sink, writer) {
-        Ok(stated) => {
-            let Some(_) = stated.0.size(request.part, request.side) else {
+    match scan(alloc, material, request.kind, file, &mut sink, writer) {
+        Ok(scanned) => {
+            let Some(_) = scanned.index.size(request.part, request.side) else {
                 return Err(LinesStop::Changed);
             };
             match say(writer, &sink.text) {
@@ -390,7 +389,7 @@ where
 /// Writes the dump of the file at `source`. The file is read twice: the first time it is checked, and where it is refused
 /// nothing was written. The second time the lines are written.
 ///
-/// Errors: `Failed`, if the file changed between; a part of the dump may be written.
+/// Errors: `Failed`, if the file changed between and is refused then; a part of the dump may be written.
 fn dump_from<'a, S: FileSystem, W: Output>(
     alloc: Global,
     request: &Request,
@@ -411,8 +410,15 @@ where
         Err(fault) => return Err(failed(source, fault)),
     };
     match read_index(alloc, request, &mut file) {
-        Ok(stated) => write_dump_from(
-            alloc, request, form, &stated.0, &stated.1, source, system, writer,
+        Ok(scanned) => write_dump_from(
+            alloc,
+            request,
+            form,
+            &scanned.index,
+            &scanned.last,
+            source,
+            system,
+            writer,
         ),
         Err(Stop::Refused(refusal)) => Err(FileStop::Refused(refusal)),
         Err(Stop::Device) => Err(device_stop(source, &file)),
@@ -424,7 +430,7 @@ where
 /// is checked, and where it is refused nothing was written. It keeps one block and its values in memory, and what precedes
 /// the blocks.
 ///
-/// Errors: `Failed`, if the file changed between; a part of the text may be written.
+/// Errors: `Failed`, if the file changed between and is refused then; a part of the text may be written.
 pub fn stream_from<'a, S: FileSystem, W: Output>(
     alloc: Global,
     request: &Request,

@@ -1,5 +1,6 @@
 pub mod ForwardLaws
 pub mod FrontFinds
+pub mod LocatedLaws
 pub mod FrontInputs
 pub mod FrontLaws
 pub mod FrontValid

@@ -10,10 +10,10 @@ use Rattle.szg_file.specs.Unread.{IsBadBlock}
 use Rattle.szg_file.specs.declared.reading.dropping.PlacedSub.{PlacedSub}
 use Rattle.szg_file.specs.declared.opened.fetching.FetchFault.{FetchFault}
 use Rattle.szg_file.specs.declared.opened.fetching.FetchFault.TheVariants.{Block, Source}
-use Rattle.szg_file.specs.declared.opened.fetching.Spot.{Spot}
+use Rattle.szg_file.specs.declared.opened.fetching.BlockSpot.{BlockSpot}
 
 -- the location of value `i` by a layout whose first block is at offset `first`
-pub record IsSpotAt (layout : Layout) (first i : ℕ) (spot : Spot) : Type 0 where
+pub record IsSpotAt (layout : Layout) (first i : ℕ) (spot : BlockSpot) : Type 0 where
   pub block : spot.value.block ≡ (block_location layout i).list
   pub item : spot.value.item ≡ (block_location layout i).item
   pub short : spot.value.item < 65536
@@ -21,7 +21,7 @@ pub record IsSpotAt (layout : Layout) (first i : ℕ) (spot : Spot) : Type 0 whe
   pub count : spot.count ≡ 2 ^ layout.block_bits
   pub offset : spot.offset ≡ first + spot.value.block * 2 ^ layout.block_bits
 
-abbrev pub IsSpot : PlacedSub → ℕ → Spot → Type 0
+abbrev pub IsSpot : PlacedSub → ℕ → BlockSpot → Type 0
 IsSpot placed i spot = IsSomeAnd (layout_of placed.sub) (λ layout. IsSpotAt layout placed.first i spot)
 
 -- the bytes of block `n` of a subtable are at `offset`

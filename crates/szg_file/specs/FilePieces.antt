@@ -6,7 +6,7 @@ use Rattle.szg_file.specs.declared.reading.Opening.{Opening}
 use Rattle.szg_file.specs.declared.reading.Pieces.{Pieces}
 use Rattle.szg_file.specs.Format.{Format, means, field, ◌>>=◌, ◌>>◌}
 use Rattle.szg_file.specs.Contents as held
-use Rattle.szg_file.specs.File.{Begun, each, part_field, filled_to, head_field, maps_field, sparse_field, lengths_field, blocks_field}
+use Rattle.szg_file.specs.File.{Begun, each, part_field, filled_to, head_field, maps_field, sparse_field, lengths_field}
 use Rattle.szg_file.specs.Held.{part_of, subtable_of, map_of}
 use Rattle.szg_file.specs.Reading.{start_field}
 
@@ -32,13 +32,6 @@ abbrev pub measured_field : List Begun → Format (List Begun)
 measured_field list = do
   indexed ← each sparse_field list
   each lengths_field indexed
-
--- the sparse indexes, the block lengths, the blocks
-abbrev pub packed_field : List Begun → Format (List held.Subtable)
-packed_field list = do
-  indexed ← each sparse_field list
-  measured ← each lengths_field indexed
-  each blocks_field measured
 
 -- padding and the last sixteen bytes
 abbrev pub ending_field : Format (List ℕ)

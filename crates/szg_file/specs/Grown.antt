@@ -5,6 +5,7 @@ use Rattle.szg_block.specs.declared.Sub.{Sub}
 use Rattle.szg_file.specs.declared.reading.front.Front.{Front}
 use Rattle.szg_file.specs.declared.reading.Opening.{Opening}
 use Rattle.szg_file.specs.declared.reading.Pieces.{Pieces}
+use Rattle.szg_file.specs.declared.reading.read_front.FrontRead.{FrontRead}
 use Rattle.szg_file.specs.declared.table.PartBytes.{PartBytes}
 use Rattle.szg_file.specs.declared.table.Map.{Map}
 use Rattle.szg_file.specs.Contents.{Part}
@@ -42,6 +43,11 @@ opening_lengths o =
     + length o.maps.items + maps_lengths o.maps.items
 
 -- subtables count twice, since each has a slot as well
+abbrev pub front_lengths : FrontRead → ℕ
+front_lengths f =
+    length f.parts.bytes.items + parts_lengths f.parts.bytes.items + 2 * length f.measured.items + begun_lengths f.measured.items
+    + length f.maps.items + maps_lengths f.maps.items
+
 abbrev pub pieces_lengths : Pieces → ℕ
 pieces_lengths p =
     length p.parts.bytes.items + parts_lengths p.parts.bytes.items + 2 * length p.subs.items + subs_lengths p.subs.items

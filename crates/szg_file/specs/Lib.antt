@@ -29,7 +29,7 @@ pub mod Unread
 pub mod FrontRead
 pub mod FrontTable
 pub mod Fetching
+pub mod Located
 pub mod Index
-pub mod Checked
 pub mod FrontInput
 pub mod Streaming

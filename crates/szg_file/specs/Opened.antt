@@ -11,7 +11,7 @@ use Rattle.szg_file.specs.Format.{Verdict, good, refused, truncated, verdict}
 use Rattle.szg_file.specs.Index.{Index, index_of}
 use Rattle.szg_file.specs.Placed.{whole_sub, Fits}
 use Rattle.szg_file.specs.Values.{subtable_at}
-use Rattle.szg_file.specs.declared.fault.Reason.TheVariants.{Truncated}
+use Rattle.szg_file.specs.WholeRead.{Refuses}
 use Rattle.szg_file.specs.declared.fault.ReadFault.{ReadFault}
 use Rattle.szg_file.specs.declared.fault.ReadFault.TheVariants as fault
 use Rattle.szg_file.specs.declared.opened.OpenFault.{OpenFault}
@@ -57,9 +57,7 @@ opened_fault fault.Memory = Memory
 
 -- a refusal is the one of the verdict
 abbrev pub IsOpenRefusal : Verdict Contents → OpenFault → Type 0
-IsOpenRefusal (good t filled rest) (Refused place reason) = ⊥
-IsOpenRefusal (refused at why rest) (Refused place reason) = (place ≡ at) × (reason ≡ why)
-IsOpenRefusal (truncated count) (Refused place reason) = (place ≡ count) × (reason ≡ Truncated)
+IsOpenRefusal v (Refused place reason) = Refuses v place reason
 IsOpenRefusal v Source = Unit {0}
 IsOpenRefusal v Memory = Unit {0}
 

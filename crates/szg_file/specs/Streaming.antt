@@ -1,19 +1,16 @@
--- Values that are handed to a sink while a file is read.
-use Rattle.std.specs.Prelude.{◌≡◌, ℕ, Bool, nat_eq, ◌&&◌, if◌then◌else◌, List, [], ◌∷◌, ◌++◌, Result, Ok, Err, IfSome, IfOk}
+-- A file that is scanned: its values are handed to a sink while it is read.
+use Rattle.std.specs.Prelude.{◌≡◌, ℕ, Bool, nat_eq, ◌&&◌, if◌then◌else◌, List, [], ◌∷◌, ◌++◌, length, Result, Ok, Err, IfSome}
 use Rattle.std.specs.List.{FoldsTo, flat_map}
-use Rattle.szg_io.specs.Moved.{Takes}
 use Rattle.szg_io.specs.declared.device.Input.{Ghosts}
 use Rattle.szg_values.specs.Material.{Sides}
 use Rattle.szg_values.specs.declared.Kind.{Kind}
-use Rattle.szg_file.specs.Checked.{IsTable}
 use Rattle.szg_file.specs.Contents.{Contents, Slot, Subtable, slots}
-use Rattle.szg_file.specs.File.{file}
-use Rattle.szg_file.specs.Format.{verdict}
-use Rattle.szg_file.specs.Held.{Shown}
-use Rattle.szg_file.specs.Index.{Index, index_of}
+use Rattle.szg_file.specs.Held.{Shown, file_bytes}
+use Rattle.szg_file.specs.Index.{index_of}
 use Rattle.szg_file.specs.Values.{slotted, subtable_at, values_of}
-use Rattle.szg_file.specs.WholeRead.{FollowsVerdict, TookBytes}
+use Rattle.szg_file.specs.WholeRead.{IsFileRead}
 use Rattle.szg_file.specs.declared.fault.ReadFault.{ReadFault}
+use Rattle.szg_file.specs.declared.reading.scan.Scanned.{Scanned}
 
 -- A sink accepted these values in their order, in chunks. The sink and its output before, and both after.
 pub record Accepted {K W : Type 0} (accepts : K → W → List ℕ → K → W → Type 0) (values : List ℕ) (sink : K) (out : W) (sink' : K) (out' : W) : Type 0 where
@@ -34,24 +31,20 @@ wanted_values wanted kind (pair ∷ others) = values_if (wanted pair.0.part pair
 abbrev pub wanted_of : (ℕ → ℕ → Bool) → Contents → List ℕ
 wanted_of wanted t = wanted_values wanted t.kind (slotted (slots t.material t.kind t.parts) t.subtables)
 
--- the result of reading a table, reduced to the table's index and the file's last bytes
-abbrev pub index_read : Result Shown ReadFault → Result (Index × List ℕ) ReadFault
-index_read (Ok t) = Ok (index_of t.contents, t.contents.last)
-index_read (Err fault) = Err fault
+-- The table whose file was read, what is returned of it, and the values that the sink accepted: just those that it wants.
+pub record IsTableScanned {R K W : Type 0} (device : Ghosts R) (wanted : ℕ → ℕ → Bool) (accepts : K → W → List ℕ → K → W → Type 0) (material : Sides) (kind : Kind)
+    (old new : R) (sink : K) (out : W) (sink' : K) (out' : W) (scanned : Scanned) : Type 0 where
+  pub table : Shown
+  pub read : IsFileRead device material kind old new (Ok table)
+  pub index_is : scanned.index ≡ index_of table.contents
+  pub last_is : scanned.last ≡ table.contents.last
+  pub length_is : scanned.length ≡ length (file_bytes table)
+  pub accepted : Accepted accepts (wanted_of wanted table.contents) sink out sink' out'
 
--- The result is the index and the last bytes of the table in `answer`, the result that reading the table would have. If
--- the reader specifies its remaining bytes, `answer` is the verdict on them; in any case it is the verdict on the bytes that were
--- read. The sink accepted just the values that it wants of the table.
-pub record IsStreamed {R K W : Type 0} (device : Ghosts R) (wanted : ℕ → ℕ → Bool) (accepts : K → W → List ℕ → K → W → Type 0) (material : Sides) (kind : Kind)
-    (old new : R) (sink : K) (out : W) (sink' : K) (out' : W) (result : Result (Index × List ℕ) ReadFault) : Type 0 where
-  pub answer : Result Shown ReadFault
-  pub stated : result ≡ index_read answer
-  pub table : IfOk answer (IsTable material kind)
-  pub follows : IfSome (device.coming old) (λ bytes. FollowsVerdict (verdict (file material kind) 0 bytes) answer (device.coming new))
-  pub bytes : List ℕ
-  pub taken : Takes device old new bytes 1
-  pub took : TookBytes material kind bytes (device.coming new) answer
-  pub accepted : IfOk answer (λ t. Accepted accepts (wanted_of wanted t.contents) sink out sink' out')
+-- The result is what is returned of the table that reading the file would return, or the fault of reading it.
+abbrev pub IsScanned : {R K W : Type 0} → Ghosts R → (ℕ → ℕ → Bool) → (K → W → List ℕ → K → W → Type 0) → Sides → Kind → R → R → K → W → K → W → Result Scanned ReadFault → Type 0
+IsScanned device wanted accepts material kind old new sink out sink' out' (Ok scanned) = IsTableScanned device wanted accepts material kind old new sink out sink' out' scanned
+IsScanned device wanted accepts material kind old new sink out sink' out' (Err fault) = IsFileRead device material kind old new (Err fault)
 
 -- only this part and side are wanted
 abbrev pub only : ℕ → ℕ → ℕ → ℕ → Bool

@@ -73,9 +73,9 @@ abbrev pub unread_table : Sides → Kind → FrontRead → List Subtable → Lis
 unread_table material kind f subtables last =
     record { material = material; kind = kind; byte4 = f.byte4; parts = f.parts; subtables = subtables; maps = f.maps; last = last }
 
--- the blocks, unread, and the last bytes
-abbrev pub after_front : Sides → Kind → FrontRead → Format Contents
-after_front material kind f = each unread_field f.measured >>= λ subtables. ending_field >>= λ last. means (unread_table material kind f subtables last)
+-- the blocks, by the format of a subtable's blocks, and the last bytes
+abbrev pub after_front : (Begun → Format Subtable) → Sides → Kind → FrontRead → Format Contents
+after_front blocks material kind f = each blocks f.measured >>= λ subtables. ending_field >>= λ last. means (unread_table material kind f subtables last)
 
 -- the first `place` bytes are a whole front
 pub record BeginsWithFront (material : Sides) (kind : Kind) (f : FrontRead) (place : ℕ) (content : List ℕ) : Type 0 where

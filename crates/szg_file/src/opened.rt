@@ -2,11 +2,8 @@
 
 pub(crate) mod fetching;
 pub(crate) mod forward;
-pub(crate) mod front_input;
 pub(crate) mod front_table;
-mod outlined;
 mod placing;
-pub(crate) mod wanted;
 
 ghost use Rattle.std.specs.Prelude.{◌≡◌, IsSome, IfOk, IfErr};
 ghost use Rattle.szg_block.specs.BlocksTrait.{Rose};
@@ -17,7 +14,7 @@ ghost use Rattle.szg_file.specs.Opened.{table_in, opened_fault, IsOpenRefusal};
 use crate::fault::{ReadFault, Reason};
 use crate::lookup::{Slotted, constant_value, slotted_at};
 use crate::opened::forward::Forward;
-use crate::reading::blocks::{block_bytes, block_count};
+use crate::reading::blocks::block_bytes;
 use crate::reading::dropping::PlacedSub;
 use crate::reading::front::Front;
 use crate::reading::outline::{Outline, read_outline};
@@ -25,7 +22,7 @@ use crate::reading::sink::NoSink;
 use crate::table_index::{TableIndex, index_of_placed};
 use std::alloc::Global;
 use std::marker::Model;
-use szg_block::{Paged, Source, SourceFault, look_up};
+use szg_block::{Paged, Source, SourceFault, block_count, look_up};
 use szg_values::{Kind, Material};
 
 /// Why a table is not opened.
@@ -67,11 +64,20 @@ impl<S: Source + Drop> Model for Opened<S> {
 }
 
 impl<S: Source + Drop> Opened<S> {
-    ghost use Rattle.std.specs.Prelude.{◌≡◌, ◌<◌, IsSome, IfOk, IsOk, IfSome, Some, None, option_map};
+    ghost use Rattle.std.specs.Prelude.{◌≡◌, ◌<◌, IsSome, IfOk, IsOk, IfSome, IsSomeAnd, Some, None, option_map};
     ghost use Rattle.szg_block.specs.BlocksTrait.{failed_after};
-    ghost use Rattle.szg_file.specs.Opened.{opened_at, requested_after};
+    ghost use Rattle.szg_file.specs.Index.{index_of};
+    ghost use Rattle.szg_file.specs.Opened.{opened_at, opened_table, requested_after, IsTableOf};
     ghost use Rattle.szg_file.specs.Values.{values_of, item};
     ghost use Rattle.szg_file.specs.Wanted.{wanted_block};
+
+    /// Returns the table's index: its material and kind, its parts, and the flags and maps of its subtables.
+    pub fn index(&self) -> &TableIndex
+        ensures index { IsSomeAnd (opened_table self.now) (λ t. result.now ≡ index_of t) }
+        ensures table { IsSomeAnd (opened_table self.now) (IsTableOf self.now.material self.now.kind) }
+    {
+        &self.index
+    }
 
     /// Returns the number of positions of a part's side. None if there is no such side.
     pub fn size(&self, part: u8, side: u8) -> Option<u64>
@@ -184,7 +190,7 @@ pub fn open<S: Source + Drop>(
 }
 
 /// Converts a fault of reading to one of opening.
-pub fn open_fault(fault: ReadFault) -> OpenFault
+fn open_fault(fault: ReadFault) -> OpenFault
     ensures { result ≡ opened_fault fault }
 {
     match fault {

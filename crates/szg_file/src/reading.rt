@@ -1,5 +1,4 @@
 pub(crate) mod blocks;
-pub(crate) mod checking;
 pub(crate) mod dropping;
 pub(crate) mod front;
 mod heads;
@@ -9,9 +8,9 @@ mod maps;
 pub(crate) mod outline;
 pub(crate) mod parts;
 pub(crate) mod read_front;
+pub(crate) mod scan;
 pub(crate) mod sink;
 pub(crate) mod start;
-pub(crate) mod stream_file;
 mod streaming;
 mod taking;
 
@@ -33,9 +32,9 @@ use crate::fault::ReadFault;
 use crate::reading::blocks::read_blocks;
 use crate::reading::front::Front;
 use crate::reading::heads::read_heads;
-use crate::reading::index::read_lengths;
 use crate::reading::maps::read_maps;
 use crate::reading::parts::{Parts, read_parts};
+use crate::reading::read_front::{FrontRead, read_front};
 use crate::reading::start::read_start;
 use crate::reading::taking::{take_field, take_fill};
 use crate::table::{Map, Table};
@@ -129,13 +128,12 @@ fn read_pieces<R: Input>(
     ensures slots { IfOk result (λ p. p.parts.slots.items ≡ slots material.now kind (map part_of p.parts.bytes.items)) }
     ensures grown { IfOk result (λ p. HasCounted front.old front.new 0 (pieces_lengths p)) }
 {
-    let Opening {
+    let FrontRead {
         byte4,
         parts,
-        heads,
         maps,
-    } = read_opening(alloc, material, kind, input, front)?;
-    let measured = read_lengths(alloc, heads, input, front)?;
+        measured,
+    } = read_front(alloc, material, kind, input, front)?;
     let subs = read_blocks(alloc, measured, input, front)?;
     let last = read_ending(alloc, input, front)?;
     Ok(Pieces {

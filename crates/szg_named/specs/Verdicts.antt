@@ -9,7 +9,8 @@ use Rattle.szg_io.specs.declared.device.Output as output
 use Rattle.szg_values.specs.Material.{Sides, parsed}
 use Rattle.szg_values.specs.declared.Kind.{Kind}
 use Rattle.szg_values.specs.declared.NameFault.{NameFault}
-use Rattle.szg_file.specs.Checked.{IsChecked}
+use Rattle.szg_file.specs.Held.{Shown, file_bytes}
+use Rattle.szg_file.specs.WholeRead.{IsFileRead}
 use Rattle.szg_file.specs.declared.fault.ReadFault.TheVariants.{Refused}
 use Rattle.szg_files.specs.FileSystem.{IsOpened}
 use Rattle.szg_named.specs.Records.{IsReportLine, report_end}
@@ -24,10 +25,10 @@ use Rattle.szg_named.specs.declared.stop.Tally.{Tally}
 -- The verdict on an opened file. After a table there is the end of the file, or one more byte, which was read, too.
 abbrev pub IsVerdictOn : {F : Type 0} → input.Ghosts F → Sides → Kind → F → F → FileVerdict → Type 0
 IsVerdictOn {F = F} device material kind file file' (Whole size) =
-    (table : F) × IsChecked device material kind file table (Ok size) × Takes device table file' [] 1 × IsAtEnd (device.coming file')
+    (table : F) × (t : Shown) × IsFileRead device material kind file table (Ok t) × (size ≡ length (file_bytes t)) × Takes device table file' [] 1 × IsAtEnd (device.coming file')
 IsVerdictOn {F = F} device material kind file file' (Trailing size) =
-    (table : F) × IsChecked device material kind file table (Ok size) × (byte : ℕ) × Takes device table file' (byte ∷ []) 0
-IsVerdictOn device material kind file file' (At offset reason) = IsChecked device material kind file file' (Err (Refused offset reason))
+    (table : F) × (t : Shown) × IsFileRead device material kind file table (Ok t) × (size ≡ length (file_bytes t)) × (byte : ℕ) × Takes device table file' (byte ∷ []) 0
+IsVerdictOn device material kind file file' (At offset reason) = IsFileRead device material kind file file' (Err (Refused offset reason))
 IsVerdictOn device material kind file file' (Unread error) = HasFailed (device.failures file) (device.failures file') (device.interrupted file')
 IsVerdictOn device material kind file file' verdict = ⊥
 

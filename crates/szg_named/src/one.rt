@@ -6,7 +6,7 @@ use crate::file_verdict::FileVerdict;
 use crate::named::{Naming, named_as};
 use crate::stop::Stop;
 use std::alloc::Global;
-use szg_file::{Ahead, ReadFault, check};
+use szg_file::{Ahead, NoSink, ReadFault, scan};
 use szg_files::{FileFault, FileSystem, Reasons};
 use szg_io::{Input, take_whole};
 use szg_values::{Kind, Material};
@@ -22,8 +22,8 @@ fn check_opened<F: Input + Ahead + Reasons>(
     ensures says { IfOk result (λ verdict. IsVerdictOn F.Input material.now kind file.old file.new verdict) }
     ensures only { IsErrOf result Stop.Device → ⊥ }
 {
-    let size = match check(alloc, material, kind, file) {
-        Ok(size) => size,
+    let size = match scan(alloc, material.copy(), kind, file, &mut NoSink, &mut ()) {
+        Ok(scanned) => scanned.length,
         Err(ReadFault::Refused { place, reason }) => return Ok(FileVerdict::At(place, reason)),
         Err(ReadFault::Device) => return Ok(FileVerdict::Unread(file.reason())),
         Err(ReadFault::Memory) => return Err(Stop::Memory),

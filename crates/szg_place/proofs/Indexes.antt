@@ -5,6 +5,5 @@ pub mod Found
 pub mod Grouped
 pub mod Indexed
 pub mod Probed
-pub mod FrontProbes
 pub mod IndexAgain
 pub mod SlottedIndex

@@ -7,6 +7,6 @@ pub mod Tables
 pub mod Numbers
 pub mod Slots
 pub mod Known
-pub mod Front
+pub mod Probes
 pub mod Keys
 pub mod SlotSquares

@@ -63,8 +63,8 @@ pub fn index_of_placement(table: &Table, part: u8, side: u8, index: u64)
     index_in_placement(table.index(), part, side, index);
 }
 
-/// If `placement_in` returns a placement for a part, side and index, `index_in` returns the same part, side and index
-/// for this placement. Both functions take the `TableIndex`, which each type of table has.
+/// If `placement` returns a placement for a spot, `locate` returns the same spot for this placement. Both functions take
+/// the `TableIndex`, which each type of table has.
 pub fn index_in_placement(table: &TableIndex, part: u8, side: u8, index: u64)
     requires there { IsSome (slot_in table.now part side) }
     requires below { IfSome (slot_in table.now part side) (λ slot. index < slot.size) }

@@ -7,34 +7,30 @@
 //! ranks are flipped, or are numbered 1 to 8, they are ranks of the board.
 #![tactic(auto)]
 
-use szg_file::{FetchFault, MapFault};
+use szg_file::MapFault;
 use thiserror::Error;
 
 pub mod free_squares;
-mod front;
 mod group_ranks;
-pub mod index;
 pub mod kings;
 pub mod laws;
 pub mod lead_pawns;
 mod men;
 mod normal;
-mod placement;
 mod probes;
 mod slot_squares;
 mod slots;
 mod spots;
 mod stored_side;
+mod tables;
 pub mod triples;
 mod typed;
+pub mod unranking;
 
-pub use front::{
-    probe_dtz_front, probe_dtz_front_in, probe_dtz_front_in_men, probe_wdl_front,
-    probe_wdl_front_in, probe_wdl_front_in_men,
-};
-pub use placement::{placement_in, placement_of};
-pub use probes::{class_of, probe_dtz, probe_dtz_men, probe_wdl, probe_wdl_men};
-pub use spots::{index_in, index_in_men, index_of, index_of_men};
+pub use probes::{FrontBytes, Unprobed, Values, class_of, probe_class, probe_number};
+pub use spots::locate;
+pub use tables::{index_of, placement_of, probe_dtz, probe_wdl};
+pub use unranking::placement;
 
 /// Why a table has no index for a placement: the first check that fails, in this order.
 #[derive(Clone, Copy, Debug, PartialEq, Eq, Error)]
@@ -64,18 +60,6 @@ pub enum ProbeFault {
     /// The table has no number for the value in this class, or the class is a draw.
     #[error("{0}")]
     Map(MapFault),
-}
-
-/// Why a probe of a table that was opened by its front (all of its file before the blocks) returns neither a class nor
-/// a number.
-#[derive(Clone, Copy, Debug, PartialEq, Eq, Error)]
-pub enum FrontProbeFault {
-    /// The table has no index for the placement, or no number for its value.
-    #[error("{0}")]
-    Probe(ProbeFault),
-    /// The value's block does not decode, or the source failed.
-    #[error("Fetch")]
-    Fetch(FetchFault),
 }
 
 /// Where a table stores the value of a placement.

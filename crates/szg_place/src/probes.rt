@@ -1,39 +1,140 @@
-//! Probes of a table: the class or the DTZ number of a placement.
+//! Probes: the class or the DTZ number of a placement, wherever the table's blocks are.
 
-ghost use Rattle.std.specs.Prelude.{◌≡◌, ◌≤ℤ◌, pos, neg_ℤ, IsNone, IfSome, IsSomeAnd, MatchResult, Ok, Err};
+ghost use Rattle.std.specs.Prelude.{◌≡◌, ◌≤ℤ◌, pos, neg_ℤ, IsNone, IsSome, IfSome, Err};
+ghost use Rattle.szg_file.specs.Index.{slot_in};
+ghost use Rattle.szg_place.specs.Probes.{IsMeant, as_class, as_number};
 ghost use Rattle.szg_place.specs.Spots.{place_fault, spot_of};
-ghost use Rattle.szg_place.specs.Tables.{numbering_of, value_at, class_of, mapped_number};
+ghost use Rattle.szg_place.specs.Tables.{class_of, numbering_in};
 
-use crate::spots::index_of_men;
-use crate::{PlaceFault, ProbeFault};
-use szg_file::Table;
-use szg_values::{Kind, PlacedMen, Placement};
+use crate::spots::locate;
+use crate::{PlaceFault, Spot};
+use std::convert::Infallible;
+use szg_file::typed::table_fits;
+use szg_file::{FetchFault, FrontTable, MapFault, Table, TableIndex};
+use szg_values::{Kind, PlacedMen};
+
+/// Why a probe returns neither a class nor a number. `F` is the fault of fetching a value.
+#[derive(Clone, Copy, Debug, PartialEq, Eq)]
+pub enum Unprobed<F> {
+    /// The table has no index for the placement.
+    Place(PlaceFault),
+    /// The value is not fetched.
+    Fetch(F),
+    /// The table has no number for the value in this class, or the class is a draw.
+    Map(MapFault),
+}
+
+/// The values of a table, wherever its blocks are.
+pub trait Values {
+    ghost use Rattle.std.specs.Prelude.{ℕ, ◌≡◌, ◌<◌, IfErr, IfOk, IsSomeAnd};
+    ghost use Rattle.szg_file.specs.Index.{Index, slot_in};
+    ghost use Rattle.szg_place.specs.declared.Spot.{Spot};
+
+    /// Why a value is not fetched.
+    type Fault;
+
+    /// The table's index.
+    ghost index_in: { Self → Index };
+
+    /// What is true of a value that is fetched for a spot.
+    ghost is_value: { Self → Spot → ℕ → Type 0 };
+
+    /// What is true of a fault for a spot.
+    ghost is_fault: { Self → Spot → Self.Fault → Type 0 };
+
+    /// Returns the table's index.
+    fn index(&self) -> &TableIndex
+        ensures { result.now ≡ index_in self.now };
+
+    /// Fetches the value at a spot.
+    fn value(&mut self, spot: Spot) -> Result<u16, Self::Fault>
+        requires { IsSomeAnd (slot_in (index_in self.old) spot.part spot.side) (λ slot. spot.index < slot.size) }
+        ensures value { IfOk result (is_value self.old spot) }
+        ensures fault { IfErr result (is_fault self.old spot) }
+        ensures index { index_in self.new ≡ index_in self.old };
+}
+
+impl<'a> Values for &'a Table {
+    ghost use Rattle.std.specs.Prelude.{◌≡◌, Some};
+    ghost use Rattle.szg_file.specs.Index.{index_of};
+    ghost use Rattle.szg_place.specs.Tables.{value_at};
+
+    type Fault = Infallible;
+
+    ghost index_in = { λ t. index_of t.now.contents };
+
+    ghost is_value = { λ t spot v. value_at t.now.contents spot ≡ Some v };
+
+    ghost is_fault = { λ t spot fault. ⊥ };
+
+    #[inline(always)]
+    fn index(&self) -> &TableIndex {
+        (*self).index()
+    }
+
+    #[inline(always)]
+    fn value(&mut self, spot: Spot) -> Result<u16, Infallible> {
+        let table = *self;
+        table_fits(table);
+        Ok(table.get(spot.part, spot.side, spot.index))
+    }
+}
+
+/// A table that was opened by its front, with the bytes of its file.
+#[derive(Clone, Copy)]
+pub struct FrontBytes<'a> {
+    /// The table.
+    pub front: &'a FrontTable,
+    /// The bytes of its file.
+    pub bytes: &'a [u8],
+}
+
+impl<'a> Values for FrontBytes<'a> {
+    ghost use Rattle.szg_file.specs.FrontTable.{IsFrontOf};
+    ghost use Rattle.szg_place.specs.Probes.{IsBadAt, IsValueAt};
+
+    type Fault = FetchFault;
+
+    ghost index_in = { λ f. f.front.now.index };
+
+    ghost is_value = { λ f spot v. IsFrontOf f.front.now f.bytes.now → IsValueAt f.front.now f.bytes.now spot v };
+
+    ghost is_fault = { λ f spot fault. IsFrontOf f.front.now f.bytes.now → IsBadAt f.front.now f.bytes.now spot fault };
+
+    #[inline(always)]
+    fn index(&self) -> &TableIndex {
+        self.front.index()
+    }
+
+    #[inline(always)]
+    fn value(&mut self, spot: Spot) -> Result<u16, FetchFault> {
+        self.front.get(self.bytes, spot.part, spot.side, spot.index)
+    }
+}
 
 /// Returns the class of a placement from a WDL table: 2 is a win, 1 a cursed win, 0 a draw, -1 a blessed loss and -2
 /// a loss for the side to move. None if the value is above 4. Captures and en passant are not considered.
 /// (`probe_wdl_table` in the probing code.)
 ///
-/// Errors: those of `index_of`.
-pub fn probe_wdl(table: &Table, placement: &Placement) -> Result<Option<i8>, PlaceFault>
-    requires { table.now.contents.kind ≡ Kind.Wdl }
-    ensures refused { IfSome (place_fault (numbering_of table.now.contents) placement.now) (λ fault. result ≡ Err fault) }
-    ensures class { IsNone (place_fault (numbering_of table.now.contents) placement.now) →
-        IsSomeAnd (value_at table.now.contents (spot_of (numbering_of table.now.contents) placement.now)) (λ v. result ≡ Ok (class_of v)) }
-{
-    probe_wdl_men(table, &PlacedMen::of(placement))
-}
-
-/// `probe_wdl` for a `PlacedMen`, whose list of men the caller owns.
+/// Errors: `Place` with the error of `locate`, then `Fetch` if the value is not fetched.
 #[inline(always)]
-pub fn probe_wdl_men(table: &Table, placement: &PlacedMen<'_>) -> Result<Option<i8>, PlaceFault>
-    requires { table.now.contents.kind ≡ Kind.Wdl }
-    ensures refused { IfSome (place_fault (numbering_of table.now.contents) placement.now) (λ fault. result ≡ Err fault) }
-    ensures class { IsNone (place_fault (numbering_of table.now.contents) placement.now) →
-        IsSomeAnd (value_at table.now.contents (spot_of (numbering_of table.now.contents) placement.now)) (λ v. result ≡ Ok (class_of v)) }
+pub fn probe_class<V: Values + Drop>(
+    mut values: V,
+    placement: &PlacedMen<'_>,
+) -> Result<Option<i8>, Unprobed<V::Fault>>
+    requires { (V.index_in values).kind ≡ Kind.Wdl }
+    ensures refused { IfSome (place_fault (numbering_in (V.index_in values)) placement.now) (λ fault. result ≡ Err (Unprobed.Place fault)) }
+    ensures class { IsNone (place_fault (numbering_in (V.index_in values)) placement.now) →
+        (let spot = spot_of (numbering_in (V.index_in values)) placement.now in
+        IsMeant (V.is_value values spot) (V.is_fault values spot) as_class result) }
 {
-    match index_of_men(table, placement) {
-        Ok(spot) => Ok(class_of(table.get(spot.part, spot.side, spot.index))),
-        Err(fault) => Err(fault),
+    let spot = match locate(values.index(), placement) {
+        Ok(spot) => spot,
+        Err(fault) => return Err(Unprobed::Place(fault)),
+    };
+    match values.value(spot) {
+        Ok(value) => Ok(class_of(value)),
+        Err(fault) => Err(Unprobed::Fetch(fault)),
     }
 }
 
@@ -53,42 +154,44 @@ pub fn class_of(value: u16) -> Option<i8>
 /// loss), in plies and without sign. If the table stores it in moves, it is doubled. (`probe_dtz_table` in the probing
 /// code, whose caller adds 1 for the DTZ, or 101 in the classes 1 and -1.)
 ///
-/// Errors: `Place` with the error of `index_of`, then `Map` if the class is 0, or if the part has a map whose list for
-/// the class has no item for the value.
-pub fn probe_dtz(table: &Table, placement: &Placement, class: i8) -> Result<u32, ProbeFault>
-    requires kind { table.now.contents.kind ≡ Kind.Dtz }
+/// Errors: `Place` with the error of `locate`; then `Fetch` if the value is not fetched; then `Map` if the class is 0,
+/// or if the part has a map whose list for the class has no item for the value.
+#[inline(always)]
+pub fn probe_number<V: Values + Drop>(
+    mut values: V,
+    placement: &PlacedMen<'_>,
+    class: i8,
+) -> Result<u32, Unprobed<V::Fault>>
+    requires kind { (V.index_in values).kind ≡ Kind.Dtz }
     requires lowest { neg_ℤ (pos 2) ≤ℤ class }
     requires highest { class ≤ℤ pos 2 }
-    ensures refused { IfSome (place_fault (numbering_of table.now.contents) placement.now) (λ fault. result ≡ Err (ProbeFault.Place fault)) }
-    // The table's map is used only for a placement that has an index.
-    ensures number { IsNone (place_fault (numbering_of table.now.contents) placement.now) →
-        (let spot = spot_of (numbering_of table.now.contents) placement.now in
-        IsSomeAnd (value_at table.now.contents spot) (λ v. MatchResult (mapped_number table.now.contents spot.part class v)
-        (λ number. result ≡ Ok number) (λ fault. result ≡ Err (ProbeFault.Map fault)))) }
+    ensures refused { IfSome (place_fault (numbering_in (V.index_in values)) placement.now) (λ fault. result ≡ Err (Unprobed.Place fault)) }
+    ensures number { IsNone (place_fault (numbering_in (V.index_in values)) placement.now) →
+        (let spot = spot_of (numbering_in (V.index_in values)) placement.now in
+        IsMeant (V.is_value values spot) (V.is_fault values spot) (as_number (V.index_in values) spot.part class) result) }
 {
-    probe_dtz_men(table, &PlacedMen::of(placement), class)
+    let spot = match locate(values.index(), placement) {
+        Ok(spot) => spot,
+        Err(fault) => return Err(Unprobed::Place(fault)),
+    };
+    let value = match values.value(spot) {
+        Ok(value) => value,
+        Err(fault) => return Err(Unprobed::Fetch(fault)),
+    };
+    match number_of(values.index(), spot.part, class, value) {
+        Ok(number) => Ok(number),
+        Err(fault) => Err(Unprobed::Map(fault)),
+    }
 }
 
-/// `probe_dtz` for a `PlacedMen`, whose list of men the caller owns.
+// Returns the number of a DTZ value of a part in a class.
 #[inline(always)]
-pub fn probe_dtz_men(table: &Table, placement: &PlacedMen<'_>, class: i8) -> Result<u32, ProbeFault>
-    requires kind { table.now.contents.kind ≡ Kind.Dtz }
+fn number_of(index: &TableIndex, part: u8, class: i8, value: u16) -> Result<u32, MapFault>
+    requires kind { index.now.kind ≡ Kind.Dtz }
+    requires part { IsSome (slot_in index.now part 0) }
     requires lowest { neg_ℤ (pos 2) ≤ℤ class }
     requires highest { class ≤ℤ pos 2 }
-    ensures refused { IfSome (place_fault (numbering_of table.now.contents) placement.now) (λ fault. result ≡ Err (ProbeFault.Place fault)) }
-    // The table's map is used only for a placement that has an index.
-    ensures number { IsNone (place_fault (numbering_of table.now.contents) placement.now) →
-        (let spot = spot_of (numbering_of table.now.contents) placement.now in
-        IsSomeAnd (value_at table.now.contents spot) (λ v. MatchResult (mapped_number table.now.contents spot.part class v)
-        (λ number. result ≡ Ok number) (λ fault. result ≡ Err (ProbeFault.Map fault)))) }
+    ensures { result ≡ as_number index.now part class value }
 {
-    let spot = match index_of_men(table, placement) {
-        Ok(spot) => spot,
-        Err(fault) => return Err(ProbeFault::Place(fault)),
-    };
-    let value = table.get(spot.part, spot.side, spot.index);
-    match table.map_value(spot.part, class, value) {
-        Ok(number) => Ok(number),
-        Err(fault) => Err(ProbeFault::Map(fault)),
-    }
+    index.map_value(part, class, value)
 }

@@ -29,6 +29,8 @@ mod pairs;
 #[cfg(test)]
 mod place;
 #[cfg(test)]
+mod probe;
+#[cfg(test)]
 mod readme;
 #[cfg(test)]
 mod standing;

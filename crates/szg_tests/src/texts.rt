@@ -6,8 +6,8 @@ use std::fmt::Display;
 use std::process::Abort;
 use szg_build::{BuildFault, DumpFault};
 use szg_count::OrderFault;
-use szg_file::{FetchFault, MapFault, ReadFault, Reason, WriteFault};
-use szg_place::{FrontProbeFault, PlaceFault, ProbeFault};
+use szg_file::{MapFault, ReadFault, Reason, WriteFault};
+use szg_place::{PlaceFault, ProbeFault};
 use szg_values::{NameFault, PlacementFault};
 
 /// The fault's text is this one.
@@ -94,7 +94,6 @@ fn faults_of_look_ups(rt: HostRuntime) {
         let probe = ProbeFault::Place(fault);
         check_text(&rt, &fault, text);
         check_text(&rt, &probe, text);
-        check_text(&rt, &FrontProbeFault::Probe(probe), text);
     }
     for (fault, text) in [
         (MapFault::Draw, "Draw"),
@@ -102,9 +101,7 @@ fn faults_of_look_ups(rt: HostRuntime) {
     ] {
         let probe = ProbeFault::Map(fault);
         check_text(&rt, &probe, text);
-        check_text(&rt, &FrontProbeFault::Probe(probe), text);
     }
-    check_text(&rt, &FrontProbeFault::Fetch(FetchFault::Source), "Fetch");
 }
 
 /// The reason has this number and this text.

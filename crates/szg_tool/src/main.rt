@@ -3,7 +3,7 @@
 
 use std::io::{self, IsTerminal};
 use std::process::ExitCode;
-use szg_commands::{ProgressLine, no_words_status, run_given, words_given};
+use szg_commands::{ProgressLine, no_words_status, print_assumed_class, run_given, words_given};
 
 /// Runs the words of the command line on the system's files and the standard streams.
 ///
@@ -12,8 +12,13 @@ use szg_commands::{ProgressLine, no_words_status, run_given, words_given};
 fn main(rt: HostRuntime) -> ExitCode {
     match words_given(&rt) {
         Ok(words) => {
-            let mut line = ProgressLine::new(&rt, &rt, rt.stderr().is_terminal());
-            run_given(&rt, &rt, &words, rt.reader(), io::writer(&rt), &mut line)
+            let is_terminal = rt.stderr().is_terminal();
+            let mut line = ProgressLine::new(&rt, &rt, is_terminal);
+            let status = run_given(&rt, &rt, &words, rt.reader(), io::writer(&rt), &mut line);
+            if is_terminal && status == ExitCode::SUCCESS {
+                print_assumed_class(&rt, &words);
+            }
+            status
         }
         Err(error) => no_words_status(&rt, &error),
     }

@@ -1,18 +1,26 @@
 """The exceptions of the package."""
+from typing import Optional
+
+
+def _of(path: Optional[str]) -> str:
+    """What comes before the text of an error in a file's bytes."""
+    return "" if path is None else f"{path}: "
 
 
 class Refused(ValueError):
     """The bytes are not a table of this material and kind.
 
-    `place` is the byte offset of the first check that fails, `reason` its name, as `Truncated`."""
+    `place` is the byte offset of the first check that fails, `reason` its name, as `Truncated`; `path` is that of the file,
+    None for other bytes."""
 
-    def __init__(self, place: int, reason: str) -> None:
-        super().__init__(place, reason)
+    def __init__(self, place: int, reason: str, path: Optional[str] = None) -> None:
+        super().__init__(place, reason, path)
         self.place = place
         self.reason = reason
+        self.path = path
 
     def __str__(self) -> str:
-        return f"refused at {self.place}: {self.reason}"
+        return f"{_of(self.path)}refused at {self.place}: {self.reason}"
 
 
 class Untold(LookupError):
@@ -35,16 +43,17 @@ class Untold(LookupError):
 class BadBlock(ValueError):
     """The block that has the value does not decode: the file is damaged there, or was changed after it was opened.
 
-    `block` is its number in its part and side, `offset` its byte offset in the file. Other blocks return their values as
-    before."""
+    `block` is its number in its part and side, `offset` its byte offset in the file; `path` is that of the file, None for
+    other bytes. Other blocks return their values as before."""
 
-    def __init__(self, block: int, offset: int) -> None:
-        super().__init__(block, offset)
+    def __init__(self, block: int, offset: int, path: Optional[str] = None) -> None:
+        super().__init__(block, offset, path)
         self.block = block
         self.offset = offset
+        self.path = path
 
     def __str__(self) -> str:
-        return f"block {self.block} at {self.offset} does not decode"
+        return f"{_of(self.path)}block {self.block} at {self.offset} does not decode"
 
 
 class Changed(ValueError):

@@ -1,8 +1,10 @@
 """The C library: its calls, its statuses and what lends it memory. szg.h documents each call."""
 import ctypes
 import os
-import threading
-from ctypes import POINTER, byref, c_bool, c_char_p, c_int8, c_int64, c_size_t, c_uint8, c_uint16, c_uint32, c_uint64, c_void_p
+from ctypes import (
+    POINTER, byref, c_bool, c_char_p, c_int, c_int8, c_int64, c_size_t, c_uint8, c_uint16, c_uint32, c_uint64, c_void_p, py_object,
+)
+from functools import lru_cache
 from pathlib import Path
 from typing import Any, Callable, List, NoReturn, Optional
 
@@ -21,6 +23,8 @@ class Answer(ctypes.Structure):
 
 
 class Handle(ctypes.Structure):
+    """A szg_front. It is closed when it goes."""
+
     _fields_ = [("held", c_void_p)]
 
 
@@ -65,7 +69,7 @@ def _load() -> ctypes.CDLL:
 
     Errors: OSError if it cannot be loaded; ImportError if it lacks a call."""
     beside = Path(__file__).resolve().parent / "libszg.so"
-    library = ctypes.CDLL(os.environ.get("SZG_LIBRARY") or (str(beside) if beside.exists() else "libszg.so.1"))
+    library = ctypes.CDLL(os.environ.get("SZG_LIBRARY") or (str(beside) if beside.exists() else f"libszg.so.{__version__.split('.')[0]}"))
     for name, arguments in _signatures().items():
         try:
             call = getattr(library, name)
@@ -79,7 +83,15 @@ def _load() -> ctypes.CDLL:
     return library
 
 
+def _finalizer(call: Callable[..., Any]) -> Any:
+    """A function of C as `__del__`: no bytecode runs, so that no signal handler can come between and raise an exception.
+
+    Of the callables that are written in C, a cache's wrapper binds its first argument. This one keeps nothing."""
+    return lru_cache(maxsize=0)(call)
+
+
 library = _load()
+Handle.__del__ = _finalizer(library.szg_close_front)  # type: ignore[attr-defined]
 
 
 def _text(call: Callable[..., int], *words: int) -> str:
@@ -113,46 +125,46 @@ version = require_version(_text(library.szg_version))
 
 
 class _PyBuffer(ctypes.Structure):
-    """Python's Py_buffer."""
+    """Python's Py_buffer. What it holds is given back when it goes."""
 
     _fields_ = [
-        ("buf", c_void_p), ("obj", ctypes.py_object), ("len", ctypes.c_ssize_t), ("itemsize", ctypes.c_ssize_t),
-        ("readonly", ctypes.c_int), ("ndim", ctypes.c_int), ("format", c_char_p), ("shape", c_void_p),
+        ("buf", c_void_p), ("obj", py_object), ("len", ctypes.c_ssize_t), ("itemsize", ctypes.c_ssize_t),
+        ("readonly", c_int), ("ndim", c_int), ("format", c_char_p), ("shape", c_void_p),
         ("strides", c_void_p), ("suboffsets", c_void_p), ("internal", c_void_p),
     ]
+
+
+# a handle of our own: other packages may give ctypes.pythonapi's functions other argument types
+_python = ctypes.PyDLL(None)
+_python.PyObject_GetBuffer.argtypes = [py_object, POINTER(_PyBuffer), c_int]
+_python.PyBuffer_Release.argtypes, _python.PyBuffer_Release.restype = [POINTER(_PyBuffer)], None
+_PyBuffer.__del__ = _finalizer(_python.PyBuffer_Release)  # type: ignore[attr-defined]
 
 
 class Lent:
     """The memory of a bytes-like object, lent to the library without a copy until this object goes.
 
-    Errors: TypeError if it is not bytes-like or not contiguous."""
+    `path` is that of the file that is mapped there. Errors: TypeError if it is not bytes-like or not contiguous."""
 
     address: int
     length: int
 
-    def __init__(self, data: Any) -> None:
+    def __init__(self, data: Any, path: Optional[str] = None) -> None:
+        self.path = path
         self._view = _PyBuffer()
-        self._is_held = False
         try:
-            ctypes.pythonapi.PyObject_GetBuffer(ctypes.py_object(data), byref(self._view), 0)
-        except (TypeError, BufferError):
+            _python.PyObject_GetBuffer(data, self._view, 0)
+        except (TypeError, BufferError, ValueError):
+            # ValueError: numpy's, for an array that is not contiguous
             raise TypeError(f"data must be a contiguous bytes-like object, not {type(data).__name__}") from None
-        self._is_held = True
         # a pointer to no bytes is still one
         self._none = ctypes.create_string_buffer(1)
         self.length = int(self._view.len)
         self.address = int(self._view.buf or ctypes.addressof(self._none))
 
-    def __del__(self) -> None:
-        if self._is_held:
-            self._is_held = False
-            ctypes.pythonapi.PyBuffer_Release(byref(self._view))
 
-
-def judge(status: int, bad: Optional[NamedBlock] = None) -> None:
-    """Raises what a status means; nothing for DONE. `bad` is the block that the call named."""
-    if status == BAD_BLOCK and bad is not None:
-        raise BadBlock(bad.block, bad.offset)
+def judge(status: int) -> None:
+    """Raises what a status means; nothing for DONE."""
     if status != DONE:
         _raise(status)
 
@@ -178,7 +190,7 @@ def ask_file(call: Callable[..., int], name: str, kind: str, lent: Lent, *words:
     text, answer = name.encode(errors="replace"), Answer()
     status = call(text, len(text), kind == "dtz", lent.address, lent.length, *words, byref(answer))
     if status == REFUSED:
-        raise Refused(answer.place, reason_text(answer.reason))
+        raise Refused(answer.place, reason_text(answer.reason), lent.path)
     if status == NAME:
         raise ValueError(f"{name!r} is no material's name")
     judge(status)
@@ -186,59 +198,79 @@ def ask_file(call: Callable[..., int], name: str, kind: str, lent: Lent, *words:
 
 
 class Handles:
-    """Handles on one opened front. A handle serves one call at a time, so each call takes one that is idle.
+    """A table of this name and kind, in bytes that are lent, opened by its front; and handles on this front.
 
-    Any number of threads call; there are as many handles as calls at once. The first handle is shared only."""
+    A handle serves one call at a time, so each call takes one that is idle: there are as many as calls at once, and one that
+    is shared only. No call waits for another one, which may be what a signal handler or a destructor has interrupted, or
+    have been left in the process that was forked. What a call takes is popped from a list at once, and a handle that an
+    exception takes from it is closed.
+    """
 
     def __init__(self, name: str, kind: str, lent: Lent) -> None:
-        self._lock = threading.Lock()
+        self._name, self._kind = name, kind
+        self._lent: Optional[Lent] = lent
         self._idle: List[Handle] = []
-        self._first: Optional[Handle] = None
-        opened = Handle()
-        ask_file(library.szg_open_front, name, kind, lent, byref(opened))
-        self._first = opened
+        self._first = [self._opened()]
+
+    def lent(self) -> Lent:
+        """The bytes. Errors: ValueError after `close`."""
+        lent = self._lent
+        if lent is None:
+            _raise(CLOSED)
+        return lent
+
+    def is_closed(self) -> bool:
+        return self._lent is None
+
+    def ask(self, call: Callable[..., int], *words: Any) -> int:
+        """Makes a call on the whole file, as `ask_file`."""
+        return ask_file(call, self._name, self._kind, self.lent(), *words)
 
     def __call__(self, call: Callable[..., int], *words: Any) -> None:
         """Calls the library with an idle handle and these arguments. Errors: those of the status."""
         judge(self._status(call, *words))
 
-    def fetch(self, call: Callable[..., int], lent: Lent, *words: Any) -> None:
+    def fetch(self, call: Callable[..., int], *words: Any) -> None:
         """The same for a call that fetches a value out of the bytes. Errors: BadBlock too."""
-        bad = NamedBlock()
-        judge(self._status(call, lent.address, lent.length, *words, byref(bad)), bad)
+        lent, bad = self.lent(), NamedBlock()
+        status = self._status(call, lent.address, lent.length, *words, byref(bad))
+        if status == BAD_BLOCK:
+            raise BadBlock(bad.block, bad.offset, lent.path)
+        judge(status)
 
     def _status(self, call: Callable[..., int], *words: Any) -> int:
-        handle = self._take()
         try:
-            return call(byref(handle), *words)
-        finally:
-            self._put(handle)
+            handle = self._idle.pop()
+        except IndexError:
+            handle = self._made()
+        status = call(handle, *words)
+        self._put(self._idle, handle)
+        return status
 
-    def _take(self) -> Handle:
-        with self._lock:
-            if self._first is None:
-                raise ValueError("the table is closed")
-            if self._idle:
-                return self._idle.pop()
-            made = Handle()
-            judge(library.szg_share_front(byref(self._first), byref(made)))
-            return made
+    def _opened(self) -> Handle:
+        opened = Handle()
+        self.ask(library.szg_open_front, opened)
+        return opened
 
-    def _put(self, handle: Handle) -> None:
-        with self._lock:
-            if self._first is not None:
-                self._idle.append(handle)
-                return
-        library.szg_close_front(byref(handle))
+    def _made(self) -> Handle:
+        """A new handle, shared with the first one; where that is being shared already, the front is opened once more."""
+        try:
+            first = self._first.pop()
+        except IndexError:
+            return self._opened()
+        made = Handle()
+        status = library.szg_share_front(first, made)
+        self._put(self._first, first)
+        judge(status)
+        return made
+
+    def _put(self, handles: List[Handle], handle: Handle) -> None:
+        handles.append(handle)
+        if self.is_closed():
+            handles.clear()
 
     def close(self) -> None:
-        """Closes all handles; one that serves a call is closed after it."""
-        with self._lock:
-            first, self._first = self._first, None
-            idle, self._idle = self._idle, []
-        for handle in idle + ([first] if first is not None else []):
-            library.szg_close_front(byref(handle))
-
-    def __del__(self) -> None:
-        if getattr(self, "_first", None) is not None:
-            self.close()
+        """Closes all handles, and gives the bytes back: after the calls that run."""
+        self._lent = None
+        self._idle.clear()
+        self._first.clear()

@@ -1,8 +1,9 @@
 """An opened table: which calls of the C library serve it is known here alone."""
+import ctypes
 from ctypes import byref, c_int64, c_size_t, c_uint8, c_uint16, c_uint32, c_uint64
-from typing import Optional, Tuple
+from typing import Tuple
 
-from ._library import MAX_MEN, CodedMan, FoundSpot, Handles, Lent, ask_file, library
+from ._library import MAX_MEN, CodedMan, FoundSpot, Handles, Lent, library
 from ._placement import Men
 
 
@@ -10,18 +11,17 @@ class Opened:
     """A table of this name and kind, in bytes that are lent, opened by its front. Any number of threads use it at once."""
 
     def __init__(self, name: str, kind: str, lent: Lent) -> None:
-        self._name, self._kind = name, kind
-        self._lent: Optional[Lent] = lent
         self._front = Handles(name, kind, lent)
 
-    def _bytes(self) -> Lent:
-        lent = self._lent
-        if lent is None:
-            raise ValueError("the table is closed")
-        return lent
+    def data(self) -> bytes:
+        lent = self._front.lent()
+        return ctypes.string_at(lent.address, lent.length)
+
+    def is_closed(self) -> bool:
+        return self._front.is_closed()
 
     def check(self) -> int:
-        return ask_file(library.szg_check, self._name, self._kind, self._bytes())
+        return self._front.ask(library.szg_check)
 
     def size(self, part: int, side: int) -> int:
         size = c_uint64()
@@ -30,12 +30,12 @@ class Opened:
 
     def get(self, part: int, side: int, index: int) -> int:
         value = c_uint16()
-        self._front.fetch(library.szg_front_get, self._bytes(), part, side, index, byref(value))
+        self._front.fetch(library.szg_front_get, part, side, index, byref(value))
         return value.value
 
     def values(self, part: int, side: int) -> memoryview:
         values = (c_uint16 * self.size(part, side))()
-        ask_file(library.szg_values, self._name, self._kind, self._bytes(), part, side, values, len(values))
+        self._front.ask(library.szg_values, part, side, values, len(values))
         # ctypes' own format, <H, cannot be indexed by memoryview
         return memoryview(values).cast("B").cast("H")
 
@@ -56,10 +56,8 @@ class Opened:
 
     def probe(self, men: Men, wdl: int) -> int:
         coded, outcome = men.coded(), c_int64()
-        self._front.fetch(library.szg_front_probe, self._bytes(), coded, len(coded), men.mover, wdl, byref(outcome))
+        self._front.fetch(library.szg_front_probe, coded, len(coded), men.mover, wdl, byref(outcome))
         return outcome.value
 
     def close(self) -> None:
-        # the bytes go when the last call that reads them ends
-        self._lent = None
         self._front.close()

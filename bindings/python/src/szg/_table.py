@@ -1,11 +1,11 @@
 """One table."""
-import mmap
 import os
 from pathlib import Path
 from types import TracebackType
-from typing import Any, NamedTuple, Optional, Tuple, Type, Union
+from typing import Any, Callable, NamedTuple, Optional, Tuple, Type, Union
 
 from ._library import Lent
+from ._mapped import mapped
 from ._opened import Opened
 from ._placement import Man, Men, Placement, integer, men_of
 
@@ -23,7 +23,9 @@ class Spot(NamedTuple):
 class Table:
     """One Syzygy table: WDL (`.rtbw`) or DTZ (`.rtbz`), for one material of three to six men.
 
-    Any number of threads use one Table at once. After `close`, or the end of a `with` block, each call raises ValueError.
+    Any number of threads use one Table at once, and signal handlers and forked processes too: no call waits for another.
+    After `close`, or the end of a `with` block, each call raises ValueError. A copy, also one by `pickle`, is a Table of its
+    own: of the file's path, or of a copy of the bytes.
 
     A table has parts and sides. With pawns the parts 0 to 3 are for the files a to d of the leading pawn; without pawns
     there is part 0. In a WDL table side 0 is where the first side of the name moves, side 1 where the second does;
@@ -39,6 +41,7 @@ class Table:
     """The material, as KQvKR."""
     kind: str
     """`wdl` or `dtz`."""
+    _path: Optional[str] = None
 
     def __init__(self, name: str, kind: str, data: Any, *, verify: bool = False) -> None:
         """Opens the table that bytes begin with: checks all of it but its blocks, and these too with `verify`.
@@ -55,18 +58,16 @@ class Table:
         """Maps a file and opens its table: checks all of it but its blocks, and these too with `verify`.
 
         The file's name has its material and kind, as KQvKR.rtbw. The file must stay as it is while the Table is open. If
-        it is changed, a value may be another one or raise BadBlock; if it is truncated, the system may end the program.
+        it is changed, a value may be another one or raise BadBlock; if it is truncated, the system may end the program (by
+        SIGBUS). No file descriptor stays open.
 
-        Errors: Refused if the file is not such a table, an empty one too; ValueError for another file name; OSError;
-        MemoryError."""
+        Errors: Refused if the file is not such a table, an empty one too; ValueError for another file name; OSError, also
+        for what is no regular file, as a pipe; MemoryError."""
         name, kind = named(path)
-        return cls._mapped(name, kind, path, verify)
-
-    @classmethod
-    def _mapped(cls, name: str, kind: str, path: Union[str, "os.PathLike[str]"], verify: bool = False) -> "Table":
-        """The table of this name and kind in a file of any name."""
         table = cls.__new__(cls)
         table._open(name, kind, mapped(path), verify)
+        # a copy is opened in any folder
+        table._path = os.path.abspath(os.fsdecode(path))
         return table
 
     def _open(self, name: str, kind: str, lent: Lent, verify: bool) -> None:
@@ -84,22 +85,25 @@ class Table:
         return self._opened.size(_byte(part, "part"), _byte(side, "side"))
 
     def get(self, index: int, part: int = 0, side: int = 0) -> int:
-        """The stored value at an index: in WDL the class plus 2; in DTZ a value that `number` decodes.
+        """The stored value at an index, which isn't always the position's (see `probe_wdl` and `probe_dtz`).
+
+        In WDL it is the stored class plus 2; in DTZ a value that `number` decodes.
 
         Errors: IndexError if the table has no such part, side or index; BadBlock if its block does not decode."""
         return self._opened.get(_byte(part, "part"), _byte(side, "side"), _index(index))
 
     def values(self, part: int = 0, side: int = 0) -> memoryview:
-        """All stored values of a part's side, in the order of their indexes. All of the table is checked for it.
+        """All stored values of a part's side (see `get`), in the order of their indexes. All of the table is checked for it.
 
         The memoryview has one dimension, `size(part, side)` items and the format H (16 bits, unsigned);
-        `numpy.asarray` takes it without a copy. It stays valid after `close`.
+        `numpy.asarray` takes it without a copy. It stays valid after `close`. While it is made it takes twice its bytes, and
+        the file's.
 
         Errors: IndexError if the table has no such part or side; Refused; MemoryError."""
         return self._opened.values(_byte(part, "part"), _byte(side, "side"))
 
     def number(self, value: int, *, wdl: int, part: int = 0) -> int:
-        """The DTZ in plies, without sign, of a stored value of a DTZ table in a class.
+        """The number of plies of a stored value of a DTZ table in a class: what `probe_dtz` returns for it.
 
         `wdl` is the class of the side to move: 2 win, 1 cursed win, -1 blessed loss, -2 loss.
 
@@ -128,22 +132,25 @@ class Table:
         return men, turn
 
     def probe_wdl(self, board: Placement, turn: Optional[bool] = None) -> int:
-        """The class of a placement for the side to move: 2 win, 1 cursed win, 0 draw, -1 blessed loss, -2 loss.
+        """The stored class of a placement, which isn't the position's where a capture decides: there it may be lower.
 
-        It is what python-chess's `probe_wdl_table` returns, not `probe_wdl`: where the best move is a capture, the stored
-        class may be lower than the position's.
+        It is that of the side to move: 2 win, 1 cursed win, 0 draw, -1 blessed loss, -2 loss. En passant isn't known to the
+        table. python-chess's `probe_wdl_table` returns the same; its `probe_wdl` returns the position's class, also on top
+        of this package: see `Tablebase.probe_wdl_table`.
 
         Errors: Untold if the table has no class for it; BadBlock; ValueError for a DTZ table or a bad FEN; TypeError."""
         self._require("wdl")
         return self._probe(men_of(board, turn), 0)
 
     def probe_dtz(self, board: Placement, turn: Optional[bool] = None, *, wdl: int) -> int:
-        """The distance to zeroing of a placement, in plies and without sign.
+        """The stored number n of a placement, which isn't the position's distance where a capture or pawn move decides.
 
-        `wdl` is the class of the side to move, as a WDL table has it: 2 win, 1 cursed win, -1 blessed loss, -2 loss. The
-        number is the first one of python-chess's `probe_dtz_table`. python-chess's `probe_dtz` is another number: where no
-        capture, pawn move or en passant decides, it is n + 1 for a win, n + 101 for a cursed win, -(n + 101) for a blessed
-        loss and -(n + 1) for a loss.
+        It counts the plies before the zeroing one (a capture, a pawn move or mate), without sign; in the classes 1 and -1
+        from the 101st on. En passant and the fifty-move counter aren't known to the table. `wdl` is the class of the side
+        to move: 2 win, 1 cursed win, -1 blessed loss, -2 loss. n is the first number of python-chess's `probe_dtz_table`.
+        python-chess's `probe_dtz` is another number: where no capture, pawn move or en passant decides, it is n + 1 for a
+        win, n + 101 for a cursed win, -(n + 101) for a blessed loss and -(n + 1) for a loss. What a table counts in moves is
+        doubled, and the distance may be one ply more.
 
         Errors: Untold `WrongSide` if the table stores the other side to move only, `Draw` for the class 0, or another
         reason; BadBlock; ValueError for a WDL table, another class or a bad FEN; TypeError."""
@@ -177,8 +184,16 @@ class Table:
     ) -> None:
         self.close()
 
+    def __reduce__(self) -> Tuple[Callable[..., "Table"], Tuple[Any, ...]]:
+        if self._opened.is_closed():
+            raise ValueError("the table is closed")
+        if self._path is not None:
+            return type(self).open, (self._path,)
+        return type(self), (self.name, self.kind, self._opened.data())
+
     def __repr__(self) -> str:
-        return f"<szg.Table {self.name} {self.kind}>"
+        path, closed = "" if self._path is None else f" {self._path!r}", ", closed" if self._opened.is_closed() else ""
+        return f"<szg.Table {self.name} {self.kind}{path}{closed}>"
 
 
 def named(path: Union[str, "os.PathLike[str]"]) -> "tuple[str, str]":
@@ -187,14 +202,6 @@ def named(path: Union[str, "os.PathLike[str]"]) -> "tuple[str, str]":
     if file.suffix not in KINDS:
         raise ValueError(f"{file.name!r} must end with .rtbw or .rtbz")
     return file.stem, KINDS[file.suffix]
-
-
-def mapped(path: Union[str, "os.PathLike[str]"]) -> Lent:
-    """A file's bytes, mapped. Errors: OSError."""
-    with open(path, "rb") as file:
-        if os.fstat(file.fileno()).st_size == 0:
-            return Lent(b"")
-        return Lent(mmap.mmap(file.fileno(), 0, access=mmap.ACCESS_READ))
 
 
 def _byte(number: int, what: str) -> int:

@@ -1,77 +1,70 @@
 """Folders of tables."""
 import os
-import threading
 from collections import OrderedDict
-from pathlib import Path
 from types import TracebackType
-from typing import Dict, Optional, Tuple, Type, TypeVar, Union
+from typing import Any, Callable, Dict, List, Optional, Tuple, Type, TypeVar, Union, overload
 
 from ._errors import MissingTableError, Untold
 from ._placement import Men, Placement, men_of
-from ._table import Table, _class, named
+from ._table import KINDS, Table, _class
 
 Directory = Union[str, "os.PathLike[str]"]
 Default = TypeVar("Default")
 Key = Tuple[str, str]
+Folder = Tuple[str, bool, bool]
 PIECES = "KQRBNP"
 
 
-class _Entry:
-    """A file, and its table once it is opened."""
-
-    def __init__(self, path: Path) -> None:
-        self.path = path
-        self.lock = threading.Lock()
-        self.table: Optional[Table] = None
-
-
 class Tablebase:
-    """The tables of any number of folders, in python-chess's words. Any number of threads use one Tablebase at once.
+    """The tables of any number of folders, in python-chess's words. Any number of threads use one Tablebase at once, and
+    signal handlers and forked processes too: no call waits for another.
 
     Each table is mapped and opened by its front when it is first probed; then the error Refused may come, at each probe of
     a file that is not a table. A block is checked when a value is fetched from it, and may raise BadBlock. With
     `max_tables` at most this number stay open, those probed last.
 
-    What is probed is what the tables store. `chess.syzygy.Tablebase` adds captures, en passant and moves: see
-    `probe_wdl_table`.
+    What is probed is what the tables store, which isn't the result of the position where a capture (WDL), or a capture or
+    pawn move (DTZ), decides. `chess.syzygy.Tablebase` adds captures, en passant and moves: see `probe_wdl_table`.
+
+    A copy, also one by `pickle`, has the tables that are in the folders by then.
     """
 
     def __init__(self, *, max_tables: Optional[int] = None) -> None:
         if max_tables is not None and max_tables < 1:
             raise ValueError(f"max_tables must be at least 1, not {max_tables}")
         self._max_tables = max_tables
-        self._lock = threading.Lock()
-        self._entries: Dict[Key, _Entry] = {}
-        self._recent: "OrderedDict[Key, None]" = OrderedDict()
+        self._folders: List[Folder] = []
+        self._paths: Dict[Key, str] = {}
+        # those that are open, the one last that was probed last
+        self._tables: "OrderedDict[Key, Table]" = OrderedDict()
         self._is_closed = False
 
     def add_directory(self, directory: Directory, *, load_wdl: bool = True, load_dtz: bool = True) -> int:
         """Adds the tables of a folder, by their names, as KQvKR.rtbw; returns their number. No file is opened.
 
-        Where two folders have a table of one name, the one that was added last serves. Other files are passed over.
+        Where two folders have a table of one name, the one that was added last serves. Other files are passed over, and links
+        that lead nowhere.
 
         Errors: OSError if the folder cannot be listed; TypeError; ValueError if the tablebase is closed."""
+        self._require_open()
+        folder = os.path.join(os.getcwd(), os.fsdecode(directory))
         kinds = [kind for kind, is_loaded in (("wdl", load_wdl), ("dtz", load_dtz)) if is_loaded]
-        found: Dict[Key, _Entry] = {}
-        for entry in os.scandir(os.fsdecode(directory)):
-            if entry.name.endswith((".rtbw", ".rtbz")) and entry.is_file():
-                path = Path(entry.path).resolve()
-                name, kind = named(entry.name)
-                if kind in kinds and _is_material(name):
-                    found[name, kind] = _Entry(path)
-        with self._lock:
-            self._require_open()
-            for key in found:
-                self._recent.pop(key, None)
-            self._entries.update(found)
+        with os.scandir(folder) as entries:
+            keys = [(key, entry) for entry in entries for key in [_key(entry.name)] if key is not None and key[1] in kinds]
+            found = {key: entry.path for key, entry in keys if _is_file(entry)}
+        self._paths.update(found)
+        for key in found:
+            self._tables.pop(key, None)
+        self._folders.append((folder, load_wdl, load_dtz))
         return len(found)
 
     def probe_wdl_table(self, board: Placement, turn: Optional[bool] = None) -> int:
-        """The class that a WDL table stores for the side to move: 2 win, 1 cursed win, 0 draw, -1 blessed loss, -2 loss.
+        """The class that a WDL table stores, which isn't the position's where a capture decides: there it may be lower.
 
-        `board` is as for `Table`. Two kings alone are a draw without a table. It is what python-chess's
-        `probe_wdl_table` returns. For full probing subclass `chess.syzygy.Tablebase` and let its `probe_wdl_table` and
-        `probe_dtz_table` call these (bindings/examples/full_probing.py).
+        It is that of the side to move: 2 win, 1 cursed win, 0 draw, -1 blessed loss, -2 loss. `board` is as for `Table`. Two
+        kings alone are a draw without a table. It is what python-chess's `probe_wdl_table` returns. For results subclass
+        `chess.syzygy.Tablebase` and let its `probe_wdl_table` and `probe_dtz_table` call these
+        (bindings/examples/full_probing.py).
 
         Errors: MissingTableError, a KeyError, if no folder has the table; Untold if the table has no class for the
         placement; Refused; BadBlock; TypeError; ValueError."""
@@ -81,10 +74,10 @@ class Tablebase:
         return self._table(men, "wdl")._probe(men, 0)
 
     def probe_dtz_table(self, board: Placement, wdl: int, turn: Optional[bool] = None) -> Tuple[int, int]:
-        """The distance to zeroing that a DTZ table stores in the class `wdl`, in plies and without sign; and 1.
+        """The number n that a DTZ table stores, which isn't the position's where a capture or pawn move decides; and 1.
 
-        (0, -1) if the table stores the other side to move only. It is what python-chess's `probe_dtz_table` returns;
-        `Table.probe_dtz` says how python-chess's `probe_dtz` differs.
+        It is that of the class `wdl`; `Table.probe_dtz` says what it counts. (0, -1) if the table stores the other side to
+        move only. It is what python-chess's `probe_dtz_table` returns.
 
         Errors: MissingTableError, a KeyError, if no folder has the table; Untold if the table has no number, as for a
         draw; Refused; BadBlock; TypeError; ValueError for another class than -2 to 2."""
@@ -97,17 +90,25 @@ class Tablebase:
                 raise
             return 0, -1
 
-    def get_wdl(self, board: Placement, default: Optional[Default] = None, turn: Optional[bool] = None) -> Union[int, Default, None]:
-        """As `probe_wdl_table`, but `default` if no folder has the table."""
+    @overload
+    def get_wdl(self, board: Placement, default: None = None, turn: Optional[bool] = None) -> Optional[int]: ...
+    @overload
+    def get_wdl(self, board: Placement, default: Default, turn: Optional[bool] = None) -> Union[int, Default]: ...
+    def get_wdl(self, board: Placement, default: Any = None, turn: Optional[bool] = None) -> Any:
+        """The stored class, as `probe_wdl_table`, which isn't always the position's; `default` if no folder has the table."""
         try:
             return self.probe_wdl_table(board, turn)
         except MissingTableError:
             return default
 
-    def get_dtz(
-        self, board: Placement, wdl: int, default: Optional[Default] = None, turn: Optional[bool] = None,
-    ) -> Union[int, Default, None]:
-        """The number of `probe_dtz_table`, but `default` if no folder has the table or it stores the other side only."""
+    @overload
+    def get_dtz(self, board: Placement, wdl: int, default: None = None, turn: Optional[bool] = None) -> Optional[int]: ...
+    @overload
+    def get_dtz(self, board: Placement, wdl: int, default: Default, turn: Optional[bool] = None) -> Union[int, Default]: ...
+    def get_dtz(self, board: Placement, wdl: int, default: Any = None, turn: Optional[bool] = None) -> Any:
+        """The stored number of `probe_dtz_table`, which isn't always the position's distance.
+
+        `default` if no folder has the table or it stores the other side only."""
         try:
             number, success = self.probe_dtz_table(board, wdl, turn)
         except MissingTableError:
@@ -115,34 +116,42 @@ class Tablebase:
         return number if success == 1 else default
 
     def _table(self, men: Men, kind: str) -> Table:
+        """The table of these men, opened if it isn't open yet: twice, where two calls come at once, and one is dropped."""
+        self._require_open()
         name = men.table_name()
-        with self._lock:
-            self._require_open()
-            entry = self._entries.get((name, kind)) if name else None
         if name is None:
             _require_placement(men)
-        if name is None or entry is None:
-            raise MissingTableError(f"no {kind.upper()} table of {name or 'these men'} was added")
-        with entry.lock:
-            if entry.table is None:
-                entry.table = Table._mapped(name, kind, entry.path)
-            table = entry.table
-        self._touch((name, kind), entry)
-        return table
+            raise MissingTableError(f"no {kind.upper()} table of these men was added")
+        while True:
+            table = self._tables.get((name, kind)) or self._opened(name, kind)
+            if table is not None:
+                self._note((name, kind))
+                return table
 
-    def _touch(self, key: Key, entry: _Entry) -> None:
-        """Notes that a table was probed, and lets the one go that was probed longest ago where there are too many."""
+    def _opened(self, name: str, kind: str) -> Optional[Table]:
+        """Opens a table. None if another file serves by now."""
+        path = self._paths.get((name, kind))
+        if path is None:
+            self._require_open()
+            raise MissingTableError(f"no {kind.upper()} table of {name} was added")
+        table = self._tables.setdefault((name, kind), Table.open(path))
+        if self._paths.get((name, kind)) is path:
+            return table
+        self._tables.pop((name, kind), None)
+        return None
+
+    def _note(self, key: Key) -> None:
+        """Notes that a table was probed, and lets those go that were probed longest ago where there are too many."""
         if self._max_tables is None:
             return
-        with self._lock:
-            if self._entries.get(key) is not entry:
-                return
-            self._recent[key] = None
-            self._recent.move_to_end(key)
-            while len(self._recent) > self._max_tables:
-                oldest, _ = self._recent.popitem(last=False)
+        try:
+            self._tables.move_to_end(key)
+            while len(self._tables) > self._max_tables:
                 # a probe that runs keeps the table until it ends
-                self._entries[oldest].table = None
+                self._tables.popitem(last=False)
+        except KeyError:
+            # another call let it go, or all of them
+            pass
 
     def _require_open(self) -> None:
         if self._is_closed:
@@ -150,16 +159,18 @@ class Tablebase:
 
     def close(self) -> None:
         """Closes all tables. A second call does nothing; probes raise ValueError then."""
-        with self._lock:
-            self._is_closed = True
-            entries = list(self._entries.values())
-            self._entries.clear()
-            self._recent.clear()
-        for entry in entries:
-            with entry.lock:
-                table, entry.table = entry.table, None
-            if table is not None:
-                table.close()
+        self._is_closed = True
+        self._paths.clear()
+        while self._tables:
+            try:
+                self._tables.popitem()[1].close()
+            except KeyError:
+                # another call let the last one go
+                pass
+
+    def __reduce__(self) -> Tuple[Callable[..., "Tablebase"], Tuple[Any, ...]]:
+        self._require_open()
+        return _with_folders, (type(self), self._max_tables, list(self._folders))
 
     def __enter__(self) -> "Tablebase":
         return self
@@ -170,7 +181,7 @@ class Tablebase:
         self.close()
 
     def __repr__(self) -> str:
-        return f"<szg.Tablebase with {len(self._entries)} tables>"
+        return f"<szg.Tablebase with {len(self._paths)} tables{', closed' if self._is_closed else ''}>"
 
 
 def open_tablebase(
@@ -180,6 +191,28 @@ def open_tablebase(
     tables = Tablebase(max_tables=max_tables)
     tables.add_directory(directory, load_wdl=load_wdl, load_dtz=load_dtz)
     return tables
+
+
+def _with_folders(kind: Type[Tablebase], max_tables: Optional[int], folders: List[Folder]) -> Tablebase:
+    """What a copy is made of."""
+    tables = kind(max_tables=max_tables)
+    for folder, load_wdl, load_dtz in folders:
+        tables.add_directory(folder, load_wdl=load_wdl, load_dtz=load_dtz)
+    return tables
+
+
+def _key(file: str) -> Optional[Key]:
+    """The material and the kind in a file's name. None if it is not a table's."""
+    name, ending = os.path.splitext(file)
+    return (name, KINDS[ending]) if ending in KINDS and _is_material(name) else None
+
+
+def _is_file(entry: "os.DirEntry[str]") -> bool:
+    try:
+        return entry.is_file()
+    except OSError:
+        # a link that leads to itself, or where nobody may look
+        return False
 
 
 def _is_material(name: str) -> bool:

@@ -221,9 +221,13 @@ pub plan_choice : (choice : Choice) (plan : Plan) → plan.block_bits ≡ (numbe
 plan_choice (Fixed packing) plan b s r = (sym b, sym s, sym r)
 plan_choice Small plan b s r = tt
 
-pub built_as_chosen : (choice : Choice) (dump : Dump) (t : Contents) → IsBuiltBy choice (plan_by choice dump) dump.lists t → IsBuiltAs choice dump t
-built_as_chosen (Fixed packing) dump t h = fixed_is_built (plan_by (Fixed packing) dump) dump.lists t h
-built_as_chosen Small dump t h = small_is_built (plan_by Small dump) dump.lists t h
+-- the numbers of a fixed choice are the plan's
+numbers_are : (packing : Packing) (plan : Plan) → IsChoiceOf plan (Fixed packing) → packing ≡ record { block_bits = plan.block_bits; span_bits = plan.span_bits; rounds = plan.rounds }
+numbers_are packing plan is = λ i. record { block_bits = is.0 i; span_bits = is.1 i; rounds = is.2 i }
+
+pub built_as_chosen : (choice : Choice) (plan : Plan) (lists : List (List ℕ)) (t : Contents) → IsChoiceOf plan choice → IsBuiltBy choice plan lists t → IsBuiltAs choice plan lists t
+built_as_chosen (Fixed packing) plan lists t is h = fixed_is_built plan lists t (subst (λ (p : Packing). IsBuiltBy (Fixed p) plan lists t) (numbers_are packing plan is) h)
+built_as_chosen Small plan lists t is h = small_is_built plan lists t h
 
 pub coded_as_chosen : (choice : Choice) (plan : Plan) (lists : List (List ℕ)) (t : Contents) → IsBuiltBy choice plan lists t → IsCodedTable choice t
 coded_as_chosen (Fixed packing) plan lists t h = codes_are plan.kind packing lists t.subtables h.rule

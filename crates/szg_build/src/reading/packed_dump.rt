@@ -20,7 +20,7 @@ use crate::watching::Watcher;
 use crate::{BuildFault, Plan};
 use std::alloc::{AllocError, Global};
 use std::marker::Model;
-use szg_block::Sub;
+use szg_block::{Sub, block_count};
 use szg_file::typed::end_bytes;
 use szg_file::{Fields, Table, subtable_sizes};
 
@@ -60,15 +60,13 @@ impl PackedDump {
     ghost use Rattle.szg_build.specs.Rule.{byte4_for, constant_for, constant_in, HasSpanIndex};
     ghost use Rattle.szg_build.specs.declared.BuildFault.{BuildFault};
 
-    /// Builds the table, as `build_watched` and `build_small_watched` do from the dump's lists: with the same subtables
-    /// and the same padding. `watcher` sees each subtable that is built or packed again now, and the end.
+    /// Builds the table, as `build_as` does from the dump's lists: with the same subtables and the same padding. `watcher` sees each subtable that is built or packed again now, and the end.
     ///
-    /// Errors: the fault that `build_watched` or `build_small_watched` returns for the dump's lists, or `Memory` if
-    /// memory was refused. To find the fault, all values are listed again. If there is a fault, no table is returned.
+    /// Errors: the fault that `build_as` returns for the dump's lists, or `Memory` if memory was refused. To find the fault, all values are listed again. If there is a fault, no table is returned.
     pub fn build<V: Watcher>(self, alloc: Global, watcher: &mut V) -> Result<Table, BuildFault>
         ensures refused { (fault : BuildFault) → result ≡ Err fault → (fault ≡ BuildFault.Memory) ⊎ (build_fault (plan_by self.choice self.dump) self.dump.lists ≡ Some fault) }
         ensures no_fault { IfOk result (λ _. build_fault (plan_by self.choice self.dump) self.dump.lists ≡ None) }
-        ensures built { IfOk result (λ t. IsBuiltAs self.choice self.dump t.contents) }
+        ensures built { IfOk result (λ t. IsBuiltAs self.choice (plan_by self.choice self.dump) self.dump.lists t.contents) }
         ensures accepted { IfOk result (λ t. IsAccepted t.contents t.filled) }
         ensures byte4 { IfOk result (λ t. t.contents.byte4 ≡ byte4_for self.dump.material) }
         ensures constants { IfOk result (λ t. map constant_in t.contents.subtables ≡ map (constant_for self.dump.kind) self.dump.lists) }
@@ -106,7 +104,7 @@ fn are_complete(plan: &Plan, packed: &[PackedSub]) -> bool
     if !have_sizes(sizes.as_slice(), packed) {
         return false;
     }
-    if !are_bits_valid(plan) || plan.rounds > MAX_ROUNDS {
+    if !are_bits_valid(plan.block_bits, plan.span_bits) || plan.rounds > MAX_ROUNDS {
         return false;
     }
     are_maps_valid(plan)
@@ -135,14 +133,17 @@ fn settle<V: Watcher>(
         return Ok(packed);
     };
     let count = packed.len();
-    let with_blocks = packed.iter().filter(|sub| sub.has_blocks()).count();
+    let with_blocks = packed
+        .iter()
+        .filter(|packed| block_count(&packed.sub) > 0)
+        .count();
     let other_bytes = count_other_bytes(plan, count, with_blocks);
     if other_bytes.is_none() {
         return Ok(packed);
     }
     let mut settled = Vec::new(alloc);
     'subs: for sub in packed {
-        if sub.has_blocks() {
+        if block_count(&sub.sub) > 0 {
             watcher.subtable(settled.len() + 1, count, sub.size as usize);
             let again = pack_again(alloc, plan.kind, &sub, other_bytes, watcher)?;
             settled.push(again)?;

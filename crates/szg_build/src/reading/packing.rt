@@ -1,7 +1,6 @@
 //! Packs a subtable of a dump as soon as its values are read.
 ghost use Rattle.std.specs.Prelude.{◌≡◌, ◌<◌, ◌≤◌, replicate, true, Some, IfOk, IfSome};
 ghost use Rattle.szg_values.specs.declared.Kind.TheVariants.{Wdl};
-ghost use Rattle.szg_file.specs.Lookup.{byte_of};
 ghost use Rattle.szg_file.specs.Values.{constant_value as value_of_byte};
 ghost use Rattle.szg_build.specs.Building.{IsInBounds};
 ghost use Rattle.szg_build.specs.Packed.{packed_values, values_held, IsPackedAs, IsPackedSub};
@@ -13,11 +12,11 @@ use crate::building::subtables::{CONSTANT, build_sub};
 use crate::building::{Choice, Packing};
 use crate::pairing::leaves::count_different;
 use crate::reading::values::Values;
-use crate::refusing::{MAX_DIFFERENT, MAX_ROUNDS, has_above};
+use crate::refusing::{MAX_DIFFERENT, MAX_ROUNDS, are_bits_valid, has_above};
 use crate::watching::Watcher;
-use crate::writing::stored::constant_value;
 use std::alloc::{AllocError, Global};
 use szg_block::{Sound, Sub};
+use szg_file::constant_value;
 use szg_values::Kind;
 
 /// The sizes of subtables are below this number; a list of this length or more is not packed.
@@ -33,32 +32,12 @@ pub(crate) struct PackedSub {
     pub sub: Sub,
 }
 
-impl PackedSub {
-    /// Returns whether it is not constant.
-    pub(crate) fn has_blocks(&self) -> bool {
-        match self.sub {
-            Sub::Constant { .. } => false,
-            Sub::Pairs { .. } => true,
-        }
-    }
-}
-
-/// Returns the value of a constant subtable. 0 for one that is not constant.
-fn constant_of(kind: Kind, sub: &Sub) -> u16
-    ensures { result ≡ value_of_byte kind (byte_of sub.now) }
-{
-    match sub {
-        Sub::Constant { byte, .. } => constant_value(kind, *byte),
-        Sub::Pairs { .. } => constant_value(kind, 0),
-    }
-}
-
 /// Lists the values of a packed subtable.
 pub(crate) fn unpack(alloc: Global, kind: Kind, packed: &PackedSub) -> Result<Vec<u16>, AllocError>
     requires { (choice : Choice) × IsPackedSub kind choice packed.now }
     ensures { IfOk result (λ list. list.items ≡ packed_values kind packed.now) }
 {
-    let constant = constant_of(kind, &packed.sub);
+    let constant = constant_value(kind, &packed.sub);
     let sound = Sound::of(&packed.sub, packed.size, constant);
     sound.values(alloc)
 }
@@ -87,13 +66,7 @@ fn is_in_bounds(choice: Choice) -> bool
                 span_bits,
                 rounds,
             },
-        ) => {
-            5 <= block_bits
-                && block_bits <= 10
-                && 1 <= span_bits
-                && span_bits <= 16
-                && rounds <= MAX_ROUNDS
-        }
+        ) => { are_bits_valid(block_bits, span_bits) && rounds <= MAX_ROUNDS }
         Choice::Small => true,
     }
 }

@@ -6,29 +6,7 @@ ghost use Rattle.szg_build.specs.BlockValues.{blocks_of, left_of, IsAtBlock};
 
 use std::alloc::AllocError;
 use std::marker::Model;
-use szg_block::{Sub, decode_block};
-
-/// Returns block `n` of `packed`, whose blocks have `2^block_bits` bytes each.
-fn block_of(packed: &[u8], block_bits: u8, n: usize) -> &[u8]
-    requires bits { block_bits ≤ 18 }
-    requires there { (n + 1) * 2 ^ block_bits ≤ length packed.now }
-    ensures block { result.now ≡ block_at block_bits packed.now n }
-    ensures whole { length result.now ≡ 2 ^ block_bits }
-{
-    let bytes = 1 << block_bits;
-    let first = n * bytes;
-    &packed[first..first + bytes]
-}
-
-/// Returns the number of a subtable's blocks; 0 if it is constant.
-fn block_count(sub: &Sub) -> u32
-    ensures { result ≡ blocks_of sub.now }
-{
-    match sub {
-        Sub::Constant { .. } => 0,
-        Sub::Pairs { blocks, .. } => *blocks,
-    }
-}
+use szg_block::{Sub, block_count, block_of, decode_block};
 
 /// Decodes the values of block `n` into `values`, in place of what `values` held. Returns the number of values before
 /// the next block. Errors: an allocation was refused.

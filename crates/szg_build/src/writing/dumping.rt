@@ -2,9 +2,9 @@
 ghost use Rattle.std.specs.Prelude.{◌≡◌, ◌⊎◌, [], IsErrOf, IsTrue, OnOk, true};
 ghost use Rattle.szg_io.specs.Device.{HasFailed};
 ghost use Rattle.szg_io.specs.Moved.{Gives, Takes};
-ghost use Rattle.szg_file.specs.Checked.{IsTable};
 ghost use Rattle.szg_file.specs.Held.{Shown, file_bytes};
 ghost use Rattle.szg_file.specs.Index.{index_of};
+ghost use Rattle.szg_file.specs.WholeRead.{IsTable};
 ghost use Rattle.szg_build.specs.Built.{IsDumpOf};
 ghost use Rattle.szg_build.specs.Dump.{Dump};
 ghost use Rattle.szg_build.specs.Shown.{form_of};
@@ -13,7 +13,7 @@ ghost use Rattle.szg_build.specs.declared.writing.dumping.StreamFault.TheVariant
 
 use crate::writing::streaming::{begin_dump, end_dump};
 use std::alloc::Global;
-use szg_file::{Ahead, ReadFault, TableIndex, WriteFault, stream_values};
+use szg_file::{Ahead, ReadFault, Scanned, TableIndex, WriteFault, scan};
 use szg_io::{Input, Output};
 
 /// Why a dump was not written whole while its file was read. A beginning of its text may have been written.
@@ -42,7 +42,7 @@ impl From<WriteFault> for StreamFault {
 /// The lines of a block's values are written once the block passed its check. Of the blocks, one at a time is kept in
 /// memory, with its values.
 ///
-/// A first reading by `stream_values` with `NoSink` returns the index and the last bytes. Errors: `Changed` if the file
+/// A `scan` with `NoSink` before returns the index and the last bytes. Errors: `Changed` if the file
 /// is not that of such a table, `Input` if the reader failed, `Output` if the writer failed, `Memory` if memory was
 /// refused. A part of the text may have been written then.
 pub fn stream_dump<R: Input + Ahead, W: Output>(
@@ -63,9 +63,9 @@ pub fn stream_dump<R: Input + Ahead, W: Output>(
 {
     let mut sink = begin_dump(index, last, form, output)?;
     let material = index.material().copy();
-    match stream_values(alloc, material, index.kind(), input, &mut sink, output) {
-        Ok(stated) => {
-            if !has_same_front(&stated, index, last) {
+    match scan(alloc, material, index.kind(), input, &mut sink, output) {
+        Ok(scanned) => {
+            if !has_same_front(&scanned, index, last) {
                 return Err(StreamFault::Changed);
             }
         }
@@ -75,20 +75,18 @@ pub fn stream_dump<R: Input + Ahead, W: Output>(
     Ok(())
 }
 
-/// Returns whether a table that was read has this index and these last bytes. `stated` are the index and the last bytes
-/// that were read; material and kind are the same.
-fn has_same_front(stated: &(TableIndex, [u8; 16]), index: &TableIndex, last: &[u8; 16]) -> bool
-    ensures parts { (result ≡ true) → stated.now.0.parts ≡ index.now.parts }
-    ensures flags { (result ≡ true) → stated.now.0.flags ≡ index.now.flags }
-    ensures maps { (result ≡ true) → stated.now.0.maps ≡ index.now.maps }
-    ensures last { (result ≡ true) → stated.now.1 ≡ last.now }
+/// Returns whether a table that was scanned has this index and these last bytes. Material and kind are the same.
+fn has_same_front(scanned: &Scanned, index: &TableIndex, last: &[u8; 16]) -> bool
+    ensures parts { (result ≡ true) → scanned.now.index.parts ≡ index.now.parts }
+    ensures flags { (result ≡ true) → scanned.now.index.flags ≡ index.now.flags }
+    ensures maps { (result ≡ true) → scanned.now.index.maps ≡ index.now.maps }
+    ensures last { (result ≡ true) → scanned.now.last ≡ last.now }
 {
-    let (seen, end) = stated;
-    seen.has_same(index) && end == last
+    scanned.index.has_same(index) && scanned.last == *last
 }
 
-/// Converts a fault of `stream_values` into a `StreamFault`. If the writer failed (`failed`), the sink refused values,
-/// so `stream_values` returned `Memory`; the result is then `Output`.
+/// Converts a fault of `scan` into a `StreamFault`. If the writer failed (`failed`), the sink refused values, so `scan`
+/// returned `Memory`; the result is then `Output`.
 fn stopped(fault: ReadFault, failed: bool) -> StreamFault
     ensures { (result ≡ StreamFault.Input) → fault ≡ ReadFault.Device }
 {

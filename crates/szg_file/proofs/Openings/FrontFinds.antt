@@ -6,7 +6,7 @@ use Rattle.std.proofs.lemmas.List.{length-map, length-drop, length-take-le, take
 use Rattle.std.proofs.lemmas.Option.{slice_get-map}
 use Rattle.szg_values.specs.declared.Kind.{Kind}
 use Rattle.szg_block.specs.Block.{block_at, block_values}
-use Rattle.szg_block.specs.BlocksTrait.{bytes_at, raised}
+use Rattle.szg_block.specs.BlocksTrait.{bytes_at}
 use Rattle.szg_block.specs.Sound.{SpellsNeeded}
 use Rattle.szg_block.specs.Steps.{block_location}
 use Rattle.szg_block.specs.Subtable.{layout_of, IsShapedHead, HasSoundIndex}
@@ -18,7 +18,6 @@ use Rattle.szg_file.specs.Fetching.{IsSpot, NamesBadBlock}
 use Rattle.szg_file.specs.FrontTable.{FrontKept, IsFrontOf}
 use Rattle.szg_file.specs.Index.{Index, slots_in, slot_in}
 use Rattle.szg_file.specs.Lookup.{byte_of}
-use Rattle.szg_file.specs.Opened.{requested_after}
 use Rattle.szg_file.specs.Placed.{whole_sub, blocks_size, Fits, IsSlotted}
 use Rattle.szg_file.specs.Unread.{front_at, IsDecoded, IsUnread}
 use Rattle.szg_file.specs.Wanted.{IsSpelledBy, wanted_block}
@@ -26,7 +25,7 @@ use Rattle.szg_file.specs.Values.{subtable_at, constant_value}
 use Rattle.szg_file.specs.declared.reading.dropping.PlacedSub.{PlacedSub}
 use Rattle.szg_file.specs.declared.opened.fetching.FetchFault.{FetchFault}
 use Rattle.szg_file.specs.declared.opened.fetching.FetchFault.TheVariants.{Block, Source}
-use Rattle.szg_file.specs.declared.opened.fetching.Spot.{Spot}
+use Rattle.szg_file.specs.declared.opened.fetching.BlockSpot.{BlockSpot}
 use Rattle.szg_file.proofs.Openings.OpenedLaws.{all_at}
 use Rattle.szg_file.proofs.Readers.PlacedSubs.{placed_at}
 use Rattle.szg_file.proofs.Tables.TableFinds.{is_at, side_lengths, side_at, found_there}
@@ -77,6 +76,15 @@ module _ (kept : FrontKept) (placed : List Slot) (subs : List PlacedSub) (part s
 
 -- ---- its properties
 
+-- a value has a block just if its location has one
+pub spot_none : {S : Type 0} (spot : Option S) (A : Type 0) (B : S → Type 0) → spot ≡ None → MatchOption spot A B → A
+spot_none None A B e h = h
+spot_none (Some s) A B e h = absurd (cc e)
+
+pub spot_some : {S : Type 0} (spot : Option S) (s : S) (A : Type 0) (B : S → Type 0) → spot ≡ Some s → MatchOption spot A B → B s
+spot_some None s A B e h = absurd (cc e)
+spot_some (Some t) s A B e h = let same : t ≡ s = cc e in subst B same h
+
 pub unread_known : (slot : Slot) (content : List ℕ) (sub : Sub) (first : ℕ) → IsUnread slot (whole_sub content (placed_at sub first)) → IsShapedHead sub slot.size × HasSoundIndex sub slot.size
 unread_known slot content (Constant flags byte) first h =
     let least = h.0 in
@@ -115,7 +123,7 @@ block_is_at block_bits blocks first n content there =
     ∙ ap (λ (z : List ℕ). take w z) (drop-drop (n * w) first content)
 
 -- the bytes of the value's block end within those of all blocks
-pub spot_inside : (sub : Sub) (first i count : ℕ) (spot : Spot) → IsSpot (placed_at sub first) i spot → first + blocks_size sub ≤ count → spot.offset + spot.count ≤ count
+pub spot_inside : (sub : Sub) (first i count : ℕ) (spot : BlockSpot) → IsSpot (placed_at sub first) i spot → first + blocks_size sub ≤ count → spot.offset + spot.count ≤ count
 spot_inside (Constant flags byte) first i count spot h inside = absurd h
 spot_inside (Pairs flags block_bits span_bits extra blocks code dict sparse lengths packed) first i count spot h inside =
     let w : ℕ = 2 ^ block_bits in
@@ -131,7 +139,7 @@ pub constant_decoded : (kind : Kind) (slot : Slot) (content : List ℕ) (sub : S
 constant_decoded kind slot content (Constant flags byte) first i value none is = is
 constant_decoded kind slot content (Pairs flags block_bits span_bits extra blocks code dict sparse lengths packed) first i value none is = absurd (cc none)
 
-pub value_decoded : (kind : Kind) (slot : Slot) (content : List ℕ) (sub : Sub) (first i value : ℕ) (spot : Spot) (block : List ℕ) → IsSpot (placed_at sub first) i spot → block ≡ bytes_at content spot.offset spot.count →
+pub value_decoded : (kind : Kind) (slot : Slot) (content : List ℕ) (sub : Sub) (first i value : ℕ) (spot : BlockSpot) (block : List ℕ) → IsSpot (placed_at sub first) i spot → block ≡ bytes_at content spot.offset spot.count →
     IfSome (layout_of sub) (λ layout. SpellsNeeded layout slot.size (block_location layout i).list block) → IfSome (layout_of sub) (λ layout. slice_get (block_values layout block) (block_location layout i).item ≡ Some value) →
     IsDecoded kind (slot, whole_sub content (placed_at sub first)) i value
 value_decoded kind slot content (Constant flags byte) first i value spot block h is verified stated = absurd h
@@ -142,7 +150,7 @@ value_decoded kind slot content (Pairs flags block_bits span_bits extra blocks c
     let at = here ∙ ap (λ (k : ℕ). block_at block_bits (bytes_at content first (blocks * 2 ^ block_bits)) k) h.block in
     subst (λ (z : List ℕ). IfSome (layout_of sub) (λ layout. SpellsNeeded layout slot.size (block_location layout i).list z × (slice_get (block_values layout z) (block_location layout i).item ≡ Some value))) at (verified, stated)
 
-pub bad_named : (slot : Slot) (content : List ℕ) (sub : Sub) (first i : ℕ) (spot : Spot) (block : List ℕ) (fault : FetchFault) → IsSpot (placed_at sub first) i spot → block ≡ bytes_at content spot.offset spot.count →
+pub bad_named : (slot : Slot) (content : List ℕ) (sub : Sub) (first i : ℕ) (spot : BlockSpot) (block : List ℕ) (fault : FetchFault) → IsSpot (placed_at sub first) i spot → block ≡ bytes_at content spot.offset spot.count →
     fault ≡ Block spot.value.block spot.offset → IfSome (layout_of sub) (λ layout. ¬ SpellsNeeded layout slot.size (block_location layout i).list block) →
     NamesBadBlock content (slot, whole_sub content (placed_at sub first)) i fault
 bad_named slot content (Constant flags byte) first i spot block fault h is e bad = absurd h
@@ -163,7 +171,7 @@ pub wanted_none : (content : List ℕ) (sub : Sub) (first i : ℕ) → layout_of
 wanted_none content (Constant flags byte) first i none = refl
 wanted_none content (Pairs flags block_bits span_bits extra blocks code dict sparse lengths packed) first i none = absurd (cc none)
 
-pub wanted_spot : (content : List ℕ) (sub : Sub) (first i : ℕ) (spot : Spot) → IsSpot (placed_at sub first) i spot →
+pub wanted_spot : (content : List ℕ) (sub : Sub) (first i : ℕ) (spot : BlockSpot) → IsSpot (placed_at sub first) i spot →
     wanted_block (whole_sub content (placed_at sub first)) i ≡ Some (bytes_at content spot.offset spot.count)
 wanted_spot content (Constant flags byte) first i spot h = absurd h
 wanted_spot content (Pairs flags block_bits span_bits extra blocks code dict sparse lengths packed) first i spot h =
@@ -174,7 +182,7 @@ wanted_spot content (Pairs flags block_bits span_bits extra blocks code dict spa
     ∙ ap (λ (k : ℕ). Some (bytes_at content spot.offset k)) (sym h.count)
 
 -- the block that the caller brings is the value's
-pub wanted_brought : (content : List ℕ) (sub : Sub) (first i : ℕ) (spot : Spot) (block : List ℕ) → IsSpot (placed_at sub first) i spot →
+pub wanted_brought : (content : List ℕ) (sub : Sub) (first i : ℕ) (spot : BlockSpot) (block : List ℕ) → IsSpot (placed_at sub first) i spot →
     IfSome (wanted_block (whole_sub content (placed_at sub first)) i) (λ wanted. wanted ≡ block) → block ≡ bytes_at content spot.offset spot.count
 wanted_brought content sub first i spot block h is = sym (subst (λ (o : Option (List ℕ)). IfSome o (λ wanted. wanted ≡ block)) (wanted_spot content sub first i spot h) is)
 
@@ -187,7 +195,7 @@ block_long content offset count block is inside =
 pub unwanted : (content : List ℕ) (sub : Sub) (first i : ℕ) (A : Type 0) (B : List ℕ → Type 0) → layout_of sub ≡ None → A → MatchOption (wanted_block (whole_sub content (placed_at sub first)) i) A B
 unwanted content sub first i A B none a = subst (λ (o : Option (List ℕ)). MatchOption o A B) (sym (wanted_none content sub first i none)) a
 
-pub wanted_long : (content : List ℕ) (sub : Sub) (first i : ℕ) (spot : Spot) (A : Type 0) (B : ℕ → Type 0) → IsSpot (placed_at sub first) i spot → first + blocks_size sub ≤ length content → B spot.count →
+pub wanted_long : (content : List ℕ) (sub : Sub) (first i : ℕ) (spot : BlockSpot) (A : Type 0) (B : ℕ → Type 0) → IsSpot (placed_at sub first) i spot → first + blocks_size sub ≤ length content → B spot.count →
     MatchOption (wanted_block (whole_sub content (placed_at sub first)) i) A (λ wanted. B (length wanted))
 wanted_long content sub first i spot A B h inside b =
     let bytes : List ℕ = bytes_at content spot.offset spot.count in
@@ -208,33 +216,10 @@ pub constant_spelled : (content : List ℕ) (sub : Sub) (first i : ℕ) (block :
 constant_spelled content (Constant flags byte) first i block stated none = tt
 constant_spelled content (Pairs flags block_bits span_bits extra blocks code dict sparse lengths packed) first i block stated none = absurd (cc none)
 
-pub block_spelled : (content : List ℕ) (sub : Sub) (first i value : ℕ) (spot : Spot) (block : List ℕ) → IsSpot (placed_at sub first) i spot → length block ≡ spot.count →
+pub block_spelled : (content : List ℕ) (sub : Sub) (first i value : ℕ) (spot : BlockSpot) (block : List ℕ) → IsSpot (placed_at sub first) i spot → length block ≡ spot.count →
     IfSome (layout_of sub) (λ layout. slice_get (block_values layout block) (block_location layout i).item ≡ Some value) → IsSpelledBy block (whole_sub content (placed_at sub first)) i (Some value)
 block_spelled content (Constant flags byte) first i value spot block h long stated = absurd h
 block_spelled content (Pairs flags block_bits span_bits extra blocks code dict sparse lengths packed) first i value spot block h long stated = (λ e. sym stated, λ no. absurd (no (long ∙ h.count)))
-
--- ---- the source
-
-spot_roomy : (sub : Sub) (first i room : ℕ) (spot : Spot) → IsSpot (placed_at sub first) i spot → IfSome (layout_of sub) (λ layout. 2 ^ layout.block_bits ≤ room) → spot.count ≤ room
-spot_roomy (Constant flags byte) first i room spot h roomy = absurd h
-spot_roomy (Pairs flags block_bits span_bits extra blocks code dict sparse lengths packed) first i room spot h roomy = omega (arith, h.count, roomy)
-
--- the caller's buffer holds the block
-pub spot_fits : (sub : Sub) (first i room : ℕ) (spot : Spot) (buffer : List ℕ) → IsSpot (placed_at sub first) i spot → IfSome (layout_of sub) (λ layout. 2 ^ layout.block_bits ≤ room) → room ≤ length buffer →
-    spot.count ≤ length buffer
-spot_fits sub first i room spot buffer h roomy long = omega (arith, spot_roomy sub first i room spot h roomy, long)
-
-pub spot_taken : (sub : Sub) (first i room : ℕ) (spot : Spot) (buffer : List ℕ) → IsSpot (placed_at sub first) i spot → IfSome (layout_of sub) (λ layout. 2 ^ layout.block_bits ≤ room) → room ≤ length buffer →
-    length (take spot.count buffer) ≡ spot.count
-spot_taken sub first i room spot buffer h roomy long = length-take-le spot.count buffer (spot_fits sub first i room spot buffer h roomy long)
-
-pub constant_requested : (content : List ℕ) (sub : Sub) (first queried : ℕ) → layout_of sub ≡ None → queried ≡ requested_after (whole_sub content (placed_at sub first)) queried
-constant_requested content (Constant flags byte) first queried none = refl
-constant_requested content (Pairs flags block_bits span_bits extra blocks code dict sparse lengths packed) first queried none = absurd (cc none)
-
-pub spot_requested : (content : List ℕ) (sub : Sub) (first i old new long : ℕ) (spot : Spot) → IsSpot (placed_at sub first) i spot → new ≡ raised old long → long ≡ spot.count → new ≡ requested_after (whole_sub content (placed_at sub first)) old
-spot_requested content (Constant flags byte) first i old new long spot h one e = absurd h
-spot_requested content (Pairs flags block_bits span_bits extra blocks code dict sparse lengths packed) first i old new long spot h one e = one ∙ ap (λ (k : ℕ). raised old k) (e ∙ h.count)
 
 -- ---- two clauses of one result
 
@@ -245,3 +230,20 @@ ok_both (Err e) P Q S h k both = tt
 pub err_both : {X E : Type 0} (r : Result X E) (P Q S : E → Type 0) → IfErr r P → IfErr r Q → ((e : E) → P e → Q e → S e) → IfErr r S
 err_both (Ok x) P Q S h k both = tt
 err_both (Err e) P Q S h k both = both e h k
+
+-- ---- a value in the bytes of the file
+
+-- its block is none, or the bytes that were sliced
+pub none_wanted : {X R : Type 0} (o : Option X) (W : X → Option (List ℕ)) (range : Option R) (B : X → R → Type 0) (block : List ℕ) → range ≡ None →
+    IfSome o (λ found. MatchOption range (W found ≡ None) (B found)) → IfSome o (λ found. IfSome (W found) (λ wanted. wanted ≡ block))
+none_wanted None W range B block e h = tt
+none_wanted (Some found) W range B block e h = rw (spot_none range _ _ e h) tt
+
+pub some_wanted : {X R : Type 0} (o : Option X) (W : X → Option (List ℕ)) (range : Option R) (r : R) (bytes : R → List ℕ) (block : List ℕ) → range ≡ Some r → block ≡ bytes r →
+    IfSome o (λ found. MatchOption range (W found ≡ None) (λ x. W found ≡ Some (bytes x))) → IfSome o (λ found. IfSome (W found) (λ wanted. wanted ≡ block))
+some_wanted None W range r bytes block e is h = tt
+some_wanted (Some found) W range r bytes block e is h = rw (spot_some range r _ _ e h) (sym is)
+
+pub given_wanted : {X : Type 0} (o : Option X) (W D : X → Type 0) → IfSome o W → IfSome o (λ found. W found → D found) → IfSome o D
+given_wanted None W D w h = tt
+given_wanted (Some found) W D w h = h w

@@ -1,24 +1,31 @@
 -- A front that was read from a device: it begins each file that begins with the bytes that were read.
-use Rattle.std.proofs.Common.{◌≡◌, ℕ, ◌+◌, ◌-◌, ◌≤◌, List, [], ◌++◌, length, take, replicate, refl, sym, subst, arith, inl, inr, Option, Bool, Err}
+use Rattle.std.proofs.Common.{◌≡◌, ℕ, ◌+◌, ◌-◌, ◌<◌, ◌≤◌, List, [], ◌++◌, length, take, replicate, refl, ap, ◌∙◌, subst, arith, inl, inr, Option, Some, None, Bool, Result, Ok, Err}
+use Rattle.std.specs.Prelude.{IfSome}
+use Rattle.std.specs.Io.KnownBytes.{Consumes}
 use Rattle.std.proofs.lemmas.List.{length-append, length-replicate}
 use Rattle.szg_io.specs.declared.device.Input.{Ghosts}
+use Rattle.szg_io.proofs.DeviceLaws.{Takes-more}
 use Rattle.szg_values.specs.Material.{Sides}
 use Rattle.szg_values.specs.declared.Kind.{Kind}
 use Rattle.szg_file.specs.Contents.{Contents}
 use Rattle.szg_file.specs.Format.{verdict, ◌>>=◌}
-use Rattle.szg_file.specs.FrontInput.{BeginsWith, FrontOutcome, IsFrontRead}
+use Rattle.szg_file.specs.FrontInput.{BeginsWith, FrontOutcome, IsFrontFault, IsFrontRead, IsFrontRefusal, IsFrontVerdict}
 use Rattle.szg_file.specs.FrontRead.{front_read}
-use Rattle.szg_file.specs.Opened.{IsOpenRefusal, opened_fault}
+use Rattle.szg_file.specs.FrontTable.{FrontKept, IsFrontOf}
 use Rattle.szg_file.specs.Reading.{Advances, Answer, IsRefusal, Reading}
-use Rattle.szg_file.specs.Unread.{FrontRead, BeginsWithFront, front_field, after_front, unread_file, unread_table}
+use Rattle.szg_file.specs.Unread.{FrontRead, BeginsWithFront, front_field, after_front, unread_field, unread_file, unread_table}
+use Rattle.szg_file.specs.WholeRead.{Refuses}
+use Rattle.szg_file.specs.declared.fault.Reason.{Reason}
+use Rattle.szg_file.specs.declared.fault.Reason.TheVariants.{Truncated}
 use Rattle.szg_file.specs.declared.fault.ReadFault.{ReadFault}
 use Rattle.szg_file.specs.declared.fault.ReadFault.TheVariants.{Refused, Device, Memory}
 use Rattle.szg_file.specs.declared.reading.front.Front.{Front}
-use Rattle.szg_file.specs.declared.opened.OpenFault.{OpenFault}
 use Rattle.szg_file.specs.declared.reading.read_front.FrontRead as read
 use Rattle.szg_file.proofs.Grammar.FormatLaws.{take_front}
 use Rattle.szg_file.proofs.Openings.FrontLaws.{front_then}
 use Rattle.szg_file.proofs.Openings.FrontTables.{begins_by}
+use Rattle.szg_file.proofs.Openings.OpenedLaws.{refused_follows}
+use Rattle.szg_file.proofs.Readers.ReadAnswers.{follows_refusal}
 use Rattle.szg_file.proofs.Readers.ReadingLaws.{reads_stopped}
 use Rattle.szg_file.proofs.Readers.Taken.{reads_equal}
 
@@ -53,13 +60,76 @@ module _ (material : Sides) (kind : Kind) where
       Reading (front_field material kind) front_read begun ended device old new (Err fault) → IsFrontRead device material kind size old new (Err fault)
   front_stopped device fault size begun ended old new start h =
       let view : read.FrontRead → Contents = λ r. unread_table material kind (front_read r) [] [] in
-      let stopped = reads_equal (front_field material kind >>= after_front material kind) (unread_file material kind) view (Err fault) (front_then material kind)
-      (reads_stopped (front_field material kind) (after_front material kind) front_read view fault h) in
+      let stopped = reads_equal (front_field material kind >>= after_front unread_field material kind) (unread_file material kind) view (Err fault) (front_then unread_field material kind)
+      (reads_stopped (front_field material kind) (after_front unread_field material kind) front_read view fault h) in
       record { bytes = stopped.bytes; taken = stopped.taken; stated = stopped_stated view fault size begun ended _ _ _ _ _ stopped.bytes start stopped.answer }
 
-  -- a whole front, and no room for what follows it
-  pub short_stated : (bytes : List ℕ) (size : ℕ) (coming : Option (List ℕ)) (e : OpenFault) (fault : ReadFault) → opened_fault fault ≡ e → length bytes ≤ size →
-      ((content : List ℕ) → BeginsWith bytes size content → IsOpenRefusal (verdict (unread_file material kind) 0 content) e) → FrontOutcome material kind bytes size coming (Err fault)
-  short_stated bytes size coming e (Refused place reason) same enough h = inr (inl (enough, λ content begins. subst (λ (o : OpenFault). IsOpenRefusal (verdict (unread_file material kind) 0 content) o) (sym same) (h content begins)))
-  short_stated bytes size coming e Device same enough h = tt
-  short_stated bytes size coming e Memory same enough h = tt
+  -- ---- a whole front was read
+
+  module _ {R : Type 0} (device : Ghosts R) (r : read.FrontRead) (size : ℕ) (begun ended : Front) (old new : R) (start : begun.place ≡ 0) (h : Reading (front_field material kind) front_read begun ended device old new (Ok r)) where
+    at_end : ended.place ≡ length h.bytes
+    at_end = front_place (front_read r) begun ended h.bytes start h.answer.0
+
+    begins_file : (content : List ℕ) → BeginsWith h.bytes size content → BeginsWithFront material kind (front_read r) ended.place content
+    begins_file content begins = front_begins (front_read r) begun ended h.bytes content start h.answer.0 begins.begins
+
+    -- a table was made of it
+    pub front_opened : (t : FrontKept) → ended.place ≤ size → t.index.material ≡ material → t.index.kind ≡ kind →
+        ((content : List ℕ) → length content ≡ size → BeginsWithFront material kind (front_read r) ended.place content → IsFrontOf t content) → IsFrontRead device material kind size old new (Ok (t, ended.place))
+    front_opened t enough m k table = record {
+      bytes = h.bytes;
+      taken = Takes-more h.bytes 1 h.taken;
+      stated = (m, k, at_end, omega (arith, at_end, enough), λ content begins. table content begins.long (begins_file content begins));
+    }
+
+    late_stated : (fault : ReadFault) → length h.bytes ≤ size → ((content : List ℕ) → BeginsWith h.bytes size content → IsFrontFault (verdict (unread_file material kind) 0 content) fault) →
+        FrontOutcome material kind h.bytes size (device.coming new) (Err fault)
+    late_stated (Refused place reason) enough late = inr (inl (enough, late))
+    late_stated Device enough late = tt
+    late_stated Memory enough late = tt
+
+    -- there is no room for what follows it
+    pub front_late : (fault : ReadFault) → ended.place ≤ size → ((content : List ℕ) → length content ≡ size → BeginsWithFront material kind (front_read r) ended.place content → IsFrontFault (verdict (unread_file material kind) 0 content) fault) →
+        IsFrontRead device material kind size old new (Err fault)
+    front_late fault enough late = record {
+      bytes = h.bytes;
+      taken = Takes-more h.bytes 1 h.taken;
+      stated = late_stated fault (omega (arith, at_end, enough)) (λ content begins. late content begins.long (begins_file content begins));
+    }
+
+    -- it is longer than the file
+    pub front_longer : size < ended.place → IsFrontRead device material kind size old new (Err (Refused size Truncated))
+    front_longer less = record {
+      bytes = h.bytes;
+      taken = Takes-more h.bytes 1 h.taken;
+      stated = inr (inr (omega (arith, at_end, less), refl, refl));
+    }
+
+  -- ---- a device that specifies the file's bytes
+
+  module _ (bytes rest all : List ℕ) (size : ℕ) (gone : all ≡ bytes ++ rest) (long : length all ≡ size) where
+    all_begins : BeginsWith bytes size all
+    all_begins = record { long = long; begins = ap (λ (z : List ℕ). take (length bytes) z) gone ∙ take_front (length bytes) bytes rest refl }
+
+    refused_on : (place : ℕ) (reason : Reason) → IsFrontRefusal material kind bytes size (Some rest) place reason → Refuses (verdict (unread_file material kind) 0 all) place reason
+    refused_on place reason (inl refusal) = refused_follows (verdict (unread_file material kind) 0 all) place reason (Some rest) (follows_refusal (unread_file material kind) place reason (Some all) (Some rest) bytes gone refusal)
+    refused_on place reason (inr (inl late)) = late.1 all all_begins
+    refused_on place reason (inr (inr short)) =
+        let more : length all ≡ length bytes + length rest = ap (λ (z : List ℕ). length z) gone ∙ length-append bytes rest in
+        absurd (omega (arith, long, more, short.0))
+
+    outcome_on : (r : Result (FrontKept × ℕ) ReadFault) → FrontOutcome material kind bytes size (Some rest) r → IsFrontVerdict material kind all r
+    outcome_on (Ok found) h = h.4 all all_begins
+    outcome_on (Err (Refused place reason)) h = refused_on place reason h
+    outcome_on (Err Device) h = tt
+    outcome_on (Err Memory) h = tt
+
+  verdict_on : (bytes : List ℕ) (size : ℕ) (coming coming' : Option (List ℕ)) (r : Result (FrontKept × ℕ) ReadFault) → Consumes coming coming' bytes → FrontOutcome material kind bytes size coming' r →
+      IfSome coming (λ all. length all ≡ size → IsFrontVerdict material kind all r)
+  verdict_on bytes size None coming' r gone h = tt
+  verdict_on bytes size (Some all) None r gone h = absurd gone
+  verdict_on bytes size (Some all) (Some rest) r gone h = λ long. outcome_on bytes rest all size gone long r h
+
+  pub front_verdict : {R : Type 0} (device : Ghosts R) (size : ℕ) (old new : R) (r : Result (FrontKept × ℕ) ReadFault) → IsFrontRead device material kind size old new r →
+      IfSome (device.coming old) (λ all. length all ≡ size → IsFrontVerdict material kind all r)
+  front_verdict device size old new r h = verdict_on h.bytes size (device.coming old) (device.coming new) r h.taken.bytes_gone h.stated

@@ -10,7 +10,7 @@ use Rattle.szg_file.specs.Contents.{Contents, Subtable, constant, pairs, gap, sl
 use Rattle.szg_file.specs.File.{Begun, begun, each, filled_to, sparse_field, lengths_field}
 use Rattle.szg_file.specs.FilePieces.{Opened, opening_field, ending_field}
 use Rattle.szg_file.specs.Format.{Format, means, field, ◌>>=◌, good, truncated, after_fill, verdict}
-use Rattle.szg_file.specs.Unread.{FrontRead, front_field, after_front, unread_table, unread_of, unread_field, unread_file, unread_subs, unread_end, blocks_first, blocks_count, blocks_end}
+use Rattle.szg_file.specs.Unread.{FrontRead, file_by, front_field, after_front, unread_table, unread_of, unread_field, unread_file, unread_subs, unread_end, blocks_first, blocks_count, blocks_end}
 use Rattle.szg_file.proofs.Grammar.EachLaws.{then-then}
 use Rattle.szg_file.proofs.Grammar.FormatLaws.{verdict-then, continued, field-whole, field-short, fill-whole, fill-short}
 use Rattle.szg_file.proofs.Readers.WholeReads.{after_packed, after_opening_by, pieces_are_file_by}
@@ -26,21 +26,21 @@ after_opening material kind o =
     each lengths_field indexed >>= λ measured.
     means (record { byte4 = o.byte4; parts = o.parts; maps = o.maps; measured = measured })
 
-joined_after : (material : Sides) (kind : Kind) (o : Opened) → after_opening material kind o >>= after_front material kind ≡ after_opening_by unread_field material kind o
-joined_after material kind o =
+joined_after : (blocks : Begun → Format Subtable) (material : Sides) (kind : Kind) (o : Opened) → after_opening material kind o >>= after_front blocks material kind ≡ after_opening_by blocks material kind o
+joined_after blocks material kind o =
     let sparse : Format (List Begun) = each sparse_field (begun (slots material kind o.parts) o.heads) in
     let made : List Begun → Format FrontRead = λ measured. means (record { byte4 = o.byte4; parts = o.parts; maps = o.maps; measured = measured }) in
-    then-then sparse (λ indexed. each lengths_field indexed >>= made) (after_front material kind)
+    then-then sparse (λ indexed. each lengths_field indexed >>= made) (after_front blocks material kind)
     ∙ ap (λ (k : List Begun → Format Contents). sparse >>= k)
-    (λ i indexed. (then-then (each lengths_field indexed) made (after_front material kind)
-    ∙ sym (then-then (each lengths_field indexed) (each unread_field) (after_packed material kind o))) i)
-    ∙ sym (then-then sparse (λ indexed. each lengths_field indexed >>= each unread_field) (after_packed material kind o))
+    (λ i indexed. (then-then (each lengths_field indexed) made (after_front blocks material kind)
+    ∙ sym (then-then (each lengths_field indexed) (each blocks) (after_packed material kind o))) i)
+    ∙ sym (then-then sparse (λ indexed. each lengths_field indexed >>= each blocks) (after_packed material kind o))
 
-pub front_then : (material : Sides) (kind : Kind) → front_field material kind >>= after_front material kind ≡ unread_file material kind
-front_then material kind =
-    then-then (opening_field material kind) (after_opening material kind) (after_front material kind)
-    ∙ ap (λ (k : Opened → Format Contents). opening_field material kind >>= k) (λ i o. joined_after material kind o i)
-    ∙ pieces_are_file_by unread_field material kind
+pub front_then : (blocks : Begun → Format Subtable) (material : Sides) (kind : Kind) → front_field material kind >>= after_front blocks material kind ≡ file_by blocks material kind
+front_then blocks material kind =
+    then-then (opening_field material kind) (after_opening material kind) (after_front blocks material kind)
+    ∙ ap (λ (k : Opened → Format Contents). opening_field material kind >>= k) (λ i o. joined_after blocks material kind o i)
+    ∙ pieces_are_file_by blocks material kind
 
 -- ---- one subtable
 
@@ -173,7 +173,7 @@ last_bytes content place list = bytes_at content (unread_end place list + gap 64
 
 module _ (material : Sides) (kind : Kind) (f : FrontRead) (content : List ℕ) (place : ℕ) where
   pub following_text : file_end place f.measured ≤ length content →
-      Text (after_front material kind f) (unread_table material kind f (unread_subs content place f.measured) (last_bytes content place f.measured)) content place (file_end place f.measured)
+      Text (after_front unread_field material kind f) (unread_table material kind f (unread_subs content place f.measured) (last_bytes content place f.measured)) content place (file_end place f.measured)
   following_text inside =
       let end : ℕ = unread_end place f.measured in
       let subs : List Subtable = unread_subs content place f.measured in
@@ -184,7 +184,7 @@ module _ (material : Sides) (kind : Kind) (f : FrontRead) (content : List ℕ) (
       (text_then ending_field (λ last. means (unread_table material kind f subs last)) last table content end (file_end place f.measured) (file_end place f.measured)
       (omega arith) (text_padded 64 16 content end inside) (text_means table content (file_end place f.measured) inside))
 
-  after_cut : place ≤ length content → length content < file_end place f.measured → verdict (after_front material kind f) place (drop place content) ≡ truncated (length content)
+  after_cut : place ≤ length content → length content < file_end place f.measured → verdict (after_front unread_field material kind f) place (drop place content) ≡ truncated (length content)
   after_cut inside short =
       let end : ℕ = unread_end place f.measured in
       let subs : List Subtable = unread_subs content place f.measured in
@@ -198,15 +198,15 @@ module _ (material : Sides) (kind : Kind) (f : FrontRead) (content : List ℕ) (
 
   -- the front is a whole text: the verdict on all bytes
   module _ (filled : List ℕ) (rest : List ℕ) (front : verdict (front_field material kind) 0 content ≡ good f filled rest) (at : rest ≡ drop place content) (inside : place ≤ length content) where
-    joined : verdict (unread_file material kind) 0 content ≡ after_fill filled (verdict (after_front material kind f) place (drop place content))
+    joined : verdict (unread_file material kind) 0 content ≡ after_fill filled (verdict (after_front unread_field material kind f) place (drop place content))
     joined =
         let left : length rest ≡ length content - place = ap (λ (z : List ℕ). length z) at ∙ length-drop place content in
         let here : (0 + length content) - length rest ≡ place = omega (arith, left, inside) in
-        ap (λ (g : Format Contents). verdict g 0 content) (sym (front_then material kind))
-        ∙ verdict-then (front_field material kind) (after_front material kind) 0 content
-        ∙ ap (continued (after_front material kind) (0 + length content)) front
-        ∙ ap (λ (n : ℕ). after_fill filled (verdict (after_front material kind f) n rest)) here
-        ∙ ap (λ (z : List ℕ). after_fill filled (verdict (after_front material kind f) place z)) at
+        ap (λ (g : Format Contents). verdict g 0 content) (sym (front_then unread_field material kind))
+        ∙ verdict-then (front_field material kind) (after_front unread_field material kind) 0 content
+        ∙ ap (continued (after_front unread_field material kind) (0 + length content)) front
+        ∙ ap (λ (n : ℕ). after_fill filled (verdict (after_front unread_field material kind f) n rest)) here
+        ∙ ap (λ (z : List ℕ). after_fill filled (verdict (after_front unread_field material kind f) place z)) at
 
     pub front_good : (whole : file_end place f.measured ≤ length content) → verdict (unread_file material kind) 0 content
         ≡ good (unread_table material kind f (unread_subs content place f.measured) (last_bytes content place f.measured)) (filled ++ (following_text whole).filled) (drop (file_end place f.measured) content)

@@ -13,13 +13,13 @@ use Rattle.szg_file.specs.Format.{good, verdict, Verdict}
 use Rattle.szg_file.specs.FrontTable.{FrontKept, IsFrontOf}
 use Rattle.szg_file.specs.Held.{subtable_of}
 use Rattle.szg_file.specs.Index.{Index, IsIndex, index_with}
-use Rattle.szg_file.specs.Opened.{table_of, IsOpenRefusal}
+use Rattle.szg_file.specs.Opened.{table_of}
 use Rattle.szg_file.specs.Placed.{whole_sub, Fits}
 use Rattle.szg_file.specs.Reading.{Advances}
 use Rattle.szg_file.specs.Unread.{FrontRead, BeginsWithFront, front_field, unread_file, unread_table, unread_subs, IsUnread}
+use Rattle.szg_file.specs.WholeRead.{Refuses}
 use Rattle.szg_file.specs.declared.reading.dropping.PlacedSub.{PlacedSub}
 use Rattle.szg_file.specs.declared.fault.Reason.TheVariants.{Truncated}
-use Rattle.szg_file.specs.declared.opened.OpenFault.TheVariants.{Refused}
 use Rattle.szg_file.specs.declared.reading.front.Front.{Front}
 use Rattle.szg_file.proofs.Grammar.FormatLaws.{good-more, take_front}
 use Rattle.szg_file.proofs.Openings.OpenedLaws.{forward_moved}
@@ -72,10 +72,10 @@ module _ (material : Sides) (kind : Kind) (f : FrontRead) (place : ℕ) (content
             sym (side_lengths IsMapOf (unread_subs content place f.measured) f.maps maps) ∙ sym as_many;
       }
 
-  pub front_short : (size : ℕ) → length content ≡ size → (file_end place f.measured ≤ length content → ⊥) → IsOpenRefusal (verdict (unread_file material kind) 0 content) (Refused size Truncated)
+  pub front_short : (size : ℕ) → length content ≡ size → (file_end place f.measured ≤ length content → ⊥) → Refuses (verdict (unread_file material kind) 0 content) size Truncated
   front_short size long lacks =
       let short : length content < file_end place f.measured = elim (cases_lt (length content) (file_end place f.measured)) [ inl less ↦ less | inr more ↦ absurd (lacks more) ] in
-      subst (λ (v : Verdict Contents). IsOpenRefusal v (Refused size Truncated)) (sym (front_cut material kind f content place h.filled (drop place content) begins refl h.inside short)) (sym long, refl)
+      subst (λ (v : Verdict Contents). Refuses v size Truncated) (sym (front_cut material kind f content place h.filled (drop place content) begins refl h.inside short)) (sym long, refl)
 
 -- a reader over a source that began at the first byte has read a front
 pub begins_by : (material : Sides) (kind : Kind) (f : FrontRead) (begun ended : Front) (from to place : ℕ) (old new bytes content : List ℕ) → begun.place ≡ 0 → from ≡ 0 → take to new ≡ take from old ++ bytes →

@@ -24,7 +24,7 @@ use Rattle.szg_file.specs.Opened.{Opened, opened_at, requested_after, table_of, 
 use Rattle.szg_file.specs.Outline.{outlined}
 use Rattle.szg_file.specs.Placed.{blocks_size, whole_sub, Fits, IsSlotted, IsPlacedIn}
 use Rattle.szg_file.specs.Reading.{Reading, Advances}
-use Rattle.szg_file.specs.WholeRead.{FollowsVerdict}
+use Rattle.szg_file.specs.WholeRead.{FollowsVerdict, Refuses}
 use Rattle.szg_file.specs.Values.{item, subtable_at, constant_value, values_of}
 use Rattle.szg_file.specs.declared.fault.Reason.{Reason}
 use Rattle.szg_file.specs.declared.fault.ReadFault.{ReadFault}
@@ -220,25 +220,15 @@ opened_by material kind o begun ended from to old new bytes content room room' p
     let roomy = subst (λ (k : ℕ). AllByRecursion (Fits (length (take to new)) k) o.subs.items) (sym wide) fits in
     opens material kind content (take to new) (drop to new) o ended.fill.items room' (same ∙ sym (take-append-drop to new)) whole w.accepted placed roomy
 
-refused_follows : (v : Verdict Contents) (place : ℕ) (reason : Reason) (coming : Option (List ℕ)) → FollowsVerdict v (Err (Refused place reason)) coming → IsOpenRefusal v (opened_fault (Refused place reason))
+pub refused_follows : (v : Verdict Contents) (place : ℕ) (reason : Reason) (coming : Option (List ℕ)) → FollowsVerdict v (Err (Refused place reason)) coming → Refuses v place reason
 refused_follows (good t filled rest) place reason coming h = absurd h
 refused_follows (refused at why rest) place reason coming h = (h.0, h.1)
 refused_follows (truncated count) place reason coming h = (h.0, h.1)
-
-device_follows : (v : Verdict Contents) → IsOpenRefusal v (opened_fault Device)
-device_follows (good t filled rest) = tt
-device_follows (refused at why rest) = tt
-device_follows (truncated count) = tt
-
-memory_follows : (v : Verdict Contents) → IsOpenRefusal v (opened_fault Memory)
-memory_follows (good t filled rest) = tt
-memory_follows (refused at why rest) = tt
-memory_follows (truncated count) = tt
 
 pub refusal_follows : {X R : Type 0} (f : Format Contents) (view : X → Contents) (fault : ReadFault) (all : List ℕ) {o n : Front}
     {dev : Ghosts R} {i k : R} → o.place ≡ 0 → dev.coming i ≡ Some all → Reading f view o n dev i k (Err fault) → IsOpenRefusal (verdict f 0 all) (opened_fault fault)
 refusal_follows f view (Refused place reason) all {dev = dev} {i = i} {k = k} first stated h =
     let follows : IfSome (dev.coming i) (λ all. FollowsVerdict (verdict f 0 all) (Err (Refused place reason)) (dev.coming k)) = fault_follows f view (Refused place reason) first h (λ e. absurd cc) in
     refused_follows (verdict f 0 all) place reason (dev.coming k) (subst (λ (z : Option (List ℕ)). IfSome z (λ all. FollowsVerdict (verdict f 0 all) (Err (Refused place reason)) (dev.coming k))) stated follows)
-refusal_follows f view Device all first stated h = device_follows (verdict f 0 all)
-refusal_follows f view Memory all first stated h = memory_follows (verdict f 0 all)
+refusal_follows f view Device all first stated h = tt
+refusal_follows f view Memory all first stated h = tt

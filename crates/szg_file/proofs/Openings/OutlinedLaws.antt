@@ -28,9 +28,6 @@ use Rattle.szg_file.proofs.Tables.IndexLaws.{accepted_index, size_of_table, slot
 pub stated_in : (P : Contents → Type 0) (there : Option Contents) (t : Contents) → there ≡ Some t → P t → IsSomeAnd there P
 stated_in P there t e h = subst (λ (o : Option Contents). IsSomeAnd o P) (sym e) h
 
-pub stated_if : (P : Contents → Type 0) (there : Option Contents) (t : Contents) → there ≡ Some t → P t → IfSome there P
-stated_if P there t e h = subst (λ (o : Option Contents). IfSome o P) (sym e) h
-
 -- blocks do not change the flags
 pub flags_with : (s : Subtable) (packed : List ℕ) → flags_of (with_blocks s packed) ≡ flags_of s
 flags_with (constant flags byte) packed = refl
@@ -54,18 +51,6 @@ size_opened x content part side h =
     ap (λ (y : Index). option_map (λ (slot : Slot). slot.size) (slot_in y part side)) h.index_is
     ∙ size_of_table h.table h.is_valid.filled part side h.is_valid.accepted
     ∙ sym (ap (λ (o : Option Contents). option_map (λ (found : Slot × Subtable). found.0.size) (option_and_then (λ t. subtable_at t part side) o)) h.there)
-
-pub there_opened : (x : Index) (content : List ℕ) (part side : ℕ) → IsIndexIn x content →
-    IsSome (option_and_then (λ t. subtable_at t part side) (table_in x.material x.kind content)) → IsSome (slot_in x part side)
-there_opened x content part side h there =
-    subst (λ (y : Index). IsSome (slot_in y part side)) (sym h.index_is)
-    (slot_there h.table h.is_valid.filled part side h.is_valid.accepted (subst (λ (o : Option Contents). IsSome (option_and_then (λ t. subtable_at t part side) o)) h.there there))
-
-pub number_opened : (P : Option ℕ → Type 0) (x : Index) (content : List ℕ) (part : ℕ) (class : ℤ) (v : ℕ) → IsIndexIn x content → P (number_in x part class v) →
-    IfSome (table_in x.material x.kind content) (λ t. P (number_of_value t part class v))
-number_opened P x content part class v h p =
-    stated_if (λ t. P (number_of_value t part class v)) (table_in x.material x.kind content) h.table h.there
-    (subst P (ap (λ (y : Index). number_in y part class v) h.index_is ∙ sym (number_of_table h.table h.is_valid.filled part class v h.is_valid.accepted)) p)
 
 -- the index of the contents that were read
 abbrev pub outline_index : Sides → Kind → Outline → Index

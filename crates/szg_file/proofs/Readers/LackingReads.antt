@@ -9,15 +9,19 @@ use Rattle.szg_file.specs.declared.fault.ReadFault.TheVariants.{Refused, Device,
 use Rattle.szg_file.specs.Format.{Format, means, field, Verdict, verdict, after_fill, ◌>>=◌}
 use Rattle.szg_values.specs.declared.Kind.{Kind}
 use Rattle.szg_values.specs.Material.{Sides}
-use Rattle.szg_file.specs.declared.reading.Opening.{Opening}
-use Rattle.szg_file.specs.Contents.{Contents, Subtable, slots}
-use Rattle.szg_file.specs.File.{Begun, begun, filled_to, file}
-use Rattle.szg_file.specs.FilePieces.{Opened, opened, opening_field, packed_field, ending_field}
+use Rattle.szg_file.specs.declared.reading.read_front.FrontRead.{FrontRead}
+use Rattle.szg_file.specs.Contents.{Contents, Subtable}
+use Rattle.szg_file.specs.File.{each, blocks_field, filled_to, file}
+use Rattle.szg_file.specs.FilePieces.{ending_field}
+use Rattle.szg_file.specs.FrontRead.{front_read}
 use Rattle.szg_file.specs.Reading.{Reading, Lacking, IsCut}
+use Rattle.szg_file.specs.Unread.{after_front, front_field, unread_table}
+use Rattle.szg_file.specs.Unread as front
+use Rattle.szg_file.proofs.Openings.FrontLaws.{front_then}
 use Rattle.szg_file.proofs.Grammar.CutLaws.{stops-nil, cut-then, cut-first, cut-after_fill}
 use Rattle.szg_file.proofs.Readers.ReadingLaws.{after_text, reads_then, reads_stopped}
 use Rattle.szg_file.proofs.Readers.Taken.{reads_equal}
-use Rattle.szg_file.proofs.Readers.WholeReads.{reads_made, following_opening, after_packed, with_last, pieces_are_file}
+use Rattle.szg_file.proofs.Readers.WholeReads.{reads_made}
 
 -- If more bytes are needed after the text that was read, it is not the whole text.
 pub lacks_more : {A B X R : Type 0} (f : Format A) (g : A → Format B) (view : X → A) (fault : ReadFault) {o n : Front}
@@ -60,15 +64,16 @@ last_needed at = tt
 pub ending_needed : (at : ℕ) → IsCut (verdict ending_field at [])
 ending_needed at = cut-then (filled_to 64) (λ _. field 16 means) at [] (λ _ place. last_needed place) (stops-nil (filled_to 64) at)
 
--- ---- what follows the stages of a file
+-- ---- what follows the stages of a file: its front, its blocks, its end
 
-after_packed_needed : (material : Sides) (kind : Kind) (o : Opened) (subtables : List Subtable) (at : ℕ) → IsCut (verdict (after_packed material kind o subtables) at [])
-after_packed_needed material kind o subtables at = cut-first ending_field (λ last. means (with_last material kind o subtables last)) at [] (ending_needed at)
+abbrev after_blocks : Sides → Kind → front.FrontRead → List Subtable → Format Contents
+after_blocks material kind r subtables = ending_field >>= λ last. means (unread_table material kind r subtables last)
 
-after_opening_needed : (material : Sides) (kind : Kind) (o : Opened) (at : ℕ) → IsCut (verdict (following_opening material kind o) at [])
-after_opening_needed material kind o at =
-    let list : List Begun = begun (slots material kind o.parts) o.heads in
-    cut-then (packed_field list) (after_packed material kind o) at [] (after_packed_needed material kind o) (stops-nil (packed_field list) at)
+after_blocks_needed : (material : Sides) (kind : Kind) (r : front.FrontRead) (subtables : List Subtable) (at : ℕ) → IsCut (verdict (after_blocks material kind r subtables) at [])
+after_blocks_needed material kind r subtables at = cut-first ending_field (λ last. means (unread_table material kind r subtables last)) at [] (ending_needed at)
+
+after_front_needed : (material : Sides) (kind : Kind) (r : front.FrontRead) (at : ℕ) → IsCut (verdict (after_front blocks_field material kind r) at [])
+after_front_needed material kind r at = cut-then (each blocks_field r.measured) (after_blocks material kind r) at [] (after_blocks_needed material kind r) (stops-nil (each blocks_field r.measured) at)
 
 -- a result that is `Memory`, whatever its type
 pub memory_stated : {X : Type 0} (fault : ReadFault) → IsErrOf {T = X} (Err fault) Memory → fault ≡ Memory
@@ -117,40 +122,34 @@ stops_within f g view view' fault h = record {
 
 -- ---- a whole file
 
-pub opening_stops : {Y R : Type 0} (material : Sides) (kind : Kind) (view : Y → Contents) {f m : Front} {dev : Ghosts R} {i j : R} (fault : ReadFault) →
-    Reading (opening_field material kind) opened f m dev i j (Err fault) → Stops (file material kind) view f m dev i j fault
-opening_stops material kind view fault h =
-    stops_equal (opening_field material kind >>= following_opening material kind) (file material kind) view fault (pieces_are_file material kind)
-    (stops_first (opening_field material kind) (following_opening material kind) opened view fault (after_opening_needed material kind) h)
+pub front_stops : {Y R : Type 0} (material : Sides) (kind : Kind) (view : Y → Contents) {f m : Front} {dev : Ghosts R} {i j : R} (fault : ReadFault) →
+    Reading (front_field material kind) front_read f m dev i j (Err fault) → Stops (file material kind) view f m dev i j fault
+front_stops material kind view fault h =
+    stops_equal (front_field material kind >>= after_front blocks_field material kind) (file material kind) view fault (front_then blocks_field material kind)
+    (stops_first (front_field material kind) (after_front blocks_field material kind) front_read view fault (after_front_needed material kind) h)
 
--- after an opening that was read
-module _ {X Y R : Type 0} (material : Sides) (kind : Kind) (o : Opening) (view : X → List Subtable) (view' : Y → Contents) {f m n : Front} {dev : Ghosts R} {i j k : R}
-    (made : o.heads.items ≡ begun (slots material kind (opened o).parts) (opened o).heads) (first : Reading (opening_field material kind) opened f m dev i j (Ok o)) where
-  pub packed_stops : (fault : ReadFault) → Reading (packed_field o.heads.items) view m n dev j k (Err fault) → Stops (file material kind) view' f n dev i k fault
-  packed_stops fault h =
-      let list : List Begun = begun (slots material kind (opened o).parts) (opened o).heads in
-      stops_equal (opening_field material kind >>= following_opening material kind) (file material kind) view' fault (pieces_are_file material kind)
-      (stops_then (opening_field material kind) (following_opening material kind) opened view' o fault first
-      (stops_first (packed_field list) (after_packed material kind (opened o)) view view' fault (after_packed_needed material kind (opened o))
-      (reads_equal (packed_field o.heads.items) (packed_field list) view (Err fault) (ap packed_field made) h)))
+-- after a front that was read
+module _ {X Y R : Type 0} (material : Sides) (kind : Kind) (r : FrontRead) (view : X → List Subtable) (view' : Y → Contents) {f m n : Front} {dev : Ghosts R} {i j k : R}
+    (first : Reading (front_field material kind) front_read f m dev i j (Ok r)) where
+  pub blocks_stop : (fault : ReadFault) → Reading (each blocks_field r.measured.items) view m n dev j k (Err fault) → Stops (file material kind) view' f n dev i k fault
+  blocks_stop fault h =
+      stops_equal (front_field material kind >>= after_front blocks_field material kind) (file material kind) view' fault (front_then blocks_field material kind)
+      (stops_then (front_field material kind) (after_front blocks_field material kind) front_read view' r fault first
+      (stops_first (each blocks_field r.measured.items) (after_blocks material kind (front_read r)) view view' fault (after_blocks_needed material kind (front_read r)) h))
 
-  pub ending_stops : {z : Front} {l : R} (v : X) (fault : ReadFault) → Reading (packed_field o.heads.items) view m n dev j k (Ok v) →
+  pub ending_stops : {z : Front} {l : R} (v : X) (fault : ReadFault) → Reading (each blocks_field r.measured.items) view m n dev j k (Ok v) →
       Stops ending_field (λ (last : List ℕ). last) n z dev k l fault → Stops (file material kind) view' f z dev i l fault
   ending_stops v fault h ending =
-      let list : List Begun = begun (slots material kind (opened o).parts) (opened o).heads in
-      stops_equal (opening_field material kind >>= following_opening material kind) (file material kind) view' fault (pieces_are_file material kind)
-      (stops_then (opening_field material kind) (following_opening material kind) opened view' o fault first
-      (stops_then (packed_field list) (after_packed material kind (opened o)) view view' v fault
-      (reads_equal (packed_field o.heads.items) (packed_field list) view (Ok v) (ap packed_field made) h)
-      (stops_within ending_field (λ last. means (with_last material kind (opened o) (view v) last)) (λ (last : List ℕ). last) view' fault ending)))
+      stops_equal (front_field material kind >>= after_front blocks_field material kind) (file material kind) view' fault (front_then blocks_field material kind)
+      (stops_then (front_field material kind) (after_front blocks_field material kind) front_read view' r fault first
+      (stops_then (each blocks_field r.measured.items) (after_blocks material kind (front_read r)) view view' v fault h
+      (stops_within ending_field (λ last. means (unread_table material kind (front_read r) (view v) last)) (λ (last : List ℕ). last) view' fault ending)))
 
-  pub file_read : {z : Front} {l : R} (v : X) (last : List ℕ) (w : Y) → view' w ≡ with_last material kind (opened o) (view v) last →
-      Reading (packed_field o.heads.items) view m n dev j k (Ok v) → Reading ending_field (λ (last : List ℕ). last) n z dev k l (Ok last) →
+  pub file_read : {z : Front} {l : R} (v : X) (last : List ℕ) (w : Y) → view' w ≡ unread_table material kind (front_read r) (view v) last →
+      Reading (each blocks_field r.measured.items) view m n dev j k (Ok v) → Reading ending_field (λ (last : List ℕ). last) n z dev k l (Ok last) →
       Reading (file material kind) view' f z dev i l (Ok w)
   file_read v last w same h ending =
-      let list : List Begun = begun (slots material kind (opened o).parts) (opened o).heads in
-      reads_equal (opening_field material kind >>= following_opening material kind) (file material kind) view' (Ok w) (pieces_are_file material kind)
-      (reads_then (opening_field material kind) (following_opening material kind) opened view' o first
-      (reads_then (packed_field list) (after_packed material kind (opened o)) view view' v
-      (reads_equal (packed_field o.heads.items) (packed_field list) view (Ok v) (ap packed_field made) h)
-      (reads_made ending_field (with_last material kind (opened o) (view v)) (λ (last : List ℕ). last) view' last w same ending)))
+      reads_equal (front_field material kind >>= after_front blocks_field material kind) (file material kind) view' (Ok w) (front_then blocks_field material kind)
+      (reads_then (front_field material kind) (after_front blocks_field material kind) front_read view' r first
+      (reads_then (each blocks_field r.measured.items) (after_blocks material kind (front_read r)) view view' v h
+      (reads_made ending_field (unread_table material kind (front_read r) (view v)) (λ (last : List ℕ). last) view' last w same ending)))

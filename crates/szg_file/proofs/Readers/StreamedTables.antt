@@ -1,12 +1,10 @@
 -- The slots and the values of a table that was read while a sink accepted its values.
-use Rattle.std.proofs.Common.{◌≡◌, ℕ, Bool, List, [], ◌∷◌, length, map, refl, ap, ◌∙◌, arith, Ok}
-use Rattle.szg_values.specs.declared.Kind.{Kind}
+use Rattle.std.proofs.Common.{◌≡◌, List, [], ◌∷◌, length, map, refl, ap, ◌∙◌, arith, Ok}
 use Rattle.szg_io.specs.declared.device.Input.{Ghosts}
 use Rattle.szg_file.specs.Accepted.{SideBySide}
 use Rattle.szg_file.specs.Contents.{Slot, Subtable, constant, pairs}
 use Rattle.szg_file.specs.File.{Begun, begun, each, sparse_field, lengths_field}
 use Rattle.szg_file.specs.Reading.{Reading}
-use Rattle.szg_file.specs.Streaming.{wanted_values}
 use Rattle.szg_file.specs.Values.{slotted}
 use Rattle.szg_file.specs.declared.reading.front.Front.{Front}
 use Rattle.szg_file.proofs.Grammar.FileLaws.{sound_each}
@@ -46,16 +44,9 @@ measured_slots list view x {o = o} h =
     ((sound_each lengths_field _ (λ b c. IsMeasured b.slot b.subtable c) (λ b. sound_lengths b.slot b.index b.subtable) list).sound o.place h.bytes (view x) a.filled a.fits a.whole).2
 
 -- the subtables that were begun have the slots
-slotted_begun : (slots : List Slot) (heads subs : List Subtable) → length subs ≡ length (begun slots heads) → slotted (map slot_of (begun slots heads)) subs ≡ slotted slots subs
+pub slotted_begun : (slots : List Slot) (heads subs : List Subtable) → length subs ≡ length (begun slots heads) → slotted (map slot_of (begun slots heads)) subs ≡ slotted slots subs
 slotted_begun [] heads subs e = refl
 slotted_begun (x ∷ slots) [] [] e = refl
 slotted_begun (x ∷ slots) [] (s ∷ subs) e = absurd (omega (arith, e))
 slotted_begun (x ∷ slots) (h ∷ heads) [] e = refl
 slotted_begun (x ∷ slots) (h ∷ heads) (s ∷ subs) e = ap (λ (z : List (Slot × Subtable)). (x, s) ∷ z) (slotted_begun slots heads subs (omega (arith, e)))
-
--- the values that are wanted of the subtables that were begun
-pub wanted_begun : (wanted : ℕ → ℕ → Bool) (kind : Kind) (slots : List Slot) (heads subs : List Subtable) (list : List Begun) → list ≡ begun slots heads → length subs ≡ length list →
-    wanted_values wanted kind (slotted (map slot_of list) subs) ≡ wanted_values wanted kind (slotted slots subs)
-wanted_begun wanted kind slots heads subs list is many =
-    ap (λ (l : List Begun). wanted_values wanted kind (slotted (map slot_of l) subs)) is
-    ∙ ap (λ (z : List (Slot × Subtable)). wanted_values wanted kind z) (slotted_begun slots heads subs (many ∙ ap (λ (l : List Begun). length l) is))

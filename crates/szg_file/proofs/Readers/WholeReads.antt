@@ -1,15 +1,14 @@
 -- A whole file is read in three stages, and the result of `read` follows from one reading of it.
 use Rattle.std.proofs.Common.{◌≡◌, ℕ, List, sym, ap, subst, ◌∙◌, Option, Ok, Err}
-use Rattle.std.specs.Prelude.{Result}
 use Rattle.szg_values.specs.declared.Kind.{Kind}
 use Rattle.szg_values.specs.Material.{Sides}
 use Rattle.szg_file.specs.declared.reading.front.Front.{Front}
 use Rattle.szg_file.specs.declared.fault.ReadFault.{ReadFault}
 use Rattle.szg_file.specs.Format.{Format, means, field, ◌>>=◌}
 use Rattle.szg_file.specs.Contents.{Part, Subtable, Map, Contents, slots, part_numbers}
-use Rattle.szg_file.specs.File.{Begun, begun, each, magic_field, byte4_field, part_field, filled_to, head_field, maps_field, sparse_field, lengths_field, blocks_field, file}
+use Rattle.szg_file.specs.File.{Begun, begun, each, magic_field, byte4_field, part_field, filled_to, head_field, maps_field, sparse_field, lengths_field}
 use Rattle.szg_file.specs.Reading.{Reading}
-use Rattle.szg_file.specs.FilePieces.{Opened, opening_field, measured_field, packed_field, ending_field}
+use Rattle.szg_file.specs.FilePieces.{Opened, opening_field, ending_field}
 use Rattle.szg_file.specs.Unread.{file_by}
 use Rattle.szg_file.proofs.Grammar.EachLaws.{then-then, then-means}
 use Rattle.szg_io.specs.declared.device.Input.{Ghosts}
@@ -46,18 +45,6 @@ after_parts material kind byte parts = filled_to 2 >>= after_gap material kind b
 abbrev pub after_start : Sides → Kind → ℕ → Format Opened
 after_start material kind byte = each (λ _. part_field material kind) (part_numbers material) >>= after_parts material kind byte
 
--- the sparse indexes and the block lengths, and then the blocks
-packed_steps : (list : List Begun) → packed_field list ≡ measured_field list >>= each blocks_field
-packed_steps list = sym (then-then (each sparse_field list) (each lengths_field) (each blocks_field))
-
-pub packed_unmeasured : {X Y R : Type 0} (list : List Begun) (view : X → List Begun) (view' : Y → List Subtable) {o n : Front} {dev : Ghosts R} {i k : R} (fault : ReadFault) →
-    Reading (measured_field list) view o n dev i k (Err fault) → Reading (packed_field list) view' o n dev i k (Err fault)
-packed_unmeasured list view view' fault h = rw (packed_steps list) (reads_stopped (measured_field list) (each blocks_field) view view' fault h)
-
-pub packed_measured : {X Y R : Type 0} (list : List Begun) (view : X → List Begun) (view' : Y → List Subtable) {o m n : Front} {dev : Ghosts R} {i j k : R} (v : X) {r : Result Y ReadFault} →
-    Reading (measured_field list) view o m dev i j (Ok v) → Reading (each blocks_field (view v)) view' m n dev j k r → Reading (packed_field list) view' o n dev i k r
-packed_measured list view view' v first second = rw (packed_steps list) (reads_then (measured_field list) (each blocks_field) view view' v first second)
-
 -- ---- the three stages are the file
 
 -- the contents of an opening, subtables and last bytes
@@ -68,10 +55,6 @@ with_last material kind o subtables last =
 -- what follows the blocks
 abbrev pub after_packed : Sides → Kind → Opened → List Subtable → Format Contents
 after_packed material kind o subtables = ending_field >>= λ last. means (with_last material kind o subtables last)
-
--- what follows an opening
-abbrev pub following_opening : Sides → Kind → Opened → Format Contents
-following_opening material kind o = packed_field (begun (slots material kind o.parts) o.heads) >>= after_packed material kind o
 
 -- everything up to the maps, as one format
 module _ {M B P H F C D : Type 0} (magic : Format M) (byte4 : Format B) (parts : Format P) (gap : Format (Unit {0})) (heads : P → Format H) (maps : H → Format F)
@@ -151,6 +134,3 @@ pieces_are_file_by blocks material kind =
     (after_opening_by blocks material kind) (following_maps blocks material kind)
     (λ byte parts heads found. back_joined (each sparse_field (begun (slots material kind parts) heads)) (each lengths_field) (each blocks) (filled_to 64) (field 16 means)
     (table_of material kind byte parts found))
-
-pub pieces_are_file : (material : Sides) (kind : Kind) → opening_field material kind >>= following_opening material kind ≡ file material kind
-pieces_are_file material kind = pieces_are_file_by blocks_field material kind

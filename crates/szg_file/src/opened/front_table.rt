@@ -1,26 +1,24 @@
 //! Tables opened by their front alone: headers, maps, sparse indexes and block lengths are read and checked. A
 //! block is verified when it is fetched.
-ghost use Rattle.std.specs.Prelude.{ℕ, List, ◌≡◌, ◌+◌, ◌≤◌, ◌<◌, ◌^◌, ◌↔◌, IfErr, IfOk, IsTrue, length, map};
-ghost use Rattle.szg_block.specs.BlocksTrait.{Rose};
+ghost use Rattle.std.specs.Prelude.{ℕ, List, ◌≡◌, ◌+◌, ◌≤◌, ◌<◌, ◌^◌, ◌↔◌, ◌⊎◌, [], IfErr, IfOk, IfSome, IsErrOf, IsTrue, length, map};
+ghost use Rattle.szg_io.specs.Device.{HasFailed};
 ghost use Rattle.szg_file.specs.Contents.{gap, slots};
 ghost use Rattle.szg_file.specs.Format.{verdict};
+ghost use Rattle.szg_file.specs.FrontInput.{IsFrontFault, IsFrontRead, IsFrontVerdict};
 ghost use Rattle.szg_file.specs.FrontRead.{front_read};
 ghost use Rattle.szg_file.specs.FrontTable.{IsFrontOf};
 ghost use Rattle.szg_file.specs.Held.{part_of};
-ghost use Rattle.szg_file.specs.Opened.{IsOpenRefusal};
 ghost use Rattle.szg_file.specs.Unread.{BeginsWithFront, unread_file};
 
-use crate::fault::Reason;
-use crate::opened::forward::Forward;
+use crate::fault::{ReadFault, Reason};
 use crate::opened::placing::{padding_to_64, place_subs};
-use crate::opened::{OpenFault, open_fault};
 use crate::reading::dropping::PlacedSub;
 use crate::reading::front::Front;
 use crate::reading::read_front::{FrontRead, read_front};
 use crate::table_index::{TableIndex, index_of_placed};
 use std::alloc::Global;
 use std::marker::Model;
-use szg_block::Source;
+use szg_io::Input;
 use szg_values::{Kind, Material};
 
 /// A table whose front passes every check. Its blocks may contain anything: they are verified when they are
@@ -57,9 +55,6 @@ impl FrontTable {
     }
 }
 
-/// The number of bytes requested from the source at once.
-const CHUNK: usize = 32768;
-
 /// Returns whether a file of `length` bytes whose blocks end at `end` has room for the padding and the last sixteen
 /// bytes.
 fn has_ending(end: u64, length: u64) -> bool
@@ -69,16 +64,16 @@ fn has_ending(end: u64, length: u64) -> bool
     end + padding_to_64(end) + 16 <= length
 }
 
-/// Returns the table of a front that was read from the first `place` bytes of a source of `size` bytes. Errors:
-/// `Truncated` at the source's length if it is too short for the blocks and what follows them; `Memory`.
-pub fn front_table(
+/// Returns the table of a front that was read from the first `place` bytes of a file of `size` bytes. Errors: `Truncated`
+/// at `size` if the file is too short for the blocks and what follows them; `Memory`.
+fn front_table(
     alloc: Global,
     material: Material,
     kind: Kind,
     size: u64,
     read: FrontRead,
     place: u64,
-) -> Result<FrontTable, OpenFault>
+) -> Result<FrontTable, ReadFault>
     requires known { (content : List ℕ) × (length content ≡ size) × BeginsWithFront material kind (front_read read) place content }
     requires slots { read.parts.slots.items ≡ slots material kind (map part_of read.parts.bytes.items) }
     requires few { length read.measured.items ≤ 8 }
@@ -86,8 +81,8 @@ pub fn front_table(
     ensures material { IfOk result (λ t. t.index.material ≡ material) }
     ensures kind { IfOk result (λ t. t.index.kind ≡ kind) }
     ensures table { IfOk result (λ t. (content : List ℕ) → length content ≡ size → BeginsWithFront material kind (front_read read) place content → IsFrontOf t content) }
-    ensures refused { IfErr result (λ e. (content : List ℕ) → length content ≡ size → BeginsWithFront material kind (front_read read) place content → IsOpenRefusal (verdict (unread_file material kind) 0 content) e) }
-    ensures quiet { IfErr result (λ e. e ≡ OpenFault.Source → ⊥) }
+    ensures refused { IfErr result (λ fault. (content : List ℕ) → length content ≡ size → BeginsWithFront material kind (front_read read) place content → IsFrontFault (verdict (unread_file material kind) 0 content) fault) }
+    ensures never { IsErrOf result ReadFault.Device → ⊥ }
 {
     let FrontRead {
         byte4: _,
@@ -95,11 +90,9 @@ pub fn front_table(
         maps,
         measured,
     } = read;
-    let Ok(placed) = place_subs(alloc, measured, place) else {
-        return Err(OpenFault::Memory);
-    };
+    let placed = place_subs(alloc, measured, place)?;
     if !has_ending(placed.end, size) {
-        return Err(OpenFault::Refused {
+        return Err(ReadFault::Refused {
             place: size,
             reason: Reason::Truncated,
         });
@@ -113,43 +106,38 @@ pub fn front_table(
     })
 }
 
-/// Opens a table of this material and kind by its front. It reads the source from its first byte up to the block
-/// lengths, with every check that `read` makes there, and computes that the source is long enough for the blocks,
-/// the padding and the last sixteen bytes. It requests no byte of a block. Returns the table and the source.
+/// Opens a table of this material and kind by its front, from the first byte of a file of `size` bytes. It makes
+/// every check of `read` up to the block lengths, and computes that the file is long enough for the blocks, the
+/// padding and the last sixteen bytes. It reads no byte after the block lengths. Returns the table and the number of
+/// bytes read.
 ///
-/// Errors: `Refused` with the offset and the reason that `read` returns for these checks, or `Truncated` at the
-/// source's length; `Source` if the source failed; `Memory` if an allocation was refused.
-pub fn open_front<S: Source + Drop>(
+/// Errors: `Refused` with the offset and the reason that `read` returns for these checks, or `Truncated` at `size`;
+/// `Device` if the device failed; `Memory` if an allocation was refused.
+pub fn open_front<R: Input>(
     alloc: Global,
     material: Material,
     kind: Kind,
-    source: S,
-) -> Result<(FrontTable, S), (OpenFault, S)>
-    ensures front { IfOk result (λ o. IsFrontOf o.0 (S.content source)) }
-    ensures material { IfOk result (λ o. o.0.index.material ≡ material) }
-    ensures kind { IfOk result (λ o. o.0.index.kind ≡ kind) }
-    ensures content { IfOk result (λ o. S.content o.1 ≡ S.content source) }
-    ensures failed { IfOk result (λ o. S.failed o.1 ≡ S.failed source) }
-    ensures back { IfErr result (λ e. S.content e.1 ≡ S.content source) }
-    ensures refused { IfErr result (λ e. IsOpenRefusal (verdict (unread_file material kind) 0 (S.content source)) e.0) }
-    ensures quiet { IfErr result (λ e. (e.0 ≡ OpenFault.Source → ⊥) → S.failed e.1 ≡ S.failed source) }
-    ensures fault { IfErr result (λ e. e.0 ≡ OpenFault.Source → Rose (S.failed source) (S.failed e.1)) }
+    size: u64,
+    input: &mut R,
+) -> Result<(FrontTable, u64), ReadFault>
+    requires first { R.moved input.old ≡ [] }
+    // If the reader specifies its bytes, and they are all of the file, the result is the verdict on them.
+    ensures verdict { IfSome (R.coming input.old) (λ content. length content ≡ size → IsFrontVerdict material kind content result) }
+    // In any case: the bytes that were read.
+    ensures read { IsFrontRead R.Input material kind size input.old input.new result }
+    ensures device { IsErrOf result ReadFault.Device → HasFailed (R.failures input.old) (R.failures input.new) (R.interrupted input.new) }
+    ensures may_fail { IsErrOf result ReadFault.Device → IsTrue (R.may_fail input.old) }
+    ensures quiet { (IsErrOf result ReadFault.Device → ⊥) → R.failures input.new ≡ R.failures input.old }
 {
-    let mut piece = Vec::new(alloc);
-    if piece.resize(CHUNK, 0).is_err() {
-        return Err((OpenFault::Memory, source));
-    }
     let mut front = Front::new(alloc);
-    let mut input = Forward::new(source, piece);
-    match read_front(alloc, &material, kind, &mut input, &mut front) {
-        Ok(read) => {
-            let place = front.place;
-            let source = input.into_source();
-            match front_table(alloc, material, kind, source.len(), read, place) {
-                Ok(table) => Ok((table, source)),
-                Err(fault) => Err((fault, source)),
-            }
-        }
-        Err(fault) => Err((open_fault(fault), input.into_source())),
+    let read = read_front(alloc, &material, kind, input, &mut front)?;
+    let place = front.place;
+    if size < place {
+        return Err(ReadFault::Refused {
+            place: size,
+            reason: Reason::Truncated,
+        });
     }
+    let table = front_table(alloc, material, kind, size, read, place)?;
+    Ok((table, place))
 }

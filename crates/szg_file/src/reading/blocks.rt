@@ -131,13 +131,3 @@ pub fn block_bytes(sub: &Sub) -> u64
         Sub::Pairs { block_bits, .. } => 1 << *block_bits,
     }
 }
-
-/// Returns the number of blocks, 0 for a constant subtable.
-pub fn block_count(sub: &Sub) -> u32
-    ensures { IfSome (layout_of sub.now) (λ layout. result ≡ layout.blocks) }
-{
-    match sub {
-        Sub::Constant { .. } => 0,
-        Sub::Pairs { blocks, .. } => *blocks,
-    }
-}

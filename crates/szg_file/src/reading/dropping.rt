@@ -14,13 +14,13 @@ ghost use Rattle.szg_file.specs.Values.{slotted, values_in};
 use crate::begun::Measured;
 use crate::fault::{ReadFault, Reason};
 use crate::opened::forward::Ahead;
-use crate::reading::blocks::{block_bytes, block_count, is_constant};
+use crate::reading::blocks::{block_bytes, is_constant};
 use crate::reading::front::{Front, append};
 use crate::reading::sink::ValueSink;
 use crate::reading::streaming::{pass_blocks_to, put_constant};
 use crate::reading::taking::{take_field, take_fill};
 use std::alloc::Global;
-use szg_block::{Sub, check_block_from};
+use szg_block::{Sub, block_count, check_block_from};
 use szg_io::Input;
 use szg_values::Kind;
 

@@ -13,10 +13,10 @@ use crate::fault::ReadFault;
 use crate::opened::forward::Ahead;
 use crate::reading::dropping::{PlacedSub, pass_subs};
 use crate::reading::front::Front;
-use crate::reading::index::read_lengths;
 use crate::reading::parts::Parts;
+use crate::reading::read_ending;
+use crate::reading::read_front::{FrontRead, read_front};
 use crate::reading::sink::ValueSink;
-use crate::reading::{Opening, read_ending, read_opening};
 use crate::table::Map;
 use std::alloc::Global;
 use szg_io::Input;
@@ -54,13 +54,12 @@ pub fn read_outline<R: Input + Ahead, W, K: ValueSink<W>>(
     ensures fits { IfOk result (λ o. AllByRecursion (Fits (length (R.moved input.new)) (length buffer.new.items)) o.subs.items) }
     ensures accepted { IfOk result (λ o. Accepted K.accepts (wanted_of (K.wanted sink.old) (outlined material.now kind (R.moved input.new) o)) sink.old out.old sink.new out.new) }
 {
-    let Opening {
+    let FrontRead {
         byte4,
         parts,
-        heads,
         maps,
-    } = read_opening(alloc, material, kind, input, front)?;
-    let measured = read_lengths(alloc, heads, input, front)?;
+        measured,
+    } = read_front(alloc, material, kind, input, front)?;
     let subs = pass_subs(alloc, kind, measured, buffer, input, front, sink, out)?;
     let last = read_ending(alloc, input, front)?;
     Ok(Outline {

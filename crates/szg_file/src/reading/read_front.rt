@@ -1,10 +1,12 @@
 //! Reading a file up to its block lengths.
-ghost use Rattle.std.specs.Prelude.{◌≡◌, ◌+◌, ◌*◌, ◌^◌, ◌≤◌, ◌<◌, length, map, IfOk, OnOk};
-ghost use Rattle.szg_file.specs.Contents.{slots};
+ghost use Rattle.std.specs.Prelude.{List, ◌≡◌, ◌+◌, ◌*◌, ◌^◌, ◌≤◌, ◌<◌, length, map, IfOk, OnOk};
+ghost use Rattle.szg_file.specs.Contents.{Subtable, slots};
 ghost use Rattle.szg_file.specs.FrontRead.{front_read};
+ghost use Rattle.szg_file.specs.Grown.{HasCounted, front_lengths};
 ghost use Rattle.szg_file.specs.Held.{part_of};
 ghost use Rattle.szg_file.specs.Reading.{Reading};
 ghost use Rattle.szg_file.specs.Unread.{front_field};
+ghost use Rattle.szg_file.specs.Values.{slotted};
 
 use crate::begun::Measured;
 use crate::fault::ReadFault;
@@ -38,8 +40,11 @@ pub fn read_front<R: Input>(
     requires growth { front.old.growth ≡ 0 }
     ensures front { Reading (front_field material.now kind) front_read front.old front.new R.Input input.old input.new result }
     ensures slots { IfOk result (λ f. f.parts.slots.items ≡ slots material.now kind (map part_of f.parts.bytes.items)) }
+    ensures slotted { IfOk result (λ f. (subs : List Subtable) → length subs ≡ length f.measured.items → slotted (map (λ measured. measured.slot) f.measured.items) subs ≡ slotted (slots material.now kind (map part_of f.parts.bytes.items)) subs) }
     ensures few { IfOk result (λ f. length f.measured.items ≤ 8) }
     ensures place { OnOk result (front.new.place < 2 ^ 42) }
+    ensures growth { OnOk result (front.new.growth ≤ 2 * front.new.place + 36) }
+    ensures grown { IfOk result (λ f. HasCounted front.old front.new 0 (front_lengths f)) }
 {
     let Opening {
         byte4,

@@ -9,7 +9,7 @@ use std::alloc::{AllocError, Global};
 use std::process::Abort;
 use szg_block::{
     Entry, Image, Paged, Sound, SourceFault, Steps, Sub, SubFault, Watch, Whole, check,
-    check_block, check_index, find_block, look_up, shaped, shaped_head, value_in_block,
+    check_block, check_index, look_up, shaped, shaped_head,
 };
 use szg_code::Code;
 use szg_pairs::Dict;
@@ -116,51 +116,6 @@ fn sound<'a>(rt: &impl Abort, sub: &'a Sub, size: u64) -> Sound<'a, Whole<'a>> {
         Ok(()) => Sound::of(sub, size, 2),
         Err(_) => panic!(rt; "it is not sound"),
     }
-}
-
-/// The block of value `i` of a subtable that passes its check, and the value in these bytes of a block.
-fn found(
-    rt: &impl Abort,
-    sub: &Sub,
-    size: u64,
-    i: u64,
-    block: &[u8],
-) -> (Option<u32>, Option<u16>) {
-    assert!(rt; i < size);
-    assert!(rt; shaped(sub, size));
-    match check(sub, size) {
-        Ok(()) => (
-            find_block(sub, size, i),
-            value_in_block(sub, size, i, block),
-        ),
-        Err(_) => panic!(rt; "it is not sound"),
-    }
-}
-
-/// After its check a subtable can be asked for the block of a value, and for a value in bytes.
-#[test]
-fn values_in_bytes_after_a_check(rt: HostRuntime) {
-    let sub = small(&rt, 2, &index(1, 1), &[3, 1], &[0xc0, 0x10]);
-    for (i, block, bytes, value) in [
-        (0, 0, [0xc0], Some(2)),
-        (3, 0, [0xc0], Some(4)),
-        (4, 1, [0x10], Some(2)),
-        (5, 1, [0x10], Some(4)),
-    ] {
-        assert!(rt;
-            found(&rt, &sub, 6, i, &bytes) == (Some(block), value),
-            "at {i}"
-        );
-        assert!(rt;
-            found(&rt, &sub, 6, i, &[]) == (Some(block), None),
-            "at {i}"
-        );
-    }
-    let constant = Sub::Constant {
-        flags: 0x80,
-        byte: 2,
-    };
-    assert!(rt; found(&rt, &constant, 3, 2, &[]) == (None, None));
 }
 
 /// Value `i` of the subtable is `value`, found by `moves` moves and one word.

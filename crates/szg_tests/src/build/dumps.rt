@@ -5,8 +5,8 @@ use crate::fixtures::{self, Fixture};
 use std::alloc::Global;
 use std::process::Abort;
 use szg_build::{
-    BuildFault, Choice, Dump, DumpFault, DumpReadFault, Packing, Plan, SmallPlan, Unwatched, build,
-    build_small, read_dump, read_packed, write_dump,
+    BuildFault, Choice, Dump, DumpFault, DumpReadFault, Packing, Plan, Unwatched, build_as,
+    read_dump, read_packed, write_dump,
 };
 use szg_file::{ReadFault, Table, write};
 use szg_io::{Bytes, Std};
@@ -90,33 +90,22 @@ fn build_lists(
     for list in &lists {
         push(rt, &mut lent, list.as_slice());
     }
-    match choice {
-        Choice::Fixed(packing) => {
-            let plan = Plan {
-                material: dump.material,
-                kind: dump.kind,
-                parts: dump.parts,
-                block_bits: packing.block_bits,
-                span_bits: packing.span_bits,
-                rounds: packing.rounds,
-                flags: dump.flags,
-                maps: dump.maps,
-                last,
-            };
-            build(rt.alloc(), &plan, &lent)
-        }
-        Choice::Small => {
-            let plan = SmallPlan {
-                material: dump.material,
-                kind: dump.kind,
-                parts: dump.parts,
-                flags: dump.flags,
-                maps: dump.maps,
-                last,
-            };
-            build_small(rt.alloc(), plan, &lent)
-        }
-    }
+    let packing = match choice {
+        Choice::Fixed(packing) => packing,
+        Choice::Small => FIXED,
+    };
+    let plan = Plan {
+        material: dump.material,
+        kind: dump.kind,
+        parts: dump.parts,
+        block_bits: packing.block_bits,
+        span_bits: packing.span_bits,
+        rounds: packing.rounds,
+        flags: dump.flags,
+        maps: dump.maps,
+        last,
+    };
+    build_as(rt.alloc(), &plan, choice, &lent, &mut Unwatched)
 }
 
 /// The table of a text, whose subtables are packed while it is read.

@@ -39,7 +39,7 @@ const STEPS: &str =
 const VERIFY: &str = "--verify Check the whole file first, and not only what the look-up reads";
 
 const CLASS: &str =
-    "--class <CLASS> Class of the placement for the side to move, which a DTZ table does not store; ignored for a WDL table [default: win] [possible values: win, cursed, draw, blessed, loss]";
+    "--class <CLASS> Class of the placement for the side to move, which a DTZ table does not store; its number, the plies before the zeroing one, is that of a win unless another class is given; ignored for a WDL table [default: win] [possible values: win, cursed, draw, blessed, loss]";
 
 const FORM: &str =
     "--form <FORM> Format of the dump: 1 writes a line per value, 2 a line per run of equal values [default: 2]";
@@ -122,7 +122,7 @@ static COMMANDS: [Command<'_>; 10] = [
     },
     Command {
         name: "get",
-        about: "Print the value at an index",
+        about: "Print the stored value at an index",
         streams: Text {
             usage: "[OPTIONS] <NAME> <KIND> <INDEX>",
             arguments: &[NAME, KIND, INDEX],
@@ -138,7 +138,7 @@ static COMMANDS: [Command<'_>; 10] = [
     },
     Command {
         name: "values",
-        about: "Print all values of one part and side, one per line",
+        about: "Print all stored values of one part and side, one per line",
         streams: Text {
             usage: "[OPTIONS] <NAME> <KIND>",
             arguments: &[NAME, KIND],
@@ -218,7 +218,7 @@ static COMMANDS: [Command<'_>; 10] = [
     },
     Command {
         name: "probe",
-        about: "Print the result of a placement: its class (WDL) or a number of plies (DTZ)",
+        about: "Print the stored value of a placement: not its result where a capture (WDL), or a capture or pawn move (DTZ), decides; en passant and the fifty-move counter don't change it",
         streams: Text {
             usage: "[OPTIONS] <NAME> <KIND> <MOVER> <MAN>...",
             arguments: &[NAME, KIND, MOVER, MEN],

@@ -4,7 +4,7 @@ use crate::files::{accepted, changed, fixtures_of_all_sections, made, material};
 use crate::fixtures::{self, Fixture};
 use std::alloc::Global;
 use std::process::Abort;
-use szg_file::{FetchFault, FrontTable, ReadFault, Reason, Table, read_front_table};
+use szg_file::{FetchFault, FrontTable, ReadFault, Reason, Table, open_front};
 use szg_io::{Bytes, Cut};
 
 /// Opens a file of `size` bytes by its front, three bytes at a time; returns the number of bytes read, too.
@@ -14,7 +14,7 @@ fn front_of(
     size: u64,
 ) -> Result<(FrontTable, u64), ReadFault> {
     let mut input = Cut::new(Bytes::new(&file.bytes), 3, 1, 0);
-    read_front_table(rt.alloc(), material(rt, file), file.kind, size, &mut input)
+    open_front(rt.alloc(), material(rt, file), file.kind, size, &mut input)
 }
 
 /// The size of a file.
@@ -28,13 +28,20 @@ fn value_in(front: &FrontTable, bytes: &[u8], side: u8, i: u64) -> Option<Result
     if i >= size {
         return None;
     }
-    let block = match front.find(0, side, i) {
-        Some(wanted) => bytes
-            .get(wanted.place as usize..)?
-            .get(..wanted.count as usize)?,
+    let by_file = front.get(bytes, 0, side, i);
+    let located = front.locate(0, side, i);
+    let block = match located.range() {
+        Some(range) => bytes
+            .get(range.offset as usize..)?
+            .get(..range.count as usize)?,
         None => &[],
     };
-    Some(front.value_in(0, side, i, block))
+    let value = located.decode(block);
+    // the file's bytes as a whole give the same
+    if by_file != value {
+        return None;
+    }
+    Some(value)
 }
 
 /// Value `i` of a side of a table in memory.

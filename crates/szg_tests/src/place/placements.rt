@@ -6,14 +6,14 @@ use crate::fixtures::{self, Fixture};
 use crate::standing::placement;
 use std::alloc::Global;
 use std::process::Abort;
-use szg_block::{Image, Watch};
 use szg_file::{FetchFault, FrontTable, Table, open_front};
+use szg_io::Bytes;
 use szg_place::{
-    FrontProbeFault, PlaceFault, ProbeFault, index_in, index_of, placement_of, probe_dtz,
-    probe_dtz_front, probe_wdl, probe_wdl_front,
+    FrontBytes, PlaceFault, ProbeFault, Unprobed, index_of, locate, placement_of, probe_class,
+    probe_dtz, probe_number, probe_wdl,
 };
 use szg_values::Color::{Black, White};
-use szg_values::{Color, Kind, Placement};
+use szg_values::{Color, Kind, PlacedMen, Placement};
 
 /// The placement of an index that a part's side has.
 fn found(
@@ -96,120 +96,95 @@ fn indexes_there_and_back(rt: HostRuntime) {
     check_samples(&rt, &both, 3);
 }
 
-/// A table opened by its front over a source that fails at call `fails_at`, and room for a block.
-#[derive(Drop)]
-struct ByFront<'a> {
-    front: FrontTable,
-    source: Watch<Image<'a>>,
-    room: [u8; 64],
-}
-
-/// Opens a file by its front; none of its blocks is longer than 64 bytes.
-fn by_front<'a>(
-    rt: &(impl Abort + Alloc<A = Global>),
-    file: &'a Fixture,
-    fails_at: u64,
-) -> ByFront<'a> {
-    let source = Watch::new(Image::new(&file.bytes), fails_at);
-    match open_front(rt.alloc(), material(rt, file), file.kind, source) {
-        Ok((front, source)) => ByFront {
-            front,
-            source,
-            room: [0; 64],
-        },
+/// Opens a file by its front.
+fn by_front(rt: &(impl Abort + Alloc<A = Global>), file: &Fixture) -> FrontTable {
+    let mut input = Bytes::new(&file.bytes);
+    let size = file.bytes.len() as u64;
+    match open_front(rt.alloc(), material(rt, file), file.kind, size, &mut input) {
+        Ok((front, _)) => front,
         Err(_) => panic!(rt; "it is not opened"),
     }
 }
 
-/// The class of a placement in a table opened by its front.
-fn class_of(
-    rt: &impl Abort,
-    opened: &mut ByFront,
-    placement: &Placement,
-) -> Result<Option<i8>, FrontProbeFault> {
-    let ByFront {
-        front,
-        source,
-        room,
-    } = opened;
-    assert!(rt; front.index().kind() == Kind::Wdl && front.longest_block() <= 64);
-    probe_wdl_front(front, source, room, placement)
-}
-
 /// By the front the index and, in WDL, the class are those of the table in memory.
-fn check_wdl(rt: &impl Abort, table: &Table, opened: &mut ByFront, placement: &Placement) {
-    assert!(rt; index_in(opened.front.index(), placement) == index_of(table, placement));
-    assert!(rt; table.kind() == Kind::Wdl);
-    let want = probe_wdl(table, placement).map_err(|fault| FrontProbeFault::Probe(ProbeFault::Place(
-        fault,
-    )));
-    assert!(rt; class_of(rt, opened, placement) == want);
+fn check_wdl(rt: &impl Abort, table: &Table, values: FrontBytes, placement: &Placement) {
+    let men = PlacedMen::of(placement);
+    assert!(rt; locate(values.front.index(), &men) == index_of(table, placement));
+    assert!(rt; table.kind() == Kind::Wdl && values.front.index().kind() == Kind::Wdl);
+    let want = probe_wdl(table, placement).map_err(Unprobed::Place);
+    assert!(rt; probe_class(values, &men) == want);
 }
 
 /// By the front the index and, in DTZ, the distance for a class are those of the table in memory.
-fn check_dtz(
-    rt: &impl Abort,
-    table: &Table,
-    opened: &mut ByFront,
-    placement: &Placement,
-    class: i8,
-) {
-    let ByFront {
-        front,
-        source,
-        room,
-    } = opened;
-    assert!(rt; index_in(front.index(), placement) == index_of(table, placement));
-    assert!(rt; table.kind() == Kind::Dtz && front.index().kind() == Kind::Dtz);
-    assert!(rt; -2 <= class && class <= 2 && front.longest_block() <= 64);
-    let want = probe_dtz(table, placement, class).map_err(FrontProbeFault::Probe);
-    assert!(rt; probe_dtz_front(front, source, room, placement, class) == want);
+fn check_dtz(rt: &impl Abort, table: &Table, values: FrontBytes, placement: &Placement, class: i8) {
+    let men = PlacedMen::of(placement);
+    assert!(rt; locate(values.front.index(), &men) == index_of(table, placement));
+    assert!(rt; table.kind() == Kind::Dtz && values.front.index().kind() == Kind::Dtz);
+    assert!(rt; -2 <= class && class <= 2);
+    let want = match probe_dtz(table, placement, class) {
+        Ok(number) => Ok(number),
+        Err(ProbeFault::Place(fault)) => Err(Unprobed::Place(fault)),
+        Err(ProbeFault::Map(fault)) => Err(Unprobed::Map(fault)),
+    };
+    assert!(rt; probe_number(values, &men, class) == want);
 }
 
 #[test]
-fn outcomes_by_a_source(rt: HostRuntime) {
+fn outcomes_by_a_front(rt: HostRuntime) {
     let file = made(&rt, fixtures::kqvk_wdl_unpaired(rt.alloc()));
     let table = accepted(&rt, &file, &[]);
-    let mut opened = by_front(&rt, &file, 0);
+    let front = by_front(&rt, &file);
+    let values = FrontBytes {
+        front: &front,
+        bytes: &file.bytes,
+    };
     for (mover, men) in [
         (White, "Ke8 Qa1 kh1"),
         (Black, "Ke8 Qa1 kh1"),
         (White, "Kd4 Qh8 kg7"),
         (White, "Ke8 Na1 kh1"),
     ] {
-        check_wdl(&rt, &table, &mut opened, &placement(&rt, mover, men));
+        check_wdl(&rt, &table, values, &placement(&rt, mover, men));
     }
 }
 
 #[test]
-fn distances_by_a_source(rt: HostRuntime) {
+fn distances_by_a_front(rt: HostRuntime) {
     let file = made(&rt, fixtures::kpvk_dtz_mapped(rt.alloc()));
     let table = accepted(&rt, &file, &[]);
-    let mut opened = by_front(&rt, &file, 0);
+    let front = by_front(&rt, &file);
+    let values = FrontBytes {
+        front: &front,
+        bytes: &file.bytes,
+    };
     for (mover, men, class) in [
         (White, "Ke1 Pa2 ke8", 2),
         (White, "Ke1 Pb2 ke8", 2),
         (White, "Ke1 Pa2 ke8", -1),
         (Black, "Ke1 Pa2 ke8", 2),
     ] {
-        check_dtz(&rt, &table, &mut opened, &placement(&rt, mover, men), class);
+        check_dtz(&rt, &table, values, &placement(&rt, mover, men), class);
     }
 }
 
-/// The source fails at the first call after those that open the file, and succeeds at the next.
+/// The bytes that are lent end before the value's block.
 #[test]
-fn a_source_that_fails_once_under_a_placement(rt: HostRuntime) {
+fn a_front_with_too_few_bytes(rt: HostRuntime) {
     let file = made(&rt, fixtures::kqvk_wdl_unpaired(rt.alloc()));
-    let calls = by_front(&rt, &file, 0).source.calls();
-    assert!(rt; calls < 32);
-    let mut opened = by_front(&rt, &file, calls + 1);
+    let front = by_front(&rt, &file);
     let placement = placement(&rt, White, "Ke8 Qa1 kh1");
-    assert!(rt; index_in(opened.front.index(), &placement).is_ok());
-    assert!(rt; opened.source.calls() == calls);
-    let failed = Err(FrontProbeFault::Fetch(FetchFault::Source));
-    assert!(rt; class_of(&rt, &mut opened, &placement) == failed);
-    assert!(rt; class_of(&rt, &mut opened, &placement) == Ok(Some(2)));
-    assert!(rt; opened.source.calls() == calls + 2);
+    let men = PlacedMen::of(&placement);
+    assert!(rt; front.index().kind() == Kind::Wdl);
+    let none = FrontBytes {
+        front: &front,
+        bytes: &[],
+    };
+    assert!(rt; probe_class(none, &men) == Err(Unprobed::Fetch(FetchFault::Source)));
+    let whole = FrontBytes {
+        front: &front,
+        bytes: &file.bytes,
+    };
+    assert!(rt; probe_class(whole, &men) == Ok(Some(2)));
 }
 
 /// A table and its index return this spot for these men.
@@ -224,7 +199,7 @@ fn check_spot(
     let found = index_of(table, &placement);
     let spot = found.map(|spot| (spot.part, spot.side, spot.index));
     assert!(rt; spot == want, "{men}");
-    assert!(rt; index_in(table.index(), &placement) == index_of(table, &placement));
+    assert!(rt; locate(table.index(), &PlacedMen::of(&placement)) == found);
 }
 
 #[test]

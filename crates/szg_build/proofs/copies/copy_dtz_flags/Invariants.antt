@@ -3,4 +3,4 @@ use Rattle.szg_build.proofs.copies.copy_dtz_flags.Given as goal
 
 -- the flags of the subtables so far
 abbrev pub invariant-loop-byte : goal.invariant-loop-byte
-invariant-loop-byte l = l.flags.items ≡ map (λ byte. byte % 32) (take l.byte-index l.byte-items)
+invariant-loop-byte l = l.flags.items ≡ map (λ byte. byte % 32) (take l.byte-index l.bytes)

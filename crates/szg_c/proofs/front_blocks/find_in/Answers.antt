@@ -1,29 +1,31 @@
-use Rattle.std.proofs.Common.{◌∙◌, sym, refl}
-use Rattle.szg_file.specs.Index.{slot_in}
+use Rattle.std.proofs.Common.{◌∙◌, ap, sym, refl}
+use Rattle.std.specs.Prelude.{is_some}
+use Rattle.szg_file.specs.Index.{Index, slot_in}
 use Rattle.szg_file.specs.Unread.{front_at}
 use Rattle.szg_file.specs.Wanted.{wanted_block}
-use Rattle.szg_c.specs.Fronts.{with_slot}
+use Rattle.szg_file.proofs.Openings.LocatedLaws.{wanted_of}
+use Rattle.szg_c.specs.Places.{with_slot}
 use Rattle.szg_c.proofs.FrontBlocks.{range_stated, weaker}
 use Rattle.szg_c.proofs.FrontsStated.{below, missing, there}
 use Rattle.szg_c.proofs.front_blocks.find_in.Goals as goal
 
-pub find-requires : goal.find-requires
-find-requires c = below (slot_in c.args.table.now.index c.args.part c.args.side) c.args.index (sym c.if-not-has_index.false ∙ c.has_index.ensures)
+pub locate-requires : goal.locate-requires
+locate-requires c = below (slot_in c.args.table.now.index c.args.part c.args.side) c.args.index (sym c.if-not-has_index.false ∙ (c.has_index.ensures ∙ ap (λ (x : Index). is_some (with_slot (slot_in x c.args.part c.args.side) c.args.index)) c.index.ensures))
 
 pub returns-then-not-has_index-clause-statuses : goal.returns-then-not-has_index-clause-statuses
 returns-then-not-has_index-clause-statuses c =
-    missing _ _ (with_slot (slot_in c.args.table.now.index c.args.part c.args.side) c.args.index) (sym c.if-not-has_index.true ∙ c.has_index.ensures) refl
+    missing _ _ (with_slot (slot_in c.args.table.now.index c.args.part c.args.side) c.args.index) (sym c.if-not-has_index.true ∙ (c.has_index.ensures ∙ ap (λ (x : Index). is_some (with_slot (slot_in x c.args.part c.args.side) c.args.index)) c.index.ensures)) refl
 
 pub returns-then-not-has_index-clause-found : goal.returns-then-not-has_index-clause-found
 returns-then-not-has_index-clause-found c = λ content front.
-    missing _ _ (with_slot (slot_in c.args.table.now.index c.args.part c.args.side) c.args.index) (sym c.if-not-has_index.true ∙ c.has_index.ensures) tt
+    missing _ _ (with_slot (slot_in c.args.table.now.index c.args.part c.args.side) c.args.index) (sym c.if-not-has_index.true ∙ (c.has_index.ensures ∙ ap (λ (x : Index). is_some (with_slot (slot_in x c.args.part c.args.side) c.args.index)) c.index.ensures)) tt
 
 pub returns-clause-statuses : goal.returns-clause-statuses
 returns-clause-statuses c =
-    there _ _ (with_slot (slot_in c.args.table.now.index c.args.part c.args.side) c.args.index) (sym c.if-not-has_index.false ∙ c.has_index.ensures) (λ slot. refl)
+    there _ _ (with_slot (slot_in c.args.table.now.index c.args.part c.args.side) c.args.index) (sym c.if-not-has_index.false ∙ (c.has_index.ensures ∙ ap (λ (x : Index). is_some (with_slot (slot_in x c.args.part c.args.side) c.args.index)) c.index.ensures)) (λ slot. refl)
 
 pub returns-clause-found : goal.returns-clause-found
 returns-clause-found c = λ content front.
-    there _ _ (with_slot (slot_in c.args.table.now.index c.args.part c.args.side) c.args.index) (sym c.if-not-has_index.false ∙ c.has_index.ensures)
-    (λ slot. weaker (front_at c.args.table.now.index.material c.args.table.now.index.kind content c.args.part c.args.side) _ _ (c.find.ensures.wanted content front)
-    (λ found wanted. range_stated c.find.result (wanted_block found.1 c.args.index) content c.raw_range.result wanted c.raw_range.ensures))
+    there _ _ (with_slot (slot_in c.args.table.now.index c.args.part c.args.side) c.args.index) (sym c.if-not-has_index.false ∙ (c.has_index.ensures ∙ ap (λ (x : Index). is_some (with_slot (slot_in x c.args.part c.args.side) c.args.index)) c.index.ensures))
+    (λ slot. weaker (front_at c.args.table.now.index.material c.args.table.now.index.kind content c.args.part c.args.side) _ _ (wanted_of c.locate.result _ c.locate.ensures c.range.result c.range.ensures.wanted content front)
+    (λ found wanted. range_stated c.range.result (wanted_block found.1 c.args.index) content c.raw_range.result wanted c.raw_range.ensures))

@@ -2,7 +2,7 @@ use Rattle.std.proofs.Common.{◌∙◌, ℕ, List, Option, IfSome, sym, subst}
 use Rattle.szg_file.specs.FrontTable.{FrontKept, IsFrontOf}
 use Rattle.szg_file.specs.Index.{slot_in}
 use Rattle.szg_c.specs.FrontBlocks.{IsFoundRange}
-use Rattle.szg_c.specs.Fronts.{with_slot}
+use Rattle.szg_c.specs.Places.{with_slot}
 use Rattle.szg_c.proofs.front_blocks.szg_front_find.Goals as goal
 
 pub returns-clause-found : goal.returns-clause-found

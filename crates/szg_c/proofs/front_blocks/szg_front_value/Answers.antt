@@ -2,7 +2,8 @@ use Rattle.std.proofs.Common.{◌≡◌, ◌∙◌, ℕ, List, Option, IfSome, s
 use Rattle.szg_file.specs.FrontTable.{FrontKept, IsFrontOf}
 use Rattle.szg_file.specs.Index.{slot_in}
 use Rattle.szg_c.specs.FrontBlocks.{IsBlockOf, IsLengthReported, IsSpelledIn}
-use Rattle.szg_c.specs.Fronts.{IsGot, with_slot}
+use Rattle.szg_c.specs.Fronts.{IsGot}
+use Rattle.szg_c.specs.Places.{with_slot}
 use Rattle.szg_c.proofs.front_blocks.szg_front_value.Goals as goal
 
 pub returns-clause-length : goal.returns-clause-length

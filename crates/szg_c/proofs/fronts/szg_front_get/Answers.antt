@@ -1,7 +1,8 @@
 use Rattle.std.proofs.Common.{◌∙◌, Option, IfSome, sym, subst}
 use Rattle.szg_file.specs.FrontTable.{FrontKept, IsFrontOf}
 use Rattle.szg_file.specs.Index.{slot_in}
-use Rattle.szg_c.specs.Fronts.{IsGot, with_slot}
+use Rattle.szg_c.specs.Fronts.{IsGot}
+use Rattle.szg_c.specs.Places.{with_slot}
 use Rattle.szg_c.proofs.fronts.szg_front_get.Goals as goal
 
 pub returns-clause-got : goal.returns-clause-got

@@ -3,8 +3,8 @@ use Rattle.szg_values.specs.declared.Kind.{Kind}
 use Rattle.szg_file.specs.declared.fault.ReadFault.{ReadFault}
 use Rattle.szg_file.specs.Format.{verdict}
 use Rattle.szg_file.specs.File.{file}
-use Rattle.szg_file.specs.WholeRead.{IsVerdict}
-use Rattle.szg_c.specs.Reported.{Finds, Refuses}
+use Rattle.szg_file.specs.WholeRead.{IsVerdict, Refuses}
+use Rattle.szg_c.specs.Reported.{Finds}
 use Rattle.szg_c.proofs.opening.open.Goals as goal
 
 pub returns-in-Ok-clause-table : goal.returns-in-Ok-clause-table

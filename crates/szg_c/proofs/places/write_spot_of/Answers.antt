@@ -3,7 +3,7 @@ use Rattle.std.specs.Prelude.{Option, Some, None, IsNone, IfSome, MatchResult, R
 use Rattle.szg_place.specs.declared.Spot.{Spot}
 use Rattle.szg_place.specs.declared.PlaceFault.{PlaceFault}
 use Rattle.szg_place.specs.Spots.{place_fault, spot_of}
-use Rattle.szg_place.specs.Tables.{numbering_of}
+use Rattle.szg_place.specs.Tables.{numbering_in}
 use Rattle.szg_c.specs.declared.places.FoundSpot.{FoundSpot}
 use Rattle.szg_c.specs.Places.{IsSpot, spot_unless}
 use Rattle.szg_c.proofs.places.write_spot_of.Goals as goal
@@ -16,5 +16,5 @@ written_is (Some f) spot found written before r s is = cc
 
 pub returns-in-Ok : goal.returns-in-Ok
 returns-in-Ok c =
-    let l = numbering_of c.args.table.now.contents in let board = c.args.placement.now in let f = c.in-Ok.found in
+    let l = numbering_in c.args.index.now in let board = c.args.placement.now in let f = c.in-Ok.found in
     written_is (place_fault l board) (spot_of l board) f (record { part = f.part; side = f.side; index = f.index }) c.args.spot.now c.in-Ok.ensures.refused c.in-Ok.ensures.spot (refl, refl, refl)

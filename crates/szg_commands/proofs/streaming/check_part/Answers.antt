@@ -8,9 +8,9 @@ use Rattle.szg_commands.proofs.streaming.check_part.Goals as goal
 pub returns : goal.returns
 returns g c =
     let request = c.args.request.now in
-    let read = c.in_ok-stated.ensures.table in
+    let read = c.in_ok-scanned.ensures.table in
     let t = read.0 in
-    let sized = size_read c.in_ok-stated.stated.0 t c.size-size.result request.part request.side read.2 read.1.accepted c.size-size.ensures in
+    let sized = size_read c.in_ok-scanned.scanned.index t c.size-size.result request.part request.side read.2 read.1.accepted c.size-size.ensures in
     record {
       refused = λ refusal is. inr (record {
         placed = ap unplaced_refusal c.requires.values;

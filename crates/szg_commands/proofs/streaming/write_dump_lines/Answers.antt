@@ -1,6 +1,6 @@
 use Rattle.std.proofs.Common.{ℕ, List, sym, ap, subst}
 use Rattle.szg_values.specs.declared.Kind.{Kind}
-use Rattle.szg_file.specs.Checked.{IsTable}
+use Rattle.szg_file.specs.WholeRead.{IsTable}
 use Rattle.szg_build.specs.Shown.{form_of}
 use Rattle.szg_build.specs.Text.{dump_text}
 use Rattle.szg_commands.specs.Answers.{IsAnswer}

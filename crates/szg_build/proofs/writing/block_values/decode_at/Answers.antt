@@ -5,6 +5,7 @@ use Rattle.szg_block.specs.Block.{block_at, block_values, needed}
 use Rattle.szg_block.specs.Expansion.{needed_values}
 use Rattle.szg_block.specs.Layout.{Layout}
 use Rattle.szg_block.specs.Subtable.{layout_from}
+use Rattle.szg_block.proofs.Reading.{block_whole}
 use Rattle.szg_block.proofs.Values.{start-more}
 use Rattle.szg_build.specs.BlockValues.{values_on}
 use Rattle.szg_build.proofs.Writers.StoredLaws.{values_next}
@@ -14,7 +15,13 @@ pub decode_block-requires-clause-spelled : goal.decode_block-requires-clause-spe
 decode_block-requires-clause-spelled c =
     let sound = rw c.in-Pairs.is at c.requires.at.sound in
     let there = rw c.in-Pairs.is at c.requires.there in
-    rw (c.in-Pairs.is, c.block_of-block.ensures.block, c.deref.ensures.value) (sound.words c.args.n there)
+    rw (c.in-Pairs.is, c.block_of-block.ensures, c.deref.ensures.value) (sound.words c.args.n there)
+
+pub decode_block-requires-clause-whole : goal.decode_block-requires-clause-whole
+decode_block-requires-clause-whole c =
+    let shaped = rw c.in-Pairs.is at c.requires.at.shaped in
+    let there = rw c.in-Pairs.is at c.requires.there in
+    rw (c.in-Pairs.is, c.block_of-block.ensures, c.deref.ensures.value) (block_whole c.in-Pairs.block_bits c.in-Pairs.packed.items c.in-Pairs.blocks shaped.1 c.args.n there)
 
 pub overflow_add-result : goal.overflow_add-result
 overflow_add-result c = omega (arith, c.requires.at.few)
@@ -29,7 +36,7 @@ returns-clause-values c =
     let there = rw c.in-Pairs.is at c.requires.there in
     let decoded = rw c.in-Pairs.is at c.in_ok-decode_block.ensures in
     let block : c.block_of-block.result.now ≡ block_at c.in-Pairs.block_bits c.in-Pairs.packed.items c.args.n =
-    c.block_of-block.ensures.block ∙ ap (λ (z : List ℕ). block_at c.in-Pairs.block_bits z c.args.n) c.deref.ensures.value in
+    c.block_of-block.ensures ∙ ap (λ (z : List ℕ). block_at c.in-Pairs.block_bits z c.args.n) c.deref.ensures.value in
     let here : c.decode_block.new.values.items ≡ needed_values layout c.in-Pairs.packed.items c.args.size c.args.n =
     decoded
     ∙ ap (λ (z : List ℕ). z ++ take (needed layout.lengths c.args.size c.args.n) (block_values layout c.block_of-block.result.now)) c.clear.ensures.items

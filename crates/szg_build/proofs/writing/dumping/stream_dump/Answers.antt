@@ -1,7 +1,7 @@
 use Rattle.std.proofs.Common.{◌≡◌, true, sym, ap, ◌∙◌}
 use Rattle.szg_file.specs.Index.{Index, index_of}
 use Rattle.szg_file.specs.Streaming.{wanted_of}
-use Rattle.szg_file.proofs.Readers.StreamedRead.{table_read}
+use Rattle.szg_file.proofs.Readers.StreamedRead.{file_taken}
 use Rattle.szg_build.specs.Streaming.{Goes}
 use Rattle.szg_build.specs.declared.writing.dump_sink.DumpSink.{DumpSink}
 use Rattle.szg_build.proofs.Texts.OwnDumps.{own_dump}
@@ -16,22 +16,23 @@ returns-clause-dumped g c =
     let sink : DumpSink = c.in_ok-sink.sink in
     let material : c.copy-material.result ≡ x.material = c.copy-material.ensures ∙ c.material.ensures in
     let kind : c.kind.result ≡ x.kind = c.kind.ensures in
-    let read = table_read g.R.Input all_wanted (λ s out values s' out'. Goes g.W.Output values s out s' out') c.copy-material.result c.kind.result c.args.input.now c.stream_values.new.input sink c.begin_dump.new.output c.stream_values.new.sink c.stream_values.new.out c.in-Ok.stated c.in-Ok.ensures.streamed in
+    let read = c.in-Ok.ensures.scanned in
     let t = read.table in
+    let is_valid = read.read.table in
     let yes : c.has_same_front.result ≡ true = c.if-not-has_same_front.false in
     let is : x ≡ index_of t.contents =
-    same_index x (index_of t.contents) (sym (read.is_valid.material_is ∙ material)) (sym (read.is_valid.kind_is ∙ kind))
+    same_index x (index_of t.contents) (sym (is_valid.material_is ∙ material)) (sym (is_valid.kind_is ∙ kind))
     (sym (c.has_same_front.ensures.parts yes) ∙ ap (λ (y : Index). y.parts) read.index_is)
     (sym (c.has_same_front.ensures.flags yes) ∙ ap (λ (y : Index). y.flags) read.index_is)
     (sym (c.has_same_front.ensures.maps yes) ∙ ap (λ (y : Index). y.maps) read.index_is) in
     let ends : c.args.last.now ≡ t.contents.last = sym (c.has_same_front.ensures.last yes) ∙ read.last_is in
-    let goes = accepted_goes g.W.Output (wanted_of all_wanted t.contents) sink c.begin_dump.new.output c.stream_values.new.sink c.stream_values.new.out read.accepted in (
+    let goes = accepted_goes g.W.Output (wanted_of all_wanted t.contents) sink c.begin_dump.new.output c.scan.new.sink c.scan.new.out read.accepted in (
       t,
-      record { material_is = read.is_valid.material_is ∙ material; kind_is = read.is_valid.kind_is ∙ kind; accepted = read.is_valid.accepted },
+      record { material_is = is_valid.material_is ∙ material; kind_is = is_valid.kind_is ∙ kind; accepted = is_valid.accepted },
       is,
-      read.taken,
+      file_taken g.R.Input c.copy-material.result c.kind.result c.args.input.now c.scan.new.input t read.read,
       own_dump t.contents,
       own_dump_is t,
-      streamed_text g.W.Output c.args.form x c.args.last.now t sink c.stream_values.new.sink c.args.output.now c.begin_dump.new.output c.stream_values.new.out c.end_dump.new.output
-          c.in_ok-sink.ensures.index c.in_ok-sink.ensures.begun c.in_ok-sink.ensures.given goes c.in_ok-end_dump.ensures.given is ends read.is_valid.accepted,
+      streamed_text g.W.Output c.args.form x c.args.last.now t sink c.scan.new.sink c.args.output.now c.begin_dump.new.output c.scan.new.out c.end_dump.new.output
+          c.in_ok-sink.ensures.index c.in_ok-sink.ensures.begun c.in_ok-sink.ensures.given goes c.in_ok-end_dump.ensures.given is ends is_valid.accepted,
     )

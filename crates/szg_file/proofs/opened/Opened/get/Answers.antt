@@ -48,7 +48,7 @@ look_up-requires g c =
     let sized : c.slot.inside.size ≡ c.in-Some.found.slot.size = ap (λ (s : Slot). s.size) c.slot.view_is in
     let turned : IsReady held.sub c.in-Some.found.slot.size (count_of c.select_blocks.new.self) (λ n. bytes_at (g.S.Source.content c.select_blocks.new.self.source) (c.select_blocks.new.self.at + n * size_of c.select_blocks.new.self) (size_of c.select_blocks.new.self)) =
     flipped_ready c.in-Some.found.slot content _ held.sub held.first c.select_blocks.new.self.at c.block_count.result (count_of c.select_blocks.new.self) c.block_bytes.result (size_of c.select_blocks.new.self)
-    kept.is_valid kept.fits.inside c.block_count.ensures c.block_bytes.ensures.bytes (ap (g.S.Source.content) c.select_blocks.ensures.source) c.select_blocks.ensures.first c.select_blocks.ensures.count c.select_blocks.ensures.size in
+    kept.is_valid kept.fits.inside c.block_count.ensures.blocks c.block_bytes.ensures.bytes (ap (g.S.Source.content) c.select_blocks.ensures.source) c.select_blocks.ensures.first c.select_blocks.ensures.count c.select_blocks.ensures.size in
     let ready : IsReady held.sub c.slot.inside.size (count_of c.select_blocks.new.self) (λ n. bytes_at (g.S.Source.content c.select_blocks.new.self.source) (c.select_blocks.new.self.at + n * size_of c.select_blocks.new.self) (size_of c.select_blocks.new.self)) =
     subst (λ (k : ℕ). IsReady held.sub k (count_of c.select_blocks.new.self) (λ n. bytes_at (g.S.Source.content c.select_blocks.new.self.source) (c.select_blocks.new.self.at + n * size_of c.select_blocks.new.self) (size_of c.select_blocks.new.self))) (sym sized) turned in
     let below : c.args.i < c.in-Some.found.slot.size = subst (λ (o : Option (Slot × Subtable)). IfSome o (λ found. c.args.i < found.0.size)) kept.is c.requires.below in
@@ -88,7 +88,7 @@ returns-clause-value g c =
     let got = subst (λ (k : ℕ). slice_get (values_over held.sub (packed_blocks (λ n. bytes_at (g.S.Source.content c.select_blocks.new.self.source) (c.select_blocks.new.self.at + n * size_of c.select_blocks.new.self) (size_of c.select_blocks.new.self)) (count_of c.select_blocks.new.self)) k c.constant_value-constant.result) c.args.i ≡ Some c.in_ok-value.value) sized c.in_ok-value.ensures.value in
     subst (λ (o : Option (Slot × Subtable)). IfSome o (λ found. item (values_of kind found) c.args.i ≡ Some c.in_ok-value.value)) (sym kept.is)
     (flipped_value kind c.in-Some.found.slot content _ held.sub held.first c.select_blocks.new.self.at c.block_count.result (count_of c.select_blocks.new.self) c.block_bytes.result (size_of c.select_blocks.new.self)
-    c.constant_value-constant.result c.args.i c.in_ok-value.value c.block_count.ensures c.block_bytes.ensures.bytes (ap (g.S.Source.content) c.select_blocks.ensures.source) c.select_blocks.ensures.first c.select_blocks.ensures.count c.select_blocks.ensures.size constant_is got)
+    c.constant_value-constant.result c.args.i c.in_ok-value.value c.block_count.ensures.blocks c.block_bytes.ensures.bytes (ap (g.S.Source.content) c.select_blocks.ensures.source) c.select_blocks.ensures.first c.select_blocks.ensures.count c.select_blocks.ensures.size constant_is got)
 
 pub returns-clause-requested : goal.returns-clause-requested
 returns-clause-requested g c =

@@ -1,16 +1,18 @@
-use Rattle.std.proofs.Common.{◌≡◌, ap, List, Ok, Err, refl}
+use Rattle.std.proofs.Common.{◌≡◌, ◌∙◌, ap, arith, length, map, List, Ok, Err, refl}
 use Rattle.std.proofs.lemmas.Result.{err_from_is_err_and}
 use Rattle.szg_values.specs.declared.Kind.{Kind}
 use Rattle.szg_values.specs.Material.{Sides}
-use Rattle.szg_file.specs.Contents.{slots}
+use Rattle.szg_file.specs.Contents.{Slot, slots}
 use Rattle.szg_file.specs.File.{Begun, begun, each, sparse_field, lengths_field}
 use Rattle.szg_file.specs.FilePieces.{Opened, opened, opening_field, measured_field}
 use Rattle.szg_file.specs.Format.{Format, means, ◌>>=◌}
 use Rattle.szg_file.specs.FrontRead.{front_read}
 use Rattle.szg_file.specs.Unread.{FrontRead}
+use Rattle.szg_file.specs.Values.{slotted}
 use Rattle.szg_file.proofs.Grammar.EachLaws.{then-then}
 use Rattle.szg_file.proofs.Openings.FrontLaws.{after_opening}
 use Rattle.szg_file.proofs.Readers.ReadingLaws.{reads_then, reads_stopped, reads_nothing}
+use Rattle.szg_file.proofs.Readers.StreamedTables.{slot_of, slotted_begun}
 use Rattle.szg_file.proofs.Readers.Taken.{reads_equal}
 use Rattle.szg_file.proofs.reading.read_front.read_front.Goals as goal
 
@@ -55,3 +57,16 @@ returns-clause-front g c =
     (reads_then (measured_field list) (made o) (λ measured. measured.items) front_read c.in_ok-measured.measured
     (reads_equal (measured_field c.in_ok-byte4.field-0.heads.items) (measured_field list) (λ measured. measured.items) (Ok c.in_ok-measured.measured) (ap measured_field at) c.in_ok-measured.ensures.lengths)
     (reads_nothing _ front_read _ refl)))
+
+pub returns-clause-slotted : goal.returns-clause-slotted
+returns-clause-slotted g c = λ subs many.
+    let m : Sides = c.args.material.now in
+    let k : Kind = c.args.kind in
+    let o : Opened = opened c.in_ok-byte4.field-0 in
+    let at = c.in_ok-byte4.ensures.begun in
+    ap (λ (l : List Slot). slotted l subs) c.in_ok-measured.ensures.slots
+    ∙ ap (λ (l : List Begun). slotted (map slot_of l) subs) at
+    ∙ slotted_begun (slots m k o.parts) o.heads subs (many ∙ c.in_ok-measured.ensures.count ∙ ap (λ (l : List Begun). length l) at)
+
+pub returns-clause-grown : goal.returns-clause-grown
+returns-clause-grown g c = omega (arith, c.in_ok-byte4.ensures.grown, c.in_ok-measured.ensures.grown, c.in_ok-measured.ensures.count)

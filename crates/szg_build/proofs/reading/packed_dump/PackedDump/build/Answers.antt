@@ -1,11 +1,11 @@
-use Rattle.std.proofs.Common.{◌≡◌, ◌⊎◌, None, Some, map, subst}
+use Rattle.std.proofs.Common.{◌≡◌, ◌⊎◌, None, Some, map, refl, subst}
 use Rattle.std.specs.Prelude.{IfOk}
 use Rattle.szg_build.specs.Chosen.{plan_by, IsBuiltAs, IsCodedTable, ToBuild}
 use Rattle.szg_build.specs.Packed.{gathered_dump}
 use Rattle.szg_build.specs.Plan.{build_fault}
 use Rattle.szg_build.specs.Rule.{byte4_for, constant_for, constant_in}
 use Rattle.szg_build.specs.declared.BuildFault.TheVariants as fault
-use Rattle.szg_build.proofs.Builders.PackedLaws.{built_as_chosen, coded_as_chosen}
+use Rattle.szg_build.proofs.Builders.PackedLaws.{built_as_chosen, coded_as_chosen, plan_choice}
 use Rattle.szg_build.proofs.Builders.SubLaws.{if_ok}
 use Rattle.szg_build.proofs.Builders.TableLaws.{constants_are}
 use Rattle.szg_build.proofs.reading.packed_dump.PackedDump.build.Goals as goal
@@ -22,8 +22,8 @@ pub returns-clause-built : goal.returns-clause-built
 returns-clause-built g c =
     let dump = gathered_dump c.self.inside.gathered in
     let choice = c.self.inside.choice in
-    subst (λ (z : ToBuild). IfOk c.build_gathered-built.result (λ t. IsBuiltAs z.choice z.dump t.contents)) c.self.view_is
-    (if_ok c.build_gathered-built.result (λ t h. built_as_chosen choice dump t.contents h) c.build_gathered-built.ensures.built)
+    subst (λ (z : ToBuild). IfOk c.build_gathered-built.result (λ t. IsBuiltAs z.choice (plan_by z.choice z.dump) z.dump.lists t.contents)) c.self.view_is
+    (if_ok c.build_gathered-built.result (λ t h. built_as_chosen choice (plan_by choice dump) dump.lists t.contents (plan_choice choice (plan_by choice dump) refl refl refl) h) c.build_gathered-built.ensures.built)
 
 pub returns-clause-byte4 : goal.returns-clause-byte4
 returns-clause-byte4 g c =

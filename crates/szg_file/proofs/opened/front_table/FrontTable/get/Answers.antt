@@ -1,67 +1,37 @@
-use Rattle.std.proofs.Common.{◌≡◌, ◌∙◌, ℕ, length, ap, sym, arith}
 use Rattle.szg_block.specs.BlocksTrait.{bytes_at}
-use Rattle.szg_values.specs.declared.Kind.{Kind}
-use Rattle.szg_file.specs.Lookup.{byte_of}
-use Rattle.szg_file.specs.Values.{constant_value}
-use Rattle.szg_file.specs.FrontTable.{FrontKept}
-use Rattle.szg_file.proofs.Openings.FrontFinds.{spot_inside, spot_fits, spot_taken, spot_requested, constant_requested, constant_decoded, value_decoded, bad_named, ok_both, err_both}
+use Rattle.szg_file.specs.Unread.{front_at}
+use Rattle.szg_file.specs.Wanted.{wanted_block}
+use Rattle.szg_file.specs.declared.opened.fetching.ByteRange.{ByteRange}
+use Rattle.szg_file.proofs.Openings.FrontFinds.{given_wanted, none_wanted, ok_both, err_both, some_wanted}
+use Rattle.szg_file.proofs.Openings.LocatedLaws.{fault_of, value_of, wanted_of}
 use Rattle.szg_file.proofs.opened.front_table.FrontTable.get.Goals as goal
 
 pub returns-in_default-clause-value : goal.returns-in_default-clause-value
-returns-in_default-clause-value g c = λ h.
-    let found = c.slotted-found.ensures.front (g.S.Source.content c.args.source.now) h in
-    rw (found, ← ap (λ (k : FrontKept). k.index.kind) c.self.view_is)
-    (constant_decoded c.self.inside.index.kind c.slotted-found.result.slot (g.S.Source.content c.args.source.now) c.slotted-found.result.placed.now.sub c.slotted-found.result.placed.now.first c.args.i _ c.in_default.ensures.none (c.constant_value.ensures ∙ ap (λ (k : Kind). constant_value k (byte_of c.slotted-found.result.placed.now.sub)) c.kind.ensures))
+returns-in_default-clause-value c = λ h.
+    let bytes = c.args.bytes.now in let at = c.locate-located.result in let e = c.locate-located.ensures in let r = c.decode.result in
+    let o = front_at c.args.self.now.index.material c.args.self.now.index.kind bytes c.args.part c.args.side in
+    let none = none_wanted o (λ found. wanted_block found.1 c.args.i) c.range.result _ _ c.in_default.is (wanted_of at _ e c.range.result c.range.ensures.wanted bytes h) in
+    ok_both r _ _ _ c.decode.ensures.value c.decode.ensures.value (λ value decoded again. given_wanted o _ _ none (value_of at _ e _ value decoded bytes h))
 
-pub returns-in_default-clause-requested : goal.returns-in_default-clause-requested
-returns-in_default-clause-requested g c = λ h.
-    let found = c.slotted-found.ensures.front (g.S.Source.content c.args.source.now) h in
-    rw found (constant_requested (g.S.Source.content c.args.source.now) c.slotted-found.result.placed.now.sub c.slotted-found.result.placed.now.first _ c.in_default.ensures.none)
-
-pub slice_bounds-block-end : goal.slice_bounds-block-end
-slice_bounds-block-end g c =
-    spot_fits c.slotted-found.result.placed.now.sub c.slotted-found.result.placed.now.first c.args.i c.args.self.now.room c.in-Some.spot c.args.buffer.now c.in-Some.ensures.spot c.slotted-found.ensures.roomy c.requires.room
-
-pub slice_bounds-block-end-2 : goal.slice_bounds-block-end-2
-slice_bounds-block-end-2 g c =
-    sym (spot_taken c.slotted-found.result.placed.now.sub c.slotted-found.result.placed.now.first c.args.i c.args.self.now.room c.in-Some.spot c.args.buffer.now c.in-Some.ensures.spot c.slotted-found.ensures.roomy c.requires.room)
-
-pub returns-in_err-read_block-clause-failed : goal.returns-in_err-read_block-clause-failed
-returns-in_err-read_block-clause-failed g c = λ h is.
-    let long = spot_taken c.slotted-found.result.placed.now.sub c.slotted-found.result.placed.now.first c.args.i c.args.self.now.room c.in-Some.spot c.args.buffer.now c.in-Some.ensures.spot c.slotted-found.ensures.roomy c.requires.room in
-    let within = spot_inside c.slotted-found.result.placed.now.sub c.slotted-found.result.placed.now.first c.args.i (length (g.S.Source.content c.args.source.now)) c.in-Some.spot c.in-Some.ensures.spot (omega (arith, c.slotted-found.ensures.inside, h.long)) in
-    c.in_err-read_block.ensures.failed (omega (arith, within, long))
-
-pub returns-in_err-read_block-clause-requested : goal.returns-in_err-read_block-clause-requested
-returns-in_err-read_block-clause-requested g c = λ h.
-    let long = spot_taken c.slotted-found.result.placed.now.sub c.slotted-found.result.placed.now.first c.args.i c.args.self.now.room c.in-Some.spot c.args.buffer.now c.in-Some.ensures.spot c.slotted-found.ensures.roomy c.requires.room in
-    let found = c.slotted-found.ensures.front (g.S.Source.content c.args.source.now) h in
-    rw found (spot_requested (g.S.Source.content c.args.source.now) c.slotted-found.result.placed.now.sub c.slotted-found.result.placed.now.first c.args.i _ _ _ c.in-Some.spot c.in-Some.ensures.spot c.in_err-read_block.ensures.requested long)
-
-pub value_at-requires-clause-whole : goal.value_at-requires-clause-whole
-value_at-requires-clause-whole g c =
-    c.read_block.auto.block ∙ spot_taken c.slotted-found.result.placed.now.sub c.slotted-found.result.placed.now.first c.args.i c.args.self.now.room c.in-Some.spot c.args.buffer.now c.in-Some.ensures.spot c.slotted-found.ensures.roomy c.requires.room
+pub returns-in_default-clause-fault : goal.returns-in_default-clause-fault
+returns-in_default-clause-fault c = λ h.
+    let bytes = c.args.bytes.now in let at = c.locate-located.result in let e = c.locate-located.ensures in let r = c.decode.result in
+    let o = front_at c.args.self.now.index.material c.args.self.now.index.kind bytes c.args.part c.args.side in
+    let none = none_wanted o (λ found. wanted_block found.1 c.args.i) c.range.result _ _ c.in_default.is (wanted_of at _ e c.range.result c.range.ensures.wanted bytes h) in
+    err_both r _ _ _ c.decode.ensures.fault c.decode.ensures.fault (λ fault named again. given_wanted o _ _ none (fault_of at _ e _ fault named bytes h))
 
 pub returns-clause-value : goal.returns-clause-value
-returns-clause-value g c = λ h.
-    let long = spot_taken c.slotted-found.result.placed.now.sub c.slotted-found.result.placed.now.first c.args.i c.args.self.now.room c.in-Some.spot c.args.buffer.now c.in-Some.ensures.spot c.slotted-found.ensures.roomy c.requires.room in
-    let found = c.slotted-found.ensures.front (g.S.Source.content c.args.source.now) h in
-    let read : c.read_block.new.block ≡ bytes_at (g.S.Source.content c.args.source.now) c.in-Some.spot.offset c.in-Some.spot.count = c.in_ok-read_block.ensures.block ∙ ap (λ (k : ℕ). bytes_at (g.S.Source.content c.args.source.now) c.in-Some.spot.offset k) long in
-    ok_both c.value_at.result _ _ _ c.value_at.ensures.verified c.value_at.ensures.value (λ value verified stated.
-    rw found
-    (value_decoded c.args.self.now.index.kind c.slotted-found.result.slot (g.S.Source.content c.args.source.now) c.slotted-found.result.placed.now.sub c.slotted-found.result.placed.now.first c.args.i value c.in-Some.spot c.read_block.new.block c.in-Some.ensures.spot read verified stated))
+returns-clause-value c = λ h.
+    let bytes = c.args.bytes.now in let at = c.locate-located.result in let e = c.locate-located.ensures in let r = c.decode-2.result in
+    let o = front_at c.args.self.now.index.material c.args.self.now.index.kind bytes c.args.part c.args.side in
+    let some = some_wanted o (λ found. wanted_block found.1 c.args.i) c.range.result c.in-Some.range (λ (w : ByteRange). bytes_at bytes w.offset w.count) c.in-Some-bytes_from.block.now c.in-Some.is c.in-Some-bytes_from.ensures.there
+    (wanted_of at _ e c.range.result c.range.ensures.wanted bytes h) in
+    ok_both r _ _ _ c.decode-2.ensures.value c.decode-2.ensures.value (λ value decoded again. given_wanted o _ _ some (value_of at _ e _ value decoded bytes h))
 
 pub returns-clause-fault : goal.returns-clause-fault
-returns-clause-fault g c = λ h.
-    let long = spot_taken c.slotted-found.result.placed.now.sub c.slotted-found.result.placed.now.first c.args.i c.args.self.now.room c.in-Some.spot c.args.buffer.now c.in-Some.ensures.spot c.slotted-found.ensures.roomy c.requires.room in
-    let found = c.slotted-found.ensures.front (g.S.Source.content c.args.source.now) h in
-    let read : c.read_block.new.block ≡ bytes_at (g.S.Source.content c.args.source.now) c.in-Some.spot.offset c.in-Some.spot.count = c.in_ok-read_block.ensures.block ∙ ap (λ (k : ℕ). bytes_at (g.S.Source.content c.args.source.now) c.in-Some.spot.offset k) long in
-    err_both c.value_at.result _ _ _ c.value_at.ensures.fault c.value_at.ensures.bad (λ fault is bad other.
-    rw found
-    (bad_named c.slotted-found.result.slot (g.S.Source.content c.args.source.now) c.slotted-found.result.placed.now.sub c.slotted-found.result.placed.now.first c.args.i c.in-Some.spot c.read_block.new.block fault c.in-Some.ensures.spot read is bad))
-
-pub returns-clause-requested : goal.returns-clause-requested
-returns-clause-requested g c = λ h.
-    let long = spot_taken c.slotted-found.result.placed.now.sub c.slotted-found.result.placed.now.first c.args.i c.args.self.now.room c.in-Some.spot c.args.buffer.now c.in-Some.ensures.spot c.slotted-found.ensures.roomy c.requires.room in
-    let found = c.slotted-found.ensures.front (g.S.Source.content c.args.source.now) h in
-    rw found (spot_requested (g.S.Source.content c.args.source.now) c.slotted-found.result.placed.now.sub c.slotted-found.result.placed.now.first c.args.i _ _ _ c.in-Some.spot c.in-Some.ensures.spot c.in_ok-read_block.ensures.requested long)
+returns-clause-fault c = λ h.
+    let bytes = c.args.bytes.now in let at = c.locate-located.result in let e = c.locate-located.ensures in let r = c.decode-2.result in
+    let o = front_at c.args.self.now.index.material c.args.self.now.index.kind bytes c.args.part c.args.side in
+    let some = some_wanted o (λ found. wanted_block found.1 c.args.i) c.range.result c.in-Some.range (λ (w : ByteRange). bytes_at bytes w.offset w.count) c.in-Some-bytes_from.block.now c.in-Some.is c.in-Some-bytes_from.ensures.there
+    (wanted_of at _ e c.range.result c.range.ensures.wanted bytes h) in
+    err_both r _ _ _ c.decode-2.ensures.fault c.decode-2.ensures.fault (λ fault named again. given_wanted o _ _ some (fault_of at _ e _ fault named bytes h))

@@ -35,6 +35,5 @@ returns c =
       index = known.1;
       inside = omega (arith, found.fits.inside, own.long);
       short = own.short;
-      roomy = found.fits.roomy;
       front = λ content h. (one_front_found c.args.self.now c.slots.result.now c.deref.result.now c.args.part c.args.side placed subs content h slot sub c.in-Some.ensures).is;
     }

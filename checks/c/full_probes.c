@@ -1,0 +1,215 @@
+/* Compares full probing: the answers of `szg probe FOLDER.. -`, Fathom's and Stockfish's, and the solver's.
+ *
+ *     full_probes draw SEED ALL <NAME.positions >EXPECTED      a line "FEN<tab>class<tab>dtz" for each position that was solved
+ *     full_probes compare TABLES ANSWERS STOCKFISH EXPECTED
+ *
+ * draw: each position is turned or flipped at random (ALL 0), or in all mirror images with both colors (ALL 1), and has a
+ * fifty-move counter, which is 0 for half of them.
+ * compare: ANSWERS has szg's lines, STOCKFISH a line "class dtz" for each. Fathom, which is linked, probes the tables in the
+ * folder TABLES: class, DTZ, and each move's class and DTZ with the counter. szg's best move has to be one of Fathom's best.
+ * Further fields of szg's lines, "uci class dtz", are compared move by move. The solver's DTZ may be one ply off where tables
+ * count moves. Prints each difference up to twenty, and a line of counts. Status 0 without differences, 1 with some, 2 if
+ * something is missing. */
+#include <ctype.h>
+#include <stdio.h>
+#include <stdlib.h>
+#include <string.h>
+#include <tbprobe.h>
+
+enum { MEN = 6, NO_SQUARE = 64, SHOWN = 20, LINE = 1 << 14 };
+struct question { int count, mover, passed, counter, class, dtz, square[MEN]; char letter[MEN]; };
+static long asked, passing, passing_only, passing_wins, mates, stalemates, moves_compared, differences;
+static const char LETTERS[] = "PNBRQK";
+
+/* ---- drawing */
+static void write_line(const struct question *q)
+{
+    char board[64] = {0}, passed[3] = "-";
+    for (int i = 0; i < q->count; i++) board[q->square[i]] = q->letter[i];
+    for (int rank = 7; rank >= 0; rank--) {
+        int empty = 0;
+        for (int file = 0; file < 8; file++) {
+            char man = board[rank * 8 + file];
+            if (!man) { empty++; continue; }
+            if (empty) putchar('0' + empty);
+            putchar(man), empty = 0;
+        }
+        if (empty) putchar('0' + empty);
+        putchar(rank ? '/' : ' ');
+    }
+    if (q->passed != NO_SQUARE) passed[0] = (char)('a' + (q->passed & 7)), passed[1] = (char)('1' + (q->passed >> 3));
+    printf("%c - %s %d 1\t%d\t%d\n", "wb"[q->mover], passed, q->counter, q->class, q->dtz);
+}
+
+/* Flips files (1), ranks (2), files with ranks (4); the bit 8 exchanges the colors, for which the ranks are flipped too. */
+static struct question flipped(const struct question *q, int flips)
+{
+    struct question r = *q;
+    int mask = (flips & 1 ? 7 : 0) | (!(flips & 2) == !(flips & 8) ? 0 : 56);
+    for (int i = 0; i < q->count; i++) {
+        r.square[i] ^= mask;
+        if (flips & 4) r.square[i] = (r.square[i] & 7) * 8 + r.square[i] / 8;
+        if (flips & 8) r.letter[i] ^= 32;
+    }
+    if (q->passed != NO_SQUARE) r.passed ^= mask;
+    if (flips & 8) r.mover = !q->mover;
+    return r;
+}
+
+static int draw(int seed, int all)
+{
+    char line[256], mover;
+    srand((unsigned)seed);
+    while (fgets(line, sizeof line, stdin)) {
+        struct question q = {0}, r;
+        int read, has_pawns = 0;
+        if (sscanf(line, "%c %d %d %d%n", &mover, &q.passed, &q.class, &q.dtz, &read) != 4) return 2;
+        q.mover = mover == 'b';
+        for (const char *word = line + read; q.count < MEN && sscanf(word, " %c%d%n", &q.letter[q.count], &q.square[q.count], &read) == 2; word += read)
+            has_pawns |= toupper((unsigned char)q.letter[q.count]) == 'P', q.count++;
+        for (int drawn = rand() & 15, flips = 0; flips < 16; flips++) {
+            if (!all && flips != (has_pawns ? drawn & 9 : drawn)) continue;
+            if (has_pawns && flips & 6) continue;
+            r = flipped(&q, flips);
+            r.counter = rand() & 1 ? rand() % 100 : 0;
+            write_line(&r);
+        }
+    }
+    return 0;
+}
+
+/* ---- comparing */
+static void differ(const char *fen, const char *who, long class, long dtz, long due_class, long due_dtz)
+{
+    if (differences++ < SHOWN) printf("%s: %s: class %ld, dtz %ld; szg: class %ld, dtz %ld\n", fen, who, class, dtz, due_class, due_dtz);
+}
+
+static struct question read_fen(const char *fen)
+{
+    struct question q = {.passed = NO_SQUARE};
+    int rank = 7, file = 0;
+    for (; *fen != ' '; fen++) {
+        if (*fen == '/') { rank--, file = 0; continue; }
+        if (isdigit((unsigned char)*fen)) { file += *fen - '0'; continue; }
+        q.letter[q.count] = *fen, q.square[q.count++] = rank * 8 + file++;
+    }
+    q.mover = fen[1] == 'b';
+    const char *passed = fen + 5;
+    if (*passed != '-') q.passed = passed[0] - 'a' + 8 * (passed[1] - '1');
+    q.counter = atoi(strchr(passed, ' ') + 1);
+    return q;
+}
+
+static int class_at(int counter, int dtz) { return dtz > 0 ? (dtz + counter <= 100 ? 2 : 1) : dtz < 0 ? (-dtz + counter <= 100 ? -2 : -1) : 0; }
+
+static void uci_of(unsigned result, char *out)
+{
+    unsigned from = TB_GET_FROM(result), to = TB_GET_TO(result), promotes = TB_GET_PROMOTES(result);
+    sprintf(out, "%c%d%c%d", 'a' + from % 8, from / 8 + 1, 'a' + to % 8, to / 8 + 1);
+    if (promotes) out[4] = "\0qrbn"[promotes], out[5] = 0;
+}
+
+/* The signed DTZ of a move of Fathom: its sign is that of its class. */
+static int dtz_of(unsigned result) { int class = (int)TB_GET_WDL(result) - 2, dtz = (int)TB_GET_DTZ(result); return class < 0 ? -dtz : dtz; }
+
+/* Wins by the least DTZ first, then draws, then losses by the greatest. */
+static long rank_of(int dtz) { return dtz > 0 ? dtz : dtz == 0 ? 10000 : 40000 + dtz; }
+
+static void compare_moves(const char *fen, const unsigned *results, char *best, char *more)
+{
+    long least = 1 << 30, own = -1;
+    char uci[8];
+    int count = 0, szg_count = 0;
+    for (const unsigned *r = results; *r != TB_RESULT_FAILED; r++, count++) {
+        uci_of(*r, uci);
+        if (rank_of(dtz_of(*r)) < least) least = rank_of(dtz_of(*r));
+        if (!strcmp(uci, best)) own = rank_of(dtz_of(*r));
+    }
+    if (count == 0 ? strcmp(best, "-") : own != least) differ(fen, "best move of Fathom", least, own, 0, 0);
+    for (char *field = more ? strtok(more, "\t") : NULL; field; field = strtok(NULL, "\t"), szg_count++) {
+        int class, dtz, found = 0;
+        char move[8];
+        if (sscanf(field, "%7s %d %d", move, &class, &dtz) != 3) { differ(fen, field, 0, 0, 0, 0); continue; }
+        for (const unsigned *r = results; *r != TB_RESULT_FAILED; r++) {
+            uci_of(*r, uci);
+            if (strcmp(uci, move)) continue;
+            found = 1, moves_compared++;
+            if (class != (int)TB_GET_WDL(*r) - 2 || dtz != dtz_of(*r)) {
+                char text[64];
+                sprintf(text, "Fathom's move %s", uci);
+                differ(fen, text, (long)TB_GET_WDL(*r) - 2, dtz_of(*r), class, dtz);
+            }
+        }
+        if (!found) differ(fen, move, 0, 0, class, dtz);
+    }
+    if (more && szg_count != count) differ(fen, "number of moves", count, 0, szg_count, 0);
+}
+
+static void ask_fathom(const char *fen, int class, int dtz, char *best, char *more)
+{
+    struct question q = read_fen(fen);
+    uint64_t colors[2] = {0, 0}, kinds[6] = {0};
+    for (int i = 0; i < q.count; i++) {
+        colors[!!islower((unsigned char)q.letter[i])] |= 1ull << q.square[i];
+        kinds[strchr(LETTERS, toupper((unsigned char)q.letter[i])) - LETTERS] |= 1ull << q.square[i];
+    }
+    unsigned results[TB_MAX_MOVES], ep = q.passed == NO_SQUARE ? 0 : (unsigned)q.passed;
+    results[0] = TB_RESULT_FAILED;
+    unsigned wdl = tb_probe_wdl(colors[0], colors[1], kinds[5], kinds[4], kinds[3], kinds[2], kinds[1], kinds[0], 0, 0, ep, !q.mover);
+    if (q.counter == 0 && (int)wdl - 2 != class) differ(fen, "Fathom in WDL", (long)wdl - 2, 0, class, dtz);
+    unsigned root = tb_probe_root(colors[0], colors[1], kinds[5], kinds[4], kinds[3], kinds[2], kinds[1], kinds[0], (unsigned)q.counter, 0, ep, !q.mover, results);
+    if (root == TB_RESULT_CHECKMATE || root == TB_RESULT_STALEMATE) {
+        int is_mate = root == TB_RESULT_CHECKMATE;
+        (*(is_mate ? &mates : &stalemates))++;
+        if (class != (is_mate ? -2 : 0) || dtz != (is_mate ? -1 : 0) || strcmp(best, "-")) differ(fen, is_mate ? "mate" : "stalemate", 0, 0, class, dtz);
+        return;
+    }
+    if (root == TB_RESULT_FAILED) { differ(fen, "Fathom has no answer", 9, 9, class, dtz); return; }
+    int due = (int)TB_GET_DTZ(root), root_class = (int)TB_GET_WDL(root) - 2;
+    if (root_class < 0) due = -due;
+    if (root_class != class || due != dtz || class_at(q.counter, due) != class) differ(fen, "Fathom at the root", root_class, due, class, dtz);
+    compare_moves(fen, results, best, more);
+    if (q.passed != NO_SQUARE) {
+        int by_passing = 0, others = 0, wins = 0;
+        for (unsigned *r = results; *r != TB_RESULT_FAILED; r++)
+            if (TB_GET_EP(*r)) by_passing++, wins |= TB_GET_WDL(*r) > TB_DRAW; else others++;
+        passing += by_passing > 0, passing_only += by_passing && !others, passing_wins += wins;
+    }
+}
+
+static int compare(char **words)
+{
+    static char line[LINE], stockfish[256], expected[512];
+    FILE *answers = fopen(words[1], "r"), *others = fopen(words[2], "r"), *due = fopen(words[3], "r");
+    if (!answers || !others || !due || !tb_init(words[0])) return perror("full_probes"), 2;
+    while (fgets(expected, sizeof expected, due)) {
+        int class, dtz, solver_class, solver_dtz, other_class, other_dtz;
+        if (!fgets(line, sizeof line, answers) || !fgets(stockfish, sizeof stockfish, others)) return fprintf(stderr, "full_probes: too few answers\n"), 2;
+        line[strcspn(line, "\n")] = 0;
+        char *fen = line, *tab = strchr(line, '\t'), best[8] = "?";
+        if (!tab) return fprintf(stderr, "full_probes: no tab: %s\n", line), 2;
+        *tab++ = 0;
+        asked++;
+        size_t length = strlen(fen);
+        if (strncmp(expected, fen, length) || expected[length] != '\t') return fprintf(stderr, "full_probes: other FEN: %s\n", fen), 2;
+        if (sscanf(tab, "%d\t%d\t%7[^\t]", &class, &dtz, best) != 3) { differ(fen, tab, 0, 0, 0, 0); continue; }
+        char *more = tab;
+        for (int i = 0; i < 3 && more; i++) if ((more = strchr(more, '\t'))) more++;
+        if (sscanf(expected + length, "\t%d\t%d", &solver_class, &solver_dtz) != 2) return 2;
+        int counter = read_fen(fen).counter, is_late = solver_class == 1 || solver_class == -1;
+        if (abs(dtz - solver_dtz) > is_late || (counter == 0 && class != solver_class)) differ(fen, "the solver", solver_class, solver_dtz, class, dtz);
+        if (sscanf(stockfish, "%d %d", &other_class, &other_dtz) != 2 || other_dtz != dtz || (counter == 0 && other_class != class))
+            differ(fen, "Stockfish", other_class, other_dtz, class, dtz);
+        ask_fathom(fen, class, dtz, best, more);
+    }
+    printf("%ld positions (%ld with a capture en passant, %ld without another move, %ld won by it; %ld mates, %ld stalemates), %ld moves: %ld differences\n",
+           asked, passing, passing_only, passing_wins, mates, stalemates, moves_compared, differences);
+    return differences ? 1 : 0;
+}
+
+int main(int count, char **words)
+{
+    if (count == 4 && !strcmp(words[1], "draw")) return draw(atoi(words[2]), atoi(words[3]));
+    if (count == 6 && !strcmp(words[1], "compare")) return compare(words + 2);
+    return fprintf(stderr, "full_probes draw SEED ALL | compare TABLES ANSWERS STOCKFISH EXPECTED\n"), 2;
+}

@@ -1,0 +1,292 @@
+/* What szg.h says of uses at the edge: when SZG_CHANGED comes, a share of a handle with itself, moved and assigned handles, the
+ * stack that calls use, a map whose file is truncated: stated DATA. DATA is the folder of sample tables. The status is 0 if all
+ * is as stated. */
+#define _GNU_SOURCE
+#include "szg.h"
+#include <malloc.h>
+#include <pthread.h>
+#include <signal.h>
+#include <stdio.h>
+#include <stdlib.h>
+#include <string.h>
+#include <sys/mman.h>
+#include <sys/resource.h>
+#include <sys/stat.h>
+#include <sys/wait.h>
+#include <fcntl.h>
+#include <unistd.h>
+
+enum { KB = 1024, STACK = 1 << 20, READING = 56 * KB, OTHERS = 8 * KB, STEP = 97 };
+
+struct sample {
+    const char *file, *name;
+    bool dtz;
+};
+static const struct sample samples[] = {
+    {"knvk_wdl_constant.rtbw", "KNvK", false}, {"kqvk_wdl_unpaired.rtbw", "KQvK", false},
+    {"kqvk_wdl_paired.rtbw", "KQvK", false}, {"kpvk_dtz_mapped.rtbz", "KPvK", true},
+};
+
+static const struct sample *sample;
+static uint8_t *bytes;
+static size_t length;
+static szg_table table;
+static szg_front front;
+static szg_answer answer;
+
+static void want(const char *what, uint64_t found, uint64_t due) {
+    if (found == due) return;
+    fprintf(stderr, "stated: %s: %s is %llu, not %llu\n", sample->file, what, (unsigned long long)found, (unsigned long long)due);
+    exit(1);
+}
+
+static void read_sample(const char *folder) {
+    char path[4096];
+    snprintf(path, sizeof path, "%s/%s", folder, sample->file);
+    FILE *file = fopen(path, "rb");
+    if (!file) perror(path), exit(2);
+    fseek(file, 0, SEEK_END);
+    length = (size_t)ftell(file);
+    rewind(file);
+    bytes = malloc(length);
+    want("the number of bytes", fread(bytes, 1, length, file), length);
+    fclose(file);
+}
+
+static uint32_t open_table(szg_table *into) {
+    return szg_open(sample->name, strlen(sample->name), sample->dtz, bytes, length, into, &answer);
+}
+
+static uint32_t open_front(szg_front *into) {
+    return szg_open_front(sample->name, strlen(sample->name), sample->dtz, bytes, length, into, &answer);
+}
+
+/* ---- SZG_CHANGED */
+
+/* `count` bytes have no byte to spare for the value: with one less it is SZG_CHANGED, unless none is needed. */
+static void attempt_lengths(uint8_t part, uint8_t side, uint64_t index) {
+    szg_byte_range range = {7, 7};
+    szg_bad_block bad = {7, 7};
+    uint16_t value = 0, due = 0;
+    want("a value of the table", szg_get(&table, part, side, index, &due), SZG_DONE);
+    want("a range", szg_front_find(&front, part, side, index, &range), SZG_DONE);
+    size_t end = range.offset + range.count;
+    want("with enough bytes", szg_front_get(&front, bytes, end, part, side, index, &value, &bad), SZG_DONE);
+    want("a value", value, due);
+    szg_man men[SZG_MAX_MEN];
+    size_t count;
+    uint8_t mover;
+    want("a placement", szg_front_placement(&front, part, side, index, men, SZG_MAX_MEN, &count, &mover), SZG_DONE);
+    int64_t outcome = 0, outcome_due = 0;
+    uint32_t probed = szg_probe(&table, men, count, mover, 2, &outcome_due);
+    want("a probe with enough bytes", szg_front_probe(&front, bytes, end, men, count, mover, 2, &outcome, &bad), probed);
+    want("an outcome", (uint64_t)outcome, (uint64_t)outcome_due);
+    if (range.count == 0) {
+        want("a constant value of no bytes", szg_front_value(&front, part, side, index, bytes, 0, &value, &bad), SZG_DONE);
+        want("a constant value of many bytes", szg_front_value(&front, part, side, index, bytes, length, &value, &bad), SZG_DONE);
+        return;
+    }
+    value = 7, outcome = 7;
+    want("with a byte too few", szg_front_get(&front, bytes, end - 1, part, side, index, &value, &bad), SZG_CHANGED);
+    want("a probe with a byte too few", szg_front_probe(&front, bytes, end - 1, men, count, mover, 2, &outcome, &bad), SZG_CHANGED);
+    want("a value after a refusal", value, 7);
+    want("an outcome after a refusal", (uint64_t)outcome, 7);
+    for (int more = -1; more <= 1; more += 2)
+        want("a block of another length", szg_front_value(&front, part, side, index, bytes + range.offset, range.count + (size_t)more, &value, &bad), SZG_CHANGED);
+}
+
+static void attempt_changed(void) {
+    want("open", open_table(&table), SZG_DONE);
+    want("open front", open_front(&front), SZG_DONE);
+    for (uint8_t slot = 0; slot < 8; slot++) {
+        uint64_t size = 0;
+        if (szg_front_size(&front, slot / 2, slot % 2, &size) != SZG_DONE) continue;
+        for (uint64_t index = 0; index < size; index += STEP) attempt_lengths(slot / 2, slot % 2, index);
+    }
+}
+
+/* ---- Handles */
+
+static void share_with_itself(void) {
+    szg_table one = SZG_NO_TABLE;
+    szg_front other = SZG_NO_FRONT;
+    uint16_t value;
+    uint64_t size;
+    want("open", open_table(&one), SZG_DONE);
+    want("a share with itself", szg_share(&one, &one), SZG_CLOSED);
+    want("a value after it", szg_get(&one, 0, 0, 0, &value), SZG_CLOSED);
+    want("open front", open_front(&other), SZG_DONE);
+    want("a share of a front with itself", szg_share_front(&other, &other), SZG_CLOSED);
+    want("a size after it", szg_front_size(&other, 0, 0, &size), SZG_CLOSED);
+}
+
+/* A handle is copied, and the first one assigned: the second one holds the table. */
+static void move_handles(void) {
+    szg_table one = SZG_NO_TABLE, second = SZG_NO_TABLE;
+    szg_front other = SZG_NO_FRONT;
+    uint16_t value;
+    uint64_t size;
+    want("open", open_table(&one), SZG_DONE);
+    second = one;
+    one = SZG_NO_TABLE;
+    szg_close(&one);
+    want("a value of a handle that was moved", szg_get(&second, 0, 0, 0, &value), SZG_DONE);
+    szg_close(&second);
+    want("open front", open_front(&other), SZG_DONE);
+    szg_front moved = other;
+    other = SZG_NO_FRONT;
+    szg_close_front(&other);
+    want("a size of a front that was moved", szg_front_size(&moved, 0, 0, &size), SZG_DONE);
+    szg_close_front(&moved);
+}
+
+/* Both, often: the memory of no table stays. */
+static void attempt_handles(void) {
+    enum { TIMES = 100 };
+    size_t before = 0;
+    for (int i = 0; i < 2 * TIMES; i++) {
+        if (i == TIMES) before = mallinfo2().uordblks;
+        share_with_itself();
+        move_handles();
+    }
+    want("whether memory stays", mallinfo2().uordblks - before < TIMES, true);
+}
+
+/* ---- The stack */
+
+static uint16_t *values;
+static uint64_t size_of_all;
+
+static void nothing(void) {}
+static void check(void) { want("check", szg_check(sample->name, strlen(sample->name), sample->dtz, bytes, length, &answer), SZG_DONE); }
+static void size(void) { want("size", szg_size(sample->name, strlen(sample->name), sample->dtz, bytes, length, 0, 0, &size_of_all, &answer), SZG_DONE); }
+static void all_values(void) { want("values", szg_values(sample->name, strlen(sample->name), sample->dtz, bytes, length, 0, 0, values, size_of_all, &answer), SZG_DONE); }
+static void one_value(void) {
+    uint64_t index = size_of_all - 1;
+    want("values at", szg_values_at(sample->name, strlen(sample->name), sample->dtz, bytes, length, 0, 0, &index, 1, values, 1, &answer), SZG_DONE);
+}
+static void open_again(void) { want("open", open_table(&table), SZG_DONE); }
+static void open_front_again(void) { want("open front", open_front(&front), SZG_DONE); }
+static void all(void) { want("all", szg_all(&table, 0, 0, values, size_of_all), SZG_DONE); }
+
+static void look_up(void) {
+    szg_table second = SZG_NO_TABLE;
+    szg_front other = SZG_NO_FRONT;
+    szg_share(&table, &second), szg_share_front(&front, &other);
+    for (uint64_t i = 0; i < size_of_all; i += STEP) {
+        uint16_t value;
+        uint32_t number;
+        int64_t outcome;
+        uint8_t mover;
+        size_t count;
+        szg_byte_range range;
+        szg_bad_block bad;
+        szg_spot spot;
+        szg_man men[SZG_MAX_MEN];
+        want("get", szg_get(&second, 0, 0, i, &value), SZG_DONE);
+        want("front get", szg_front_get(&other, bytes, length, 0, 0, i, &value, &bad), SZG_DONE);
+        want("front find", szg_front_find(&other, 0, 0, i, &range), SZG_DONE);
+        want("front value", szg_front_value(&other, 0, 0, i, bytes + range.offset, range.count, &value, &bad), SZG_DONE);
+        want("placement", szg_placement(&second, 0, 0, i, men, SZG_MAX_MEN, &count, &mover), SZG_DONE);
+        want("front placement", szg_front_placement(&other, 0, 0, i, men, SZG_MAX_MEN, &count, &mover), SZG_DONE);
+        want("index", szg_index(&second, men, count, mover, &spot), SZG_DONE);
+        want("front index", szg_front_index(&other, men, count, mover, &spot), SZG_DONE);
+        szg_probe(&second, men, count, mover, 2, &outcome), szg_front_probe(&other, bytes, length, men, count, mover, 2, &outcome, &bad);
+        szg_number(&second, 0, 2, value, &number), szg_front_number(&other, 0, 2, value, &number);
+    }
+    char text[SZG_TEXT_SIZE];
+    szg_version(text, sizeof text), szg_status_text(SZG_DONE, text, sizeof text), szg_reason_text(SZG_WORD, text, sizeof text);
+    szg_close(&second), szg_close_front(&other);
+}
+
+static void *run(void *call) {
+    (*(void (**)(void))call)();
+    return NULL;
+}
+
+/* The bytes of a stack that a call uses, with those of a thread. */
+static size_t used_by(void (*call)(void)) {
+    uint8_t *stack = mmap(NULL, STACK, PROT_READ | PROT_WRITE, MAP_PRIVATE | MAP_ANONYMOUS, -1, 0);
+    memset(stack, 0xa5, STACK);
+    pthread_attr_t settings;
+    pthread_t thread;
+    pthread_attr_init(&settings);
+    want("a stack", (uint64_t)pthread_attr_setstack(&settings, stack, STACK), 0);
+    want("a thread", (uint64_t)pthread_create(&thread, &settings, run, &call), 0);
+    pthread_join(thread, NULL);
+    size_t unused = 0;
+    while (unused < STACK && stack[unused] == 0xa5) unused++;
+    munmap(stack, STACK);
+    return STACK - unused;
+}
+
+static void attempt_stacks(void) {
+    size_t least = used_by(nothing);
+    want("size", szg_size(sample->name, strlen(sample->name), sample->dtz, bytes, length, 0, 0, &size_of_all, &answer), SZG_DONE);
+    values = malloc(2 * size_of_all);
+    void (*const reading[])(void) = {check, size, all_values, one_value, open_again, open_front_again};
+    for (size_t i = 0; i < sizeof reading / sizeof *reading; i++) {
+        size_t used = used_by(reading[i]) - least;
+        want("whether a call that reads a table uses less than 56 KB of stack", used < READING, true);
+    }
+    void (*const others[])(void) = {all, look_up};
+    for (size_t i = 0; i < sizeof others / sizeof *others; i++)
+        want("whether another call uses less than 8 KB of stack", used_by(others[i]) - least < OTHERS, true);
+    free(values);
+}
+
+/* ---- A map whose file is truncated */
+
+/* A child's status after a look-up in a map whose file was truncated. */
+static int status_of_truncated(int file) {
+    pid_t child = fork();
+    if (child == 0) {
+        struct rlimit none = {0, 0};
+        setrlimit(RLIMIT_CORE, &none);
+        uint16_t value;
+        szg_bad_block bad;
+        uint8_t *map = mmap(NULL, length, PROT_READ, MAP_SHARED, file, 0);
+        szg_front opened = SZG_NO_FRONT;
+        if (szg_open_front(sample->name, strlen(sample->name), sample->dtz, map, length, &opened, &answer) != SZG_DONE) _exit(1);
+        if (szg_front_get(&opened, map, length, 0, 0, 0, &value, &bad) != SZG_DONE || ftruncate(file, 0) != 0) _exit(1);
+        szg_front_get(&opened, map, length, 0, 0, 0, &value, &bad);
+        _exit(0);
+    }
+    int status = 0;
+    waitpid(child, &status, 0);
+    return status;
+}
+
+static void attempt_truncated(void) {
+    char path[] = "/tmp/stated-XXXXXX";
+    int file = mkstemp(path);
+    want("a file", file >= 0, true);
+    unlink(path);
+    want("its bytes", (uint64_t)pwrite(file, bytes, length, 0), length);
+    szg_byte_range range;
+    want("a range", szg_front_find(&front, 0, 0, 0, &range), SZG_DONE);
+    int status = status_of_truncated(file);
+    want("the signal of a look-up by the map", WIFSIGNALED(status) ? (uint64_t)WTERMSIG(status) : 0, range.count ? SIGBUS : 0);
+    /* a caller who reads the bytes sees that they are fewer */
+    uint8_t block[256 * KB];
+    uint16_t value;
+    szg_bad_block bad;
+    ssize_t count = pread(file, block, range.count, (off_t)range.offset);
+    want("a look-up by reading", szg_front_value(&front, 0, 0, 0, block, (size_t)count, &value, &bad), range.count ? SZG_CHANGED : SZG_DONE);
+    close(file);
+}
+
+int main(int count, char **words) {
+    if (count != 2) return fprintf(stderr, "stated DATA\n"), 64;
+    for (size_t i = 0; i < sizeof samples / sizeof *samples; i++) {
+        sample = &samples[i];
+        read_sample(words[1]);
+        attempt_changed();
+        attempt_stacks();
+        attempt_handles();
+        attempt_truncated();
+        szg_close(&table), szg_close_front(&front);
+        free(bytes);
+    }
+    return 0;
+}

@@ -1,0 +1,137 @@
+"""What the Python scripts of this repository share: its folder and program, builds and compilers, lies of checks/lies/, and the
+count of what was compared. With --help a script prints the text that it begins with."""
+import os
+import stat
+import subprocess
+import sys
+from pathlib import Path
+from typing import Any, BinaryIO, Dict, Iterable, List, Union
+
+import __main__
+
+ROOT = Path(__file__).resolve().parent.parent
+BUILT = ROOT / "crates/szg_tool/out/szg_tool"
+# PROGRAM is the program that is tried, by default the one that is built here.
+PROGRAM = Path(os.environ.get("PROGRAM") or BUILT)
+CC = os.environ.get("CC", "cc")
+COMMANDS = ["check", "show", "get", "values", "copy", "dump", "build", "index", "probe", "placement"]
+# The sample tables: material, kind, file in data/, and a placement of its men.
+SAMPLES = [
+    ("KNvK", "wdl", "knvk_wdl_constant.rtbw", "w Kb1 Na1 kc1"),
+    ("KQvK", "wdl", "kqvk_wdl_unpaired.rtbw", "w Ke8 Qa1 kh1"),
+    ("KQvK", "wdl", "kqvk_wdl_paired.rtbw", "b Ke8 Qa1 kh1"),
+    ("KPvK", "dtz", "kpvk_dtz_mapped.rtbz", "w Ke1 Pa2 ke8"),
+]
+# The last sixteen bytes of a made table.
+LAST = bytes(range(16))
+Word = Union[str, bytes, Path]
+
+if sys.argv[1:2] in (["-h"], ["--help"]) and ROOT in Path(sys.argv[0]).resolve().parents:
+    print(__main__.__doc__)
+    sys.exit()
+
+
+def sample(file: str) -> bytes:
+    return (ROOT / "data" / file).read_bytes()
+
+
+def need_program() -> None:
+    """Builds the program if it is missing or older than its sources. Ends the script if that fails, or PROGRAM can't be run."""
+    if PROGRAM == BUILT:
+        need("szg_tool")
+    elif not os.access(PROGRAM, os.X_OK):
+        sys.exit(f"PROGRAM is {PROGRAM}, which can't be run")
+
+
+def need(*targets: str) -> None:
+    """Builds targets of tools/build. Ends the script if one can't be built."""
+    if subprocess.run([ROOT / "tools/build", *targets]).returncode:
+        sys.exit(f"{', '.join(targets)}: not built")
+
+
+def run(data: bytes, *words: Word) -> "tuple[int, bytes]":
+    """The program's status and standard output for words and an input."""
+    ran = subprocess.run([PROGRAM, *words], input=data, capture_output=True)
+    return ran.returncode, ran.stdout
+
+
+def full_device() -> BinaryIO:
+    """The device that takes no byte, open for writing; never a file of its name, which a careless writer may have left."""
+    device = os.open("/dev/full", os.O_WRONLY)
+    if not stat.S_ISCHR(os.fstat(device).st_mode):
+        sys.exit("/dev/full is no device on this machine: nothing can be said of full outputs")
+    return os.fdopen(device, "wb")
+
+
+def wdl_dump(name: str, men: str, lists: Iterable[Iterable[int]]) -> bytes:
+    """The dump of a WDL table with the values of each side, in form 1."""
+    lines = ["szg-dump 1", f"name {name}", "kind wdl", f"end {LAST.hex()}", f"part a order 00 men {men}"]
+    for side, values in enumerate([*one] for one in lists):
+        lines += [f"sub a {side}", f"values {len(values)}", *map(str, values)]
+    return "\n".join([*lines, ""]).encode()
+
+
+def compile_c(program: Path, *words: Word) -> Path:
+    """Compiles C sources, which may be paths of the repository, with more words of the compiler."""
+    found = [ROOT / word if isinstance(word, str) and word.endswith(".c") else word for word in words]
+    subprocess.run([CC, "-O2", "-Wall", "-Wextra", f"-I{ROOT / 'bindings'}", "-o", program, *found], check=True)
+    return program
+
+
+class Checks:
+    """Counts what is compared, and prints each difference; with `only_first` the script ends at the first one."""
+
+    def __init__(self, only_first: bool = False) -> None:
+        self.only_first, self.count, self.faults = only_first, 0, 0
+
+    def same(self, what: object, found: Any, due: Any) -> None:
+        self.count += 1
+        if found != due:
+            self.fault(f"{what}: {shortened(found)}, not {shortened(due)}")
+
+    def fault(self, text: object) -> None:
+        self.faults += 1
+        print(text, flush=True)
+        if self.only_first:
+            sys.exit(1)
+
+    def end(self, text: str) -> None:
+        """Prints the closing line and ends the script: with status 1 if something differs."""
+        print(f"{text}, {self.faults} wrong")
+        sys.exit(1 if self.faults else 0)
+
+
+def shortened(answer: Any) -> Any:
+    if isinstance(answer, tuple):
+        return tuple(map(shortened, answer))
+    return answer[:300] + b".." if isinstance(answer, bytes) and len(answer) > 300 else answer
+
+
+# ---- Lies: what a check must notice
+
+Lie = Dict[str, str]
+
+
+def read_lies(path: Path) -> List[Lie]:
+    """The lies of a file: paragraphs of lines `NAME: TEXT`. A line `| TEXT` is the next line of the text before it."""
+    lies: List[Lie] = [{}]
+    name = ""
+    for line in path.read_text(encoding="utf-8").splitlines():
+        if not line:
+            lies.append({})
+        elif line.startswith("| ") or line == "|":
+            lies[-1][name] += "\n" + line[2:]
+        elif not line.startswith("#"):
+            name, _, text = line.partition(": ")
+            lies[-1][name.rstrip(":")] = text
+            name = name.rstrip(":")
+    return [lie for lie in lies if lie]
+
+
+def plant(folder: Path, lie: Lie) -> None:
+    """Changes a file below a folder as a lie says. Ends the script if the old text isn't there exactly once."""
+    path = folder / lie["file"]
+    text = path.read_text(encoding="utf-8")
+    if text.count(lie["old"]) != 1:
+        sys.exit(f"{lie['lie']}: {lie['file']} has its old text {text.count(lie['old'])} times")
+    path.write_text(text.replace(lie["old"], lie["new"]), encoding="utf-8")

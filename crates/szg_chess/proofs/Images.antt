@@ -1,0 +1,5 @@
+pub mod Geometry
+pub mod Men
+pub mod Moves
+pub mod Counts
+pub mod Positions

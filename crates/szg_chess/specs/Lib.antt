@@ -1,0 +1,10 @@
+pub mod Attacks
+pub mod Position
+pub mod Moves
+pub mod Squares
+pub mod Laws
+pub mod Images
+pub mod Fen
+pub mod Uci
+pub mod San
+pub mod Examples

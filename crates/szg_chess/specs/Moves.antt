@@ -1,0 +1,159 @@
+-- The moves of a position.
+use Rattle.std.specs.Prelude.{ℕ, ◌+◌, ◌/◌, Bool, false, not, ◌&&◌, ◌||◌, ◌==◌, List, [], ◌∷◌, ◌++◌, map, flat_map, filter, length, Option, Some, None, if◌then◌else◌, unwrap_or}
+use Rattle.std.specs.List.{list_any, range_with_len}
+use Rattle.szg_values.specs.Men.{is_man, is_color, other_color, file_of, rank_of, square_at}
+use Rattle.szg_values.specs.Placement.{PlacedMan}
+use Rattle.szg_values.specs.declared.Man.TheVariants.{Pawn, Knight, Bishop, Rook, Queen}
+use Rattle.szg_values.specs.declared.Color.{Color}
+use Rattle.szg_values.specs.declared.Color.TheVariants.{White, Black}
+use Rattle.szg_chess.specs.Attacks.{attacks, is_occupied, is_in_check, is_ahead, files_apart, ranks_apart}
+use Rattle.szg_chess.specs.Position.{Position, is_on}
+use Rattle.szg_chess.specs.declared.Move.{Move}
+
+-- ---- what a man may do, without regard to checks
+
+-- the men of a colour
+abbrev pub men_of : Color → List PlacedMan → List PlacedMan
+men_of color men = filter (λ s. is_color color s.1) men
+
+-- a pawn promotes on the last rank; it never stands on its own first rank
+abbrev pub promotes : PlacedMan → ℕ → Bool
+promotes s to = is_man Pawn s.0 && (rank_of to == 0 || rank_of to == 7)
+
+-- the moves of a man to a square: one; or, for a pawn that promotes, four: to a queen, a rook, a bishop and a knight
+abbrev pub moves_to : PlacedMan → ℕ → List Move
+moves_to s to =
+    if promotes s to
+    then map (λ piece. record { from = s.2; to = to; promotion = Some piece }) (Queen ∷ Rook ∷ Bishop ∷ Knight ∷ [])
+    else record { from = s.2; to = to; promotion = None } ∷ []
+
+-- the moves of a man to a square if it may go there
+abbrev pub moves_if : Bool → PlacedMan → ℕ → List Move
+moves_if may_go s to = if may_go then moves_to s to else []
+
+-- a pawn may capture en passant: it attacks the square that an enemy pawn has just passed over
+abbrev pub may_pass : List PlacedMan → PlacedMan → ℕ → Bool
+may_pass men s square = is_man Pawn s.0 && attacks men s square
+
+abbrev pub en_passant_moves : List PlacedMan → Option ℕ → PlacedMan → List Move
+en_passant_moves men None s = []
+en_passant_moves men (Some square) s = moves_if (may_pass men s square) s square
+
+-- the captures of a man: of each enemy man on a square that it attacks, and en passant
+abbrev pub captures_by : Position → PlacedMan → List Move
+captures_by p s = flat_map (λ t. moves_if (attacks p.placed_men s t.2) s t.2) (men_of (other_color p.mover) p.placed_men)
+    ++ en_passant_moves p.placed_men p.en_passant s
+
+-- the captures of the side to move, in the order of the men
+unfoldable pub captures_of : Position → List Move
+captures_of p = flat_map (captures_by p) (men_of p.mover p.placed_men)
+
+-- White's pawns begin on rank 2, which has the number 1, and Black's on rank 7
+abbrev pub home_rank : Color → ℕ
+home_rank White = 1
+home_rank Black = 6
+
+-- a pawn reaches rank 4 by a double step, which has the number 3, or rank 5 if it is Black's
+abbrev pub double_rank : Color → ℕ
+double_rank White = 3
+double_rank Black = 4
+
+-- the square half-way between two squares, which a double step passes over
+abbrev pub middle : ℕ → ℕ → ℕ
+middle from to = (from + to) / 2
+
+-- a pawn's push: one square straight ahead, or two from its home rank over an empty square (a double step)
+abbrev pub is_push : List PlacedMan → Color → ℕ → ℕ → Bool
+is_push men color from to = files_apart from to == 0
+    && (is_ahead color from to || (rank_of from == home_rank color && rank_of to == double_rank color && not (is_occupied men (middle from to))))
+
+-- a man may go to a square that is empty: a pawn by a push, a piece if it attacks the square
+unfoldable pub may_enter : List PlacedMan → PlacedMan → ℕ → Bool
+may_enter men s to = not (is_occupied men to) && (if is_man Pawn s.0 then is_push men s.1 s.2 to else attacks men s to)
+
+unfoldable pub all_squares : List ℕ
+all_squares = range_with_len 0 64
+
+-- the moves of a man to empty squares, from a1 to h8
+abbrev pub quiet_moves_by : List PlacedMan → PlacedMan → List Move
+quiet_moves_by men s = flat_map (λ to. moves_if (may_enter men s to) s to) all_squares
+
+unfoldable pub quiet_moves_of : Position → List Move
+quiet_moves_of p = flat_map (quiet_moves_by p.placed_men) (men_of p.mover p.placed_men)
+
+-- the moves of the side to move, if checks did not matter: captures, then moves to empty squares
+abbrev pub moves_of : Position → List Move
+moves_of p = captures_of p ++ quiet_moves_of p
+
+-- ---- the position after a move
+
+-- the mover's man on the square is a pawn
+abbrev pub is_pawn_on : Position → ℕ → Bool
+is_pawn_on p square = is_on Pawn p.mover p.placed_men square
+
+abbrev pub is_square : Option ℕ → ℕ → Bool
+is_square None square = false
+is_square (Some other) square = other == square
+
+-- a pawn goes to the square that an enemy pawn has just passed over, from a file beside
+unfoldable pub is_en_passant : Position → Move → Bool
+is_en_passant p m = is_square p.en_passant m.to && files_apart m.from m.to == 1 && is_pawn_on p m.from
+
+-- the square of the man that is captured, if there is one: en passant the square beside the capturing pawn
+abbrev pub captured_square : Position → Move → ℕ
+captured_square p m = if is_en_passant p m then square_at (file_of m.to) (rank_of m.from) else m.to
+
+-- the man that moves is on its new square, promoted if the move says so; every other man stays
+abbrev pub man_after : Move → PlacedMan → PlacedMan
+man_after m s = if s.2 == m.from then (unwrap_or m.promotion s.0, s.1, m.to) else s
+
+-- the men after a move: the captured one is gone
+unfoldable pub men_after : Position → Move → List PlacedMan
+men_after p m = map (man_after m) (filter (λ s. not (s.2 == captured_square p m)) p.placed_men)
+
+-- a double step: a pawn moves two ranks
+abbrev pub is_double_step : Position → Move → Bool
+is_double_step p m = ranks_apart m.from m.to == 2 && is_pawn_on p m.from
+
+unfoldable pub after : Position → Move → Position
+after p m = record {
+  placed_men = men_after p m;
+  mover = other_color p.mover;
+  en_passant = if is_double_step p m then Some (middle m.from m.to) else None;
+}
+
+-- ---- legal moves
+
+-- the mover's king is not attacked after the move
+unfoldable pub is_legal : Position → Move → Bool
+is_legal p m = not (is_in_check (men_after p m) p.mover)
+
+abbrev pub legal_moves : Position → List Move
+legal_moves p = filter (is_legal p) (moves_of p)
+
+-- an enemy man is on the square that the man goes to, or a pawn captures en passant
+abbrev pub is_capture : Position → Move → Bool
+is_capture p m = list_any (λ s. is_color (other_color p.mover) s.1 && s.2 == m.to) p.placed_men || is_en_passant p m
+
+-- a pawn's move or a capture
+abbrev pub is_zeroing : Position → Move → Bool
+is_zeroing p m = is_pawn_on p m.from || is_capture p m
+
+abbrev pub legal_captures : Position → List Move
+legal_captures p = filter (is_legal p) (captures_of p)
+
+abbrev pub is_check : Position → Bool
+is_check p = is_in_check p.placed_men p.mover
+
+abbrev pub has_no_move : Position → Bool
+has_no_move p = length (legal_moves p) == 0
+
+abbrev pub is_mate : Position → Bool
+is_mate p = is_check p && has_no_move p
+
+abbrev pub is_stalemate : Position → Bool
+is_stalemate p = not (is_check p) && has_no_move p
+
+-- some legal move is no capture en passant
+abbrev pub has_move_beside_en_passant : Position → Bool
+has_move_beside_en_passant p = list_any (λ m. not (is_en_passant p m)) (legal_moves p)

@@ -1,0 +1,113 @@
+//! Attacks and checks, by sets of squares: bit n is the square with the number n.
+
+ghost use Rattle.std.specs.Prelude.{◌≡◌, ◌<◌, ◌==◌, ◌&&◌, ◌+◌, if◌then◌else◌};
+ghost use Rattle.std.specs.List.{list_any};
+ghost use Rattle.szg_values.specs.Men.{is_man, is_color, other_color, code_of, file_of, rank_of};
+ghost use Rattle.szg_values.specs.Placement.{AreOnBoard};
+ghost use Rattle.szg_values.specs.declared.Man.TheVariants.{Pawn, King};
+ghost use Rattle.szg_values.specs.declared.Color.TheVariants.{Black};
+ghost use Rattle.szg_chess.specs.Attacks.{distance, files_apart, ranks_apart, is_ahead, is_in_check};
+ghost use Rattle.szg_chess.specs.Squares.{is_in, squares_of, squares_between, reach_of, attacks_past};
+
+use crate::tables::{reach_of, squares_between};
+use szg_values::{Color, Man, Square};
+
+/// Returns the distance between two numbers.
+fn distance(a: u8, b: u8) -> u8
+    ensures { result ≡ distance a b }
+{
+    if a < b { b - a } else { a - b }
+}
+
+/// Returns how many files two squares are apart.
+pub(crate) fn files_apart(a: u8, b: u8) -> u8
+    ensures { result ≡ files_apart a b }
+{
+    distance(a % 8, b % 8)
+}
+
+/// Returns how many ranks two squares are apart.
+pub(crate) fn ranks_apart(a: u8, b: u8) -> u8
+    ensures { result ≡ ranks_apart a b }
+{
+    distance(a / 8, b / 8)
+}
+
+/// Returns whether `to` is one rank ahead of `from`, as this colour's pawns advance.
+pub(crate) fn is_ahead(color: Color, from: u8, to: u8) -> bool
+    requires from { from < 64 }
+    requires to { to < 64 }
+    ensures { result ≡ is_ahead color from to }
+{
+    match color {
+        Color::White => to / 8 == from / 8 + 1,
+        Color::Black => from / 8 == to / 8 + 1,
+    }
+}
+
+/// Returns the other colour.
+pub(crate) fn other_color(color: Color) -> Color
+    ensures { result ≡ other_color color }
+{
+    match color {
+        Color::White => Color::Black,
+        Color::Black => Color::White,
+    }
+}
+
+/// Returns whether a man attacks a square, if the men are on these squares.
+#[tactic(auto, unfolding(crate::specs::Squares::attacks_past))]
+pub(crate) fn attacks_past(occupied: u64, man: &(Man, Color, Square), to: Square) -> bool
+    ensures { result ≡ attacks_past occupied man.now to }
+{
+    is_in(reach_of(man), to.number())
+        && squares_between(man.2.number(), to.number()) & occupied == 0
+}
+
+/// Returns whether a square is in a set.
+pub(crate) fn is_in(squares: u64, square: u8) -> bool
+    requires { square < 64 }
+    ensures { result ≡ is_in squares square }
+{
+    squares >> square & 1 == 1
+}
+
+/// Returns the squares that men are on.
+pub(crate) fn squares_of(men: &[(Man, Color, Square)]) -> u64
+    requires { AreOnBoard men.now }
+    ensures { result ≡ squares_of men.now }
+{
+    let mut squares = 0u64;
+    for man in men {
+        squares |= 1 << man.2.number();
+    }
+    squares
+}
+
+/// Returns whether a colour's king is attacked by the other side, if the men are on these squares.
+pub(crate) fn is_in_check(men: &[(Man, Color, Square)], occupied: u64, color: Color) -> bool
+    requires on_board { AreOnBoard men.now }
+    requires squares { occupied ≡ squares_of men.now }
+    ensures { result ≡ is_in_check men.now color }
+{
+    has_attacked_king(men, occupied, color, other_color(color))
+}
+
+fn has_attacked_king(
+    men: &[(Man, Color, Square)],
+    occupied: u64,
+    color: Color,
+    other: Color,
+) -> bool
+    ensures { result ≡ list_any (λ s. is_man King s.0 && is_color color s.1 && list_any (λ t. is_color other t.1 && attacks_past occupied t s.2) men.now) men.now }
+{
+    men.iter().any(|man| {
+        man.0 == Man::King && man.1 == color && is_attacked(men, occupied, other, man.2)
+    })
+}
+
+fn is_attacked(men: &[(Man, Color, Square)], occupied: u64, color: Color, square: Square) -> bool
+    ensures { result ≡ list_any (λ t. is_color color t.1 && attacks_past occupied t square) men.now }
+{
+    men.iter().any(|man| man.1 == color && attacks_past(occupied, man, square))
+}

@@ -1,0 +1,544 @@
+//! The moves of a position, and the position after a move.
+
+ghost use Rattle.std.specs.Prelude.{ℕ, true, ◌≡◌, ◌≢◌, ◌<◌, ◌≤◌, ◌+◌, ◌==◌, ◌&&◌, ◌||◌, ◌++◌, ◌∷◌, [], not, filter, flat_map, length, IsTrue, Some, None, unwrap_or, if◌then◌else◌, Contains};
+ghost use Rattle.std.specs.List.{All, list_any};
+ghost use Rattle.arrayvec.specs.ArrayVec.{array_vec_len};
+ghost use Rattle.szg_values.specs.Men.{is_man, is_color, other_color, file_of, rank_of, square_at};
+ghost use Rattle.szg_values.specs.Placement.{AreOnBoard};
+ghost use Rattle.szg_chess.specs.Attacks.{attacks, is_occupied, is_in_check};
+ghost use Rattle.szg_chess.specs.Position.{IsPosition};
+ghost use Rattle.szg_chess.specs.Squares.{is_in, is_in_moved, is_attacked_king, squares_of, attacks_past};
+ghost use Rattle.szg_chess.specs.Moves.{men_of, promotes, moves_to, moves_if, may_pass, en_passant_moves, captures_by, captures_of, home_rank, double_rank, is_push, may_enter, quiet_moves_by, quiet_moves_of, moves_of, is_pawn_on, is_square, is_en_passant, captured_square, man_after, men_after, is_double_step, middle, after, is_legal, legal_moves, legal_captures, is_capture, is_zeroing, is_mate, is_stalemate, has_move_beside_en_passant};
+
+use crate::attacks::{attacks_past, files_apart, is_ahead, is_in, other_color, ranks_apart};
+use crate::positions::is_on;
+use crate::{MAX_CAPTURES, MAX_MOVES, Move, Position};
+use arrayvec::ArrayVec;
+use szg_values::{Color, Man, Square};
+
+impl Position {
+    /// Returns the legal captures: exactly the legal moves that capture, in the order of `legal_moves`.
+    pub fn captures(&self) -> ArrayVec<Move, MAX_CAPTURES>
+        ensures list { result.items ≡ legal_captures self.now }
+        ensures all { result.items ≡ filter (is_capture self.now) (legal_moves self.now) }
+        ensures legal { All (Contains (legal_moves self.now)) result.items }
+    {
+        self.captures_fit();
+        let mut moves = ArrayVec::new();
+        self.push_captures(&mut moves);
+        moves
+    }
+
+    /// Returns the legal moves: captures, then moves to empty squares.
+    pub fn legal_moves(&self) -> ArrayVec<Move, MAX_MOVES>
+        ensures { result.items ≡ legal_moves self.now }
+    {
+        self.moves_fit();
+        let mut moves = ArrayVec::new();
+        self.push_captures(&mut moves);
+        self.push_quiet_moves(&mut moves);
+        moves
+    }
+
+    /// Returns the position after a legal move.
+    #[tactic(auto, unfolding(crate::specs::Moves::after))]
+    pub fn after(&self, m: Move) -> Position
+        requires { Contains (legal_moves self.now) m }
+        ensures { result ≡ after self.now m }
+    {
+        let captured = self.captured_square(&m);
+        Position {
+            men: self.men_after(&m, captured),
+            occupied: self.squares_after(&m, captured),
+            mover: other_color(self.mover()),
+            en_passant: self.passed_square(&m),
+        }
+    }
+
+    /// Returns the square that a double step passes over. None if the move is no double step.
+    fn passed_square(&self, m: &Move) -> Option<Square>
+        ensures { result ≡ (if is_double_step self.now m.now then Some (middle m.now.from m.now.to) else None) }
+    {
+        let from = m.from.number();
+        let to = m.to.number();
+        if ranks_apart(from, to) == 2 && self.is_pawn_on(from) {
+            Some(square_of((from + to) / 2))
+        } else {
+            None
+        }
+    }
+
+    /// Returns whether a move is a capture.
+    pub fn is_capture(&self, m: &Move) -> bool
+        ensures { result ≡ is_capture self.now m.now }
+    {
+        let other = other_color(self.mover);
+        is_any_on(other, self.men.as_slice(), m.to.number()) || self.is_en_passant(m)
+    }
+
+    /// Returns whether a move is a pawn's move or a capture.
+    pub fn is_zeroing(&self, m: &Move) -> bool
+        ensures { result ≡ is_zeroing self.now m.now }
+    {
+        self.is_pawn_on(m.from.number()) || self.is_capture(m)
+    }
+
+    /// Returns whether some legal move is no capture en passant. A table knows nothing of these captures, so its value holds
+    /// only where there is such a move, or no capture en passant.
+    pub fn has_move_beside_en_passant(&self) -> bool
+        ensures { result ≡ has_move_beside_en_passant self.now }
+    {
+        let moves = self.legal_moves();
+        moves.as_slice().iter().any(|m| !self.is_en_passant(m))
+    }
+
+    /// Returns whether the side to move is in check and has no move.
+    pub fn is_mate(&self) -> bool
+        ensures { result ≡ is_mate self.now }
+    {
+        self.is_check() && self.legal_moves().is_empty()
+    }
+
+    /// Returns whether the side to move is not in check and has no move.
+    pub fn is_stalemate(&self) -> bool
+        ensures { result ≡ is_stalemate self.now }
+    {
+        !self.is_check() && self.legal_moves().is_empty()
+    }
+
+    // A fact that callers may use: there are few captures.
+    fn captures_fit(&self)
+        ensures few { length (captures_of self.now) ≤ 48 }
+        ensures all { filter (is_capture self.now) (legal_moves self.now) ≡ legal_captures self.now }
+        ensures legal { All (Contains (legal_moves self.now)) (legal_captures self.now) }
+    {
+        let _ = self.men();
+    }
+
+    // A fact that callers may use: there are few moves.
+    fn moves_fit(&self)
+        ensures { length (captures_of self.now) + length (quiet_moves_of self.now) ≤ 116 }
+    {
+        let _ = self.men();
+    }
+
+    /// Appends the legal captures.
+    #[tactic(auto, unfolding(crate::specs::Moves::captures_of))]
+    fn push_captures<const CAP: usize>(&self, moves: &mut ArrayVec<Move, CAP>)
+        requires { array_vec_len moves.old + length (captures_of self.now) ≤ CAP }
+        ensures { moves.new.items ≡ moves.old.items ++ filter (is_legal self.now) (captures_of self.now) }
+    {
+        for man in self.men() {
+            if self.is_own(man) {
+                self.push_captures_by(moves, man);
+            }
+        }
+    }
+
+    /// Appends the legal captures of a man.
+    fn push_captures_by<const CAP: usize>(
+        &self,
+        moves: &mut ArrayVec<Move, CAP>,
+        man: &(Man, Color, Square),
+    )
+        requires standing { Contains self.now.placed_men man.now }
+        requires own { is_color self.now.mover man.now.1 ≡ true }
+        requires room { array_vec_len moves.old + length (captures_by self.now man.now) ≤ CAP }
+        ensures { moves.new.items ≡ moves.old.items ++ filter (is_legal self.now) (captures_by self.now man.now) }
+    {
+        self.push_captures_of_men(moves, man);
+        self.push_en_passant(moves, man);
+    }
+
+    /// Appends the legal captures of enemy men on squares that a man attacks.
+    fn push_captures_of_men<const CAP: usize>(
+        &self,
+        moves: &mut ArrayVec<Move, CAP>,
+        man: &(Man, Color, Square),
+    )
+        requires standing { Contains self.now.placed_men man.now }
+        requires own { is_color self.now.mover man.now.1 ≡ true }
+        requires room { array_vec_len moves.old + length (flat_map (λ t. moves_if (attacks self.now.placed_men man.now t.2) man.now t.2) (men_of (other_color self.now.mover) self.now.placed_men)) ≤ CAP }
+        ensures { moves.new.items ≡ moves.old.items ++ filter (is_legal self.now) (flat_map (λ t. moves_if (attacks self.now.placed_men man.now t.2) man.now t.2) (men_of (other_color self.now.mover) self.now.placed_men)) }
+    {
+        let men = self.men();
+        for other in men {
+            if self.is_enemy(other) {
+                let may_go = self.attacks(man, other.2);
+                self.push_if(moves, may_go, man, other.2);
+            }
+        }
+    }
+
+    /// Appends the legal captures en passant of a man.
+    fn push_en_passant<const CAP: usize>(
+        &self,
+        moves: &mut ArrayVec<Move, CAP>,
+        man: &(Man, Color, Square),
+    )
+        requires standing { Contains self.now.placed_men man.now }
+        requires own { is_color self.now.mover man.now.1 ≡ true }
+        requires room { array_vec_len moves.old + length (en_passant_moves self.now.placed_men self.now.en_passant man.now) ≤ CAP }
+        ensures { moves.new.items ≡ moves.old.items ++ filter (is_legal self.now) (en_passant_moves self.now.placed_men self.now.en_passant man.now) }
+    {
+        if let Some(square) = &self.en_passant {
+            let may_go = self.may_pass(man, *square);
+            self.push_if(moves, may_go, man, *square);
+        }
+    }
+
+    /// Appends the legal moves to empty squares.
+    #[tactic(auto, unfolding(crate::specs::Moves::quiet_moves_of))]
+    fn push_quiet_moves<const CAP: usize>(&self, moves: &mut ArrayVec<Move, CAP>)
+        requires { array_vec_len moves.old + length (quiet_moves_of self.now) ≤ CAP }
+        ensures { moves.new.items ≡ moves.old.items ++ filter (is_legal self.now) (quiet_moves_of self.now) }
+    {
+        for man in self.men() {
+            if self.is_own(man) {
+                self.push_quiet_moves_by(moves, man);
+            }
+        }
+    }
+
+    /// Appends the legal moves of a man to empty squares.
+    fn push_quiet_moves_by<const CAP: usize>(
+        &self,
+        moves: &mut ArrayVec<Move, CAP>,
+        man: &(Man, Color, Square),
+    )
+        requires standing { Contains self.now.placed_men man.now }
+        requires own { is_color self.now.mover man.now.1 ≡ true }
+        requires room { array_vec_len moves.old + length (quiet_moves_by self.now.placed_men man.now) ≤ CAP }
+        ensures { moves.new.items ≡ moves.old.items ++ filter (is_legal self.now) (quiet_moves_by self.now.placed_men man.now) }
+    {
+        for number in 0..64u8 {
+            let to = square_of(number);
+            let may_go = self.may_enter(man, to);
+            self.push_if(moves, may_go, man, to);
+        }
+    }
+
+    /// Appends the legal moves of a man to a square if it may go there.
+    fn push_if<const CAP: usize>(
+        &self,
+        moves: &mut ArrayVec<Move, CAP>,
+        may_go: bool,
+        man: &(Man, Color, Square),
+        to: Square,
+    )
+        requires standing { Contains self.now.placed_men man.now }
+        requires own { is_color self.now.mover man.now.1 ≡ true }
+        requires room { array_vec_len moves.old + length (moves_if may_go man.now to) ≤ CAP }
+        ensures { moves.new.items ≡ moves.old.items ++ filter (is_legal self.now) (moves_if may_go man.now to) }
+    {
+        if may_go {
+            self.push_legal(moves, man, to);
+        }
+    }
+
+    /// Appends the legal ones of the moves of a man to a square.
+    fn push_legal<const CAP: usize>(
+        &self,
+        moves: &mut ArrayVec<Move, CAP>,
+        man: &(Man, Color, Square),
+        to: Square,
+    )
+        requires standing { Contains self.now.placed_men man.now }
+        requires own { is_color self.now.mover man.now.1 ≡ true }
+        requires room { array_vec_len moves.old + length (moves_to man.now to) ≤ CAP }
+        ensures { moves.new.items ≡ moves.old.items ++ filter (is_legal self.now) (moves_to man.now to) }
+    {
+        if promotes(man, to) {
+            // One test is enough: what the pawn is promoted to makes no difference to the mover's king.
+            if self.is_legal(&promoted(man.2, to, Man::Queen)) {
+                moves.push(promoted(man.2, to, Man::Queen));
+                moves.push(promoted(man.2, to, Man::Rook));
+                moves.push(promoted(man.2, to, Man::Bishop));
+                moves.push(promoted(man.2, to, Man::Knight));
+            }
+        } else {
+            self.push_if_legal(
+                moves,
+                Move {
+                    from: man.2,
+                    to,
+                    promotion: None,
+                },
+            );
+        }
+    }
+
+    fn push_if_legal<const CAP: usize>(&self, moves: &mut ArrayVec<Move, CAP>, m: Move)
+        requires { array_vec_len moves.old < CAP }
+        ensures items { moves.new.items ≡ moves.old.items ++ filter (is_legal self.now) (m ∷ []) }
+        ensures len { array_vec_len moves.new ≤ array_vec_len moves.old + 1 }
+    {
+        if self.is_legal(&m) {
+            moves.push(m);
+        }
+    }
+
+    /// Returns whether the mover's king is not attacked after a move.
+    #[tactic(auto, unfolding(crate::specs::Moves::is_legal))]
+    fn is_legal(&self, m: &Move) -> bool
+        ensures legal { result ≡ is_legal self.now m.now }
+        ensures position { IsPosition self.now }
+    {
+        let captured = self.captured_square(m);
+        let occupied = self.squares_after(m, captured);
+        !self.leaves_check(m, captured, occupied)
+    }
+
+    /// Returns whether the mover's king is attacked after a move that captures on one square and leaves men on the others.
+    fn leaves_check(&self, m: &Move, captured: u8, occupied: u64) -> bool
+        ensures { result ≡ list_any (λ s. not (s.2 == captured) && is_attacked_king self.now m.now captured occupied (man_after m.now s)) self.now.placed_men }
+    {
+        self.men().iter().any(|man| {
+            man.2.number() != captured
+                && self.is_attacked_king(m, captured, occupied, &man_after(m, man))
+        })
+    }
+
+    fn is_attacked_king(
+        &self,
+        m: &Move,
+        captured: u8,
+        occupied: u64,
+        king: &(Man, Color, Square),
+    ) -> bool
+        ensures { result ≡ is_attacked_king self.now m.now captured occupied king.now }
+    {
+        king.0 == Man::King
+            && king.1 == self.mover
+            && self.is_attacked_after(m, captured, occupied, king.2)
+    }
+
+    fn is_attacked_after(&self, m: &Move, captured: u8, occupied: u64, square: Square) -> bool
+        ensures { result ≡ list_any (λ s. not (s.2 == captured) && (is_color (other_color self.now.mover) (man_after m.now s).1 && attacks_past occupied (man_after m.now s) square)) self.now.placed_men }
+    {
+        let other = other_color(self.mover());
+        self.men().iter().any(|man| {
+            man.2.number() != captured && is_attacker(other, occupied, &man_after(m, man), square)
+        })
+    }
+
+    /// Returns the men after a move.
+    #[tactic(auto, unfolding(crate::specs::Moves::men_after))]
+    fn men_after(&self, m: &Move, captured: u8) -> ArrayVec<(Man, Color, Square), 6>
+        requires { captured ≡ captured_square self.now m.now }
+        ensures men { result.items ≡ men_after self.now m.now }
+        // A fact that callers may use: the move is one of a position.
+        ensures position { IsPosition self.now }
+    {
+        let mut men = ArrayVec::new();
+        for man in self.men() {
+            if man.2.number() != captured {
+                men.push(man_after(m, man));
+            }
+        }
+        men
+    }
+
+    /// Returns the squares of the men after a move.
+    fn squares_after(&self, m: &Move, captured: u8) -> u64
+        requires { captured ≡ captured_square self.now m.now }
+        ensures squares { result ≡ squares_of (men_after self.now m.now) }
+        ensures on_board { AreOnBoard self.now.placed_men }
+        ensures inside { m.now.to < 64 }
+        ensures position { IsPosition self.now }
+    {
+        squares_moved(self.occupied(), captured, m.from.number(), m.to.number())
+    }
+
+    /// Returns the square of the man that a move captures, if it captures one.
+    fn captured_square(&self, m: &Move) -> u8
+        ensures square { result ≡ captured_square self.now m.now }
+        ensures inside { result < 64 }
+    {
+        if self.is_en_passant(m) {
+            8 * (m.from.number() / 8) + m.to.number() % 8
+        } else {
+            m.to.number()
+        }
+    }
+
+    /// Returns whether a pawn goes to the square that an enemy pawn has just passed over, from a file beside.
+    #[tactic(auto, unfolding(crate::specs::Moves::is_en_passant))]
+    pub fn is_en_passant(&self, m: &Move) -> bool
+        ensures { result ≡ is_en_passant self.now m.now }
+    {
+        is_square(&self.en_passant, m.to)
+            && files_apart(m.from.number(), m.to.number()) == 1
+            && self.is_pawn_on(m.from.number())
+    }
+
+    /// Returns whether a man attacks a square.
+    fn attacks(&self, man: &(Man, Color, Square), to: Square) -> bool
+        ensures { result ≡ attacks self.now.placed_men man.now to }
+    {
+        attacks_past(self.occupied(), man, to)
+    }
+
+    /// Returns whether a pawn attacks the square that an enemy pawn has just passed over.
+    fn may_pass(&self, man: &(Man, Color, Square), square: Square) -> bool
+        ensures { result ≡ may_pass self.now.placed_men man.now square }
+    {
+        man.0 == Man::Pawn && self.attacks(man, square)
+    }
+
+    /// Returns whether a man may go to a square that is empty.
+    #[tactic(auto, unfolding(crate::specs::Moves::may_enter))]
+    fn may_enter(&self, man: &(Man, Color, Square), to: Square) -> bool
+        ensures { result ≡ may_enter self.now.placed_men man.now to }
+    {
+        if self.is_occupied(to.number()) {
+            return false;
+        }
+        if man.0 == Man::Pawn {
+            self.is_push(man.1, man.2.number(), to.number())
+        } else {
+            self.attacks(man, to)
+        }
+    }
+
+    /// Returns whether a pawn's push leads from one square to another.
+    fn is_push(&self, color: Color, from: u8, to: u8) -> bool
+        requires from { from < 64 }
+        requires to { to < 64 }
+        ensures { result ≡ is_push self.now.placed_men color from to }
+    {
+        files_apart(from, to) == 0
+            && (is_ahead(color, from, to)
+                || from / 8 == home_rank(color)
+                    && to / 8 == double_rank(color)
+                    && !self.is_occupied((from + to) / 2))
+    }
+
+    /// Returns whether a man is on the square.
+    fn is_occupied(&self, square: u8) -> bool
+        requires { square < 64 }
+        ensures { result ≡ is_occupied self.now.placed_men square }
+    {
+        is_in(self.occupied(), square)
+    }
+
+    /// Returns whether a man is the mover's.
+    fn is_own(&self, man: &(Man, Color, Square)) -> bool
+        ensures { result ≡ is_color self.now.mover man.now.1 }
+    {
+        self.mover == man.1
+    }
+
+    /// Returns whether a man is the other side's.
+    fn is_enemy(&self, man: &(Man, Color, Square)) -> bool
+        ensures { result ≡ is_color (other_color self.now.mover) man.now.1 }
+    {
+        other_color(self.mover) == man.1
+    }
+
+    /// Returns whether the mover has a pawn on the square.
+    fn is_pawn_on(&self, square: u8) -> bool
+        ensures { result ≡ is_pawn_on self.now square }
+    {
+        is_on(Man::Pawn, self.mover, self.men.as_slice(), square)
+    }
+}
+
+/// Returns the squares of men after one goes from a square to another, and the one on `captured` vanishes before.
+fn squares_moved(occupied: u64, captured: u8, from: u8, to: u8) -> u64
+    requires captured { captured < 64 }
+    requires from { from < 64 }
+    requires to { to < 64 }
+    ensures { (square : ℕ) → square < 64 → is_in result square ≡ is_in_moved (is_in occupied) captured from to square }
+{
+    let kept = occupied & !(1 << captured);
+    if is_in(kept, from) {
+        kept & !(1 << from) | 1 << to
+    } else {
+        kept
+    }
+}
+
+/// Returns whether a man is of a colour and attacks a square, if the men are on these squares.
+fn is_attacker(color: Color, occupied: u64, man: &(Man, Color, Square), square: Square) -> bool
+    ensures { result ≡ (is_color color man.now.1 && attacks_past occupied man.now square) }
+{
+    man.1 == color && attacks_past(occupied, man, square)
+}
+
+/// Returns the move of a pawn that is promoted.
+fn promoted(from: Square, to: Square, piece: Man) -> Move
+    ensures { result ≡ record { from = from; to = to; promotion = Some piece } }
+{
+    Move {
+        from,
+        to,
+        promotion: Some(piece),
+    }
+}
+
+/// Returns the square of a number.
+fn square_of(number: u8) -> Square
+    requires { number < 64 }
+    ensures { result ≡ number }
+{
+    match Square::new(number) {
+        Some(square) => square,
+        None => Square::default(),
+    }
+}
+
+/// Returns whether the square is this one.
+fn is_square(square: &Option<Square>, other: Square) -> bool
+    ensures { result ≡ is_square square.now other }
+{
+    match square {
+        None => false,
+        Some(square) => square.number() == other.number(),
+    }
+}
+
+/// Returns whether a man of this colour is on the square.
+fn is_any_on(color: Color, men: &[(Man, Color, Square)], square: u8) -> bool
+    ensures { result ≡ list_any (λ s. is_color color s.1 && s.2 == square) men.now }
+{
+    men.iter()
+        .any(|man| man.1 == color && man.2.number() == square)
+}
+
+/// Returns a man after a move.
+fn man_after(m: &Move, man: &(Man, Color, Square)) -> (Man, Color, Square)
+    ensures { result ≡ man_after m.now man.now }
+{
+    if man.2.number() == m.from.number() {
+        (m.promotion.unwrap_or(man.0), man.1, m.to)
+    } else {
+        *man
+    }
+}
+
+/// Returns whether a man is a pawn that promotes on the square.
+fn promotes(man: &(Man, Color, Square), to: Square) -> bool
+    ensures { result ≡ promotes man.now to }
+{
+    let rank = to.number() / 8;
+    man.0 == Man::Pawn && (rank == 0 || rank == 7)
+}
+
+fn home_rank(color: Color) -> u8
+    ensures { result ≡ home_rank color }
+{
+    match color {
+        Color::White => 1,
+        Color::Black => 6,
+    }
+}
+
+fn double_rank(color: Color) -> u8
+    ensures { result ≡ double_rank color }
+{
+    match color {
+        Color::White => 3,
+        Color::Black => 4,
+    }
+}

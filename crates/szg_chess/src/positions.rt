@@ -1,0 +1,304 @@
+//! Positions: which men make one, and what it says of itself.
+
+ghost use Rattle.std.specs.Prelude.{◌≡◌, ◌<◌, ◌≤◌, ◌==◌, ◌&&◌, ◌||◌, not, length, count_by, IsTrue, IsNone, IfSome, Some, None, Ok, Err, option_map, option_copied};
+ghost use Rattle.std.specs.List.{list_any, find};
+ghost use Rattle.std.specs.Option.{ForSome};
+ghost use Rattle.szg_values.specs.Men.{is_man, is_color, other_color, file_of, rank_of, square_at};
+ghost use Rattle.szg_values.specs.Placement.{AreOnBoard, number_of, has_distinct_squares, has_pawns_on_inner_ranks};
+ghost use Rattle.szg_chess.specs.Attacks.{is_occupied, is_in_check};
+ghost use Rattle.szg_chess.specs.Position.{IsPosition, men_fault, state_fault, position_fault, has_two_to_six, has_kings, without_en_passant, man_on, is_on, was_passed, has_sound_en_passant};
+ghost use Rattle.szg_chess.specs.Squares.{squares_of};
+ghost use Rattle.szg_chess.specs.Moves.{is_check};
+
+use crate::attacks::{is_in_check, other_color, squares_of};
+use crate::{Position, PositionFault};
+use arrayvec::ArrayVec;
+use szg_values::{Color, Man, Placement, Square};
+
+impl Position {
+    /// Creates a position of men, the side to move, and the square that a pawn has just passed over by a double step.
+    /// Errors: the first of the faults that men can have.
+    #[tactic(auto, unfolding(crate::specs::Position::position_fault))]
+    pub fn new(
+        men: &[(Man, Color, Square)],
+        mover: Color,
+        en_passant: Option<Square>,
+    ) -> Result<Position, PositionFault>
+        ensures accepted { IsNone (position_fault (record { placed_men = men.now; mover = mover; en_passant = en_passant })) → result ≡ Ok (record { placed_men = men.now; mover = mover; en_passant = en_passant }) }
+        ensures refused { IfSome (position_fault (record { placed_men = men.now; mover = mover; en_passant = en_passant })) (λ fault. result ≡ Err fault) }
+    {
+        match men_fault(men) {
+            Some(fault) => Err(fault),
+            None => Position::of_men(men, mover, en_passant),
+        }
+    }
+
+    /// Creates a position of sound men. Errors: the en passant square, or the side not to move is in check.
+    #[tactic(auto, unfolding(crate::specs::Position::position_fault, crate::specs::Position::state_fault))]
+    pub(crate) fn of_men(
+        men: &[(Man, Color, Square)],
+        mover: Color,
+        en_passant: Option<Square>,
+    ) -> Result<Position, PositionFault>
+        requires men { men_fault men.now ≡ None }
+        requires on_board { AreOnBoard men.now }
+        ensures accepted { IsNone (state_fault (record { placed_men = men.now; mover = mover; en_passant = en_passant })) → result ≡ Ok (record { placed_men = men.now; mover = mover; en_passant = en_passant }) }
+        ensures refused { IfSome (state_fault (record { placed_men = men.now; mover = mover; en_passant = en_passant })) (λ fault. result ≡ Err fault) }
+    {
+        if !has_sound_en_passant(men, mover, &en_passant) {
+            return Err(PositionFault::EnPassant);
+        }
+        let occupied = squares_of(men);
+        if is_in_check(men, occupied, other_color(mover)) {
+            return Err(PositionFault::OpponentInCheck);
+        }
+        Ok(Position {
+            men: copy_men(men),
+            occupied,
+            mover,
+            en_passant,
+        })
+    }
+
+    /// Creates the position of a placement, with no en passant square. Errors: the side not to move is in check.
+    pub fn of_placement(placement: &Placement) -> Result<Position, PositionFault>
+        ensures accepted { IsNone (position_fault (record { placed_men = placement.now.placed_men; mover = placement.now.mover; en_passant = None })) → result ≡ Ok (record { placed_men = placement.now.placed_men; mover = placement.now.mover; en_passant = None }) }
+        ensures refused { IfSome (position_fault (record { placed_men = placement.now.placed_men; mover = placement.now.mover; en_passant = None })) (λ fault. result ≡ Err fault) }
+    {
+        Position::new(placement.men(), placement.mover(), None)
+    }
+
+    /// Returns the placement of the men and the side to move, which drops the en passant square. None for bare kings,
+    /// since a placement has at least three men.
+    pub fn placement(&self) -> Option<Placement>
+        ensures placed { 3 ≤ length self.now.placed_men → result ≡ Some (record { placed_men = self.now.placed_men; mover = self.now.mover }) }
+        ensures bare { length self.now.placed_men < 3 → result ≡ None }
+    {
+        let men = self.men();
+        if men.len() < 3 {
+            return None;
+        }
+        match Placement::new(men, self.mover()) {
+            Ok(placement) => Some(placement),
+            Err(_) => None,
+        }
+    }
+
+    /// Returns a copy.
+    pub fn copy(&self) -> Position
+        ensures { result ≡ self.now }
+    {
+        Position {
+            men: copy_men(self.men()),
+            occupied: self.occupied(),
+            mover: self.mover(),
+            en_passant: self.en_passant(),
+        }
+    }
+
+    /// Returns the position without the right to capture en passant.
+    pub fn without_en_passant(&self) -> Position
+        ensures { result ≡ without_en_passant self.now }
+    {
+        Position {
+            men: copy_men(self.men()),
+            occupied: self.occupied(),
+            mover: self.mover(),
+            en_passant: None,
+        }
+    }
+
+    /// Returns the men in the order given.
+    pub fn men(&self) -> &[(Man, Color, Square)]
+        ensures men { result.now ≡ self.now.placed_men }
+        ensures few { length result.now ≤ 6 }
+        // A fact that callers may use: the men are those of a position.
+        ensures position { IsPosition self.now }
+    {
+        self.men.as_slice()
+    }
+
+    /// Returns the side to move.
+    pub fn mover(&self) -> Color
+        ensures { result ≡ self.now.mover }
+    {
+        self.mover
+    }
+
+    /// Returns the square that a pawn has just passed over by a double step, if any.
+    pub fn en_passant(&self) -> Option<Square>
+        ensures { result ≡ self.now.en_passant }
+    {
+        self.en_passant
+    }
+
+    /// Returns whether the side to move is in check.
+    pub fn is_check(&self) -> bool
+        ensures { result ≡ is_check self.now }
+    {
+        is_in_check(self.men(), self.occupied(), self.mover())
+    }
+
+    /// Returns the squares of the men, as bits.
+    pub(crate) fn occupied(&self) -> u64
+        ensures squares { result ≡ squares_of self.now.placed_men }
+        ensures position { IsPosition self.now }
+        ensures on_board { AreOnBoard self.now.placed_men }
+    {
+        self.occupied
+    }
+}
+
+/// Returns the first fault of men, if any.
+#[tactic(auto, unfolding(crate::specs::Position::men_fault))]
+pub(crate) fn men_fault(men: &[(Man, Color, Square)]) -> Option<PositionFault>
+    ensures fault { result ≡ men_fault men.now }
+    ensures on_board { IsNone result → AreOnBoard men.now }
+{
+    if !has_two_to_six(men) {
+        return Some(PositionFault::Men);
+    }
+    if !has_kings(men) {
+        return Some(PositionFault::Kings);
+    }
+    if !has_distinct_squares(men) {
+        return Some(PositionFault::SameSquare);
+    }
+    if !has_pawns_on_inner_ranks(men) {
+        return Some(PositionFault::PawnRank);
+    }
+    None
+}
+
+fn has_two_to_six(men: &[(Man, Color, Square)]) -> bool
+    ensures { result ≡ has_two_to_six men.now }
+{
+    2 <= men.len() && men.len() <= 6
+}
+
+fn has_kings(men: &[(Man, Color, Square)]) -> bool
+    ensures { result ≡ has_kings men.now }
+{
+    number_of(Man::King, Color::White, men) == 1 && number_of(Man::King, Color::Black, men) == 1
+}
+
+/// Counts the men of a kind and colour.
+fn number_of(kind: Man, color: Color, men: &[(Man, Color, Square)]) -> usize
+    ensures { result ≡ number_of kind color men.now }
+{
+    men.iter().filter(|man| is_of(kind, color, man)).count()
+}
+
+fn is_of(kind: Man, color: Color, man: &(Man, Color, Square)) -> bool
+    ensures { result ≡ (is_man kind man.now.0 && is_color color man.now.1) }
+{
+    man.0 == kind && man.1 == color
+}
+
+/// Returns whether no two men are on one square.
+fn has_distinct_squares(men: &[(Man, Color, Square)]) -> bool
+    requires { length men.now ≤ 6 }
+    ensures test { result ≡ has_distinct_squares men.now }
+    ensures on_board { IsTrue result → AreOnBoard men.now }
+{
+    for (place, man) in men.iter().enumerate() {
+        if is_on_square(man.2.number(), &men[place + 1..]) {
+            return false;
+        }
+    }
+    true
+}
+
+/// Returns whether some man is on the square with this number.
+fn is_on_square(number: u8, men: &[(Man, Color, Square)]) -> bool
+    ensures { result ≡ list_any (λ other. number == other.2) men.now }
+{
+    men.iter().any(|other| other.2.number() == number)
+}
+
+/// Returns whether no pawn is on rank 1 or 8.
+fn has_pawns_on_inner_ranks(men: &[(Man, Color, Square)]) -> bool
+    ensures { result ≡ has_pawns_on_inner_ranks men.now }
+{
+    men.iter().all(|man| !is_pawn_on_outer_rank(man.0, man.2))
+}
+
+fn is_pawn_on_outer_rank(man: Man, square: Square) -> bool
+    ensures { result ≡ (is_man Man.Pawn man && (rank_of square == 0 || rank_of square == 7)) }
+{
+    let rank = square.number() / 8;
+    man == Man::Pawn && (rank == 0 || rank == 7)
+}
+
+/// Returns whether some man is on the square.
+fn is_occupied(men: &[(Man, Color, Square)], square: u8) -> bool
+    ensures { result ≡ is_occupied men.now square }
+{
+    men.iter().any(|man| man.2.number() == square)
+}
+
+/// Returns the man on the square and its colour, if there is one.
+pub(crate) fn man_on(men: &[(Man, Color, Square)], square: u8) -> Option<(Man, Color)>
+    ensures { result ≡ man_on men.now square }
+{
+    man_at(men, square).map(|man| (man.0, man.1))
+}
+
+fn man_at(men: &[(Man, Color, Square)], square: u8) -> Option<&(Man, Color, Square)>
+    ensures { option_copied result ≡ find (λ s. s.2 == square) men.now }
+{
+    men.iter().find(|man| man.2.number() == square)
+}
+
+/// Returns whether a man of this kind and colour is on the square.
+pub(crate) fn is_on(kind: Man, color: Color, men: &[(Man, Color, Square)], square: u8) -> bool
+    ensures { result ≡ is_on kind color men.now square }
+{
+    men.iter().any(|man| man.0 == kind && man.1 == color && man.2.number() == square)
+}
+
+/// Returns whether the en passant square, if any, was passed over by a pawn of the side not to move.
+fn has_sound_en_passant(
+    men: &[(Man, Color, Square)],
+    mover: Color,
+    en_passant: &Option<Square>,
+) -> bool
+    ensures sound { result ≡ has_sound_en_passant men.now mover en_passant.now }
+    ensures on_board { ForSome en_passant.now (λ square. square < 64) }
+{
+    match en_passant {
+        None => true,
+        Some(square) => was_passed(men, mover, square.number()),
+    }
+}
+
+/// Returns whether a pawn of the side not to move may just have passed over the square.
+fn was_passed(men: &[(Man, Color, Square)], mover: Color, square: u8) -> bool
+    requires { square < 64 }
+    ensures { result ≡ was_passed men.now mover square }
+{
+    let file = square % 8;
+    match mover {
+        Color::White => {
+            square / 8 == 5
+                && !is_occupied(men, square)
+                && !is_occupied(men, 48 + file)
+                && is_on(Man::Pawn, Color::Black, men, 32 + file)
+        }
+        Color::Black => {
+            square / 8 == 2
+                && !is_occupied(men, square)
+                && !is_occupied(men, 8 + file)
+                && is_on(Man::Pawn, Color::White, men, 24 + file)
+        }
+    }
+}
+
+fn copy_men(men: &[(Man, Color, Square)]) -> ArrayVec<(Man, Color, Square), 6>
+    requires { length men.now ≤ 6 }
+    ensures { result.items ≡ men.now }
+{
+    let mut copy = ArrayVec::new();
+    let _ = copy.try_extend_from_slice(men);
+    copy
+}

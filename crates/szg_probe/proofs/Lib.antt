@@ -1,0 +1,10 @@
+pub mod Choosing
+pub mod WithoutRight
+pub mod Kings
+pub mod Beside
+pub mod Probed
+pub mod Known
+pub mod Images
+pub mod Search
+pub mod Moves
+pub mod Ranking

@@ -1,0 +1,94 @@
+//! Probing: the class of a position.
+
+ghost use Rattle.std.specs.Prelude.{◌≡◌, length, IfOk, IfErr, Some};
+ghost use Rattle.szg_chess.specs.Moves.{has_no_move, legal_captures};
+ghost use Rattle.szg_probe.specs.Chess.{ChessClass};
+ghost use Rattle.szg_probe.specs.Probing.{AreTrue, MayFail, has_only_captures, has_only_en_passant, probed, stored_class};
+
+use crate::Tables;
+use szg_chess::Position;
+use szg_game::Class;
+
+/// Returns the class of a position for the side to move: the better one of the stored class and of what the captures
+/// give, each probed in turn. Captures en passant that are the only legal moves alone count, and no table is read for
+/// the position itself. (`probe_wdl` in the probing code.)
+///
+/// Errors: those of the tables.
+pub fn probe_wdl<T: Tables>(tables: &mut T, position: &Position) -> Result<Class, T::Fault>
+    ensures same { T.stored tables.new ≡ T.stored tables.old }
+    ensures same_numbers { T.numbers tables.new ≡ T.numbers tables.old }
+    ensures probed { IfOk result (λ k. probed (T.stored tables.old) position.now ≡ Some k) }
+    ensures class { IfOk result (λ k. AreTrue (T.stored tables.old) → ChessClass position.now k) }
+    ensures fault { IfErr result (λ fault. MayFail (T.explains (T.stored tables.old) (T.numbers tables.old) fault) position.now) }
+{
+    // A fact that the proof uses: the men are those of a position.
+    let _ = position.men();
+    search(tables, position)
+}
+
+/// `probe_wdl`, by the captures in turn; a capture that wins ends the search.
+pub(crate) fn search<T: Tables>(tables: &mut T, position: &Position) -> Result<Class, T::Fault>
+    ensures same { T.stored tables.new ≡ T.stored tables.old }
+    ensures same_numbers { T.numbers tables.new ≡ T.numbers tables.old }
+    ensures probed { IfOk result (λ k. probed (T.stored tables.old) position.now ≡ Some k) }
+    ensures fault { IfErr result (λ fault. MayFail (T.explains (T.stored tables.old) (T.numbers tables.old) fault) position.now) }
+{
+    // A fact that the proof uses: the men are those of a position.
+    let _ = position.men();
+    let captures = position.captures();
+    let mut best = Class::Loss;
+    for m in captures.as_slice() {
+        let class = match search(tables, &position.after(*m)) {
+            Ok(class) => class,
+            Err(fault) => return Err(fault),
+        };
+        if class.is_loss() {
+            return Ok(Class::Win);
+        }
+        best = best.better(class.negate());
+    }
+    if best.is_win() || has_only_en_passant(position) {
+        return Ok(best);
+    }
+    match stored_class(tables, position) {
+        Ok(stored) => Ok(stored.better(best)),
+        Err(fault) => Err(fault),
+    }
+}
+
+/// Returns the class that the tables store; two kings alone are a draw.
+fn stored_class<T: Tables>(tables: &mut T, position: &Position) -> Result<Class, T::Fault>
+    ensures same { T.stored tables.new ≡ T.stored tables.old }
+    ensures same_numbers { T.numbers tables.new ≡ T.numbers tables.old }
+    ensures class { IfOk result (λ k. stored_class (T.stored tables.old) position.now ≡ Some k) }
+    ensures fault { IfErr result (λ fault. MayFail (T.explains (T.stored tables.old) (T.numbers tables.old) fault) position.now) }
+{
+    if position.men().len() == 2 {
+        return Ok(Class::Draw);
+    }
+    tables.class(position)
+}
+
+/// Returns whether the captures en passant are the only legal moves. Without an en passant square no move is generated.
+fn has_only_en_passant(position: &Position) -> bool
+    ensures { result ≡ has_only_en_passant position.now }
+{
+    position.en_passant().is_some()
+        && !(has_no_move(position) || position.has_move_beside_en_passant())
+}
+
+pub(crate) fn has_no_move(position: &Position) -> bool
+    ensures { result ≡ has_no_move position.now }
+{
+    position.legal_moves().len() == 0
+}
+
+/// Returns whether there is a legal move and each is a capture, given the number of legal captures.
+pub(crate) fn has_only_captures(position: &Position, captures: usize) -> bool
+    requires { captures ≡ length (legal_captures position.now) }
+    ensures { result ≡ has_only_captures position.now }
+{
+    // A fact that the proof uses: the men are those of a position.
+    let _ = position.men();
+    captures != 0 && position.legal_moves().len() == captures
+}

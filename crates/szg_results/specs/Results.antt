@@ -1,0 +1,28 @@
+-- The result of a position: what a set of tables says of a text in Forsyth-Edwards Notation.
+use Rattle.std.specs.Prelude.{ℕ, ◌≡◌, List, map, Some, All, Contains, IsPermutation, if◌then◌else◌}
+use Rattle.std.specs.List.Sorted.{IsNonDecreasingBy}
+use Rattle.szg_game.specs.declared.Class.{Class}
+use Rattle.szg_chess.specs.Position.{Position}
+use Rattle.szg_chess.specs.Moves.{is_mate, legal_moves}
+use Rattle.szg_chess.specs.declared.FenRecord.{FenRecord}
+use Rattle.szg_probe.specs.Probing.{StoredClasses, all_known}
+use Rattle.szg_probe.specs.Distances.{StoredNumbers, probed_distance, at_counter, ranked, rank_of}
+use Rattle.szg_probe.specs.declared.distances.Distance.{Distance}
+use Rattle.szg_probe.specs.declared.assessments.RankedMove.{RankedMove}
+use Rattle.szg_results.specs.declared.results.Answer.{Answer}
+
+-- The class and the distance with the fifty-move counter. A mate comes before the fifty-move rule.
+abbrev pub counted : Position → ℕ → Class → ℕ → Distance
+counted p counter k d = if is_mate p then record { class = k; plies = d } else at_counter counter k d
+
+-- what full probing says of the position, and of each legal move with the counter, the best first
+pub record IsAnswer (classes : StoredClasses) (numbers : StoredNumbers) (fen : FenRecord) (answer : Answer) : Type 0 where
+  pub class : Class
+  pub plies : ℕ
+  pub probed : probed_distance classes numbers fen.position ≡ Some (class, plies)
+  pub distance : answer.distance ≡ counted fen.position fen.halfmove class plies
+  pub all : List RankedMove
+  pub known : all_known (map (ranked classes numbers fen.halfmove fen.position) (legal_moves fen.position)) ≡ Some all
+  pub same_moves : IsPermutation all answer.moves.items
+  pub best_first : IsNonDecreasingBy rank_of answer.moves.items
+  pub legal : All (λ r. Contains (legal_moves fen.position) r.m) answer.moves.items

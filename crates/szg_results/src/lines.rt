@@ -1,0 +1,88 @@
+//! The text of an answer.
+
+ghost use Rattle.std.specs.Prelude.{◌≡◌, ◌++◌, IfOk, OnOk, All, Contains, string_bytes};
+ghost use Rattle.szg_chess.specs.Moves.{legal_moves};
+ghost use Rattle.szg_results.specs.Lines.{answer_line, answer_text, class_word, flag, head_lines, move_line};
+
+use crate::Answer;
+use std::alloc::{AllocError, Global};
+use std::fmt::Write;
+use szg_chess::Position;
+use szg_game::Class;
+use szg_probe::{Distance, RankedMove};
+use szg_tables::number_of_class;
+
+/// Returns one line: the text that was asked for, the class from -2 to 2, the distance and the best move, with tabs
+/// between.
+pub fn line_of(alloc: Global, fen: &str, answer: &Answer) -> Result<String, AllocError>
+    ensures { IfOk result (λ line. string_bytes line ≡ answer_line fen.now answer.now) }
+{
+    let class = number_of_class(answer.distance.class);
+    let dtz = answer.distance.signed();
+    match answer.moves.as_slice().first() {
+        Some(best) => {
+            let m = &best.m;
+            format!(in alloc; "{fen}\t{class}\t{dtz}\t{m}\n")
+        }
+        None => format!(in alloc; "{fen}\t{class}\t{dtz}\t-\n"),
+    }
+}
+
+/// Returns the result, the distance, and a line for each move: UCI, SAN, class, distance, and `zeroing`, `mate`,
+/// `stalemate`.
+pub fn text_of(alloc: Global, position: &Position, answer: &Answer) -> Result<String, AllocError>
+    requires { All (λ r. Contains (legal_moves position.now) r.m) answer.now.moves.items }
+    ensures { IfOk result (λ text. string_bytes text ≡ answer_text position.now answer.now) }
+{
+    let mut text = head_lines(alloc, &answer.distance)?;
+    'moves: for r in answer.moves.as_slice() {
+        add_move(&mut text, position, r)?;
+    }
+    Ok(text)
+}
+
+fn head_lines(alloc: Global, distance: &Distance) -> Result<String, AllocError>
+    ensures { IfOk result (λ text. string_bytes text ≡ head_lines distance.now) }
+{
+    let word = class_word(distance.class);
+    let dtz = distance.signed();
+    format!(in alloc; "result {word}\ndtz {dtz}\n")
+}
+
+/// Adds the line of a legal move.
+fn add_move(text: &mut String, position: &Position, r: &RankedMove) -> Result<(), AllocError>
+    requires { Contains (legal_moves position.now) r.now.m }
+    ensures { OnOk result (string_bytes text.new ≡ string_bytes text.old ++ move_line position.now r.now) }
+{
+    let m = &r.m;
+    let san = position.san(m);
+    let san = san.as_str();
+    let word = class_word(r.distance.class);
+    let dtz = r.distance.signed();
+    let zeroing = flag(r.zeroing, "\tzeroing");
+    let mate = flag(r.mate, "\tmate");
+    let stalemate = flag(r.stalemate, "\tstalemate");
+    write!(
+        text,
+        "{m}\t{san}\t{word}\t{dtz}{zeroing}{mate}{stalemate}\n"
+    )
+}
+
+fn flag(is_set: bool, word: &'static str) -> &'static str
+    ensures { result.now ≡ flag is_set word.now }
+{
+    if is_set { word } else { "" }
+}
+
+/// Returns a class in words.
+fn class_word(class: Class) -> &'static str
+    ensures { result.now ≡ class_word class }
+{
+    match class {
+        Class::Win => "win",
+        Class::CursedWin => "cursed win",
+        Class::Draw => "draw",
+        Class::BlessedLoss => "blessed loss",
+        Class::Loss => "loss",
+    }
+}

@@ -1,0 +1,36 @@
+-- What is stored, by the table that is found.
+use Rattle.std.proofs.Common.{◌≡◌, ◌<◌, ◌≤◌, ℕ, List, length, refl, sym, ap, ◌∙◌, subst, Option, Some, None, arith}
+use Rattle.std.specs.Prelude.{option_and_then}
+use Rattle.szg_values.specs.Placement.{PlacedMan, Board}
+use Rattle.szg_values.specs.declared.Color.{Color}
+use Rattle.szg_values.specs.declared.Kind.{Kind}
+use Rattle.szg_values.specs.declared.Kind.TheVariants.{Wdl, Dtz}
+use Rattle.szg_file.specs.Held.{Shown}
+use Rattle.szg_game.specs.declared.Class.{Class}
+use Rattle.szg_probe.specs.Probing.{StoredClasses}
+use Rattle.szg_probe.specs.Distances.{StoredNumbers}
+use Rattle.szg_tables.specs.Stored.{board_of, table_for, class_in, number_in, stored_classes, stored_numbers, LacksKind}
+
+-- a placement of three men or more
+pub placed_is : (men : List PlacedMan) (mover : Color) (o : Option Board) (board : Board) → (3 ≤ length men → o ≡ Some (board_of men mover)) → 2 < length men → o ≡ Some board → board ≡ board_of men mover
+placed_is men mover o board placed more is = let there = placed (omega arith) in let same : Some board ≡ Some (board_of men mover) = sym is ∙ there in cc
+
+module _ (tables : List Shown) (men : List PlacedMan) (mover : Color) (board : Board) (is : board ≡ board_of men mover) where
+  pub class_by : (t : Shown) (x : Option Class) → table_for Wdl board tables ≡ Some t → class_in board t.contents ≡ x → stored_classes tables men mover ≡ x
+  class_by t x found there =
+      let f = subst (λ (b : Board). table_for Wdl b tables ≡ Some t) is found in
+      ap (λ (o : Option Shown). option_and_then (λ t. class_in (board_of men mover) t.contents) o) f ∙ subst (λ (b : Board). class_in b t.contents ≡ x) is there
+
+  pub number_by_table : (k : Class) (t : Shown) (x : Option (Option ℕ)) → table_for Dtz board tables ≡ Some t → number_in board k t.contents ≡ x → stored_numbers tables men mover k ≡ x
+  number_by_table k t x found there =
+      let f = subst (λ (b : Board). table_for Dtz b tables ≡ Some t) is found in
+      ap (λ (o : Option Shown). option_and_then (λ t. number_in (board_of men mover) k t.contents) o) f ∙ subst (λ (b : Board). number_in b k t.contents ≡ x) is there
+
+  pub no_class : table_for Wdl board tables ≡ None → stored_classes tables men mover ≡ None
+  no_class none = ap (λ (o : Option Shown). option_and_then (λ t. class_in (board_of men mover) t.contents) o) (subst (λ (b : Board). table_for Wdl b tables ≡ None) is none)
+
+  pub no_number : (k : Class) → table_for Dtz board tables ≡ None → stored_numbers tables men mover k ≡ None
+  no_number k none = ap (λ (o : Option Shown). option_and_then (λ t. number_in (board_of men mover) k t.contents) o) (subst (λ (b : Board). table_for Dtz b tables ≡ None) is none)
+
+pub lacks : (kind other : Kind) (classes : StoredClasses) (numbers : StoredNumbers) (men : List PlacedMan) (mover : Color) → other ≡ kind → LacksKind kind classes numbers men mover → LacksKind other classes numbers men mover
+lacks kind other classes numbers men mover same h = subst (λ (k : Kind). LacksKind k classes numbers men mover) (sym same) h

@@ -1,0 +1,33 @@
+//! Sets of tables for probing.
+#![tactic(auto)]
+
+use szg_place::PlaceFault;
+use szg_values::{Kind, Material};
+use thiserror::Error;
+
+mod in_memory;
+
+pub use in_memory::{TableSet, number_of_class};
+
+/// What a set of tables does not have for the men of a position.
+#[derive(Debug, Drop, Error)]
+#[error("Missing")]
+pub struct Missing {
+    /// The material of the men.
+    pub material: Material,
+    /// The kind of the table.
+    pub kind: Kind,
+    /// Why there is no class or number.
+    pub reason: MissingReason,
+}
+
+/// Why a set of tables has no class or number for a position.
+#[derive(Clone, Copy, Debug, PartialEq, Eq)]
+pub enum MissingReason {
+    /// There is no table of this kind for the men.
+    Table,
+    /// The table has no index for the placement.
+    Place(PlaceFault),
+    /// The table's value has no meaning: it is no class, or has no number in the class.
+    Value,
+}

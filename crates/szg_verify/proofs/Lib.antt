@@ -1,0 +1,14 @@
+pub mod Captures
+pub mod Classes
+pub mod Passing
+pub mod Certificate
+pub mod Probed
+pub mod Loops
+pub mod Near
+pub mod Checked
+pub mod Chosen
+pub mod Alike
+pub mod Stored
+pub mod TwoKings
+pub mod Images
+pub mod Materials

@@ -1,0 +1,29 @@
+use Rattle.std.proofs.Common.{sym, ap, ◌∙◌, Some, None}
+use Rattle.szg_game.specs.declared.Entry.{Entry}
+use Rattle.szg_probe.specs.Probing.{StoredClasses}
+use Rattle.szg_verify.specs.Entries.{is_one_ply}
+use Rattle.szg_verify.proofs.Near.{near_ended, near_one_ply, near_stored}
+use Rattle.szg_verify.proofs.entries.near_entry.Goals as goal
+
+pub returns-then-is_ended-clause-entry : goal.returns-then-is_ended-clause-entry
+returns-then-is_ended-clause-entry g c =
+    near_ended (g.T.Tables.stored c.args.classes.now) (g.D.DtzTables.distances c.args.distances.now) c.args.position.now c.in-Ok.class c.in-Ok.ensures.probed (sym c.is_ended.ensures ∙ c.if-is_ended.true)
+
+pub returns-then-one_ply-clause-entry : goal.returns-then-one_ply-clause-entry
+returns-then-one_ply-clause-entry g c =
+    let p = c.args.position.now in
+    near_one_ply (g.T.Tables.stored c.args.classes.now) (g.D.DtzTables.distances c.args.distances.now) p c.in-Ok.class c.in-Ok.ensures.probed (sym c.is_ended.ensures ∙ c.if-is_ended.false)
+    (ap (λ (s : StoredClasses). is_one_ply s c.in-Ok.class p) (sym c.probe_wdl.ensures.same) ∙ sym c.in-Ok-is_one_ply.ensures.test ∙ c.if-one_ply.true)
+
+pub returns-in-Ok-Some-clause-entry : goal.returns-in-Ok-Some-clause-entry
+returns-in-Ok-Some-clause-entry g c =
+    let p = c.args.position.now in
+    ap (λ (e : Entry). Some e) c.entry_by_distance.ensures
+    ∙ near_stored (g.T.Tables.stored c.args.classes.now) (g.D.DtzTables.distances c.args.distances.now) p c.in-Ok.class c.in-Ok.ensures.probed (sym c.is_ended.ensures ∙ c.if-is_ended.false)
+    (ap (λ (s : StoredClasses). is_one_ply s c.in-Ok.class p) (sym c.probe_wdl.ensures.same) ∙ sym c.in-Ok-is_one_ply.ensures.test ∙ c.if-one_ply.false) (Some c.in-Ok-Some.distance) (c.in-Ok-Some.ensures.distance ∙ c.in-Ok-Some.field-0-is)
+
+pub returns-in-Ok-None-clause-entry : goal.returns-in-Ok-None-clause-entry
+returns-in-Ok-None-clause-entry g c =
+    let p = c.args.position.now in
+    near_stored (g.T.Tables.stored c.args.classes.now) (g.D.DtzTables.distances c.args.distances.now) p c.in-Ok.class c.in-Ok.ensures.probed (sym c.is_ended.ensures ∙ c.if-is_ended.false)
+    (ap (λ (s : StoredClasses). is_one_ply s c.in-Ok.class p) (sym c.probe_wdl.ensures.same) ∙ sym c.in-Ok-is_one_ply.ensures.test ∙ c.if-one_ply.false) None (c.in-Ok-None.ensures.distance ∙ c.in-Ok-None.field-0-is)

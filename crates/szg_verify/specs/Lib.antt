@@ -1,0 +1,4 @@
+pub mod Entries
+pub mod Verified
+pub mod Materials
+pub mod Laws

@@ -1,0 +1,266 @@
+//! Entries: what tables say of a position.
+
+ghost use Rattle.std.specs.Prelude.{◌≡◌, ◌+◌, ◌||◌, IfOk, Some, ◌≤◌, option_map};
+ghost use Rattle.std.specs.List.{list_any, list_all};
+ghost use Rattle.szg_chess.specs.Moves.{has_no_move, is_zeroing, legal_moves};
+ghost use Rattle.szg_verify.specs.Entries.{is_drawn, keeps, least_plies, most_plies, plies_before, entry_by_distance, wins_at_once, is_one_ply, farthest, greatest, least, entry_before, near_entry, near_after, far_as, quiet_moves, steps_to, plain_entry, tables_of, StepList};
+
+use crate::steps::Steps;
+use crate::{Distance, DtzTables};
+use szg_chess::Position;
+use szg_game::{Class, Entry};
+use szg_probe::{Tables, probe_wdl};
+
+/// More than any distance.
+const FARTHEST: u32 = 1_000_000;
+
+/// Returns whether a class is a draw.
+fn is_drawn(class: Class) -> bool
+    ensures { result ≡ is_drawn class }
+{
+    matches!(class, Class::Draw)
+}
+
+/// Returns whether a move to a position of class `next` keeps a win or a cursed win.
+fn keeps(class: Class, next: Class) -> bool
+    ensures { result ≡ keeps class next }
+{
+    match class {
+        Class::Loss | Class::BlessedLoss | Class::Draw => false,
+        Class::CursedWin => next.is_lost(),
+        Class::Win => next.is_loss(),
+    }
+}
+
+/// Returns the entry of a position of this class from the stored number.
+fn entry_by_distance(class: Class, distance: Distance) -> Entry
+    ensures { result ≡ entry_by_distance class distance }
+{
+    let before = match class {
+        Class::CursedWin | Class::BlessedLoss => 100,
+        Class::Win | Class::Draw | Class::Loss => 0,
+    };
+    match distance {
+        Distance::Plies(plies) => Entry {
+            class,
+            lower: before + (u32::from(plies) + 1),
+            upper: before + (u32::from(plies) + 1),
+        },
+        Distance::Moves(moves) => Entry {
+            class,
+            lower: before + (2 * u32::from(moves) + 1),
+            upper: before + (2 * u32::from(moves) + 2),
+        },
+    }
+}
+
+/// Returns whether some zeroing move keeps a win.
+fn has_win_at_once<T: Tables>(
+    classes: &mut T,
+    class: Class,
+    position: &Position,
+) -> Result<bool, T::Fault>
+    ensures same { T.stored classes.new ≡ T.stored classes.old }
+    ensures test { IfOk result (λ b. b ≡ list_any (wins_at_once (T.stored classes.old) class position.now) (legal_moves position.now)) }
+{
+    let moves = position.legal_moves();
+    for m in moves.as_slice() {
+        if position.is_zeroing(m) {
+            let next = match probe_wdl(classes, &position.after(*m)) {
+                Ok(next) => next,
+                Err(fault) => return Err(fault),
+            };
+            if keeps(class, next) {
+                return Ok(true);
+            }
+        }
+    }
+    Ok(false)
+}
+
+/// Returns whether each legal move is zeroing.
+fn has_only_zeroing(position: &Position) -> bool
+    ensures { result ≡ list_all (is_zeroing position.now) (legal_moves position.now) }
+{
+    let moves = position.legal_moves();
+    moves.as_slice().iter().all(|m| position.is_zeroing(m))
+}
+
+/// Returns whether the next zeroing move is one ply away.
+fn is_one_ply<T: Tables>(
+    classes: &mut T,
+    class: Class,
+    position: &Position,
+) -> Result<bool, T::Fault>
+    ensures same { T.stored classes.new ≡ T.stored classes.old }
+    ensures test { IfOk result (λ b. b ≡ is_one_ply (T.stored classes.old) class position.now) }
+{
+    if class.is_won() {
+        has_win_at_once(classes, class, position)
+    } else {
+        Ok(has_only_zeroing(position))
+    }
+}
+
+/// Returns whether a position of this class is a draw or has no move.
+fn is_ended(class: Class, position: &Position) -> bool
+    ensures { result ≡ (is_drawn class || has_no_move position.now) }
+{
+    is_drawn(class) || position.legal_moves().is_empty()
+}
+
+/// Returns the entry of a position from its class and the stored number alone. None if there is no number.
+pub fn near_entry<T: Tables, D: DtzTables<Fault = T::Fault>>(
+    classes: &mut T,
+    distances: &mut D,
+    position: &Position,
+) -> Result<Option<Entry>, T::Fault>
+    ensures same_classes { T.stored classes.new ≡ T.stored classes.old }
+    ensures same_distances { D.distances distances.new ≡ D.distances distances.old }
+    ensures entry { IfOk result (λ e. e ≡ near_entry (tables_of (T.stored classes.old) (D.distances distances.old)) position.now) }
+{
+    let class = match probe_wdl(classes, position) {
+        Ok(class) => class,
+        Err(fault) => return Err(fault),
+    };
+    if is_ended(class, position) {
+        return Ok(Some(Entry {
+            class,
+            lower: 0,
+            upper: 0,
+        }));
+    }
+    let one_ply = match is_one_ply(classes, class, position) {
+        Ok(one_ply) => one_ply,
+        Err(fault) => return Err(fault),
+    };
+    if one_ply {
+        return Ok(Some(Entry {
+            class,
+            lower: 1,
+            upper: 1,
+        }));
+    }
+    match distances.distance(position, class) {
+        Ok(Some(distance)) => Ok(Some(entry_by_distance(class, distance))),
+        Ok(None) => Ok(None),
+        Err(fault) => Err(fault),
+    }
+}
+
+/// Returns the entries after the moves that are not zeroing. None if there is no number for one of them.
+fn quiet_steps<T: Tables, D: DtzTables<Fault = T::Fault>>(
+    classes: &mut T,
+    distances: &mut D,
+    position: &Position,
+) -> Result<Option<Steps>, T::Fault>
+    ensures same_classes { T.stored classes.new ≡ T.stored classes.old }
+    ensures same_distances { D.distances distances.new ≡ D.distances distances.old }
+    ensures steps { IfOk result (λ o. option_map (λ s. s.items) o ≡ steps_to (near_after (tables_of (T.stored classes.old) (D.distances distances.old)) position.now) position.now (quiet_moves position.now)) }
+{
+    let moves = position.legal_moves();
+    let mut steps = Steps::new();
+    for m in moves.as_slice() {
+        if !position.is_zeroing(m) {
+            match near_entry(classes, distances, &position.after(*m)) {
+                Ok(Some(entry)) => steps.push(entry, false),
+                Ok(None) => return Ok(None),
+                Err(fault) => return Err(fault),
+            }
+        }
+    }
+    Ok(Some(steps))
+}
+
+/// Returns the greatest bounds, the lower and the upper.
+fn greatest(steps: &[(Entry, bool)]) -> (u32, u32)
+    ensures lower { result.0 ≡ greatest (λ e. e.lower) steps.now }
+    ensures upper { result.1 ≡ greatest (λ e. e.upper) steps.now }
+{
+    let mut lower = 0;
+    let mut upper = 0;
+    for step in steps {
+        lower = step.0.lower.max(lower);
+        upper = step.0.upper.max(upper);
+    }
+    (lower, upper)
+}
+
+/// Returns the least bounds of the moves that keep a win, the lower and the upper.
+fn least(class: Class, steps: &[(Entry, bool)]) -> (u32, u32)
+    ensures lower { result.0 ≡ least (λ e. e.lower) class steps.now }
+    ensures upper { result.1 ≡ least (λ e. e.upper) class steps.now }
+    ensures lower_near { result.0 ≤ farthest }
+    ensures upper_near { result.1 ≤ farthest }
+{
+    let mut lower = FARTHEST;
+    let mut upper = FARTHEST;
+    for step in steps {
+        if keeps(class, step.0.class) {
+            lower = step.0.lower.min(lower);
+            upper = step.0.upper.min(upper);
+        }
+    }
+    (lower, upper)
+}
+
+/// Returns the entry of a position of this class from those after its moves that are not zeroing.
+#[tactic(auto, unfolding(crate::specs::Entries::entry_before))]
+fn entry_before(class: Class, steps: &[(Entry, bool)]) -> Entry
+    ensures { result ≡ entry_before class steps.now }
+{
+    if class.is_won() {
+        let (lower, upper) = least(class, steps);
+        Entry {
+            class,
+            lower: 1 + lower,
+            upper: 1 + upper,
+        }
+    } else {
+        let (lower, upper) = greatest(steps);
+        Entry {
+            class,
+            lower: 1 + FARTHEST.min(lower),
+            upper: 1 + FARTHEST.min(upper),
+        }
+    }
+}
+
+/// Returns the entry of a position of this class one ply before the stored side.
+fn far_entry<T: Tables, D: DtzTables<Fault = T::Fault>>(
+    classes: &mut T,
+    distances: &mut D,
+    position: &Position,
+    class: Class,
+) -> Result<Option<Entry>, T::Fault>
+    ensures same_classes { T.stored classes.new ≡ T.stored classes.old }
+    ensures same_distances { D.distances distances.new ≡ D.distances distances.old }
+    ensures entry { IfOk result (λ e. e ≡ far_as (tables_of (T.stored classes.old) (D.distances distances.old)) position.now class) }
+{
+    match quiet_steps(classes, distances, position) {
+        Ok(Some(steps)) => Ok(Some(entry_before(class, steps.as_slice()))),
+        Ok(None) => Ok(None),
+        Err(fault) => Err(fault),
+    }
+}
+
+/// Returns the entry of a position without regard to its en passant square. None if there is no number for the position
+/// or for one after its moves.
+pub fn plain_entry<T: Tables, D: DtzTables<Fault = T::Fault>>(
+    classes: &mut T,
+    distances: &mut D,
+    position: &Position,
+) -> Result<Option<Entry>, T::Fault>
+    ensures same_classes { T.stored classes.new ≡ T.stored classes.old }
+    ensures same_distances { D.distances distances.new ≡ D.distances distances.old }
+    ensures entry { IfOk result (λ e. e ≡ plain_entry (tables_of (T.stored classes.old) (D.distances distances.old)) position.now) }
+{
+    match near_entry(classes, distances, position) {
+        Ok(Some(entry)) => Ok(Some(entry)),
+        Ok(None) => match probe_wdl(classes, position) {
+            Ok(class) => far_entry(classes, distances, position, class),
+            Err(fault) => Err(fault),
+        },
+        Err(fault) => Err(fault),
+    }
+}

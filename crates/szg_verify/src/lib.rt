@@ -1,0 +1,25 @@
+//! Verification: tables are checked against chess, position by position.
+//!
+//! WDL and DTZ tables say an entry of each position: a class, and bounds on the plies to mate or to the next zeroing
+//! move. If the entry of each position agrees with the entries one move on, each class that the tables say is the class
+//! of its position. The definitions are in `specs/`: `Entries` has what tables say, `Verified` when they pass.
+#![tactic(auto)]
+
+mod checking;
+mod entries;
+pub mod laws;
+mod steps;
+mod tables;
+
+pub use checking::{check_all, check_position};
+pub use entries::plain_entry;
+pub use tables::DtzTables;
+
+/// A number that a DTZ table stores: the plies after the first one, up to mate or to the zeroing move.
+#[derive(Clone, Copy, Debug, PartialEq, Eq)]
+pub enum Distance {
+    /// The exact number of plies.
+    Plies(u16),
+    /// Half the number of plies, rounded down.
+    Moves(u16),
+}
