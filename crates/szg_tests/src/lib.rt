@@ -1,7 +1,7 @@
 //! Tests of the libraries, through their public items alone: examples of the format, texts, refused memory, and
 //! devices that are interrupted or fail. What a contract says is not tested again.
 //!
-//! They are one crate because a crate with tests is proved twice.
+//! The tests of the program's commands are in `szg_program_tests`, which is proved beside this crate.
 #![tactic(auto)]
 
 #[cfg(test)]
@@ -10,8 +10,6 @@ mod block;
 mod build;
 #[cfg(test)]
 mod code;
-#[cfg(test)]
-mod commands;
 #[cfg(test)]
 mod costs;
 #[cfg(test)]

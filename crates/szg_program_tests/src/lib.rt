@@ -1,0 +1,6 @@
+//! Tests of the program's commands, through the public items of `szg_commands` alone: words, answers, statuses, texts, and
+//! devices that fail.
+#![tactic(auto)]
+
+#[cfg(test)]
+mod commands;
