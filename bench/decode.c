@@ -68,15 +68,11 @@ int main(int argc, char **argv)
 {
     size_t len = (argc > 1 ? strtoull(argv[1], NULL, 10) : 8) << 20;
     uint8_t *bytes = calloc(len + PAD, 1);
-    if (!bytes)
-        return 1;
+    if (!bytes) return 1;
     uint64_t state = 1;
-    for (size_t i = 0; i < len; i++) {
-        state = state * 6364136223846793005u + 1442695040888963407u;
-        bytes[i] = state >> 56;
-    }
+    for (size_t i = 0; i < len; i++) bytes[i] = (uint8_t)(draw(&state) >> 23);
     uint16_t symbols = make_code();
-    double best_plain = 1e9, best_szg = 1e9;
+    double best_plain = 0, best_szg = 0;
     for (int round = 0; round < ROUNDS; round++) {
         uint64_t plain_mix = 0, szg_mix = 0;
         double t0 = now();
@@ -84,14 +80,9 @@ int main(int argc, char **argv)
         double t1 = now();
         uint64_t szg_count = szg_bench_decode(MIN, MAX, lowest, LENGTHS, symbols, bytes, len, &szg_mix);
         double t2 = now();
-        if (plain_count != szg_count || plain_mix != szg_mix || szg_count == 0) {
-            fprintf(stderr, "the decoders differ: %" PRIu64 " and %" PRIu64 " words\n", plain_count, szg_count);
-            return 1;
-        }
-        if (t1 - t0 < best_plain)
-            best_plain = t1 - t0;
-        if (t2 - t1 < best_szg)
-            best_szg = t2 - t1;
+        if (plain_count != szg_count || plain_mix != szg_mix || szg_count == 0) fail("the decoders differ");
+        least(&best_plain, t1 - t0);
+        least(&best_szg, t2 - t1);
         if (round == 0)
             printf("%zu bytes, %" PRIu64 " words of %u symbols\n", len, szg_count, symbols);
     }

@@ -35,17 +35,10 @@ static void open_table(const char *folder, const char *name, bool dtz, struct op
     char path[4096];
     szg_answer answer;
     snprintf(path, sizeof path, "%s/%s.%s", folder, name, dtz ? "rtbz" : "rtbw");
-    FILE *file = fopen(path, "rb");
-    if (!file || fseek(file, 0, SEEK_END))
-        fail(path);
-    t->length = (size_t)ftell(file);
-    t->bytes = malloc(t->length + 1);
-    rewind(file);
-    if (!t->bytes || fread(t->bytes, 1, t->length, file) != t->length ||
-        szg_open(name, strlen(name), dtz, t->bytes, t->length, &t->table, &answer) != SZG_DONE ||
+    t->bytes = bytes_of(path, &t->length);
+    if (szg_open(name, strlen(name), dtz, t->bytes, t->length, &t->table, &answer) != SZG_DONE ||
         szg_open_front(name, strlen(name), dtz, t->bytes, t->length, &t->front, &answer) != SZG_DONE)
         fail(path);
-    fclose(file);
 }
 
 static bool kings_touch(const struct placement *p)

@@ -151,20 +151,16 @@ static void time_way(const struct way *timed)
 
 int main(int count, char **words)
 {
-    FILE *f = count == 2 ? fopen(words[1], "rb") : NULL;
-    file = malloc(1 << 25);
+    if (count != 2) return fprintf(stderr, "threads TABLE\n"), 2;
+    file = bytes_of(words[1], &length);
     indexes = malloc(LOOK_UPS * sizeof *indexes);
     times = mmap(NULL, sizeof *times, PROT_READ | PROT_WRITE, MAP_SHARED | MAP_ANONYMOUS, -1, 0);
-    if (!f || !file || !indexes || times == MAP_FAILED)
-        return fprintf(stderr, "threads TABLE\n"), 2;
-    length = fread(file, 1, 1 << 25, f);
-    fclose(f);
+    if (!indexes || times == MAP_FAILED) fail("no memory");
     uint64_t state = 1, size = 0;
     open_handle(0);
     szg_positions(&handles[0].table, 0, 0, &size);
     for (size_t k = 0; k < LOOK_UPS; k++) {
-        state = state * 6364136223846793005u + 1442695040888963407u;
-        indexes[k] = (uint32_t)((state >> 16) % size);
+        indexes[k] = draw(&state) % (uint32_t)size;
         due = 31 * due + get_by_handle(0, indexes[k]);
     }
     time_way(&(struct way){"szg_get, a handle each", open_handle, share_handle, get_by_handle});
