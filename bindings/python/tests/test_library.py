@@ -35,17 +35,16 @@ def test_the_package_says_what_it_has() -> None:
     assert (szg.PAWN, szg.KNIGHT, szg.BISHOP, szg.ROOK, szg.QUEEN, szg.KING, szg.WHITE, szg.BLACK) == (1, 2, 3, 4, 5, 6, True, False)
 
 
-def test_the_examples_of_the_readme_run(folder: Path, monkeypatch: pytest.MonkeyPatch) -> None:
-    monkeypatch.chdir(folder.parent)
-    # a DTZ table of KQvK with one value, 0, for White to move
-    (folder / "KQvK.rtbz").write_bytes(bytes.fromhex("d7660ca501006655ee008000").ljust(80, b"\0"))
+def test_the_examples_of_the_readme_run(folder: Path, monkeypatch: pytest.MonkeyPatch, capsys: pytest.CaptureFixture) -> None:
     text = (ROOT / "bindings/python/README.md").read_text(encoding="utf-8")
-    examples = re.findall(r"```python\n(.*?)```", text, re.S)
-    assert len(examples) == 2
+    program, others = re.findall(r"```python\n(.*?)```", text, re.S)
+    monkeypatch.chdir(ROOT)
+    exec(program, {})
+    assert capsys.readouterr().out.strip() == re.search(r"^It prints `(.*?)`", text, re.M)[1]
+    monkeypatch.chdir(folder.parent)
     found = {"szg": szg, "data": UNPAIRED.data}
-    for example in examples:
-        exec(example, found)
-    assert found["tables"].__class__ is szg.Tablebase and found["spot"].index < 31332
+    exec(others, found)
+    assert found["spot"].index < 31332
 
 
 def test_errors_are_pickled() -> None:
