@@ -293,6 +293,7 @@ static void compare_accepted(const reader_table *t) {
     szg_answer answer = NO_ANSWER;
     is_front = false;
     same("szg_open", szg_open(TABLE_WORDS, &table, &answer), SZG_DONE);
+    if (now.differs) return;
     if (random_one_in(4)) compare_sizes(t);
     for (int i = 0; i < t->subtable_count; i++) {
         const reader_subtable *sub = &t->subtables[i];
