@@ -134,12 +134,9 @@ def test_each_status_of_a_call_is_an_exception(status: int, fault: type, said: s
 
 @pytest.mark.parametrize("call", ["szg_open_front", "szg_share_front", "szg_check", "szg_values", "szg_front_size", "szg_front_get",
                                   "szg_front_probe", "szg_front_index", "szg_front_placement"])
-def test_no_call_loses_want_of_memory(call: str, tmp_path: Path, monkeypatch: pytest.MonkeyPatch) -> None:
-    path = tmp_path / "KQvK.rtbw"
-    path.write_bytes(UNPAIRED.data)
-
+def test_no_call_loses_want_of_memory(call: str, queen_file: Path, monkeypatch: pytest.MonkeyPatch) -> None:
     def use() -> None:
-        with szg.Table.open(path) as mapped, szg.Table("KQvK", "wdl", UNPAIRED.data) as table:
+        with szg.Table.open(queen_file) as mapped, szg.Table("KQvK", "wdl", UNPAIRED.data) as table:
             for one in (mapped, table):
                 one.get(0), one.size(), one.values(), one.verify()
                 one.index("4K3/8/8/8/8/8/8/Q6k w"), one.probe_wdl("4K3/8/8/8/8/8/8/Q6k w"), one.placement(0, 0, 0)
@@ -151,19 +148,15 @@ def test_no_call_loses_want_of_memory(call: str, tmp_path: Path, monkeypatch: py
 
 
 @pytest.mark.parametrize("call", [lambda path: szg.Table.open(path, verify=True), lambda _: szg.Table("KQvK", "wdl", UNPAIRED.data, verify=True)])
-def test_verifying_at_opening_loses_no_want_of_memory(call, tmp_path: Path, monkeypatch: pytest.MonkeyPatch) -> None:
-    path = tmp_path / "KQvK.rtbw"
-    path.write_bytes(UNPAIRED.data)
-    call(path).close()
+def test_verifying_at_opening_loses_no_want_of_memory(call, queen_file: Path, monkeypatch: pytest.MonkeyPatch) -> None:
+    call(queen_file).close()
     monkeypatch.setattr(_library.library, "szg_check", lambda *_: 3)
     with pytest.raises(MemoryError):
-        call(path)
+        call(queen_file)
 
 
-def test_closing_lets_the_librarys_handles_go(tmp_path: Path, monkeypatch: pytest.MonkeyPatch) -> None:
+def test_closing_lets_the_librarys_handles_go(queen_file: Path, monkeypatch: pytest.MonkeyPatch) -> None:
     """Each handle that is made is closed once, however the table goes; no collection is waited for."""
-    path = tmp_path / "KQvK.rtbw"
-    path.write_bytes(UNPAIRED.data)
     open_handles = set()
     for name in ("szg_open_front", "szg_share_front"):
         def make(*words, call=getattr(_library.library, name), at=-2 if "open" in name else -1):
@@ -182,7 +175,7 @@ def test_closing_lets_the_librarys_handles_go(tmp_path: Path, monkeypatch: pytes
     gc.disable()
     try:
         for way in ("closed", "dropped", "closed while it serves", "closed by an exception", "shared by two calls"):
-            table = szg.Table.open(path)
+            table = szg.Table.open(queen_file)
             table.get(0), table.size()
             front = table._opened._front
             assert len(open_handles) == 2
