@@ -1,11 +1,11 @@
-/* Compares full probing: the answers of `szg probe FOLDER.. -`, Fathom's and Stockfish's, and the solver's.
+/* Compares full probing: what `szg probe FOLDER.. -` prints, Fathom's and Stockfish's, and the solver's.
  *
  *     full_probes draw SEED ALL <NAME.positions >EXPECTED      a line "FEN<tab>class<tab>dtz" for each position that was solved
- *     full_probes compare TABLES ANSWERS STOCKFISH EXPECTED
+ *     full_probes compare TABLES OUTPUT STOCKFISH EXPECTED
  *
  * draw: each position is turned or flipped at random (ALL 0), or in all mirror images with both colors (ALL 1), and has a
  * fifty-move counter, which is 0 for half of them.
- * compare: ANSWERS has szg's lines, STOCKFISH a line "class dtz" for each. Fathom, which is linked, probes the tables in the
+ * compare: OUTPUT has szg's lines, STOCKFISH a line "class dtz" for each. Fathom, which is linked, probes the tables in the
  * folder TABLES: class, DTZ, and each move's class and DTZ with the counter. szg's best move has to be one of Fathom's best.
  * Further fields of szg's lines, "uci class dtz", are compared move by move. The solver's DTZ may be one ply off where tables
  * count moves. Prints each difference up to twenty, and a line of counts. Status 0 without differences, 1 with some, 2 if
@@ -158,5 +158,5 @@ int main(int count, char **words)
 {
     if (count == 4 && !strcmp(words[1], "draw")) return draw(atoi(words[2]), atoi(words[3]));
     if (count == 6 && !strcmp(words[1], "compare")) return compare(words + 2);
-    return fprintf(stderr, "full_probes draw SEED ALL | compare TABLES ANSWERS STOCKFISH EXPECTED\n"), 2;
+    return fprintf(stderr, "full_probes draw SEED ALL | compare TABLES OUTPUT STOCKFISH EXPECTED\n"), 2;
 }
