@@ -39,30 +39,24 @@ static uint64_t state = 1;
 static uint32_t below(uint32_t most) { return draw(&state) % most; }
 
 /* runs of about eight values; the smaller a value, the more often it occurs */
-static void fill_skewed(uint16_t *values, size_t size)
-{
+static void fill_skewed(uint16_t *values, size_t size) {
     uint16_t value = 0;
     for (size_t i = 0; i < size; i++) {
         if (below(8) == 0) {
             value = 0;
-            while (value < 100 && below(16) != 0)
-                value++;
+            while (value < 100 && below(16) != 0) value++;
         }
         values[i] = value;
     }
 }
 
-static void fill_uniform(uint16_t *values, size_t size)
-{
-    for (size_t i = 0; i < size; i++)
-        values[i] = below(200);
+static void fill_uniform(uint16_t *values, size_t size) {
+    for (size_t i = 0; i < size; i++) values[i] = below(200);
 }
 
 /* one value in a hundred isn't 5 */
-static void fill_nearly_constant(uint16_t *values, size_t size)
-{
-    for (size_t i = 0; i < size; i++)
-        values[i] = below(100) == 0 ? below(20) : 5;
+static void fill_nearly_constant(uint16_t *values, size_t size) {
+    for (size_t i = 0; i < size; i++) values[i] = below(100) == 0 ? below(20) : 5;
 }
 
 static const struct kind {
@@ -71,8 +65,7 @@ static const struct kind {
 } KINDS[] = {{"skewed with runs", fill_skewed}, {"uniform", fill_uniform}, {"nearly constant", fill_nearly_constant}};
 
 /* builds one table; stops the program where it isn't built */
-static uint64_t build(const struct form *form, const uint16_t *values, uint32_t rounds)
-{
+static uint64_t build(const struct form *form, const uint16_t *values, uint32_t rounds) {
     struct packing packing = {rounds, 6, 12};
     uint64_t length = 0;
     uint32_t status = szg_bench_build((const uint8_t *)form->name, strlen(form->name), form->men, form->count, values,
@@ -82,16 +75,14 @@ static uint64_t build(const struct form *form, const uint16_t *values, uint32_t 
     return length;
 }
 
-static const struct form *form_of(size_t size)
-{
+static const struct form *form_of(size_t size) {
     for (size_t f = 0; f < sizeof FORMS / sizeof *FORMS; f++)
         if (FORMS[f].size == size) return &FORMS[f];
     fail("no material has this number of positions");
     return NULL;
 }
 
-static void time_build(const char *list, uint32_t rounds)
-{
+static void time_build(const char *list, uint32_t rounds) {
     size_t count;
     uint8_t *values = bytes_of(list, &count);
     const struct form *form = form_of(count / 2);
@@ -103,23 +94,20 @@ static void time_build(const char *list, uint32_t rounds)
     printf("%.3f %ld %" PRIu64 "\n", seconds, usage.ru_maxrss / 1024, length);
 }
 
-static void write_list(const struct kind *kind, size_t size)
-{
+static void write_list(const struct kind *kind, size_t size) {
     uint16_t *values = malloc(size * sizeof *values);
     if (!values) exit(4);
     kind->fill(values, size);
     fwrite(values, sizeof *values, size, stdout);
 }
 
-static void build_small(const struct kind *kind)
-{
+static void build_small(const struct kind *kind) {
     static uint16_t values[31332];
     kind->fill(values, FORMS[0].size);
     printf("%s: %" PRIu64 " bytes\n", kind->name, build(&FORMS[0], values, 16));
 }
 
-int main(int argc, char **argv)
-{
+int main(int argc, char **argv) {
     if (argc == 2) build_small(&KINDS[(size_t)atoi(argv[1]) % 3]);
     if (argc == 4 && !strcmp(argv[1], "list")) write_list(&KINDS[(size_t)atoi(argv[2]) % 3], strtoull(argv[3], NULL, 10));
     if (argc == 3) time_build(argv[1], (uint32_t)strtoul(argv[2], NULL, 10));

@@ -14,8 +14,7 @@ static const uint16_t words_of_length[LENGTHS] = {1, 2, 3, 4, 5, 6, 8, 8, 8, 8, 
 static uint16_t lowest[LENGTHS];
 static uint64_t shifted_base[LENGTHS];
 
-static uint16_t make_code(void)
-{
+static uint16_t make_code(void) {
     uint64_t base = 0;
     lowest[LENGTHS - 1] = 0;
     shifted_base[LENGTHS - 1] = 0;
@@ -27,27 +26,23 @@ static uint16_t make_code(void)
     return lowest[0] + words_of_length[0];
 }
 
-static uint32_t read_u32(const uint8_t *p)
-{
+static uint32_t read_u32(const uint8_t *p) {
     uint32_t v;
     memcpy(&v, p, 4);
     return __builtin_bswap32(v);
 }
 
 /* the bytes have PAD zeros behind them */
-static uint64_t plain_decode(const uint8_t *bytes, size_t len, uint64_t *mixed)
-{
+static uint64_t plain_decode(const uint8_t *bytes, size_t len, uint64_t *mixed) {
     uint64_t window = (uint64_t)read_u32(bytes) << 32 | read_u32(bytes + 4);
     const uint8_t *piece = bytes + 8;
     uint64_t left = 8 * (uint64_t)len, mix = 0, count = 0;
     unsigned empty = 0;
     for (;;) {
         unsigned j = 0;
-        while (window < shifted_base[j])
-            j++;
+        while (window < shifted_base[j]) j++;
         unsigned length = MIN + j;
-        if (length > left)
-            break;
+        if (length > left) break;
         uint16_t symbol = lowest[j] + ((window - shifted_base[j]) >> (64 - length));
         mix = 31 * mix + symbol;
         count++;
@@ -64,8 +59,7 @@ static uint64_t plain_decode(const uint8_t *bytes, size_t len, uint64_t *mixed)
     return count;
 }
 
-int main(int argc, char **argv)
-{
+int main(int argc, char **argv) {
     size_t len = (argc > 1 ? strtoull(argv[1], NULL, 10) : 8) << 20;
     uint8_t *bytes = calloc(len + PAD, 1);
     if (!bytes) return 1;
@@ -83,8 +77,7 @@ int main(int argc, char **argv)
         if (plain_count != szg_count || plain_mix != szg_mix || szg_count == 0) fail("the decoders differ");
         least(&best_plain, t1 - t0);
         least(&best_szg, t2 - t1);
-        if (round == 0)
-            printf("%zu bytes, %" PRIu64 " words of %u symbols\n", len, szg_count, symbols);
+        if (round == 0) printf("%zu bytes, %" PRIu64 " words of %u symbols\n", len, szg_count, symbols);
     }
     printf("plain C %.0f MB/s, szg_code %.0f MB/s, ratio of times %.2f\n", len / best_plain / 1e6, len / best_szg / 1e6,
            best_szg / best_plain);

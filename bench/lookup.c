@@ -41,22 +41,19 @@ struct table {
     uint16_t *entry_offsets;
 };
 
-static uint16_t u16(const uint8_t *p)
-{
+static uint16_t u16(const uint8_t *p) {
     uint16_t v;
     memcpy(&v, p, 2);
     return v;
 }
 
-static uint32_t u32(const uint8_t *p)
-{
+static uint32_t u32(const uint8_t *p) {
     uint32_t v;
     memcpy(&v, p, 4);
     return v;
 }
 
-static uint64_t big64(const uint8_t *p)
-{
+static uint64_t big64(const uint8_t *p) {
     uint64_t v;
     memcpy(&v, p, 8);
     return __builtin_bswap64(v);
@@ -68,8 +65,7 @@ static int left_of(const uint8_t *w) { return (w[1] & 0xf) << 8 | w[0]; }
 static int right_of(const uint8_t *w) { return w[2] << 4 | w[1] >> 4; }
 
 /* Takes side 0 of a table that the second reader has read. */
-static void take_table(struct table *t, const reader_subtable *sub)
-{
+static void take_table(struct table *t, const reader_subtable *sub) {
     t->n = (struct numbers){sub->size, sub->blocks, (uint16_t)sub->symbols, (uint8_t)sub->block_bits, (uint8_t)sub->span_bits,
                             (uint8_t)sub->extra, (uint8_t)sub->min, (uint8_t)sub->max};
     t->index = sub->sparse, t->packed = sub->packed, t->pairs = sub->entries;
@@ -92,17 +88,14 @@ static void take_table(struct table *t, const reader_subtable *sub)
 }
 
 /* the look-up of the probing code: a function of its own, which isn't written into the loop that times it */
-__attribute__((noinline)) static uint16_t look_up(const struct table *t, uint64_t i)
-{
+__attribute__((noinline)) static uint16_t look_up(const struct table *t, uint64_t i) {
     uint64_t span = i >> t->n.span_bits;
     uint32_t block = u32(t->index + 6 * span);
     int64_t rest = (int64_t)(i & ((1ull << t->n.span_bits) - 1)) - (1ll << (t->n.span_bits - 1)) + u16(t->index + 6 * span + 4);
     if (rest < 0)
-        while (rest < 0)
-            rest += t->lengths[--block] + 1;
+        while (rest < 0) rest += t->lengths[--block] + 1;
     else
-        while (rest > t->lengths[block])
-            rest -= t->lengths[block++] + 1;
+        while (rest > t->lengths[block]) rest -= t->lengths[block++] + 1;
     const uint8_t *p = t->packed + ((size_t)block << t->n.block_bits);
     int min = t->n.min, value = rest, bits = 0, symbol;
     const uint64_t *base = t->base - min;
@@ -112,11 +105,9 @@ __attribute__((noinline)) static uint16_t look_up(const struct table *t, uint64_
     p += 8;
     for (;;) {
         int l = min;
-        while (window < base[l])
-            l++;
+        while (window < base[l]) l++;
         symbol = offset[l] + (int)((window - base[l]) >> (64 - l));
-        if (value < symbol_len[symbol] + 1)
-            break;
+        if (value < symbol_len[symbol] + 1) break;
         value -= symbol_len[symbol] + 1;
         window <<= l;
         bits += l;
@@ -140,8 +131,7 @@ __attribute__((noinline)) static uint16_t look_up(const struct table *t, uint64_
 }
 
 /* decodes the words of one block, up to `wanted` values; if a list is passed, their values are stored there */
-static bool read_block(const struct table *t, const uint8_t *p, int64_t wanted, uint16_t *list)
-{
+static bool read_block(const struct table *t, const uint8_t *p, int64_t wanted, uint16_t *list) {
     int min = t->n.min, bits = 0;
     const uint64_t *base = t->base - min;
     const uint16_t *offset = t->offset - min;
@@ -151,11 +141,9 @@ static bool read_block(const struct table *t, const uint8_t *p, int64_t wanted, 
     p += 8;
     while (wanted > 0) {
         int l = min;
-        while (window < base[l])
-            l++;
+        while (window < base[l]) l++;
         int symbol = offset[l] + (int)((window - base[l]) >> (64 - l));
-        if (l > left || symbol >= t->n.symbols)
-            return false;
+        if (l > left || symbol >= t->n.symbols) return false;
         left -= l;
         if (list) {
             uint16_t waiting[MOST_VALUES];
@@ -178,8 +166,7 @@ static bool read_block(const struct table *t, const uint8_t *p, int64_t wanted, 
         bits += l;
         if (bits >= 32) {
             bits -= 32;
-            if (p < end)
-                window |= (uint64_t)big32(p) << bits;
+            if (p < end) window |= (uint64_t)big32(p) << bits;
             p += 4;
         }
     }
@@ -187,14 +174,12 @@ static bool read_block(const struct table *t, const uint8_t *p, int64_t wanted, 
 }
 
 /* all blocks, and all values where a list is given */
-static bool read_blocks(const struct table *t, uint16_t *list)
-{
+static bool read_blocks(const struct table *t, uint16_t *list) {
     uint64_t start = 0;
     for (uint32_t n = 0; n < t->n.blocks; n++) {
         int64_t wanted = t->lengths[n] + 1;
         int64_t rest = start < t->n.size ? t->n.size - start : 0;
-        if (wanted > rest)
-            wanted = rest;
+        if (wanted > rest) wanted = rest;
         if (!read_block(t, t->packed + ((size_t)n << t->n.block_bits), wanted, list ? list + start : NULL))
             return false;
         start += t->lengths[n] + 1;
@@ -217,15 +202,13 @@ static struct {
 static szg_table table = SZG_NO_TABLE;
 static szg_front front = SZG_NO_FRONT;
 
-static uint64_t by_c(size_t count)
-{
+static uint64_t by_c(size_t count) {
     uint64_t mix = 0;
     for (size_t k = 0; k < count; k++) mix = 31 * mix + look_up(&t, indexes[k]);
     return mix;
 }
 
-static uint64_t by_block(struct work work, size_t count)
-{
+static uint64_t by_block(struct work work, size_t count) {
     return szg_bench_subtable(&work, &t.n, t.offset, t.n.max - t.n.min + 1, t.pairs, 3 * (size_t)t.n.symbols, t.entry_blocks, t.spans,
                               t.entry_offsets, t.spans, t.lengths, t.n.blocks + t.n.extra, t.packed,
                               (size_t)t.n.blocks << t.n.block_bits, indexes, count);
@@ -236,13 +219,9 @@ static uint64_t check_by_block(size_t passes) { return by_block((struct work){.c
 static uint64_t list_by_block(size_t passes) { return by_block((struct work){.lists = (uint32_t)passes}, 0); }
 
 /* in a table that stays in a source over memory */
-static uint64_t by_source(size_t count)
-{
-    return szg_bench_opened((const uint8_t *)"KQRvK", 5, file, length, indexes, count);
-}
+static uint64_t by_source(size_t count) { return szg_bench_opened((const uint8_t *)"KQRvK", 5, file, length, indexes, count); }
 
-static uint64_t by_get(size_t count)
-{
+static uint64_t by_get(size_t count) {
     uint64_t mix = 0;
     uint16_t value = 0;
     for (size_t k = 0; k < count; k++) {
@@ -252,8 +231,7 @@ static uint64_t by_get(size_t count)
     return mix;
 }
 
-static uint64_t by_range(size_t count)
-{
+static uint64_t by_range(size_t count) {
     uint64_t mix = 0;
     uint16_t value = 0;
     szg_byte_range range = {0, 0};
@@ -266,8 +244,7 @@ static uint64_t by_range(size_t count)
     return mix;
 }
 
-static uint64_t by_front(size_t count)
-{
+static uint64_t by_front(size_t count) {
     uint64_t mix = 0;
     uint16_t value = 0;
     szg_bad_block bad;
@@ -278,15 +255,13 @@ static uint64_t by_front(size_t count)
     return mix;
 }
 
-static uint64_t check_by_c(size_t passes)
-{
+static uint64_t check_by_c(size_t passes) {
     while (passes--)
         if (!read_blocks(&t, NULL)) fail("the checks differ");
     return 0;
 }
 
-static uint64_t list_by_c(size_t passes)
-{
+static uint64_t list_by_c(size_t passes) {
     uint64_t mix = 0;
     while (passes--) {
         uint16_t *list = malloc(2 * t.n.size);
@@ -300,8 +275,7 @@ static uint64_t list_by_c(size_t passes)
 typedef uint64_t way(size_t count);
 
 /* The least time of one of `count` by each way, in seconds; the time of none, which sets up what the way needs, is left out. */
-static void time_ways(way *const *ways, double *best, int number, size_t count)
-{
+static void time_ways(way *const *ways, double *best, int number, size_t count) {
     double whole[4] = {0}, begun[4] = {0};
     for (int round = 0; round < ROUNDS; round++) {
         uint64_t due = 0;
@@ -320,16 +294,14 @@ static void time_ways(way *const *ways, double *best, int number, size_t count)
     for (int i = 0; i < number; i++) best[i] = (whole[i] - begun[i]) / (double)count;
 }
 
-static void *call(void *of, const char *name)
-{
+static void *call(void *of, const char *name) {
     void *found = of ? dlsym(of, name) : NULL;
     if (!found) fail(name);
     return found;
 }
 
 /* Opens the table by the C library, which is a shared one here: szg_bench brings the same runtime. */
-static void open_by_library(const char *path)
-{
+static void open_by_library(const char *path) {
     void *of = dlopen(path, RTLD_NOW | RTLD_LOCAL);
     __typeof__(szg_open) *open = call(of, "szg_open");
     __typeof__(szg_open_front) *open_front = call(of, "szg_open_front");
@@ -342,16 +314,14 @@ static void open_by_library(const char *path)
         fail("the table is refused");
 }
 
-static void print_rates(const char *what, way *by_c_alone, way *by_szg)
-{
+static void print_rates(const char *what, way *by_c_alone, way *by_szg) {
     double best[2];
     time_ways((way *const[]){by_c_alone, by_szg}, best, 2, PASSES);
     printf("%s C %6.0f million values a second, szg_block %6.0f, ratio of times %.2f\n", what, (double)t.n.size / best[0] / 1e6,
            (double)t.n.size / best[1] / 1e6, best[1] / best[0]);
 }
 
-int main(int argc, char **argv)
-{
+int main(int argc, char **argv) {
     if (argc < 3) return 2;
     file = bytes_of(argv[1], &length);
     static reader_table read;

@@ -17,30 +17,25 @@ static const szg_man MEN[] = {{SZG_KING, SZG_WHITE, 4}, {SZG_QUEEN, SZG_WHITE, 3
 enum { MEN_COUNT = sizeof MEN / sizeof *MEN };
 static const uint64_t SIZE = 31332ull * 61 * 60 * 59;
 
-static size_t heap(void)
-{
+static size_t heap(void) {
     struct mallinfo2 info = mallinfo2();
     return info.uordblks + info.hblkhd;
 }
 
-static const uint8_t *mapped(const char *folder, size_t *length)
-{
+static const uint8_t *mapped(const char *folder, size_t *length) {
     char path[4096];
     struct stat about;
     snprintf(path, sizeof path, "%s/%s.rtbw", folder, NAME);
     int file = open(path, O_RDONLY);
-    if (file < 0 || fstat(file, &about))
-        fail(path);
+    if (file < 0 || fstat(file, &about)) fail(path);
     *length = (size_t)about.st_size;
     const uint8_t *bytes = mmap(NULL, *length, PROT_READ, MAP_SHARED, file, 0);
-    if (bytes == MAP_FAILED)
-        fail("no map");
+    if (bytes == MAP_FAILED) fail("no map");
     close(file);
     return bytes;
 }
 
-static void open_by_front(const char *folder)
-{
+static void open_by_front(const char *folder) {
     size_t length;
     szg_front front = SZG_NO_FRONT;
     szg_answer answer;
@@ -53,8 +48,7 @@ static void open_by_front(const char *folder)
 }
 
 /* Every check is made, and the blocks stay in the file. */
-static void open_checked(const char *folder)
-{
+static void open_checked(const char *folder) {
     size_t length;
     szg_front front = SZG_NO_FRONT;
     szg_answer answer;
@@ -75,15 +69,12 @@ static void open_checked(const char *folder)
 }
 
 #ifdef FATHOM
-static void open_by_fathom(const char *folder)
-{
+static void open_by_fathom(const char *folder) {
     int success = 1;
-    if (!tb_init(folder))
-        fail("Fathom reads no tables there");
+    if (!tb_init(folder)) fail("Fathom reads no tables there");
     fathom_position position = fathom_of(MEN, MEN_COUNT, SZG_WHITE);
     int outcome = probe_table(&position, 0, &success, FATHOM_WDL);
-    if (success != 1 || outcome % 2)
-        fail("Fathom doesn't read the table");
+    if (success != 1 || outcome % 2) fail("Fathom doesn't read the table");
 }
 #endif
 
@@ -98,11 +89,9 @@ static const struct {
 #endif
 };
 
-int main(int count, char **words)
-{
+int main(int count, char **words) {
     for (size_t i = 0; i < sizeof WAYS / sizeof *WAYS && count == 3; i++) {
-        if (strcmp(words[2], WAYS[i].word))
-            continue;
+        if (strcmp(words[2], WAYS[i].word)) continue;
         size_t held = heap();
         double wall = clock_seconds(CLOCK_MONOTONIC), processor = clock_seconds(CLOCK_PROCESS_CPUTIME_ID);
         WAYS[i].open(words[1]);

@@ -16,8 +16,7 @@ enum { LINE = 1 << 14 };
 static long passing, passing_only, passing_wins, moves_compared;
 
 /* ---- drawing */
-static int draw(int seed, int is_all)
-{
+static int draw(int seed, int is_all) {
     struct question q, r;
     char fen[128];
     srand((unsigned)seed);
@@ -33,13 +32,11 @@ static int draw(int seed, int is_all)
 }
 
 /* ---- comparing */
-static void differ(const char *fen, const char *who, long class, long dtz, long due_class, long due_dtz)
-{
+static void differ(const char *fen, const char *who, long class, long dtz, long due_class, long due_dtz) {
     if (differences++ < SHOWN) printf("%s: %s: class %ld, dtz %ld; szg: class %ld, dtz %ld\n", fen, who, class, dtz, due_class, due_dtz);
 }
 
-static struct question read_fen(const char *fen)
-{
+static struct question read_fen(const char *fen) {
     struct question q = {.passed = NO_SQUARE};
     int rank = 7, file = 0;
     for (; *fen != ' '; fen++) {
@@ -56,8 +53,7 @@ static struct question read_fen(const char *fen)
 
 static int class_at(int counter, int dtz) { return dtz > 0 ? (dtz + counter <= 100 ? 2 : 1) : dtz < 0 ? (-dtz + counter <= 100 ? -2 : -1) : 0; }
 
-static void uci_of(unsigned result, char *out)
-{
+static void uci_of(unsigned result, char *out) {
     unsigned from = TB_GET_FROM(result), to = TB_GET_TO(result), promotes = TB_GET_PROMOTES(result);
     sprintf(out, "%c%d%c%d", 'a' + from % 8, from / 8 + 1, 'a' + to % 8, to / 8 + 1);
     if (promotes) out[4] = "\0qrbn"[promotes], out[5] = 0;
@@ -69,8 +65,7 @@ static int dtz_of(unsigned result) { int class = (int)TB_GET_WDL(result) - 2, dt
 /* Wins by the least DTZ first, then draws, then losses by the greatest. */
 static long rank_of(int dtz) { return dtz > 0 ? dtz : dtz == 0 ? 10000 : 40000 + dtz; }
 
-static void compare_moves(const char *fen, const unsigned *results, char *best, char *more)
-{
+static void compare_moves(const char *fen, const unsigned *results, char *best, char *more) {
     long least = 1 << 30, own = -1;
     char uci[8];
     int count = 0, szg_count = 0;
@@ -99,8 +94,7 @@ static void compare_moves(const char *fen, const unsigned *results, char *best, 
     if (more && szg_count != count) differ(fen, "number of moves", count, 0, szg_count, 0);
 }
 
-static void ask_fathom(const char *fen, int class, int dtz, char *best, char *more)
-{
+static void ask_fathom(const char *fen, int class, int dtz, char *best, char *more) {
     struct question q = read_fen(fen);
     struct found found = fathom_of(&q);
     unsigned root = found.root, *results = found.results;
@@ -124,8 +118,7 @@ static void ask_fathom(const char *fen, int class, int dtz, char *best, char *mo
     }
 }
 
-static int compare(char **words)
-{
+static int compare(char **words) {
     static char line[LINE], stockfish[256], expected[512];
     FILE *answers = fopen(words[1], "r"), *others = fopen(words[2], "r"), *due = fopen(words[3], "r");
     if (!answers || !others || !due || !tb_init(words[0])) return perror("full_probes"), 2;
@@ -154,8 +147,7 @@ static int compare(char **words)
     return differences ? 1 : 0;
 }
 
-int main(int count, char **words)
-{
+int main(int count, char **words) {
     if (count == 4 && !strcmp(words[1], "draw")) return draw(atoi(words[2]), atoi(words[3]));
     if (count == 6 && !strcmp(words[1], "compare")) return compare(words + 2);
     return fprintf(stderr, "full_probes draw SEED ALL | compare TABLES OUTPUT STOCKFISH EXPECTED\n"), 2;

@@ -16,8 +16,7 @@ static szg_table wdl_table = SZG_NO_TABLE, dtz_table = SZG_NO_TABLE;
 static const char *name;
 static int limit = 100;
 
-static void differ(const struct question *q, const char *who, long class, long dtz)
-{
+static void differ(const struct question *q, const char *who, long class, long dtz) {
     char fen[128];
     if (differences++ >= SHOWN) return;
     write_fen(q, fen);
@@ -28,8 +27,7 @@ static void differ(const struct question *q, const char *who, long class, long d
 static int is_same(const struct question *q, long plies, long due) { return labs(plies - due) <= (abs(q->class) == 1); }
 
 /* The C library's tables: one look-up in each, without the position's captures, so not where en passant is possible. */
-static void ask_szg(const struct question *q, int stored_mover)
-{
+static void ask_szg(const struct question *q, int stored_mover) {
     szg_man men[MEN];
     int64_t class = 9, number = 9999;
     for (int i = 0; i < q->count; i++) {
@@ -48,8 +46,7 @@ static void ask_szg(const struct question *q, int stored_mover)
 }
 
 /* Class and DTZ from Fathom's answers for each move: the mover takes the best class, and wins soonest or loses latest. */
-static void follow_moves(const struct question *q, const unsigned *results)
-{
+static void follow_moves(const struct question *q, const unsigned *results) {
     int best = -3, dtz = 0;
     for (; *results != TB_RESULT_FAILED; results++, moves_seen++) {
         int class = (int)TB_GET_WDL(*results) - 2, plies = (int)TB_GET_DTZ(*results);
@@ -62,8 +59,7 @@ static void follow_moves(const struct question *q, const unsigned *results)
 }
 
 /* Whether the mover's king is attacked. Fathom takes that from the tables where there is no move; here no table is asked. */
-static int is_check(const struct question *q, const struct found *found)
-{
+static int is_check(const struct question *q, const struct found *found) {
     const uint64_t *colors = found->colors, *kinds = found->kinds;
     uint64_t occupied = colors[0] | colors[1], others = colors[!q->mover];
     unsigned king = tb_lsb(kinds[5] & colors[q->mover]);
@@ -72,8 +68,7 @@ static int is_check(const struct question *q, const struct found *found)
         || (tb_rook_attacks(king, occupied) & (kinds[3] | kinds[4]) & others);
 }
 
-static void ask_fathom(const struct question *q)
-{
+static void ask_fathom(const struct question *q) {
     struct found found = fathom_of(q);
     unsigned root = found.root;
     if (found.wdl != (unsigned)(q->class + 2)) differ(q, "Fathom in WDL", (long)found.wdl - 2, 0);
@@ -90,8 +85,7 @@ static void ask_fathom(const struct question *q)
     if (root != TB_RESULT_FAILED && limit == 100) follow_moves(q, found.results);
 }
 
-static void ask(const struct question *q, int stored_mover, FILE *questions, FILE *expected)
-{
+static void ask(const struct question *q, int stored_mover, FILE *questions, FILE *expected) {
     char fen[128];
     if (limit != 100 && stored_mover != q->mover) return;
     asked++;
@@ -102,8 +96,7 @@ static void ask(const struct question *q, int stored_mover, FILE *questions, FIL
     fprintf(expected, "%d %d %s\n", q->class, q->dtz, fen);
 }
 
-static void open_table(const char *folder, int is_dtz, szg_table *table)
-{
+static void open_table(const char *folder, int is_dtz, szg_table *table) {
     static uint8_t bytes[1 << 24];
     char path[4096];
     szg_answer answer;
@@ -115,8 +108,7 @@ static void open_table(const char *folder, int is_dtz, szg_table *table)
     if (szg_open(name, strlen(name), is_dtz, bytes, length, table, &answer) != SZG_DONE) exit((printf("%s is refused\n", path), 2));
 }
 
-int main(int count, char **words)
-{
+int main(int count, char **words) {
     if (count < 7 || count > 8 || !tb_init(words[1])) return fprintf(stderr, "peers TABLES NAME SIDE all|one QUESTIONS EXPECTED [PLIES]\n"), 2;
     if (count == 8) limit = atoi(words[7]);
     name = words[2];

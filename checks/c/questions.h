@@ -13,8 +13,7 @@ static long asked, mates, stalemates, differences;
 static const char LETTERS[] = "PNBRQK";
 
 /* Reads a line "w|b PASSED CLASS DTZ MEN.." of standard input. Returns 0 at its end. */
-static inline int read_question(struct question *q)
-{
+static inline int read_question(struct question *q) {
     char line[256], mover;
     int read;
     if (!fgets(line, sizeof line, stdin)) return 0;
@@ -26,8 +25,7 @@ static inline int read_question(struct question *q)
     return 1;
 }
 
-static inline void write_fen(const struct question *q, char *out)
-{
+static inline void write_fen(const struct question *q, char *out) {
     char board[64] = {0}, passed[3] = "-";
     for (int i = 0; i < q->count; i++) board[q->square[i]] = q->letter[i];
     for (int rank = 7; rank >= 0; rank--) {
@@ -46,8 +44,7 @@ static inline void write_fen(const struct question *q, char *out)
 }
 
 /* Flips files (1), ranks (2), files with ranks (4); the bit 8 exchanges the colors, for which the ranks are flipped too. */
-static inline struct question flipped(const struct question *q, int flips)
-{
+static inline struct question flipped(const struct question *q, int flips) {
     struct question r = *q;
     int mask = (flips & 1 ? 7 : 0) | (!(flips & 2) == !(flips & 8) ? 0 : 56);
     for (int i = 0; i < q->count; i++) {
@@ -61,16 +58,14 @@ static inline struct question flipped(const struct question *q, int flips)
 }
 
 /* Whether an image of a position is wanted: each that pawns allow, or the one that was drawn. */
-static inline int is_wanted(const struct question *q, int flips, int is_all, int drawn)
-{
+static inline int is_wanted(const struct question *q, int flips, int is_all, int drawn) {
     return !(q->has_pawns && flips & 6) && (is_all || flips == (q->has_pawns ? drawn & 9 : drawn));
 }
 
 /* What Fathom finds for a position: its class, the result at the root, and that of each move, up to TB_RESULT_FAILED. */
 struct found { unsigned wdl, root, results[TB_MAX_MOVES]; uint64_t colors[2], kinds[6]; };
 
-static inline struct found fathom_of(const struct question *q)
-{
+static inline struct found fathom_of(const struct question *q) {
     struct found f = {.results = {TB_RESULT_FAILED}};
     for (int i = 0; i < q->count; i++) {
         f.colors[!!islower((unsigned char)q->letter[i])] |= 1ull << q->square[i];
