@@ -3,9 +3,9 @@
  *
  * build KIND                   a small table of the kind 0, 1 or 2, for runs in which memory is refused: status 4 for
  *                              want of it
- * build KIND SIZE              writes a list of SIZE values of the kind, each in two bytes
- * build LIST SIZE ROUNDS       builds a table of the list of SIZE values in the file LIST; prints the seconds, the peak
- *                              of memory in MB, and the bytes of the table's file */
+ * build list KIND SIZE         writes a list of SIZE values of the kind, each in two bytes
+ * build LIST ROUNDS            builds a table of the list in the file LIST; prints the seconds, the peak of memory in
+ *                              MB, and the bytes of the table's file */
 #include "bench.h"
 #include <sys/resource.h>
 
@@ -34,129 +34,82 @@ static const struct form FORMS[] = {
     {"KQRBvK", {6, 5, 14, 4, 3}, 5, 114675120},
 };
 
-static uint64_t state;
+static uint64_t state = 1;
 
-/* a number below `most`, of a generator that always returns the same sequence */
-static uint32_t below(uint32_t most)
-{
-    state = state * 6364136223846793005u + 1442695040888963407u;
-    return (uint32_t)((state >> 33) % most);
-}
+static uint32_t below(uint32_t most) { return draw(&state) % most; }
 
 /* runs of about eight values; the smaller a value, the more often it occurs */
-static void fill_skewed(uint16_t *values, size_t size)
-{
+static void fill_skewed(uint16_t *values, size_t size) {
     uint16_t value = 0;
     for (size_t i = 0; i < size; i++) {
         if (below(8) == 0) {
             value = 0;
-            while (value < 100 && below(16) != 0)
-                value++;
+            while (value < 100 && below(16) != 0) value++;
         }
         values[i] = value;
     }
 }
 
-static void fill_uniform(uint16_t *values, size_t size)
-{
-    for (size_t i = 0; i < size; i++)
-        values[i] = below(200);
+static void fill_uniform(uint16_t *values, size_t size) {
+    for (size_t i = 0; i < size; i++) values[i] = below(200);
 }
 
 /* one value in a hundred isn't 5 */
-static void fill_nearly_constant(uint16_t *values, size_t size)
-{
-    for (size_t i = 0; i < size; i++)
-        values[i] = below(100) == 0 ? below(20) : 5;
+static void fill_nearly_constant(uint16_t *values, size_t size) {
+    for (size_t i = 0; i < size; i++) values[i] = below(100) == 0 ? below(20) : 5;
 }
 
-struct kind {
+static const struct kind {
     const char *name;
     void (*fill)(uint16_t *values, size_t size);
-};
-
-static const struct kind KINDS[] = {
-    {"skewed with runs", fill_skewed},
-    {"uniform", fill_uniform},
-    {"nearly constant", fill_nearly_constant},
-};
+} KINDS[] = {{"skewed with runs", fill_skewed}, {"uniform", fill_uniform}, {"nearly constant", fill_nearly_constant}};
 
 /* builds one table; stops the program where it isn't built */
-static uint64_t build(const struct form *form, const uint16_t *values, uint32_t rounds)
-{
+static uint64_t build(const struct form *form, const uint16_t *values, uint32_t rounds) {
     struct packing packing = {rounds, 6, 12};
     uint64_t length = 0;
     uint32_t status = szg_bench_build((const uint8_t *)form->name, strlen(form->name), form->men, form->count, values,
                                       form->size, &packing, &length);
-    if (status == WANT_OF_MEMORY) {
-        fprintf(stderr, "out of memory\n");
-        exit(4);
-    }
-    if (status != BUILT) {
-        fprintf(stderr, "%s isn't built\n", form->name);
-        exit(1);
-    }
+    if (status == WANT_OF_MEMORY) exit((fprintf(stderr, "out of memory\n"), 4));
+    if (status != BUILT) fail("the table isn't built");
     return length;
 }
 
-/* a list of a file */
-static uint16_t *list_of(const char *name, size_t size)
-{
-    uint16_t *values = malloc(size * sizeof *values);
-    FILE *file = fopen(name, "rb");
-    if (values == NULL || file == NULL || fread(values, sizeof *values, size, file) != size) {
-        fprintf(stderr, "%s isn't a list of %zu values\n", name, size);
-        exit(1);
-    }
-    fclose(file);
-    return values;
-}
-
-static const struct form *form_of(size_t size)
-{
+static const struct form *form_of(size_t size) {
     for (size_t f = 0; f < sizeof FORMS / sizeof *FORMS; f++)
-        if (FORMS[f].size == size)
-            return &FORMS[f];
-    fprintf(stderr, "no material has %zu positions\n", size);
-    exit(1);
+        if (FORMS[f].size == size) return &FORMS[f];
+    fail("no material has this number of positions");
+    return NULL;
 }
 
-static void time_build(const char *name, size_t size, uint32_t rounds)
-{
-    const struct form *form = form_of(size);
-    uint16_t *values = list_of(name, size);
+static void time_build(const char *list, uint32_t rounds) {
+    size_t count;
+    uint8_t *values = bytes_of(list, &count);
+    const struct form *form = form_of(count / 2);
     double begun = now();
-    uint64_t length = build(form, values, rounds);
+    uint64_t length = build(form, (const uint16_t *)values, rounds);
     double seconds = now() - begun;
     struct rusage usage;
     getrusage(RUSAGE_SELF, &usage);
     printf("%.3f %ld %" PRIu64 "\n", seconds, usage.ru_maxrss / 1024, length);
 }
 
-static void write_list(const struct kind *kind, size_t size)
-{
+static void write_list(const struct kind *kind, size_t size) {
     uint16_t *values = malloc(size * sizeof *values);
-    if (values == NULL)
-        exit(4);
+    if (!values) exit(4);
     kind->fill(values, size);
     fwrite(values, sizeof *values, size, stdout);
 }
 
-static void build_small(const struct kind *kind)
-{
+static void build_small(const struct kind *kind) {
     static uint16_t values[31332];
     kind->fill(values, FORMS[0].size);
     printf("%s: %" PRIu64 " bytes\n", kind->name, build(&FORMS[0], values, 16));
 }
 
-int main(int argc, char **argv)
-{
-    state = 1;
-    if (argc == 2)
-        build_small(&KINDS[(size_t)atoi(argv[1]) % 3]);
-    else if (argc == 3)
-        write_list(&KINDS[(size_t)atoi(argv[1]) % 3], strtoull(argv[2], NULL, 10));
-    else if (argc == 4)
-        time_build(argv[1], strtoull(argv[2], NULL, 10), (uint32_t)strtoul(argv[3], NULL, 10));
+int main(int argc, char **argv) {
+    if (argc == 2) build_small(&KINDS[(size_t)atoi(argv[1]) % 3]);
+    if (argc == 4 && !strcmp(argv[1], "list")) write_list(&KINDS[(size_t)atoi(argv[2]) % 3], strtoull(argv[3], NULL, 10));
+    if (argc == 3) time_build(argv[1], (uint32_t)strtoul(argv[2], NULL, 10));
     return 0;
 }

@@ -15,8 +15,7 @@ typedef struct {
 
 extern int probe_table(const fathom_position *position, int wdl, int *success, const int type);
 
-static inline fathom_position fathom_of(const szg_man *men, int count, uint8_t mover)
-{
+static inline fathom_position fathom_of(const szg_man *men, int count, uint8_t mover) {
     fathom_position p = {.turn = mover == SZG_WHITE};
     uint64_t *kinds[] = {NULL, &p.pawns, &p.knights, &p.bishops, &p.rooks, &p.queens, &p.kings};
     for (int i = 0; i < count; i++) {

@@ -4,8 +4,11 @@ blocks of 64 bytes: make_table.py [plain|deep [BLOCK_BITS]]. Plain: values drawn
 two and three bits. Deep: words of 3 to 12 bits, drawn by a fixed rule, of symbols that stand for up to 256 values each by
 deep pairs; in blocks of 1,024 bytes for up to 80 values, since a block has at most 65,536. A block has 2^BLOCK_BITS bytes,
 64 if nothing is said."""
-import struct
 import sys
+from pathlib import Path
+
+sys.path.insert(0, str(Path(__file__).resolve().parent.parent / "checks"))
+from table_writer import LEAF, Subtable, file_of, middles
 
 SIZE = 31332 * 61
 BLOCK_BITS = int(sys.argv[2]) if len(sys.argv) > 2 else 6
@@ -29,7 +32,7 @@ class Plain:
     LEAST, WORDS = 2, [3, 2]
 
     def __init__(self):
-        self.entries = [(symbol, 0xFFF) for symbol in range(5)]
+        self.entries = [(symbol, LEAF) for symbol in range(5)]
         self.counts = [1] * 5
 
 
@@ -42,7 +45,7 @@ class Deep:
     def __init__(self):
         draw = numbers(7)
         count = sum(self.WORDS)
-        made, lengths, chain = [(value, 0xFFF) for value in range(5)], [1] * 5, 0
+        made, lengths, chain = [(value, LEAF) for value in range(5)], [1] * 5, 0
         while len(made) < count:
             right = next(draw) % min(len(made), 40)
             if lengths[chain] + lengths[right] > LONGEST:
@@ -55,7 +58,7 @@ class Deep:
         order = sorted(range(count), key=lambda symbol: (symbol * 7919 + 13) % count)
         place = {symbol: n for n, symbol in enumerate(order)}
         self.entries = [
-            (left if right == 0xFFF else place[left], right if right == 0xFFF else place[right])
+            (left if right == LEAF else place[left], right if right == LEAF else place[right])
             for left, right in (made[symbol] for symbol in order)
         ]
         self.counts = [lengths[symbol] for symbol in order]
@@ -96,38 +99,26 @@ def packed(form, spelled, seed):
     return b"".join(int(block.ljust(WIDTH, "0"), 2).to_bytes(WIDTH // 8, "big") for block in blocks), counts
 
 
-def head(form, lowest, blocks):
-    entries = b"".join(bytes([left & 0xFF, left >> 8 | right % 16 << 4, right >> 4]) for left, right in form.entries)
-    lengths = bytes([form.LEAST + len(lowest) - 1, form.LEAST]) + struct.pack(f"<{len(lowest)}H", *lowest)
-    count = len(form.entries)
-    return bytes([0, BLOCK_BITS, form.SPAN_BITS, 1]) + struct.pack("<I", blocks) + lengths + struct.pack("<H", count) + entries + bytes(count % 2)
-
-
 def sparse(form, counts):
-    """An entry for the middle of each span; the last may stand past the size, in the extra length."""
-    entries, block, start = [], 0, 0
-    for span in range(-(-SIZE >> form.SPAN_BITS)):
-        middle = (span << form.SPAN_BITS) + (1 << form.SPAN_BITS - 1)
+    """An entry for the middle of each span; the last may be past the size, in the extra length."""
+    block, start = 0, 0
+    for middle in middles(SIZE, form.SPAN_BITS):
         while block < len(counts) and start + counts[block] <= middle:
             start += counts[block]
             block += 1
-        entries.append(struct.pack("<IH", block, middle - start))
-    return b"".join(entries)
+        yield block, middle - start
 
 
 def main():
     form = Deep() if sys.argv[1:2] == ["deep"] else Plain()
     lowest, spelled = code_of(form.LEAST, form.WORDS)
-    sides = [packed(form, spelled, seed) for seed in (1, 2)]
-    out = bytes([0x71, 0xE8, 0x23, 0x5D, 0x01, 0x00, 0x66, 0x55, 0x44, 0xEE])
-    out += b"".join(head(form, lowest, len(counts)) for _, counts in sides)
-    out += b"".join(sparse(form, counts) for _, counts in sides)
-    for _, counts in sides:
-        out += struct.pack(f"<{len(counts) + 1}H", *(count - 1 for count in counts), 65535)
-    for data, _ in sides:
-        out += bytes(-len(out) % 64) + data
-    out += bytes(-len(out) % 64) + bytes(range(16))
-    sys.stdout.buffer.write(out)
+    sides = []
+    for seed in (1, 2):
+        blocks, counts = packed(form, spelled, seed)
+        lengths = [*(count - 1 for count in counts), 65535]
+        longest = form.LEAST + len(lowest) - 1
+        sides.append(Subtable(form.entries, longest, lowest, BLOCK_BITS, form.SPAN_BITS, [*sparse(form, counts)], lengths, 1, blocks))
+    sys.stdout.buffer.write(file_of("71e8235d 01 00665544ee", sides))
 
 
 main()

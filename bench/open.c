@@ -14,41 +14,28 @@
 static const char NAME[] = "KQRBNvK";
 static const szg_man MEN[] = {{SZG_KING, SZG_WHITE, 4}, {SZG_QUEEN, SZG_WHITE, 3}, {SZG_ROOK, SZG_WHITE, 0},
                               {SZG_BISHOP, SZG_WHITE, 2}, {SZG_KNIGHT, SZG_WHITE, 1}, {SZG_KING, SZG_BLACK, 60}};
-enum { MEN_COUNT = sizeof MEN / sizeof *MEN, LATER = 1 << 16 };
+enum { MEN_COUNT = sizeof MEN / sizeof *MEN };
 static const uint64_t SIZE = 31332ull * 61 * 60 * 59;
 
-static size_t heap(void)
-{
+static size_t heap(void) {
     struct mallinfo2 info = mallinfo2();
     return info.uordblks + info.hblkhd;
 }
 
-static const uint8_t *mapped(const char *folder, size_t *length)
-{
+static const uint8_t *mapped(const char *folder, size_t *length) {
     char path[4096];
     struct stat about;
     snprintf(path, sizeof path, "%s/%s.rtbw", folder, NAME);
     int file = open(path, O_RDONLY);
-    if (file < 0 || fstat(file, &about))
-        fail(path);
+    if (file < 0 || fstat(file, &about)) fail(path);
     *length = (size_t)about.st_size;
     const uint8_t *bytes = mmap(NULL, *length, PROT_READ, MAP_SHARED, file, 0);
-    if (bytes == MAP_FAILED)
-        fail("no map");
+    if (bytes == MAP_FAILED) fail("no map");
     close(file);
     return bytes;
 }
 
-static uint64_t any_index(void)
-{
-    static uint64_t state = 1;
-    state = state * 6364136223846793005u + 1442695040888963407u;
-    return (state >> 16) % SIZE;
-}
-
-#ifdef SZG_NO_FRONT
-static void open_by_front(const char *folder)
-{
+static void open_by_front(const char *folder) {
     size_t length;
     szg_front front = SZG_NO_FRONT;
     szg_answer answer;
@@ -59,11 +46,9 @@ static void open_by_front(const char *folder)
         szg_front_probe(&front, bytes, length, MEN, MEN_COUNT, SZG_WHITE, 0, &outcome, &bad) != SZG_DONE || outcome % 2)
         fail("the table is refused");
 }
-#endif
 
 /* Every check is made, and the blocks stay in the file. */
-static void open_checked(const char *folder)
-{
+static void open_checked(const char *folder) {
     size_t length;
     szg_front front = SZG_NO_FRONT;
     szg_answer answer;
@@ -74,8 +59,9 @@ static void open_checked(const char *folder)
     if (szg_check(NAME, strlen(NAME), false, bytes, length, &answer) != SZG_DONE ||
         szg_open_front(NAME, strlen(NAME), false, bytes, length, &front, &answer) != SZG_DONE)
         fail("the table is refused");
-    for (int i = 0; i < LATER; i += LATER / 2) {
-        uint64_t index = any_index();
+    uint64_t state = 1;
+    for (int i = 0; i < 2; i++) {
+        uint64_t index = ((uint64_t)draw(&state) << 16 | draw(&state) >> 15) % SIZE;
         if (szg_front_find(&front, 0, 0, index, &range) != SZG_DONE ||
             szg_front_value(&front, 0, 0, index, bytes + range.offset, range.count, &value, &bad) != SZG_DONE || value != (index % 2 ? 2 : 4))
             fail("the value is wrong");
@@ -83,15 +69,12 @@ static void open_checked(const char *folder)
 }
 
 #ifdef FATHOM
-static void open_by_fathom(const char *folder)
-{
+static void open_by_fathom(const char *folder) {
     int success = 1;
-    if (!tb_init(folder))
-        fail("Fathom reads no tables there");
+    if (!tb_init(folder)) fail("Fathom reads no tables there");
     fathom_position position = fathom_of(MEN, MEN_COUNT, SZG_WHITE);
     int outcome = probe_table(&position, 0, &success, FATHOM_WDL);
-    if (success != 1 || outcome % 2)
-        fail("Fathom doesn't read the table");
+    if (success != 1 || outcome % 2) fail("Fathom doesn't read the table");
 }
 #endif
 
@@ -99,20 +82,16 @@ static const struct {
     const char *word, *title;
     void (*open)(const char *folder);
 } WAYS[] = {
-#ifdef SZG_NO_FRONT
     {"front", "szg_open_front and a probe", open_by_front},
-#endif
     {"checked", "szg_check, every check, szg_open_front and two values", open_checked},
 #ifdef FATHOM
     {"fathom", "tb_init of Fathom and a probe", open_by_fathom},
 #endif
 };
 
-int main(int count, char **words)
-{
+int main(int count, char **words) {
     for (size_t i = 0; i < sizeof WAYS / sizeof *WAYS && count == 3; i++) {
-        if (strcmp(words[2], WAYS[i].word))
-            continue;
+        if (strcmp(words[2], WAYS[i].word)) continue;
         size_t held = heap();
         double wall = clock_seconds(CLOCK_MONOTONIC), processor = clock_seconds(CLOCK_PROCESS_CPUTIME_ID);
         WAYS[i].open(words[1]);

@@ -7,6 +7,10 @@ of the disk, or 2.3 MB."""
 import array
 import struct
 import sys
+from pathlib import Path
+
+sys.path.insert(0, str(Path(__file__).resolve().parent.parent / "checks"))
+from table_writer import LEAF, Subtable, front_of, middles
 
 BLOCK_BITS, SPAN_BITS = 6, 16
 # The table's men, its number of values, and the number of values of a block: a word is one bit, a symbol two values; the
@@ -15,38 +19,19 @@ if sys.argv[2:] == ["KQRBvK"]:
     MEN, SIZE, HELD = "66 55 44 33 ee", 31332 * 61 * 60, 100
 else:
     MEN, SIZE, HELD = "66 55 44 33 22 ee", 31332 * 61 * 60 * 59, 404
-LEAF = 0xFFF
-
-
-def entry(left, right):
-    return bytes([left & 255, left >> 8 | right % 16 << 4, right >> 4])
-
-
-def front(count):
-    """Magic, flags, order, men, and the headers of both subtables; symbol 0 is the values 4 and 2, and has the word 0."""
-    men = bytes.fromhex("71e8235d 01 00" + MEN)
-    men += bytes(len(men) % 2)
-    shape = struct.pack("<4BI2B", 0, BLOCK_BITS, SPAN_BITS, 0, count, 1, 1)
-    dictionary = entry(1, 2) + entry(4, LEAF) + entry(2, LEAF)
-    return men + shape + struct.pack("<HH", 0, 3) + dictionary + bytes(3 % 2) + bytes([0x80, 2])
-
-
-def sparse_index(count):
-    span = 1 << SPAN_BITS
-    for middle in range(span // 2, SIZE + span // 2, span):
-        block = min(middle // HELD, count - 1)
-        yield struct.pack("<IH", block, middle - block * HELD)
-
-
 def main():
     count = -(-SIZE // HELD)
     lengths = array.array("H", [HELD - 1]) * count
     lengths[-1] = SIZE - (count - 1) * HELD - 1
     if sys.byteorder == "big":
         lengths.byteswap()
+    # symbol 0 is the values 4 and 2, and has the word 0; side 1 is constant
+    side = Subtable([(1, 2), (4, LEAF), (2, LEAF)], 1, [0], BLOCK_BITS, SPAN_BITS, [], lengths, 0, b"")
     with open(sys.argv[1], "wb") as file:
-        file.write(front(count))
-        file.write(b"".join(sparse_index(count)))
+        file.write(front_of("71e8235d 01 00" + MEN, [side, bytes([128, 2])]))
+        for middle in middles(SIZE, SPAN_BITS):
+            block = min(middle // HELD, count - 1)
+            file.write(struct.pack("<IH", block, middle - block * HELD))
         lengths.tofile(file)
         blocks = (file.tell() + 63) // 64 * 64
         file.seek(blocks + (count << BLOCK_BITS))

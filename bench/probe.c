@@ -30,35 +30,24 @@ struct opened {
 static struct opened wdl_table = {SZG_NO_TABLE, SZG_NO_FRONT, NULL, 0}, dtz_table = {SZG_NO_TABLE, SZG_NO_FRONT, NULL, 0};
 static int men_count;
 
-static void open_table(const char *folder, const char *name, bool dtz, struct opened *t)
-{
+static void open_table(const char *folder, const char *name, bool dtz, struct opened *t) {
     char path[4096];
     szg_answer answer;
     snprintf(path, sizeof path, "%s/%s.%s", folder, name, dtz ? "rtbz" : "rtbw");
-    FILE *file = fopen(path, "rb");
-    if (!file || fseek(file, 0, SEEK_END))
-        fail(path);
-    t->length = (size_t)ftell(file);
-    t->bytes = malloc(t->length + 1);
-    rewind(file);
-    if (!t->bytes || fread(t->bytes, 1, t->length, file) != t->length ||
-        szg_open(name, strlen(name), dtz, t->bytes, t->length, &t->table, &answer) != SZG_DONE ||
+    t->bytes = bytes_of(path, &t->length);
+    if (szg_open(name, strlen(name), dtz, t->bytes, t->length, &t->table, &answer) != SZG_DONE ||
         szg_open_front(name, strlen(name), dtz, t->bytes, t->length, &t->front, &answer) != SZG_DONE)
         fail(path);
-    fclose(file);
 }
 
-static bool kings_touch(const struct placement *p)
-{
+static bool kings_touch(const struct placement *p) {
     int kings[2], found = 0;
     for (int i = 0; i < men_count; i++)
-        if (p->men[i].kind == SZG_KING)
-            kings[found++] = p->men[i].square;
+        if (p->men[i].kind == SZG_KING) kings[found++] = p->men[i].square;
     return abs(kings[0] % 8 - kings[1] % 8) <= 1 && abs(kings[0] / 8 - kings[1] / 8) <= 1;
 }
 
-static void draw_placement(const char *name, struct placement *p, uint64_t *state)
-{
+static void draw_placement(const char *name, struct placement *p, uint64_t *state) {
     do {
         uint64_t used = 0;
         uint8_t is_flipped = draw(state) & 1, color = SZG_WHITE;
@@ -80,8 +69,7 @@ static void draw_placement(const char *name, struct placement *p, uint64_t *stat
 }
 
 /* Draws the placements of both lists: for DTZ those of the stored side that have a number. */
-static void draw_placements(const char *name)
-{
+static void draw_placements(const char *name) {
     uint64_t state = 1;
     for (int i = 0, wdl = 0, dtz = 0; wdl < PLACEMENTS || dtz < PLACEMENTS; i++) {
         struct placement p = {.number = 0};
@@ -90,15 +78,13 @@ static void draw_placements(const char *name)
         if (i == 100 * PLACEMENTS || szg_probe(&wdl_table.table, p.men, (size_t)men_count, p.mover, 0, &class_of_position) != SZG_DONE)
             fail("the table has too few of these placements");
         p.wdl = (int8_t)class_of_position;
-        if (wdl < PLACEMENTS)
-            for_wdl[wdl++] = p;
+        if (wdl < PLACEMENTS) for_wdl[wdl++] = p;
         if (dtz < PLACEMENTS && szg_probe(&dtz_table.table, p.men, (size_t)men_count, p.mover, p.wdl, &p.number) == SZG_DONE)
             for_dtz[dtz++] = p;
     }
 }
 
-static int64_t sum_by_szg(bool dtz)
-{
+static int64_t sum_by_szg(bool dtz) {
     int64_t sum = 0;
     for (int i = 0; i < PLACEMENTS; i++) {
         const struct placement *p = dtz ? &for_dtz[i] : &for_wdl[i];
@@ -110,8 +96,7 @@ static int64_t sum_by_szg(bool dtz)
 }
 
 /* The same by an opened front, each block verified. */
-static int64_t sum_by_front(bool dtz)
-{
+static int64_t sum_by_front(bool dtz) {
     struct opened *t = dtz ? &dtz_table : &wdl_table;
     int64_t sum = 0;
     for (int i = 0; i < PLACEMENTS; i++) {
@@ -127,19 +112,16 @@ static int64_t sum_by_front(bool dtz)
 #ifdef FATHOM
 static fathom_position positions[PLACEMENTS];
 
-static void make_positions(bool dtz)
-{
+static void make_positions(bool dtz) {
     for (int i = 0; i < PLACEMENTS; i++) {
         const struct placement *p = dtz ? &for_dtz[i] : &for_wdl[i];
         positions[i] = fathom_of(p->men, men_count, p->mover);
         int success = 1, outcome = probe_table(&positions[i], p->wdl, &success, dtz ? FATHOM_DTZ : FATHOM_WDL);
-        if (success != 1 || outcome != (dtz ? p->number : p->wdl))
-            fail("Fathom has another value");
+        if (success != 1 || outcome != (dtz ? p->number : p->wdl)) fail("Fathom has another value");
     }
 }
 
-static int64_t sum_by_fathom(bool dtz)
-{
+static int64_t sum_by_fathom(bool dtz) {
     int64_t sum = 0;
     for (int i = 0; i < PLACEMENTS; i++) {
         int success = 1;
@@ -150,18 +132,15 @@ static int64_t sum_by_fathom(bool dtz)
 #endif
 
 /* The least time of a probe, in nanoseconds. */
-static double best_time(int64_t (*sum)(bool), bool dtz, double best)
-{
+static double best_time(int64_t (*sum)(bool), bool dtz, double best) {
     int64_t due = sum_by_szg(dtz);
     double t0 = now();
-    if (sum(dtz) != due)
-        fail("the sums differ");
+    if (sum(dtz) != due) fail("the sums differ");
     double time = (now() - t0) / PLACEMENTS * 1e9;
     return time < best ? time : best;
 }
 
-static void time_kind(const char *name, const char *plan, bool dtz)
-{
+static void time_kind(const char *name, const char *plan, bool dtz) {
     double szg = 1e9, front = 1e9;
     const char *kind = dtz ? "dtz" : "wdl";
 #ifdef FATHOM
@@ -182,14 +161,11 @@ static void time_kind(const char *name, const char *plan, bool dtz)
     printf("\n");
 }
 
-int main(int count, char **words)
-{
-    if (count != 3 && count != 4)
-        return fprintf(stderr, "probe FOLDER NAME [PLAN]\n"), 2;
+int main(int count, char **words) {
+    if (count != 3 && count != 4) return fprintf(stderr, "probe FOLDER NAME [PLAN]\n"), 2;
     const char *plan = count == 4 ? words[3] : "";
 #ifdef FATHOM
-    if (!tb_init(words[1]))
-        fail("Fathom reads no tables there");
+    if (!tb_init(words[1])) fail("Fathom reads no tables there");
 #endif
     open_table(words[1], words[2], false, &wdl_table);
     open_table(words[1], words[2], true, &dtz_table);

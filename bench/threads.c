@@ -31,20 +31,16 @@ static double (*times)[MOST];
 static const struct way *way;
 static pthread_barrier_t start;
 
-static void require(uint32_t status, const char *what)
-{
-    if (status != SZG_DONE)
-        fail(what);
+static void require(uint32_t status, const char *what) {
+    if (status != SZG_DONE) fail(what);
 }
 
-static void open_handle(int thread)
-{
+static void open_handle(int thread) {
     szg_answer answer;
     require(szg_open("KQRvK", 5, false, file, length, &handles[thread].table, &answer), "the table is refused");
 }
 
-static void open_front(int thread)
-{
+static void open_front(int thread) {
     szg_answer answer;
     require(szg_open_front("KQRvK", 5, false, file, length, &handles[thread].front, &answer), "the front is refused");
 }
@@ -52,15 +48,13 @@ static void open_front(int thread)
 static void share_handle(int thread) { require(szg_share(&handles[0].table, &handles[thread].table), "the table is not shared"); }
 static void share_front(int thread) { require(szg_share_front(&handles[0].front, &handles[thread].front), "the front is not shared"); }
 
-static uint16_t get_by_handle(int thread, uint64_t index)
-{
+static uint16_t get_by_handle(int thread, uint64_t index) {
     uint16_t value = 0;
     szg_get(&handles[thread].table, 0, 0, index, &value);
     return value;
 }
 
-static uint16_t get_by_front(int thread, uint64_t index)
-{
+static uint16_t get_by_front(int thread, uint64_t index) {
     uint16_t value = 0;
     szg_bad_block bad;
     szg_front_get(&handles[thread].front, file, length, 0, 0, index, &value, &bad);
@@ -68,20 +62,16 @@ static uint16_t get_by_front(int thread, uint64_t index)
 }
 
 /* One round of look-ups; returns its processor time a look-up in nanoseconds. */
-static double look_all_up(int thread)
-{
+static double look_all_up(int thread) {
     uint64_t mix = 0;
     double t0 = clock_seconds(CLOCK_THREAD_CPUTIME_ID);
-    for (size_t k = 0; k < LOOK_UPS; k++)
-        mix = 31 * mix + way->look_up(thread, indexes[k]);
+    for (size_t k = 0; k < LOOK_UPS; k++) mix = 31 * mix + way->look_up(thread, indexes[k]);
     double time = clock_seconds(CLOCK_THREAD_CPUTIME_ID) - t0;
-    if (mix != due)
-        fail("the values differ");
+    if (mix != due) fail("the values differ");
     return time / LOOK_UPS * 1e9;
 }
 
-static void *run(void *number)
-{
+static void *run(void *number) {
     int thread = (int)(intptr_t)number;
     pthread_barrier_wait(&start);
     times[0][thread] = look_all_up(thread);
@@ -89,29 +79,23 @@ static void *run(void *number)
 }
 
 /* The mean time of `count` threads or processes in one round. */
-static double mean(int count)
-{
+static double mean(int count) {
     double sum = 0;
-    for (int i = 0; i < count; i++)
-        sum += times[0][i];
+    for (int i = 0; i < count; i++) sum += times[0][i];
     return sum / count;
 }
 
-static double time_threads(int count)
-{
+static double time_threads(int count) {
     pthread_t threads[MOST];
     pthread_barrier_init(&start, NULL, (unsigned)count);
     for (int i = 0; i < count; i++)
-        if (pthread_create(&threads[i], NULL, run, (void *)(intptr_t)i))
-            fail("no thread");
-    for (int i = 0; i < count; i++)
-        pthread_join(threads[i], NULL);
+        if (pthread_create(&threads[i], NULL, run, (void *)(intptr_t)i)) fail("no thread");
+    for (int i = 0; i < count; i++) pthread_join(threads[i], NULL);
     pthread_barrier_destroy(&start);
     return mean(count);
 }
 
-static double time_processes(int count)
-{
+static double time_processes(int count) {
     pid_t children[MOST];
     for (int i = 0; i < count; i++) {
         children[i] = fork();
@@ -124,20 +108,17 @@ static double time_processes(int count)
     }
     for (int i = 0; i < count; i++) {
         int status = 1;
-        if (children[i] < 0 || waitpid(children[i], &status, 0) < 0 || status != 0)
-            fail("no process");
+        if (children[i] < 0 || waitpid(children[i], &status, 0) < 0 || status != 0) fail("no process");
     }
     return mean(count);
 }
 
-static void time_way(const struct way *timed)
-{
+static void time_way(const struct way *timed) {
     static const int counts[] = {1, 2, 4};
     double threads[3] = {0}, processes[3] = {0};
     way = timed;
     way->open(0);
-    for (int i = 1; i < MOST; i++)
-        way->share(i);
+    for (int i = 1; i < MOST; i++) way->share(i);
     for (int round = 0; round < ROUNDS; round++)
         for (int i = 0; i < 3; i++) {
             least(&threads[i], time_threads(counts[i]));
@@ -149,22 +130,17 @@ static void time_way(const struct way *timed)
            processes[2] / processes[0], threads[1] / processes[1], threads[2] / processes[2]);
 }
 
-int main(int count, char **words)
-{
-    FILE *f = count == 2 ? fopen(words[1], "rb") : NULL;
-    file = malloc(1 << 25);
+int main(int count, char **words) {
+    if (count != 2) return fprintf(stderr, "threads TABLE\n"), 2;
+    file = bytes_of(words[1], &length);
     indexes = malloc(LOOK_UPS * sizeof *indexes);
     times = mmap(NULL, sizeof *times, PROT_READ | PROT_WRITE, MAP_SHARED | MAP_ANONYMOUS, -1, 0);
-    if (!f || !file || !indexes || times == MAP_FAILED)
-        return fprintf(stderr, "threads TABLE\n"), 2;
-    length = fread(file, 1, 1 << 25, f);
-    fclose(f);
+    if (!indexes || times == MAP_FAILED) fail("no memory");
     uint64_t state = 1, size = 0;
     open_handle(0);
     szg_positions(&handles[0].table, 0, 0, &size);
     for (size_t k = 0; k < LOOK_UPS; k++) {
-        state = state * 6364136223846793005u + 1442695040888963407u;
-        indexes[k] = (uint32_t)((state >> 16) % size);
+        indexes[k] = draw(&state) % (uint32_t)size;
         due = 31 * due + get_by_handle(0, indexes[k]);
     }
     time_way(&(struct way){"szg_get, a handle each", open_handle, share_handle, get_by_handle});

@@ -15,7 +15,7 @@ from typing import Iterator, Tuple
 
 from common import CC, ROOT
 
-WRAPPED = "-Wl,--wrap=malloc,--wrap=realloc"
+WRAPPED = "-Wl,--wrap=malloc,--wrap=realloc,--wrap=free"
 
 
 def swapped(text: str, first: str, second: str) -> str:

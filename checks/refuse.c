@@ -13,33 +13,28 @@
 
 static unsigned long asked = 0, moves = 0, interrupted = 0;
 
-static unsigned long number_of(const char *name)
-{
+static unsigned long number_of(const char *name) {
     const char *text = getenv(name);
     return text ? strtoul(text, NULL, 10) : 0;
 }
 
-static int is_refused(void)
-{
+static int is_refused(void) {
     asked += 1;
     return number_of("REFUSE") == asked;
 }
 
-void *malloc(size_t size)
-{
+void *malloc(size_t size) {
     void *(*next)(size_t) = (void *(*)(size_t))dlsym(RTLD_NEXT, "malloc");
     return is_refused() ? NULL : next(size);
 }
 
-void *realloc(void *old, size_t size)
-{
+void *realloc(void *old, size_t size) {
     void *(*next)(void *, size_t) = (void *(*)(void *, size_t))dlsym(RTLD_NEXT, "realloc");
     return is_refused() ? NULL : next(old, size);
 }
 
 /* What a call answers in place of being done, or 0. */
-static int fault_of_call(void)
-{
+static int fault_of_call(void) {
     static unsigned long before = 0, fails_at = 0;
     static int known = 0, stays = 0;
     if (!known) {
@@ -57,43 +52,34 @@ static int fault_of_call(void)
     return fails_at && (moves == fails_at || (stays && moves > fails_at)) ? EIO : 0;
 }
 
-static size_t at_most(size_t size)
-{
+static size_t at_most(size_t size) {
     static unsigned long most = 0;
     if (!most) {
         most = number_of("MOST");
-        if (!most)
-            most = -1ul;
+        if (!most) most = -1ul;
     }
     return size < most ? size : most;
 }
 
-ssize_t read(int file, void *piece, size_t size)
-{
+ssize_t read(int file, void *piece, size_t size) {
     static ssize_t (*next)(int, void *, size_t) = NULL;
     int fault = file == 0 ? fault_of_call() : 0;
-    if (!next)
-        next = (ssize_t (*)(int, void *, size_t))dlsym(RTLD_NEXT, "read");
-    if (!fault)
-        return next(file, piece, file == 0 ? at_most(size) : size);
+    if (!next) next = (ssize_t (*)(int, void *, size_t))dlsym(RTLD_NEXT, "read");
+    if (!fault) return next(file, piece, file == 0 ? at_most(size) : size);
     errno = fault;
     return -1;
 }
 
-ssize_t write(int file, const void *piece, size_t size)
-{
+ssize_t write(int file, const void *piece, size_t size) {
     static ssize_t (*next)(int, const void *, size_t) = NULL;
     int fault = file == 1 ? fault_of_call() : 0;
-    if (!next)
-        next = (ssize_t (*)(int, const void *, size_t))dlsym(RTLD_NEXT, "write");
-    if (!fault)
-        return next(file, piece, file == 1 ? at_most(size) : size);
+    if (!next) next = (ssize_t (*)(int, const void *, size_t))dlsym(RTLD_NEXT, "write");
+    if (!fault) return next(file, piece, file == 1 ? at_most(size) : size);
     errno = fault;
     return -1;
 }
 
-__attribute__((destructor)) static void tell(void)
-{
+__attribute__((destructor)) static void tell(void) {
     const char *name = getenv("ASKED");
     unsigned long all = asked, done = moves;
     FILE *file = name ? fopen(name, "w") : NULL;

@@ -88,7 +88,21 @@ static void compare_refused(const reader_table *t) {
     szg_close(&table);
 }
 
-/* ---- Calls on an accepted table */
+/* ---- Calls on a handle: of a table, or of a front in bytes whose blocks may be changed */
+
+static szg_table table = SZG_NO_TABLE;
+static szg_front front = SZG_NO_FRONT;
+static bool is_front;
+static szg_bad_block bad;
+static const szg_bad_block NO_BLOCK = {88, 888};
+
+static uint32_t size_by(uint8_t part, uint8_t side, uint64_t *size) {
+    return is_front ? szg_front_size(&front, part, side, size) : szg_positions(&table, part, side, size);
+}
+
+static uint32_t get_by(const reader_table *t, uint8_t part, uint8_t side, uint64_t index, uint16_t *value) {
+    return is_front ? szg_front_get(&front, t->bytes, t->length, part, side, index, value, &bad) : szg_get(&table, part, side, index, value);
+}
 
 static uint64_t any_index(const reader_subtable *sub) {
     if (!sub->constant && random_one_in(3)) { /* at a block's first value or its neighbours */
@@ -98,24 +112,60 @@ static uint64_t any_index(const reader_subtable *sub) {
     return random_one_in(8) ? sub->size - 1 : random_below(sub->size);
 }
 
-static void compare_sizes(const reader_table *t, szg_table *table) {
+static void compare_sizes(const reader_table *t) {
     for (int part = 0; part < 5; part++)
         for (int side = 0; side < 3; side++) {
             const reader_subtable *sub = reader_subtable_of(t, part, side);
             uint64_t size = 7;
-            same("szg_positions", szg_positions(table, (uint8_t)part, (uint8_t)side, &size), sub ? SZG_DONE : SZG_RANGE);
+            same("status of a size", size_by((uint8_t)part, (uint8_t)side, &size), sub ? SZG_DONE : SZG_RANGE);
             same("positions", (int64_t)size, sub ? (int64_t)sub->size : 7);
         }
 }
 
-static void compare_value(const reader_subtable *sub, szg_table *table, uint64_t index) {
-    uint16_t value = 4321;
-    same("szg_get", szg_get(table, (uint8_t)sub->part, (uint8_t)sub->side, index, &value), SZG_DONE);
-    same("value", value, reader_value(sub, index));
+/* What a look-up has to say: its status, and its value or its bad block; the other stays. */
+static void same_value(const reader_table *t, const reader_subtable *sub, bool decodes, uint32_t block, uint32_t status, uint16_t value, uint16_t due) {
+    uint64_t offset = sub->constant ? 0 : (uint64_t)(sub->packed - t->bytes) + ((uint64_t)block << sub->block_bits);
+    same("status of a look-up", status, decodes ? SZG_DONE : SZG_BAD_BLOCK);
+    same("value", value, decodes ? due : 4321);
+    same("bad block", bad.block, decodes ? 88 : block);
+    same("offset of a bad block", (int64_t)bad.offset, decodes ? 888 : (int64_t)offset);
     counts.values++;
+    counts.bad += !decodes;
 }
 
-static void compare_lists(const reader_subtable *sub, szg_table *table) {
+static void compare_value(const reader_table *t, const reader_subtable *sub, uint64_t index) {
+    uint16_t value = 4321, due = 4321;
+    uint32_t block = 99;
+    bool decodes = reader_fetch(sub, index, &due, &block);
+    bad = NO_BLOCK;
+    uint32_t status = get_by(t, (uint8_t)sub->part, (uint8_t)sub->side, index, &value);
+    same_value(t, sub, decodes, block, status, value, due);
+    counts.fetched += is_front;
+}
+
+/* The same by the bytes that the value needs, and by one more or one less. */
+static void compare_block(const reader_table *t, const reader_subtable *sub, uint64_t index) {
+    szg_byte_range range = {77, 77};
+    uint16_t value = 4321, due = 4321;
+    uint32_t block = 99;
+    uint8_t part = (uint8_t)sub->part, side = (uint8_t)sub->side;
+    same("szg_front_find", szg_front_find(&front, part, side, index, &range), SZG_DONE);
+    counts.blocks++;
+    bool decodes = reader_fetch(sub, index, &due, &block);
+    uint64_t offset = sub->constant ? 0 : (uint64_t)(sub->packed - t->bytes) + ((uint64_t)block << sub->block_bits);
+    same("offset of a value", (int64_t)range.offset, (int64_t)offset);
+    same("bytes of a value", (int64_t)range.count, sub->constant ? 0 : (int64_t)1 << sub->block_bits);
+    bad = NO_BLOCK;
+    if (!sub->constant) {
+        uint64_t others = random_one_in(2) || offset + range.count == t->length ? range.count - 1 : range.count + 1;
+        same("szg_front_value of another length", szg_front_value(&front, part, side, index, t->bytes + offset, others, &value, &bad), SZG_CHANGED);
+        same("what stays then", value + bad.block + (int64_t)bad.offset, 4321 + 88 + 888);
+    }
+    uint32_t status = szg_front_value(&front, part, side, index, t->bytes + offset, range.count, &value, &bad);
+    same_value(t, sub, decodes, block, status, value, due);
+}
+
+static void compare_lists(const reader_subtable *sub) {
     static uint16_t found[LISTED_MOST], due[LISTED_MOST];
     uint8_t part = (uint8_t)sub->part, side = (uint8_t)sub->side;
     uint64_t indexes[3];
@@ -128,7 +178,7 @@ static void compare_lists(const reader_subtable *sub, szg_table *table) {
     }
     if (sub->size > (sub->constant ? 40000 : LISTED_MOST) || !random_one_in(sub->constant ? 16 : 2)) return;
     reader_values(sub, due);
-    same("szg_all", szg_all(table, part, side, found, sub->size), SZG_DONE);
+    same("szg_all", szg_all(&table, part, side, found, sub->size), SZG_DONE);
     counts.values += sub->size;
     if (memcmp(found, due, sub->size * sizeof *due) == 0) return;
     for (uint64_t i = 0; i < sub->size; i++)
@@ -139,15 +189,30 @@ static void compare_lists(const reader_subtable *sub, szg_table *table) {
         }
 }
 
-static void compare_numbers(const reader_table *t, szg_table *table, int part, uint16_t value) {
+static void compare_numbers(const reader_table *t, int part, uint16_t value) {
     for (int class_of_position = -3; class_of_position <= 3; class_of_position++) {
         uint32_t number = 55555, due = 55555, status = SZG_RANGE;
+        uint8_t of = (uint8_t)part;
+        int8_t in = (int8_t)class_of_position;
         if (t->dtz && part < t->part_count && -2 <= class_of_position && class_of_position <= 2)
             status = reader_number(t, part, class_of_position, value, &due);
-        same("szg_number", szg_number(table, (uint8_t)part, (int8_t)class_of_position, value, &number), status);
+        same("status of a number", is_front ? szg_front_number(&front, of, in, value, &number) : szg_number(&table, of, in, value, &number), status);
         same("number", number, due);
         counts.numbers++;
     }
+}
+
+/* Past the last index of a side, or in one that isn't there. */
+static void compare_outside(const reader_table *t, uint8_t part, uint8_t side) {
+    const reader_subtable *sub = reader_subtable_of(t, part, side);
+    uint64_t past = sub ? sub->size : 0;
+    uint16_t value = 9;
+    szg_byte_range range = {77, 77};
+    same("status past the size", get_by(t, part, side, past, &value), SZG_RANGE);
+    if (!is_front) return;
+    same("szg_front_find past the size", szg_front_find(&front, part, side, past, &range), SZG_RANGE);
+    same("szg_front_value past the size", szg_front_value(&front, part, side, past, t->bytes, t->length, &value, &bad), SZG_RANGE);
+    same("byte range past the size", (int64_t)(range.offset + range.count), 154);
 }
 
 /* ---- Placements */
@@ -179,10 +244,11 @@ static void any_men(const reader_material *m, szg_man *men) {
     }
 }
 
-/* What szg_probe gives for an accepted placement. */
-static uint32_t reader_probe(const reader_table *t, const szg_spot *spot, int class_of_position, int64_t *outcome) {
-    uint16_t value = reader_value(reader_subtable_of(t, spot->part, spot->side), spot->index);
+/* What a probe gives for an accepted placement. */
+static uint32_t reader_probe(const reader_table *t, const szg_spot *spot, int class_of_position, int64_t *outcome, uint32_t *block) {
+    uint16_t value = 0;
     uint32_t number = 0;
+    if (!reader_fetch(reader_subtable_of(t, spot->part, spot->side), spot->index, &value, block)) return SZG_BAD_BLOCK;
     if (!t->dtz) {
         if (value > 4) return SZG_NO_CLASS;
         *outcome = value - 2;
@@ -193,17 +259,18 @@ static uint32_t reader_probe(const reader_table *t, const szg_spot *spot, int cl
     return status;
 }
 
-static void compare_placement(const reader_table *t, szg_table *table) {
+static void compare_placement(const reader_table *t) {
     szg_man men[MEN_MOST];
     szg_spot found = {7, 7, 7777}, due = found;
     int64_t outcome = 33333, due_outcome = outcome;
+    uint32_t block = 88;
     any_men(&t->material, men);
     size_t count = random_one_in(40) ? random_below(7) : (size_t)t->material.count;
     if (count > (size_t)t->material.count) count = (size_t)t->material.count;
     uint8_t mover = (uint8_t)random_below(random_one_in(30) ? 3 : 2);
-    int class_of_position = (int)random_below(5) - 2;
+    int8_t class_of_position = (int8_t)((int)random_below(5) - 2);
     uint32_t status = reader_index(t, men, count, mover, &due);
-    same("szg_index", szg_index(table, men, count, mover, &found), status);
+    same("status of an index", is_front ? szg_front_index(&front, men, count, mover, &found) : szg_index(&table, men, count, mover, &found), status);
     same("part", found.part, due.part);
     same("side", found.side, due.side);
     same("index", (int64_t)found.index, (int64_t)due.index);
@@ -211,131 +278,48 @@ static void compare_placement(const reader_table *t, szg_table *table) {
     if (status == SZG_DONE) {
         counts.indexes++;
         same("index below the size", due.index < reader_subtable_of(t, due.part, due.side)->size, true);
-        status = reader_probe(t, &due, class_of_position, &due_outcome);
+        status = reader_probe(t, &due, class_of_position, &due_outcome, &block);
     }
-    same("szg_probe", szg_probe(table, men, count, mover, (int8_t)class_of_position, &outcome), status);
+    bad = NO_BLOCK;
+    same("status of a probe", is_front ? szg_front_probe(&front, t->bytes, t->length, men, count, mover, class_of_position, &outcome, &bad)
+                                       : szg_probe(&table, men, count, mover, class_of_position, &outcome), status);
     same("outcome", outcome, due_outcome);
+    same("bad block of a probe", bad.block, status == SZG_BAD_BLOCK ? block : 88);
 }
 
+/* ---- Accepted tables and fronts */
+
 static void compare_accepted(const reader_table *t) {
-    szg_table table = SZG_NO_TABLE;
     szg_answer answer = NO_ANSWER;
+    is_front = false;
     same("szg_open", szg_open(TABLE_WORDS, &table, &answer), SZG_DONE);
-    if (random_one_in(4)) compare_sizes(t, &table);
+    if (now.differs) return;
+    if (random_one_in(4)) compare_sizes(t);
     for (int i = 0; i < t->subtable_count; i++) {
         const reader_subtable *sub = &t->subtables[i];
-        uint16_t value = 9;
-        for (int turn = 0; turn < 4; turn++) compare_value(sub, &table, any_index(sub));
-        same("szg_get past the size", szg_get(&table, (uint8_t)sub->part, (uint8_t)sub->side, sub->size, &value), SZG_RANGE);
-        compare_lists(sub, &table);
+        for (int turn = 0; turn < 4; turn++) compare_value(t, sub, any_index(sub));
+        compare_outside(t, (uint8_t)sub->part, (uint8_t)sub->side);
+        compare_lists(sub);
     }
-    compare_numbers(t, &table, (int)random_below(5), (uint16_t)random_below(random_one_in(2) ? 4 : 65536));
-    for (int i = 0; i < 8; i++) compare_placement(t, &table);
+    compare_numbers(t, (int)random_below(5), (uint16_t)random_below(random_one_in(2) ? 4 : 65536));
+    for (int i = 0; i < 8; i++) compare_placement(t);
     szg_close(&table);
 }
 
-/* ---- Opened fronts */
-
-/* A look-up out of bytes of which `t` is the front: the value of its block, or the block that doesn't decode. */
-static void compare_fetch(const reader_table *t, szg_front *front, const reader_subtable *sub, uint64_t index) {
-    uint16_t value = 4321, due = 4321;
-    uint32_t block = 99;
-    szg_bad_block bad = {88, 888};
-    uint32_t status = szg_front_get(front, t->bytes, t->length, (uint8_t)sub->part, (uint8_t)sub->side, index, &value, &bad);
-    bool decodes = reader_fetch(sub, index, &due, &block);
-    same("szg_front_get", status, decodes ? SZG_DONE : SZG_BAD_BLOCK);
-    same("value of a front", value, decodes ? due : 4321);
-    same("bad block", bad.block, decodes ? 88 : block);
-    same("offset of a bad block", (int64_t)bad.offset, decodes ? 888 : sub->packed - t->bytes + ((int64_t)block << sub->block_bits));
-    (*(decodes ? &counts.fetched : &counts.bad))++;
-}
-
-/* The same look-up from the block alone, by its byte range, and from more or fewer bytes. */
-static void compare_block_fetch(const reader_table *t, szg_front *front, const reader_subtable *sub, uint64_t index) {
-    szg_byte_range range = {77, 77};
-    szg_bad_block bad = {88, 888};
-    uint16_t value = 4321, due = 4321;
-    uint32_t block = 99;
-    uint8_t part = (uint8_t)sub->part, side = (uint8_t)sub->side;
-    same("szg_front_find", szg_front_find(front, part, side, index, &range), SZG_DONE);
-    counts.blocks++;
-    bool decodes = reader_fetch(sub, index, &due, &block);
-    uint64_t offset = sub->constant ? 0 : (uint64_t)(sub->packed - t->bytes) + ((uint64_t)block << sub->block_bits);
-    same("offset of a value", (int64_t)range.offset, (int64_t)offset);
-    same("bytes of a value", (int64_t)range.count, sub->constant ? 0 : (int64_t)1 << sub->block_bits);
-    if (!sub->constant) {
-        uint64_t others = random_one_in(2) || offset + range.count == t->length ? range.count - 1 : range.count + 1;
-        same("szg_front_value of another length", szg_front_value(front, part, side, index, t->bytes + offset, others, &value, &bad), SZG_CHANGED);
-        same("value of another length", value, 4321);
-        same("bad block of another length", bad.block + (int64_t)bad.offset, 88 + 888);
-    }
-    same("szg_front_value", szg_front_value(front, part, side, index, t->bytes + offset, range.count, &value, &bad), decodes ? SZG_DONE : SZG_BAD_BLOCK);
-    same("value of its bytes", value, decodes ? due : 4321);
-    same("bad block of its bytes", bad.block, decodes ? 88 : block);
-    same("offset of its bad block", (int64_t)bad.offset, decodes ? 888 : (int64_t)offset);
-}
-
-static void compare_front_placement(const reader_table *t, szg_front *front) {
-    szg_man men[MEN_MOST];
-    szg_spot found = {7, 7, 7777}, due = found;
-    szg_bad_block bad = {88, 888};
-    int64_t outcome = 33333, due_outcome = outcome;
-    uint16_t value = 0;
-    uint32_t block = 88;
-    any_men(&t->material, men);
-    size_t count = (size_t)t->material.count;
-    uint8_t mover = (uint8_t)random_below(2);
-    int class_of_position = (int)random_below(5) - 2;
-    uint32_t status = reader_index(t, men, count, mover, &due);
-    same("szg_front_index", szg_front_index(front, men, count, mover, &found), status);
-    same("index of a front", (int64_t)found.index, (int64_t)due.index);
-    same("part and side of a front", found.part * 2 + found.side, due.part * 2 + due.side);
-    bool decodes = true;
-    if (status == SZG_DONE) {
-        decodes = reader_fetch(reader_subtable_of(t, due.part, due.side), due.index, &value, &block);
-        status = decodes ? reader_probe(t, &due, class_of_position, &due_outcome) : SZG_BAD_BLOCK;
-    }
-    same("szg_front_probe", szg_front_probe(front, t->bytes, t->length, men, count, mover, (int8_t)class_of_position, &outcome, &bad), status);
-    same("outcome of a front", outcome, due_outcome);
-    same("bad block of a probe", bad.block, decodes ? 88 : block);
-}
-
-/* What follows from the front alone: sizes and numbers. */
-static void compare_front_facts(const reader_table *t, szg_front *front) {
-    int part = (int)random_below(5), side = (int)random_below(3), class_of_position = (int)random_below(7) - 3;
-    const reader_subtable *sub = reader_subtable_of(t, part, side);
-    uint64_t size = 7;
-    uint32_t number = 55555, due = 55555, status = SZG_RANGE;
-    uint16_t value = (uint16_t)random_below(4);
-    szg_bad_block bad = {88, 888};
-    same("szg_front_size", szg_front_size(front, (uint8_t)part, (uint8_t)side, &size), sub ? SZG_DONE : SZG_RANGE);
-    same("positions of a front", (int64_t)size, sub ? (int64_t)sub->size : 7);
-    if (t->dtz && part < t->part_count && -2 <= class_of_position && class_of_position <= 2)
-        status = reader_number(t, part, class_of_position, value, &due);
-    same("szg_front_number", szg_front_number(front, (uint8_t)part, (int8_t)class_of_position, value, &number), status);
-    same("number of a front", number, due);
-    szg_byte_range range = {77, 77};
-    uint64_t past = sub ? sub->size : 0;
-    same("szg_front_get past the size", szg_front_get(front, t->bytes, t->length, (uint8_t)part, (uint8_t)side, past, &value, &bad), SZG_RANGE);
-    same("szg_front_find past the size", szg_front_find(front, (uint8_t)part, (uint8_t)side, past, &range), SZG_RANGE);
-    same("szg_front_value past the size", szg_front_value(front, (uint8_t)part, (uint8_t)side, past, t->bytes, t->length, &value, &bad), SZG_RANGE);
-    same("byte range past the size", (int64_t)(range.offset + range.count), 154);
-}
-
 /* The look-ups of a front that was opened, in its bytes as they are and with some bytes of blocks changed. */
-static void compare_front_look_ups(reader_table *t, szg_front *front, uint8_t *bytes) {
+static void compare_front_look_ups(const reader_table *t, uint8_t *bytes) {
     for (int turn = 0; turn < 3; turn++) {
         for (int i = 0; i < t->subtable_count; i++) {
             const reader_subtable *sub = &t->subtables[i];
             for (int look = 0; look < 3; look++) {
-                compare_fetch(t, front, sub, any_index(sub));
-                compare_block_fetch(t, front, sub, any_index(sub));
+                compare_value(t, sub, any_index(sub));
+                compare_block(t, sub, any_index(sub));
             }
             if (sub->constant) continue;
             uint64_t length = (uint64_t)sub->blocks << sub->block_bits;
             bytes[(uint64_t)(sub->packed - t->bytes) + random_below(length)] ^= (uint8_t)(1 + random_below(255));
         }
-        compare_front_placement(t, front);
+        compare_placement(t);
     }
 }
 
@@ -344,9 +328,9 @@ static void compare_front(const reader_material *material) {
     static uint8_t bytes[MADE_MOST];
     reader_table t;
     szg_answer answer = NO_ANSWER;
-    szg_front front = SZG_NO_FRONT;
     uint64_t size = 7;
     if (now.length > sizeof bytes) return;
+    is_front = true;
     memcpy(bytes, now.bytes, now.length);
     reader_read_front(&t, material, now.dtz, bytes, now.length);
     same_answer("szg_open_front", &t, szg_open_front(now.name, strlen(now.name), now.dtz, bytes, now.length, &front, &answer), &answer);
@@ -354,8 +338,10 @@ static void compare_front(const reader_material *material) {
         same("szg_front_size of no front", szg_front_size(&front, 0, 0, &size), SZG_CLOSED);
         same("size of no front", (int64_t)size, 7);
     } else if (!now.differs) {
-        compare_front_facts(&t, &front);
-        compare_front_look_ups(&t, &front, bytes);
+        if (random_one_in(4)) compare_sizes(&t);
+        compare_numbers(&t, (int)random_below(5), (uint16_t)random_below(4));
+        compare_outside(&t, (uint8_t)random_below(5), (uint8_t)random_below(3));
+        compare_front_look_ups(&t, bytes);
     }
     szg_close_front(&front);
     reader_free(&t);

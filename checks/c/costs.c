@@ -8,18 +8,16 @@ int main(int count, char **words) {
     if (count != 4) return 2;
     const char *call = words[2];
     uint64_t times = strtoull(words[3], NULL, 10), sum = 0;
-    bool is_long = strcmp(call, "get_long") == 0;
-    szg_answer answer;
     szg_table table = SZG_NO_TABLE, other = SZG_NO_TABLE;
-    size_t length = load(words[1], is_long ? "kqvk_wdl_paired.rtbw" : "kqvk_wdl_unpaired.rtbw");
-    want("open", szg_open("KQvK", 4, false, bytes, length, &table, &answer), SZG_DONE);
+    load_sample(words[1], strcmp(call, "get_long") == 0 ? PAIRED : UNPAIRED);
+    want("open", szg_open(OF_FILE, &table, &answer), SZG_DONE);
     for (uint64_t i = 0; i < times; i++) {
         uint16_t value = 0;
         szg_spot spot = {0, 0, 0};
         if (strcmp(call, "check") == 0)
-            sum += szg_check("KQvK", 4, false, bytes, length, &answer);
+            sum += szg_check(OF_FILE, &answer);
         else if (strcmp(call, "open") == 0)
-            sum += szg_open("KQvK", 4, false, bytes, length, &other, &answer);
+            sum += szg_open(OF_FILE, &other, &answer);
         else if (strcmp(call, "index") == 0)
             sum += szg_index(&table, MEN, 3, SZG_WHITE, &spot);
         else if (strcmp(call, "share") == 0)

@@ -1,91 +1,42 @@
-/* Compares full probing: the answers of `szg probe FOLDER.. -`, Fathom's and Stockfish's, and the solver's.
+/* Compares full probing: what `szg probe FOLDER.. -` prints, Fathom's and Stockfish's, and the solver's.
  *
  *     full_probes draw SEED ALL <NAME.positions >EXPECTED      a line "FEN<tab>class<tab>dtz" for each position that was solved
- *     full_probes compare TABLES ANSWERS STOCKFISH EXPECTED
+ *     full_probes compare TABLES OUTPUT STOCKFISH EXPECTED
  *
  * draw: each position is turned or flipped at random (ALL 0), or in all mirror images with both colors (ALL 1), and has a
  * fifty-move counter, which is 0 for half of them.
- * compare: ANSWERS has szg's lines, STOCKFISH a line "class dtz" for each. Fathom, which is linked, probes the tables in the
+ * compare: OUTPUT has szg's lines, STOCKFISH a line "class dtz" for each. Fathom, which is linked, probes the tables in the
  * folder TABLES: class, DTZ, and each move's class and DTZ with the counter. szg's best move has to be one of Fathom's best.
  * Further fields of szg's lines, "uci class dtz", are compared move by move. The solver's DTZ may be one ply off where tables
  * count moves. Prints each difference up to twenty, and a line of counts. Status 0 without differences, 1 with some, 2 if
  * something is missing. */
-#include <ctype.h>
-#include <stdio.h>
-#include <stdlib.h>
-#include <string.h>
-#include <tbprobe.h>
+#include "questions.h"
 
-enum { MEN = 6, NO_SQUARE = 64, SHOWN = 20, LINE = 1 << 14 };
-struct question { int count, mover, passed, counter, class, dtz, square[MEN]; char letter[MEN]; };
-static long asked, passing, passing_only, passing_wins, mates, stalemates, moves_compared, differences;
-static const char LETTERS[] = "PNBRQK";
+enum { LINE = 1 << 14 };
+static long passing, passing_only, passing_wins, moves_compared;
 
 /* ---- drawing */
-static void write_line(const struct question *q)
-{
-    char board[64] = {0}, passed[3] = "-";
-    for (int i = 0; i < q->count; i++) board[q->square[i]] = q->letter[i];
-    for (int rank = 7; rank >= 0; rank--) {
-        int empty = 0;
-        for (int file = 0; file < 8; file++) {
-            char man = board[rank * 8 + file];
-            if (!man) { empty++; continue; }
-            if (empty) putchar('0' + empty);
-            putchar(man), empty = 0;
-        }
-        if (empty) putchar('0' + empty);
-        putchar(rank ? '/' : ' ');
-    }
-    if (q->passed != NO_SQUARE) passed[0] = (char)('a' + (q->passed & 7)), passed[1] = (char)('1' + (q->passed >> 3));
-    printf("%c - %s %d 1\t%d\t%d\n", "wb"[q->mover], passed, q->counter, q->class, q->dtz);
-}
-
-/* Flips files (1), ranks (2), files with ranks (4); the bit 8 exchanges the colors, for which the ranks are flipped too. */
-static struct question flipped(const struct question *q, int flips)
-{
-    struct question r = *q;
-    int mask = (flips & 1 ? 7 : 0) | (!(flips & 2) == !(flips & 8) ? 0 : 56);
-    for (int i = 0; i < q->count; i++) {
-        r.square[i] ^= mask;
-        if (flips & 4) r.square[i] = (r.square[i] & 7) * 8 + r.square[i] / 8;
-        if (flips & 8) r.letter[i] ^= 32;
-    }
-    if (q->passed != NO_SQUARE) r.passed ^= mask;
-    if (flips & 8) r.mover = !q->mover;
-    return r;
-}
-
-static int draw(int seed, int all)
-{
-    char line[256], mover;
+static int draw(int seed, int is_all) {
+    struct question q, r;
+    char fen[128];
     srand((unsigned)seed);
-    while (fgets(line, sizeof line, stdin)) {
-        struct question q = {0}, r;
-        int read, has_pawns = 0;
-        if (sscanf(line, "%c %d %d %d%n", &mover, &q.passed, &q.class, &q.dtz, &read) != 4) return 2;
-        q.mover = mover == 'b';
-        for (const char *word = line + read; q.count < MEN && sscanf(word, " %c%d%n", &q.letter[q.count], &q.square[q.count], &read) == 2; word += read)
-            has_pawns |= toupper((unsigned char)q.letter[q.count]) == 'P', q.count++;
+    while (read_question(&q))
         for (int drawn = rand() & 15, flips = 0; flips < 16; flips++) {
-            if (!all && flips != (has_pawns ? drawn & 9 : drawn)) continue;
-            if (has_pawns && flips & 6) continue;
+            if (!is_wanted(&q, flips, is_all, drawn)) continue;
             r = flipped(&q, flips);
             r.counter = rand() & 1 ? rand() % 100 : 0;
-            write_line(&r);
+            write_fen(&r, fen);
+            printf("%s\t%d\t%d\n", fen, r.class, r.dtz);
         }
-    }
     return 0;
 }
 
 /* ---- comparing */
-static void differ(const char *fen, const char *who, long class, long dtz, long due_class, long due_dtz)
-{
+static void differ(const char *fen, const char *who, long class, long dtz, long due_class, long due_dtz) {
     if (differences++ < SHOWN) printf("%s: %s: class %ld, dtz %ld; szg: class %ld, dtz %ld\n", fen, who, class, dtz, due_class, due_dtz);
 }
 
-static struct question read_fen(const char *fen)
-{
+static struct question read_fen(const char *fen) {
     struct question q = {.passed = NO_SQUARE};
     int rank = 7, file = 0;
     for (; *fen != ' '; fen++) {
@@ -102,8 +53,7 @@ static struct question read_fen(const char *fen)
 
 static int class_at(int counter, int dtz) { return dtz > 0 ? (dtz + counter <= 100 ? 2 : 1) : dtz < 0 ? (-dtz + counter <= 100 ? -2 : -1) : 0; }
 
-static void uci_of(unsigned result, char *out)
-{
+static void uci_of(unsigned result, char *out) {
     unsigned from = TB_GET_FROM(result), to = TB_GET_TO(result), promotes = TB_GET_PROMOTES(result);
     sprintf(out, "%c%d%c%d", 'a' + from % 8, from / 8 + 1, 'a' + to % 8, to / 8 + 1);
     if (promotes) out[4] = "\0qrbn"[promotes], out[5] = 0;
@@ -115,8 +65,7 @@ static int dtz_of(unsigned result) { int class = (int)TB_GET_WDL(result) - 2, dt
 /* Wins by the least DTZ first, then draws, then losses by the greatest. */
 static long rank_of(int dtz) { return dtz > 0 ? dtz : dtz == 0 ? 10000 : 40000 + dtz; }
 
-static void compare_moves(const char *fen, const unsigned *results, char *best, char *more)
-{
+static void compare_moves(const char *fen, const unsigned *results, char *best, char *more) {
     long least = 1 << 30, own = -1;
     char uci[8];
     int count = 0, szg_count = 0;
@@ -145,19 +94,11 @@ static void compare_moves(const char *fen, const unsigned *results, char *best, 
     if (more && szg_count != count) differ(fen, "number of moves", count, 0, szg_count, 0);
 }
 
-static void ask_fathom(const char *fen, int class, int dtz, char *best, char *more)
-{
+static void ask_fathom(const char *fen, int class, int dtz, char *best, char *more) {
     struct question q = read_fen(fen);
-    uint64_t colors[2] = {0, 0}, kinds[6] = {0};
-    for (int i = 0; i < q.count; i++) {
-        colors[!!islower((unsigned char)q.letter[i])] |= 1ull << q.square[i];
-        kinds[strchr(LETTERS, toupper((unsigned char)q.letter[i])) - LETTERS] |= 1ull << q.square[i];
-    }
-    unsigned results[TB_MAX_MOVES], ep = q.passed == NO_SQUARE ? 0 : (unsigned)q.passed;
-    results[0] = TB_RESULT_FAILED;
-    unsigned wdl = tb_probe_wdl(colors[0], colors[1], kinds[5], kinds[4], kinds[3], kinds[2], kinds[1], kinds[0], 0, 0, ep, !q.mover);
-    if (q.counter == 0 && (int)wdl - 2 != class) differ(fen, "Fathom in WDL", (long)wdl - 2, 0, class, dtz);
-    unsigned root = tb_probe_root(colors[0], colors[1], kinds[5], kinds[4], kinds[3], kinds[2], kinds[1], kinds[0], (unsigned)q.counter, 0, ep, !q.mover, results);
+    struct found found = fathom_of(&q);
+    unsigned root = found.root, *results = found.results;
+    if (q.counter == 0 && (int)found.wdl - 2 != class) differ(fen, "Fathom in WDL", (long)found.wdl - 2, 0, class, dtz);
     if (root == TB_RESULT_CHECKMATE || root == TB_RESULT_STALEMATE) {
         int is_mate = root == TB_RESULT_CHECKMATE;
         (*(is_mate ? &mates : &stalemates))++;
@@ -177,8 +118,7 @@ static void ask_fathom(const char *fen, int class, int dtz, char *best, char *mo
     }
 }
 
-static int compare(char **words)
-{
+static int compare(char **words) {
     static char line[LINE], stockfish[256], expected[512];
     FILE *answers = fopen(words[1], "r"), *others = fopen(words[2], "r"), *due = fopen(words[3], "r");
     if (!answers || !others || !due || !tb_init(words[0])) return perror("full_probes"), 2;
@@ -207,9 +147,8 @@ static int compare(char **words)
     return differences ? 1 : 0;
 }
 
-int main(int count, char **words)
-{
+int main(int count, char **words) {
     if (count == 4 && !strcmp(words[1], "draw")) return draw(atoi(words[2]), atoi(words[3]));
     if (count == 6 && !strcmp(words[1], "compare")) return compare(words + 2);
-    return fprintf(stderr, "full_probes draw SEED ALL | compare TABLES ANSWERS STOCKFISH EXPECTED\n"), 2;
+    return fprintf(stderr, "full_probes draw SEED ALL | compare TABLES OUTPUT STOCKFISH EXPECTED\n"), 2;
 }

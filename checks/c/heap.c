@@ -35,26 +35,20 @@ static enum target target_of_refused;
 static void *advised_at, *foreign;
 static size_t advised;
 
-static void expect(bool is_so, const char *what)
-{
+static void expect(bool is_so, const char *what) {
     if (!is_so) {
         fprintf(stderr, "heap: %s\n", what);
         exit(1);
     }
 }
 
-static bool refuses(void)
-{
-    return until_refusal-- == 0;
-}
+static bool refuses(void) { return until_refusal-- == 0; }
 
 /* Every third block of less than 64 KB is at a multiple of 2 MB. */
-void *__wrap_malloc(size_t size)
-{
+void *__wrap_malloc(size_t size) {
     static int count;
     expect(size != 0, "no byte was requested, for which malloc may return NULL");
-    if (refuses())
-        return NULL;
+    if (refuses()) return NULL;
     bool is_at = size < 65536 && ++count % 3 == 0;
     void *block = is_at ? aligned_alloc(2 * MB, (size + 2 * MB - 1) / (2 * MB) * (2 * MB)) : __real_malloc(size);
     at_boundary += is_at && block != NULL;
@@ -62,15 +56,13 @@ void *__wrap_malloc(size_t size)
     return block;
 }
 
-void __wrap_free(void *block)
-{
+void __wrap_free(void *block) {
     plain -= block != NULL;
     __real_free(block);
 }
 
 /* Every second mapping begins 37 pages later than the kernel has it. A mapping at an address is one that was there before. */
-void *__wrap_mmap(void *at, size_t length, int protection, int flags, int file, off_t offset)
-{
+void *__wrap_mmap(void *at, size_t length, int protection, int flags, int file, off_t offset) {
     if (at != NULL) {
         expect(flags == (MAP_PRIVATE | MAP_ANONYMOUS | MAP_FIXED_NOREPLACE) && file == -1, "another mapping is requested at an address");
         void *found = __real_mmap(at, length, protection, flags, file, offset);
@@ -83,15 +75,13 @@ void *__wrap_mmap(void *at, size_t length, int protection, int flags, int file, 
     size_t shift = ++count % 2 ? 37 * 4096 : 0;
     last_mapped = length;
     char *start = refuses() ? MAP_FAILED : __real_mmap(at, length + shift, protection, flags, file, offset);
-    if (start == MAP_FAILED)
-        return MAP_FAILED;
+    if (start == MAP_FAILED) return MAP_FAILED;
     mapped += (int64_t)length;
     __real_munmap(start, shift);
     return start + shift;
 }
 
-int __wrap_munmap(void *at, size_t length)
-{
+int __wrap_munmap(void *at, size_t length) {
     unsigned char resident;
     expect((uintptr_t)at % 4096 == 0 && length % 4096 == 0 && mincore(at, 4096, &resident) == 0, "what is unmapped was not mapped");
     mapped -= (int64_t)length;
@@ -100,13 +90,11 @@ int __wrap_munmap(void *at, size_t length)
 
 /* A refused call may have unmapped the target, and another thread may have mapped something there. A call that is carried out
  * replaces it, and unmaps the old place. */
-void *__wrap_mremap(void *old, size_t length, size_t size, int flags, void *at)
-{
+void *__wrap_mremap(void *old, size_t length, size_t size, int flags, void *at) {
     expect(flags == (MREMAP_MAYMOVE | MREMAP_FIXED) && length < size, "another remapping is requested");
     if (refuses()) {
         target_of_refused = (target_of_refused + 1) % 4;
-        if (target_of_refused != KEPT)
-            expect(__wrap_munmap(at, size) == 0, "the target was not mapped");
+        if (target_of_refused != KEPT) expect(__wrap_munmap(at, size) == 0, "the target was not mapped");
         if (target_of_refused == TAKEN || target_of_refused == UNREADABLE) {
             expect(foreign == NULL, "two targets are taken at once");
             foreign = __real_mmap(at, 4096, target_of_refused == TAKEN ? PROT_READ | PROT_WRITE : PROT_NONE,
@@ -121,40 +109,33 @@ void *__wrap_mremap(void *old, size_t length, size_t size, int flags, void *at)
 }
 
 /* What another thread has mapped is as it was. */
-static void expect_foreign(void)
-{
-    if (foreign == NULL)
-        return;
+static void expect_foreign(void) {
+    if (foreign == NULL) return;
     unsigned char resident;
     expect(mincore(foreign, 4096, &resident) == 0, "what another thread has mapped was unmapped");
-    if (target_of_refused == TAKEN)
-        expect(*(char *)foreign == 0, "what another thread has mapped was changed");
+    if (target_of_refused == TAKEN) expect(*(char *)foreign == 0, "what another thread has mapped was changed");
     expect(__real_munmap(foreign, 4096) == 0, "what another thread has mapped was unmapped");
     foreign = NULL;
 }
 
 /* Every second advice is given to the kernel. */
-int __wrap_madvise(void *at, size_t length, int advice)
-{
+int __wrap_madvise(void *at, size_t length, int advice) {
     static int count;
     advised_at = at;
     advised = advice == MADV_HUGEPAGE ? length : 0;
-    if (++count % 2 == 0)
-        return __real_madvise(at, length, advice);
+    if (++count % 2 == 0) return __real_madvise(at, length, advice);
     errno = ENOMEM;
     return -1;
 }
 
-static uint32_t draw(void)
-{
+static uint32_t draw(void) {
     static uint64_t state = 1;
     state = state * 6364136223846793005u + 1442695040888963407u;
     return (uint32_t)(state >> 33);
 }
 
 /* Half of the sizes are below 100 bytes, others below 3 MB, near 4 MB, or below 20 MB. */
-static size_t draw_size(void)
-{
+static size_t draw_size(void) {
     uint32_t kind = draw() % 8;
     return kind < 4 ? draw() % 100 : kind < 6 ? draw() % (3 * MB) : kind == 6 ? 4 * MB - 2 + draw() % 5 : draw() % (20 * MB);
 }
@@ -164,19 +145,14 @@ static uint8_t byte_of(uint32_t seed, size_t at) { return (uint8_t)(seed + at * 
 /* Some bytes of a block: the first and the last ones, and every 509th. */
 #define EACH_BYTE(at, size) for (size_t at = 0; at < (size); at += at < 40 || at + 40 > (size) ? 1 : 509)
 
-static void fill(uint8_t *block, size_t size, uint32_t seed)
-{
-    EACH_BYTE(at, size) block[at] = byte_of(seed, at);
-}
+static void fill(uint8_t *block, size_t size, uint32_t seed) { EACH_BYTE(at, size) block[at] = byte_of(seed, at); }
 
 /* The first `kept` bytes of a block that was filled with `size` bytes. */
-static void expect_bytes(const uint8_t *block, size_t kept, size_t size, uint32_t seed)
-{
+static void expect_bytes(const uint8_t *block, size_t kept, size_t size, uint32_t seed) {
     EACH_BYTE(at, size) if (at < kept) expect(block[at] == byte_of(seed, at), "a byte was lost");
 }
 
-static void expect_place(const struct tried *got, size_t size)
-{
+static void expect_place(const struct tried *got, size_t size) {
     uintptr_t at = (uintptr_t)got->block;
     expect(got->ok && at % 16 == 0, "a block is not aligned");
     expect(at % (2 * MB) == 0 || size < 4 * MB, "a large block is not at a multiple of 2 MB");
@@ -192,8 +168,7 @@ struct held {
 static struct held held[BLOCKS];
 
 /* Blocks at multiples of 2 MB are mapped up to the next such multiple, with a page before each, and nothing else is. */
-static void expect_mapped(void)
-{
+static void expect_mapped(void) {
     int64_t due = 0;
     for (int i = 0; i < BLOCKS; i++)
         if (held[i].block != NULL && (uintptr_t)held[i].block % (2 * MB) == 0)
@@ -202,8 +177,7 @@ static void expect_mapped(void)
 }
 
 /* Sizes that no machine has: their mappings are as long as they must be, and refused. */
-static void try_huge_sizes(void)
-{
+static void try_huge_sizes(void) {
     const size_t sizes[] = {(size_t)5 << 30, ((size_t)1 << 46) + 1, ((size_t)1 << 63) - 1};
     for (size_t i = 0; i < sizeof sizes / sizeof *sizes; i++) {
         until_refusal = 0;
@@ -213,11 +187,9 @@ static void try_huge_sizes(void)
     }
 }
 
-static void resize(struct held *h, bool may_be_refused)
-{
+static void resize(struct held *h, bool may_be_refused) {
     size_t size = draw_size(), kept = draw() % 4 ? h->size : h->size / 2;
-    if (kept > size)
-        kept = size;
+    if (kept > size) kept = size;
     until_refusal = may_be_refused ? draw() % 3 : INT64_MAX;
     struct tried got = rattle_realloc(h->block, kept, size, 16);
     until_refusal = INT64_MAX;
@@ -233,8 +205,7 @@ static void resize(struct held *h, bool may_be_refused)
     fill(h->block, h->size, h->seed);
 }
 
-static void step(struct held *h, bool may_be_refused)
-{
+static void step(struct held *h, bool may_be_refused) {
     if (h->block == NULL) {
         size_t size = draw_size();
         until_refusal = may_be_refused ? draw() % 2 : INT64_MAX;
@@ -259,8 +230,7 @@ static void step(struct held *h, bool may_be_refused)
 
 /* A block grows where the kernel refuses to move its pages: its bytes are copied; it is refused where another thread has mapped
  * something in the way. */
-static void copy_where_moving_is_refused(void)
-{
+static void copy_where_moving_is_refused(void) {
     for (int i = 0; i < 12; i++) {
         struct tried block = rattle_alloc(5 * MB, 16);
         expect(block.ok, "no memory");
@@ -277,8 +247,7 @@ static void copy_where_moving_is_refused(void)
 }
 
 /* The bytes of this process's addresses. */
-static size_t addresses(void)
-{
+static size_t addresses(void) {
     size_t pages = 0;
     FILE *file = fopen("/proc/self/statm", "r");
     expect(file != NULL && fscanf(file, "%zu", &pages) == 1, "the size of the process is not known");
@@ -288,8 +257,7 @@ static size_t addresses(void)
 
 /* Near the kernel's limit of mappings, with 0 to 8 that are left, a block grows, and its bytes are copied, or it is refused; no
  * address is lost. The other mappings are single pages, each of another protection than the one before it. */
-static void grow_near_limit(void)
-{
+static void grow_near_limit(void) {
     enum { MOST = 1 << 20, NEAR = 9 };
     char **pages = malloc(MOST * sizeof *pages);
     uint8_t *blocks[NEAR];
@@ -313,15 +281,12 @@ static void grow_near_limit(void)
         __real_munmap(pages[--count], 4096);
     }
     expect(grown > 5, "few blocks grew near the limit of mappings");
-    while (count > 0)
-        __real_munmap(pages[--count], 4096);
-    for (int i = 0; i < NEAR; i++)
-        rattle_dealloc(blocks[i]);
+    while (count > 0) __real_munmap(pages[--count], 4096);
+    for (int i = 0; i < NEAR; i++) rattle_dealloc(blocks[i]);
     free(pages);
 }
 
-int main(void)
-{
+int main(void) {
     for (int i = 0; i < STEPS; i++) {
         step(&held[draw() % BLOCKS], draw() % 4 == 0);
         expect_mapped();

@@ -8,42 +8,15 @@
  * PLIES is another limit of the fifty-move rule, with which the tables were made. The readers know 100 only. So then just the
  * stored side is asked, and distances beyond the limit begin at 101 for the reader.
  * Prints each difference, and a line of counts. Status 0 without differences, 1 with some, 2 if something is missing. */
+#include "questions.h"
 #include "szg.h"
-#include <ctype.h>
-#include <stdio.h>
-#include <stdlib.h>
-#include <string.h>
-#include <tbprobe.h>
 
-enum { MEN = 6, NO_SQUARE = 64, SHOWN = 20 };
-struct question { int count, mover, passed, class, dtz, square[MEN]; char letter[MEN]; };
-static long asked, szg_asked, szg_other_side, moves_seen, mates, stalemates, differences;
+static long szg_asked, szg_other_side, moves_seen;
 static szg_table wdl_table = SZG_NO_TABLE, dtz_table = SZG_NO_TABLE;
 static const char *name;
 static int limit = 100;
 
-static void write_fen(const struct question *q, char *out)
-{
-    char board[64] = {0};
-    for (int i = 0; i < q->count; i++) board[q->square[i]] = q->letter[i];
-    for (int rank = 7; rank >= 0; rank--) {
-        int empty = 0;
-        for (int file = 0; file < 8; file++) {
-            char man = board[rank * 8 + file];
-            if (!man) { empty++; continue; }
-            if (empty) *out++ = (char)('0' + empty);
-            *out++ = man, empty = 0;
-        }
-        if (empty) *out++ = (char)('0' + empty);
-        *out++ = rank ? '/' : ' ';
-    }
-    char passed[3] = "-";
-    if (q->passed != NO_SQUARE) passed[0] = (char)('a' + (q->passed & 7)), passed[1] = (char)('1' + (q->passed >> 3));
-    sprintf(out, "%c - %s 0 1", "wb"[q->mover], passed);
-}
-
-static void differ(const struct question *q, const char *who, long class, long dtz)
-{
+static void differ(const struct question *q, const char *who, long class, long dtz) {
     char fen[128];
     if (differences++ >= SHOWN) return;
     write_fen(q, fen);
@@ -54,13 +27,11 @@ static void differ(const struct question *q, const char *who, long class, long d
 static int is_same(const struct question *q, long plies, long due) { return labs(plies - due) <= (abs(q->class) == 1); }
 
 /* The C library's tables: one look-up in each, without the position's captures, so not where en passant is possible. */
-static void ask_szg(const struct question *q, int stored_mover)
-{
+static void ask_szg(const struct question *q, int stored_mover) {
     szg_man men[MEN];
     int64_t class = 9, number = 9999;
     for (int i = 0; i < q->count; i++) {
-        const char *kinds = "PNBRQK";
-        men[i].kind = (uint8_t)(strchr(kinds, toupper((unsigned char)q->letter[i])) - kinds + SZG_PAWN);
+        men[i].kind = (uint8_t)(strchr(LETTERS, toupper((unsigned char)q->letter[i])) - LETTERS + SZG_PAWN);
         men[i].color = islower((unsigned char)q->letter[i]) ? SZG_BLACK : SZG_WHITE;
         men[i].square = (uint8_t)q->square[i];
     }
@@ -75,8 +46,7 @@ static void ask_szg(const struct question *q, int stored_mover)
 }
 
 /* Class and DTZ from Fathom's answers for each move: the mover takes the best class, and wins soonest or loses latest. */
-static void follow_moves(const struct question *q, const unsigned *results)
-{
+static void follow_moves(const struct question *q, const unsigned *results) {
     int best = -3, dtz = 0;
     for (; *results != TB_RESULT_FAILED; results++, moves_seen++) {
         int class = (int)TB_GET_WDL(*results) - 2, plies = (int)TB_GET_DTZ(*results);
@@ -89,8 +59,8 @@ static void follow_moves(const struct question *q, const unsigned *results)
 }
 
 /* Whether the mover's king is attacked. Fathom takes that from the tables where there is no move; here no table is asked. */
-static int is_check(const struct question *q, const uint64_t *colors, const uint64_t *kinds)
-{
+static int is_check(const struct question *q, const struct found *found) {
+    const uint64_t *colors = found->colors, *kinds = found->kinds;
     uint64_t occupied = colors[0] | colors[1], others = colors[!q->mover];
     unsigned king = tb_lsb(kinds[5] & colors[q->mover]);
     return (tb_pawn_attacks(king, !q->mover) & kinds[0] & others) || (tb_knight_attacks(king) & kinds[1] & others)
@@ -98,20 +68,12 @@ static int is_check(const struct question *q, const uint64_t *colors, const uint
         || (tb_rook_attacks(king, occupied) & (kinds[3] | kinds[4]) & others);
 }
 
-static void ask_fathom(const struct question *q)
-{
-    uint64_t colors[2] = {0, 0}, kinds[6] = {0};
-    for (int i = 0; i < q->count; i++) {
-        colors[!!islower((unsigned char)q->letter[i])] |= 1ull << q->square[i];
-        kinds[strchr("PNBRQK", toupper((unsigned char)q->letter[i])) - "PNBRQK"] |= 1ull << q->square[i];
-    }
-    unsigned results[TB_MAX_MOVES], ep = q->passed == NO_SQUARE ? 0 : (unsigned)q->passed;
-    results[0] = TB_RESULT_FAILED;
-    unsigned class = tb_probe_wdl(colors[0], colors[1], kinds[5], kinds[4], kinds[3], kinds[2], kinds[1], kinds[0], 0, 0, ep, !q->mover);
-    if (class != (unsigned)(q->class + 2)) differ(q, "Fathom in WDL", (long)class - 2, 0);
-    unsigned root = tb_probe_root(colors[0], colors[1], kinds[5], kinds[4], kinds[3], kinds[2], kinds[1], kinds[0], 0, 0, ep, !q->mover, results);
+static void ask_fathom(const struct question *q) {
+    struct found found = fathom_of(q);
+    unsigned root = found.root;
+    if (found.wdl != (unsigned)(q->class + 2)) differ(q, "Fathom in WDL", (long)found.wdl - 2, 0);
     if (root == TB_RESULT_CHECKMATE || root == TB_RESULT_STALEMATE) {
-        int is_mate = is_check(q, colors, kinds);
+        int is_mate = is_check(q, &found);
         (*(is_mate ? &mates : &stalemates))++;
         if (q->class != (is_mate ? -2 : 0) || q->dtz != (is_mate ? -1 : 0)) differ(q, is_mate ? "mate" : "stalemate", 0, 0);
         if (root != (is_mate ? TB_RESULT_CHECKMATE : TB_RESULT_STALEMATE)) differ(q, "Fathom mixes mate and stalemate", 0, 0);
@@ -120,11 +82,10 @@ static void ask_fathom(const struct question *q)
     int dtz = (int)TB_GET_DTZ(root);
     if (root == TB_RESULT_FAILED || (int)TB_GET_WDL(root) - 2 != q->class || !is_same(q, dtz, abs(q->dtz)))
         differ(q, "Fathom at the root", root == TB_RESULT_FAILED ? 9 : (long)TB_GET_WDL(root) - 2, dtz);
-    if (root != TB_RESULT_FAILED && limit == 100) follow_moves(q, results);
+    if (root != TB_RESULT_FAILED && limit == 100) follow_moves(q, found.results);
 }
 
-static void ask(const struct question *q, int stored_mover, FILE *questions, FILE *expected)
-{
+static void ask(const struct question *q, int stored_mover, FILE *questions, FILE *expected) {
     char fen[128];
     if (limit != 100 && stored_mover != q->mover) return;
     asked++;
@@ -135,37 +96,7 @@ static void ask(const struct question *q, int stored_mover, FILE *questions, FIL
     fprintf(expected, "%d %d %s\n", q->class, q->dtz, fen);
 }
 
-/* Flips files (1), ranks (2), files with ranks (4); the bit 8 exchanges the colors, for which the ranks are flipped too. */
-static struct question flipped(const struct question *q, int flips)
-{
-    struct question r = *q;
-    int mask = (flips & 1 ? 7 : 0) | (!(flips & 2) == !(flips & 8) ? 0 : 56);
-    for (int i = 0; i < q->count; i++) {
-        r.square[i] ^= mask;
-        if (flips & 4) r.square[i] = (r.square[i] & 7) * 8 + r.square[i] / 8;
-        if (flips & 8) r.letter[i] ^= 32;
-    }
-    if (q->passed != NO_SQUARE) r.passed ^= mask;
-    if (flips & 8) r.mover = !q->mover;
-    return r;
-}
-
-static int read_question(struct question *q)
-{
-    char line[256], mover;
-    int read;
-    if (!fgets(line, sizeof line, stdin)) return 0;
-    if (sscanf(line, "%c %d %d %d%n", &mover, &q->passed, &q->class, &q->dtz, &read) != 4) exit(2);
-    if (abs(q->class) == 1) q->dtz += q->dtz > 0 ? 100 - limit : limit - 100;
-    q->mover = mover == 'b';
-    q->count = 0;
-    for (const char *word = line + read; q->count < MEN && sscanf(word, " %c%d%n", &q->letter[q->count], &q->square[q->count], &read) == 2; word += read)
-        q->count++;
-    return 1;
-}
-
-static void open_table(const char *folder, int is_dtz, szg_table *table)
-{
+static void open_table(const char *folder, int is_dtz, szg_table *table) {
     static uint8_t bytes[1 << 24];
     char path[4096];
     szg_answer answer;
@@ -177,8 +108,7 @@ static void open_table(const char *folder, int is_dtz, szg_table *table)
     if (szg_open(name, strlen(name), is_dtz, bytes, length, table, &answer) != SZG_DONE) exit((printf("%s is refused\n", path), 2));
 }
 
-int main(int count, char **words)
-{
+int main(int count, char **words) {
     if (count < 7 || count > 8 || !tb_init(words[1])) return fprintf(stderr, "peers TABLES NAME SIDE all|one QUESTIONS EXPECTED [PLIES]\n"), 2;
     if (count == 8) limit = atoi(words[7]);
     name = words[2];
@@ -188,17 +118,18 @@ int main(int count, char **words)
     if (!questions || !expected) return perror("peers"), 2;
     const char *v = strchr(name, 'v');
     int is_symmetric = (size_t)(v - name) == strlen(v + 1) && !strncmp(name, v + 1, strlen(v + 1));
-    int has_pawns = strchr(name, 'P') != NULL, side = atoi(words[3]);
+    int side = atoi(words[3]), is_all = !strcmp(words[4], "all");
     struct question q, r;
-    while (read_question(&q))
+    while (read_question(&q)) {
+        if (abs(q.class) == 1) q.dtz += q.dtz > 0 ? 100 - limit : limit - 100;
         for (int drawn = rand() & 15, flips = 0; flips < 16; flips++) {
-            if (strcmp(words[4], "all") && flips != (has_pawns ? drawn & 9 : drawn)) continue;
-            if (has_pawns && flips & 6) continue;
+            if (!is_wanted(&q, flips, is_all, drawn)) continue;
             r = flipped(&q, flips);
             /* the name's first side is White, or Black after the exchange; equal sides without pawns answer both movers */
-            int stored_mover = is_symmetric ? (has_pawns ? r.mover : 2) : side ^ (flips >> 3);
+            int stored_mover = is_symmetric ? (q.has_pawns ? r.mover : 2) : side ^ (flips >> 3);
             ask(&r, stored_mover, questions, expected);
         }
+    }
     fprintf(questions, "quit\n");
     if (fclose(questions) || fclose(expected)) return perror("peers"), 2;
     printf("%s: %ld positions, %ld mates, %ld stalemates, %ld moves of Fathom, ", name, asked, mates, stalemates, moves_seen);

@@ -1,14 +1,10 @@
 /* What szg.h says of uses at the edge: when SZG_CHANGED comes, a share of a handle with itself, moved and assigned handles, the
- * stack that calls use, a map whose file is truncated: stated DATA. DATA is the folder of sample tables. The status is 0 if all
- * is as stated. */
+ * stack that calls use, a map whose file is truncated: stated FOLDER. The status is 0 if all is as stated. */
 #define _GNU_SOURCE
-#include "szg.h"
+#include "trying.h"
 #include <malloc.h>
 #include <pthread.h>
 #include <signal.h>
-#include <stdio.h>
-#include <stdlib.h>
-#include <string.h>
 #include <sys/mman.h>
 #include <sys/resource.h>
 #include <sys/stat.h>
@@ -18,48 +14,11 @@
 
 enum { KB = 1024, STACK = 1 << 20, READING = 56 * KB, OTHERS = 8 * KB, STEP = 97 };
 
-struct sample {
-    const char *file, *name;
-    bool dtz;
-};
-static const struct sample samples[] = {
-    {"knvk_wdl_constant.rtbw", "KNvK", false}, {"kqvk_wdl_unpaired.rtbw", "KQvK", false},
-    {"kqvk_wdl_paired.rtbw", "KQvK", false}, {"kpvk_dtz_mapped.rtbz", "KPvK", true},
-};
-
-static const struct sample *sample;
-static uint8_t *bytes;
-static size_t length;
 static szg_table table;
 static szg_front front;
-static szg_answer answer;
 
-static void want(const char *what, uint64_t found, uint64_t due) {
-    if (found == due) return;
-    fprintf(stderr, "stated: %s: %s is %llu, not %llu\n", sample->file, what, (unsigned long long)found, (unsigned long long)due);
-    exit(1);
-}
-
-static void read_sample(const char *folder) {
-    char path[4096];
-    snprintf(path, sizeof path, "%s/%s", folder, sample->file);
-    FILE *file = fopen(path, "rb");
-    if (!file) perror(path), exit(2);
-    fseek(file, 0, SEEK_END);
-    length = (size_t)ftell(file);
-    rewind(file);
-    bytes = malloc(length);
-    want("the number of bytes", fread(bytes, 1, length, file), length);
-    fclose(file);
-}
-
-static uint32_t open_table(szg_table *into) {
-    return szg_open(sample->name, strlen(sample->name), sample->dtz, bytes, length, into, &answer);
-}
-
-static uint32_t open_front(szg_front *into) {
-    return szg_open_front(sample->name, strlen(sample->name), sample->dtz, bytes, length, into, &answer);
-}
+static uint32_t open_table(szg_table *into) { return szg_open(OF_FILE, into, &answer); }
+static uint32_t open_front(szg_front *into) { return szg_open_front(OF_FILE, into, &answer); }
 
 /* ---- SZG_CHANGED */
 
@@ -80,7 +39,7 @@ static void attempt_lengths(uint8_t part, uint8_t side, uint64_t index) {
     int64_t outcome = 0, outcome_due = 0;
     uint32_t probed = szg_probe(&table, men, count, mover, 2, &outcome_due);
     want("a probe with enough bytes", szg_front_probe(&front, bytes, end, men, count, mover, 2, &outcome, &bad), probed);
-    want("an outcome", (uint64_t)outcome, (uint64_t)outcome_due);
+    want("an outcome", outcome, outcome_due);
     if (range.count == 0) {
         want("a constant value of no bytes", szg_front_value(&front, part, side, index, bytes, 0, &value, &bad), SZG_DONE);
         want("a constant value of many bytes", szg_front_value(&front, part, side, index, bytes, length, &value, &bad), SZG_DONE);
@@ -90,7 +49,7 @@ static void attempt_lengths(uint8_t part, uint8_t side, uint64_t index) {
     want("with a byte too few", szg_front_get(&front, bytes, end - 1, part, side, index, &value, &bad), SZG_CHANGED);
     want("a probe with a byte too few", szg_front_probe(&front, bytes, end - 1, men, count, mover, 2, &outcome, &bad), SZG_CHANGED);
     want("a value after a refusal", value, 7);
-    want("an outcome after a refusal", (uint64_t)outcome, 7);
+    want("an outcome after a refusal", outcome, 7);
     for (int more = -1; more <= 1; more += 2)
         want("a block of another length", szg_front_value(&front, part, side, index, bytes + range.offset, range.count + (size_t)more, &value, &bad), SZG_CHANGED);
 }
@@ -158,12 +117,12 @@ static uint16_t *values;
 static uint64_t size_of_all;
 
 static void nothing(void) {}
-static void check(void) { want("check", szg_check(sample->name, strlen(sample->name), sample->dtz, bytes, length, &answer), SZG_DONE); }
-static void size(void) { want("size", szg_size(sample->name, strlen(sample->name), sample->dtz, bytes, length, 0, 0, &size_of_all, &answer), SZG_DONE); }
-static void all_values(void) { want("values", szg_values(sample->name, strlen(sample->name), sample->dtz, bytes, length, 0, 0, values, size_of_all, &answer), SZG_DONE); }
+static void check(void) { want("check", szg_check(OF_FILE, &answer), SZG_DONE); }
+static void size(void) { want("size", szg_size(OF_FILE, 0, 0, &size_of_all, &answer), SZG_DONE); }
+static void all_values(void) { want("values", szg_values(OF_FILE, 0, 0, values, size_of_all, &answer), SZG_DONE); }
 static void one_value(void) {
     uint64_t index = size_of_all - 1;
-    want("values at", szg_values_at(sample->name, strlen(sample->name), sample->dtz, bytes, length, 0, 0, &index, 1, values, 1, &answer), SZG_DONE);
+    want("values at", szg_values_at(OF_FILE, 0, 0, &index, 1, values, 1, &answer), SZG_DONE);
 }
 static void open_again(void) { want("open", open_table(&table), SZG_DONE); }
 static void open_front_again(void) { want("open front", open_front(&front), SZG_DONE); }
@@ -211,8 +170,8 @@ static size_t used_by(void (*call)(void)) {
     pthread_attr_t settings;
     pthread_t thread;
     pthread_attr_init(&settings);
-    want("a stack", (uint64_t)pthread_attr_setstack(&settings, stack, STACK), 0);
-    want("a thread", (uint64_t)pthread_create(&thread, &settings, run, &call), 0);
+    want("a stack", pthread_attr_setstack(&settings, stack, STACK), 0);
+    want("a thread", pthread_create(&thread, &settings, run, &call), 0);
     pthread_join(thread, NULL);
     size_t unused = 0;
     while (unused < STACK && stack[unused] == 0xa5) unused++;
@@ -222,7 +181,7 @@ static size_t used_by(void (*call)(void)) {
 
 static void attempt_stacks(void) {
     size_t least = used_by(nothing);
-    want("size", szg_size(sample->name, strlen(sample->name), sample->dtz, bytes, length, 0, 0, &size_of_all, &answer), SZG_DONE);
+    want("size", szg_size(OF_FILE, 0, 0, &size_of_all, &answer), SZG_DONE);
     values = malloc(2 * size_of_all);
     void (*const reading[])(void) = {check, size, all_values, one_value, open_again, open_front_again};
     for (size_t i = 0; i < sizeof reading / sizeof *reading; i++) {
@@ -238,17 +197,17 @@ static void attempt_stacks(void) {
 /* ---- A map whose file is truncated */
 
 /* A child's status after a look-up in a map whose file was truncated. */
-static int status_of_truncated(int file) {
+static int status_of_truncated(int copy) {
     pid_t child = fork();
     if (child == 0) {
         struct rlimit none = {0, 0};
         setrlimit(RLIMIT_CORE, &none);
         uint16_t value;
         szg_bad_block bad;
-        uint8_t *map = mmap(NULL, length, PROT_READ, MAP_SHARED, file, 0);
+        uint8_t *map = mmap(NULL, length, PROT_READ, MAP_SHARED, copy, 0);
         szg_front opened = SZG_NO_FRONT;
-        if (szg_open_front(sample->name, strlen(sample->name), sample->dtz, map, length, &opened, &answer) != SZG_DONE) _exit(1);
-        if (szg_front_get(&opened, map, length, 0, 0, 0, &value, &bad) != SZG_DONE || ftruncate(file, 0) != 0) _exit(1);
+        if (szg_open_front(name, strlen(name), dtz, map, length, &opened, &answer) != SZG_DONE) _exit(1);
+        if (szg_front_get(&opened, map, length, 0, 0, 0, &value, &bad) != SZG_DONE || ftruncate(copy, 0) != 0) _exit(1);
         szg_front_get(&opened, map, length, 0, 0, 0, &value, &bad);
         _exit(0);
     }
@@ -259,34 +218,32 @@ static int status_of_truncated(int file) {
 
 static void attempt_truncated(void) {
     char path[] = "/tmp/stated-XXXXXX";
-    int file = mkstemp(path);
-    want("a file", file >= 0, true);
+    int copy = mkstemp(path);
+    want("a file", copy >= 0, true);
     unlink(path);
-    want("its bytes", (uint64_t)pwrite(file, bytes, length, 0), length);
+    want("its bytes", pwrite(copy, bytes, length, 0), length);
     szg_byte_range range;
     want("a range", szg_front_find(&front, 0, 0, 0, &range), SZG_DONE);
-    int status = status_of_truncated(file);
-    want("the signal of a look-up by the map", WIFSIGNALED(status) ? (uint64_t)WTERMSIG(status) : 0, range.count ? SIGBUS : 0);
+    int status = status_of_truncated(copy);
+    want("the signal of a look-up by the map", WIFSIGNALED(status) ? WTERMSIG(status) : 0, range.count ? SIGBUS : 0);
     /* a caller who reads the bytes sees that they are fewer */
     uint8_t block[256 * KB];
     uint16_t value;
     szg_bad_block bad;
-    ssize_t count = pread(file, block, range.count, (off_t)range.offset);
+    ssize_t count = pread(copy, block, range.count, (off_t)range.offset);
     want("a look-up by reading", szg_front_value(&front, 0, 0, 0, block, (size_t)count, &value, &bad), range.count ? SZG_CHANGED : SZG_DONE);
-    close(file);
+    close(copy);
+}
+
+static void attempt(void) {
+    attempt_changed();
+    attempt_stacks();
+    attempt_handles();
+    attempt_truncated();
+    szg_close(&table), szg_close_front(&front);
 }
 
 int main(int count, char **words) {
-    if (count != 2) return fprintf(stderr, "stated DATA\n"), 64;
-    for (size_t i = 0; i < sizeof samples / sizeof *samples; i++) {
-        sample = &samples[i];
-        read_sample(words[1]);
-        attempt_changed();
-        attempt_stacks();
-        attempt_handles();
-        attempt_truncated();
-        szg_close(&table), szg_close_front(&front);
-        free(bytes);
-    }
-    return 0;
+    each_sample(folder_of(count, words), attempt);
+    return ended();
 }

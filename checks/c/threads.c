@@ -7,7 +7,6 @@ enum { THREADS = 4, ROUNDS = 12 };
 
 static uint16_t *values;
 static uint64_t size;
-static size_t length;
 
 /* A table or an opened front, and what its thread finds. */
 struct handle {
@@ -54,9 +53,8 @@ static void *ask(void *given) {
 
 static void try_threads(bool is_front) {
     struct handle first = {is_front, SZG_NO_TABLE, SZG_NO_FRONT, 0, 0}, none = first, own[THREADS];
-    szg_answer answer;
-    want("open", is_front ? szg_open_front("KQvK", 4, false, bytes, length, &first.front, &answer)
-                          : szg_open("KQvK", 4, false, bytes, length, &first.table, &answer), SZG_DONE);
+    want("open", is_front ? szg_open_front(OF_FILE, &first.front, &answer)
+                          : szg_open(OF_FILE, &first.table, &answer), SZG_DONE);
     for (int i = 0; i < THREADS; i++) own[i] = none;
 
     /* a handle that holds a table lets it go for the one that it shares, or for none */
@@ -78,9 +76,8 @@ static void try_threads(bool is_front) {
 
 int main(int count, char **words) {
     szg_table table = SZG_NO_TABLE;
-    szg_answer answer;
-    length = load(folder_of(count, words), "kqvk_wdl_unpaired.rtbw");
-    want("open", szg_open("KQvK", 4, false, bytes, length, &table, &answer), SZG_DONE);
+    load_sample(folder_of(count, words), UNPAIRED);
+    want("open", szg_open(OF_FILE, &table, &answer), SZG_DONE);
     want("size", szg_positions(&table, 0, 0, &size), SZG_DONE);
     values = malloc(size * sizeof *values);
     want("values", szg_all(&table, 0, 0, values, size), SZG_DONE);

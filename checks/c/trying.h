@@ -1,4 +1,4 @@
-/* What the tests in C share: a sample table's bytes, a wanted number, and how a test ends. */
+/* What the tests in C share: a table's file that is tried, wanted numbers, and how a test ends. */
 #ifndef TRYING_H
 #define TRYING_H
 #include "szg.h"
@@ -6,29 +6,50 @@
 #include <stdlib.h>
 #include <string.h>
 
+/* The file that is tried, its material and its kind; calls on whole files take it by OF_FILE. */
+static const char *file, *name;
+static bool dtz;
 static uint8_t bytes[1 << 20];
+static size_t length;
+#define OF_FILE name, strlen(name), dtz, bytes, length
+static szg_answer answer;
 static int failed;
 
+enum sample { CONSTANT, UNPAIRED, PAIRED, MAPPED, SAMPLES };
+static const struct { const char *file, *name; bool dtz; } samples[SAMPLES] = {
+    {"knvk_wdl_constant.rtbw", "KNvK", false}, {"kqvk_wdl_unpaired.rtbw", "KQvK", false},
+    {"kqvk_wdl_paired.rtbw", "KQvK", false}, {"kpvk_dtz_mapped.rtbz", "KPvK", true},
+};
+
 static inline void want(const char *what, int64_t got, int64_t wanted) {
-    if (got != wanted) { printf("%s: %lld, not %lld\n", what, (long long)got, (long long)wanted); failed = 1; }
+    if (got != wanted) { printf("%s: %s: %lld, not %lld\n", file, what, (long long)got, (long long)wanted); failed = 1; }
 }
 
-static inline size_t load(const char *folder, const char *file) {
+static inline void take(const char *its_file, const char *its_name, bool is_dtz, size_t n) {
+    file = its_file, name = its_name, dtz = is_dtz, length = n;
+}
+
+static inline void load(const char *folder, const char *its_file, const char *its_name, bool is_dtz) {
     char path[4096];
-    snprintf(path, sizeof path, "%s/%s", folder, file);
+    snprintf(path, sizeof path, "%s/%s", folder, its_file);
     FILE *f = fopen(path, "rb");
     if (!f) { perror(path); exit(2); }
-    size_t length = fread(bytes, 1, sizeof bytes, f);
+    take(its_file, its_name, is_dtz, fread(bytes, 1, sizeof bytes, f));
     fclose(f);
-    return length;
 }
 
-/* Tries each sample table: its file, its material's name, whether it tells DTZ. */
-static inline void each_sample(const char *folder, void (*attempt)(const char *, const char *, const char *, bool)) {
-    attempt(folder, "knvk_wdl_constant.rtbw", "KNvK", false);
-    attempt(folder, "kqvk_wdl_unpaired.rtbw", "KQvK", false);
-    attempt(folder, "kqvk_wdl_paired.rtbw", "KQvK", false);
-    attempt(folder, "kpvk_dtz_mapped.rtbz", "KPvK", true);
+static inline void load_sample(const char *folder, enum sample i) { load(folder, samples[i].file, samples[i].name, samples[i].dtz); }
+
+static inline void each_sample(const char *folder, void (*attempt)(void)) {
+    for (int i = 0; i < SAMPLES; i++) load_sample(folder, i), attempt();
+}
+
+/* A table of king and two bishops against king that has one value; where the bishops are in two groups, it has no indexes. */
+static inline void make_bishops(bool in_two_groups) {
+    memset(bytes, 0, 80);
+    memcpy(bytes, "\x71\xe8\x23\x5d\x01", 6);
+    memcpy(bytes + 6, in_two_groups ? "\x33\x66\xee\x33\x80\x02\x80\x02" : "\x66\xee\x33\x33\x80\x02\x80\x02", 8);
+    take("bishops", "KBBvK", false, 80);
 }
 
 static inline const char *folder_of(int count, char **words) { return count > 1 ? words[1] : "data"; }

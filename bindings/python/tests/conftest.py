@@ -2,9 +2,10 @@
 import shutil
 import sys
 from pathlib import Path
-from typing import Iterator, List, NamedTuple, Optional
+from typing import Callable, Iterator, List, NamedTuple, Optional, Tuple
 
 import pytest
+import szg
 
 ROOT = Path(__file__).resolve().parents[3]
 sys.path.insert(0, str(ROOT / "checks"))
@@ -83,6 +84,44 @@ def folder(tmp_path: Path) -> Iterator[Path]:
     (tables / "KRvK.rtbw").mkdir()
     yield tables
     shutil.rmtree(tables, ignore_errors=True)
+
+
+@pytest.fixture
+def queen_file(tmp_path: Path) -> Path:
+    """The unpaired sample in a file."""
+    (tmp_path / UNPAIRED.file_name).write_bytes(UNPAIRED.data)
+    return tmp_path / UNPAIRED.file_name
+
+
+@pytest.fixture
+def other(tmp_path: Path) -> Path:
+    """Another folder, with a table of KNvK in which White wins."""
+    folder = tmp_path / "other"
+    folder.mkdir()
+    (folder / "KNvK.rtbw").write_bytes(KNIGHT.data[:11] + b"\x04" + KNIGHT.data[12:])
+    return folder
+
+
+def untold(call: Callable[..., object], *words: object, **more: object) -> str:
+    """The reason for which a call has no entry."""
+    with pytest.raises(szg.Untold) as caught:
+        call(*words, **more)
+    assert str(caught.value) == f"the table has no entry: {caught.value.reason}" and isinstance(caught.value, LookupError)
+    return caught.value.reason
+
+
+def refused(call: Callable[..., object], *words: object) -> Tuple[int, str]:
+    """The byte and the reason for which a call refuses a file."""
+    with pytest.raises(szg.Refused) as caught:
+        call(*words)
+    return caught.value.place, caught.value.reason
+
+
+def is_closed(call: Callable[..., object], *words: object) -> bool:
+    """Whether a call says that its table is closed."""
+    with pytest.raises(ValueError, match="^the table(base)? is closed$"):
+        call(*words)
+    return True
 
 
 class Piece:

@@ -1,17 +1,17 @@
-"""A stand-in for python-chess where it isn't installed: a small board, and how chess.syzygy.Tablebase probes.
+"""A stand-in for python-chess where it isn't installed: a board over the rules of `checks/chess_rules.py`, and how
+chess.syzygy.Tablebase probes.
 
-The board has no castling. The names and the order of steps are those of python-chess 1.x, as far as the tests need them:
-`probe_wdl` looks at captures and at en passant, `probe_dtz` looks at zeroing moves, asks `probe_dtz_table`, and looks one ply
-ahead where the table stores the other side to move.
+The names and the order of steps are those of python-chess 1.x, as far as the tests need them: `probe_wdl` looks at captures and
+at en passant, `probe_dtz` looks at zeroing moves, asks `probe_dtz_table`, and looks one ply ahead where the table stores the
+other side to move.
 """
 import types
-from typing import Any, Dict, Iterator, List, NamedTuple, Optional, Tuple
+from typing import Any, Dict, Iterable, List, NamedTuple, Optional, Tuple
 
-PAWN, KNIGHT, BISHOP, ROOK, QUEEN, KING = range(1, 7)
-DIAGONALS = [(-1, -1), (-1, 1), (1, -1), (1, 1)]
-LINES = [(-1, 0), (1, 0), (0, -1), (0, 1)]
-JUMPS = [(1, 2), (2, 1), (2, -1), (1, -2), (-1, -2), (-2, -1), (-2, 1), (-1, 2)]
-STEPS = {KNIGHT: JUMPS, BISHOP: DIAGONALS, ROOK: LINES, QUEEN: DIAGONALS + LINES, KING: DIAGONALS + LINES}
+import conftest  # noqa: F401  # it adds the folder checks
+import chess_rules
+
+Move = Tuple[Tuple[int, int], Tuple[int, int], Optional[str]]
 
 
 class Piece(NamedTuple):
@@ -19,109 +19,65 @@ class Piece(NamedTuple):
     color: bool
 
 
-class Move(NamedTuple):
-    start: int
-    end: int
-    promotion: int = 0
-
-
 class Board:
-    """The men by their squares, who moves, the square that a pawn passed, and plies since the last zeroing move."""
+    """A position, and those before it; plies since the last zeroing move. Of a position no castling is known."""
 
     def __init__(self, fen: str) -> None:
-        placed, turn, _, passed = fen.split()[:4]
-        self.men: Dict[int, Piece] = {}
-        for rank, row in zip(range(7, -1, -1), placed.split("/")):
-            file = 0
-            for letter in row:
-                if letter.isdigit():
-                    file += int(letter)
-                else:
-                    self.men[8 * rank + file] = Piece(" pnbrqk".index(letter.lower()), letter.isupper())
-                    file += 1
-        self.turn, self.halfmove_clock = turn == "w", 0
-        self.ep_square: Optional[int] = None if passed == "-" else "abcdefgh".index(passed[0]) + 8 * (int(passed[1]) - 1)
-        self.stack: List[Tuple[Any, ...]] = []
+        self.now, self.halfmove_clock = chess_rules.parse(fen)[0], 0
+        self.stack: List[Tuple[chess_rules.Board, int]] = []
+
+    @classmethod
+    def of(cls, men: Iterable[Tuple[int, bool, int]], turn: bool) -> "Board":
+        """The board of men as tuples (kind, colour, square), which need not be a legal position."""
+        board = cls("")
+        letters = {(square % 8, square // 8): (" PNBRQK" if color else " pnbrqk")[kind] for kind, color, square in men}
+        board.now = chess_rules.Board(letters, "w" if turn else "b", None)
+        return board
+
+    @property
+    def turn(self) -> bool:
+        return self.now.mover == "w"
+
+    @property
+    def ep_square(self) -> Optional[int]:
+        return None if self.now.passed is None else self.now.passed[0] + 8 * self.now.passed[1]
 
     def piece_map(self) -> Dict[int, Piece]:
-        return self.men
+        return {file + 8 * rank: Piece(" pnbrqk".index(letter.lower()), letter.isupper()) for (file, rank), letter in self.now.men.items()}
 
-    def reached(self, square: int, takes_alone: bool = False) -> Iterator[int]:
-        """The squares that the man on a square may go to, or take on, checks aside."""
-        kind, color = self.men[square]
-        if kind == PAWN:
-            yield from self.reached_by_pawn(square, color, takes_alone)
-            return
-        for by_file, by_rank in STEPS[kind]:
-            file, rank = square % 8 + by_file, square // 8 + by_rank
-            while 0 <= file < 8 and 0 <= rank < 8:
-                there = self.men.get(8 * rank + file)
-                if there is None or there.color != color:
-                    yield 8 * rank + file
-                if there is not None or kind in (KNIGHT, KING):
-                    break
-                file, rank = file + by_file, rank + by_rank
+    def is_pawn_move(self, move: Move) -> bool:
+        return self.now.men[move[0]].lower() == "p"
 
-    def reached_by_pawn(self, square: int, color: bool, takes_alone: bool) -> Iterator[int]:
-        step = 8 if color else -8
-        for by in (-1, 1):
-            there = self.men.get(square + step + by)
-            if 0 <= square % 8 + by < 8 and (takes_alone or (there is not None and there.color != color)):
-                yield square + step + by
-        if not takes_alone and square + step not in self.men:
-            yield square + step
-            if square // 8 == (1 if color else 6) and square + 2 * step not in self.men:
-                yield square + 2 * step
+    def is_capture(self, move: Move) -> bool:
+        """Whether it is a capture, en passant aside."""
+        return move[1] in self.now.men
 
-    def is_attacked(self, square: int, by: bool) -> bool:
-        return any(square in self.reached(at, takes_alone=True) for at, man in list(self.men.items()) if man.color == by)
+    def is_zeroing(self, move: Move) -> bool:
+        return self.is_capture(move) or self.is_pawn_move(move)
 
-    def is_in_check(self, color: bool) -> bool:
-        king = next(at for at, man in self.men.items() if man == (KING, color))
-        return self.is_attacked(king, not color)
-
-    def is_legal(self, move: Move) -> bool:
-        mover = self.turn
-        self.push(move)
-        try:
-            return not self.is_in_check(mover)
-        finally:
-            self.pop()
+    def is_passing(self, move: Move) -> bool:
+        return self.is_pawn_move(move) and move[0][0] != move[1][0] and not self.is_capture(move)
 
     def legal_moves(self) -> List[Move]:
         """All legal moves but en passant."""
-        found = []
-        for start, man in list(self.men.items()):
-            if man.color == self.turn:
-                for end in list(self.reached(start)):
-                    promotes = man.piece_type == PAWN and end // 8 in (0, 7)
-                    found += [Move(start, end, kind) for kind in ((QUEEN, ROOK, BISHOP, KNIGHT) if promotes else (0,))]
-        return [move for move in found if self.is_legal(move)]
+        return [move for move in self.now.legal_moves() if not self.is_passing(move)]
 
     def generate_legal_ep(self) -> List[Move]:
-        if self.ep_square is None:
-            return []
-        pawns = [at for at, man in self.men.items() if man == (PAWN, self.turn) and self.ep_square in self.reached(at, takes_alone=True)]
-        return [move for move in (Move(at, self.ep_square) for at in pawns) if self.is_legal(move)]
+        return [move for move in self.now.legal_moves() if self.is_passing(move)]
 
-    def is_capture(self, move: Move) -> bool:
-        return move.end in self.men
+    def is_in_check(self, color: bool) -> bool:
+        return self.now.is_attacked(self.now.king("w" if color else "b"), "b" if color else "w")
 
     def is_checkmate(self) -> bool:
-        return self.is_in_check(self.turn) and not self.legal_moves() and not self.generate_legal_ep()
+        return self.now.is_check() and not self.now.legal_moves()
 
     def push(self, move: Move) -> None:
-        self.stack.append((dict(self.men), self.turn, self.ep_square, self.halfmove_clock))
-        kind, color = self.men.pop(move.start)
-        is_zeroing = kind == PAWN or move.end in self.men
-        if kind == PAWN and move.end == self.ep_square:
-            self.men.pop(move.end + (-8 if color else 8))
-        self.ep_square = (move.start + move.end) // 2 if kind == PAWN and abs(move.end - move.start) == 16 else None
-        self.men[move.end] = Piece(move.promotion or kind, color)
-        self.turn, self.halfmove_clock = not color, 0 if is_zeroing else self.halfmove_clock + 1
+        self.stack.append((self.now, self.halfmove_clock))
+        self.halfmove_clock = 0 if self.is_zeroing(move) else self.halfmove_clock + 1
+        self.now = self.now.made(move)
 
     def pop(self) -> None:
-        self.men, self.turn, self.ep_square, self.halfmove_clock = self.stack.pop()
+        self.now, self.halfmove_clock = self.stack.pop()
 
 
 class MissingTableError(KeyError):
@@ -173,12 +129,12 @@ class Tablebase:
         wdl, success = self.probe_ab(board, -2, 2)
         if wdl == 0:
             return 0
-        if success == 2 or all(man.piece_type == PAWN for man in board.men.values() if man.color == board.turn):
+        if success == 2:
             return dtz_before_zeroing(wdl)
         moves = board.legal_moves()
         if wdl > 0:
             for move in moves:
-                if board.men[move.start].piece_type == PAWN and not board.is_capture(move) and self.after(board, move, self.probe_wdl) == wdl:
+                if board.is_pawn_move(move) and not board.is_capture(move) and self.after(board, move, self.probe_wdl) == wdl:
                     return 1 if wdl == 2 else 101
         dtz, success = self.probe_dtz_table(board, wdl)
         if success >= 0:
@@ -188,7 +144,7 @@ class Tablebase:
     def best_win(self, board: Board, moves: List[Move]) -> int:
         best = 0xffff
         for move in moves:
-            if board.men[move.start].piece_type != PAWN and not board.is_capture(move):
+            if not board.is_zeroing(move):
                 value = self.after(board, move, self.probe_dtz)
                 board.push(move)
                 is_mate = value == 1 and board.is_checkmate()
@@ -218,17 +174,17 @@ class Tablebase:
             raise NotImplementedError("no test probes a distance where en passant is possible")
         return self.probe_dtz_no_ep(board)
 
-    def get_wdl(self, board: Board, default: Optional[int] = None) -> Optional[int]:
+    def get_wdl(self, board: Board) -> Optional[int]:
         try:
             return self.probe_wdl(board)
         except KeyError:
-            return default
+            return None
 
-    def get_dtz(self, board: Board, default: Optional[int] = None) -> Optional[int]:
+    def get_dtz(self, board: Board) -> Optional[int]:
         try:
             return self.probe_dtz(board)
         except KeyError:
-            return default
+            return None
 
     def close(self) -> None:
         self.is_closed = True

@@ -4,15 +4,13 @@ import random
 import sys
 import types
 from pathlib import Path
-from typing import Any, Iterable, Optional, Tuple
+from typing import Any, Optional
 
 import pytest
 import stand_in
 import szg
 from conftest import ROOT, Board
 from szg import BLACK, KING, QUEEN, WHITE
-
-Man = Tuple[int, bool, int]
 
 EXAMPLE = ROOT / "bindings/examples/full_probing.py"
 QUEEN_MEN = [(KING, WHITE, 60), (QUEEN, WHITE, 0), (KING, BLACK, 7)]
@@ -98,16 +96,10 @@ def longest(table: szg.Table, inner: szg.Tablebase, wdl: int) -> stand_in.Board:
     values = table.values()
     numbers = {value: table.number(value, wdl=wdl) for value in set(values)}
     for index in sorted(range(len(values)), key=lambda index: -numbers[values[index]]):
-        board = board_of(*table.placement(0, 0, index))
-        if len(board.men) == 3 and not board.is_in_check(not board.turn) and inner.probe_wdl_table(board) == wdl:
+        board = stand_in.Board.of(*table.placement(0, 0, index))
+        if len(board.piece_map()) == 3 and not board.is_in_check(not board.turn) and inner.probe_wdl_table(board) == wdl:
             return board
     raise AssertionError("no such position")
-
-
-def board_of(men: Iterable[Man], turn: bool) -> stand_in.Board:
-    board = stand_in.Board(f"8/8/8/8/8/8/8/8 {'w' if turn else 'b'} - -")
-    board.men = {square: stand_in.Piece(kind, color) for kind, color, square in men}
-    return board
 
 
 @pytest.mark.parametrize("name", ["KQvK", "KRvK", "KPvK", "KBvK"])
@@ -118,7 +110,7 @@ def test_values_follow_from_the_next_ones(full: types.ModuleType, name: str) -> 
     with szg.Table.open(ROOT / f"samples/{name}.rtbw") as table, full.FullTablebase(szg.open_tablebase(ROOT / "samples")) as tables:
         count = 0
         while count < 60:
-            board = board_of(*table.placement(rng.randrange(4) if name == "KPvK" else 0, rng.randrange(2), rng.randrange(20000)))
+            board = stand_in.Board.of(*table.placement(rng.randrange(4) if name == "KPvK" else 0, rng.randrange(2), rng.randrange(20000)))
             if board.is_in_check(not board.turn):
                 continue
             count += 1
@@ -133,7 +125,7 @@ def check_position(tables: Any, board: stand_in.Board) -> None:
         assert wdl == (-2 if board.is_in_check(board.turn) else 0)
         return
     assert wdl == max(classes) and (dtz > 0) - (dtz < 0) == (wdl > 0) - (wdl < 0)
-    is_zeroing = [board.is_capture(move) or board.men[move.start].piece_type == szg.PAWN for move in moves]
+    is_zeroing = [board.is_zeroing(move) for move in moves]
     distances = [tables.after(board, move, tables.probe_dtz) for move in moves]
     if wdl == 2:
         mates = [tables.after(board, move, lambda after: -int(after.is_checkmate())) for move in moves]

@@ -35,17 +35,16 @@ def test_the_package_says_what_it_has() -> None:
     assert (szg.PAWN, szg.KNIGHT, szg.BISHOP, szg.ROOK, szg.QUEEN, szg.KING, szg.WHITE, szg.BLACK) == (1, 2, 3, 4, 5, 6, True, False)
 
 
-def test_the_examples_of_the_readme_run(folder: Path, monkeypatch: pytest.MonkeyPatch) -> None:
-    monkeypatch.chdir(folder.parent)
-    # a DTZ table of KQvK with one value, 0, for White to move
-    (folder / "KQvK.rtbz").write_bytes(bytes.fromhex("d7660ca501006655ee008000").ljust(80, b"\0"))
+def test_the_examples_of_the_readme_run(folder: Path, monkeypatch: pytest.MonkeyPatch, capsys: pytest.CaptureFixture) -> None:
     text = (ROOT / "bindings/python/README.md").read_text(encoding="utf-8")
-    examples = re.findall(r"```python\n(.*?)```", text, re.S)
-    assert len(examples) == 2
+    program, others = re.findall(r"```python\n(.*?)```", text, re.S)
+    monkeypatch.chdir(ROOT)
+    exec(program, {})
+    assert capsys.readouterr().out.strip() == re.search(r"^It prints `(.*?)`", text, re.M)[1]
+    monkeypatch.chdir(folder.parent)
     found = {"szg": szg, "data": UNPAIRED.data}
-    for example in examples:
-        exec(example, found)
-    assert found["tables"].__class__ is szg.Tablebase and found["spot"].index < 31332
+    exec(others, found)
+    assert found["spot"].index < 31332
 
 
 def test_errors_are_pickled() -> None:
@@ -135,12 +134,9 @@ def test_each_status_of_a_call_is_an_exception(status: int, fault: type, said: s
 
 @pytest.mark.parametrize("call", ["szg_open_front", "szg_share_front", "szg_check", "szg_values", "szg_front_size", "szg_front_get",
                                   "szg_front_probe", "szg_front_index", "szg_front_placement"])
-def test_no_call_loses_want_of_memory(call: str, tmp_path: Path, monkeypatch: pytest.MonkeyPatch) -> None:
-    path = tmp_path / "KQvK.rtbw"
-    path.write_bytes(UNPAIRED.data)
-
+def test_no_call_loses_want_of_memory(call: str, queen_file: Path, monkeypatch: pytest.MonkeyPatch) -> None:
     def use() -> None:
-        with szg.Table.open(path) as mapped, szg.Table("KQvK", "wdl", UNPAIRED.data) as table:
+        with szg.Table.open(queen_file) as mapped, szg.Table("KQvK", "wdl", UNPAIRED.data) as table:
             for one in (mapped, table):
                 one.get(0), one.size(), one.values(), one.verify()
                 one.index("4K3/8/8/8/8/8/8/Q6k w"), one.probe_wdl("4K3/8/8/8/8/8/8/Q6k w"), one.placement(0, 0, 0)
@@ -152,19 +148,15 @@ def test_no_call_loses_want_of_memory(call: str, tmp_path: Path, monkeypatch: py
 
 
 @pytest.mark.parametrize("call", [lambda path: szg.Table.open(path, verify=True), lambda _: szg.Table("KQvK", "wdl", UNPAIRED.data, verify=True)])
-def test_verifying_at_opening_loses_no_want_of_memory(call, tmp_path: Path, monkeypatch: pytest.MonkeyPatch) -> None:
-    path = tmp_path / "KQvK.rtbw"
-    path.write_bytes(UNPAIRED.data)
-    call(path).close()
+def test_verifying_at_opening_loses_no_want_of_memory(call, queen_file: Path, monkeypatch: pytest.MonkeyPatch) -> None:
+    call(queen_file).close()
     monkeypatch.setattr(_library.library, "szg_check", lambda *_: 3)
     with pytest.raises(MemoryError):
-        call(path)
+        call(queen_file)
 
 
-def test_closing_lets_the_librarys_handles_go(tmp_path: Path, monkeypatch: pytest.MonkeyPatch) -> None:
+def test_closing_lets_the_librarys_handles_go(queen_file: Path, monkeypatch: pytest.MonkeyPatch) -> None:
     """Each handle that is made is closed once, however the table goes; no collection is waited for."""
-    path = tmp_path / "KQvK.rtbw"
-    path.write_bytes(UNPAIRED.data)
     open_handles = set()
     for name in ("szg_open_front", "szg_share_front"):
         def make(*words, call=getattr(_library.library, name), at=-2 if "open" in name else -1):
@@ -183,7 +175,7 @@ def test_closing_lets_the_librarys_handles_go(tmp_path: Path, monkeypatch: pytes
     gc.disable()
     try:
         for way in ("closed", "dropped", "closed while it serves", "closed by an exception", "shared by two calls"):
-            table = szg.Table.open(path)
+            table = szg.Table.open(queen_file)
             table.get(0), table.size()
             front = table._opened._front
             assert len(open_handles) == 2

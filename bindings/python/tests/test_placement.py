@@ -1,7 +1,7 @@
 """Placements as callers write them."""
 import pytest
 import szg
-from conftest import PAWN, UNPAIRED, Board
+from conftest import PAWN, UNPAIRED, Board, untold
 from szg import BLACK, KING, QUEEN, WHITE
 
 MEN = [(KING, WHITE, 60), (QUEEN, WHITE, 0), (KING, BLACK, 7)]
@@ -30,9 +30,7 @@ def test_all_letters_of_a_fen() -> None:
         assert table.index("4k3/4p3/8/8/8/8/8/4K3 b") == (3, 0, 21564)
         for letters, reason in (("N", "OtherMaterial"), ("B", "OtherMaterial"), ("R", "OtherMaterial"), ("Q", "OtherMaterial"),
                                 ("K", "Men"), ("p", "WrongSide")):
-            with pytest.raises(szg.Untold) as caught:
-                table.index(f"4k3/8/8/8/8/8/4{letters}3/4K3 w")
-            assert caught.value.reason == reason
+            assert untold(table.index, f"4k3/8/8/8/8/8/4{letters}3/4K3 w") == reason
 
 
 @pytest.mark.parametrize("text", [

@@ -6,7 +6,7 @@ from pathlib import Path
 
 import pytest
 import szg
-from conftest import KNIGHT, PAIRED, PAWN, UNPAIRED, Board
+from conftest import PAIRED, PAWN, UNPAIRED, Board, is_closed, untold
 from szg import BLACK, KING, QUEEN, WHITE
 
 QUEEN_MEN = [(KING, WHITE, 60), (QUEEN, WHITE, 0), (KING, BLACK, 7)]
@@ -44,10 +44,10 @@ def test_missing_tables(folder: Path) -> None:
         assert tables.get_dtz(PAWN_FEN.replace("w", "b"), 2, 7) == 7
         for fen, reason in (("8/8/8/8/8/8/8/Q6k w", "Men"), ("K7/8/8/8/8/8/8/K6k w", "Men")):
             for call in (tables.probe_wdl_table, tables.get_wdl):
-                assert pytest.raises(szg.Untold, call, fen).value.reason == reason
+                assert untold(call, fen) == reason
         for wdl, reason in ((0, "Draw"), (-1, "OutsideMap")):
             for call in (tables.probe_dtz_table, tables.get_dtz):
-                assert pytest.raises(szg.Untold, call, "4k3/8/8/8/8/8/P7/4K3 w", wdl).value.reason == reason
+                assert untold(call, "4k3/8/8/8/8/8/P7/4K3 w", wdl) == reason
         for wdl in (3, -3):
             pytest.raises(ValueError, tables.probe_dtz_table, PAWN_FEN, wdl)
         pytest.raises(TypeError, tables.probe_dtz_table, PAWN_FEN, True)
@@ -73,10 +73,7 @@ def test_what_is_loaded(folder: Path, tmp_path: Path) -> None:
     assert szg.Tablebase().add_directory(os.fsencode(folder)) == 3
 
 
-def test_the_folder_that_was_added_last_serves(folder: Path, tmp_path: Path) -> None:
-    other = tmp_path / "other"
-    other.mkdir()
-    (other / "KNvK.rtbw").write_bytes(KNIGHT.data[:11] + b"\x04" + KNIGHT.data[12:])
+def test_the_folder_that_was_added_last_serves(folder: Path, other: Path) -> None:
     fen = "4k3/8/8/8/8/8/8/N3K3 w"
     with szg.open_tablebase(folder) as tables:
         assert tables.probe_wdl_table(fen) == 0
@@ -152,11 +149,8 @@ def test_a_bound_on_open_tables(folder: Path) -> None:
         assert list(tables._tables) == [("KQvK", "wdl"), ("KNvK", "wdl")]
 
 
-def test_what_goes_wrong_between_calls(folder: Path, tmp_path: Path, monkeypatch: pytest.MonkeyPatch) -> None:
+def test_what_goes_wrong_between_calls(folder: Path, other: Path, monkeypatch: pytest.MonkeyPatch) -> None:
     """A call that comes in the middle of another one: it closes, it adds a folder, it opens the same table."""
-    other = tmp_path / "other"
-    other.mkdir()
-    (other / "KNvK.rtbw").write_bytes(KNIGHT.data[:11] + b"\x04" + KNIGHT.data[12:])
     fen, opening = "4k3/8/8/8/8/8/8/N3K3 w", szg.Table.open
     for bound in (None, 1):
         for what in ("close", "add", "probe"):
@@ -192,10 +186,7 @@ def test_other_files_hide_no_folder(folder: Path) -> None:
 
 
 @pytest.mark.parametrize("again", [copy.copy, copy.deepcopy, lambda tables: pickle.loads(pickle.dumps(tables))])
-def test_a_copy_has_the_same_folders(folder: Path, tmp_path: Path, again, monkeypatch: pytest.MonkeyPatch) -> None:
-    other = tmp_path / "other"
-    other.mkdir()
-    (other / "KNvK.rtbw").write_bytes(KNIGHT.data[:11] + b"\x04" + KNIGHT.data[12:])
+def test_a_copy_has_the_same_folders(folder: Path, other: Path, again, monkeypatch: pytest.MonkeyPatch) -> None:
     monkeypatch.chdir(folder.parent)
     tables = szg.open_tablebase(folder.name, load_dtz=False, max_tables=1)
     tables.add_directory("other", load_wdl=False), tables.add_directory("other")
@@ -205,8 +196,7 @@ def test_a_copy_has_the_same_folders(folder: Path, tmp_path: Path, again, monkey
     assert second.probe_wdl_table("4k3/8/8/8/8/8/8/N3K3 w") == second.probe_wdl_table(QUEEN_FEN) == 2
     assert second.get_dtz(PAWN_FEN, 2) is None and repr(second) == "<szg.Tablebase with 2 tables>"
     assert list(second._tables) == [("KQvK", "wdl")]
-    with pytest.raises(ValueError, match="^the tablebase is closed$"):
-        again(tables)
+    assert is_closed(again, tables)
 
 
 def test_a_closed_tablebase(folder: Path) -> None:
@@ -217,8 +207,7 @@ def test_a_closed_tablebase(folder: Path) -> None:
     tables.close()
     for call in (lambda: tables.probe_wdl_table(QUEEN_FEN), lambda: tables.get_wdl(QUEEN_FEN),
                  lambda: tables.probe_dtz_table(PAWN_FEN, 2), lambda: tables.add_directory(folder)):
-        with pytest.raises(ValueError, match="^the tablebase is closed$"):
-            call()
+        assert is_closed(call)
 
 
 def test_names_of_materials(tmp_path: Path) -> None:

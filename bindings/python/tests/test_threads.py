@@ -42,11 +42,9 @@ def in_threads(count: int, ask: Callable[[int], None]) -> None:
 
 
 @pytest.mark.parametrize("is_mapped", [False, True])
-def test_threads_use_one_table(tmp_path: Path, is_mapped: bool) -> None:
-    path = tmp_path / "KQvK.rtbw"
-    path.write_bytes(UNPAIRED.data)
+def test_threads_use_one_table(queen_file: Path, is_mapped: bool) -> None:
     values = UNPAIRED.read.subs[0].all_values()
-    with szg.Table.open(path) if is_mapped else szg.Table("KQvK", "wdl", UNPAIRED.data) as table:
+    with szg.Table.open(queen_file) if is_mapped else szg.Table("KQvK", "wdl", UNPAIRED.data) as table:
         def ask(number: int) -> None:
             for index in range(number, len(values), 31):
                 assert table.get(index) == values[index]
@@ -58,12 +56,10 @@ def test_threads_use_one_table(tmp_path: Path, is_mapped: bool) -> None:
 
 
 @pytest.mark.parametrize("is_mapped", [False, True])
-def test_a_table_is_closed_while_threads_use_it(tmp_path: Path, is_mapped: bool) -> None:
-    path = tmp_path / "KQvK.rtbw"
-    path.write_bytes(UNPAIRED.data)
+def test_a_table_is_closed_while_threads_use_it(queen_file: Path, is_mapped: bool) -> None:
     values = UNPAIRED.read.subs[0].all_values()
     for _ in range(30):
-        table = szg.Table.open(path) if is_mapped else szg.Table("KQvK", "wdl", bytearray(UNPAIRED.data))
+        table = szg.Table.open(queen_file) if is_mapped else szg.Table("KQvK", "wdl", bytearray(UNPAIRED.data))
         asked, closed = [0] * 4, [0] * 4
 
         def ask(number: int) -> None:
