@@ -52,7 +52,7 @@ state_none true false h = (refl, refl)
 state_none true true h = cc
 state_none false b h = cc
 
-first_none : (o : Option PositionFault) (os : List (Option PositionFault)) → first_of (o ∷ os) ≡ None → (o ≡ None) × (first_of os ≡ None)
+pub first_none : (o : Option PositionFault) (os : List (Option PositionFault)) → first_of (o ∷ os) ≡ None → (o ≡ None) × (first_of os ≡ None)
 first_none None os h = (refl, h)
 first_none (Some f) os h = absurd cc
 

@@ -19,3 +19,4 @@ pub mod Different
 pub mod Counted
 pub mod KeptMen
 pub mod Images
+pub mod ReadBack

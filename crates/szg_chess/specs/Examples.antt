@@ -41,7 +41,7 @@ pub record Examples : Type 0 where
   -- d4 is between a1 and h8, and d5 is not
   pub between : is_between 0 63 27 ≡ true
   pub beside : is_between 0 63 35 ≡ false
-  -- a king on a1 whose queen covers the way out is stalemated, and with the queen beside him he is mated
+  -- a black king on h8 is stalemated by a white queen on f7, and mated by one on g7 that the white king guards
   pub stalemate : is_stalemate (position_of (codes "7k/5Q2/6K1/8/8/8/8/8 b - -")) ≡ true
   pub mate : is_mate (position_of (codes "7k/6Q1/6K1/8/8/8/8/8 b - -")) ≡ true
   -- a bishop pinned by a rook captures nothing

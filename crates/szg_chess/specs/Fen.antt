@@ -108,6 +108,7 @@ is_mover text = is_letter 119 text || is_letter 98 text
 abbrev pub mover_of : List ℕ → Color
 mover_of text = if is_letter 119 text then White else Black
 
+-- a dash: no castling rights, or no en passant square
 abbrev pub is_dash : List ℕ → Bool
 is_dash text = is_letter 45 text
 
@@ -171,6 +172,7 @@ fields_fault text =
     if not (is_dash (field (from_castling text))) then Some fault.Castling else
     if not (is_en_passant_field (field (from_en_passant text))) then Some fault.EnPassant else None
 
+-- what follows the en passant square is neither nothing nor two numbers
 unfoldable pub counters_fault : List ℕ → Option PositionFault
 counters_fault text = if not (has_counters (from_en_passant text)) then Some fault.Counters else None
 

@@ -10,6 +10,8 @@ use Rattle.szg_values.specs.declared.Color.TheVariants.{White, Black}
 use Rattle.szg_chess.specs.Attacks.{attacks}
 use Rattle.szg_chess.specs.Position.{Position, IsPosition}
 use Rattle.szg_chess.specs.Moves.{promotes, may_pass, may_enter, is_square, is_legal, after, is_capture, is_zeroing, legal_moves, legal_captures}
+use Rattle.szg_chess.specs.Images.{Same, IsImage}
+use Rattle.szg_chess.specs.Fen.{fen_fault, record_of, fen_text}
 use Rattle.szg_chess.specs.declared.Move.{Move}
 
 -- ---- moves in words
@@ -103,3 +105,16 @@ kinds_of men = map (λ s. (s.0, s.1)) men
 -- a move that neither captures nor promotes keeps the men: only a square changes
 abbrev pub LawKinds : Type 0
 LawKinds = (p : Position) (m : Move) → IsPosition p → Contains (legal_moves p) m → is_capture p m ≡ false → m.promotion ≡ None → kinds_of (after p m).placed_men ≡ kinds_of p.placed_men
+
+-- ---- texts
+
+-- The text that is written of a position is accepted, and says the same men on the same squares, in the order of the text, the
+-- same side to move and the same en passant square. It has no counters.
+pub record IsReadBack (p : Position) (text : List ℕ) : Type 0 where
+  pub accepted : fen_fault text ≡ None
+  pub position : IsImage Same p (record_of text).position
+  pub halfmove : (record_of text).halfmove ≡ 0
+  pub fullmove : (record_of text).fullmove ≡ 1
+
+abbrev pub LawReadBack : Type 0
+LawReadBack = (p : Position) → IsPosition p → IsReadBack p (fen_text p)

@@ -35,6 +35,7 @@ moves_if may_go s to = if may_go then moves_to s to else []
 abbrev pub may_pass : List PlacedMan → PlacedMan → ℕ → Bool
 may_pass men s square = is_man Pawn s.0 && attacks men s square
 
+-- the captures en passant of a man: none if no pawn has just passed over a square
 abbrev pub en_passant_moves : List PlacedMan → Option ℕ → PlacedMan → List Move
 en_passant_moves men None s = []
 en_passant_moves men (Some square) s = moves_if (may_pass men s square) s square
@@ -71,6 +72,7 @@ is_push men color from to = files_apart from to == 0
 unfoldable pub may_enter : List PlacedMan → PlacedMan → ℕ → Bool
 may_enter men s to = not (is_occupied men to) && (if is_man Pawn s.0 then is_push men s.1 s.2 to else attacks men s to)
 
+-- the squares from a1 to h8
 unfoldable pub all_squares : List ℕ
 all_squares = range_with_len 0 64
 
@@ -78,6 +80,7 @@ all_squares = range_with_len 0 64
 abbrev pub quiet_moves_by : List PlacedMan → PlacedMan → List Move
 quiet_moves_by men s = flat_map (λ to. moves_if (may_enter men s to) s to) all_squares
 
+-- the moves of the side to move to empty squares, in the order of the men
 unfoldable pub quiet_moves_of : Position → List Move
 quiet_moves_of p = flat_map (quiet_moves_by p.placed_men) (men_of p.mover p.placed_men)
 
@@ -91,6 +94,7 @@ moves_of p = captures_of p ++ quiet_moves_of p
 abbrev pub is_pawn_on : Position → ℕ → Bool
 is_pawn_on p square = is_on Pawn p.mover p.placed_men square
 
+-- there is an en passant square, and it is this one
 abbrev pub is_square : Option ℕ → ℕ → Bool
 is_square None square = false
 is_square (Some other) square = other == square
@@ -99,7 +103,8 @@ is_square (Some other) square = other == square
 unfoldable pub is_en_passant : Position → Move → Bool
 is_en_passant p m = is_square p.en_passant m.to && files_apart m.from m.to == 1 && is_pawn_on p m.from
 
--- the square of the man that is captured, if there is one: en passant the square beside the capturing pawn
+-- The square of the man that is captured, if there is one: where the move goes, or en passant the square beside the capturing
+-- pawn.
 abbrev pub captured_square : Position → Move → ℕ
 captured_square p m = if is_en_passant p m then square_at (file_of m.to) (rank_of m.from) else m.to
 
@@ -115,6 +120,7 @@ men_after p m = map (man_after m) (filter (λ s. not (s.2 == captured_square p m
 abbrev pub is_double_step : Position → Move → Bool
 is_double_step p m = ranks_apart m.from m.to == 2 && is_pawn_on p m.from
 
+-- The position after a move: the men after it, the other side to move, and after a double step the square that was passed over.
 unfoldable pub after : Position → Move → Position
 after p m = record {
   placed_men = men_after p m;
@@ -128,6 +134,7 @@ after p m = record {
 unfoldable pub is_legal : Position → Move → Bool
 is_legal p m = not (is_in_check (men_after p m) p.mover)
 
+-- the moves that leave the mover's king unattacked
 abbrev pub legal_moves : Position → List Move
 legal_moves p = filter (is_legal p) (moves_of p)
 
@@ -139,9 +146,11 @@ is_capture p m = list_any (λ s. is_color (other_color p.mover) s.1 && s.2 == m.
 abbrev pub is_zeroing : Position → Move → Bool
 is_zeroing p m = is_pawn_on p m.from || is_capture p m
 
+-- the captures that leave it unattacked
 abbrev pub legal_captures : Position → List Move
 legal_captures p = filter (is_legal p) (captures_of p)
 
+-- the side to move is in check
 abbrev pub is_check : Position → Bool
 is_check p = is_in_check p.placed_men p.mover
 

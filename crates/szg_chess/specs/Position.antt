@@ -45,7 +45,7 @@ abbrev pub has_sound_en_passant : List PlacedMan → Color → Option ℕ → Bo
 has_sound_en_passant men mover None = true
 has_sound_en_passant men mover (Some square) = was_passed men mover square
 
--- the first fault that there is, if any
+-- the first fault of a list in which some tests found none
 abbrev pub first_of : List (Option PositionFault) → Option PositionFault
 first_of [] = None
 first_of (None ∷ faults) = first_of faults
@@ -69,7 +69,7 @@ state_fault p =
 unfoldable pub position_fault : Position → Option PositionFault
 position_fault p = first_of (men_fault p.placed_men ∷ state_fault p ∷ [])
 
--- the squares are squares of the board
+-- all squares are on the board: their numbers are below 64
 pub record AreSquares (p : Position) : Type 0 where
   pub men : AreOnBoard p.placed_men
   pub en_passant : ForSome p.en_passant (λ square. square < 64)

@@ -17,12 +17,15 @@ moved_kind p m = unwrap_or (option_map (λ man. man.0) (man_on p.placed_men m.fr
 abbrev pub is_rival : Position → Move → Move → Bool
 is_rival p m n = n.to == m.to && not (n.from == m.from) && is_man (moved_kind p n) (moved_kind p m)
 
+-- and that piece is on the file of the one that moves
 abbrev pub is_rival_on_file : Position → Move → Move → Bool
 is_rival_on_file p m n = is_rival p m n && file_of n.from == file_of m.from
 
+-- or on its rank
 abbrev pub is_rival_on_rank : Position → Move → Move → Bool
 is_rival_on_rank p m n = is_rival p m n && rank_of n.from == rank_of m.from
 
+-- the file of a square, a to h, and its rank, 1 to 8
 abbrev pub file_text : ℕ → List ℕ
 file_text square = (97 + file_of square) ∷ []
 
@@ -45,6 +48,7 @@ mover_text p m =
     then (if is_capture p m then file_text m.from else [])
     else letter_of (moved_kind p m) ∷ origin_text p m
 
+-- x if the move captures
 abbrev pub capture_text : Bool → List ℕ
 capture_text capture = if capture then 120 ∷ [] else []
 
@@ -57,5 +61,6 @@ promotion_text (Some man) = 61 ∷ letter_of man ∷ []
 abbrev pub check_text : Position → List ℕ
 check_text p = if is_mate p then 35 ∷ [] else if is_check p then 43 ∷ [] else []
 
+-- The mover, x for a capture, the square that the man goes to, the promotion, and the sign of a check or a mate.
 unfoldable pub san_text : Position → Move → List ℕ
 san_text p m = mover_text p m ++ capture_text (is_capture p m) ++ square_text m.to ++ promotion_text m.promotion ++ check_text (after p m)

@@ -36,17 +36,19 @@ reach_of s = set_below (attacks [] s) 64
 unfoldable pub attacks_past : ℕ → PlacedMan → ℕ → Bool
 attacks_past occupied s to = is_in (reach_of s) to && bit_and (squares_between s.2 to) occupied == 0
 
--- a square after a man leaves `from` for `to`, and the one on `captured` vanishes before: has it a man?
+-- The man on the square `captured`, if any, is taken off, and then the man on `from`, if any, goes to `to`: whether there is a man
+-- on the square afterwards.
 abbrev pub is_in_moved : (ℕ → Bool) → ℕ → ℕ → ℕ → ℕ → Bool
 is_in_moved occupied captured from to square =
     (occupied from && not (captured == from) && square == to) || (occupied square && not (square == captured) && not (square == from))
 
--- after the move m, which captures on this square and leaves men on those, the man is the mover's king and is attacked
+-- After the move m, which captures on the square `captured` and leaves men on the squares `occupied`, the man `king` is the
+-- mover's king and is attacked.
 abbrev pub is_attacked_king : Position → Move → ℕ → ℕ → PlacedMan → Bool
 is_attacked_king p m captured occupied king = is_man King king.0 && is_color p.mover king.1
     && list_any (λ s. not (s.2 == captured) && (is_color (other_color p.mover) (man_after m s).1 && attacks_past occupied (man_after m s) king.2)) p.placed_men
 
--- what a position stores: with its men the set of their squares
+-- what is stored of a position: beside its men the set of their squares
 pub record IsStored (p : Position) (occupied : ℕ) : Type 0 where
   pub position : IsPosition p
   pub squares : occupied ≡ squares_of p.placed_men

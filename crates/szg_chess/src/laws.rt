@@ -2,7 +2,7 @@
 
 ghost use Rattle.szg_chess.specs.Examples.{Examples};
 ghost use Rattle.szg_chess.specs.Images.{LawImage, LawImageBack, LawImageMoves};
-ghost use Rattle.szg_chess.specs.Laws.{LawMoves, LawDifferent, LawAfter, LawCaptures, LawCaptured, LawZeroing, LawQuiet, LawKinds};
+ghost use Rattle.szg_chess.specs.Laws.{LawMoves, LawDifferent, LawAfter, LawCaptures, LawCaptured, LawZeroing, LawQuiet, LawKinds, LawReadBack};
 
 /// The legal moves are those of a man of the side to move to a square that it may go to, with the promotions that there are,
 /// that leave the mover's king unattacked.
@@ -59,6 +59,11 @@ pub fn images_go_back()
 /// those do, and lead to the images of what those lead to. The image is in check if the position is.
 pub fn images_have_moves()
     ensures { LawImageMoves }
+{}
+
+/// The text of a position is read as that position, with its men in the order of the text.
+pub fn texts_are_read_back()
+    ensures { LawReadBack }
 {}
 
 /// What the definitions say of some positions.

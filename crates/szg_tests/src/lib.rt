@@ -9,6 +9,8 @@ mod block;
 #[cfg(test)]
 mod build;
 #[cfg(test)]
+mod chess;
+#[cfg(test)]
 mod code;
 #[cfg(test)]
 mod costs;

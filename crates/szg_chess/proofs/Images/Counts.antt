@@ -1,5 +1,5 @@
 -- There are as many men in an image.
-use Rattle.std.proofs.Common.{◌≡◌, ◌≢◌, ℕ, ◌+◌, ◌<◌, ◌≤◌, List, [], ◌∷◌, length, zero, suc, refl, sym, ap, ◌∙◌, Bool, true, false, arith, inl, inr, Contains}
+use Rattle.std.proofs.Common.{◌≡◌, ◌≢◌, ℕ, ◌+◌, ◌<◌, ◌≤◌, ◌↔◌, List, [], ◌∷◌, length, zero, suc, refl, sym, ap, ◌∙◌, Bool, true, false, arith, inl, inr, Contains}
 use Rattle.std.specs.Prelude.{map, filter, not, ◌&&◌, ◌==◌}
 use Rattle.std.specs.List.{list_any}
 use Rattle.std.proofs.lemmas.Bool.{cases_Bool, eq-eqb, ne_eqb, not_from_false, not_from_true}
@@ -55,23 +55,31 @@ as_many f of_image test (s ∷ men) same = rw (same s) (elim (cases_Bool (test s
   | inr e ↦ rw e (as_many f of_image test men same)
 ])
 
+-- a test counts as many men among images in any order
+pub counted : (f : Symmetry) (men others : List PlacedMan) → AreOnBoard men → has_distinct_squares men ≡ true → has_distinct_squares others ≡ true → ((s : PlacedMan) → Contains others s ↔ Contains (map (man_image f) men) s) →
+    (of_image test : PlacedMan → Bool) → ((s : PlacedMan) → of_image (man_image f s) ≡ test s) → length (filter of_image others) ≡ length (filter test men)
+counted f men others board apart apart' is of_image test same =
+    let mapped = map (man_image f) men in
+    let passing : (xs ys : List PlacedMan) → ((s : PlacedMan) → Contains xs s → Contains ys s) → (s : PlacedMan) → Contains (filter of_image xs) s → Contains (filter of_image ys) s =
+    λ xs ys held s c. (let r = filter_contains of_image xs s c in contains_filter of_image ys s (held s r.0) r.1) in
+    let up = not_more square_of (filter of_image others) (filter of_image mapped) (keys_filter square_of of_image others (keys_men others apart')) (passing others mapped (λ s. (is s).0)) in
+    let down = not_more square_of (filter of_image mapped) (filter of_image others) (keys_filter square_of of_image mapped (keys_men mapped (distinct_image f men board ∙ apart))) (passing mapped others (λ s. (is s).1)) in
+    let both : length (filter of_image others) ≡ length (filter of_image mapped) = omega (arith, up, down) in
+    both ∙ as_many f of_image test men same
+
+pub counted_all : (f : Symmetry) (men others : List PlacedMan) → AreOnBoard men → has_distinct_squares men ≡ true → has_distinct_squares others ≡ true → ((s : PlacedMan) → Contains others s ↔ Contains (map (man_image f) men) s) →
+    length others ≡ length men
+counted_all f men others board apart apart' is = sym (all_pass others) ∙ counted f men others board apart apart' is (λ s. true) (λ s. true) (λ s. refl) ∙ all_pass men
+  where
+    all_pass : (xs : List PlacedMan) → length (filter (λ (s : PlacedMan). true) xs) ≡ length xs
+    all_pass [] = refl
+    all_pass (s ∷ xs) = ap (λ (n : ℕ). suc n) (all_pass xs)
+
 -- a test counts as many men in an image
 pub same_count : (f : Symmetry) (p q : Position) → IsPosition p → IsImage f p q → (of_image test : PlacedMan → Bool) → ((s : PlacedMan) → of_image (man_image f s) ≡ test s) →
     length (filter of_image q.placed_men) ≡ length (filter test p.placed_men)
 same_count f p q position is of_image test same =
-    let known = faultless p position.no_fault in let known' = faultless q is.position.no_fault in
-    let mapped = map (man_image f) p.placed_men in
-    let apart : has_distinct_squares mapped ≡ true = distinct_image f p.placed_men position.squares.men ∙ known.apart in
-    let passing : (xs ys : List PlacedMan) → ((s : PlacedMan) → Contains xs s → Contains ys s) → (s : PlacedMan) → Contains (filter of_image xs) s → Contains (filter of_image ys) s =
-    λ xs ys held s c. (let r = filter_contains of_image xs s c in contains_filter of_image ys s (held s r.0) r.1) in
-    let up = not_more square_of (filter of_image q.placed_men) (filter of_image mapped) (keys_filter square_of of_image q.placed_men (keys_men q.placed_men known'.apart)) (passing q.placed_men mapped (λ s. (is.men s).0)) in
-    let down = not_more square_of (filter of_image mapped) (filter of_image q.placed_men) (keys_filter square_of of_image mapped (keys_men mapped apart)) (passing mapped q.placed_men (λ s. (is.men s).1)) in
-    let both : length (filter of_image q.placed_men) ≡ length (filter of_image mapped) = omega (arith, up, down) in
-    both ∙ as_many f of_image test p.placed_men same
+    counted f p.placed_men q.placed_men position.squares.men (faultless p position.no_fault).apart (faultless q is.position.no_fault).apart is.men of_image test same
 
 pub same_size : (f : Symmetry) (p q : Position) → IsPosition p → IsImage f p q → length q.placed_men ≡ length p.placed_men
-same_size f p q position is = sym (all_pass q.placed_men) ∙ same_count f p q position is (λ s. true) (λ s. true) (λ s. refl) ∙ all_pass p.placed_men
-  where
-    all_pass : (men : List PlacedMan) → length (filter (λ (s : PlacedMan). true) men) ≡ length men
-    all_pass [] = refl
-    all_pass (s ∷ men) = ap (λ (n : ℕ). suc n) (all_pass men)
+same_size f p q position is = counted_all f p.placed_men q.placed_men position.squares.men (faultless p position.no_fault).apart (faultless q is.position.no_fault).apart is.men

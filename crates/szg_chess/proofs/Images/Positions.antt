@@ -7,7 +7,7 @@ use Rattle.std.proofs.lemmas.List.{length-map}
 use Rattle.std.proofs.lemmas.List.Elements.{All-contains, All-contains_itself, All-map}
 use Rattle.std.proofs.lemmas.List.Sums.{length-filter}
 use Rattle.szg_values.specs.Men.{is_man, is_color, other_color, file_of, rank_of, square_at}
-use Rattle.szg_values.specs.Placement.{PlacedMan, number_of, has_pawns_on_inner_ranks}
+use Rattle.szg_values.specs.Placement.{PlacedMan, AreOnBoard, number_of, has_distinct_squares, has_pawns_on_inner_ranks}
 use Rattle.szg_values.specs.declared.Man.TheVariants.{Pawn, King}
 use Rattle.szg_values.specs.declared.Color.{Color}
 use Rattle.szg_values.specs.declared.Color.TheVariants.{White, Black}
@@ -20,7 +20,7 @@ use Rattle.szg_chess.proofs.Images.Geometry.{image_inside, image_back, same_colo
 use Rattle.szg_chess.proofs.Images.Men.{AreImages, contains_map, map_contains, any_image}
 use Rattle.szg_chess.proofs.Images.Men as men_of_images
 use Rattle.szg_chess.proofs.Images.Moves.{images_of, from_images}
-use Rattle.szg_chess.proofs.Images.Counts.{as_many, images_map, distinct_image}
+use Rattle.szg_chess.proofs.Images.Counts.{as_many, images_map, distinct_image, counted, counted_all}
 
 -- ---- the image of an image
 
@@ -169,3 +169,67 @@ module _ (f : Symmetry) (p : Position) (position : IsPosition p) (fitting : fits
         mover = refl;
         en_passant = refl;
       }
+
+-- ---- men in another order
+
+module _ (men others : List PlacedMan) (board : AreOnBoard men) (images : AreImages Same men others) where
+  occupied_again : (x : ℕ) → x < 64 → is_occupied others x ≡ is_occupied men x
+  occupied_again x h = men_of_images.occupied Same men others images board refl x h
+
+  on_again : (color : Color) (x : ℕ) → x < 64 → is_on Pawn color others x ≡ is_on Pawn color men x
+  on_again color x h = men_of_images.on Same men others images board refl Pawn color x h
+
+  was_again : (mover : Color) (x : ℕ) → x < 64 → was_passed others mover x ≡ was_passed men mover x
+  was_again White x h =
+      ap (λ (b : Bool). rank_of x == 5 && not b && not (is_occupied others (square_at (file_of x) 6)) && is_on Pawn Black others (square_at (file_of x) 4)) (occupied_again x h)
+      ∙ ap (λ (b : Bool). rank_of x == 5 && not (is_occupied men x) && not b && is_on Pawn Black others (square_at (file_of x) 4)) (occupied_again (square_at (file_of x) 6) (omega arith))
+      ∙ ap (λ (b : Bool). rank_of x == 5 && not (is_occupied men x) && not (is_occupied men (square_at (file_of x) 6)) && b) (on_again Black (square_at (file_of x) 4) (omega arith))
+  was_again Black x h =
+      ap (λ (b : Bool). rank_of x == 2 && not b && not (is_occupied others (square_at (file_of x) 1)) && is_on Pawn White others (square_at (file_of x) 3)) (occupied_again x h)
+      ∙ ap (λ (b : Bool). rank_of x == 2 && not (is_occupied men x) && not b && is_on Pawn White others (square_at (file_of x) 3)) (occupied_again (square_at (file_of x) 1) (omega arith))
+      ∙ ap (λ (b : Bool). rank_of x == 2 && not (is_occupied men x) && not (is_occupied men (square_at (file_of x) 1)) && b) (on_again White (square_at (file_of x) 3) (omega arith))
+
+  sound_again : (mover : Color) (o : Option ℕ) → ForSome o (λ square. square < 64) → has_sound_en_passant others mover o ≡ has_sound_en_passant men mover o
+  sound_again mover None h = refl
+  sound_again mover (Some x) h = was_again mover x (h x refl)
+
+same_option : (o : Option ℕ) → o ≡ option_map (square_image Same) o
+same_option None = refl
+same_option (Some x) = refl
+
+pub reordered : (p : Position) → IsPosition p → (others : List PlacedMan) → has_distinct_squares others ≡ true → AreImages Same p.placed_men others →
+    IsImage Same p (record { placed_men = others; mover = p.mover; en_passant = p.en_passant })
+reordered p position others apart images =
+    let men = p.placed_men in let board = position.squares.men in
+    let known = faultless p position.no_fault in let parts = has_men_parts men known.men in
+    let is = from_images Same men others images in
+    let size = counted_all Same men others board known.apart apart is in let many = parts.many in let few = parts.few in
+    let king : (c : Color) → number_of King c others ≡ 1 = λ c. (
+    let test : PlacedMan → Bool = λ s. is_man King s.0 && is_color c s.1 in
+    sym (length-filter test others) ∙ counted Same men others board known.apart apart is test test (λ s. refl) ∙ length-filter test men ∙ one_king men parts c) in
+    let inner : PlacedMan → Bool = λ s. not (is_man Pawn s.0 && (rank_of s.2 == 0 || rank_of s.2 == 7)) in
+    record {
+      position = record {
+        no_fault = no_fault (record { placed_men = others; mover = p.mover; en_passant = p.en_passant }) (record {
+          men = and_from (has_two_to_six others) (has_kings others)
+              (and_from (nat_le 2 (length others)) (nat_le (length others) 6) (le-leb 2 (length others) (omega (arith, size, many))) (le-leb (length others) 6 (omega (arith, size, few))))
+              (and_from (number_of King White others == 1) (number_of King Black others == 1) (eq-eqb (number_of King White others) 1 (king White)) (eq-eqb (number_of King Black others) 1 (king Black)));
+          apart = apart;
+          inside = all_of inner others (λ i d h.
+              let r = images.back (get_or others i d) (All-contains_itself others i d h) in
+              ap inner (sym r.1.1) ∙ All-contains (λ (s : PlacedMan). inner s ≡ true) men r.0 (each_of inner men known.inside) r.1.0);
+          safe = men_of_images.in_check Same men others images board refl (other_color p.mover) ∙ known.safe;
+          sound = sound_again men others board images p.mover p.en_passant position.squares.en_passant ∙ known.sound;
+        });
+        squares = record {
+          men = λ i d h.
+              let r = images.back (get_or others i d) (All-contains_itself others i d h) in
+              subst (λ (t : PlacedMan). t.2 < 64) r.1.1 (All-contains (λ (t : PlacedMan). t.2 < 64) men r.0 board r.1.0);
+          en_passant = position.squares.en_passant;
+        };
+      };
+      fitting = refl;
+      men = is;
+      mover = refl;
+      en_passant = same_option p.en_passant;
+    }
