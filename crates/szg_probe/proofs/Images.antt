@@ -13,16 +13,16 @@ use Rattle.szg_game.proofs.Lists.{IsIn, some_in, any_in, each_in, all_in, in_map
 use Rattle.szg_chess.specs.declared.Move.{Move}
 use Rattle.szg_chess.specs.Position.{Position, IsPosition}
 use Rattle.szg_chess.specs.Moves.{after, is_capture, is_en_passant, legal_moves, legal_captures, has_no_move, has_move_beside_en_passant}
-use Rattle.szg_chess.specs.Images.{Symmetry, move_image, IsImage, IsMoveImage}
+use Rattle.szg_chess.specs.Images.{Symmetry, Same, FlipFiles, FlipRanks, FlipDiagonal, ExchangeColors, move_image, image, IsImage, IsMoveImage}
 use Rattle.szg_chess.proofs.AfterMove.{after_is_position}
 use Rattle.szg_chess.proofs.Captured.{captures_law}
 use Rattle.szg_chess.proofs.Images.Geometry.{same_test}
 use Rattle.szg_chess.proofs.Images.Moves.{same_check, move_image_of, move_again}
 use Rattle.szg_chess.proofs.Images.Counts.{same_size}
-use Rattle.szg_chess.proofs.Images.Positions.{image_of_image}
+use Rattle.szg_chess.proofs.Images.Positions.{image_of_image, image_is_image}
 use Rattle.szg_probe.specs.Chess.{chess, step_of, ply_limit, ChessClass}
 use Rattle.szg_probe.specs.Probing.{StoredClasses, stored_class, is_known_loss, all_known, best_capture, has_only_en_passant, class_from, probed_at, probed}
-use Rattle.szg_probe.specs.Images.{AreSymmetric}
+use Rattle.szg_probe.specs.Images.{has_no_pawn, shares_value, AreSymmetric}
 use Rattle.szg_probe.proofs.Choosing.{in_filter, filter_in}
 
 -- ---- lists with the same elements
@@ -155,6 +155,18 @@ module _ (f : Symmetry) (p q : Position) (position : IsPosition p) (is : IsImage
         (in_map of_images (filter of_image (legal_moves q)) k (in_filter of_image (legal_moves q) k listed (same r.0 passed.0 ∙ passed.1))),
   )
 
+-- ---- images that share a value
+
+no_pawn_after : (p : Position) → IsPosition p → has_no_pawn p.placed_men ≡ true → (m : Move) → IsIn (legal_moves p) m → has_no_pawn (after p m).placed_men ≡ true
+no_pawn_after p position none m i = (move_there FlipRanks p (image FlipRanks p) position (image_is_image FlipRanks p position none) m i).leads.fitting
+
+pub shared_after : (f : Symmetry) (p : Position) → IsPosition p → shares_value f p.placed_men ≡ true → (m : Move) → IsIn (legal_moves p) m → shares_value f (after p m).placed_men ≡ true
+shared_after Same p position shares m i = refl
+shared_after FlipFiles p position shares m i = no_pawn_after p position shares m i
+shared_after FlipRanks p position shares m i = no_pawn_after p position shares m i
+shared_after FlipDiagonal p position shares m i = cc
+shared_after ExchangeColors p position shares m i = refl
+
 -- ---- probing
 
 same_class_from : (only only' : Bool) (best best' stored stored' : Option Class) → only ≡ only' → best ≡ best' → stored ≡ stored' → class_from only best stored ≡ class_from only' best' stored'
@@ -162,25 +174,25 @@ same_class_from only only' best best' stored stored' a b c =
     ap (λ (x : Bool). class_from x best stored) a ∙ ap (λ (x : Option Class). class_from only' x stored) b ∙ ap (class_from only' best') c
 
 module _ (tables : StoredClasses) (symmetric : AreSymmetric tables) where
-  probed_from : (n : ℕ) (f : Symmetry) (p q : Position) → IsPosition p → IsImage f p q → probed_at n tables q ≡ probed_at n tables p
+  probed_from : (n : ℕ) (f : Symmetry) (p q : Position) → IsPosition p → IsImage f p q → shares_value f p.placed_men ≡ true → probed_at n tables q ≡ probed_at n tables p
   unfolding probed_at
-  probed_from zero f p q position is = refl
-  probed_from (suc n) f p q position is =
+  probed_from zero f p q position is shares = refl
+  probed_from (suc n) f p q position is shares =
       let after_in : Position → Move → Option Class = λ r m. probed_at n tables (after r m) in
       let captures = same_given f p q position is (is_capture p) (is_capture q) (after_in p) (after_in q) (λ m i. (move_there f p q position is m i).capture)
-      (λ m i _. probed_from n f (after p m) (after q (move_image f m)) (after_is_position p m position (contains_in (legal_moves p) m i)) (move_there f p q position is m i).leads) in
+      (λ m i _. probed_from n f (after p m) (after q (move_image f m)) (after_is_position p m position (contains_in (legal_moves p) m i)) (move_there f p q position is m i).leads (shared_after f p position shares m i)) in
       let best : best_capture (map (after_in q) (legal_captures q)) ≡ best_capture (map (after_in p) (legal_captures p)) =
       ap (λ (ms : List Move). best_capture (map (after_in q) ms)) (sym (captures_law q is.position))
       ∙ same_best_capture (map (after_in q) (filter (is_capture q) (legal_moves q))) (map (after_in p) (filter (is_capture p) (legal_moves p))) captures
       ∙ ap (λ (ms : List Move). best_capture (map (after_in p) ms)) (captures_law p position) in
       let stored : stored_class tables q ≡ stored_class tables p =
       ap (λ (size : ℕ). if size == 2 then Some Draw else tables q.placed_men q.mover) (same_size f p q position is)
-      ∙ ap (λ (o : Option Class). if length p.placed_men == 2 then Some Draw else o) (symmetric f p q position is) in
+      ∙ ap (λ (o : Option Class). if length p.placed_men == 2 then Some Draw else o) (symmetric f p q position is shares) in
       same_class_from (has_only_en_passant q) (has_only_en_passant p) (best_capture (map (after_in q) (legal_captures q))) (best_capture (map (after_in p) (legal_captures p))) (stored_class tables q) (stored_class tables p)
       (same_decide f p q position is) best stored
 
-  pub probed_image : (f : Symmetry) (p q : Position) → IsPosition p → IsImage f p q → probed tables q ≡ probed tables p
-  probed_image f p q position is = ap (λ (n : ℕ). probed_at n tables q) (same_size f p q position is) ∙ probed_from (length p.placed_men) f p q position is
+  pub probed_image : (f : Symmetry) (p q : Position) → IsPosition p → IsImage f p q → shares_value f p.placed_men ≡ true → probed tables q ≡ probed tables p
+  probed_image f p q position is shares = ap (λ (n : ℕ). probed_at n tables q) (same_size f p q position is) ∙ probed_from (length p.placed_men) f p q position is shares
 
 -- ---- classes in chess
 
