@@ -85,7 +85,7 @@ square_image true false true false false n h k = refl
 square_image true true false false true n h k = flip_rank-back n h
 square_image true true true false true n h k = refl
 
-all_in : (xs : List PlacedMan) → AreOnBoard xs → (s : PlacedMan) → IsIn s xs → s.2 < 64
+pub all_in : (xs : List PlacedMan) → AreOnBoard xs → (s : PlacedMan) → IsIn s xs → s.2 < 64
 all_in [] h s i = absurd i
 all_in (x ∷ xs) h s (inl e) = subst (λ (y : PlacedMan). y.2 < 64) (sym e) (All-head (λ (y : PlacedMan). y.2 < 64) x xs h)
 all_in (x ∷ xs) h s (inr i) = all_in xs (All-tail (λ (y : PlacedMan). y.2 < 64) x xs h) s i
