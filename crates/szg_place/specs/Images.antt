@@ -1,6 +1,6 @@
 -- Images of a placement: its men in another order, the colours exchanged, the board flipped.
-use Rattle.std.specs.Prelude.{◌≡◌, ◌↔◌, Bool, false, true, not, ◌&&◌, ◌||◌, map, None, if◌then◌else◌}
-use Rattle.szg_values.specs.Material.{Sides, has_pawns}
+use Rattle.std.specs.Prelude.{◌≡◌, ◌↔◌, ◌==◌, Bool, false, true, not, ◌&&◌, ◌||◌, map, None, if◌then◌else◌}
+use Rattle.szg_values.specs.Material.{Sides, has_pawns, lead_pawns}
 use Rattle.szg_values.specs.Placement.{PlacedMan, Board, IsPlacement}
 use Rattle.szg_count.specs.Laws.{IsIn}
 use Rattle.szg_place.specs.Layout.{Layout, IsLayout}
@@ -18,11 +18,12 @@ pub record IsBoardImage (exchanged files ranks : Bool) (a b : Board) : Type 0 wh
   pub mover : b.mover ≡ exchanged_color exchanged a.mover
 
 -- The images that share a spot in each table of the material. With pawns the ranks are flipped exactly if the colours are
--- exchanged, so that pawns still advance, and the files are not: if two lead pawns are mirror images, a placement and its
--- flip have two spots. For the same reason no reflection in the diagonal is here: if all lead men are on the diagonal, a
--- placement and its reflection have two spots.
+-- exchanged, so that pawns still advance, and the files only if there is one lead pawn: if two lead pawns are mirror images,
+-- a placement and its flip have two spots. For the same reason no reflection in the diagonal is here: if all lead men are on
+-- the diagonal, a placement and its reflection have two spots.
 abbrev pub keeps_spot : Sides → Bool → Bool → Bool → Bool
-keeps_spot sides exchanged files ranks = not (has_pawns sides) || (not files && (if exchanged then ranks else not ranks))
+keeps_spot sides exchanged files ranks =
+    not (has_pawns sides) || ((not files || lead_pawns sides == 1) && (if exchanged then ranks else not ranks))
 
 -- a table refuses such an image for the same reason as the placement, and has the same spot for both
 abbrev pub LawImageSpot : Type 0

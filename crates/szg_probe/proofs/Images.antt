@@ -1,8 +1,15 @@
 -- What is probed at the image of a position.
-use Rattle.std.proofs.Common.{◌≡◌, ℕ, zero, suc, ◌≤◌, ◌↔◌, List, [], ◌∷◌, length, map, refl, sym, ap, ◌∙◌, subst, Bool, true, false, arith, inl, inr, Option, Some, None}
-use Rattle.std.specs.Prelude.{filter, not, ◌||◌, ◌==◌, is_none, option_map, if◌then◌else◌}
+use Rattle.std.proofs.Common.{◌≡◌, ℕ, zero, suc, ◌≤◌, ◌↔◌, ◌⊎◌, List, [], ◌∷◌, length, map, refl, sym, ap, ◌∙◌, subst, Bool, true, false, arith, inl, inr, Option, Some, None}
+use Rattle.std.specs.Prelude.{filter, not, ◌&&◌, ◌||◌, ◌==◌, nat_le, is_none, option_map, if◌then◌else◌}
 use Rattle.std.specs.List.{list_any, list_all}
-use Rattle.std.proofs.lemmas.Bool.{ne_eqb}
+use Rattle.std.proofs.lemmas.Bool.{cases_Bool, and_from, and_parts, ne_eqb, leb-true, le-leb}
+use Rattle.std.proofs.lemmas.List.Sums.{length-filter}
+use Rattle.szg_values.specs.Men.{is_man, is_color}
+use Rattle.szg_values.specs.Placement.{PlacedMan, number_of}
+use Rattle.szg_values.specs.declared.Man.{Man}
+use Rattle.szg_values.specs.declared.Man.TheVariants.{Pawn}
+use Rattle.szg_values.specs.declared.Color.{Color}
+use Rattle.szg_values.specs.declared.Color.TheVariants.{White, Black}
 use Rattle.szg_game.specs.Game.{Move as Step}
 use Rattle.szg_game.specs.Classes.{level, negate, best_after}
 use Rattle.szg_game.specs.declared.Class.{Class}
@@ -12,8 +19,9 @@ use Rattle.szg_game.proofs.Images.{IsLike, like_class}
 use Rattle.szg_game.proofs.Lists.{IsIn, some_in, any_in, each_in, all_in, in_map, map_in, contains_in, in_contains}
 use Rattle.szg_chess.specs.declared.Move.{Move}
 use Rattle.szg_chess.specs.Position.{Position, IsPosition}
-use Rattle.szg_chess.specs.Moves.{after, is_capture, is_en_passant, legal_moves, legal_captures, has_no_move, has_move_beside_en_passant}
+use Rattle.szg_chess.specs.Moves.{captured_square, man_after, men_after, after, is_capture, is_en_passant, legal_moves, legal_captures, has_no_move, has_move_beside_en_passant}
 use Rattle.szg_chess.specs.Images.{Symmetry, Same, FlipFiles, FlipRanks, FlipDiagonal, ExchangeColors, move_image, image, IsImage, IsMoveImage}
+use Rattle.szg_chess.proofs.MoveFacts.{legal_move}
 use Rattle.szg_chess.proofs.AfterMove.{after_is_position}
 use Rattle.szg_chess.proofs.Captured.{captures_law}
 use Rattle.szg_chess.proofs.Images.Geometry.{same_test}
@@ -22,7 +30,7 @@ use Rattle.szg_chess.proofs.Images.Counts.{same_size}
 use Rattle.szg_chess.proofs.Images.Positions.{image_of_image, image_is_image}
 use Rattle.szg_probe.specs.Chess.{chess, step_of, ply_limit, ChessClass}
 use Rattle.szg_probe.specs.Probing.{StoredClasses, stored_class, is_known_loss, all_known, best_capture, has_only_en_passant, class_from, probed_at, probed}
-use Rattle.szg_probe.specs.Images.{has_no_pawn, shares_value, AreSymmetric}
+use Rattle.szg_probe.specs.Images.{has_no_pawn, has_lone_pawns, shares_value, AreSymmetric}
 use Rattle.szg_probe.proofs.Choosing.{in_filter, filter_in}
 
 -- ---- lists with the same elements
@@ -160,9 +168,74 @@ module _ (f : Symmetry) (p q : Position) (position : IsPosition p) (is : IsImage
 no_pawn_after : (p : Position) → IsPosition p → has_no_pawn p.placed_men ≡ true → (m : Move) → IsIn (legal_moves p) m → has_no_pawn (after p m).placed_men ≡ true
 no_pawn_after p position none m i = (move_there FlipRanks p (image FlipRanks p) position (image_is_image FlipRanks p position none) m i).leads.fitting
 
+-- a move makes no pawns
+abbrev MakesNoPawn : Move → Type 0
+MakesNoPawn m = (m.promotion ≡ None) ⊎ ((piece : Man) × (m.promotion ≡ Some piece) × (is_man Pawn piece ≡ false))
+
+makes_no_pawn : (p : Position) (m : Move) → IsIn (legal_moves p) m → MakesNoPawn m
+makes_no_pawn p m i = elim (legal_move p m (contains_in (legal_moves p) m i)).0.rank [
+  | inl promoted ↦ inr (promoted.piece, promoted.is, promoted.no_pawn)
+  | inr remains ↦ inl remains.is
+]
+
+abbrev is_pawn_of : Color → PlacedMan → Bool
+is_pawn_of color s = is_man Pawn s.0 && is_color color s.1
+
+was_pawn : (color : Color) (m : Move) (s : PlacedMan) → MakesNoPawn m → is_pawn_of color (man_after m s) ≡ true → is_pawn_of color s ≡ true
+was_pawn color m s makes e = elim (cases_Bool (s.2 == m.from)) [
+  | inl t ↦ elim makes [
+    | inl none ↦ let k : is_pawn_of color s ≡ true = rw (t, none) at e in k
+    | inr r ↦
+        let is = r.1 in let no = r.2 in
+        let k : (is_man Pawn r.0 && is_color color s.1) ≡ true = rw (t, is) at e in
+        absurd (clash (is_man Pawn r.0) (and_parts (is_man Pawn r.0) (is_color color s.1) k).0 no)
+  ]
+  | inr f ↦ let k : is_pawn_of color s ≡ true = rw f at e in k
+] where
+  clash : (b : Bool) → b ≡ true → b ≡ false → ⊥
+  clash true e f = cc
+  clash false e f = cc
+
+fewer_moved : (color : Color) (m : Move) (men : List PlacedMan) → MakesNoPawn m → length (filter (is_pawn_of color) (map (man_after m) men)) ≤ length (filter (is_pawn_of color) men)
+fewer_moved color m [] makes = omega arith
+fewer_moved color m (s ∷ men) makes =
+    let rest = fewer_moved color m men makes in
+    elim (cases_Bool (is_pawn_of color (man_after m s))) [
+      | inl t ↦ let was = was_pawn color m s makes t in rw (t, was) (omega (arith, rest))
+      | inr e ↦ elim (cases_Bool (is_pawn_of color s)) [ inl u ↦ rw (e, u) (omega (arith, rest)) | inr f ↦ rw (e, f) rest ]
+    ]
+
+fewer_left : (t left : PlacedMan → Bool) (men : List PlacedMan) → length (filter t (filter left men)) ≤ length (filter t men)
+fewer_left t left [] = omega arith
+fewer_left t left (s ∷ men) =
+    let rest = fewer_left t left men in
+    elim (cases_Bool (left s)) [
+      | inl a ↦ rw a (elim (cases_Bool (t s)) [ inl b ↦ rw b (omega (arith, rest)) | inr b ↦ rw b rest ])
+      | inr a ↦ rw a (elim (cases_Bool (t s)) [ inl b ↦ rw b (omega (arith, rest)) | inr b ↦ rw b rest ])
+    ]
+
+fewer_pawns : (p : Position) (m : Move) → IsIn (legal_moves p) m → (color : Color) → number_of Pawn color (after p m).placed_men ≤ number_of Pawn color p.placed_men
+unfolding after men_after
+fewer_pawns p m i color =
+    let left : PlacedMan → Bool = λ s. not (s.2 == captured_square p m) in
+    let moved = fewer_moved color m (filter left p.placed_men) (makes_no_pawn p m i) in
+    let stay = fewer_left (is_pawn_of color) left p.placed_men in
+    let now = length-filter (is_pawn_of color) (map (man_after m) (filter left p.placed_men)) in
+    let before = length-filter (is_pawn_of color) p.placed_men in
+    omega (arith, moved, stay, now, before)
+
+lone_after : (p : Position) (m : Move) → IsIn (legal_moves p) m → has_lone_pawns p.placed_men ≡ true → has_lone_pawns (after p m).placed_men ≡ true
+lone_after p m i lone =
+    let next = (after p m).placed_men in
+    let both = and_parts (nat_le (number_of Pawn White p.placed_men) 1) (nat_le (number_of Pawn Black p.placed_men) 1) lone in
+    let white = leb-true (number_of Pawn White p.placed_men) 1 both.0 in let black = leb-true (number_of Pawn Black p.placed_men) 1 both.1 in
+    let whites = fewer_pawns p m i White in let blacks = fewer_pawns p m i Black in
+    and_from (nat_le (number_of Pawn White next) 1) (nat_le (number_of Pawn Black next) 1)
+    (le-leb (number_of Pawn White next) 1 (omega (arith, white, whites))) (le-leb (number_of Pawn Black next) 1 (omega (arith, black, blacks)))
+
 pub shared_after : (f : Symmetry) (p : Position) → IsPosition p → shares_value f p.placed_men ≡ true → (m : Move) → IsIn (legal_moves p) m → shares_value f (after p m).placed_men ≡ true
 shared_after Same p position shares m i = refl
-shared_after FlipFiles p position shares m i = no_pawn_after p position shares m i
+shared_after FlipFiles p position shares m i = lone_after p m i shares
 shared_after FlipRanks p position shares m i = no_pawn_after p position shares m i
 shared_after FlipDiagonal p position shares m i = cc
 shared_after ExchangeColors p position shares m i = refl

@@ -38,7 +38,7 @@ use Rattle.szg_chess.specs.Position.{Position, IsPosition}
 use Rattle.szg_chess.specs.Images.{Symmetry, Same, FlipFiles, FlipRanks, FlipDiagonal, ExchangeColors, man_image, IsImage}
 use Rattle.szg_chess.proofs.Facts.{faultless, has_men_parts, placed}
 use Rattle.szg_chess.proofs.Images.Counts.{same_size}
-use Rattle.szg_probe.specs.Images.{has_no_pawn, shares_value, AreSymmetric}
+use Rattle.szg_probe.specs.Images.{has_no_pawn, has_lone_pawns, shares_value, AreSymmetric}
 use Rattle.szg_tables.specs.Stored.{board_of, is_kind, is_for, table_for, value_in, class_of_value, class_in, stored_classes, is_few, number_of_class, mapped_in, number_by, number_in, stored_numbers}
 use Rattle.szg_tables.specs.Images.{HaveSymmetricNumbers}
 
@@ -128,6 +128,16 @@ no_pawns_of color (s ∷ men) e = elim (cases_Bool (is_man Pawn s.0)) [
       ∙ (let k = no_pawns_of color men rest in omega (arith, k))
 ]
 
+-- with one pawn at most on each side, no lead pawns are mirror images
+lone_counts : (a b : ℕ) → a ≤ 1 → b ≤ 1 → (not (nat_lt 0 (a + b)) || ((false || cond (nat_lt 0 a && (b == 0 || nat_le a b)) a b == 1) && true)) ≡ true
+lone_counts zero zero h k = refl
+lone_counts zero (suc zero) h k = refl
+lone_counts (suc zero) zero h k = refl
+lone_counts (suc zero) (suc zero) h k = refl
+lone_counts zero (suc (suc b)) h k = absurd (omega arith)
+lone_counts (suc zero) (suc (suc b)) h k = absurd (omega arith)
+lone_counts (suc (suc a)) b h k = absurd (omega arith)
+
 -- ---- a table for the men
 
 module _ (kind : Kind) (men : List PlacedMan) (t : Shown) (layout : IsLayout (numbering_of t.contents)) (for_men : is_for kind (material_of men) t ≡ true) where
@@ -153,6 +163,19 @@ module _ (kind : Kind) (men : List PlacedMan) (t : Shown) (layout : IsLayout (nu
       let w = no_pawns_of White men no in let k = no_pawns_of Black men no in
       let all : pawn_count t.contents.material.first + pawn_count t.contents.material.second ≡ 0 = omega (arith, a, b, both, w, k) in
       ap (λ (n : ℕ). nat_lt 0 n) all
+
+  pawns_lone : has_lone_pawns men ≡ true → keeps_spot t.contents.material false true false ≡ true
+  pawns_lone lone =
+      let pawn : IsIn Pawn name_order = inr (inr (inr (inr (inr (inl refl))))) in
+      let a = counts_of (material_of men).first t.contents.material.first same_men.0 Pawn pawn in let b = counts_of (material_of men).second t.contents.material.second same_men.1 Pawn pawn in
+      let few = and_parts (nat_le (number_of Pawn White men) 1) (nat_le (number_of Pawn Black men) 1) lone in
+      let white = leb-true (number_of Pawn White men) 1 few.0 in let black = leb-true (number_of Pawn Black men) 1 few.1 in
+      let both : (pawn_count (material_of men).first ≤ 1) × (pawn_count (material_of men).second ≤ 1) = elim (men_of_placement men) [
+        | inl r ↦ let c = r.0 Pawn in let d = r.1 Pawn in (omega (arith, c, white), omega (arith, d, black))
+        | inr r ↦ let c = r.0 Pawn in let d = r.1 Pawn in (omega (arith, c, black), omega (arith, d, white))
+      ] in
+      let first = both.0 in let second = both.1 in
+      lone_counts (pawn_count t.contents.material.first) (pawn_count t.contents.material.second) (omega (arith, a, first)) (omega (arith, b, second))
 
 -- ---- images
 
@@ -206,13 +229,14 @@ or_true : (b : Bool) → (b || true) ≡ true
 or_true true = refl
 or_true false = refl
 
-keeps_of : (f : Symmetry) (men : List PlacedMan) (sides : Sides) → shares_value f men ≡ true → (has_no_pawn men ≡ true → has_pawns sides ≡ false) → keeps_spot sides (exchanges f) (flips_files f) (flips_ranks f) ≡ true
+keeps_of : (f : Symmetry) (men : List PlacedMan) (sides : Sides) → shares_value f men ≡ true → (has_no_pawn men ≡ true → has_pawns sides ≡ false) →
+    (has_lone_pawns men ≡ true → keeps_spot sides false true false ≡ true) → keeps_spot sides (exchanges f) (flips_files f) (flips_ranks f) ≡ true
 unfolding exchanges flips_files flips_ranks
-keeps_of Same men sides shares none = or_true (not (has_pawns sides))
-keeps_of FlipFiles men sides shares none = rw (none shares) refl
-keeps_of FlipRanks men sides shares none = rw (none shares) refl
-keeps_of FlipDiagonal men sides shares none = absurd (cc)
-keeps_of ExchangeColors men sides shares none = or_true (not (has_pawns sides))
+keeps_of Same men sides shares none lone = or_true (not (has_pawns sides))
+keeps_of FlipFiles men sides shares none lone = lone shares
+keeps_of FlipRanks men sides shares none lone = rw (none shares) refl
+keeps_of FlipDiagonal men sides shares none lone = absurd (cc)
+keeps_of ExchangeColors men sides shares none lone = or_true (not (has_pawns sides))
 
 -- ---- what tables store
 
@@ -270,7 +294,7 @@ module _ (tables : List Shown) (numbered : AreNumbered tables) (f : Symmetry) (p
       let layout = numbered t i in
       let three = three_men kind p.placed_men t layout for_men in
       let r = law_image_spot (numbering_of t.contents) here there (exchanges f) (flips_files f) (flips_ranks f) layout (placement p position three) (placement q is.position (omega (arith, three, size))) (image_of f p q is shares)
-      (keeps_of f p.placed_men t.contents.material shares (pawns_none kind p.placed_men t layout for_men)) in
+      (keeps_of f p.placed_men t.contents.material shares (pawns_none kind p.placed_men t layout for_men) (pawns_lone kind p.placed_men t layout for_men)) in
       record { fault = r.0; spot = r.1 }
 
   -- what the table for the men gives

@@ -3,10 +3,10 @@ use Rattle.std.proofs.Common.{◌≡◌, ℕ, ◌-◌, ◌<◌, ◌↔◌, inl, 
 use Rattle.std.specs.Prelude.{◌==◌, slice_get, unwrap_or, Option, Some, None, IsNone}
 use Rattle.std.specs.List.{All}
 use Rattle.std.proofs.Math.Bool.{not, ◌&&◌, ◌||◌}
-use Rattle.std.proofs.lemmas.Bool.{cases_Bool, and_parts}
+use Rattle.std.proofs.lemmas.Bool.{cases_Bool, eqb-true}
 use Rattle.std.proofs.lemmas.List.Elements.{All-head, All-tail}
 use Rattle.szg_values.specs.Men.{is_color}
-use Rattle.szg_values.specs.Material.{Sides, IsMaterial, is_same_men, is_symmetric, has_pawns}
+use Rattle.szg_values.specs.Material.{Sides, is_same_men, is_symmetric, has_pawns, count_of, man_codes, lead_pawns, lead_pawn_code}
 use Rattle.szg_values.specs.Placement.{PlacedMan, Board, AreOnBoard, IsPlacement, placement_fault, side_of, material_of}
 use Rattle.szg_values.specs.declared.Color.{Color}
 use Rattle.szg_values.specs.declared.Color.TheVariants.{White, Black}
@@ -18,8 +18,9 @@ use Rattle.szg_count.specs.Grouped.{is_regular}
 use Rattle.szg_count.specs.Groups.{groups_of, lead_length}
 use Rattle.szg_count.proofs.Differ.{IsIn-map}
 use Rattle.szg_count.proofs.Pawns.{lead_length-fits}
+use Rattle.szg_count.proofs.Rearranged.{rearranged_counts}
 use Rattle.szg_place.specs.Layout.{Layout, IsLayout, is_dtz, nibbles_at}
-use Rattle.szg_place.specs.Normal.{CodedMan, Normal, flip_rank, moved, exchanged_color, colored_code, is_exchanged, moving_side, subtable_side, pieces_of, part_of, chosen_groups, normal_pieces, squares_by_group, normal_of}
+use Rattle.szg_place.specs.Normal.{CodedMan, Normal, flip_file, flip_rank, moved, exchanged_color, colored_code, is_exchanged, moving_side, subtable_side, pieces_of, part_of, chosen_groups, normal_pieces, squares_by_group, normal_of}
 use Rattle.szg_place.specs.Slots.{flipped_by, piece_from}
 use Rattle.szg_place.specs.Spots.{counted_at, index_from, is_of_material, is_kings_touching, is_wrong_side, place_fault, spot_of}
 use Rattle.szg_place.specs.Laws.{IsOnBoard}
@@ -28,13 +29,13 @@ use Rattle.szg_place.specs.declared.Spot.{Spot}
 use Rattle.szg_place.specs.declared.PlaceFault.{PlaceFault}
 use Rattle.szg_place.specs.declared.PlaceFault.TheVariants as fault
 use Rattle.szg_place.proofs.Ranks.Lists.{IsIn-map_back}
-use Rattle.szg_place.proofs.MenOnSlots.Pieces.{moved_piece}
+use Rattle.szg_place.proofs.MenOnSlots.Pieces.{IsStood, moved_piece}
 use Rattle.szg_place.proofs.MenOnSlots.Standing.{IsNamed, named_sides, exchanged_when, pieces_stood}
-use Rattle.szg_place.proofs.Indexes.Spotted.{ordered, order_none, part_below, side_below, none_is}
-use Rattle.szg_place.proofs.Symmetries.Flips.{slot_squares, slotted_length, flip_rank-back}
-use Rattle.szg_place.proofs.Symmetries.Normals.{fit}
+use Rattle.szg_place.proofs.Indexes.Spotted.{IsOrdered, ordered, order_none, part_below, side_below, none_is}
+use Rattle.szg_place.proofs.Symmetries.Flips.{slot_squares, slotted_length, flip_rank-back, flip_file-move}
+use Rattle.szg_place.proofs.Symmetries.Normals.{fit, lead_only, lead_pawns-count}
 use Rattle.szg_place.proofs.Symmetries.Members.{AreSame, groups_same, part_same, normal_members}
-use Rattle.szg_place.proofs.Symmetries.Mirrored.{moved_same, normal_mirrored}
+use Rattle.szg_place.proofs.Symmetries.Mirrored.{moved_same, flips_commute, normal_mirrored, part_lone, normal_lone}
 use Rattle.szg_place.proofs.Symmetries.ImageCounts.{side_same, material_same}
 
 clash : (b : Bool) → b ≡ true → b ≡ false → ⊥
@@ -69,48 +70,91 @@ other_side : (y : Bool) → exchanged_color true (exchanged_color y Black) ≡ e
 other_side true = refl
 other_side false = refl
 
+no_men : Sides
+no_men = record { first = []; second = [] }
+
 -- a square of an image: with pawns an exchange of colours flips the ranks
-square_image : (pawns exchanged x files ranks : Bool) (n : ℕ) → n < 64 → (not pawns || (not files && cond exchanged ranks (not ranks))) ≡ true →
+square_image : (pawns exchanged x files ranks : Bool) (n : ℕ) → n < 64 → (not pawns || cond exchanged ranks (not ranks)) ≡ true →
     cond (twice exchanged x && pawns) (flip_rank (flipped_by files ranks false n)) (flipped_by files ranks false n)
-    ≡ cond pawns (λ s. s) (flipped_by files ranks false) (cond (x && pawns) (flip_rank n) n)
+    ≡ cond pawns (flipped_by files false false) (flipped_by files ranks false) (cond (x && pawns) (flip_rank n) n)
 square_image false false false files ranks n h k = refl
 square_image false false true files ranks n h k = refl
 square_image false true false files ranks n h k = refl
 square_image false true true files ranks n h k = refl
-square_image true exchanged x true ranks n h k = cc
-square_image true true x false false n h k = cc
-square_image true false x false true n h k = cc
-square_image true false false false false n h k = refl
+square_image true true x files false n h k = cc
+square_image true false x files true n h k = cc
+square_image true false false files false n h k = refl
 square_image true false true false false n h k = refl
+square_image true false true true false n h k = sym (flips_commute n h)
 square_image true true false false true n h k = flip_rank-back n h
+square_image true true false true true n h k = flip_rank-back (flip_file n) ((flip_file-move no_men).inside n h)
 square_image true true true false true n h k = refl
+square_image true true true true true n h k = sym (flips_commute n h)
+
+-- what follows if the image shares a spot
+advances : (pawns lone m : Bool) → (not pawns || (lone && m)) ≡ true → (not pawns || m) ≡ true
+advances false lone m k = refl
+advances true true m k = k
+advances true false m k = cc
+
+lone_if : (pawns files lone m : Bool) → pawns ≡ true → files ≡ true → (not pawns || ((not files || lone) && m)) ≡ true → lone ≡ true
+lone_if false files lone m a b k = cc
+lone_if true false lone m a b k = cc
+lone_if true true true m a b k = refl
+lone_if true true false m a b k = cc
 
 pub all_in : (xs : List PlacedMan) → AreOnBoard xs → (s : PlacedMan) → IsIn s xs → s.2 < 64
 all_in [] h s i = absurd i
 all_in (x ∷ xs) h s (inl e) = subst (λ (y : PlacedMan). y.2 < 64) (sym e) (All-head (λ (y : PlacedMan). y.2 < 64) x xs h)
 all_in (x ∷ xs) h s (inr i) = all_in xs (All-tail (λ (y : PlacedMan). y.2 < 64) x xs h) s i
 
--- ---- the lead group of a placement without pawns
+-- ---- the lead group
 
-lead_again : (l : Layout) (board : Board) (files ranks : Bool) → IsLayout l → IsOnBoard board → placement_fault board.placed_men ≡ None → is_of_material l.material board ≡ true →
-    is_regular l.material (chosen_groups l board) ≡ true → has_pawns l.material ≡ false →
+-- the men of a placement of the material, and the codes of its subtable
+record HasCodes (l : Layout) (board : Board) (codes : List ℕ) : Type 0 where
+  pub stood : IsStood l.material codes (pieces_of l.material board)
+  pub ordered : IsOrdered l.material (nibbles_at l (part_of l.material (pieces_of l.material board)) (subtable_side l board))
+
+abbrev codes_at : Layout → Board → List ℕ
+codes_at l board = (nibbles_at l (part_of l.material (pieces_of l.material board)) (subtable_side l board)).men
+
+has_codes : (l : Layout) (board : Board) → IsLayout l → IsOnBoard board → placement_fault board.placed_men ≡ None → is_of_material l.material board ≡ true → HasCodes l board (codes_at l board)
+has_codes l board h inside fine material =
+    let sides = l.material in
+    let part = part_of sides (pieces_of sides board) in
+    let side = subtable_side l board in
+    let ok = ordered sides (nibbles_at l part side) (order_none l part side h (part_below sides (pieces_of sides board)) (side_below l board)) in
+    record { stood = pieces_stood sides (codes_at l board) board h.material inside fine material ok.pieces; ordered = ok }
+
+one_lead_pawn : (l : Layout) (board : Board) → HasCodes l board (codes_at l board) → lead_pawns l.material ≡ 1 → count_of (lead_pawn_code l.material) (codes_at l board) ≡ 1
+one_lead_pawn l board has one = rearranged_counts (codes_at l board) (man_codes l.material) has.ordered.pieces (lead_pawn_code l.material) ∙ lead_pawns-count l.material ∙ one
+
+-- without pawns
+lead_again : (l : Layout) (board : Board) (files ranks : Bool) → IsLayout l → HasCodes l board (codes_at l board) → is_regular l.material (chosen_groups l board) ≡ true → has_pawns l.material ≡ false →
     (let lead = unwrap_or (slice_get (chosen_groups l board) 0) [] in
     normal_pieces l.material lead (moved (flipped_by files ranks false) (pieces_of l.material board)) ≡ normal_pieces l.material lead (pieces_of l.material board))
 unfolding chosen_groups groups_of
-lead_again l board files ranks h inside fine material regular none =
+lead_again l board files ranks h has regular none =
     let sides = l.material in
     let pieces = pieces_of sides board in
-    let part = part_of sides pieces in
-    let side = subtable_side l board in
-    let n = nibbles_at l part side in
-    let ok = ordered sides n (order_none l part side h (part_below sides pieces) (side_below l board)) in
-    let stood = pieces_stood sides n.men board h.material inside fine material ok.pieces in
-    let lead = take (lead_length sides) n.men in
-    let fits = fit sides n.men h.material ok.pieces ok.pawns regular in
+    let men = codes_at l board in
+    let lead = take (lead_length sides) men in
+    let fits = fit sides men h.material has.ordered.pieces has.ordered.pawns regular in
     let one = fits.single none in
-    let set = slot_squares sides n.men pieces lead stood one in
+    let set = slot_squares sides men pieces lead has.stood one in
     let some : 0 < length set.0 = let size = slotted_length pieces lead set.0 set.1 in let many = fits.lead_size in let more = (lead_length-fits sides h.material).0 in omega (arith, size, many, more) in
-    normal_mirrored sides none n.men lead one pieces set.0 files ranks some (record { stood = stood; put_on_slots = set.1 })
+    normal_mirrored sides none men lead one pieces set.0 files ranks some (record { stood = has.stood; put_on_slots = set.1 })
+
+-- with one lead pawn
+lone_again : (l : Layout) (board : Board) → IsLayout l → HasCodes l board (codes_at l board) → is_regular l.material (chosen_groups l board) ≡ true → has_pawns l.material ≡ true → lead_pawns l.material ≡ 1 →
+    (let lead = unwrap_or (slice_get (chosen_groups l board) 0) [] in
+    normal_pieces l.material lead (moved flip_file (pieces_of l.material board)) ≡ normal_pieces l.material lead (pieces_of l.material board))
+unfolding chosen_groups groups_of
+lone_again l board h has regular pawns one =
+    let sides = l.material in
+    let men = codes_at l board in
+    let fits = fit sides men h.material has.ordered.pieces has.ordered.pawns regular in
+    normal_lone sides pawns men (one_lead_pawn l board has one) (take (lead_length sides) men) (pieces_of sides board) (lead_only sides men h.material pawns has.ordered.pawns fits) has.stood
 
 -- ---- an image
 
@@ -173,8 +217,15 @@ module _ (l : Layout) (a b : Board) (exchanged files ranks : Bool) (layout : IsL
         ∙ ap (λ (c : Color). cond (is_color White (exchanged_color (twice exchanged (is_exchanged sides a)) c)) 0 1) image.mover
         ∙ ap (λ (c : Color). cond (is_color White c) 0 1) (color_twice exchanged (is_exchanged sides a) a.mover)
 
+    has : HasCodes l a (codes_at l a)
+    has = has_codes l a layout inside fine material
+
     abbrev flip : ℕ → ℕ
-    flip = cond (has_pawns sides) (λ s. s) (flipped_by files ranks false)
+    flip = cond (has_pawns sides) (flipped_by files false false) (flipped_by files ranks false)
+
+    -- with pawns, if the files are flipped
+    lone : has_pawns sides ≡ true → files ≡ true → lead_pawns sides ≡ 1
+    lone e f = eqb-true (lead_pawns sides) 1 (lone_if (has_pawns sides) files (lead_pawns sides == 1) (cond exchanged ranks (not ranks)) e f keeps)
 
     abbrev coded : Board → PlacedMan → CodedMan
     coded board = piece_from (is_exchanged sides board) (is_exchanged sides board && has_pawns sides)
@@ -185,7 +236,7 @@ module _ (l : Layout) (a b : Board) (exchanged files ranks : Bool) (layout : IsL
         ∙ ap (λ (c : Color). let p : CodedMan = record { code = colored_code s.0 c; square = cond (twice exchanged (is_exchanged sides a) && has_pawns sides) (flip_rank (flipped_by files ranks false s.2)) (flipped_by files ranks false s.2) } in p)
         (color_twice exchanged (is_exchanged sides a) s.1)
         ∙ ap (λ (n : ℕ). let p : CodedMan = record { code = colored_code s.0 (exchanged_color (is_exchanged sides a) s.1); square = n } in p)
-        (square_image (has_pawns sides) exchanged (is_exchanged sides a) files ranks s.2 h keeps)
+        (square_image (has_pawns sides) exchanged (is_exchanged sides a) files ranks s.2 h (advances (has_pawns sides) (not files || lead_pawns sides == 1) (cond exchanged ranks (not ranks)) keeps))
 
     pieces_image : AreSame (pieces_of sides b) (moved flip (pieces_of sides a))
     unfolding pieces_of
@@ -207,12 +258,16 @@ module _ (l : Layout) (a b : Board) (exchanged files ranks : Bool) (layout : IsL
     part_image = elim (cases_Bool (has_pawns sides)) [
       | inl t ↦
           part_same sides (pieces_of sides b) (moved flip (pieces_of sides a)) pieces_image
-          ∙ ap (λ (f : ℕ → ℕ). part_of sides (moved f (pieces_of sides a))) (ap (λ (x : Bool). cond x (λ s. s) (flipped_by files ranks false)) t)
-          ∙ ap (part_of sides) (moved_same (pieces_of sides a))
+          ∙ ap (λ (x : Bool). part_of sides (moved (cond x (flipped_by files false false) (flipped_by files ranks false)) (pieces_of sides a))) t
+          ∙ by_files t files refl
       | inr f ↦ without b f ∙ sym (without a f)
     ] where
       without : (board : Board) → has_pawns sides ≡ false → part_of sides (pieces_of sides board) ≡ 0
       without board f = rw f refl
+
+      by_files : has_pawns sides ≡ true → (x : Bool) → files ≡ x → part_of sides (moved (flipped_by x false false) (pieces_of sides a)) ≡ part_of sides (pieces_of sides a)
+      by_files t true e = part_lone sides t (codes_at l a) (one_lead_pawn l a has (lone t e)) (pieces_of sides a) has.stood
+      by_files t false e = ap (part_of sides) (moved_same (pieces_of sides a))
 
     side_image : subtable_side l b ≡ subtable_side l a
     side_image = ap (λ (n : ℕ). cond (is_dtz l.kind) 0 n) moving_image
@@ -228,9 +283,15 @@ module _ (l : Layout) (a b : Board) (exchanged files ranks : Bool) (layout : IsL
 
     normal_flip : is_regular sides (chosen_groups l a) ≡ true → normal_pieces sides lead (moved flip (pieces_of sides a)) ≡ normal_pieces sides lead (pieces_of sides a)
     normal_flip regular = elim (cases_Bool (has_pawns sides)) [
-      | inl t ↦ ap (λ (x : Bool). normal_pieces sides lead (moved (cond x (λ s. s) (flipped_by files ranks false)) (pieces_of sides a))) t ∙ ap (normal_pieces sides lead) (moved_same (pieces_of sides a))
-      | inr f ↦ ap (λ (x : Bool). normal_pieces sides lead (moved (cond x (λ s. s) (flipped_by files ranks false)) (pieces_of sides a))) f ∙ lead_again l a files ranks layout inside fine material regular f
-    ]
+      | inl t ↦ ap by_pawns t ∙ by_files t files refl
+      | inr f ↦ ap by_pawns f ∙ lead_again l a files ranks layout has regular f
+    ] where
+      by_pawns : Bool → List CodedMan
+      by_pawns x = normal_pieces sides lead (moved (cond x (flipped_by files false false) (flipped_by files ranks false)) (pieces_of sides a))
+
+      by_files : has_pawns sides ≡ true → (x : Bool) → files ≡ x → normal_pieces sides lead (moved (flipped_by x false false) (pieces_of sides a)) ≡ normal_pieces sides lead (pieces_of sides a)
+      by_files t true e = lone_again l a layout has regular t (lone t e)
+      by_files t false e = ap (normal_pieces sides lead) (moved_same (pieces_of sides a))
 
     normal_image : is_regular sides (chosen_groups l a) ≡ true → normal_of l b ≡ normal_of l a
     unfolding normal_of
