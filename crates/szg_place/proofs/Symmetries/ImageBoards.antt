@@ -1,13 +1,12 @@
 -- An image has the fault of the placement, or its spot.
-use Rattle.std.proofs.Common.{◌≡◌, ℕ, ◌-◌, ◌<◌, ◌↔◌, inl, inr, List, [], ◌∷◌, length, map, take, refl, sym, ap, ◌∙◌, subst, Bool, true, false, cond, arith}
-use Rattle.std.specs.Prelude.{◌==◌, slice_get, unwrap_or, Option, Some, None, IsNone}
-use Rattle.std.specs.List.{All}
+use Rattle.std.proofs.Common.{◌≡◌, ℕ, ◌<◌, inl, inr, List, [], ◌∷◌, length, map, take, refl, sym, ap, ◌∙◌, subst, Bool, true, false, cond, arith}
+use Rattle.std.specs.Prelude.{◌==◌, slice_get, unwrap_or, Option, Some, None}
 use Rattle.std.proofs.Math.Bool.{not, ◌&&◌, ◌||◌}
 use Rattle.std.proofs.lemmas.Bool.{cases_Bool, eqb-true}
 use Rattle.std.proofs.lemmas.List.Elements.{All-head, All-tail}
 use Rattle.szg_values.specs.Men.{is_color}
 use Rattle.szg_values.specs.Material.{Sides, is_same_men, is_symmetric, has_pawns, count_of, man_codes, lead_pawns, lead_pawn_code}
-use Rattle.szg_values.specs.Placement.{PlacedMan, Board, AreOnBoard, IsPlacement, placement_fault, side_of, material_of}
+use Rattle.szg_values.specs.Placement.{PlacedMan, Board, AreOnBoard, placement_fault, side_of, material_of}
 use Rattle.szg_values.specs.declared.Color.{Color}
 use Rattle.szg_values.specs.declared.Color.TheVariants.{White, Black}
 use Rattle.szg_values.specs.declared.Man.{Man}

@@ -1,8 +1,8 @@
 -- An image has as many men of each kind, with the colours exchanged or not, and the same material.
 use Rattle.std.proofs.Common.{◌≡◌, ℕ, ◌+◌, ◌<◌, ◌≤◌, ◌↔◌, ◌⊎◌, inl, inr, List, [], ◌∷◌, ◌++◌, length, map, refl, sym, ap, ◌∙◌, subst, Bool, true, false, cond, arith, replicate}
-use Rattle.std.specs.Prelude.{◌==◌, nat_lt, count_by, flat_map, Option, None}
-use Rattle.std.proofs.Math.Bool.{not, ◌&&◌, ◌||◌}
-use Rattle.std.proofs.lemmas.Bool.{cases_Bool, eqb-true, ltb-true, and_parts, or_cases}
+use Rattle.std.specs.Prelude.{◌==◌, nat_lt, count_by, flat_map, None}
+use Rattle.std.proofs.Math.Bool.{◌&&◌}
+use Rattle.std.proofs.lemmas.Bool.{eqb-true, ltb-true, and_parts, or_cases}
 use Rattle.std.proofs.lemmas.List.Sums.{sum_by-append}
 use Rattle.szg_values.specs.Men.{code_of, is_man, is_color, name_order}
 use Rattle.szg_values.specs.Material.{Sides, is_not_later, may_be_first}
