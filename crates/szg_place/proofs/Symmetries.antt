@@ -5,3 +5,7 @@ pub mod PawnLead
 pub mod Normals
 pub mod Again
 pub mod Turns
+pub mod Members
+pub mod Mirrored
+pub mod ImageCounts
+pub mod ImageBoards

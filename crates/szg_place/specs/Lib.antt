@@ -10,3 +10,4 @@ pub mod Known
 pub mod Probes
 pub mod Keys
 pub mod SlotSquares
+pub mod Images

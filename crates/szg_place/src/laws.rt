@@ -5,6 +5,7 @@ ghost use Rattle.szg_file.specs.Index.{slot_in};
 ghost use Rattle.szg_file.specs.Values.{subtable_at};
 ghost use Rattle.szg_place.specs.Ranks.{LawUnrankAfterRank, LawRankAfterUnrank};
 ghost use Rattle.szg_place.specs.Laws.{LawBelowSize, LawOneSpot, LawSpotOfPlacement, LawPlacementOfSpot};
+ghost use Rattle.szg_place.specs.Images.{LawImageSpot};
 ghost use Rattle.szg_place.specs.Layout.{IsLayout};
 ghost use Rattle.szg_place.specs.Spots.{board_at, place_fault, placement_refusal, spot_of};
 ghost use Rattle.szg_place.specs.Tables.{numbering_of, numbering_in};
@@ -40,6 +41,12 @@ pub fn spot_of_placement()
 /// Unranking the index of a placement returns the placement of its normal form.
 pub fn placement_of_spot()
     ensures { LawPlacementOfSpot }
+{}
+
+/// A table has one spot for a placement and for its images: its men in another order, the colours exchanged, and without
+/// pawns the files or the ranks flipped. It refuses both for the same reason.
+pub fn spot_of_image()
+    ensures { LawImageSpot }
 {}
 
 /// A table's numbering satisfies `IsLayout`, which the laws require: it has as many parts as the material requires, and

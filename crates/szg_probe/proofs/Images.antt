@@ -1,8 +1,15 @@
 -- What is probed at the image of a position.
-use Rattle.std.proofs.Common.{◌≡◌, ℕ, zero, suc, ◌≤◌, ◌↔◌, List, [], ◌∷◌, length, map, refl, sym, ap, ◌∙◌, subst, Bool, true, false, arith, inl, inr, Option, Some, None}
-use Rattle.std.specs.Prelude.{filter, not, ◌||◌, ◌==◌, is_none, option_map, if◌then◌else◌}
+use Rattle.std.proofs.Common.{◌≡◌, ℕ, zero, suc, ◌≤◌, ◌↔◌, ◌⊎◌, List, [], ◌∷◌, length, map, refl, sym, ap, ◌∙◌, subst, Bool, true, false, arith, inl, inr, Option, Some, None}
+use Rattle.std.specs.Prelude.{filter, not, ◌&&◌, ◌||◌, ◌==◌, nat_le, is_none, option_map, if◌then◌else◌}
 use Rattle.std.specs.List.{list_any, list_all}
-use Rattle.std.proofs.lemmas.Bool.{ne_eqb}
+use Rattle.std.proofs.lemmas.Bool.{cases_Bool, and_from, and_parts, ne_eqb, leb-true, le-leb}
+use Rattle.std.proofs.lemmas.List.Sums.{length-filter}
+use Rattle.szg_values.specs.Men.{is_man, is_color}
+use Rattle.szg_values.specs.Placement.{PlacedMan, number_of}
+use Rattle.szg_values.specs.declared.Man.{Man}
+use Rattle.szg_values.specs.declared.Man.TheVariants.{Pawn}
+use Rattle.szg_values.specs.declared.Color.{Color}
+use Rattle.szg_values.specs.declared.Color.TheVariants.{White, Black}
 use Rattle.szg_game.specs.Game.{Move as Step}
 use Rattle.szg_game.specs.Classes.{level, negate, best_after}
 use Rattle.szg_game.specs.declared.Class.{Class}
@@ -12,17 +19,18 @@ use Rattle.szg_game.proofs.Images.{IsLike, like_class}
 use Rattle.szg_game.proofs.Lists.{IsIn, some_in, any_in, each_in, all_in, in_map, map_in, contains_in, in_contains}
 use Rattle.szg_chess.specs.declared.Move.{Move}
 use Rattle.szg_chess.specs.Position.{Position, IsPosition}
-use Rattle.szg_chess.specs.Moves.{after, is_capture, is_en_passant, legal_moves, legal_captures, has_no_move, has_move_beside_en_passant}
-use Rattle.szg_chess.specs.Images.{Symmetry, move_image, IsImage, IsMoveImage}
+use Rattle.szg_chess.specs.Moves.{captured_square, man_after, men_after, after, is_capture, is_en_passant, legal_moves, legal_captures, has_no_move, has_move_beside_en_passant}
+use Rattle.szg_chess.specs.Images.{Symmetry, Same, FlipFiles, FlipRanks, FlipDiagonal, ExchangeColors, move_image, image, IsImage, IsMoveImage}
+use Rattle.szg_chess.proofs.MoveFacts.{legal_move}
 use Rattle.szg_chess.proofs.AfterMove.{after_is_position}
 use Rattle.szg_chess.proofs.Captured.{captures_law}
 use Rattle.szg_chess.proofs.Images.Geometry.{same_test}
 use Rattle.szg_chess.proofs.Images.Moves.{same_check, move_image_of, move_again}
 use Rattle.szg_chess.proofs.Images.Counts.{same_size}
-use Rattle.szg_chess.proofs.Images.Positions.{image_of_image}
+use Rattle.szg_chess.proofs.Images.Positions.{image_of_image, image_is_image}
 use Rattle.szg_probe.specs.Chess.{chess, step_of, ply_limit, ChessClass}
 use Rattle.szg_probe.specs.Probing.{StoredClasses, stored_class, is_known_loss, all_known, best_capture, has_only_en_passant, class_from, probed_at, probed}
-use Rattle.szg_probe.specs.Images.{AreSymmetric}
+use Rattle.szg_probe.specs.Images.{has_no_pawn, has_lone_pawns, shares_value, AreSymmetric}
 use Rattle.szg_probe.proofs.Choosing.{in_filter, filter_in}
 
 -- ---- lists with the same elements
@@ -155,6 +163,83 @@ module _ (f : Symmetry) (p q : Position) (position : IsPosition p) (is : IsImage
         (in_map of_images (filter of_image (legal_moves q)) k (in_filter of_image (legal_moves q) k listed (same r.0 passed.0 ∙ passed.1))),
   )
 
+-- ---- images that share a value
+
+no_pawn_after : (p : Position) → IsPosition p → has_no_pawn p.placed_men ≡ true → (m : Move) → IsIn (legal_moves p) m → has_no_pawn (after p m).placed_men ≡ true
+no_pawn_after p position none m i = (move_there FlipRanks p (image FlipRanks p) position (image_is_image FlipRanks p position none) m i).leads.fitting
+
+-- a move makes no pawns
+abbrev MakesNoPawn : Move → Type 0
+MakesNoPawn m = (m.promotion ≡ None) ⊎ ((piece : Man) × (m.promotion ≡ Some piece) × (is_man Pawn piece ≡ false))
+
+makes_no_pawn : (p : Position) (m : Move) → IsIn (legal_moves p) m → MakesNoPawn m
+makes_no_pawn p m i = elim (legal_move p m (contains_in (legal_moves p) m i)).0.rank [
+  | inl promoted ↦ inr (promoted.piece, promoted.is, promoted.no_pawn)
+  | inr remains ↦ inl remains.is
+]
+
+abbrev is_pawn_of : Color → PlacedMan → Bool
+is_pawn_of color s = is_man Pawn s.0 && is_color color s.1
+
+was_pawn : (color : Color) (m : Move) (s : PlacedMan) → MakesNoPawn m → is_pawn_of color (man_after m s) ≡ true → is_pawn_of color s ≡ true
+was_pawn color m s makes e = elim (cases_Bool (s.2 == m.from)) [
+  | inl t ↦ elim makes [
+    | inl none ↦ let k : is_pawn_of color s ≡ true = rw (t, none) at e in k
+    | inr r ↦
+        let is = r.1 in let no = r.2 in
+        let k : (is_man Pawn r.0 && is_color color s.1) ≡ true = rw (t, is) at e in
+        absurd (clash (is_man Pawn r.0) (and_parts (is_man Pawn r.0) (is_color color s.1) k).0 no)
+  ]
+  | inr f ↦ let k : is_pawn_of color s ≡ true = rw f at e in k
+] where
+  clash : (b : Bool) → b ≡ true → b ≡ false → ⊥
+  clash true e f = cc
+  clash false e f = cc
+
+fewer_moved : (color : Color) (m : Move) (men : List PlacedMan) → MakesNoPawn m → length (filter (is_pawn_of color) (map (man_after m) men)) ≤ length (filter (is_pawn_of color) men)
+fewer_moved color m [] makes = omega arith
+fewer_moved color m (s ∷ men) makes =
+    let rest = fewer_moved color m men makes in
+    elim (cases_Bool (is_pawn_of color (man_after m s))) [
+      | inl t ↦ let was = was_pawn color m s makes t in rw (t, was) (omega (arith, rest))
+      | inr e ↦ elim (cases_Bool (is_pawn_of color s)) [ inl u ↦ rw (e, u) (omega (arith, rest)) | inr f ↦ rw (e, f) rest ]
+    ]
+
+fewer_left : (t left : PlacedMan → Bool) (men : List PlacedMan) → length (filter t (filter left men)) ≤ length (filter t men)
+fewer_left t left [] = omega arith
+fewer_left t left (s ∷ men) =
+    let rest = fewer_left t left men in
+    elim (cases_Bool (left s)) [
+      | inl a ↦ rw a (elim (cases_Bool (t s)) [ inl b ↦ rw b (omega (arith, rest)) | inr b ↦ rw b rest ])
+      | inr a ↦ rw a (elim (cases_Bool (t s)) [ inl b ↦ rw b (omega (arith, rest)) | inr b ↦ rw b rest ])
+    ]
+
+fewer_pawns : (p : Position) (m : Move) → IsIn (legal_moves p) m → (color : Color) → number_of Pawn color (after p m).placed_men ≤ number_of Pawn color p.placed_men
+unfolding after men_after
+fewer_pawns p m i color =
+    let left : PlacedMan → Bool = λ s. not (s.2 == captured_square p m) in
+    let moved = fewer_moved color m (filter left p.placed_men) (makes_no_pawn p m i) in
+    let stay = fewer_left (is_pawn_of color) left p.placed_men in
+    let now = length-filter (is_pawn_of color) (map (man_after m) (filter left p.placed_men)) in
+    let before = length-filter (is_pawn_of color) p.placed_men in
+    omega (arith, moved, stay, now, before)
+
+lone_after : (p : Position) (m : Move) → IsIn (legal_moves p) m → has_lone_pawns p.placed_men ≡ true → has_lone_pawns (after p m).placed_men ≡ true
+lone_after p m i lone =
+    let next = (after p m).placed_men in
+    let both = and_parts (nat_le (number_of Pawn White p.placed_men) 1) (nat_le (number_of Pawn Black p.placed_men) 1) lone in
+    let white = leb-true (number_of Pawn White p.placed_men) 1 both.0 in let black = leb-true (number_of Pawn Black p.placed_men) 1 both.1 in
+    let whites = fewer_pawns p m i White in let blacks = fewer_pawns p m i Black in
+    and_from (nat_le (number_of Pawn White next) 1) (nat_le (number_of Pawn Black next) 1)
+    (le-leb (number_of Pawn White next) 1 (omega (arith, white, whites))) (le-leb (number_of Pawn Black next) 1 (omega (arith, black, blacks)))
+
+pub shared_after : (f : Symmetry) (p : Position) → IsPosition p → shares_value f p.placed_men ≡ true → (m : Move) → IsIn (legal_moves p) m → shares_value f (after p m).placed_men ≡ true
+shared_after Same p position shares m i = refl
+shared_after FlipFiles p position shares m i = lone_after p m i shares
+shared_after FlipRanks p position shares m i = no_pawn_after p position shares m i
+shared_after FlipDiagonal p position shares m i = cc
+shared_after ExchangeColors p position shares m i = refl
+
 -- ---- probing
 
 same_class_from : (only only' : Bool) (best best' stored stored' : Option Class) → only ≡ only' → best ≡ best' → stored ≡ stored' → class_from only best stored ≡ class_from only' best' stored'
@@ -162,25 +247,25 @@ same_class_from only only' best best' stored stored' a b c =
     ap (λ (x : Bool). class_from x best stored) a ∙ ap (λ (x : Option Class). class_from only' x stored) b ∙ ap (class_from only' best') c
 
 module _ (tables : StoredClasses) (symmetric : AreSymmetric tables) where
-  probed_from : (n : ℕ) (f : Symmetry) (p q : Position) → IsPosition p → IsImage f p q → probed_at n tables q ≡ probed_at n tables p
+  probed_from : (n : ℕ) (f : Symmetry) (p q : Position) → IsPosition p → IsImage f p q → shares_value f p.placed_men ≡ true → probed_at n tables q ≡ probed_at n tables p
   unfolding probed_at
-  probed_from zero f p q position is = refl
-  probed_from (suc n) f p q position is =
+  probed_from zero f p q position is shares = refl
+  probed_from (suc n) f p q position is shares =
       let after_in : Position → Move → Option Class = λ r m. probed_at n tables (after r m) in
       let captures = same_given f p q position is (is_capture p) (is_capture q) (after_in p) (after_in q) (λ m i. (move_there f p q position is m i).capture)
-      (λ m i _. probed_from n f (after p m) (after q (move_image f m)) (after_is_position p m position (contains_in (legal_moves p) m i)) (move_there f p q position is m i).leads) in
+      (λ m i _. probed_from n f (after p m) (after q (move_image f m)) (after_is_position p m position (contains_in (legal_moves p) m i)) (move_there f p q position is m i).leads (shared_after f p position shares m i)) in
       let best : best_capture (map (after_in q) (legal_captures q)) ≡ best_capture (map (after_in p) (legal_captures p)) =
       ap (λ (ms : List Move). best_capture (map (after_in q) ms)) (sym (captures_law q is.position))
       ∙ same_best_capture (map (after_in q) (filter (is_capture q) (legal_moves q))) (map (after_in p) (filter (is_capture p) (legal_moves p))) captures
       ∙ ap (λ (ms : List Move). best_capture (map (after_in p) ms)) (captures_law p position) in
       let stored : stored_class tables q ≡ stored_class tables p =
       ap (λ (size : ℕ). if size == 2 then Some Draw else tables q.placed_men q.mover) (same_size f p q position is)
-      ∙ ap (λ (o : Option Class). if length p.placed_men == 2 then Some Draw else o) (symmetric f p q position is) in
+      ∙ ap (λ (o : Option Class). if length p.placed_men == 2 then Some Draw else o) (symmetric f p q position is shares) in
       same_class_from (has_only_en_passant q) (has_only_en_passant p) (best_capture (map (after_in q) (legal_captures q))) (best_capture (map (after_in p) (legal_captures p))) (stored_class tables q) (stored_class tables p)
       (same_decide f p q position is) best stored
 
-  pub probed_image : (f : Symmetry) (p q : Position) → IsPosition p → IsImage f p q → probed tables q ≡ probed tables p
-  probed_image f p q position is = ap (λ (n : ℕ). probed_at n tables q) (same_size f p q position is) ∙ probed_from (length p.placed_men) f p q position is
+  pub probed_image : (f : Symmetry) (p q : Position) → IsPosition p → IsImage f p q → shares_value f p.placed_men ≡ true → probed tables q ≡ probed tables p
+  probed_image f p q position is shares = ap (λ (n : ℕ). probed_at n tables q) (same_size f p q position is) ∙ probed_from (length p.placed_men) f p q position is shares
 
 -- ---- classes in chess
 

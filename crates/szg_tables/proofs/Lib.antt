@@ -1,1 +1,2 @@
 mod Stored
+mod Images

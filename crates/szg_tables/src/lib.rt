@@ -6,6 +6,7 @@ use szg_values::{Kind, Material};
 use thiserror::Error;
 
 mod in_memory;
+pub mod laws;
 
 pub use in_memory::{TableSet, number_of_class};
 

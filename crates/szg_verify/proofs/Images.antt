@@ -31,7 +31,8 @@ use Rattle.szg_chess.proofs.Images.Geometry.{same_test}
 use Rattle.szg_chess.proofs.Images.Moves.{same_check}
 use Rattle.szg_probe.specs.Chess.{ply_limit}
 use Rattle.szg_probe.specs.Probing.{all_known, probed}
-use Rattle.szg_probe.proofs.Images.{AreSame, IsOfElements, same_known, same_given, any_moves, all_moves, same_no_move, move_there, probed_image}
+use Rattle.szg_probe.specs.Images.{shares_value}
+use Rattle.szg_probe.proofs.Images.{AreSame, IsOfElements, shared_after, same_known, same_given, any_moves, all_moves, same_no_move, move_there, probed_image}
 use Rattle.szg_probe.proofs.Choosing.{filter_true}
 use Rattle.szg_verify.specs.Entries.{StoredTables, class_at, keeps, wins_at_once, is_one_ply, near_as, near_entry, near_after, quiet_moves, steps_to, farthest, greatest, least, entry_before, far_as, near_or_far, plain_entry}
 use Rattle.szg_verify.specs.Verified.{class_alone, entry_after, agrees, is_checked, IsClosed, IsChecked, has_equal_sides, keeps_number, AreSymmetric, IsImageBy, HasCheckedImage}
@@ -153,22 +154,32 @@ module _ (tables : StoredTables) (symmetric : AreSymmetric tables) where
     pub is : IsImage f p q
     pub keeps : keeps_number f p.placed_men ≡ true
 
-  probed_same : (f : Symmetry) (p q : Position) → IsPosition p → IsImage f p q → probed tables.classes q ≡ probed tables.classes p
+  probed_same : (f : Symmetry) (p q : Position) → IsPosition p → IsImage f p q → shares_value f p.placed_men ≡ true → probed tables.classes q ≡ probed tables.classes p
   probed_same = probed_image tables.classes symmetric.classes
 
   module _ (f : Symmetry) (p q : Position) (stored : IsStoredImage f p q) where
+    kept : (shares_value f p.placed_men ≡ true) × ((is_color White (color_image f White) || not (has_equal_sides p.placed_men)) ≡ true)
+    kept = and_parts (shares_value f p.placed_men) (is_color White (color_image f White) || not (has_equal_sides p.placed_men)) stored.keeps
+
+    shared : (m : Move) → IsIn (legal_moves p) m → shares_value f (after p m).placed_men ≡ true
+    shared m i = shared_after f p stored.position kept.0 m i
+
+    probed_image_same : probed tables.classes q ≡ probed tables.classes p
+    probed_image_same = probed_same f p q stored.position stored.is kept.0
+
     after_image : (m : Move) → IsIn (legal_moves p) m → is_zeroing p m ≡ false → IsStoredImage f (after p m) (after q (move_image f m))
     after_image m i quiet = record {
       position = after_is_position p m stored.position (contains_in (legal_moves p) m i);
       is = (move_there f p q stored.position stored.is m i).leads;
-      keeps = ap (λ (b : Bool). is_color White (color_image f White) || not b) (same_sides p.placed_men (after p m).placed_men (quiet_kinds p m stored.position i quiet)) ∙ stored.keeps;
+      keeps = and_from (shares_value f (after p m).placed_men) (is_color White (color_image f White) || not (has_equal_sides (after p m).placed_men)) (shared m i)
+          (ap (λ (b : Bool). is_color White (color_image f White) || not b) (same_sides p.placed_men (after p m).placed_men (quiet_kinds p m stored.position i quiet)) ∙ kept.1);
     }
 
     same_zeroing : (m : Move) → IsIn (legal_moves p) m → is_zeroing q (move_image f m) ≡ is_zeroing p m
     same_zeroing m i = (move_there f p q stored.position stored.is m i).zeroing
 
     probed_after : (m : Move) → IsIn (legal_moves p) m → probed tables.classes (after q (move_image f m)) ≡ probed tables.classes (after p m)
-    probed_after m i = probed_same f (after p m) (after q (move_image f m)) (after_is_position p m stored.position (contains_in (legal_moves p) m i)) (move_there f p q stored.position stored.is m i).leads
+    probed_after m i = probed_same f (after p m) (after q (move_image f m)) (after_is_position p m stored.position (contains_in (legal_moves p) m i)) (move_there f p q stored.position stored.is m i).leads (shared m i)
 
     same_one_ply : (k : Class) → is_one_ply tables.classes k q ≡ is_one_ply tables.classes k p
     same_one_ply k =
@@ -182,7 +193,7 @@ module _ (tables : StoredTables) (symmetric : AreSymmetric tables) where
 
     same_near : near_entry tables q ≡ near_entry tables p
     unfolding near_entry
-    same_near = ap (option_and_then (near_as tables q)) (probed_same f p q stored.position stored.is) ∙ by_class (probed tables.classes p)
+    same_near = ap (option_and_then (near_as tables q)) probed_image_same ∙ by_class (probed tables.classes p)
       where
         by_class : (o : Option Class) → option_and_then (near_as tables q) o ≡ option_and_then (near_as tables p) o
         by_class None = refl
@@ -210,7 +221,7 @@ module _ (tables : StoredTables) (symmetric : AreSymmetric tables) where
 
         by_near : (o : Option Entry) → near_or_far tables q o ≡ near_or_far tables p o
         by_near (Some e) = refl
-        by_near None = ap (option_and_then (far_as tables q)) (probed_same f p q stored.position stored.is) ∙ by_class (probed tables.classes p)
+        by_near None = ap (option_and_then (far_as tables q)) (probed_image_same f p q stored) ∙ by_class (probed tables.classes p)
 
   -- ---- the test
 

@@ -1,5 +1,5 @@
 -- When a set of tables passes.
-use Rattle.std.specs.Prelude.{◌≡◌, ◌==◌, ◌||◌, not, Bool, true, false, List, [], ◌∷◌, IsTrue, IsSome, Option, Some, None, Contains, option_map, if◌then◌else◌}
+use Rattle.std.specs.Prelude.{◌≡◌, ◌==◌, ◌&&◌, ◌||◌, not, Bool, true, false, List, [], ◌∷◌, IsTrue, IsSome, Option, Some, None, Contains, option_map, if◌then◌else◌}
 use Rattle.std.specs.List.{list_all}
 use Rattle.szg_values.specs.Men.{is_color, name_order}
 use Rattle.szg_values.specs.Placement.{PlacedMan, number_of}
@@ -14,7 +14,7 @@ use Rattle.szg_chess.specs.Moves.{after, legal_moves, is_check, is_zeroing}
 use Rattle.szg_chess.specs.Images.{Symmetry, color_image, IsImage}
 use Rattle.szg_probe.specs.Chess.{chess, ply_limit}
 use Rattle.szg_probe.specs.Probing.{probed}
-use Rattle.szg_probe.specs.Images.{AreSymmetric as HaveSymmetricClasses}
+use Rattle.szg_probe.specs.Images.{shares_value, AreSymmetric as HaveSymmetricClasses}
 use Rattle.szg_verify.specs.Entries.{StoredTables, steps_to, plain_entry, entry_of, entry_at}
 
 -- The entry after a move, as far as it counts: after a zeroing move the class alone.
@@ -59,12 +59,12 @@ pub record IsChecked (tables : StoredTables) (covers : List PlacedMan → Bool) 
 abbrev pub has_equal_sides : List PlacedMan → Bool
 has_equal_sides men = list_all (λ man. number_of man White men == number_of man Black men) name_order
 
--- The tables store one number for the men and their images. Where both sides have the same men they may store numbers
--- for one color to move alone: then an exchange of the colors is left out.
+-- The tables store one number for the men and the images that share their value. Where both sides have the same men they
+-- may store numbers for one color to move alone: then an exchange of the colors is left out.
 abbrev pub keeps_number : Symmetry → List PlacedMan → Bool
-keeps_number f men = is_color White (color_image f White) || not (has_equal_sides men)
+keeps_number f men = shares_value f men && (is_color White (color_image f White) || not (has_equal_sides men))
 
--- the tables store the same for a position and for its images, whatever the order of the men
+-- the tables store the same for a position and for the images that share its value, whatever the order of the men
 pub record AreSymmetric (tables : StoredTables) : Type 0 where
   pub classes : HaveSymmetricClasses tables.classes
   pub distances : (f : Symmetry) (p q : Position) (k : Class) → IsPosition p → IsImage f p q → keeps_number f p.placed_men ≡ true →

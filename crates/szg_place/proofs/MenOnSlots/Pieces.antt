@@ -101,7 +101,7 @@ same_piece (x ∷ pieces) p q d (inl a) (inr b) e = absurd (d.0 (subst (λ (n : 
 same_piece (x ∷ pieces) p q d (inr a) (inl b) e = absurd (d.0 (subst (λ (n : ℕ). IsIn n (map (λ p. p.square) pieces)) (e ∙ ap (λ (y : CodedMan). y.square) b) (IsIn-map_back (λ (y : CodedMan). y.square) pieces p a)))
 same_piece (x ∷ pieces) p q d (inr a) (inr b) e = same_piece pieces p q d.1 a b e
 
-one_item : (xs : List ℕ) (x : ℕ) → length xs ≡ 1 → IsIn x xs → xs ≡ x ∷ []
+pub one_item : (xs : List ℕ) (x : ℕ) → length xs ≡ 1 → IsIn x xs → xs ≡ x ∷ []
 one_item [] x e h = absurd h
 one_item (y ∷ []) x e (inl f) = ap (λ z. z ∷ []) (sym f)
 one_item (y ∷ []) x e (inr h) = absurd h

@@ -309,7 +309,7 @@ pub squares_raw : (ex : Bool) (placed_men : List PlacedMan) → map (λ (p : Cod
 squares_raw ex [] = refl
 squares_raw ex (s ∷ placed_men) = ap (λ l. s.2 ∷ l) (squares_raw ex placed_men)
 
-apart_differ : (placed_men : List PlacedMan) → has_distinct_squares placed_men ≡ true → AllDiffer (map (λ (s : PlacedMan). s.2) placed_men)
+pub apart_differ : (placed_men : List PlacedMan) → has_distinct_squares placed_men ≡ true → AllDiffer (map (λ (s : PlacedMan). s.2) placed_men)
 apart_differ [] e = tt
 apart_differ (s ∷ placed_men) e =
     let r = and_parts (not (list_any (λ (t : PlacedMan). s.2 == t.2) placed_men)) (has_distinct_squares placed_men) e in

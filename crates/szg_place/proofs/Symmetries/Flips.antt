@@ -21,7 +21,7 @@ back_apart move back s t h k e = sym (back s h) ∙ ap move e ∙ back t k
 pub flip_file-back : (s : ℕ) → s < 64 → flip_file (flip_file s) ≡ s
 flip_file-back s h = eqb-true _ _ (tested (λ x. flip_file (flip_file x) == x) 64 s refl h)
 
-flip_rank-back : (s : ℕ) → s < 64 → flip_rank (flip_rank s) ≡ s
+pub flip_rank-back : (s : ℕ) → s < 64 → flip_rank (flip_rank s) ≡ s
 flip_rank-back s h = eqb-true _ _ (tested (λ x. flip_rank (flip_rank x) == x) 64 s refl h)
 
 reflect-back : (s : ℕ) → s < 64 → reflect (reflect s) ≡ s

@@ -1,0 +1,29 @@
+use Rattle.std.proofs.Common.{List, ◌++◌, ◌∷◌, [], get_or, take, sym, ap, ◌∙◌, subst, All}
+use Rattle.std.proofs.lemmas.List.{take_more, take_all}
+use Rattle.std.proofs.lemmas.List.Elements.{All-push, All-contains}
+use Rattle.szg_file.specs.Held.{Shown}
+use Rattle.szg_place.specs.Layout.{IsLayout}
+use Rattle.szg_place.specs.Tables.{numbering_of}
+use Rattle.szg_tables.proofs.Images.{from_in, symmetric_classes, symmetric_numbers}
+use Rattle.szg_tables.proofs.laws.stored_at_images.Goals as goal
+
+abbrev IsNumbered : Shown → Type 0
+IsNumbered t = IsLayout (numbering_of t.contents)
+
+pub loop-table-preserved : goal.loop-table-preserved
+loop-table-preserved c =
+    let tables = c.args.tables.now in let i = c.loop-table.table-index in let t = c.table-item.result in
+    subst (λ (l : List Shown). All IsNumbered l) (sym (take_more tables i t c.loop-table-test.true))
+    (All-push IsNumbered (take i tables) (get_or tables i t) c.loop-table.invariant (subst IsNumbered c.table-item.is c.table_numbering.ensures))
+
+pub returns-clause-classes : goal.returns-clause-classes
+returns-clause-classes c =
+    let tables = c.args.tables.now in
+    let all = subst (λ (l : List Shown). All IsNumbered l) (take_all c.loop-table.table-index tables c.loop-table-test.false) c.loop-table.invariant in
+    symmetric_classes tables (λ t i. All-contains IsNumbered tables t all (from_in tables t i))
+
+pub returns-clause-numbers : goal.returns-clause-numbers
+returns-clause-numbers c =
+    let tables = c.args.tables.now in
+    let all = subst (λ (l : List Shown). All IsNumbered l) (take_all c.loop-table.table-index tables c.loop-table-test.false) c.loop-table.invariant in
+    symmetric_numbers tables (λ t i. All-contains IsNumbered tables t all (from_in tables t i))
