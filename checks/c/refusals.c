@@ -121,23 +121,8 @@ static long refuse_in_turn(const char *what, uint32_t (*call)(void)) {
 
 /* Look-ups and texts take no memory. */
 static void take_none(void) {
-    char text[SZG_TEXT_SIZE];
-    szg_man men[SZG_MAX_MEN];
-    size_t count = 0;
-    uint8_t mover = 0;
     long before = allowed = 1 << 20;
-    szg_version(text, sizeof text), szg_status_text(SZG_MEMORY, text, sizeof text), szg_reason_text(SZG_WORD, text, sizeof text);
-    want("placement", szg_placement(&table, 0, 0, 7, men, SZG_MAX_MEN, &count, &mover), SZG_DONE);
-    want("placement of a front", szg_front_placement(&front, 0, 0, 7, men, SZG_MAX_MEN, &count, &mover), SZG_DONE);
-    want("index", szg_index(&table, men, count, mover, &lent.spot), SZG_DONE);
-    want("index of a front", szg_front_index(&front, men, count, mover, &lent.spot), SZG_DONE);
-    want("get", szg_get(&table, 0, 0, 7, &lent.value), SZG_DONE);
-    want("get of a front", szg_front_get(&front, bytes, length, 0, 0, 7, &lent.value, &lent.bad), SZG_DONE);
-    want("find", szg_front_find(&front, 0, 0, 7, &lent.range), SZG_DONE);
-    want("value of a block", szg_front_value(&front, 0, 0, 7, bytes + lent.range.offset, lent.range.count, &lent.value, &lent.bad), SZG_DONE);
-    want("size", szg_positions(&table, 0, 0, &lent.size), SZG_DONE);
-    want("size of a front", szg_front_size(&front, 0, 0, &lent.size), SZG_DONE);
-    szg_probe(&table, men, count, mover, 2, &lent.outcome), szg_front_probe(&front, bytes, length, men, count, mover, 2, &lent.outcome, &lent.bad);
+    look_up_by_each_call(&table, &front, 7);
     want("growths of look-ups", before - allowed, 0);
     allowed = -1;
 }

@@ -132,29 +132,7 @@ static void look_up(void) {
     szg_table second = SZG_NO_TABLE;
     szg_front other = SZG_NO_FRONT;
     szg_share(&table, &second), szg_share_front(&front, &other);
-    for (uint64_t i = 0; i < size_of_all; i += STEP) {
-        uint16_t value;
-        uint32_t number;
-        int64_t outcome;
-        uint8_t mover;
-        size_t count;
-        szg_byte_range range;
-        szg_bad_block bad;
-        szg_spot spot;
-        szg_man men[SZG_MAX_MEN];
-        want("get", szg_get(&second, 0, 0, i, &value), SZG_DONE);
-        want("front get", szg_front_get(&other, bytes, length, 0, 0, i, &value, &bad), SZG_DONE);
-        want("front find", szg_front_find(&other, 0, 0, i, &range), SZG_DONE);
-        want("front value", szg_front_value(&other, 0, 0, i, bytes + range.offset, range.count, &value, &bad), SZG_DONE);
-        want("placement", szg_placement(&second, 0, 0, i, men, SZG_MAX_MEN, &count, &mover), SZG_DONE);
-        want("front placement", szg_front_placement(&other, 0, 0, i, men, SZG_MAX_MEN, &count, &mover), SZG_DONE);
-        want("index", szg_index(&second, men, count, mover, &spot), SZG_DONE);
-        want("front index", szg_front_index(&other, men, count, mover, &spot), SZG_DONE);
-        szg_probe(&second, men, count, mover, 2, &outcome), szg_front_probe(&other, bytes, length, men, count, mover, 2, &outcome, &bad);
-        szg_number(&second, 0, 2, value, &number), szg_front_number(&other, 0, 2, value, &number);
-    }
-    char text[SZG_TEXT_SIZE];
-    szg_version(text, sizeof text), szg_status_text(SZG_DONE, text, sizeof text), szg_reason_text(SZG_WORD, text, sizeof text);
+    for (uint64_t i = 0; i < size_of_all; i += STEP) look_up_by_each_call(&second, &other, i);
     szg_close(&second), szg_close_front(&other);
 }
 

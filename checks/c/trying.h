@@ -52,6 +52,34 @@ static inline void make_bishops(bool in_two_groups) {
     take("bishops", "KBBvK", false, 80);
 }
 
+/* Makes each look-up at an index of part a, side 0, by both handles, and writes each text. */
+static inline void look_up_by_each_call(szg_table *table, szg_front *front, uint64_t i) {
+    char text[SZG_TEXT_SIZE];
+    szg_man men[SZG_MAX_MEN];
+    size_t count = 0;
+    uint8_t mover = 0;
+    uint16_t value = 0;
+    uint32_t number;
+    uint64_t size;
+    int64_t outcome;
+    szg_spot spot;
+    szg_byte_range range = {0, 0};
+    szg_bad_block bad;
+    want("get", szg_get(table, 0, 0, i, &value), SZG_DONE);
+    want("front get", szg_front_get(front, bytes, length, 0, 0, i, &value, &bad), SZG_DONE);
+    want("front find", szg_front_find(front, 0, 0, i, &range), SZG_DONE);
+    want("front value", szg_front_value(front, 0, 0, i, bytes + range.offset, range.count, &value, &bad), SZG_DONE);
+    want("placement", szg_placement(table, 0, 0, i, men, SZG_MAX_MEN, &count, &mover), SZG_DONE);
+    want("front placement", szg_front_placement(front, 0, 0, i, men, SZG_MAX_MEN, &count, &mover), SZG_DONE);
+    want("index", szg_index(table, men, count, mover, &spot), SZG_DONE);
+    want("front index", szg_front_index(front, men, count, mover, &spot), SZG_DONE);
+    want("size", szg_positions(table, 0, 0, &size), SZG_DONE);
+    want("front size", szg_front_size(front, 0, 0, &size), SZG_DONE);
+    szg_probe(table, men, count, mover, 2, &outcome), szg_front_probe(front, bytes, length, men, count, mover, 2, &outcome, &bad);
+    szg_number(table, 0, 2, value, &number), szg_front_number(front, 0, 2, value, &number);
+    szg_version(text, sizeof text), szg_status_text(SZG_MEMORY, text, sizeof text), szg_reason_text(SZG_WORD, text, sizeof text);
+}
+
 static inline const char *folder_of(int count, char **words) { return count > 1 ? words[1] : "data"; }
 
 static inline int ended(void) {
