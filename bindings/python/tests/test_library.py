@@ -143,16 +143,14 @@ def test_no_call_loses_want_of_memory(call: str, queen_file: Path, monkeypatch: 
 
     use()
     monkeypatch.setattr(_library.library, call, lambda *_: 3)
-    with pytest.raises(MemoryError):
-        use()
+    pytest.raises(MemoryError, use)
 
 
 @pytest.mark.parametrize("call", [lambda path: szg.Table.open(path, verify=True), lambda _: szg.Table("KQvK", "wdl", UNPAIRED.data, verify=True)])
 def test_verifying_at_opening_loses_no_want_of_memory(call, queen_file: Path, monkeypatch: pytest.MonkeyPatch) -> None:
     call(queen_file).close()
     monkeypatch.setattr(_library.library, "szg_check", lambda *_: 3)
-    with pytest.raises(MemoryError):
-        call(queen_file)
+    pytest.raises(MemoryError, call, queen_file)
 
 
 def test_closing_lets_the_librarys_handles_go(queen_file: Path, monkeypatch: pytest.MonkeyPatch) -> None:

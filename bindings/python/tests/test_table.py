@@ -45,12 +45,10 @@ def test_values_are_the_second_readers(each_sample: Sample, tmp_path, way: str) 
             for index in [*range(0, sub.size, SPOT_VALUES), sub.size - 1]:
                 assert table.get(index, sub.part, sub.side) == sub.value(index)
             for index in (sub.size, -1, 1 << 64, 1 << 70):
-                with pytest.raises(IndexError):
-                    table.get(index, sub.part, sub.side)
+                pytest.raises(IndexError, table.get, index, sub.part, sub.side)
         for part, side in ((4, 0), (0, 2), (256, 0), (0, 256), (-1, 0), (0, -1)):
             for call in (table.size, table.values, lambda part, side: table.get(0, part, side)):
-                with pytest.raises(IndexError):
-                    call(part, side)
+                pytest.raises(IndexError, call, part, side)
         assert table.verify() == len(each_sample.data)
     assert repr(table) == f"<szg.Table {each_sample.name} {each_sample.kind}{path}, closed>"
 
@@ -89,13 +87,11 @@ def test_any_bytes_like_object_is_taken(tmp_path) -> None:
 def test_lent_memory_is_given_back() -> None:
     data = bytearray(PAIRED.data)
     table = szg.Table("KQvK", "wdl", data)
-    with pytest.raises(BufferError):
-        data.append(0)
+    pytest.raises(BufferError, data.append, 0)
     table.close()
     gc.collect()
     data.append(0)
-    with pytest.raises(szg.Refused):
-        szg.Table("KQvK", "dtz", data)
+    pytest.raises(szg.Refused, szg.Table, "KQvK", "dtz", data)
     gc.collect()
     data.append(0)
 
@@ -255,11 +251,9 @@ def test_names_and_kinds(tmp_path) -> None:
         szg.Table(b"KQvK", "wdl", UNPAIRED.data)
     with pytest.raises(ValueError, match="must end with .rtbw or .rtbz$"):
         szg.Table.open(tmp_path / "KQvK.bin")
-    with pytest.raises(FileNotFoundError):
-        szg.Table.open(tmp_path / "KQvK.rtbw")
+    pytest.raises(FileNotFoundError, szg.Table.open, tmp_path / "KQvK.rtbw")
     for wrong in (7, None, [tmp_path]):
-        with pytest.raises(TypeError):
-            szg.Table.open(wrong)
+        pytest.raises(TypeError, szg.Table.open, wrong)
     with pytest.raises(IsADirectoryError) as caught:
         (tmp_path / "KRvK.rtbw").mkdir()
         szg.Table.open(tmp_path / "KRvK.rtbw")
@@ -375,10 +369,8 @@ def test_probe_dtz(tmp_path, way: str) -> None:
                 with pytest.raises(ValueError, match="^wdl must be from -2 to 2, not "):
                     call()
         for value in (-1, 1 << 16):
-            with pytest.raises(IndexError):
-                table.number(value, wdl=2)
-        with pytest.raises(IndexError):
-            table.number(0, wdl=2, part=4)
+            pytest.raises(IndexError, table.number, value, wdl=2)
+        pytest.raises(IndexError, table.number, 0, wdl=2, part=4)
         assert untold(table.number, 1, wdl=2) == "OutsideMap"
         with pytest.raises(ValueError, match="^KPvK is a DTZ table, and this call needs a WDL table$"):
             table.probe_wdl(PAWN_MEN, WHITE)
@@ -386,12 +378,9 @@ def test_probe_dtz(tmp_path, way: str) -> None:
 
 def test_the_class_of_a_dtz_probe_is_a_keyword_and_an_integer() -> None:
     with szg.Table("KPvK", "dtz", PAWN.data) as table:
-        with pytest.raises(TypeError):
-            table.probe_dtz(PAWN_MEN, WHITE)
-        with pytest.raises(TypeError):
-            table.probe_dtz(PAWN_MEN, WHITE, 2)
-        with pytest.raises(TypeError):
-            table.number(0, 2)
+        pytest.raises(TypeError, table.probe_dtz, PAWN_MEN, WHITE)
+        pytest.raises(TypeError, table.probe_dtz, PAWN_MEN, WHITE, 2)
+        pytest.raises(TypeError, table.number, 0, 2)
         for wdl in (True, 2.0, "2", None):
             with pytest.raises(TypeError, match=f"^wdl must be an integer, not {type(wdl).__name__}$"):
                 table.probe_dtz(PAWN_MEN, WHITE, wdl=wdl)
@@ -452,11 +441,9 @@ def test_an_index_has_a_placement_that_has_the_index(each_sample: Sample) -> Non
                 assert letters == {WHITE: first, BLACK: second}
                 assert turn is (sub.side == 0)
             for index in (sub.size, -1, 1 << 64, 1 << 70):
-                with pytest.raises(IndexError):
-                    table.placement(sub.part, sub.side, index)
+                pytest.raises(IndexError, table.placement, sub.part, sub.side, index)
         for part, side in ((4, 0), (0, 2), (256, 0), (0, 256), (-1, 0), (0, -1)):
-            with pytest.raises(IndexError):
-                table.placement(part, side, 0)
+            pytest.raises(IndexError, table.placement, part, side, 0)
         with pytest.raises(TypeError, match="^index must be an integer, not str$"):
             table.placement(0, 0, "0")  # type: ignore[arg-type]
     assert is_closed(table.placement, 0, 0, 0)

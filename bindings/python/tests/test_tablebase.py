@@ -38,8 +38,7 @@ def test_missing_tables(folder: Path) -> None:
         assert str(pytest.raises(szg.MissingTableError, tables.probe_wdl_table, ROOK_FEN).value) == "no WDL table of KRvK was added"
         assert str(pytest.raises(szg.MissingTableError, tables.probe_dtz_table, ROOK_FEN, 2).value) == "no DTZ table of KRvK was added"
         for fen in (ROOK_FEN, QUEEN_FEN, "4k3/8/8/8/8/8/8/4K3 w"):
-            with pytest.raises(szg.MissingTableError):
-                tables.probe_dtz_table(fen, 2)
+            pytest.raises(szg.MissingTableError, tables.probe_dtz_table, fen, 2)
             assert tables.get_dtz(fen, 2) is None and tables.get_dtz(fen, 2, "none") == "none"
         assert tables.get_dtz(PAWN_FEN.replace("w", "b"), 2, 7) == 7
         for fen, reason in (("8/8/8/8/8/8/8/Q6k w", "Men"), ("K7/8/8/8/8/8/8/K6k w", "Men")):
