@@ -25,15 +25,60 @@ fn faults_of_texts(rt: HostRuntime) {
     for (text, fault, number, name) in [
         ("x/KK5P x KQ e4 0", PositionFault::Letter, 1, "Letter"),
         ("8/KK5P x KQ e4 0", PositionFault::Rank, 2, "Rank"),
-        ("7P/8/8/8/8/8/8/KKKKKK2 x KQ e4 0", PositionFault::Men, 3, "Men"),
-        ("7P/8/8/8/8/8/8/KK6 x KQ e4 0", PositionFault::Kings, 4, "Kings"),
-        ("7P/8/8/8/8/8/8/Kk6 x KQ e4 0", PositionFault::PawnRank, 6, "PawnRank"),
-        ("8/8/8/8/8/8/8/Kk6 x KQ e4 0", PositionFault::SideToMove, 7, "SideToMove"),
-        ("8/8/8/8/8/8/8/Kk6 w KQ e4 0", PositionFault::Castling, 8, "Castling"),
-        ("8/8/8/8/8/8/8/Kk6 w - e4 0", PositionFault::EnPassant, 9, "EnPassant"),
-        ("8/8/8/8/8/8/8/Kk6 w - e6 0", PositionFault::EnPassant, 9, "EnPassant"),
-        ("8/8/8/8/8/8/8/Kk6 w - - 0", PositionFault::OpponentInCheck, 10, "OpponentInCheck"),
-        ("8/8/8/8/8/8/8/K1k5 w - - 0", PositionFault::Counters, 11, "Counters"),
+        (
+            "7P/8/8/8/8/8/8/KKKKKK2 x KQ e4 0",
+            PositionFault::Men,
+            3,
+            "Men",
+        ),
+        (
+            "7P/8/8/8/8/8/8/KK6 x KQ e4 0",
+            PositionFault::Kings,
+            4,
+            "Kings",
+        ),
+        (
+            "7P/8/8/8/8/8/8/Kk6 x KQ e4 0",
+            PositionFault::PawnRank,
+            6,
+            "PawnRank",
+        ),
+        (
+            "8/8/8/8/8/8/8/Kk6 x KQ e4 0",
+            PositionFault::SideToMove,
+            7,
+            "SideToMove",
+        ),
+        (
+            "8/8/8/8/8/8/8/Kk6 w KQ e4 0",
+            PositionFault::Castling,
+            8,
+            "Castling",
+        ),
+        (
+            "8/8/8/8/8/8/8/Kk6 w - e4 0",
+            PositionFault::EnPassant,
+            9,
+            "EnPassant",
+        ),
+        (
+            "8/8/8/8/8/8/8/Kk6 w - e6 0",
+            PositionFault::EnPassant,
+            9,
+            "EnPassant",
+        ),
+        (
+            "8/8/8/8/8/8/8/Kk6 w - - 0",
+            PositionFault::OpponentInCheck,
+            10,
+            "OpponentInCheck",
+        ),
+        (
+            "8/8/8/8/8/8/8/K1k5 w - - 0",
+            PositionFault::Counters,
+            11,
+            "Counters",
+        ),
     ] {
         check_fault(&rt, text, fault, number, name);
     }

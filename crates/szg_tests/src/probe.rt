@@ -61,7 +61,9 @@ fn two_kings_need_no_table(rt: HostRuntime) {
     assert!(rt; probe_wdl(&mut tables, &captured) == Err(NotListed));
     let entries = [(captured, Class::Loss)];
     assert!(rt;
-        probe_wdl(&mut ListedClasses::new(&entries), &position(&rt, "8/8/8/8/8/8/6Q1/K6k b - -"))
-            == Ok(Class::Draw)
+        probe_wdl(
+            &mut ListedClasses::new(&entries),
+            &position(&rt, "8/8/8/8/8/8/6Q1/K6k b - -")
+        ) == Ok(Class::Draw)
     );
 }
