@@ -197,6 +197,13 @@ static __attribute__((noinline)) uint64_t c_legal(const struct position *p, uint
     return sum;
 }
 
+static __attribute__((noinline)) uint64_t weight(const struct position *p)
+{
+    uint64_t sum = (uint64_t)p->passed;
+    for (int i = 0; i < p->count; i++) sum += p->men[i].square;
+    return sum;
+}
+
 static __attribute__((noinline)) uint64_t c_after(const struct position *p, uint32_t rounds)
 {
     uint64_t sum = 0;
@@ -206,8 +213,7 @@ static __attribute__((noinline)) uint64_t c_after(const struct position *p, uint
         for (int i = 0; i < count; i++) {
             __asm__ volatile("" : : "r"(p) : "memory");
             struct position q = after(p, moves[i]);
-            __asm__ volatile("" : : "r"(&q) : "memory");
-            sum += (uint64_t)q.count;
+            sum += weight(&q);
         }
     return sum;
 }

@@ -115,7 +115,7 @@ pub extern "C" fn szg_bench_legal(fen: &[u8], rounds: u32) -> u64 {
     sum
 }
 
-/// Makes each legal move of a position `rounds` times, and adds up the numbers of men that remain.
+/// Makes each legal move of a position `rounds` times, and adds up what the positions after them have.
 #[unsafe(no_mangle)]
 pub extern "C" fn szg_bench_after(fen: &[u8], rounds: u32) -> u64 {
     let Some(position) = position_of(fen) else {
@@ -125,8 +125,21 @@ pub extern "C" fn szg_bench_after(fen: &[u8], rounds: u32) -> u64 {
     let mut sum = 0u64;
     for _ in 0..rounds {
         for m in moves.as_slice() {
-            sum = sum.wrapping_add(position.after(*m).men().len() as u64);
+            sum = sum.wrapping_add(weight(&position.after(*m)));
         }
+    }
+    sum
+}
+
+/// Adds up the squares of a position's men and its en passant square, 64 if there is none.
+#[inline(never)]
+fn weight(position: &Position) -> u64 {
+    let mut sum = match position.en_passant() {
+        Some(square) => u64::from(square.number()),
+        None => 64,
+    };
+    for man in position.men() {
+        sum = sum.wrapping_add(u64::from(man.2.number()));
     }
     sum
 }

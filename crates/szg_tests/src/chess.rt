@@ -6,81 +6,32 @@ use std::process::Abort;
 use szg_chess::{Position, PositionFault};
 use szg_values::{Color, Man, Square};
 
-/// The text is refused for this fault, which has this number and name.
-fn check_fault(
-    rt: &(impl Abort + Alloc<A = Global>),
-    text: &str,
-    fault: PositionFault,
-    number: u8,
-    name: &str,
-) {
-    assert!(rt; Position::parse_fen(text).err() == Some(fault), "{text}");
+/// The text is refused for the fault with this number and name.
+fn check_fault(rt: &(impl Abort + Alloc<A = Global>), number: u8, name: &str, text: &str) {
+    let Err(fault) = Position::parse_fen(text) else {
+        panic!(rt; "{text}");
+    };
     let printed = made(rt, format!(in rt.alloc(); "{fault}"));
     assert!(rt; fault as u8 == number && printed.as_str() == name, "{text}");
 }
 
-// Each text has all faults that come after its first one, as far as these go together.
+// Each text has the faults that come after its first one, as far as they go together.
 #[test]
 fn faults_of_texts(rt: HostRuntime) {
-    for (text, fault, number, name) in [
-        ("x/KK5P x KQ e4 0", PositionFault::Letter, 1, "Letter"),
-        ("8/KK5P x KQ e4 0", PositionFault::Rank, 2, "Rank"),
-        (
-            "7P/8/8/8/8/8/8/KKKKKK2 x KQ e4 0",
-            PositionFault::Men,
-            3,
-            "Men",
-        ),
-        (
-            "7P/8/8/8/8/8/8/KK6 x KQ e4 0",
-            PositionFault::Kings,
-            4,
-            "Kings",
-        ),
-        (
-            "7P/8/8/8/8/8/8/Kk6 x KQ e4 0",
-            PositionFault::PawnRank,
-            6,
-            "PawnRank",
-        ),
-        (
-            "8/8/8/8/8/8/8/Kk6 x KQ e4 0",
-            PositionFault::SideToMove,
-            7,
-            "SideToMove",
-        ),
-        (
-            "8/8/8/8/8/8/8/Kk6 w KQ e4 0",
-            PositionFault::Castling,
-            8,
-            "Castling",
-        ),
-        (
-            "8/8/8/8/8/8/8/Kk6 w - e4 0",
-            PositionFault::EnPassant,
-            9,
-            "EnPassant",
-        ),
-        (
-            "8/8/8/8/8/8/8/Kk6 w - e6 0",
-            PositionFault::EnPassant,
-            9,
-            "EnPassant",
-        ),
-        (
-            "8/8/8/8/8/8/8/Kk6 w - - 0",
-            PositionFault::OpponentInCheck,
-            10,
-            "OpponentInCheck",
-        ),
-        (
-            "8/8/8/8/8/8/8/K1k5 w - - 0",
-            PositionFault::Counters,
-            11,
-            "Counters",
-        ),
+    for (number, name, text) in [
+        (1, "Letter", "x/KK5P x KQ e4 0"),
+        (2, "Rank", "8/KK5P x KQ e4 0"),
+        (3, "Men", "7P/8/8/8/8/8/8/KKKKKK2 x KQ e4 0"),
+        (4, "Kings", "7P/8/8/8/8/8/8/KK6 x KQ e4 0"),
+        (6, "PawnRank", "7P/8/8/8/8/8/8/Kk6 x KQ e4 0"),
+        (7, "SideToMove", "8/8/8/8/8/8/8/Kk6 x KQ e4 0"),
+        (8, "Castling", "8/8/8/8/8/8/8/Kk6 w KQ e4 0"),
+        (9, "EnPassant", "8/8/8/8/8/8/8/Kk6 w - e4 0"),
+        (9, "EnPassant", "8/8/8/8/8/8/8/Kk6 w - e6 0"),
+        (10, "OpponentInCheck", "8/8/8/8/8/8/8/Kk6 w - - 0"),
+        (11, "Counters", "8/8/8/8/8/8/8/K1k5 w - - 0"),
     ] {
-        check_fault(&rt, text, fault, number, name);
+        check_fault(&rt, number, name, text);
     }
 }
 
