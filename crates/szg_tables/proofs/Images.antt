@@ -1,11 +1,11 @@
 -- Tables in memory store the same for a position and for its images.
-use Rattle.std.proofs.Common.{◌≡◌, ℕ, zero, suc, ◌+◌, ◌<◌, ◌≤◌, ◌↔◌, inl, inr, List, [], ◌∷◌, length, map, refl, sym, ap, ◌∙◌, subst, Bool, true, false, cond, arith, Contains, Option, Some, None}
+use Rattle.std.proofs.Common.{◌≡◌, ℕ, zero, suc, ◌+◌, ◌≤◌, inl, inr, List, [], ◌∷◌, length, map, refl, sym, ap, ◌∙◌, subst, Bool, true, false, cond, arith, Contains, Option, Some, None}
 use Rattle.std.specs.Prelude.{◌==◌, nat_lt, nat_le, find, is_none, count_by, option_and_then, IsNone}
 use Rattle.std.specs.List.{list_any}
 use Rattle.std.proofs.Math.Bool.{not, ◌&&◌, ◌||◌}
-use Rattle.std.proofs.lemmas.Bool.{cases_Bool, and_parts, leb-true, le-leb, eqb-true, eq-eqb, not-true}
+use Rattle.std.proofs.lemmas.Bool.{cases_Bool, and_parts, leb-true, le-leb, eqb-true, not-true}
 use Rattle.szg_values.specs.Men.{is_man, is_color, name_order}
-use Rattle.szg_values.specs.Material.{Sides, IsMaterial, is_same_men, is_count, has_pawns, pawn_count}
+use Rattle.szg_values.specs.Material.{Sides, is_same_men, has_pawns, pawn_count}
 use Rattle.szg_values.specs.Placement.{PlacedMan, Board, IsPlacement, number_of, placement_fault, material_of}
 use Rattle.szg_values.specs.declared.Man.{Man}
 use Rattle.szg_values.specs.declared.Man.TheVariants.{Pawn, Knight, Bishop, Rook, Queen, King}
@@ -21,7 +21,6 @@ use Rattle.szg_file.specs.Held.{Shown}
 use Rattle.szg_game.specs.declared.Class.{Class}
 use Rattle.szg_place.specs.Layout.{IsLayout}
 use Rattle.szg_place.specs.Normal.{exchanged_color}
-use Rattle.szg_place.specs.Laws.{IsOnBoard}
 use Rattle.szg_place.specs.Images.{IsBoardImage, keeps_spot}
 use Rattle.szg_place.specs.Images as placed_images
 use Rattle.szg_place.specs.Spots.{place_fault, spot_of}
@@ -36,10 +35,10 @@ use Rattle.szg_place.proofs.Symmetries.ImageCounts.{material_same}
 use Rattle.szg_place.proofs.Symmetries.ImageBoards.{all_in, law_image_spot}
 use Rattle.szg_chess.specs.Position.{Position, IsPosition}
 use Rattle.szg_chess.specs.Images.{Symmetry, Same, FlipFiles, FlipRanks, FlipDiagonal, ExchangeColors, man_image, IsImage}
-use Rattle.szg_chess.proofs.Facts.{faultless, has_men_parts, placed}
+use Rattle.szg_chess.proofs.Facts.{faultless, placed}
 use Rattle.szg_chess.proofs.Images.Counts.{same_size}
 use Rattle.szg_probe.specs.Images.{has_no_pawn, has_lone_pawns, shares_value, AreSymmetric}
-use Rattle.szg_tables.specs.Stored.{board_of, is_kind, is_for, table_for, value_in, class_of_value, class_in, stored_classes, is_few, number_of_class, mapped_in, number_by, number_in, stored_numbers}
+use Rattle.szg_tables.specs.Stored.{board_of, is_kind, is_for, table_for, value_in, class_of_value, class_in, stored_classes, is_few, number_of_class, number_by, number_in, stored_numbers}
 use Rattle.szg_tables.specs.Images.{HaveSymmetricNumbers}
 
 -- ---- lists

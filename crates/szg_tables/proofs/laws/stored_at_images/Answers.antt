@@ -1,4 +1,4 @@
-use Rattle.std.proofs.Common.{List, ◌++◌, ◌∷◌, [], get_or, take, sym, ap, ◌∙◌, subst, All}
+use Rattle.std.proofs.Common.{List, get_or, take, sym, subst, All}
 use Rattle.std.proofs.lemmas.List.{take_more, take_all}
 use Rattle.std.proofs.lemmas.List.Elements.{All-push, All-contains}
 use Rattle.szg_file.specs.Held.{Shown}
