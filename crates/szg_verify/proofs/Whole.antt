@@ -1,21 +1,21 @@
 -- The walk over the positions of a material leaves out none but images.
-use Rattle.std.proofs.Common.{◌≡◌, ℕ, ◌+◌, ◌-◌, ◌*◌, ◌/◌, ◌%◌, ◌^◌, ◌<◌, ◌≤◌, ◌⊎◌, List, [], ◌∷◌, ◌++◌, length, length-append, map, refl, sym, ap, ◌∙◌, subst, Bool, true, false, arith, inl, inr, zero, suc, Contains, Option, Some, None}
-use Rattle.std.specs.Prelude.{filter, not, ◌&&◌, ◌||◌, ◌==◌, nat_le, nat_lt, option_map, if◌then◌else◌}
+use Rattle.std.proofs.Common.{◌≡◌, ℕ, ◌+◌, ◌-◌, ◌*◌, ◌/◌, ◌%◌, ◌^◌, ◌<◌, ◌≤◌, ◌⊎◌, List, [], ◌∷◌, ◌++◌, length, length-append, map, refl, sym, ap, ◌∙◌, subst, Bool, true, false, arith, inl, inr, zero, suc, get_or, take, Contains, Option, Some, None}
+use Rattle.std.specs.Prelude.{filter, not, ◌&&◌, ◌||◌, ◌==◌, nat_le, nat_lt, option_map, is_some, IfSome}
 use Rattle.std.specs.List.{list_any, list_all, All}
 use Rattle.std.proofs.lemmas.Bool.{cases_Bool, and_parts, and_from, and_right, or_cases, or_left, or_right, eq-eqb, eqb-true, leb-true, leb-false, le-leb, ltb-true, ltb-false, not_from_false}
 use Rattle.std.proofs.lemmas.List.Elements.{All-head, All-tail, filter-append}
 use Rattle.std.proofs.lemmas.List.Sums.{length-filter}
-use native.Mathlib.Nat.{pow-suc}
-use Rattle.std.proofs.lemmas.List.{length-map}
-use Rattle.szg_values.specs.Men.{is_man, is_color, other_color, name_order, file_of, rank_of, square_at}
-use Rattle.szg_values.specs.Material.{Sides, IsMaterial}
+use native.Mathlib.Nat.{pow-suc, pow-le-pow_right, zero-lt-suc}
+use Rattle.std.proofs.lemmas.List.{length-map, map-append, take_more}
+use Rattle.szg_values.specs.Men.{code_of, is_man, is_color, other_color, name_order, file_of, rank_of, square_at}
+use Rattle.szg_values.specs.Material.{Sides, man_codes}
 use Rattle.szg_values.specs.Placement.{PlacedMan, AreOnBoard, number_of}
 use Rattle.szg_values.specs.declared.Man.{Man}
-use Rattle.szg_values.specs.declared.Man.TheVariants.{Pawn, King}
+use Rattle.szg_values.specs.declared.Man.TheVariants.{Pawn, Knight, Bishop, Rook, Queen, King}
 use Rattle.szg_values.specs.declared.Color.{Color}
 use Rattle.szg_values.specs.declared.Color.TheVariants.{White, Black}
 use Rattle.szg_game.specs.declared.Class.{Class}
-use Rattle.szg_game.proofs.Lists.{some_in, contains_in}
+use Rattle.szg_game.proofs.Lists.{IsIn, some_in, contains_in, in_contains}
 use Rattle.szg_chess.specs.Laws.{kinds_of}
 use Rattle.szg_chess.specs.Position.{Position, IsPosition}
 use Rattle.szg_chess.specs.Images.{Symmetry, Same, FlipFiles, FlipRanks, FlipDiagonal, ExchangeColors, square_image, color_image, man_image, image, fits, keeps_pawns, IsImage}
@@ -24,11 +24,11 @@ use Rattle.szg_chess.proofs.Members.{any_map}
 use Rattle.szg_chess.proofs.Images.Counts.{as_many}
 use Rattle.szg_chess.proofs.Images.Positions.{image_is_image}
 use Rattle.szg_probe.specs.Chess.{ChessClass}
-use Rattle.szg_probe.specs.Probing.{probed}
-use Rattle.szg_verify.specs.Entries.{StoredTables}
+use Rattle.szg_probe.specs.Probing.{StoredClasses, probed}
+use Rattle.szg_verify.specs.Entries.{StoredDistances, StoredTables, tables_of}
 use Rattle.szg_verify.specs.Verified.{is_checked, AreSymmetric, has_equal_sides, keeps_number, IsImageBy, HasCheckedImage}
 use Rattle.szg_verify.specs.Materials.{has_sides, is_of, kings_alone, are_closed, covers}
-use Rattle.szg_verify.specs.Walk.{colored_men, placed_by, position_by, number_count, is_walked, IsRangeChecked, IsMaterialChecked}
+use Rattle.szg_verify.specs.Walk.{colored_men, placed_by, position_by, number_count, has_pawn, is_walked, colored_man, IsRangeChecked, IsMaterialChecked}
 use Rattle.szg_verify.proofs.Materials.{closed_by_materials, count, one_if, filter_cons, count_cons, AreCounted, numbers, from_sides, each_kind}
 use Rattle.szg_verify.proofs.TwoKings.{kings_checked}
 use Rattle.szg_verify.proofs.Checked.{checked_true}
@@ -162,34 +162,31 @@ diagonal_turns square h corner e =
     (le-leb (file_of (square_image FlipDiagonal square)) 3 (omega (arith, rank, h)))
     (le-leb (rank_of (square_image FlipDiagonal square)) (file_of (square_image FlipDiagonal square)) (omega (arith, file, rank, above, h)))
 
-abbrev has_pawn : List (Man × Color) → Bool
-has_pawn kinds = list_any (λ k. is_man Pawn k.0) kinds
+walked_with_pawns : (with_pawns : Bool) (square : ℕ) → with_pawns ≡ true → on_near_files square ≡ true → is_walked with_pawns square ≡ true
+walked_with_pawns with_pawns square e near = and_from (nat_le (file_of square) 3) (with_pawns || nat_le (rank_of square) (file_of square)) near (or_left with_pawns (nat_le (rank_of square) (file_of square)) e)
 
-walked_with_pawns : (kinds : List (Man × Color)) (square : ℕ) → has_pawn kinds ≡ true → on_near_files square ≡ true → is_walked kinds square ≡ true
-walked_with_pawns kinds square e near = and_from (nat_le (file_of square) 3) (has_pawn kinds || nat_le (rank_of square) (file_of square)) near (or_left (has_pawn kinds) (nat_le (rank_of square) (file_of square)) e)
-
-walked_without_pawns : (kinds : List (Man × Color)) (square : ℕ) → in_triangle square ≡ true → is_walked kinds square ≡ true
-walked_without_pawns kinds square inside =
+walked_without_pawns : (with_pawns : Bool) (square : ℕ) → in_triangle square ≡ true → is_walked with_pawns square ≡ true
+walked_without_pawns with_pawns square inside =
     let both = and_parts (nat_le (file_of square) 3) (nat_le (rank_of square) (file_of square)) inside in
-    and_from (nat_le (file_of square) 3) (has_pawn kinds || nat_le (rank_of square) (file_of square)) both.0 (or_right (has_pawn kinds) (nat_le (rank_of square) (file_of square)) both.1)
+    and_from (nat_le (file_of square) 3) (with_pawns || nat_le (rank_of square) (file_of square)) both.0 (or_right with_pawns (nat_le (rank_of square) (file_of square)) both.1)
 
 fits_without_pawns : (f : Symmetry) (men : List PlacedMan) → has_pawn (kinds_of men) ≡ false → fits f men ≡ true
 fits_without_pawns f men e =
     or_right (keeps_pawns f) (not (list_any (λ s. is_man Pawn s.0) men)) (not_from_false (list_any (λ s. is_man Pawn s.0) men) (sym (any_map (λ (k : Man × Color). is_man Pawn k.0) (λ (s : PlacedMan). (s.0, s.1)) men) ∙ e))
 
-to_walked : (p : Position) → IsPosition p → p.en_passant ≡ None → Reaches p (is_walked (kinds_of p.placed_men))
+to_walked : (p : Position) → IsPosition p → p.en_passant ≡ None → Reaches p (is_walked (has_pawn (kinds_of p.placed_men)))
 to_walked p position no_right =
     let inside : (q : Position) → IsPosition q → first_square q.placed_men < 64 = λ q held. first_inside q.placed_men held.squares.men in
     let near = flipped FlipFiles (λ c. refl) on_near_files p position no_right refl (file_turns (first_square p.placed_men) (inside p position)) in
     elim (cases_Bool (has_pawn (kinds_of p.placed_men))) [
-      | inl t ↦ passes_too p on_near_files (is_walked (kinds_of p.placed_men)) near (walked_with_pawns (kinds_of p.placed_men) (first_square near.found.placed_men) t near.passes)
+      | inl t ↦ passes_too p on_near_files (is_walked (has_pawn (kinds_of p.placed_men))) near (walked_with_pawns (has_pawn (kinds_of p.placed_men)) (first_square near.found.placed_men) t near.passes)
       | inr e ↦ (
           let fit : (f : Symmetry) (q : Position) → kinds_of q.placed_men ≡ kinds_of p.placed_men → fits f q.placed_men ≡ true = λ f q same. fits_without_pawns f q.placed_men (ap has_pawn same ∙ e) in
           let q = near.found in
           let corner = reaches_more p on_near_files in_corner near (flipped FlipRanks (λ c. refl) in_corner q near.position near.no_right (fit FlipRanks q near.kinds) (rank_turns (first_square q.placed_men) (inside q near.position) near.passes)) in
           let r = corner.found in
           let triangle = reaches_more p in_corner in_triangle corner (flipped FlipDiagonal (λ c. refl) in_triangle r corner.position corner.no_right (fit FlipDiagonal r corner.kinds) (diagonal_turns (first_square r.placed_men) (inside r corner.position) corner.passes)) in
-          passes_too p in_triangle (is_walked (kinds_of p.placed_men)) triangle (walked_without_pawns (kinds_of p.placed_men) (first_square triangle.found.placed_men) triangle.passes))
+          passes_too p in_triangle (is_walked (has_pawn (kinds_of p.placed_men))) triangle (walked_without_pawns (has_pawn (kinds_of p.placed_men)) (first_square triangle.found.placed_men) triangle.passes))
     ]
 
 -- ---- the men of a material
@@ -309,8 +306,8 @@ walk_is_whole tables sides checked p position no_right e =
     let first = same_first n.number (colored_men sides) r.placed_men (some_men r c.position) places in
     let same : position_by n.number (colored_men sides) r.mover ≡ r = ap (λ (men : List PlacedMan). position_of men r.mover) places ∙ ap (λ (o : Option ℕ). with_right r o) (sym c.no_right) in
     let within : n.number < number_count (colored_men sides) = subst (λ (ks : List (Man × Color)). n.number < number_count ks) kinds n.within in
-    let walked : is_walked (colored_men sides) (n.number % 64) ≡ true =
-    ap (is_walked (colored_men sides)) first ∙ ap (λ (ks : List (Man × Color)). is_walked ks (first_square r.placed_men)) (sym b.kinds_are) ∙ c.passes in
+    let walked : is_walked (has_pawn (colored_men sides)) (n.number % 64) ≡ true =
+    ap (is_walked (has_pawn (colored_men sides))) first ∙ ap (λ (ks : List (Man × Color)). is_walked (has_pawn ks) (first_square r.placed_men)) (sym b.kinds_are) ∙ c.passes in
     let done = checked n.number r.mover (omega arith) within walked (subst IsPosition (sym same) c.position) in
     record {
       symmetries = a.symmetries ++ (Same ∷ c.symmetries);
@@ -354,3 +351,57 @@ verified_is_true tables materials p closed symmetric each position covered =
             }
           | inr i ↦ each r.0 (contains_in materials r.0 i) q position no_right r.2
         ]
+
+-- ---- for the code
+
+pub men_by_codes : (sides : Sides) → map colored_man (man_codes sides) ≡ colored_men sides
+men_by_codes sides =
+    map-append colored_man (map code_of sides.first) (map (λ (man : Man). 8 + code_of man) sides.second)
+    ∙ ap (λ (xs : List (Man × Color)). xs ++ map colored_man (map (λ (man : Man). 8 + code_of man) sides.second)) (first_men sides.first)
+    ∙ ap (λ (xs : List (Man × Color)). of_side White sides.first ++ xs) (second_men sides.second)
+  where
+    first_code : (man : Man) → ◌≡◌ {A = Man × Color} (colored_man (code_of man)) (man, White)
+    first_code Pawn = refl
+    first_code Knight = refl
+    first_code Bishop = refl
+    first_code Rook = refl
+    first_code Queen = refl
+    first_code King = refl
+
+    second_code : (man : Man) → ◌≡◌ {A = Man × Color} (colored_man (8 + code_of man)) (man, Black)
+    second_code Pawn = refl
+    second_code Knight = refl
+    second_code Bishop = refl
+    second_code Rook = refl
+    second_code Queen = refl
+    second_code King = refl
+
+    first_men : (side : List Man) → map colored_man (map code_of side) ≡ of_side White side
+    first_men [] = refl
+    first_men (man ∷ side) = ap (λ (k : Man × Color). k ∷ map colored_man (map code_of side)) (first_code man) ∙ ap (λ (ks : List (Man × Color)). (man, White) ∷ ks) (first_men side)
+
+    second_men : (side : List Man) → map colored_man (map (λ (man : Man). 8 + code_of man) side) ≡ of_side Black side
+    second_men [] = refl
+    second_men (man ∷ side) = ap (λ (k : Man × Color). k ∷ map colored_man (map (λ (man : Man). 8 + code_of man) side)) (second_code man) ∙ ap (λ (ks : List (Man × Color)). (man, Black) ∷ ks) (second_men side)
+
+pub few_numbers : (n : ℕ) → n ≤ 6 → 64 ^ n ≤ 68719476736
+few_numbers n h = let power : 64 ^ n ≤ 64 ^ 6 = pow-le-pow_right (zero-lt-suc 63) h in power
+
+in_last : (xs : List Sides) (x s : Sides) → IsIn (xs ++ x ∷ []) s → (x ≡ s) ⊎ IsIn xs s
+in_last [] x s (inl e) = inl e
+in_last [] x s (inr i) = absurd i
+in_last (y ∷ xs) x s (inl e) = inr (inl e)
+in_last (y ∷ xs) x s (inr i) = elim (in_last xs x s i) [ inl e ↦ inl e | inr j ↦ inr (inr j) ]
+
+pub one_more : (xs : List Sides) (i : ℕ) (x s : Sides) → i < length xs → x ≡ get_or xs i x → Contains (take (i + 1) xs) s → (x ≡ s) ⊎ Contains (take i xs) s
+one_more xs i x s less is held =
+    let e : take (i + 1) xs ≡ take i xs ++ x ∷ [] = take_more xs i x less ∙ ap (λ (y : Sides). take i xs ++ y ∷ []) (sym is) in
+    elim (in_last (take i xs) x s (in_contains (take i xs ++ x ∷ []) s (subst (λ (ys : List Sides). Contains ys s) e held))) [ inl same ↦ inl same | inr j ↦ inr (contains_in (take i xs) s j) ]
+
+-- what holds of tables holds of the same ones
+pub carried : (P : StoredTables → Type 0) (a b : StoredClasses) (c d : StoredDistances) → a ≡ b → c ≡ d → P (tables_of a c) → P (tables_of b d)
+carried P a b c d classes distances h = subst (λ (x : StoredDistances). P (tables_of b x)) distances (subst (λ (x : StoredClasses). P (tables_of x c)) classes h)
+
+pub some_position : (o : Option Position) (P : Position → Type 0) → is_some o ≡ true → IfSome o P → (p : Position) × P p
+some_position None P e h = absurd cc
+some_position (Some p) P e h = (p, h)

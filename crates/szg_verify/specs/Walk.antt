@@ -46,12 +46,15 @@ abbrev pub number_count : List (Man × Color) → ℕ
 number_count men = 64 ^ length men
 
 -- The squares of White's king that are walked: files a to d; of these, without pawns, the triangle a1-d1-d4.
-abbrev pub is_walked : List (Man × Color) → ℕ → Bool
-is_walked men square = nat_le (file_of square) 3 && (list_any (λ man. is_man Pawn man.0) men || nat_le (rank_of square) (file_of square))
+abbrev pub is_walked : Bool → ℕ → Bool
+is_walked with_pawns square = nat_le (file_of square) 3 && (with_pawns || nat_le (rank_of square) (file_of square))
+
+abbrev pub has_pawn : List (Man × Color) → Bool
+has_pawn men = list_any (λ man. is_man Pawn man.0) men
 
 -- each position that a number below `to`, and not below `from`, places was checked, if White's king is on a walked square
 abbrev pub IsRangeChecked : StoredTables → Sides → ℕ → ℕ → Type 0
-IsRangeChecked tables sides from to = (number : ℕ) (mover : Color) → from ≤ number → number < to → IsTrue (is_walked (colored_men sides) (number % 64)) →
+IsRangeChecked tables sides from to = (number : ℕ) (mover : Color) → from ≤ number → number < to → IsTrue (is_walked (has_pawn (colored_men sides)) (number % 64)) →
     IsPosition (position_by number (colored_men sides) mover) → IsTrue (is_checked tables (position_by number (colored_men sides) mover))
 
 -- of each position of the material an image was checked

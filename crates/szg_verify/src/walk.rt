@@ -1,11 +1,12 @@
 //! The walk over the positions of a material.
 
 ghost use Rattle.std.specs.Prelude.{◌≡◌, ◌≤◌, ◌%◌, ◌^◌, length, IfOk, IfSome, IsFalse, IsTrue, IsNone, None};
+ghost use Rattle.szg_values.specs.Men.{is_man};
 ghost use Rattle.szg_values.specs.declared.Color.{Color};
 ghost use Rattle.szg_chess.specs.Position.{IsPosition};
 ghost use Rattle.szg_verify.specs.Entries.{tables_of};
 ghost use Rattle.szg_verify.specs.Verified.{is_checked};
-ghost use Rattle.szg_verify.specs.Walk.{IsRangeChecked, colored_man, colored_men, is_walked, kind_of, number_count, placed_by, position_by};
+ghost use Rattle.szg_verify.specs.Walk.{IsRangeChecked, colored_man, colored_men, has_pawn, is_walked, kind_of, number_count, placed_by, position_by};
 
 use crate::{DtzTables, check_position};
 use arrayvec::ArrayVec;
@@ -49,9 +50,10 @@ pub fn check_range<T: Tables, D: DtzTables<Fault = T::Fault>>(
     ensures refused { IfOk result (λ w. IfSome w.refused (λ p. IsFalse (is_checked (tables_of (T.stored classes.old) (D.distances distances.old)) p))) }
 {
     let men = colored_men(material);
+    let with_pawns = has_pawn(men.as_slice());
     let mut positions: u64 = 0;
     for number in from..to {
-        if is_walked(men.as_slice(), (number % 64) as u8) {
+        if is_walked(with_pawns, (number % 64) as u8) {
             match check_number(classes, distances, men.as_slice(), number) {
                 Ok(walked) => {
                     positions = positions.saturating_add(walked.positions);
@@ -73,11 +75,24 @@ pub fn check_range<T: Tables, D: DtzTables<Fault = T::Fault>>(
 }
 
 /// Returns whether White's king on a square is walked.
-fn is_walked(men: &[(Man, Color)], square: u8) -> bool
-    ensures { result ≡ is_walked men.now square }
+fn is_walked(with_pawns: bool, square: u8) -> bool
+    ensures { result ≡ is_walked with_pawns square }
 {
     let file = square % 8;
-    file <= 3 && (men.iter().any(|man| man.0 == Man::Pawn) || square / 8 <= file)
+    file <= 3 && (with_pawns || square / 8 <= file)
+}
+
+/// Returns whether some man is a pawn.
+fn has_pawn(men: &[(Man, Color)]) -> bool
+    ensures { result ≡ has_pawn men.now }
+{
+    men.iter().any(|man| is_pawn(man.0))
+}
+
+fn is_pawn(man: Man) -> bool
+    ensures { result ≡ is_man Man.Pawn man }
+{
+    man == Man::Pawn
 }
 
 /// Checks the positions that a number places, with each side to move.
