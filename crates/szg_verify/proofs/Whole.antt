@@ -1,8 +1,8 @@
 -- The walk over the positions of a material leaves out none but images.
 use Rattle.std.proofs.Common.{◌≡◌, ℕ, ◌+◌, ◌-◌, ◌*◌, ◌/◌, ◌%◌, ◌^◌, ◌<◌, ◌≤◌, ◌⊎◌, List, [], ◌∷◌, ◌++◌, length, length-append, map, refl, sym, ap, ◌∙◌, subst, Bool, true, false, arith, inl, inr, zero, suc, get_or, take, Contains, Option, Some, None}
-use Rattle.std.specs.Prelude.{filter, not, ◌&&◌, ◌||◌, ◌==◌, nat_le, nat_lt, option_map, is_some, IfSome}
+use Rattle.std.specs.Prelude.{filter, not, ◌&&◌, ◌||◌, ◌==◌, nat_le, nat_lt, option_map, is_some, count_by, IfSome}
 use Rattle.std.specs.List.{list_any, list_all, All}
-use Rattle.std.proofs.lemmas.Bool.{cases_Bool, and_parts, and_from, and_right, or_cases, or_left, or_right, eq-eqb, eqb-true, leb-true, leb-false, le-leb, ltb-true, ltb-false, not_from_false}
+use Rattle.std.proofs.lemmas.Bool.{cases_Bool, and_parts, and_from, and_right, or_cases, or_left, or_right, eq-eqb, eqb-true, leb-true, leb-false, le-leb, ltb-true, ltb-false, not-true, or_parts, both_ways, false_from_ne_true, not_from_false}
 use Rattle.std.proofs.lemmas.List.Elements.{All-head, All-tail, filter-append}
 use Rattle.std.proofs.lemmas.List.Sums.{length-filter}
 use native.Mathlib.Nat.{pow-suc, pow-le-pow_right, zero-lt-suc}
@@ -18,21 +18,22 @@ use Rattle.szg_game.specs.declared.Class.{Class}
 use Rattle.szg_game.proofs.Lists.{IsIn, some_in, contains_in, in_contains}
 use Rattle.szg_chess.specs.Laws.{kinds_of}
 use Rattle.szg_chess.specs.Position.{Position, IsPosition}
-use Rattle.szg_chess.specs.Images.{Symmetry, Same, FlipFiles, FlipRanks, FlipDiagonal, ExchangeColors, square_image, color_image, man_image, image, fits, keeps_pawns, IsImage}
+use Rattle.szg_chess.specs.Images.{Symmetry, Same, FlipFiles, FlipRanks, ExchangeColors, square_image, color_image, man_image, image, fits, keeps_pawns, IsImage}
 use Rattle.szg_chess.proofs.Facts.{faultless, has_men_parts}
 use Rattle.szg_chess.proofs.Members.{any_map}
 use Rattle.szg_chess.proofs.Images.Counts.{as_many}
 use Rattle.szg_chess.proofs.Images.Positions.{image_is_image}
 use Rattle.szg_probe.specs.Chess.{ChessClass}
+use Rattle.szg_probe.specs.Images.{has_no_pawn, shares_value, has_lone_pawns as lone_men}
 use Rattle.szg_probe.specs.Probing.{StoredClasses, probed}
 use Rattle.szg_verify.specs.Entries.{StoredDistances, StoredTables, tables_of}
 use Rattle.szg_verify.specs.Verified.{is_checked, AreSymmetric, has_equal_sides, keeps_number, IsImageBy, HasCheckedImage}
 use Rattle.szg_verify.specs.Materials.{has_sides, is_of, kings_alone, are_closed, covers}
-use Rattle.szg_verify.specs.Walk.{colored_men, placed_by, position_by, number_count, has_pawn, is_walked, colored_man, IsRangeChecked, IsMaterialChecked}
+use Rattle.szg_verify.specs.Walk.{colored_men, placed_by, position_by, number_count, has_lone_pawns, has_pawn, is_walked, is_king_walked, colored_man, IsRangeChecked, IsMaterialChecked}
 use Rattle.szg_verify.proofs.Materials.{closed_by_materials, count, one_if, filter_cons, count_cons, AreCounted, numbers, from_sides, each_kind}
 use Rattle.szg_verify.proofs.TwoKings.{kings_checked}
 use Rattle.szg_verify.proofs.Checked.{checked_true}
-use Rattle.szg_verify.proofs.Images.{checked_by_images}
+use Rattle.szg_verify.proofs.Images.{checked_by_images, number_by_kinds}
 use Rattle.szg_verify.proofs.Arranged.{Arranged, size_arranged, reordered, reordered_is_image, of_kind, HaveKinds, InOrder, in_order}
 
 -- ---- numbers
@@ -116,16 +117,16 @@ some_men : (p : Position) → IsPosition p → 1 ≤ length p.placed_men
 some_men p position = let many = (has_men_parts p.placed_men (faultless p position.no_fault).men).many in omega (arith, many)
 
 -- a position, or its flip
-flipped : (f : Symmetry) → KeepsColors f → (test : ℕ → Bool) (p : Position) → IsPosition p → p.en_passant ≡ None → fits f p.placed_men ≡ true →
+flipped : (f : Symmetry) → KeepsColors f → (test : ℕ → Bool) (p : Position) → IsPosition p → p.en_passant ≡ None → fits f p.placed_men ≡ true → shares_value f p.placed_men ≡ true →
     (test (first_square p.placed_men) ≡ false → test (square_image f (first_square p.placed_men)) ≡ true) → Reaches p test
-flipped f keeps test p position no_right fitting turns = elim (cases_Bool (test (first_square p.placed_men))) [
+flipped f keeps test p position no_right fitting shares turns = elim (cases_Bool (test (first_square p.placed_men))) [
   | inl t ↦ record { symmetries = []; found = p; is = refl; position = position; no_right = no_right; kinds = refl; passes = t }
   | inr e ↦ (
       let is = image_is_image f p position fitting in
       record {
         symmetries = f ∷ [];
         found = image f p;
-        is = (image f p, is, ap (λ (c : Color). is_color White c || not (has_equal_sides p.placed_men)) (keeps White), refl);
+        is = (image f p, is, and_from (shares_value f p.placed_men) (is_color White (color_image f White) || not (has_equal_sides p.placed_men)) shares (ap (λ (c : Color). is_color White c || not (has_equal_sides p.placed_men)) (keeps White)), refl);
         position = is.position;
         no_right = ap (option_map (square_image f)) no_right;
         kinds = same_kinds f keeps p.placed_men;
@@ -139,9 +140,6 @@ on_near_files square = nat_le (file_of square) 3
 abbrev in_corner : ℕ → Bool
 in_corner square = nat_le (file_of square) 3 && nat_le (rank_of square) 3
 
-abbrev in_triangle : ℕ → Bool
-in_triangle square = nat_le (file_of square) 3 && nat_le (rank_of square) (file_of square)
-
 file_turns : (square : ℕ) → square < 64 → on_near_files square ≡ false → on_near_files (square_image FlipFiles square) ≡ true
 file_turns square h e = let far = leb-false (file_of square) 3 e in le-leb (file_of (square_image FlipFiles square)) 3 (omega (arith, far, h))
 
@@ -150,44 +148,84 @@ rank_turns square h near e =
     let file = leb-true (file_of square) 3 near in
     let far = leb-false (rank_of square) 3 (rw near at e) in
     and_from (nat_le (file_of (square_image FlipRanks square)) 3) (nat_le (rank_of (square_image FlipRanks square)) 3)
-    (le-leb (file_of (square_image FlipRanks square)) 3 (omega (arith, file, h))) (le-leb (rank_of (square_image FlipRanks square)) 3 (omega (arith, far, h)))
+    (le-leb (file_of (square_image FlipRanks square)) 3 (omega (arith, file, h)))
+    (le-leb (rank_of (square_image FlipRanks square)) 3 (omega (arith, far, h)))
 
-diagonal_turns : (square : ℕ) → square < 64 → in_corner square ≡ true → in_triangle square ≡ false → in_triangle (square_image FlipDiagonal square) ≡ true
-diagonal_turns square h corner e =
+-- walked squares
+walked_anywhere : (lone none : Bool) (square : ℕ) → lone ≡ false → none ≡ false → is_walked lone none square ≡ true
+walked_anywhere lone none square l n = and_from (nat_le (file_of square) 3 || not lone) (nat_le (rank_of square) 3 || not none)
+    (or_right (nat_le (file_of square) 3) (not lone) (not_from_false lone l)) (or_right (nat_le (rank_of square) 3) (not none) (not_from_false none n))
+
+walked_near : (lone none : Bool) (square : ℕ) → none ≡ false → on_near_files square ≡ true → is_walked lone none square ≡ true
+walked_near lone none square n near = and_from (nat_le (file_of square) 3 || not lone) (nat_le (rank_of square) 3 || not none)
+    (or_left (nat_le (file_of square) 3) (not lone) near) (or_right (nat_le (rank_of square) 3) (not none) (not_from_false none n))
+
+walked_corner : (lone none : Bool) (square : ℕ) → in_corner square ≡ true → is_walked lone none square ≡ true
+walked_corner lone none square corner =
     let both = and_parts (nat_le (file_of square) 3) (nat_le (rank_of square) 3) corner in
-    let file = leb-true (file_of square) 3 both.0 in
-    let rank = leb-true (rank_of square) 3 both.1 in
-    let above = leb-false (rank_of square) (file_of square) (rw both.0 at e) in
-    and_from (nat_le (file_of (square_image FlipDiagonal square)) 3) (nat_le (rank_of (square_image FlipDiagonal square)) (file_of (square_image FlipDiagonal square)))
-    (le-leb (file_of (square_image FlipDiagonal square)) 3 (omega (arith, rank, h)))
-    (le-leb (rank_of (square_image FlipDiagonal square)) (file_of (square_image FlipDiagonal square)) (omega (arith, file, rank, above, h)))
+    and_from (nat_le (file_of square) 3 || not lone) (nat_le (rank_of square) 3 || not none)
+    (or_left (nat_le (file_of square) 3) (not lone) both.0) (or_left (nat_le (rank_of square) 3) (not none) both.1)
 
-walked_with_pawns : (with_pawns : Bool) (square : ℕ) → with_pawns ≡ true → on_near_files square ≡ true → is_walked with_pawns square ≡ true
-walked_with_pawns with_pawns square e near = and_from (nat_le (file_of square) 3) (with_pawns || nat_le (rank_of square) (file_of square)) near (or_left with_pawns (nat_le (rank_of square) (file_of square)) e)
+-- pawns by kinds
+same_pawns : (men : List PlacedMan) → has_no_pawn men ≡ not (has_pawn (kinds_of men))
+same_pawns men = ap not (sym (any_map (λ (k : Man × Color). is_man Pawn k.0) (λ (s : PlacedMan). (s.0, s.1)) men))
 
-walked_without_pawns : (with_pawns : Bool) (square : ℕ) → in_triangle square ≡ true → is_walked with_pawns square ≡ true
-walked_without_pawns with_pawns square inside =
-    let both = and_parts (nat_le (file_of square) 3) (nat_le (rank_of square) (file_of square)) inside in
-    and_from (nat_le (file_of square) 3) (with_pawns || nat_le (rank_of square) (file_of square)) both.0 (or_right with_pawns (nat_le (rank_of square) (file_of square)) both.1)
+same_lone : (men : List PlacedMan) → lone_men men ≡ has_lone_pawns (kinds_of men)
+same_lone men = ap (λ (n : ℕ). nat_le n 1 && nat_le (number_of Pawn Black men) 1) (number_by_kinds Pawn White men)
+    ∙ ap (λ (n : ℕ). nat_le (count_by (λ (k : Man × Color). is_man Pawn k.0 && is_color White k.1) (kinds_of men)) 1 && nat_le n 1) (number_by_kinds Pawn Black men)
+
+-- men without pawns have no two
+none_is_lone : (kinds : List (Man × Color)) → not (has_pawn kinds) ≡ true → has_lone_pawns kinds ≡ true
+none_is_lone kinds e = and_from (nat_le (count_by (λ k. is_man Pawn k.0 && is_color White k.1) kinds) 1) (nat_le (count_by (λ k. is_man Pawn k.0 && is_color Black k.1) kinds) 1)
+    (le-leb (count_by (λ k. is_man Pawn k.0 && is_color White k.1) kinds) 1 (few White kinds (not-true (has_pawn kinds) e)))
+    (le-leb (count_by (λ k. is_man Pawn k.0 && is_color Black k.1) kinds) 1 (few Black kinds (not-true (has_pawn kinds) e)))
+  where
+    nobody : (color : Color) (kinds : List (Man × Color)) → has_pawn kinds ≡ false → length (filter (of_kind Pawn color) kinds) ≡ 0
+    nobody color [] e = refl
+    nobody color (k ∷ kinds) e =
+        let parts = or_parts (is_man Pawn k.0) (has_pawn kinds) e in
+        let cons = filter_cons (of_kind Pawn color) k kinds in
+        let here : one_if (is_man Pawn k.0 && is_color color k.1) ≡ 0 = rw parts.0 refl in
+        let rest = nobody color kinds parts.1 in
+        omega (arith, cons, here, rest)
+
+    few : (color : Color) (kinds : List (Man × Color)) → has_pawn kinds ≡ false → count_by (λ k. is_man Pawn k.0 && is_color color k.1) kinds ≤ 1
+    few color kinds e = let none = nobody color kinds e in let counted = length-filter (of_kind Pawn color) kinds in omega (arith, none, counted)
 
 fits_without_pawns : (f : Symmetry) (men : List PlacedMan) → has_pawn (kinds_of men) ≡ false → fits f men ≡ true
 fits_without_pawns f men e =
     or_right (keeps_pawns f) (not (list_any (λ s. is_man Pawn s.0) men)) (not_from_false (list_any (λ s. is_man Pawn s.0) men) (sym (any_map (λ (k : Man × Color). is_man Pawn k.0) (λ (s : PlacedMan). (s.0, s.1)) men) ∙ e))
 
-to_walked : (p : Position) → IsPosition p → p.en_passant ≡ None → Reaches p (is_walked (has_pawn (kinds_of p.placed_men)))
-to_walked p position no_right =
-    let inside : (q : Position) → IsPosition q → first_square q.placed_men < 64 = λ q held. first_inside q.placed_men held.squares.men in
-    let near = flipped FlipFiles (λ c. refl) on_near_files p position no_right refl (file_turns (first_square p.placed_men) (inside p position)) in
-    elim (cases_Bool (has_pawn (kinds_of p.placed_men))) [
-      | inl t ↦ passes_too p on_near_files (is_walked (has_pawn (kinds_of p.placed_men))) near (walked_with_pawns (has_pawn (kinds_of p.placed_men)) (first_square near.found.placed_men) t near.passes)
-      | inr e ↦ (
-          let fit : (f : Symmetry) (q : Position) → kinds_of q.placed_men ≡ kinds_of p.placed_men → fits f q.placed_men ≡ true = λ f q same. fits_without_pawns f q.placed_men (ap has_pawn same ∙ e) in
-          let q = near.found in
-          let corner = reaches_more p on_near_files in_corner near (flipped FlipRanks (λ c. refl) in_corner q near.position near.no_right (fit FlipRanks q near.kinds) (rank_turns (first_square q.placed_men) (inside q near.position) near.passes)) in
-          let r = corner.found in
-          let triangle = reaches_more p in_corner in_triangle corner (flipped FlipDiagonal (λ c. refl) in_triangle r corner.position corner.no_right (fit FlipDiagonal r corner.kinds) (diagonal_turns (first_square r.placed_men) (inside r corner.position) corner.passes)) in
-          passes_too p in_triangle (is_walked (has_pawn (kinds_of p.placed_men))) triangle (walked_without_pawns (has_pawn (kinds_of p.placed_men)) (first_square triangle.found.placed_men) triangle.passes))
-    ]
+to_walked : (p : Position) → IsPosition p → p.en_passant ≡ None → Reaches p (is_king_walked (kinds_of p.placed_men))
+to_walked p position no_right = elim (cases_Bool (has_lone_pawns (kinds_of p.placed_men))) [
+  | inl lone ↦ (
+      let near = near_of lone in
+      elim (cases_Bool (not (has_pawn (kinds_of p.placed_men)))) [
+        | inl none ↦ (
+            let q = near.found in
+            let still : has_pawn (kinds_of q.placed_men) ≡ false = ap has_pawn near.kinds ∙ not-true (has_pawn (kinds_of p.placed_men)) none in
+            let shares : shares_value FlipRanks q.placed_men ≡ true = same_pawns q.placed_men ∙ not_from_false (has_pawn (kinds_of q.placed_men)) still in
+            let corner = reaches_more p on_near_files in_corner near
+            (flipped FlipRanks (λ c. refl) in_corner q near.position near.no_right (fits_without_pawns FlipRanks q.placed_men still) shares (rank_turns (first_square q.placed_men) (first_inside q.placed_men near.position.squares.men) near.passes)) in
+            passes_too p in_corner (is_king_walked (kinds_of p.placed_men)) corner (walked_corner (has_lone_pawns (kinds_of p.placed_men)) (not (has_pawn (kinds_of p.placed_men))) (first_square corner.found.placed_men) corner.passes))
+        | inr some ↦ passes_too p on_near_files (is_king_walked (kinds_of p.placed_men)) near (walked_near (has_lone_pawns (kinds_of p.placed_men)) (not (has_pawn (kinds_of p.placed_men))) (first_square near.found.placed_men) some near.passes)
+      ])
+  | inr two ↦ record {
+    symmetries = [];
+    found = p;
+    is = refl;
+    position = position;
+    no_right = no_right;
+    kinds = refl;
+    passes = walked_anywhere (has_lone_pawns (kinds_of p.placed_men)) (not (has_pawn (kinds_of p.placed_men))) (first_square p.placed_men) two (some_pawn two);
+  }
+]
+  where
+    near_of : has_lone_pawns (kinds_of p.placed_men) ≡ true → Reaches p on_near_files
+    near_of lone = flipped FlipFiles (λ c. refl) on_near_files p position no_right refl (same_lone p.placed_men ∙ lone) (file_turns (first_square p.placed_men) (first_inside p.placed_men position.squares.men))
+
+    some_pawn : has_lone_pawns (kinds_of p.placed_men) ≡ false → not (has_pawn (kinds_of p.placed_men)) ≡ false
+    some_pawn two = false_from_ne_true (not (has_pawn (kinds_of p.placed_men))) (λ none. both_ways (has_lone_pawns (kinds_of p.placed_men)) two (none_is_lone (kinds_of p.placed_men) none))
 
 -- ---- the men of a material
 
@@ -260,13 +298,13 @@ first_side sides p position no_right e = elim (or_cases (has_sides p.placed_men 
       let counted = from_sides p.placed_men sides.second sides.first t in
       elim (cases_Bool (has_equal_sides p.placed_men)) [
         | inl equal ↦ record {
-            symmetries = [];
-            found = p;
-            is = refl;
-            position = position;
-            no_right = no_right;
-            counted = λ man. (let same = equal_counts p.placed_men equal man in (same ∙ (counted man).1, sym same ∙ (counted man).0));
-          }
+          symmetries = [];
+          found = p;
+          is = refl;
+          position = position;
+          no_right = no_right;
+          counted = λ man. (let same = equal_counts p.placed_men equal man in (same ∙ (counted man).1, sym same ∙ (counted man).0));
+        }
         | inr differ ↦ (
             let is = image_is_image ExchangeColors p position refl in
             record {
@@ -306,8 +344,8 @@ walk_is_whole tables sides checked p position no_right e =
     let first = same_first n.number (colored_men sides) r.placed_men (some_men r c.position) places in
     let same : position_by n.number (colored_men sides) r.mover ≡ r = ap (λ (men : List PlacedMan). position_of men r.mover) places ∙ ap (λ (o : Option ℕ). with_right r o) (sym c.no_right) in
     let within : n.number < number_count (colored_men sides) = subst (λ (ks : List (Man × Color)). n.number < number_count ks) kinds n.within in
-    let walked : is_walked (has_pawn (colored_men sides)) (n.number % 64) ≡ true =
-    ap (is_walked (has_pawn (colored_men sides))) first ∙ ap (λ (ks : List (Man × Color)). is_walked (has_pawn ks) (first_square r.placed_men)) (sym b.kinds_are) ∙ c.passes in
+    let walked : is_king_walked (colored_men sides) (n.number % 64) ≡ true =
+    ap (is_king_walked (colored_men sides)) first ∙ ap (λ (ks : List (Man × Color)). is_king_walked ks (first_square r.placed_men)) (sym b.kinds_are) ∙ c.passes in
     let done = checked n.number r.mover (omega arith) within walked (subst IsPosition (sym same) c.position) in
     record {
       symmetries = a.symmetries ++ (Same ∷ c.symmetries);
@@ -344,11 +382,11 @@ verified_is_true tables materials p closed symmetric each position covered =
         let r = some_in (is_of q.placed_men) (kings_alone ∷ materials) covered in
         elim r.1 [
           | inl kings ↦ record {
-              symmetries = [];
-              image = q;
-              is = refl;
-              checked = kings_checked tables q position (kings_are_two q.placed_men (ap (is_of q.placed_men) kings ∙ r.2));
-            }
+            symmetries = [];
+            image = q;
+            is = refl;
+            checked = kings_checked tables q position (kings_are_two q.placed_men (ap (is_of q.placed_men) kings ∙ r.2));
+          }
           | inr i ↦ each r.0 (contains_in materials r.0 i) q position no_right r.2
         ]
 

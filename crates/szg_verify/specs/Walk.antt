@@ -1,7 +1,7 @@
 -- The walk over the positions of a material. It leaves out images.
-use Rattle.std.specs.Prelude.{ℕ, ◌≡◌, ◌≤◌, ◌<◌, ◌%◌, ◌/◌, ◌^◌, nat_lt, nat_le, ◌==◌, Bool, ◌&&◌, ◌||◌, List, [], ◌∷◌, ◌++◌, map, length, Some, None, IsTrue, Contains, if◌then◌else◌}
+use Rattle.std.specs.Prelude.{ℕ, ◌≡◌, ◌≤◌, ◌<◌, ◌%◌, ◌/◌, ◌^◌, nat_lt, nat_le, ◌==◌, Bool, not, count_by, ◌&&◌, ◌||◌, List, [], ◌∷◌, ◌++◌, map, length, Some, None, IsTrue, Contains, if◌then◌else◌}
 use Rattle.std.specs.List.{list_any}
-use Rattle.szg_values.specs.Men.{is_man, file_of, rank_of}
+use Rattle.szg_values.specs.Men.{is_man, is_color, file_of, rank_of}
 use Rattle.szg_values.specs.Material.{Sides}
 use Rattle.szg_values.specs.Placement.{PlacedMan}
 use Rattle.szg_values.specs.declared.Man.{Man}
@@ -45,16 +45,23 @@ position_by number men mover = record { placed_men = placed_by number men; mover
 abbrev pub number_count : List (Man × Color) → ℕ
 number_count men = 64 ^ length men
 
--- The squares of White's king that are walked: files a to d; of these, without pawns, the triangle a1-d1-d4.
-abbrev pub is_walked : Bool → ℕ → Bool
-is_walked with_pawns square = nat_le (file_of square) 3 && (with_pawns || nat_le (rank_of square) (file_of square))
+-- no side has two pawns
+abbrev pub has_lone_pawns : List (Man × Color) → Bool
+has_lone_pawns men = nat_le (count_by (λ man. is_man Pawn man.0 && is_color White man.1) men) 1 && nat_le (count_by (λ man. is_man Pawn man.0 && is_color Black man.1) men) 1
 
 abbrev pub has_pawn : List (Man × Color) → Bool
 has_pawn men = list_any (λ man. is_man Pawn man.0) men
 
+-- The squares of White's king that are walked: files a to d, unless a side has two pawns, and without pawns ranks 1 to 4.
+abbrev pub is_walked : Bool → Bool → ℕ → Bool
+is_walked lone none square = (nat_le (file_of square) 3 || not lone) && (nat_le (rank_of square) 3 || not none)
+
+abbrev pub is_king_walked : List (Man × Color) → ℕ → Bool
+is_king_walked men square = is_walked (has_lone_pawns men) (not (has_pawn men)) square
+
 -- each position that a number below `to`, and not below `from`, places was checked, if White's king is on a walked square
 abbrev pub IsRangeChecked : StoredTables → Sides → ℕ → ℕ → Type 0
-IsRangeChecked tables sides from to = (number : ℕ) (mover : Color) → from ≤ number → number < to → IsTrue (is_walked (has_pawn (colored_men sides)) (number % 64)) →
+IsRangeChecked tables sides from to = (number : ℕ) (mover : Color) → from ≤ number → number < to → IsTrue (is_king_walked (colored_men sides) (number % 64)) →
     IsPosition (position_by number (colored_men sides) mover) → IsTrue (is_checked tables (position_by number (colored_men sides) mover))
 
 -- of each position of the material an image was checked

@@ -47,9 +47,8 @@ pub trait DtzTables {
 pub fn has_equal_sides(men: &[(Man, Color, Square)]) -> bool
     ensures { result ≡ has_equal_sides men.now }
 {
-    KINDS
-        .iter()
-        .all(|kind| number_of(*kind, Color::White, men) == number_of(*kind, Color::Black, men))
+    KINDS.iter().all(|kind| number_of(*kind, Color::White, men)
+        == number_of(*kind, Color::Black, men))
 }
 
 /// Counts the men of a kind and color.

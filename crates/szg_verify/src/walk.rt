@@ -1,12 +1,12 @@
 //! The walk over the positions of a material.
 
-ghost use Rattle.std.specs.Prelude.{◌≡◌, ◌≤◌, ◌%◌, ◌^◌, length, IfOk, IfSome, IsFalse, IsTrue, IsNone, None};
-ghost use Rattle.szg_values.specs.Men.{is_man};
+ghost use Rattle.std.specs.Prelude.{◌≡◌, ◌≤◌, ◌%◌, ◌^◌, ◌&&◌, count_by, length, IfOk, IfSome, IsFalse, IsTrue, IsNone, None};
+ghost use Rattle.szg_values.specs.Men.{is_man, is_color};
 ghost use Rattle.szg_values.specs.declared.Color.{Color};
 ghost use Rattle.szg_chess.specs.Position.{IsPosition};
 ghost use Rattle.szg_verify.specs.Entries.{tables_of};
 ghost use Rattle.szg_verify.specs.Verified.{is_checked};
-ghost use Rattle.szg_verify.specs.Walk.{IsRangeChecked, colored_man, colored_men, has_pawn, is_walked, kind_of, number_count, placed_by, position_by};
+ghost use Rattle.szg_verify.specs.Walk.{IsRangeChecked, colored_man, colored_men, has_lone_pawns, has_pawn, is_walked, kind_of, number_count, placed_by, position_by};
 
 use crate::{DtzTables, check_position};
 use arrayvec::ArrayVec;
@@ -34,7 +34,8 @@ pub fn number_count(material: &Material) -> u64
 
 /// Checks the positions of a material that the numbers from `from` to `to` place, `to` left out, up to the first that
 /// does not pass. Both sides move; White has the men of the first side. One position of each set of images by flips of
-/// the board is enough: White's king is on the files a to d, and without pawns in the triangle a1-d1-d4.
+/// the board is enough: White's king is on the files a to d, unless a side has two pawns, and without pawns on the ranks
+/// 1 to 4.
 ///
 /// Errors: those of the tables.
 pub fn check_range<T: Tables, D: DtzTables<Fault = T::Fault>>(
@@ -50,10 +51,11 @@ pub fn check_range<T: Tables, D: DtzTables<Fault = T::Fault>>(
     ensures refused { IfOk result (λ w. IfSome w.refused (λ p. IsFalse (is_checked (tables_of (T.stored classes.old) (D.distances distances.old)) p))) }
 {
     let men = colored_men(material);
-    let with_pawns = has_pawn(men.as_slice());
+    let lone = has_lone_pawns(men.as_slice());
+    let none = !has_pawn(men.as_slice());
     let mut positions: u64 = 0;
     for number in from..to {
-        if is_walked(with_pawns, (number % 64) as u8) {
+        if is_walked(lone, none, (number % 64) as u8) {
             match check_number(classes, distances, men.as_slice(), number) {
                 Ok(walked) => {
                     positions = positions.saturating_add(walked.positions);
@@ -74,12 +76,27 @@ pub fn check_range<T: Tables, D: DtzTables<Fault = T::Fault>>(
     })
 }
 
-/// Returns whether White's king on a square is walked.
-fn is_walked(with_pawns: bool, square: u8) -> bool
-    ensures { result ≡ is_walked with_pawns square }
+/// Returns whether White's king on a square is walked, if no side has two pawns, and if there is no pawn.
+fn is_walked(lone: bool, none: bool, square: u8) -> bool
+    ensures { result ≡ is_walked lone none square }
 {
-    let file = square % 8;
-    file <= 3 && (with_pawns || square / 8 <= file)
+    (square % 8 <= 3 || !lone) && (square / 8 <= 3 || !none)
+}
+
+/// Returns whether no side has two pawns.
+fn has_lone_pawns(men: &[(Man, Color)]) -> bool
+    ensures { result ≡ has_lone_pawns men.now }
+{
+    pawn_count(Color::White, men) <= 1 && pawn_count(Color::Black, men) <= 1
+}
+
+/// Counts the pawns of a color.
+fn pawn_count(color: Color, men: &[(Man, Color)]) -> usize
+    ensures { result ≡ count_by (λ man. is_man Man.Pawn man.0 && is_color color man.1) men.now }
+{
+    men.iter()
+        .filter(|man| is_pawn(man.0) && man.1 == color)
+        .count()
 }
 
 /// Returns whether some man is a pawn.
@@ -200,11 +217,7 @@ fn colored_men(material: &Material) -> ArrayVec<(Man, Color), 6>
 fn colored_man(code: u8) -> (Man, Color)
     ensures { result ≡ colored_man code }
 {
-    let color = if code < 8 {
-        Color::White
-    } else {
-        Color::Black
-    };
+    let color = if code < 8 { Color::White } else { Color::Black };
     (kind_of(code % 8), color)
 }
 

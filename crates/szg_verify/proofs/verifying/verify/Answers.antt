@@ -19,22 +19,22 @@ loop-material-preserved g c =
     let here_distances = g.D.DtzTables.distances c.loop-material.distances in
     elim c.if-is_some.branch [
       | then-is_some w ↦ record {
-          same_classes = c.check_material.ensures.same_classes ∙ before.same_classes;
-          same_distances = c.check_material.ensures.same_distances ∙ before.same_distances;
-          checked = λ t. absurd (cc (w.is_good-is, t));
-          refused = λ _. carried (λ (t : StoredTables). (p : Position) × IsFalse (is_checked t p)) here_classes classes here_distances distances before.same_classes before.same_distances
-              (some_position c.in-Ok.walked.refused (λ (p : Position). IsFalse (is_checked (tables_of here_classes here_distances) p)) (sym c.is_some.ensures ∙ w.if-is_some.true) c.in-Ok.ensures.refused);
-        }
+        same_classes = c.check_material.ensures.same_classes ∙ before.same_classes;
+        same_distances = c.check_material.ensures.same_distances ∙ before.same_distances;
+        checked = λ t. absurd (cc (w.is_good-is, t));
+        refused = λ _. carried (λ (t : StoredTables). (p : Position) × IsFalse (is_checked t p)) here_classes classes here_distances distances before.same_classes before.same_distances
+            (some_position c.in-Ok.walked.refused (λ (p : Position). IsFalse (is_checked (tables_of here_classes here_distances) p)) (sym c.is_some.ensures ∙ w.if-is_some.true) c.in-Ok.ensures.refused);
+      }
       | else-is_some w ↦ record {
-          same_classes = c.check_material.ensures.same_classes ∙ before.same_classes;
-          same_distances = c.check_material.ensures.same_distances ∙ before.same_distances;
-          checked = λ t sides held. elim (one_more c.args.materials.now c.loop-material.material-index c.material-item.result sides c.loop-material-test.true c.material-item.is held) [
-            | inl same ↦ subst (IsMaterialChecked (tables_of classes distances)) same
-                (carried (λ (t : StoredTables). IsMaterialChecked t c.material-item.result) here_classes classes here_distances distances before.same_classes before.same_distances (c.in-Ok.ensures.checked (sym c.is_some.ensures ∙ w.if-is_some.false)))
-            | inr more ↦ before.checked (sym w.is_good-is ∙ t) sides more
-          ];
-          refused = λ f. before.refused (sym w.is_good-is ∙ f);
-        }
+        same_classes = c.check_material.ensures.same_classes ∙ before.same_classes;
+        same_distances = c.check_material.ensures.same_distances ∙ before.same_distances;
+        checked = λ t sides held. elim (one_more c.args.materials.now c.loop-material.material-index c.material-item.result sides c.loop-material-test.true c.material-item.is held) [
+          | inl same ↦ subst (IsMaterialChecked (tables_of classes distances)) same
+              (carried (λ (t : StoredTables). IsMaterialChecked t c.material-item.result) here_classes classes here_distances distances before.same_classes before.same_distances (c.in-Ok.ensures.checked (sym c.is_some.ensures ∙ w.if-is_some.false)))
+          | inr more ↦ before.checked (sym w.is_good-is ∙ t) sides more
+        ];
+        refused = λ f. before.refused (sym w.is_good-is ∙ f);
+      }
     ]
 
 pub returns-clause-checked : goal.returns-clause-checked
