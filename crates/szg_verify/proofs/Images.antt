@@ -107,7 +107,7 @@ steps_known entry p (m ∷ ms) =
 
 -- ---- the men of both sides
 
-number_by_kinds : (man : Man) (color : Color) (men : List PlacedMan) → number_of man color men ≡ count_by (λ k. is_man man k.0 && is_color color k.1) (kinds_of men)
+pub number_by_kinds : (man : Man) (color : Color) (men : List PlacedMan) → number_of man color men ≡ count_by (λ k. is_man man k.0 && is_color color k.1) (kinds_of men)
 number_by_kinds man color men =
     let test : PlacedMan → Bool = λ s. is_man man s.0 && is_color color s.1 in
     let of_kind : Man × Color → Bool = λ k. is_man man k.0 && is_color color k.1 in

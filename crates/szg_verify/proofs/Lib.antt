@@ -12,3 +12,5 @@ pub mod Stored
 pub mod TwoKings
 pub mod Images
 pub mod Materials
+pub mod Arranged
+pub mod Whole

@@ -31,14 +31,14 @@ use Rattle.szg_verify.specs.Verified.{IsClosed}
 
 -- ---- kinds
 
-abbrev count : Man → List Man → ℕ
+abbrev pub count : Man → List Man → ℕ
 count man side = count_by (is_man man) side
 
 -- 1 if the test holds
-abbrev one_if : Bool → ℕ
+abbrev pub one_if : Bool → ℕ
 one_if b = if b then 1 else 0
 
-same_kind : (a b : Man) → is_man a b ≡ true → b ≡ a
+pub same_kind : (a b : Man) → is_man a b ≡ true → b ≡ a
 same_kind Pawn Pawn e = refl
 same_kind Knight Knight e = refl
 same_kind Bishop Bishop e = refl
@@ -76,8 +76,20 @@ same_kind King Bishop e = cc
 same_kind King Rook e = cc
 same_kind King Queen e = cc
 
+pub itself : (man : Man) → is_man man man ≡ true
+itself Pawn = refl
+itself Knight = refl
+itself Bishop = refl
+itself Rook = refl
+itself Queen = refl
+itself King = refl
+
+pub own_color : (color : Color) → is_color color color ≡ true
+own_color White = refl
+own_color Black = refl
+
 -- what is tested of each kind in a name holds of each kind
-each_kind : (t : Man → Bool) → list_all t name_order ≡ true → (man : Man) → t man ≡ true
+pub each_kind : (t : Man → Bool) → list_all t name_order ≡ true → (man : Man) → t man ≡ true
 each_kind t e man = each_in t name_order e man (named man)
   where
     named : (man : Man) → IsIn name_order man
@@ -94,10 +106,10 @@ all_kinds t each = rw (each King, each Queen, each Rook, each Bishop, each Knigh
 -- ---- counts
 
 -- a list with one element more in front
-filter_cons : {X : Type 0} (t : X → Bool) (x : X) (xs : List X) → length (filter t (x ∷ xs)) ≡ length (filter t xs) + one_if (t x)
+pub filter_cons : {X : Type 0} (t : X → Bool) (x : X) (xs : List X) → length (filter t (x ∷ xs)) ≡ length (filter t xs) + one_if (t x)
 filter_cons t x xs = elim (cases_Bool (t x)) [ inl e ↦ rw e (omega arith) | inr e ↦ rw e (omega arith) ]
 
-count_cons : (man other : Man) (side : List Man) → count man (other ∷ side) ≡ count man side + one_if (is_man man other)
+pub count_cons : (man other : Man) (side : List Man) → count man (other ∷ side) ≡ count man side + one_if (is_man man other)
 count_cons man other side = sym (length-filter (is_man man) (other ∷ side)) ∙ filter_cons (is_man man) other side ∙ ap (λ (n : ℕ). n + one_if (is_man man other)) (length-filter (is_man man) side)
 
 counted_man : (man : Man) (side : List Man) → 1 ≤ count man side → has_man side man ≡ true
@@ -168,10 +180,10 @@ one_goes t m (x ∷ xs) apart s held from =
 
 -- ---- numbers of men by kind and color
 
-abbrev Numbers : Type 0
+abbrev pub Numbers : Type 0
 Numbers = Man → Color → ℕ
 
-abbrev AreCounted : Numbers → List Man → List Man → Type 0
+abbrev pub AreCounted : Numbers → List Man → List Man → Type 0
 AreCounted n white black = (man : Man) → (n man White ≡ count man white) × (n man Black ≡ count man black)
 
 -- the numbers are those of one of the materials
@@ -180,16 +192,16 @@ record IsCovered (materials : List Sides) (n : Numbers) : Type 0 where
   pub listed : IsIn (kings_alone ∷ materials) sides
   pub counted : AreCounted n sides.first sides.second ⊎ AreCounted n sides.second sides.first
 
-abbrev numbers : List PlacedMan → Numbers
+abbrev pub numbers : List PlacedMan → Numbers
 numbers men man color = number_of man color men
 
-from_sides : (men : List PlacedMan) (white black : List Man) → has_sides men white black ≡ true → AreCounted (numbers men) white black
+pub from_sides : (men : List PlacedMan) (white black : List Man) → has_sides men white black ≡ true → AreCounted (numbers men) white black
 from_sides men white black e man =
     let both = and_parts (number_of man White men == count man white) (number_of man Black men == count man black)
     (each_kind (λ man. number_of man White men == count_by (is_man man) white && number_of man Black men == count_by (is_man man) black) e man) in
     (eqb-true (number_of man White men) (count man white) both.0, eqb-true (number_of man Black men) (count man black) both.1)
 
-to_sides : (men : List PlacedMan) (white black : List Man) → AreCounted (numbers men) white black → has_sides men white black ≡ true
+pub to_sides : (men : List PlacedMan) (white black : List Man) → AreCounted (numbers men) white black → has_sides men white black ≡ true
 to_sides men white black counted = all_kinds (λ man. number_of man White men == count_by (is_man man) white && number_of man Black men == count_by (is_man man) black) (λ man.
     and_from (number_of man White men == count man white) (number_of man Black men == count man black) (eq-eqb (number_of man White men) (count man white) (counted man).0) (eq-eqb (number_of man Black men) (count man black) (counted man).1))
 
@@ -294,14 +306,6 @@ module _ (materials : List Sides) (closed : are_closed materials ≡ true) where
   capturable Pawn e = inr (inr (inr (inr (inl refl))))
   capturable King e = cc
 
-  itself : (man : Man) → is_man man man ≡ true
-  itself Pawn = refl
-  itself Knight = refl
-  itself Bishop = refl
-  itself Rook = refl
-  itself Queen = refl
-  itself King = refl
-
   by_capture : (n next : Numbers) (color : Color) (taken : Man) → is_man King taken ≡ false → ((man : Man) → next man color + one_if (is_man man taken) ≡ n man color) → ChangesBy n next color
   by_capture n next color taken no_king less side counted =
       let some : 1 ≤ count taken side = (let l = less taken in let c = counted taken in let one : one_if (is_man taken taken) ≡ 1 = rw (itself taken) refl in omega (arith, l, c, one)) in
@@ -362,10 +366,6 @@ module _ (materials : List Sides) (closed : are_closed materials ≡ true) where
       | inr c ↦ inr (λ man. (same man White ∙ (c man).0, same man Black ∙ (c man).1))
     ];
   }
-
-  own_color : (color : Color) → is_color color color ≡ true
-  own_color White = refl
-  own_color Black = refl
 
   other_not : (color : Color) → is_color (other_color color) color ≡ false
   other_not White = refl

@@ -1,4 +1,5 @@
 pub mod Entries
 pub mod Verified
 pub mod Materials
+pub mod Walk
 pub mod Laws

@@ -1,6 +1,7 @@
 //! Laws over the definitions. The contract of each function is a law, and its body is empty.
 
 ghost use Rattle.szg_verify.specs.Materials.{ClosedByMaterials, MaterialExamples};
+ghost use Rattle.szg_verify.specs.Walk.{RangesJoin, VerifiedIsTrue, WalkIsWhole};
 ghost use Rattle.szg_verify.specs.Laws.{CheckedByImages, CheckedIsTrue, CheckedIsVerified, ClosedByCount, EntriesAreTrue, KingsAreChecked, ProbedIsTrue, StoredAreTrue};
 
 /// If tables pass, each position that they cover has the class of its entry, with an en passant square or without.
@@ -53,4 +54,20 @@ pub fn kings_are_checked()
 /// What the definitions say of some sets of materials.
 pub fn material_examples()
     ensures { MaterialExamples }
+{}
+
+/// The walk leaves out no position of a material, but for images.
+pub fn walk_is_whole()
+    ensures { WalkIsWhole }
+{}
+
+/// Two ranges that were checked, one after the other, make one.
+pub fn ranges_join()
+    ensures { RangesJoin }
+{}
+
+/// If each material of a closed set was checked, and the tables store the same for images, each probe of a position of
+/// these materials returns its class.
+pub fn verified_is_true()
+    ensures { VerifiedIsTrue }
 {}

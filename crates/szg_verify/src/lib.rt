@@ -10,10 +10,14 @@ mod entries;
 pub mod laws;
 mod steps;
 mod tables;
+mod verifying;
+mod walk;
 
 pub use checking::{check_all, check_position};
 pub use entries::plain_entry;
-pub use tables::DtzTables;
+pub use tables::{DtzTables, has_equal_sides};
+pub use verifying::{Watcher, verify};
+pub use walk::{Walked, check_range, number_count};
 
 /// A number that a DTZ table stores: the plies after the first one, up to mate or to the zeroing move.
 #[derive(Clone, Copy, Debug, PartialEq, Eq)]

@@ -1,11 +1,24 @@
 //! What a set of DTZ tables offers.
 
 ghost use Rattle.std.specs.Prelude.{◌≡◌, IfOk};
+ghost use Rattle.szg_values.specs.Placement.{number_of};
 ghost use Rattle.szg_verify.specs.Entries.{StoredDistances};
+ghost use Rattle.szg_verify.specs.Verified.{has_equal_sides};
 
 use crate::Distance;
 use szg_chess::Position;
 use szg_game::Class;
+use szg_values::{Color, Man, Square};
+
+/// The kinds of men.
+const KINDS: [Man; 6] = [
+    Man::King,
+    Man::Queen,
+    Man::Rook,
+    Man::Bishop,
+    Man::Knight,
+    Man::Pawn,
+];
 
 /// A set of DTZ tables.
 pub trait DtzTables {
@@ -28,4 +41,21 @@ pub trait DtzTables {
     ) -> Result<Option<Distance>, Self::Fault>
         ensures same { distances self.new ≡ distances self.old }
         ensures distance { IfOk result (λ d. distances self.old position.now.placed_men position.now.mover class ≡ d) };
+}
+
+/// Returns whether both sides have the same men.
+pub fn has_equal_sides(men: &[(Man, Color, Square)]) -> bool
+    ensures { result ≡ has_equal_sides men.now }
+{
+    KINDS.iter().all(|kind| number_of(*kind, Color::White, men)
+        == number_of(*kind, Color::Black, men))
+}
+
+/// Counts the men of a kind and color.
+fn number_of(kind: Man, color: Color, men: &[(Man, Color, Square)]) -> usize
+    ensures { result ≡ number_of kind color men.now }
+{
+    men.iter()
+        .filter(|man| man.0 == kind && man.1 == color)
+        .count()
 }

@@ -1,0 +1,86 @@
+-- The walk over the positions of a material. It leaves out images.
+use Rattle.std.specs.Prelude.{ℕ, ◌≡◌, ◌≤◌, ◌<◌, ◌%◌, ◌/◌, ◌^◌, nat_lt, nat_le, ◌==◌, Bool, not, count_by, ◌&&◌, ◌||◌, List, [], ◌∷◌, ◌++◌, map, length, Some, None, IsTrue, Contains, if◌then◌else◌}
+use Rattle.std.specs.List.{list_any}
+use Rattle.szg_values.specs.Men.{is_man, is_color, file_of, rank_of}
+use Rattle.szg_values.specs.Material.{Sides}
+use Rattle.szg_values.specs.Placement.{PlacedMan}
+use Rattle.szg_values.specs.declared.Man.{Man}
+use Rattle.szg_values.specs.declared.Man.TheVariants.{Pawn, Knight, Bishop, Rook, Queen, King}
+use Rattle.szg_values.specs.declared.Color.{Color}
+use Rattle.szg_values.specs.declared.Color.TheVariants.{White, Black}
+use Rattle.szg_game.specs.declared.Class.{Class}
+use Rattle.szg_chess.specs.Position.{Position, IsPosition}
+use Rattle.szg_probe.specs.Chess.{ChessClass}
+use Rattle.szg_probe.specs.Probing.{probed}
+use Rattle.szg_verify.specs.Entries.{StoredTables}
+use Rattle.szg_verify.specs.Verified.{AreSymmetric, HasCheckedImage, is_checked}
+use Rattle.szg_verify.specs.Materials.{are_closed, covers, is_of}
+
+-- the man of a code in a file
+abbrev pub kind_of : ℕ → Man
+kind_of code =
+    if code == 1 then Pawn else
+    if code == 2 then Knight else
+    if code == 3 then Bishop else
+    if code == 4 then Rook else
+    if code == 5 then Queen else King
+
+-- the men of a material with their colors, the first side as White; White's king comes first
+abbrev pub colored_men : Sides → List (Man × Color)
+colored_men sides = map (λ man. (man, White)) sides.first ++ map (λ man. (man, Black)) sides.second
+
+-- the man of a code and its color, where the second side's men add 8
+abbrev pub colored_man : ℕ → Man × Color
+colored_man code = (kind_of (code % 8), if nat_lt code 8 then White else Black)
+
+-- A number places men: its digits in base 64 are their squares, the last digit that of the first man.
+abbrev pub placed_by : ℕ → List (Man × Color) → List PlacedMan
+placed_by number [] = []
+placed_by number (man ∷ men) = (man.0, man.1, number % 64) ∷ placed_by (number / 64) men
+
+abbrev pub position_by : ℕ → List (Man × Color) → Color → Position
+position_by number men mover = record { placed_men = placed_by number men; mover = mover; en_passant = None }
+
+-- as many numbers as there are ways to put men on squares
+abbrev pub number_count : List (Man × Color) → ℕ
+number_count men = 64 ^ length men
+
+-- no side has two pawns
+abbrev pub has_lone_pawns : List (Man × Color) → Bool
+has_lone_pawns men = nat_le (count_by (λ man. is_man Pawn man.0 && is_color White man.1) men) 1 && nat_le (count_by (λ man. is_man Pawn man.0 && is_color Black man.1) men) 1
+
+abbrev pub has_pawn : List (Man × Color) → Bool
+has_pawn men = list_any (λ man. is_man Pawn man.0) men
+
+-- The squares of White's king that are walked: files a to d, unless a side has two pawns, and without pawns ranks 1 to 4.
+abbrev pub is_walked : Bool → Bool → ℕ → Bool
+is_walked lone none square = (nat_le (file_of square) 3 || not lone) && (nat_le (rank_of square) 3 || not none)
+
+abbrev pub is_king_walked : List (Man × Color) → ℕ → Bool
+is_king_walked men square = is_walked (has_lone_pawns men) (not (has_pawn men)) square
+
+-- each position that a number below `to`, and not below `from`, places was checked, if White's king is on a walked square
+abbrev pub IsRangeChecked : StoredTables → Sides → ℕ → ℕ → Type 0
+IsRangeChecked tables sides from to = (number : ℕ) (mover : Color) → from ≤ number → number < to → IsTrue (is_king_walked (colored_men sides) (number % 64)) →
+    IsPosition (position_by number (colored_men sides) mover) → IsTrue (is_checked tables (position_by number (colored_men sides) mover))
+
+-- of each position of the material an image was checked
+abbrev pub IsMaterialChecked : StoredTables → Sides → Type 0
+IsMaterialChecked tables sides = (p : Position) → IsPosition p → p.en_passant ≡ None → IsTrue (is_of p.placed_men sides) → HasCheckedImage tables p
+
+-- ---- laws
+
+-- The walk leaves out no position of the material.
+abbrev pub WalkIsWhole : Type 0
+WalkIsWhole = (tables : StoredTables) (sides : Sides) → IsRangeChecked tables sides 0 (number_count (colored_men sides)) → IsMaterialChecked tables sides
+
+-- two ranges make one
+abbrev pub RangesJoin : Type 0
+RangesJoin = (tables : StoredTables) (sides : Sides) (from middle to : ℕ) → IsRangeChecked tables sides from middle → IsRangeChecked tables sides middle to → IsRangeChecked tables sides from to
+
+-- If the materials are closed, the tables store the same for images, and each material was checked, each probe of a
+-- position of these materials, with an en passant square or without, says its class in chess.
+abbrev pub VerifiedIsTrue : Type 0
+VerifiedIsTrue = (tables : StoredTables) (materials : List Sides) (p : Position) → IsTrue (are_closed materials) → AreSymmetric tables →
+    ((sides : Sides) → Contains materials sides → IsMaterialChecked tables sides) → IsPosition p → IsTrue (covers materials p.placed_men) →
+    (k : Class) × (probed tables.classes p ≡ Some k) × ChessClass p k

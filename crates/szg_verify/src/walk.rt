@@ -1,0 +1,236 @@
+//! The walk over the positions of a material.
+
+ghost use Rattle.std.specs.Prelude.{◌≡◌, ◌≤◌, ◌%◌, ◌^◌, ◌&&◌, count_by, length, IfOk, IfSome, IsFalse, IsTrue, IsNone, None};
+ghost use Rattle.szg_values.specs.Men.{is_man, is_color};
+ghost use Rattle.szg_values.specs.declared.Color.{Color};
+ghost use Rattle.szg_chess.specs.Position.{IsPosition};
+ghost use Rattle.szg_verify.specs.Entries.{tables_of};
+ghost use Rattle.szg_verify.specs.Verified.{is_checked};
+ghost use Rattle.szg_verify.specs.Walk.{IsRangeChecked, colored_man, colored_men, has_lone_pawns, has_pawn, is_walked, kind_of, number_count, placed_by, position_by};
+
+use crate::{DtzTables, check_position};
+use arrayvec::ArrayVec;
+use szg_chess::Position;
+use szg_probe::Tables;
+use szg_values::{Color, Man, Material, Square};
+
+/// What a walk over positions found.
+#[derive(Drop)]
+pub struct Walked {
+    /// The number of positions that were checked.
+    pub positions: u64,
+    /// The first position that does not pass.
+    pub refused: Option<Position>,
+}
+
+/// Returns the number of ways to put the men of a material on squares, 64 for each man.
+pub fn number_count(material: &Material) -> u64
+    ensures count { result ≡ number_count (colored_men material.now) }
+    ensures within { result ≤ 64 ^ 6 }
+{
+    let men = colored_men(material);
+    64_u64.pow(men.len() as u32)
+}
+
+/// Checks the positions of a material that the numbers from `from` to `to` place, `to` left out, up to the first that
+/// does not pass. Both sides move; White has the men of the first side. One position of each set of images by flips of
+/// the board is enough: White's king is on the files a to d, unless a side has two pawns, and without pawns on the ranks
+/// 1 to 4.
+///
+/// Errors: those of the tables.
+pub fn check_range<T: Tables, D: DtzTables<Fault = T::Fault>>(
+    classes: &mut T,
+    distances: &mut D,
+    material: &Material,
+    from: u64,
+    to: u64,
+) -> Result<Walked, T::Fault>
+    ensures same_classes { T.stored classes.new ≡ T.stored classes.old }
+    ensures same_distances { D.distances distances.new ≡ D.distances distances.old }
+    ensures checked { IfOk result (λ w. IsNone w.refused → IsRangeChecked (tables_of (T.stored classes.old) (D.distances distances.old)) material.now from to) }
+    ensures refused { IfOk result (λ w. IfSome w.refused (λ p. IsFalse (is_checked (tables_of (T.stored classes.old) (D.distances distances.old)) p))) }
+{
+    let men = colored_men(material);
+    let lone = has_lone_pawns(men.as_slice());
+    let none = !has_pawn(men.as_slice());
+    let mut positions: u64 = 0;
+    for number in from..to {
+        if is_walked(lone, none, (number % 64) as u8) {
+            match check_number(classes, distances, men.as_slice(), number) {
+                Ok(walked) => {
+                    positions = positions.saturating_add(walked.positions);
+                    if walked.refused.is_some() {
+                        return Ok(Walked {
+                            positions,
+                            refused: walked.refused,
+                        });
+                    }
+                }
+                Err(fault) => return Err(fault),
+            }
+        }
+    }
+    Ok(Walked {
+        positions,
+        refused: None,
+    })
+}
+
+/// Returns whether White's king on a square is walked, if no side has two pawns, and if there is no pawn.
+fn is_walked(lone: bool, none: bool, square: u8) -> bool
+    ensures { result ≡ is_walked lone none square }
+{
+    (square % 8 <= 3 || !lone) && (square / 8 <= 3 || !none)
+}
+
+/// Returns whether no side has two pawns.
+fn has_lone_pawns(men: &[(Man, Color)]) -> bool
+    ensures { result ≡ has_lone_pawns men.now }
+{
+    pawn_count(Color::White, men) <= 1 && pawn_count(Color::Black, men) <= 1
+}
+
+/// Counts the pawns of a color.
+fn pawn_count(color: Color, men: &[(Man, Color)]) -> usize
+    ensures { result ≡ count_by (λ man. is_man Man.Pawn man.0 && is_color color man.1) men.now }
+{
+    men.iter()
+        .filter(|man| is_pawn(man.0) && man.1 == color)
+        .count()
+}
+
+/// Returns whether some man is a pawn.
+fn has_pawn(men: &[(Man, Color)]) -> bool
+    ensures { result ≡ has_pawn men.now }
+{
+    men.iter().any(|man| is_pawn(man.0))
+}
+
+fn is_pawn(man: Man) -> bool
+    ensures { result ≡ is_man Man.Pawn man }
+{
+    man == Man::Pawn
+}
+
+/// Checks the positions that a number places, with each side to move.
+fn check_number<T: Tables, D: DtzTables<Fault = T::Fault>>(
+    classes: &mut T,
+    distances: &mut D,
+    men: &[(Man, Color)],
+    number: u64,
+) -> Result<Walked, T::Fault>
+    requires { length men.now ≤ 6 }
+    ensures same_classes { T.stored classes.new ≡ T.stored classes.old }
+    ensures same_distances { D.distances distances.new ≡ D.distances distances.old }
+    ensures checked { IfOk result (λ w. IsNone w.refused → (mover : Color) → IsPosition (position_by number men.now mover) → IsTrue (is_checked (tables_of (T.stored classes.old) (D.distances distances.old)) (position_by number men.now mover))) }
+    ensures refused { IfOk result (λ w. IfSome w.refused (λ p. IsFalse (is_checked (tables_of (T.stored classes.old) (D.distances distances.old)) p))) }
+{
+    let placed = place(number, men);
+    let white = match check_placed(classes, distances, placed.as_slice(), Color::White) {
+        Ok(walked) => walked,
+        Err(fault) => return Err(fault),
+    };
+    if white.refused.is_some() {
+        return Ok(white);
+    }
+    match check_placed(classes, distances, placed.as_slice(), Color::Black) {
+        Ok(black) => Ok(Walked {
+            positions: white.positions.saturating_add(black.positions),
+            refused: black.refused,
+        }),
+        Err(fault) => Err(fault),
+    }
+}
+
+/// Checks the position of men and a side to move. If there is none, no position is checked.
+fn check_placed<T: Tables, D: DtzTables<Fault = T::Fault>>(
+    classes: &mut T,
+    distances: &mut D,
+    placed: &[(Man, Color, Square)],
+    mover: Color,
+) -> Result<Walked, T::Fault>
+    ensures same_classes { T.stored classes.new ≡ T.stored classes.old }
+    ensures same_distances { D.distances distances.new ≡ D.distances distances.old }
+    ensures checked { IfOk result (λ w. IsNone w.refused → IsPosition (record { placed_men = placed.now; mover = mover; en_passant = None }) → IsTrue (is_checked (tables_of (T.stored classes.old) (D.distances distances.old)) (record { placed_men = placed.now; mover = mover; en_passant = None }))) }
+    ensures refused { IfOk result (λ w. IfSome w.refused (λ p. IsFalse (is_checked (tables_of (T.stored classes.old) (D.distances distances.old)) p))) }
+{
+    let position = match Position::new(placed, mover, None) {
+        Ok(position) => position,
+        Err(_) => {
+            return Ok(Walked {
+                positions: 0,
+                refused: None,
+            });
+        }
+    };
+    match check_position(classes, distances, &position) {
+        Ok(true) => Ok(Walked {
+            positions: 1,
+            refused: None,
+        }),
+        Ok(false) => Ok(Walked {
+            positions: 1,
+            refused: Some(position),
+        }),
+        Err(fault) => Err(fault),
+    }
+}
+
+/// Returns the men on the squares that a number says.
+fn place(number: u64, men: &[(Man, Color)]) -> ArrayVec<(Man, Color, Square), 6>
+    requires { length men.now ≤ 6 }
+    ensures { result.items ≡ placed_by number men.now }
+{
+    let mut placed = ArrayVec::new();
+    let mut rest = number;
+    for man in men {
+        placed.push((man.0, man.1, square_of(rest)));
+        rest /= 64;
+    }
+    placed
+}
+
+/// Returns the square of the last digit of a number in base 64.
+fn square_of(number: u64) -> Square
+    ensures { result ≡ number % 64 }
+{
+    match Square::new((number % 64) as u8) {
+        Some(square) => square,
+        None => unreachable!(),
+    }
+}
+
+/// Returns the men of a material with their colors, the first side as White.
+fn colored_men(material: &Material) -> ArrayVec<(Man, Color), 6>
+    ensures men { result.items ≡ colored_men material.now }
+    ensures few { length result.items ≤ 6 }
+{
+    let codes = material.men();
+    let mut men = ArrayVec::new();
+    for code in codes.as_slice() {
+        men.push(colored_man(*code));
+    }
+    men
+}
+
+/// Returns the man of a code and its color.
+fn colored_man(code: u8) -> (Man, Color)
+    ensures { result ≡ colored_man code }
+{
+    let color = if code < 8 { Color::White } else { Color::Black };
+    (kind_of(code % 8), color)
+}
+
+/// Returns the man of a code in a file.
+fn kind_of(code: u8) -> Man
+    ensures { result ≡ kind_of code }
+{
+    match code {
+        1 => Man::Pawn,
+        2 => Man::Knight,
+        3 => Man::Bishop,
+        4 => Man::Rook,
+        5 => Man::Queen,
+        _ => Man::King,
+    }
+}
