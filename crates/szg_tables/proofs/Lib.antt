@@ -1,2 +1,3 @@
 mod Stored
 mod Images
+mod ImageDistances
