@@ -10,7 +10,7 @@ ghost use Rattle.szg_files.specs.Draft.{text_of, draft_target, sealed_text, seal
 
 use crate::file_system::FileFault;
 use crate::monitored::Monitored;
-use std::alloc::Global;
+use std::alloc::{AllocError, Global};
 use std::fs::{OpenFile, OpenOptions};
 use std::io::{BufWriter, ErrorKind, Write};
 use std::rt::Files;
@@ -49,6 +49,33 @@ pub struct Published<'a> {
     written: Past,
 }
 
+/// The most bytes of a target's name that the temporary file's name begins with: a name has at most 255 bytes.
+const KEPT: usize = 240;
+
+/// Returns the longest beginning of a text with at most `most` bytes.
+fn beginning(text: &str, most: usize) -> &str {
+    'ends: for less in 0..most {
+        if let Some(beginning) = text.get(..most - less) {
+            return beginning;
+        }
+    }
+    ""
+}
+
+/// Returns the path of a temporary file of this number beside a target.
+fn path_beside(alloc: Global, target: &str, number: u32) -> Result<String, AllocError> {
+    let (folder, slash, name) = match target.rsplit_once('/') {
+        Some((folder, name)) => (folder, "/", name),
+        None => ("", "", target),
+    };
+    let kept = if name.len() > KEPT {
+        beginning(name, KEPT)
+    } else {
+        name
+    };
+    format!(in alloc; "{folder}{slash}{kept}.{number}.new")
+}
+
 /// Creates a file in the target's folder under a name that does not exist yet.
 fn create_beside<R: Files>(
     alloc: Global,
@@ -56,7 +83,7 @@ fn create_beside<R: Files>(
     target: &str,
 ) -> Result<(R::File, String), FileFault> {
     'names: for number in 0..NAMES {
-        let Ok(path) = format!(in alloc; "{target}.{number}.new") else {
+        let Ok(path) = path_beside(alloc, target, number) else {
             return Err(FileFault::Memory);
         };
         match OpenOptions::new()
