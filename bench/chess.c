@@ -176,7 +176,7 @@ static uint64_t mixed(struct move m)
 static __attribute__((noinline)) uint64_t c_captures(const struct position *p, uint32_t rounds)
 {
     uint64_t sum = 0;
-    struct move moves[48];
+    struct move moves[29];
     for (uint32_t r = 0; r < rounds; r++) {
         __asm__ volatile("" : : "r"(p) : "memory");
         int count = captures(p, moves);

@@ -1,29 +1,16 @@
 -- How many moves there may be.
-use Rattle.std.proofs.Common.{◌≡◌, ℕ, ◌+◌, ◌*◌, ◌≤◌, List, [], ◌∷◌, length, get_or, zero, suc, refl, Bool, true, false, arith, length-append, inl, inr, Option, Some, None}
-use Rattle.std.specs.Prelude.{flat_map, ◌&&◌, ◌||◌, ◌==◌, not, if◌then◌else◌}
-use Rattle.std.specs.List.{All}
-use Rattle.std.proofs.lemmas.Bool.{cases_Bool, and_parts}
-use Rattle.std.proofs.lemmas.List.Elements.{All-head, All-tail}
+use Rattle.std.proofs.Common.{◌≡◌, ℕ, ◌+◌, ◌≤◌, List, length, refl, Bool, true, false, arith, inl, inr, Option, Some, None, ◌⊎◌}
+use Rattle.std.specs.Prelude.{◌&&◌, ◌||◌, ◌==◌, not, if◌then◌else◌}
+use Rattle.std.proofs.lemmas.Bool.{cases_Bool, and_parts, eqb-true}
 use Rattle.std.proofs.lemmas.List.Filters.{length-filter_both}
-use Rattle.szg_values.specs.Men.{is_color, other_color, rank_of}
+use Rattle.szg_values.specs.Men.{is_man, is_color, other_color, file_of, rank_of, square_at}
 use Rattle.szg_values.specs.Placement.{PlacedMan}
 use Rattle.szg_values.specs.declared.Man.TheVariants.{Pawn}
 use Rattle.szg_values.specs.declared.Color.{Color}
 use Rattle.szg_values.specs.declared.Color.TheVariants.{White, Black}
-use Rattle.szg_chess.specs.Attacks.{attacks}
-use Rattle.szg_chess.specs.Position.{Position}
-use Rattle.szg_chess.specs.Moves.{men_of, promotes, moves_to, moves_if, may_pass, en_passant_moves, captures_by, captures_of}
-
--- ---- lists of lists
-
-pub flat_map_few : {X A : Type 0} (f : X → List A) (k : ℕ) (xs : List X) → All (λ x. length (f x) ≤ k) xs → length (flat_map f xs) ≤ k * length xs
-flat_map_few f k [] all = omega arith
-flat_map_few {X} f k (x ∷ xs) all =
-    let P : X → Type 0 = λ y. length (f y) ≤ k in
-    let here : length (f x) ≤ k = All-head P x xs all in
-    let more = flat_map_few f k xs (All-tail P x xs all) in
-    let size = length-append (f x) (flat_map f xs) in
-    omega (arith, here, more, size)
+use Rattle.szg_chess.specs.Attacks.{is_occupied}
+use Rattle.szg_chess.specs.Position.{is_on, was_passed, has_sound_en_passant}
+use Rattle.szg_chess.specs.Moves.{men_of, promotes, moves_to, moves_if, may_pass, en_passant_moves}
 
 -- ---- captures
 
@@ -33,22 +20,31 @@ few_to s to = elim (cases_Bool (promotes s to)) [
   | inr f ↦ rw f (omega arith)
 ]
 
-few_if : (b : Bool) (s : PlacedMan) (to : ℕ) → length (moves_if b s to) ≤ 4
-few_if true s to = few_to s to
-few_if false s to = omega arith
+-- the square that a pawn has just passed over is on rank 3 or 6
+pub passed_rank : (men : List PlacedMan) (mover : Color) (q : ℕ) → was_passed men mover q ≡ true → (rank_of q ≡ 5) ⊎ (rank_of q ≡ 2)
+passed_rank men White q e =
+    let a = and_parts (rank_of q == 5 && not (is_occupied men q) && not (is_occupied men (square_at (file_of q) 6))) (is_on Pawn Black men (square_at (file_of q) 4)) e in
+    let b = and_parts (rank_of q == 5 && not (is_occupied men q)) (not (is_occupied men (square_at (file_of q) 6))) a.0 in
+    inl (eqb-true (rank_of q) 5 (and_parts (rank_of q == 5) (not (is_occupied men q)) b.0).0)
+passed_rank men Black q e =
+    let a = and_parts (rank_of q == 2 && not (is_occupied men q) && not (is_occupied men (square_at (file_of q) 1))) (is_on Pawn White men (square_at (file_of q) 3)) e in
+    let b = and_parts (rank_of q == 2 && not (is_occupied men q)) (not (is_occupied men (square_at (file_of q) 1))) a.0 in
+    inr (eqb-true (rank_of q) 2 (and_parts (rank_of q == 2) (not (is_occupied men q)) b.0).0)
 
-pub few_en_passant : (men : List PlacedMan) (o : Option ℕ) (s : PlacedMan) → length (en_passant_moves men o s) ≤ 4
-few_en_passant men None s = omega arith
-few_en_passant men (Some square) s = few_if (may_pass men s square) s square
+no_promotion : (s : PlacedMan) (square : ℕ) → (rank_of square ≡ 5) ⊎ (rank_of square ≡ 2) → promotes s square ≡ false
+no_promotion s square ranks = elim (cases_Bool (is_man Pawn s.0)) [
+  | inl pawn ↦ elim ranks [ inl e ↦ rw (pawn, e) refl | inr e ↦ rw (pawn, e) refl ]
+  | inr piece ↦ rw piece refl
+]
 
-few_by : (p : Position) (s : PlacedMan) → length (captures_by p s) ≤ 4 * length (men_of (other_color p.mover) p.placed_men) + 4
-few_by p s =
-    let f = λ (t : PlacedMan). moves_if (attacks p.placed_men s t.2) s t.2 in
-    let enemies = men_of (other_color p.mover) p.placed_men in
-    let pairs = flat_map_few f 4 enemies (λ k d h. few_if (attacks p.placed_men s (get_or enemies k d).2) s (get_or enemies k d).2) in
-    let last = few_en_passant p.placed_men p.en_passant s in
-    let size = length-append (flat_map f enemies) (en_passant_moves p.placed_men p.en_passant s) in
-    omega (arith, pairs, last, size)
+once_if : (b : Bool) (s : PlacedMan) (square : ℕ) → promotes s square ≡ false → length (moves_if b s square) ≤ 1
+once_if true s square stays = rw stays (omega arith)
+once_if false s square stays = omega arith
+
+-- a man captures en passant at most once, since no pawn promotes there
+pub one_en_passant : (men : List PlacedMan) (mover : Color) (o : Option ℕ) (s : PlacedMan) → has_sound_en_passant men mover o ≡ true → length (en_passant_moves men o s) ≤ 1
+one_en_passant men mover None s sound = omega arith
+one_en_passant men mover (Some square) s sound = once_if (may_pass men s square) s square (no_promotion s square (passed_rank men mover square sound))
 
 other_is : (color man : Color) → is_color (other_color color) man ≡ not (is_color color man)
 other_is White White = refl
@@ -58,25 +54,6 @@ other_is Black Black = refl
 
 pub sides : (color : Color) (men : List PlacedMan) → length (men_of color men) + length (men_of (other_color color) men) ≡ length men
 sides color men = length-filter_both (λ s. is_color color s.1) (λ s. is_color (other_color color) s.1) (λ s. other_is color s.1) men
-
-few_pairs : (a e : ℕ) → a + e ≤ 6 → (4 * e + 4) * a ≤ 48
-few_pairs zero e h = omega arith
-few_pairs (suc zero) e h = omega arith
-few_pairs (suc (suc zero)) e h = omega arith
-few_pairs (suc (suc (suc zero))) e h = omega arith
-few_pairs (suc (suc (suc (suc zero)))) e h = omega arith
-few_pairs (suc (suc (suc (suc (suc zero))))) e h = omega arith
-few_pairs (suc (suc (suc (suc (suc (suc zero)))))) e h = omega arith
-few_pairs (suc (suc (suc (suc (suc (suc (suc n))))))) e h = absurd (omega arith)
-
-pub few_captures : (p : Position) → length p.placed_men ≤ 6 → length (captures_of p) ≤ 48
-unfolding captures_of
-few_captures p few =
-    let own = men_of p.mover p.placed_men in let e = length (men_of (other_color p.mover) p.placed_men) in
-    let total = flat_map_few (captures_by p) (4 * e + 4) own (λ k d h. few_by p (get_or own k d)) in
-    let both = sides p.mover p.placed_men in
-    let bound = few_pairs (length own) e (omega (arith, both, few)) in
-    omega (arith, total, bound)
 
 -- ---- a pawn's pushes
 

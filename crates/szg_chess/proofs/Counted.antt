@@ -18,7 +18,7 @@ use Rattle.szg_chess.specs.Position.{Position}
 use Rattle.szg_chess.specs.Moves.{men_of, moves_to, moves_if, en_passant_moves, captures_by, captures_of, may_enter, all_squares, quiet_moves_by, quiet_moves_of}
 use Rattle.szg_chess.proofs.Facts.{IsFaultless, has_men_parts, one_king, some_of_color}
 use Rattle.szg_chess.proofs.Squares.{all_is, at_square}
-use Rattle.szg_chess.proofs.Bounds.{sides, few_to, few_en_passant, pawn_costs}
+use Rattle.szg_chess.proofs.Bounds.{sides, few_to, one_en_passant, pawn_costs}
 use Rattle.szg_chess.proofs.Different.{KeysDiffer, square_of, keys_filter, keys_men}
 
 -- ---- sums
@@ -248,7 +248,42 @@ piece_moves p s known inside on piece =
     either true false = omega arith
     either false o = omega arith
 
--- a pawn: two squares to capture on, and those of its file
+-- as many of a list pass a test as it has items, at most
+ones_few : {X : Type 0} (test : X → Bool) (xs : List X) → total (λ x. one_if (test x)) xs ≤ length xs
+unfolding total
+ones_few test [] = omega arith
+ones_few test (x ∷ xs) = let more = ones_few test xs in elim (cases_Bool (test x)) [ inl t ↦ rw t (omega (arith, more)) | inr f ↦ rw f (omega (arith, more)) ]
+
+-- a piece captures each enemy man at most once
+piece_captures : (p : Position) (s : PlacedMan) → is_man Pawn s.0 ≡ false → length (captures_by p s) ≤ length (enemies p)
+piece_captures p s piece =
+    let size = length-append (flat_map (takes p s) (enemies p)) (en_passant_moves p.placed_men p.en_passant s) in
+    let none = no_pass p.placed_men p.en_passant s piece in
+    let first = captures_of_men p s 1 (λ to. one_move s to piece) in
+    let few = ones_few (λ (t : PlacedMan). reached s t.2) (enemies p) in
+    omega (arith, size, none, first, few)
+
+-- a pawn captures each of at most two men in four ways at most, and en passant once
+pawn_captures : (p : Position) (color : Color) (from : ℕ) → IsFaultless p → AreOnBoard p.placed_men → from < 64 →
+    (length (captures_by p (Pawn, color, from)) ≤ 9) × (length (captures_by p (Pawn, color, from)) ≤ 4 * length (enemies p) + 1)
+unfolding most
+pawn_captures p color from known inside on =
+    let s : PlacedMan = (Pawn, color, from) in let men = p.placed_men in
+    let size = length-append (flat_map (takes p s) (enemies p)) (en_passant_moves men p.en_passant s) in
+    let pass = one_en_passant men p.mover p.en_passant s known.sound in
+    let first = captures_of_men p s 4 (few_to s) in
+    let hit = hits p s known inside in
+    let occupied = total_mono (λ to. one_if (reached s to && is_occupied men to)) (λ to. one_if (reached s to)) all_squares (λ k d h. let to = get_or all_squares k d in fewer (reached s to) (is_occupied men to)) in
+    let bound = few_reached Pawn color from on in
+    let few = ones_few (λ (t : PlacedMan). reached s t.2) (enemies p) in
+    (omega (arith, size, pass, first, hit, occupied, bound), omega (arith, size, pass, first, few))
+  where
+    fewer : (r o : Bool) → one_if (r && o) ≤ one_if r
+    fewer true true = omega arith
+    fewer true false = omega arith
+    fewer false o = omega arith
+
+-- a pawn moves on the squares of its file
 push_cost : ℕ → ℕ → ℕ
 push_cost from to = if files_apart from to == 0 then (if rank_of to == 0 || rank_of to == 7 then 4 else 1) else 0
 
@@ -264,30 +299,20 @@ unfolding may_enter push_cost
 pawn_enters men color from to = pawn_costs (not (is_occupied men to)) (files_apart from to == 0) _ color from to
 
 pawn_moves : (p : Position) (color : Color) (from : ℕ) → IsFaultless p → AreOnBoard p.placed_men → from < 64 → length (captures_by p (Pawn, color, from)) + length (quiet_moves_by p.placed_men (Pawn, color, from)) ≤ 26
-unfolding pushes_few most
+unfolding pushes_few
 pawn_moves p color from known inside on =
-    let s : PlacedMan = (Pawn, color, from) in let men = p.placed_men in
-    let size = length-append (flat_map (takes p s) (enemies p)) (en_passant_moves men p.en_passant s) in
-    let pass = few_en_passant men p.en_passant s in
-    let first = captures_of_men p s 4 (few_to s) in
-    let hit = hits p s known inside in
-    let occupied = total_mono (λ to. one_if (reached s to && is_occupied men to)) (λ to. one_if (reached s to)) all_squares (λ k d h. let to = get_or all_squares k d in fewer (reached s to) (is_occupied men to)) in
-    let bound = few_reached Pawn color from on in
-    let quiet = total_length (enters men s) (push_cost from) all_squares (λ k d h. pawn_enters men color from (get_or all_squares k d)) in
+    let s : PlacedMan = (Pawn, color, from) in
+    let few = (pawn_captures p color from known inside on).0 in
+    let quiet = total_length (enters p.placed_men s) (push_cost from) all_squares (λ k d h. pawn_enters p.placed_men color from (get_or all_squares k d)) in
     let pushes = leb-true (total (push_cost from) all_squares) 14 (at_square pushes_few all_pushes from on) in
-    omega (arith, size, pass, first, hit, occupied, bound, quiet, pushes)
-  where
-    fewer : (r o : Bool) → one_if (r && o) ≤ one_if r
-    fewer true true = omega arith
-    fewer true false = omega arith
-    fewer false o = omega arith
+    omega (arith, few, quiet, pushes)
 
 -- ---- all men
 
-most_of : PlacedMan → ℕ
-most_of s = if is_man King s.0 then 8 else 27
+most_of : ℕ → ℕ → PlacedMan → ℕ
+most_of king other s = if is_man King s.0 then king else other
 
-moves_of_man : (p : Position) → IsFaultless p → AreOnBoard p.placed_men → (man : Man) (color : Color) (from : ℕ) → from < 64 → length (captures_by p (man, color, from)) + length (quiet_moves_by p.placed_men (man, color, from)) ≤ most_of (man, color, from)
+moves_of_man : (p : Position) → IsFaultless p → AreOnBoard p.placed_men → (man : Man) (color : Color) (from : ℕ) → from < 64 → length (captures_by p (man, color, from)) + length (quiet_moves_by p.placed_men (man, color, from)) ≤ most_of 8 27 (man, color, from)
 unfolding most_of most
 moves_of_man p known inside Pawn color from on = let h = pawn_moves p color from known inside on in omega (arith, h)
 moves_of_man p known inside Knight color from on = piece_moves p (Knight, color, from) known inside on refl
@@ -305,12 +330,14 @@ both_lengths {X} f g cost (x ∷ xs) le =
     let a = length-append (f x) (flat_map f xs) in let b = length-append (g x) (flat_map g xs) in
     omega (arith, here, more, a, b)
 
--- the kings of a colour among its men make their sum less
-kings_less : (color : Color) (men : List PlacedMan) → total most_of (men_of color men) + 19 * length (filter (λ s. is_man King s.0 && is_color color s.1) men) ≤ 27 * length (men_of color men)
+-- what the men of a colour have together at most, by its kings and the others
+sum_of_most : (king other : ℕ) (color : Color) (men : List PlacedMan) →
+    total (most_of king other) (men_of color men) + other * length (filter (λ s. is_man King s.0 && is_color color s.1) men)
+    ≡ other * length (men_of color men) + king * length (filter (λ s. is_man King s.0 && is_color color s.1) men)
 unfolding total most_of
-kings_less color [] = omega arith
-kings_less color (s ∷ men) =
-    let more = kings_less color men in
+sum_of_most king other color [] = omega arith
+sum_of_most king other color (s ∷ men) =
+    let more = sum_of_most king other color men in
     elim (cases_Bool (is_color color s.1)) [
       | inl own ↦ elim (cases_Bool (is_man King s.0)) [
         | inl king ↦ rw (own, king) (omega (arith, more))
@@ -322,6 +349,28 @@ kings_less color (s ∷ men) =
       ]
     ]
 
+-- and with one king
+most_together : (king other : ℕ) (p : Position) → IsFaultless p →
+    total (most_of king other) (men_of p.mover p.placed_men) + other ≡ other * length (men_of p.mover p.placed_men) + king
+most_together king other p known =
+    let sum = sum_of_most king other p.mover p.placed_men in
+    let count = length-filter (λ (s : PlacedMan). is_man King s.0 && is_color p.mover s.1) p.placed_men in
+    let one = one_king p.placed_men (has_men_parts p.placed_men known.men) p.mover in
+    let kings : length (filter (λ (s : PlacedMan). is_man King s.0 && is_color p.mover s.1) p.placed_men) ≡ 1 = omega (arith, count, one) in
+    let h = rw kings at sum in
+    omega (arith, h)
+
+record Sides (p : Position) : Type 0 where
+  few : length (men_of p.mover p.placed_men) + length (enemies p) ≤ 6
+  enemy : 1 ≤ length (enemies p)
+
+both_sides : (p : Position) → IsFaultless p → Sides p
+both_sides p known =
+    let men = has_men_parts p.placed_men known.men in
+    let both = sides p.mover p.placed_men in
+    let few = men.few in
+    record { few = omega (arith, both, few); enemy = some_of_color p.placed_men men (other_color p.mover) }
+
 -- a position has at most 116 moves
 pub few_moves : (p : Position) → IsFaultless p → AreOnBoard p.placed_men → length (captures_of p) + length (quiet_moves_of p) ≤ 116
 unfolding captures_of quiet_moves_of
@@ -329,12 +378,45 @@ few_moves p known inside =
     let own = men_of p.mover p.placed_men in
     let On : PlacedMan → Type 0 = λ s. s.2 < 64 in
     let on : All On own = All-filter (λ s. is_color p.mover s.1) On p.placed_men inside in
-    let all = both_lengths (captures_by p) (quiet_moves_by p.placed_men) most_of own (All-weaker On (λ s. length (captures_by p s) + length (quiet_moves_by p.placed_men s) ≤ most_of s) (λ s. moves_of_man p known inside s.0 s.1 s.2) own on) in
-    let less = kings_less p.mover p.placed_men in
-    let count = length-filter (λ (s : PlacedMan). is_man King s.0 && is_color p.mover s.1) p.placed_men in
-    let men = has_men_parts p.placed_men known.men in
-    let king = one_king p.placed_men men p.mover in
-    let both = sides p.mover p.placed_men in
-    let enemy = some_of_color p.placed_men men (other_color p.mover) in
-    let few = men.few in
-    omega (arith, all, less, count, king, both, enemy, few)
+    let all = both_lengths (captures_by p) (quiet_moves_by p.placed_men) (most_of 8 27) own (All-weaker On (λ s. length (captures_by p s) + length (quiet_moves_by p.placed_men s) ≤ most_of 8 27 s) (λ s. moves_of_man p known inside s.0 s.1 s.2) own on) in
+    let most = most_together 8 27 p known in
+    let men = both_sides p known in
+    let few = men.few in let enemy = men.enemy in
+    omega (arith, all, most, few, enemy)
+
+-- ---- captures
+
+abbrev FewCaptures : Position → PlacedMan → Type 0
+FewCaptures p s = (length (captures_by p s) ≤ most_of (length (enemies p)) 9 s) × (length (captures_by p s) ≤ most_of (length (enemies p)) (4 * length (enemies p) + 1) s)
+
+of_piece : (p : Position) → IsFaultless p → (s : PlacedMan) → is_man Pawn s.0 ≡ false → (length (captures_by p s) ≤ 9) × (length (captures_by p s) ≤ 4 * length (enemies p) + 1)
+of_piece p known s piece = let h = piece_captures p s piece in let few = (both_sides p known).few in (omega (arith, h, few), omega (arith, h))
+
+captures_of_man : (p : Position) → IsFaultless p → AreOnBoard p.placed_men → (man : Man) (color : Color) (from : ℕ) → from < 64 → FewCaptures p (man, color, from)
+unfolding most_of
+captures_of_man p known inside Pawn color from on = pawn_captures p color from known inside on
+captures_of_man p known inside King color from on = let h = piece_captures p (King, color, from) refl in (h, h)
+captures_of_man p known inside Knight color from on = of_piece p known (Knight, color, from) refl
+captures_of_man p known inside Bishop color from on = of_piece p known (Bishop, color, from) refl
+captures_of_man p known inside Rook color from on = of_piece p known (Rook, color, from) refl
+captures_of_man p known inside Queen color from on = of_piece p known (Queen, color, from) refl
+
+-- n captures of a men, beside e enemies
+few_of_few : (n a e : ℕ) → a + e ≤ 6 → 1 ≤ e → n + 9 ≤ 9 * a + e → n + (4 * e + 1) ≤ (4 * e + 1) * a + e → n ≤ 29
+few_of_few n a zero few enemy first second = absurd (omega arith)
+few_of_few n a (suc zero) few enemy first second = omega arith
+few_of_few n a (suc (suc e)) few enemy first second = omega (arith, few, first)
+
+-- a position has at most 29 captures: with four men against two, two by the king and nine by each pawn
+pub few_captures : (p : Position) → IsFaultless p → AreOnBoard p.placed_men → length (captures_of p) ≤ 29
+unfolding captures_of
+few_captures p known inside =
+    let own = men_of p.mover p.placed_men in let e = length (enemies p) in
+    let On : PlacedMan → Type 0 = λ s. s.2 < 64 in
+    let on : All On own = All-filter (λ s. is_color p.mover s.1) On p.placed_men inside in
+    let first = total_length (captures_by p) (most_of e 9) own (All-weaker On (λ s. length (captures_by p s) ≤ most_of e 9 s) (λ s here. (captures_of_man p known inside s.0 s.1 s.2 here).0) own on) in
+    let second = total_length (captures_by p) (most_of e (4 * e + 1)) own (All-weaker On (λ s. length (captures_by p s) ≤ most_of e (4 * e + 1) s) (λ s here. (captures_of_man p known inside s.0 s.1 s.2 here).1) own on) in
+    let a = most_together e 9 p known in
+    let b = most_together e (4 * e + 1) p known in
+    let men = both_sides p known in
+    few_of_few (length (flat_map (captures_by p) own)) (length own) e men.few men.enemy (omega (arith, first, a)) (omega (arith, second, b))

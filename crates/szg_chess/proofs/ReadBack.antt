@@ -20,6 +20,7 @@ use Rattle.szg_chess.specs.Uci.{square_text}
 use Rattle.szg_chess.specs.declared.PositionFault.{PositionFault}
 use Rattle.szg_chess.specs.declared.PositionFault.TheVariants as fault
 use Rattle.szg_chess.specs.Fen.{field, rest, from_mover, from_castling, from_en_passant, is_mover, mover_of, is_dash, is_passed_square, is_en_passant_field, en_passant_of, is_number, is_last, has_counters, position_of, has_ranks, board_fault, fields_fault, counters_fault, fen_fault, mover_text, en_passant_text, fen_text, man_of_letter, is_gap, is_slash, is_space, is_board_letter, width_of, rank_width, are_ranks, men_at, men_of_rank, men_of_ranks, letter_of_man, after_empty, after_square, squares_text, ranks_text}
+use Rattle.szg_chess.proofs.Bounds.{passed_rank}
 use Rattle.szg_chess.proofs.Members.{some_of, only_man, contains_cons}
 use Rattle.szg_chess.proofs.Writing.{letter_no_gap, ranks_more, ranks_end}
 use Rattle.szg_chess.proofs.Facts.{faultless, first_none}
@@ -459,16 +460,6 @@ is_passed q ranks =
       | inl e ↦ or_right (d == 51) (d == 54) (eq-eqb d 54 (omega (arith, e)))
       | inr e ↦ or_left (d == 51) (d == 54) (eq-eqb d 51 (omega (arith, e)))
     ])
-
-passed_rank : (men : List PlacedMan) (mover : Color) (q : ℕ) → was_passed men mover q ≡ true → (rank_of q ≡ 5) ⊎ (rank_of q ≡ 2)
-passed_rank men White q e =
-    let a = and_parts (rank_of q == 5 && not (is_occupied men q) && not (is_occupied men (square_at (file_of q) 6))) (is_on Pawn Black men (square_at (file_of q) 4)) e in
-    let b = and_parts (rank_of q == 5 && not (is_occupied men q)) (not (is_occupied men (square_at (file_of q) 6))) a.0 in
-    inl (eqb-true (rank_of q) 5 (and_parts (rank_of q == 5) (not (is_occupied men q)) b.0).0)
-passed_rank men Black q e =
-    let a = and_parts (rank_of q == 2 && not (is_occupied men q) && not (is_occupied men (square_at (file_of q) 1))) (is_on Pawn White men (square_at (file_of q) 3)) e in
-    let b = and_parts (rank_of q == 2 && not (is_occupied men q)) (not (is_occupied men (square_at (file_of q) 1))) a.0 in
-    inr (eqb-true (rank_of q) 2 (and_parts (rank_of q == 2) (not (is_occupied men q)) b.0).0)
 
 is_last_field : (men : List PlacedMan) (mover : Color) (o : Option ℕ) → has_sound_en_passant men mover o ≡ true → is_en_passant_field (en_passant_text o) ≡ true
 is_last_field men mover None sound = refl

@@ -19,9 +19,9 @@ mod tables;
 mod texts;
 mod uci;
 
-/// A list of captures has room for this many. With a men of one side and b of the other each man has at most four
-/// moves for each man that it captures and four en passant, and 4 a (b + 1) is at most 48.
-pub const MAX_CAPTURES: usize = 48;
+/// A list of captures has room for this many. A pawn attacks two squares, so that it has at most 8 captures and one en
+/// passant, and a piece one of each enemy man. With four men against two, these are at most 2 of the king and 27.
+pub const MAX_CAPTURES: usize = 29;
 
 /// A list of legal moves has room for this many. A king has at most 8 moves, and each of four other men at most 27: 116.
 pub const MAX_MOVES: usize = 128;

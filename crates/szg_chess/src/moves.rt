@@ -108,7 +108,7 @@ impl Position {
 
     // A fact that callers may use: there are few captures.
     fn captures_fit(&self)
-        ensures few { length (captures_of self.now) ≤ 48 }
+        ensures few { length (captures_of self.now) ≤ 29 }
         ensures all { filter (is_capture self.now) (legal_moves self.now) ≡ legal_captures self.now }
         ensures legal { All (Contains (legal_moves self.now)) (legal_captures self.now) }
     {
