@@ -1,5 +1,5 @@
 -- A man attacks a square if it reaches it on an empty board, and no man is between.
-use Rattle.std.proofs.Common.{◌≡◌, ℕ, ◌+◌, ◌<◌, ◌≤◌, List, [], ◌∷◌, refl, sym, ap, ◌∙◌, Bool, true, false, arith, inl, inr, ◌⊎◌}
+use Rattle.std.proofs.Common.{◌≡◌, ℕ, ◌+◌, ◌<◌, ◌≤◌, List, [], refl, sym, ap, ◌∙◌, Bool, true, false, arith, inl, inr, ◌⊎◌}
 use Rattle.std.specs.Prelude.{not, ◌&&◌, ◌||◌, ◌==◌, nat_lt, nat_le, min}
 use Rattle.std.specs.List.{All, list_any, Contains}
 use Rattle.std.specs.Int.{bit_at}
@@ -13,9 +13,9 @@ use Rattle.szg_values.specs.declared.Man.TheVariants.{Pawn, Knight, Bishop, Rook
 use Rattle.szg_values.specs.declared.Color.{Color}
 use Rattle.szg_values.specs.declared.Color.TheVariants.{White, Black}
 use Rattle.szg_chess.specs.Attacks.{distance, files_apart, ranks_apart, is_straight, is_diagonal, is_amid, is_between, is_ahead, is_occupied, is_clear, is_king_step, is_knight_jump, is_pawn_attack, attacks}
-use Rattle.szg_chess.specs.Squares.{is_in, set_below, squares_of, squares_between, reach_of, attacks_past}
+use Rattle.szg_chess.specs.Squares.{squares_of, squares_between, attacks_past}
 use Rattle.szg_chess.proofs.Members.{any_of, some_of, none_of}
-use Rattle.szg_chess.proofs.Sets.{same_bool, set_small, in_set, in_bit, no_bit}
+use Rattle.szg_chess.proofs.Sets.{set_small, in_set, in_bit, no_bit}
 
 -- ---- no square is between two near ones
 

@@ -1,21 +1,20 @@
 -- The text of a position is read as that position.
-use Rattle.std.proofs.Common.{◌≡◌, ◌≢◌, ℕ, ◌+◌, ◌-◌, ◌*◌, ◌<◌, ◌≤◌, List, [], ◌∷◌, ◌++◌, length, take, drop, get_or, zero, suc, refl, sym, ap, ◌∙◌, subst, Bool, true, false, arith, inl, inr, ◌⊎◌, Option, Some, None, Contains, append_assoc}
+use Rattle.std.proofs.Common.{◌≡◌, ◌≢◌, ℕ, ◌+◌, ◌-◌, ◌*◌, ◌<◌, ◌≤◌, List, [], ◌∷◌, ◌++◌, length, take, drop, zero, suc, refl, sym, ap, ◌∙◌, subst, Bool, true, false, arith, inl, inr, ◌⊎◌, Option, Some, None, Contains, append_assoc}
 use Rattle.std.specs.Prelude.{◌==◌, ◌&&◌, ◌||◌, not, cond, is_some, nat_le, nat_lt, count_by, if◌then◌else◌, option_map}
 use Rattle.std.specs.List.{All, list_all, list_any, find, position_or_len, before_first, after_first}
 use Rattle.std.proofs.lemmas.Bool.{cases_Bool, and_parts, and_from, both_ways, eq-eqb, ne_eqb, eqb-true, eqb-false, leb-true, le-leb, ltb-false, ltb-true, not-true, not_from_false, false_from_ne_true}
 use Rattle.std.proofs.lemmas.List.Elements.{All-contains, All-head, Contains-append_left, Contains-append_right, Contains-append_cases}
 use Rattle.std.proofs.lemmas.List.Folds.{list_all-append, list_any-append}
 use Rattle.std.proofs.lemmas.List.Sums.{sum_by-append, sum_by-cons}
-use Rattle.szg_values.specs.Men.{file_of, rank_of, square_at}
+use Rattle.szg_values.specs.Men.{file_of, rank_of}
 use Rattle.szg_values.specs.Placement.{PlacedMan, has_distinct_squares}
 use Rattle.szg_values.specs.declared.Man.{Man}
 use Rattle.szg_values.specs.declared.Man.TheVariants.{Pawn, Knight, Bishop, Rook, Queen, King}
 use Rattle.szg_values.specs.declared.Color.{Color}
 use Rattle.szg_values.specs.declared.Color.TheVariants.{White, Black}
-use Rattle.szg_chess.specs.Attacks.{is_occupied}
-use Rattle.szg_chess.specs.Position.{Position, IsPosition, man_on, is_on, was_passed, has_sound_en_passant, first_of, men_fault, state_fault, position_fault}
-use Rattle.szg_chess.specs.Images.{Same, man_image, IsImage}
-use Rattle.szg_chess.specs.Laws.{IsReadBack, LawReadBack}
+use Rattle.szg_chess.specs.Position.{Position, man_on, has_sound_en_passant, first_of, men_fault, state_fault, position_fault}
+use Rattle.szg_chess.specs.Images.{Same, IsImage}
+use Rattle.szg_chess.specs.Laws.{LawReadBack}
 use Rattle.szg_chess.specs.Uci.{square_text}
 use Rattle.szg_chess.specs.declared.PositionFault.{PositionFault}
 use Rattle.szg_chess.specs.declared.PositionFault.TheVariants as fault

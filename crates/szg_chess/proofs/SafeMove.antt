@@ -1,8 +1,8 @@
 -- Whether a move leaves its king in check, without the list of the men after it.
-use Rattle.std.proofs.Common.{◌≡◌, ◌≢◌, ℕ, ◌<◌, List, [], ◌∷◌, map, get_or, refl, sym, ap, ◌∙◌, Bool, true, false, arith, inl, inr, Option, Some, None}
-use Rattle.std.specs.Prelude.{filter, not, ◌&&◌, ◌||◌, ◌==◌, unwrap_or, if◌then◌else◌}
+use Rattle.std.proofs.Common.{◌≡◌, ℕ, ◌<◌, List, [], ◌∷◌, map, get_or, refl, sym, ap, ◌∙◌, Bool, true, false, inl, inr, Some}
+use Rattle.std.specs.Prelude.{filter, not, ◌&&◌, ◌||◌, ◌==◌, unwrap_or}
 use Rattle.std.specs.List.{All, list_any, Contains}
-use Rattle.std.proofs.lemmas.Bool.{cases_Bool, and_parts, and_from, or_cases, eq-eqb, ne_eqb, eqb-true, eqb-false, not-true, not_from_false}
+use Rattle.std.proofs.lemmas.Bool.{cases_Bool, and_parts, or_cases, eq-eqb, ne_eqb, eqb-true, eqb-false, not-true, not_from_false}
 use Rattle.std.proofs.lemmas.List.Elements.{All-head, All-tail, All-map, All-filter, All-contains_itself}
 use Rattle.szg_values.specs.Men.{is_man, is_color, other_color}
 use Rattle.szg_values.specs.Placement.{PlacedMan, AreOnBoard}
@@ -16,7 +16,7 @@ use Rattle.szg_chess.specs.Position.{Position, IsPosition}
 use Rattle.szg_chess.specs.Moves.{is_en_passant, captured_square, man_after, men_after, is_legal}
 use Rattle.szg_chess.specs.Squares.{is_in, is_in_moved, is_attacked_king, squares_of, attacks_past}
 use Rattle.szg_chess.proofs.Members.{any_of, some_of, any_map, same_man}
-use Rattle.szg_chess.proofs.AfterMen.{is_off, moved, off_is, off_from, goes, stays, all_moved, some_moved}
+use Rattle.szg_chess.proofs.AfterMen.{is_off, moved, off_is, goes, stays, some_moved}
 use Rattle.szg_chess.proofs.Sets.{same_bool, in_set}
 use Rattle.szg_chess.proofs.Reach.{reach_split, attacks_by_sets}
 use Rattle.szg_chess.proofs.Facts.{IsFaultless, faultless}

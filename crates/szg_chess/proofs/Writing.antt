@@ -1,6 +1,6 @@
 -- A board as text, square by square.
-use Rattle.std.proofs.Common.{◌≡◌, ℕ, ◌+◌, ◌*◌, ◌<◌, ◌≤◌, List, [], ◌∷◌, ◌++◌, zero, suc, refl, sym, ap, ◌∙◌, Bool, true, false, arith, inl, inr, Option, Some, None, append_assoc}
-use Rattle.std.specs.Prelude.{◌==◌, nat_le, if◌then◌else◌, IfSome}
+use Rattle.std.proofs.Common.{◌≡◌, ℕ, ◌+◌, ◌*◌, ◌<◌, ◌≤◌, List, [], ◌∷◌, ◌++◌, zero, suc, refl, sym, ap, ◌∙◌, true, false, arith, Option, Some, None, append_assoc}
+use Rattle.std.specs.Prelude.{◌==◌, nat_le, IfSome}
 use Rattle.std.proofs.lemmas.Bool.{and_from, le-leb, ne_eqb}
 use Rattle.std.proofs.lemmas.List.{append-nil}
 use Rattle.szg_values.specs.Placement.{PlacedMan}

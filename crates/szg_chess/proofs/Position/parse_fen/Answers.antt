@@ -1,5 +1,5 @@
-use Rattle.std.proofs.Common.{◌≡◌, ◌∙◌, ap, sym, true, None, List, ℕ, inl, inr}
-use Rattle.std.specs.Prelude.{◌&&◌, not, ◌==◌, count_by}
+use Rattle.std.proofs.Common.{◌≡◌, ◌∙◌, sym, true, None, List, ℕ, inl, inr}
+use Rattle.std.specs.Prelude.{◌==◌, count_by}
 use Rattle.std.specs.List.{list_all}
 use Rattle.std.proofs.lemmas.Bool.{cases_Bool, and_parts}
 use Rattle.szg_chess.specs.Fen.{are_ranks, has_ranks, board_fault, is_board_letter, is_slash}

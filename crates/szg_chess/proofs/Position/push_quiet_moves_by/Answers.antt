@@ -1,5 +1,4 @@
 use Rattle.std.proofs.Common.{rules, ◌≡◌, ◌++◌, ◌∙◌, sym, ap, length, length-append, filter, flat_map, arith, ℕ, List}
-use Rattle.szg_values.specs.Placement.{PlacedMan}
 use Rattle.szg_chess.specs.Moves.{moves_if, may_enter, is_legal}
 use Rattle.szg_chess.proofs.Pushing.{pieces_more}
 use Rattle.szg_chess.proofs.Squares.{squares_room, all_is}

@@ -1,4 +1,4 @@
-use Rattle.std.proofs.Common.{◌≡◌, ◌∙◌, ℕ, sym, ap}
+use Rattle.std.proofs.Common.{◌∙◌, ℕ, ap}
 use Rattle.szg_chess.specs.Attacks.{is_occupied}
 use Rattle.szg_chess.specs.Moves.{men_after}
 use Rattle.szg_chess.proofs.AfterMen.{moved}

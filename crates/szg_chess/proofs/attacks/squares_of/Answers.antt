@@ -1,14 +1,10 @@
-use Rattle.std.proofs.Common.{◌≡◌, ◌+◌, ◌<◌, ◌≤◌, ◌∙◌, ℕ, List, length, take, sym, ap, arith, Bool, true, false, inl, inr, w64}
+use Rattle.std.proofs.Common.{◌≤◌, ◌∙◌, ℕ, List, length, take, sym, ap, arith, Bool}
 use Rattle.std.specs.Prelude.{◌==◌, ◌||◌}
-use Rattle.std.specs.List.{list_any}
-use Rattle.std.specs.Int.{bit_at}
-use Rattle.std.proofs.lemmas.Bool.{cases_Bool, eq-eqb, ne_eqb, eqb-true, eqb-false}
 use Rattle.std.proofs.lemmas.List.{take_all}
 use Rattle.std.proofs.lemmas.List.Folds.{list_any_more}
-use Rattle.std.proofs.lemmas.Nat.Bits.{bit_at-zero, bit_at_set_same, bit_at_set_other}
+use Rattle.std.proofs.lemmas.Nat.Bits.{bit_at-zero}
 use Rattle.szg_values.specs.Placement.{PlacedMan}
 use Rattle.szg_chess.specs.Attacks.{is_occupied}
-use Rattle.szg_chess.specs.Squares.{is_in, squares_of}
 use Rattle.szg_chess.proofs.Sets.{from_squares, added, turned}
 use Rattle.szg_chess.proofs.attacks.squares_of.Goals as goal
 

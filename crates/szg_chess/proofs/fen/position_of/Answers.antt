@@ -1,5 +1,4 @@
-use Rattle.std.proofs.Common.{◌≡◌, ◌∙◌, ap, sym, true, None, List, ℕ, inl, inr}
-use Rattle.std.specs.Prelude.{not}
+use Rattle.std.proofs.Common.{◌≡◌, ◌∙◌, ap, true, None, List, ℕ, inl, inr}
 use Rattle.std.proofs.lemmas.Bool.{cases_Bool}
 use Rattle.szg_chess.specs.Fen.{field, is_mover, is_dash, is_en_passant_field, from_mover, from_castling, from_en_passant, fields_fault}
 use Rattle.szg_chess.proofs.fen.position_of.Goals as goal

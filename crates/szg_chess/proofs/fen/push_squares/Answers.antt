@@ -1,4 +1,4 @@
-use Rattle.std.proofs.Common.{◌≡◌, ℕ, ◌+◌, ◌-◌, ◌++◌, ◌∙◌, List, sym, ap, refl, arith}
+use Rattle.std.proofs.Common.{◌≡◌, ℕ, ◌+◌, ◌-◌, ◌++◌, ◌∙◌, List, sym, ap, arith}
 use Rattle.szg_chess.specs.Position.{man_on}
 use Rattle.szg_chess.specs.Fen.{squares_text, after_square}
 use Rattle.szg_chess.proofs.Writing.{after_empties, square_written, squares_more, squares_end, empties_end}

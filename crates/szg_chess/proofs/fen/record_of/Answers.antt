@@ -1,5 +1,4 @@
 use Rattle.std.proofs.Common.{◌≡◌, ◌∙◌, ap, sym, true, None, List, ℕ, inl, inr}
-use Rattle.std.specs.Prelude.{not}
 use Rattle.std.proofs.lemmas.Bool.{cases_Bool}
 use Rattle.szg_chess.specs.Fen.{has_counters, from_en_passant, counters_fault}
 use Rattle.szg_chess.proofs.fen.record_of.Goals as goal

@@ -1,4 +1,4 @@
-use Rattle.std.proofs.Common.{ℕ, ◌+◌, ◌*◌, ◌<◌, ap, ◌∙◌, arith}
+use Rattle.std.proofs.Common.{ℕ, ◌+◌, ◌*◌, ap, ◌∙◌, arith}
 use Rattle.std.specs.Prelude.{slice_index, ◌&&◌, if◌then◌else◌}
 use Rattle.szg_values.specs.Men.{is_man, is_color, code_of}
 use Rattle.szg_values.specs.declared.Man.TheVariants.{Pawn}
