@@ -5,6 +5,7 @@ use szg_place::PlaceFault;
 use szg_values::{Kind, Material};
 use thiserror::Error;
 
+mod distances;
 mod in_memory;
 pub mod laws;
 
