@@ -45,8 +45,7 @@ impl<'a> DtzTables for TableSet<'a> {
 fn is_left_out(position: &Position) -> bool
     ensures { result ≡ is_left_out position.now.placed_men position.now.mover }
 {
-    position.men().len() < 3
-        || (is_black(position.mover()) && has_equal_sides(position.men()))
+    position.men().len() < 3 || (is_black(position.mover()) && has_equal_sides(position.men()))
 }
 
 fn is_black(color: Color) -> bool

@@ -8,8 +8,10 @@ use thiserror::Error;
 mod distances;
 mod in_memory;
 pub mod laws;
+mod verifying;
 
 pub use in_memory::{TableSet, number_of_class};
+pub use verifying::{VerifyFault, verify_tables};
 
 /// What a set of tables does not have for the men of a position.
 #[derive(Debug, Drop, Error)]
