@@ -1,6 +1,12 @@
 -- What is stored, by the table that is found.
-use Rattle.std.proofs.Common.{◌≡◌, ◌<◌, ◌≤◌, ℕ, List, length, refl, sym, ap, ◌∙◌, subst, Option, Some, None, arith}
-use Rattle.std.specs.Prelude.{option_and_then}
+use Rattle.std.proofs.lemmas.Bool.{le-ltb, ltb-false, or_parts}
+use Rattle.std.proofs.Common.{◌≡◌, ◌<◌, ◌≤◌, ℕ, List, length, refl, sym, ap, ◌∙◌, subst, Option, Some, None, Bool, true, false, arith}
+use Rattle.szg_verify.specs.declared.Distance.{Distance}
+use Rattle.szg_tables.specs.Distances.{distance_in, is_left_out, stored_distances}
+use Rattle.std.specs.Prelude.{option_and_then, nat_lt, ◌&&◌, ◌||◌}
+use Rattle.szg_values.specs.Men.{is_color}
+use Rattle.szg_values.specs.declared.Color.TheVariants.{Black}
+use Rattle.szg_verify.specs.Verified.{has_equal_sides}
 use Rattle.szg_values.specs.Placement.{PlacedMan, Board}
 use Rattle.szg_values.specs.declared.Color.{Color}
 use Rattle.szg_values.specs.declared.Kind.{Kind}
@@ -34,3 +40,19 @@ module _ (tables : List Shown) (men : List PlacedMan) (mover : Color) (board : B
 
 pub lacks : (kind other : Kind) (classes : StoredClasses) (numbers : StoredNumbers) (men : List PlacedMan) (mover : Color) → other ≡ kind → LacksKind kind classes numbers men mover → LacksKind other classes numbers men mover
 lacks kind other classes numbers men mover same h = subst (λ (k : Kind). LacksKind k classes numbers men mover) (sym same) h
+
+-- ---- numbers with how they count
+
+pub left_out_is : (n : ℕ) (b e r : Bool) → 3 ≤ n → b ≡ true → r ≡ e → r ≡ (nat_lt n 3 || (b && e))
+left_out_is n b e r more t same = rw (le-ltb n 3 more) (rw t same)
+
+pub kept_is_many : (men : List PlacedMan) (mover : Color) → is_left_out men mover ≡ false → 2 < length men
+kept_is_many men mover kept =
+    let more : 3 ≤ length men = ltb-false (length men) 3 ((or_parts (nat_lt (length men) 3) (is_color Black mover && has_equal_sides men) kept).0) in
+    omega (arith, more)
+
+pub distance_by_table : (tables : List Shown) (men : List PlacedMan) (mover : Color) (board : Board) → board ≡ board_of men mover → (k : Class) (t : Shown) (d : Option Distance) → is_left_out men mover ≡ false →
+    table_for Dtz board tables ≡ Some t → distance_in board k t.contents ≡ d → stored_distances tables men mover k ≡ d
+distance_by_table tables men mover board is k t d kept found there =
+    let f = subst (λ (b : Board). table_for Dtz b tables ≡ Some t) is found in
+    rw kept (ap (λ (o : Option Shown). option_and_then (λ t. distance_in (board_of men mover) k t.contents) o) f ∙ subst (λ (b : Board). distance_in b k t.contents ≡ d) is there)

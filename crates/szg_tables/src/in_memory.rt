@@ -30,7 +30,7 @@ impl<'a> TableSet<'a> {
     }
 
     /// Returns the first table of a kind for the men of a placement.
-    fn find(&self, kind: Kind, placement: &Placement) -> Result<&'a Table, Missing>
+    pub(crate) fn find(&self, kind: Kind, placement: &Placement) -> Result<&'a Table, Missing>
         ensures found { IfOk result (λ t. table_for kind placement.now self.now.tables.now ≡ Some t.now) }
         ensures kind { IfOk result (λ t. t.now.contents.kind ≡ kind) }
         ensures none { IfErr result (λ missing. table_for kind placement.now self.now.tables.now ≡ None) }
@@ -117,7 +117,7 @@ fn class_in(table: &Table, placement: &Placement) -> Result<Class, MissingReason
 }
 
 /// Returns the number of a placement in a class in a DTZ table. None if the table stores the other side to move.
-fn number_in(
+pub(crate) fn number_in(
     table: &Table,
     placement: &Placement,
     class: Class,

@@ -5,10 +5,13 @@ use szg_place::PlaceFault;
 use szg_values::{Kind, Material};
 use thiserror::Error;
 
+mod distances;
 mod in_memory;
 pub mod laws;
+mod verifying;
 
 pub use in_memory::{TableSet, number_of_class};
+pub use verifying::{VerifyFault, verify_tables};
 
 /// What a set of tables does not have for the men of a position.
 #[derive(Debug, Drop, Error)]

@@ -1,21 +1,20 @@
 -- Men in another order.
-use Rattle.std.proofs.Common.{◌≡◌, ℕ, ◌+◌, ◌<◌, ◌≤◌, ◌⊎◌, List, [], ◌∷◌, ◌++◌, length, map, refl, sym, ap, ◌∙◌, subst, Bool, true, false, arith, inl, inr, suc, Contains, None}
+use Rattle.std.proofs.Common.{◌≡◌, ℕ, ◌+◌, ◌<◌, ◌≤◌, ◌⊎◌, List, [], ◌∷◌, length, refl, sym, ap, ◌∙◌, Bool, true, false, arith, inl, inr, suc, None}
 use Rattle.std.specs.Prelude.{filter, not, ◌&&◌, ◌||◌, ◌==◌, nat_le, option_map}
-use Rattle.std.specs.List.{list_any, list_all, All}
-use Rattle.std.proofs.lemmas.Bool.{cases_Bool, and_parts, and_from, eq-eqb, eqb-true, leb-true, le-leb}
+use Rattle.std.specs.List.{list_any, list_all}
+use Rattle.std.proofs.lemmas.Bool.{cases_Bool, and_parts, and_from, eq-eqb, eqb-true, le-leb}
 use Rattle.std.proofs.lemmas.List.Elements.{All-head, All-tail, All-cons}
 use Rattle.std.proofs.lemmas.List.Sums.{length-filter}
 use Rattle.szg_values.specs.Men.{is_man, is_color, other_color, rank_of}
-use Rattle.szg_values.specs.Placement.{PlacedMan, AreOnBoard, number_of, has_distinct_squares, has_pawns_on_inner_ranks}
+use Rattle.szg_values.specs.Placement.{PlacedMan, AreOnBoard, number_of, has_distinct_squares}
 use Rattle.szg_values.specs.declared.Man.{Man}
 use Rattle.szg_values.specs.declared.Man.TheVariants.{Pawn, King}
 use Rattle.szg_values.specs.declared.Color.{Color}
 use Rattle.szg_values.specs.declared.Color.TheVariants.{White, Black}
 use Rattle.szg_game.proofs.Lists.{IsIn, contains_in, in_contains}
-use Rattle.szg_chess.specs.Attacks.{is_in_check}
 use Rattle.szg_chess.specs.Laws.{kinds_of}
 use Rattle.szg_chess.specs.Position.{Position, IsPosition, has_two_to_six, has_kings}
-use Rattle.szg_chess.specs.Images.{Symmetry, Same, IsImage, square_image}
+use Rattle.szg_chess.specs.Images.{Same, IsImage, square_image}
 use Rattle.szg_chess.proofs.Facts.{faultless, no_fault, has_men_parts, one_king}
 use Rattle.szg_chess.proofs.Images.Geometry.{same_test}
 use Rattle.szg_chess.proofs.Images.Men.{AreImages}

@@ -14,3 +14,4 @@ pub mod Images
 pub mod Materials
 pub mod Arranged
 pub mod Whole
+pub mod Changes

@@ -1,13 +1,13 @@
 -- The walk over the positions of a material leaves out none but images.
-use Rattle.std.proofs.Common.{◌≡◌, ℕ, ◌+◌, ◌-◌, ◌*◌, ◌/◌, ◌%◌, ◌^◌, ◌<◌, ◌≤◌, ◌⊎◌, List, [], ◌∷◌, ◌++◌, length, length-append, map, refl, sym, ap, ◌∙◌, subst, Bool, true, false, arith, inl, inr, zero, suc, get_or, take, Contains, Option, Some, None}
+use Rattle.std.proofs.Common.{◌≡◌, ℕ, ◌+◌, ◌*◌, ◌/◌, ◌%◌, ◌^◌, ◌<◌, ◌≤◌, ◌⊎◌, List, [], ◌∷◌, ◌++◌, length, length-append, map, refl, sym, ap, ◌∙◌, subst, Bool, true, false, arith, inl, inr, get_or, take, Contains, Option, Some, None}
 use Rattle.std.specs.Prelude.{filter, not, ◌&&◌, ◌||◌, ◌==◌, nat_le, nat_lt, option_map, is_some, count_by, IfSome}
-use Rattle.std.specs.List.{list_any, list_all, All}
-use Rattle.std.proofs.lemmas.Bool.{cases_Bool, and_parts, and_from, and_right, or_cases, or_left, or_right, eq-eqb, eqb-true, leb-true, leb-false, le-leb, ltb-true, ltb-false, not-true, or_parts, both_ways, false_from_ne_true, not_from_false}
+use Rattle.std.specs.List.{list_any}
+use Rattle.std.proofs.lemmas.Bool.{cases_Bool, and_parts, and_from, and_right, or_cases, or_left, or_right, eqb-true, leb-true, leb-false, le-leb, ltb-true, ltb-false, not-true, or_parts, both_ways, false_from_ne_true, not_from_false}
 use Rattle.std.proofs.lemmas.List.Elements.{All-head, All-tail, filter-append}
 use Rattle.std.proofs.lemmas.List.Sums.{length-filter}
 use native.Mathlib.Nat.{pow-suc, pow-le-pow_right, zero-lt-suc}
 use Rattle.std.proofs.lemmas.List.{length-map, map-append, take_more}
-use Rattle.szg_values.specs.Men.{code_of, is_man, is_color, other_color, name_order, file_of, rank_of, square_at}
+use Rattle.szg_values.specs.Men.{code_of, is_man, is_color, other_color, file_of, rank_of}
 use Rattle.szg_values.specs.Material.{Sides, man_codes}
 use Rattle.szg_values.specs.Placement.{PlacedMan, AreOnBoard, number_of}
 use Rattle.szg_values.specs.declared.Man.{Man}
@@ -18,7 +18,7 @@ use Rattle.szg_game.specs.declared.Class.{Class}
 use Rattle.szg_game.proofs.Lists.{IsIn, some_in, contains_in, in_contains}
 use Rattle.szg_chess.specs.Laws.{kinds_of}
 use Rattle.szg_chess.specs.Position.{Position, IsPosition}
-use Rattle.szg_chess.specs.Images.{Symmetry, Same, FlipFiles, FlipRanks, ExchangeColors, square_image, color_image, man_image, image, fits, keeps_pawns, IsImage}
+use Rattle.szg_chess.specs.Images.{Symmetry, Same, FlipFiles, FlipRanks, ExchangeColors, square_image, color_image, man_image, image, fits, keeps_pawns}
 use Rattle.szg_chess.proofs.Facts.{faultless, has_men_parts}
 use Rattle.szg_chess.proofs.Members.{any_map}
 use Rattle.szg_chess.proofs.Images.Counts.{as_many}
@@ -27,14 +27,14 @@ use Rattle.szg_probe.specs.Chess.{ChessClass}
 use Rattle.szg_probe.specs.Images.{has_no_pawn, shares_value, has_lone_pawns as lone_men}
 use Rattle.szg_probe.specs.Probing.{StoredClasses, probed}
 use Rattle.szg_verify.specs.Entries.{StoredDistances, StoredTables, tables_of}
-use Rattle.szg_verify.specs.Verified.{is_checked, AreSymmetric, has_equal_sides, keeps_number, IsImageBy, HasCheckedImage}
+use Rattle.szg_verify.specs.Verified.{is_checked, AreSymmetric, has_equal_sides, IsImageBy, HasCheckedImage}
 use Rattle.szg_verify.specs.Materials.{has_sides, is_of, kings_alone, are_closed, covers}
 use Rattle.szg_verify.specs.Walk.{colored_men, placed_by, position_by, number_count, has_lone_pawns, has_pawn, is_walked, is_king_walked, colored_man, IsRangeChecked, IsMaterialChecked}
 use Rattle.szg_verify.proofs.Materials.{closed_by_materials, count, one_if, filter_cons, count_cons, AreCounted, numbers, from_sides, each_kind}
 use Rattle.szg_verify.proofs.TwoKings.{kings_checked}
 use Rattle.szg_verify.proofs.Checked.{checked_true}
 use Rattle.szg_verify.proofs.Images.{checked_by_images, number_by_kinds}
-use Rattle.szg_verify.proofs.Arranged.{Arranged, size_arranged, reordered, reordered_is_image, of_kind, HaveKinds, InOrder, in_order}
+use Rattle.szg_verify.proofs.Arranged.{size_arranged, reordered, reordered_is_image, of_kind, HaveKinds, in_order}
 
 -- ---- numbers
 

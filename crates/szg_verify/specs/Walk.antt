@@ -33,6 +33,11 @@ colored_men sides = map (λ man. (man, White)) sides.first ++ map (λ man. (man,
 abbrev pub colored_man : ℕ → Man × Color
 colored_man code = (kind_of (code % 8), if nat_lt code 8 then White else Black)
 
+-- the men of a color
+abbrev pub side_in : Color → List (Man × Color) → List Man
+side_in color [] = []
+side_in color (man ∷ men) = if is_color color man.1 then man.0 ∷ side_in color men else side_in color men
+
 -- A number places men: its digits in base 64 are their squares, the last digit that of the first man.
 abbrev pub placed_by : ℕ → List (Man × Color) → List PlacedMan
 placed_by number [] = []

@@ -6,6 +6,7 @@
 #![tactic(auto)]
 
 mod checking;
+mod closed;
 mod entries;
 pub mod laws;
 mod steps;
@@ -14,6 +15,7 @@ mod verifying;
 mod walk;
 
 pub use checking::{check_all, check_position};
+pub use closed::are_closed;
 pub use entries::plain_entry;
 pub use tables::{DtzTables, has_equal_sides};
 pub use verifying::{Watcher, verify};

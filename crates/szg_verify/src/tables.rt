@@ -11,7 +11,7 @@ use szg_game::Class;
 use szg_values::{Color, Man, Square};
 
 /// The kinds of men.
-const KINDS: [Man; 6] = [
+pub(crate) const KINDS: [Man; 6] = [
     Man::King,
     Man::Queen,
     Man::Rook,

@@ -201,7 +201,7 @@ fn square_of(number: u64) -> Square
 }
 
 /// Returns the men of a material with their colors, the first side as White.
-fn colored_men(material: &Material) -> ArrayVec<(Man, Color), 6>
+pub(crate) fn colored_men(material: &Material) -> ArrayVec<(Man, Color), 6>
     ensures men { result.items ≡ colored_men material.now }
     ensures few { length result.items ≤ 6 }
 {

@@ -1,4 +1,4 @@
-use Rattle.std.proofs.Common.{◌≡◌, ℕ, List, refl, sym, ap, ◌∙◌, subst, arith, inl, inr, take, length, Contains}
+use Rattle.std.proofs.Common.{List, sym, ◌∙◌, subst, arith, inl, inr, Contains}
 use Rattle.std.specs.Prelude.{IsFalse}
 use Rattle.std.proofs.lemmas.List.{take_all}
 use Rattle.szg_values.specs.Material.{Sides}

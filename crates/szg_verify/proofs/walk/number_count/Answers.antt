@@ -1,4 +1,4 @@
-use Rattle.std.proofs.Common.{arith, length}
+use Rattle.std.proofs.Common.{arith}
 use Rattle.szg_verify.proofs.Whole.{few_numbers}
 use Rattle.szg_verify.proofs.walk.number_count.Goals as goal
 
