@@ -1,14 +1,9 @@
 /* Times captures, legal moves and the positions after them by szg_chess and by plain C with bitboards and a table of the
  * squares between, on the same positions: chess NAME=FEN.. Prints nanoseconds a call and the ratios. */
-#include <inttypes.h>
-#include <stdbool.h>
-#include <stdint.h>
-#include <stdio.h>
-#include <stdlib.h>
-#include <string.h>
-#include <time.h>
+#include "bench.h"
 
-enum { ROUNDS = 200000, TURNS = 7, PAWN = 1, KNIGHT, BISHOP, ROOK, QUEEN, KING, WHITE = 0, BLACK = 1, NONE = 64 };
+/* turns are short, so that on a busy machine some are undisturbed */
+enum { ROUNDS = 5000, TURNS = 200, PAWN = 1, KNIGHT, BISHOP, ROOK, QUEEN, KING, WHITE = 0, BLACK = 1, NONE = 64 };
 
 /* exported by the static library szg_bench */
 uint64_t szg_bench_captures(const uint8_t *fen, size_t len, uint32_t rounds);
@@ -134,7 +129,7 @@ static int legal_moves(const struct position *p, struct move *moves)
     return count;
 }
 
-static struct position after(const struct position *p, struct move m)
+static inline __attribute__((always_inline)) struct position after(const struct position *p, struct move m)
 {
     int captured = captured_square(p, m);
     struct position q = {.count = 0, .mover = !p->mover, .passed = NONE};
@@ -173,29 +168,21 @@ static uint64_t mixed(struct move m)
     return 64u * m.from + m.to + 4096u * m.promotion;
 }
 
-static __attribute__((noinline)) uint64_t c_captures(const struct position *p, uint32_t rounds)
-{
-    uint64_t sum = 0;
-    struct move moves[29];
-    for (uint32_t r = 0; r < rounds; r++) {
-        __asm__ volatile("" : : "r"(p) : "memory");
-        int count = captures(p, moves);
-        for (int i = 0; i < count; i++) sum += mixed(moves[i]);
+/* A function that lists moves by LIST, and sums them. */
+#define SUM_OF(name, list) \
+    static __attribute__((noinline)) uint64_t name(const struct position *p, uint32_t rounds) \
+    { \
+        uint64_t sum = 0; \
+        struct move moves[128]; \
+        for (uint32_t r = 0; r < rounds; r++) { \
+            __asm__ volatile("" : : "r"(p) : "memory"); \
+            int count = list(p, moves); \
+            for (int i = 0; i < count; i++) sum += mixed(moves[i]); \
+        } \
+        return sum; \
     }
-    return sum;
-}
-
-static __attribute__((noinline)) uint64_t c_legal(const struct position *p, uint32_t rounds)
-{
-    uint64_t sum = 0;
-    struct move moves[128];
-    for (uint32_t r = 0; r < rounds; r++) {
-        __asm__ volatile("" : : "r"(p) : "memory");
-        int count = legal_moves(p, moves);
-        for (int i = 0; i < count; i++) sum += mixed(moves[i]);
-    }
-    return sum;
-}
+SUM_OF(c_captures, captures)
+SUM_OF(c_legal, legal_moves)
 
 static __attribute__((noinline)) uint64_t weight(const struct position *p)
 {
@@ -218,11 +205,21 @@ static __attribute__((noinline)) uint64_t c_after(const struct position *p, uint
     return sum;
 }
 
-static double seconds(void)
+/* As Rattle's compiler returns a struct: it is built in one place, and copied to another. */
+static __attribute__((noinline)) uint64_t c_after_and_copy(const struct position *p, uint32_t rounds)
 {
-    struct timespec t;
-    clock_gettime(CLOCK_MONOTONIC, &t);
-    return (double)t.tv_sec + 1e-9 * (double)t.tv_nsec;
+    uint64_t sum = 0;
+    struct move moves[128];
+    int count = legal_moves(p, moves);
+    for (uint32_t r = 0; r < rounds; r++)
+        for (int i = 0; i < count; i++) {
+            __asm__ volatile("" : : "r"(p) : "memory");
+            struct position built = after(p, moves[i]);
+            __asm__ volatile("" : "+m"(built));
+            struct position q = built;
+            sum += weight(&q);
+        }
+    return sum;
 }
 
 /* the least time of several turns of each, one after the other */
@@ -230,16 +227,14 @@ static bool compare(const char *call, const char *named, uint64_t (*rattle)(cons
 {
     const char *fen = strchr(named, '=') + 1;
     struct position p = parse(fen);
-    double best[2] = {1e9, 1e9};
+    double best[2] = {0};
     uint64_t sums[2] = {0, 0};
     for (int turn = 0; turn < TURNS; turn++) {
-        double begin = seconds();
+        double begin = now();
         sums[0] = rattle((const uint8_t *)fen, strlen(fen), ROUNDS);
-        double middle = seconds();
+        double middle = now();
         sums[1] = c(&p, ROUNDS);
-        double end = seconds();
-        if (middle - begin < best[0]) best[0] = middle - begin;
-        if (end - middle < best[1]) best[1] = end - middle;
+        least(&best[0], middle - begin), least(&best[1], now() - middle);
     }
     printf("%s, %.*s: szg_chess %.1f ns, plain C %.1f ns, ratio %.2f%s\n", call, (int)(fen - named - 1), named, best[0] / ROUNDS / calls * 1e9,
            best[1] / ROUNDS / calls * 1e9, best[0] / best[1], sums[0] == sums[1] ? "" : ", DIFFERENT SUMS");
@@ -256,7 +251,9 @@ int main(int argc, char **argv)
         int count = legal_moves(&p, moves);
         same &= compare("captures", argv[i], szg_bench_captures, c_captures, 1);
         same &= compare("legal", argv[i], szg_bench_legal, c_legal, 1);
-        if (count) same &= compare("after", argv[i], szg_bench_after, c_after, count);
+        if (!count) continue;
+        same &= compare("after", argv[i], szg_bench_after, c_after, count);
+        same &= compare("after and a copy", argv[i], szg_bench_after, c_after_and_copy, count);
     }
     return same ? 0 : 1;
 }

@@ -5,7 +5,7 @@
  *
  * A look-up in a table of tens of megabytes reads a block at a random place, and with pages of 4 KB it waits for the page's
  * translation as well as for memory. So a block of 4 MB or more is a mapping of its own, at a multiple of 2 MB, and the
- * kernel is asked to back it with huge pages. Where it has none to give, the block is used as it is. Elsewhere than on Linux
+ * kernel is asked to back it with huge pages. If it has none to give, the block is used as it is. Elsewhere than on Linux
  * on x86-64 all blocks are malloc's.
  *
  * Before main it also looks at the processor. */
@@ -76,7 +76,7 @@ static size_t mapped_length(size_t size)
     return (size + HUGE_PAGE - 1) / HUGE_PAGE * HUGE_PAGE;
 }
 
-/* Maps a block of `length` bytes, a multiple of 2 MB, and the page before it. NULL where the kernel refuses. */
+/* Maps a block of `length` bytes, a multiple of 2 MB, and the page before it. NULL if the kernel refuses. */
 static void *map(size_t length)
 {
     size_t whole = length + HUGE_PAGE;
@@ -126,8 +126,8 @@ static bool is_kept(void *block, size_t length)
     return process_vm_readv(getpid(), &to, 1, &from, 1, 0) == sizeof first && first == block;
 }
 
-/* Gives a mapped block another length, with the bytes that fit. A longer one moves with its pages, and no byte is copied;
- * unless the kernel refuses that, as near its limit of mappings. Then the bytes are copied, and returned piece by piece. */
+/* Gives a mapped block another length, with the bytes that fit. A longer one moves with its pages, and no byte is copied,
+ * unless the kernel refuses that near its limit of mappings. Then the bytes are copied, and returned chunk by chunk. */
 static void *remap(void *block, size_t length)
 {
     char *from = block;

@@ -5,7 +5,7 @@
  * handle may pass from one thread to another by a lock or by a thread's start or join. The calls without a handle
  * (szg_check, szg_size, szg_values, szg_values_at) may run side by side.
  *
- * A call takes the name of a material, as "KQvKR" (with its length; no zero byte is needed), whether the table is a DTZ
+ * A call takes the name of a material, such as "KQvKR" (with its length; no zero byte is needed), whether the table is a DTZ
  * table (else WDL), and the bytes of its file in memory. Bytes after the file are ignored. Each call returns a status of
  * enum szg_status, except szg_close, szg_close_front and the three that write texts.
  *
@@ -14,15 +14,16 @@
  * while a call runs, nobody else reads or writes what it writes, or writes what it reads; malloc, realloc and free of the
  * program are one allocator, which aligns as C requires; no call is made from a signal handler, or from the forked child of
  * a process with threads, unless malloc may be called there (after fork it may with glibc). The library calls nothing back,
- * prints nothing and locks nothing; only where the processor lacks a feature of x86-64-v2, for which it is compiled, it isn't
- * loaded, or prints so before main and ends the program with status 127. On Linux, blocks of 4 MB and more are mappings of its own, with huge pages where the kernel
- * has some.
+ * prints nothing and, but for szg_folders, locks nothing. But if the processor lacks a feature of x86-64-v2, for which it is
+ * compiled, it isn't loaded, or prints so before main and ends the program with status 127. On Linux, blocks of 4 MB and more
+ * are mappings of its own, with huge pages if the kernel has some.
  *
- * Stack: szg_check, szg_size, szg_values, szg_values_at, szg_open and szg_open_front use less than 56 KB, the other calls less
- * than 8 KB. Whether it is there is not checked.
+ * Stack: szg_check, szg_size, szg_values, szg_values_at, szg_open, szg_open_front, szg_tablebase_add, szg_tablebase_moves and
+ * all calls on szg_folders use less than 56 KB, szg_all less than 32 KB, szg_tablebase_wdl and szg_tablebase_dtz less than 24
+ * KB, the other calls less than 8 KB. Whether it is there is not checked.
  *
  * Mapped files: a file that is truncated must not be read by its map any more. A call that does is ended by the system with
- * SIGBUS, and so is the program. Where others may truncate the file, read its bytes: szg_front_find says which. */
+ * SIGBUS, and so is the program. If others may truncate the file, read its bytes: szg_front_find says which. */
 #ifndef SZG_H
 #define SZG_H
 #include <stdbool.h>
@@ -68,7 +69,14 @@ enum szg_status {
                          counts, or szg_front_get or szg_front_probe so few that the end of the value's block is missing.
                          No call has it for a constant subtable, whose values need no bytes */
 
-    SZG_BAD_BLOCK = 18 /* the block that has the value does not decode: the file is damaged there */
+    SZG_BAD_BLOCK = 18, /* the block that has the value does not decode: the file is damaged there */
+
+    /* tablebases: the men and the en passant square are no position (or SZG_MAN to SZG_PAWN_RANK) */
+    SZG_EN_PASSANT = 19, /* no pawn can just have passed over the en passant square by a double step */
+    SZG_IN_CHECK = 20,   /* the side not to move is in check */
+
+    SZG_MISSING = 21,       /* a table that the position needs is not there */
+    SZG_CONTRADICTION = 22 /* the tables contradict themselves: no move keeps a win, or a number is there for neither side */
 };
 
 enum szg_reason {
@@ -84,20 +92,20 @@ enum szg_reason {
 /* A buffer of this size has room for each text. */
 #define SZG_TEXT_SIZE 32
 
-/* The version of the library, as SZG_VERSION. A buffer of SZG_TEXT_SIZE bytes has room for it. */
+/* The version of the library, in the form of SZG_VERSION. A buffer of SZG_TEXT_SIZE bytes has room for it. */
 size_t szg_version(char *text, size_t capacity);
 
-/* The name of a status, as "OtherMaterial" for SZG_OTHER_MATERIAL; the empty name for a number that is no status. A buffer
+/* The name of a status: "OtherMaterial" for SZG_OTHER_MATERIAL; the empty name for a number that is no status. A buffer
  * of SZG_TEXT_SIZE bytes has room for each. */
 size_t szg_status_text(uint32_t status, char *text, size_t capacity);
 
-/* The name of a reason, as szg prints it: "SplitBit" for SZG_SPLIT_BIT; the empty name for a number that is no reason. A
+/* The name of a reason, which szg prints: "SplitBit" for SZG_SPLIT_BIT; the empty name for a number that is no reason. A
  * buffer of SZG_TEXT_SIZE bytes has room for each. */
 size_t szg_reason_text(uint32_t reason, char *text, size_t capacity);
 
 typedef struct szg_answer {
     uint64_t place;  /* refused: the offset of the check; szg_check, done: the number of bytes of the table's file */
-    uint32_t reason; /* refused: the check that fails, as enum szg_reason */
+    uint32_t reason; /* refused: the check that fails (enum szg_reason) */
 } szg_answer;
 
 /* Checks whether the bytes begin with a table's file that passes every check; answer->place is the length of that file. */
@@ -120,9 +128,9 @@ uint32_t szg_values_at(const char *name, size_t name_length, bool dtz, const uin
                        uint16_t *values, size_t value_count, szg_answer *answer);
 
 /* A table in memory, with a copy of all that it needs of the file. Initialise it with SZG_NO_TABLE, let only the calls change
- * it, and pass it to one call at a time. A copy of the struct is no second handle: only one of the two may be used from then
- * on, as after a move, since to close both is to free the table twice. Each call writes to the handle, so handles of different
- * threads are best kept in different cache lines. */
+ * it, and pass it to one call at a time. A copy of the struct is no second handle: the table has moved, and only one of the
+ * two may be used from then on, since to close both is to free the table twice. Each call writes to the handle, so handles
+ * of different threads are best kept in different cache lines. */
 typedef struct szg_table { void *held; } szg_table;
 
 /* A handle that holds no table, to initialise or to assign. A static handle is one without it, since its bytes are 0: ISO C
@@ -155,8 +163,8 @@ uint32_t szg_positions(szg_table *table, uint8_t part, uint8_t side, uint64_t *s
 uint32_t szg_all(szg_table *table, uint8_t part, uint8_t side, uint16_t *values, size_t count);
 
 /* The number of plies of a stored DTZ value in a class (2 win, 1 cursed win, -1 blessed loss, -2 loss): see szg_probe for what
- * it counts. SZG_RANGE: a WDL table, a part that does not exist, or a class below -2 or above 2. SZG_DRAW and SZG_OUTSIDE_MAP: there is no number. With another
- * status than SZG_DONE *number stays. */
+ * it counts. SZG_RANGE: a WDL table, a part that does not exist, or a class below -2 or above 2. SZG_DRAW and
+ * SZG_OUTSIDE_MAP: there is no number. With another status than SZG_DONE *number stays. */
 uint32_t szg_number(szg_table *table, uint8_t part, int8_t class_of_position, uint16_t value, uint32_t *number);
 
 /* ---- Placements: `men` points to `count` men in any order, `mover` (enum szg_color) is the side to move. The men are
@@ -195,8 +203,8 @@ uint32_t szg_index(szg_table *table, const szg_man *men, size_t count, uint8_t m
 uint32_t szg_placement(szg_table *table, uint8_t part, uint8_t side, uint64_t index, szg_man *men, size_t capacity,
                        size_t *count, uint8_t *mover);
 
-/* Returns what the table stores for a placement, which isn't the result of the position where a capture (WDL), or a capture or
- * pawn move (DTZ), decides: there a table may hold whatever value makes the file small. En passant and the fifty-move counter
+/* Returns what the table stores for a placement, which isn't the result of the position if a capture (WDL), or a capture or
+ * pawn move (DTZ), decides: then a table may hold whatever value makes the file small. En passant and the fifty-move counter
  * aren't known to a table either. A result needs moves, which this library doesn't make: bindings/examples/full_probing.py
  * gets one by python-chess. A WDL table stores the class for the side to move (2 win, 1 cursed win, 0 draw, -1 blessed loss,
  * -2 loss) and ignores `class_of_position`. A DTZ table stores a number n of plies without sign for this class: it counts the
@@ -225,7 +233,7 @@ void szg_close(szg_table *table);
  * szg_table says of copies and of cache lines holds here, too. */
 typedef struct szg_front { void *held; } szg_front;
 
-/* A handle that holds no front, as SZG_NO_TABLE. */
+/* A handle that holds no front: see SZG_NO_TABLE. */
 #ifdef __cplusplus
 #define SZG_NO_FRONT (szg_front{})
 #else
@@ -244,14 +252,14 @@ typedef struct szg_bad_block {
 uint32_t szg_open_front(const char *name, size_t name_length, bool dtz, const uint8_t *bytes, size_t length,
                         szg_front *front, szg_answer *answer);
 
-/* Makes `second` a second handle of what `front` holds, without a copy, as szg_share. */
+/* Makes `second` a second handle of what `front` holds, without a copy, as szg_share does. */
 uint32_t szg_share_front(szg_front *front, szg_front *second);
 
 /* The number of positions of a part's side. With another status than SZG_DONE *size stays. */
 uint32_t szg_front_size(szg_front *front, uint8_t part, uint8_t side, uint64_t *size);
 
-/* The stored value at an index of a part's side, as szg_get. `bytes` are those of the file that szg_open_front was given. SZG_BAD_BLOCK: the
- * block that has the value doesn't decode, and *bad names it. SZG_CHANGED: the block that has the value ends after these
+/* The stored value at an index of a part's side: see szg_get. `bytes` are those of the file that szg_open_front was given.
+ * SZG_BAD_BLOCK: the block that has the value doesn't decode, and *bad names it. SZG_CHANGED: this block ends after these
  * bytes. With another status than SZG_DONE *value stays, with another than SZG_BAD_BLOCK *bad stays. */
 uint32_t szg_front_get(szg_front *front, const uint8_t *bytes, size_t length, uint8_t part, uint8_t side,
                        uint64_t index, uint16_t *value, szg_bad_block *bad);
@@ -274,25 +282,142 @@ uint32_t szg_front_find(szg_front *front, uint8_t part, uint8_t side, uint64_t i
 uint32_t szg_front_value(szg_front *front, uint8_t part, uint8_t side, uint64_t index, const uint8_t *block,
                          size_t count, uint16_t *value, szg_bad_block *bad);
 
-/* The part, side and index of a placement, as szg_index. With another status than SZG_DONE *spot stays. */
+/* The part, side and index of a placement: see szg_index. With another status than SZG_DONE *spot stays. */
 uint32_t szg_front_index(szg_front *front, const szg_man *men, size_t count, uint8_t mover, szg_spot *spot);
 
-/* The placement of an index of a part's side, as szg_placement. With another status than SZG_DONE the list, *count and
+/* The placement of an index of a part's side: see szg_placement. With another status than SZG_DONE the list, *count and
  * *mover stay. */
 uint32_t szg_front_placement(szg_front *front, uint8_t part, uint8_t side, uint64_t index, szg_man *men, size_t capacity,
                              size_t *count, uint8_t *mover);
 
-/* The stored class or number of a placement, as szg_probe, decoded from the bytes of the file. SZG_BAD_BLOCK and SZG_CHANGED as
- * szg_front_get. With another status than SZG_DONE *outcome stays, with another than SZG_BAD_BLOCK *bad stays. */
+/* The stored class or number of a placement, decoded from the bytes of the file: see szg_probe, and szg_front_get for
+ * SZG_BAD_BLOCK and SZG_CHANGED. With another status than SZG_DONE *outcome stays, with another than SZG_BAD_BLOCK *bad
+ * stays. */
 uint32_t szg_front_probe(szg_front *front, const uint8_t *bytes, size_t length, const szg_man *men, size_t count,
                          uint8_t mover, int8_t class_of_position, int64_t *outcome, szg_bad_block *bad);
 
-/* The number of a DTZ value in a class, as szg_number. With another status than SZG_DONE *number stays. */
+/* The number of a DTZ value in a class: see szg_number. With another status than SZG_DONE *number stays. */
 uint32_t szg_front_number(szg_front *front, uint8_t part, int8_t class_of_position, uint16_t value,
                           uint32_t *number);
 
 /* Closes the front. A second call does nothing. */
 void szg_close_front(szg_front *front);
+
+/* ---- Tablebases: results of positions.
+ *
+ * A tablebase is a list of tables whose files stay in the caller's memory, mapped files say. A position of two to six men is
+ * probed with its captures, the right to capture en passant and the fifty-move counter, and so needs the tables of all
+ * materials that its captures (for DTZ and moves, its moves) lead to. Castling rights aren't known to tables. It is proved that
+ * a result is what the blocks of the added files spell for the position and for those that it leads to.
+ *
+ * szg_tablebase_add reads and checks all of a file but its blocks, and keeps what it read (about 6 percent of the file). A
+ * probe verifies each block that it reads, takes no memory and no lock. Threads that share tables use a szg_tablebase each,
+ * made by szg_share_tablebase. szg_folders, below, finds and maps the files too. */
+
+/* Tables that were added. Initialise it with SZG_NO_TABLEBASE, let only the calls change it, and pass it to one call at a time.
+ * What szg_table says of copies and of cache lines holds here, too. */
+typedef struct szg_tablebase { void *held; } szg_tablebase;
+
+/* A tablebase without a table, as SZG_NO_TABLE. */
+#ifdef __cplusplus
+#define SZG_NO_TABLEBASE (szg_tablebase{})
+#else
+#define SZG_NO_TABLEBASE ((szg_tablebase){0})
+#endif
+
+/* The table for which a position has no result: *missing is written with the statuses SZG_MISSING, SZG_BAD_BLOCK, SZG_NO_CLASS
+ * and SZG_OTHER_MATERIAL to SZG_WRONG_SIDE, and is otherwise unchanged. */
+typedef struct szg_missing {
+    char name[8];    /* its material, as "KQvKR", and a zero byte */
+    bool dtz;        /* whether it is a DTZ table */
+    uint32_t block;  /* SZG_BAD_BLOCK: the block's number in its subtable; else unchanged */
+    uint64_t offset; /* SZG_BAD_BLOCK: the block's offset in the file; else unchanged */
+} szg_missing;
+
+/* Adds a table behind the others. `bytes` are those of its file, which must be there and must not change until each tablebase
+ * that has the table is closed: if they do, results may be wrong, and no more than that. Of two tables of one material and kind
+ * the first counts. Tablebases that share the other tables do not get this one. The statuses are those of szg_open_front. With
+ * another status than SZG_DONE the tables stay. */
+uint32_t szg_tablebase_add(szg_tablebase *tablebase, const char *name, size_t name_length, bool dtz, const uint8_t *bytes,
+                           size_t length, szg_answer *answer);
+
+/* Makes `second` a second handle of the tables that `tablebase` has now, as szg_share. SZG_CLOSED: it has none. */
+uint32_t szg_share_tablebase(szg_tablebase *tablebase, szg_tablebase *second);
+
+/* No square: an en passant square of 64 or more is none. */
+#define SZG_NO_SQUARE 64
+
+/* The class of a position for the side to move (2 win, 1 cursed win, 0 draw, -1 blessed loss, -2 loss), at a fifty-move counter
+ * of 0. `en_passant` is the square that a pawn has just passed over by a double step, or SZG_NO_SQUARE. The statuses SZG_MAN to
+ * SZG_PAWN_RANK, SZG_EN_PASSANT and SZG_IN_CHECK say why it is no position (SZG_MEN: not two to six men, or a colour without
+ * exactly one king). With another status than SZG_DONE *class_of_position stays. */
+uint32_t szg_tablebase_wdl(szg_tablebase *tablebase, const szg_man *men, size_t count, uint8_t mover, uint8_t en_passant,
+                           int8_t *class_of_position, szg_missing *missing);
+
+/* The class of a position, and its DTZ in plies: to the next capture or pawn move that keeps the class, or to mate; 100 more for
+ * a cursed win or a blessed loss, negative for a loss, 0 for a draw. What a table counts in moves is doubled, and may be one ply
+ * more. */
+typedef struct szg_distance {
+    int8_t class_of_position; /* with the fifty-move counter */
+    int64_t dtz;
+} szg_distance;
+
+/* The class and the DTZ of a position. `counter` is the number of plies since the last capture or pawn move: a win or a loss of
+ * more plies than it leaves of 100 is a cursed win or a blessed loss. The statuses are those of szg_tablebase_wdl and
+ * SZG_CONTRADICTION. With another status than SZG_DONE *distance stays. */
+uint32_t szg_tablebase_dtz(szg_tablebase *tablebase, const szg_man *men, size_t count, uint8_t mover, uint8_t en_passant,
+                           uint32_t counter, szg_distance *distance, szg_missing *missing);
+
+/* A legal move, with what it gives the player who makes it. */
+typedef struct szg_move {
+    uint8_t from, to;
+    uint8_t promotion;        /* enum szg_kind; 0 for none */
+    int8_t class_of_position; /* with the fifty-move counter */
+    int64_t dtz;              /* from the position before the move; 1 for a move that mates */
+    bool zeroing;             /* a capture or a pawn move */
+    bool mate;
+    bool stalemate;
+} szg_move;
+
+/* A list of this many moves has room for each position's. */
+#define SZG_MAX_MOVES 128
+
+/* The legal moves of a position, the best first: by class, then a win by the least DTZ and a loss by the greatest. They are
+ * written to the beginning of `moves`, a list of `capacity` items, and their number to *move_count; 0 is mate or stalemate. The
+ * statuses are those of szg_tablebase_dtz, and SZG_RANGE for a list that is too short. With another status than SZG_DONE the list
+ * and *move_count stay. */
+uint32_t szg_tablebase_moves(szg_tablebase *tablebase, const szg_man *men, size_t count, uint8_t mover, uint8_t en_passant,
+                             uint32_t counter, szg_move *moves, size_t capacity, size_t *move_count, szg_missing *missing);
+
+/* Closes the tablebase. A second call does nothing. */
+void szg_close_tablebase(szg_tablebase *tablebase);
+
+/* ---- Folders: the files of a tablebase are found in folders, mapped and added when a position first needs them. These calls are
+ * C over those above, and are tested, not proved. A probe takes a lock and memory only where a file is not open yet. A file must
+ * not be truncated while it is mapped (see "Mapped files" above). */
+
+/* The tables of folders, for one thread. */
+typedef struct szg_folders szg_folders;
+
+/* Opens the tables of folders: `paths` has their paths, separated by ':', and the first that has a file counts. No file is looked
+ * for yet. SZG_MEMORY leaves *folders unchanged. */
+uint32_t szg_open_folders(const char *paths, szg_folders **folders);
+
+/* Makes *second a second handle of the same tables, for another thread. A file is mapped, and kept in memory, once for all. */
+uint32_t szg_share_folders(szg_folders *folders, szg_folders **second);
+
+/* The probes, as szg_tablebase_wdl, szg_tablebase_dtz and szg_tablebase_moves. SZG_MISSING: the file of missing->name can't be
+ * opened or mapped, and errno says why: ENOENT if no folder has it. SZG_REFUSED: it is no table, missing->offset is the offset of
+ * the check that fails, and missing->block the reason, as enum szg_reason. SZG_MEMORY: there is no memory to add it. */
+uint32_t szg_folders_wdl(szg_folders *folders, const szg_man *men, size_t count, uint8_t mover, uint8_t en_passant,
+                         int8_t *class_of_position, szg_missing *missing);
+uint32_t szg_folders_dtz(szg_folders *folders, const szg_man *men, size_t count, uint8_t mover, uint8_t en_passant,
+                         uint32_t counter, szg_distance *distance, szg_missing *missing);
+uint32_t szg_folders_moves(szg_folders *folders, const szg_man *men, size_t count, uint8_t mover, uint8_t en_passant,
+                           uint32_t counter, szg_move *moves, size_t capacity, size_t *move_count, szg_missing *missing);
+
+/* Closes a handle; the last one unmaps the files. NULL is no handle. */
+void szg_close_folders(szg_folders *folders);
 
 #ifdef __cplusplus
 }

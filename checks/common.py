@@ -14,7 +14,7 @@ BUILT = ROOT / "crates/szg_tool/out/szg_tool"
 # PROGRAM is the program that is tried, by default the one that is built here.
 PROGRAM = Path(os.environ.get("PROGRAM") or BUILT)
 CC = os.environ.get("CC", "cc")
-COMMANDS = ["check", "show", "get", "values", "copy", "dump", "build", "index", "probe", "placement"]
+COMMANDS = ["check", "show", "get", "values", "copy", "dump", "build", "index", "probe", "verify", "placement"]
 # The sample tables: material, kind, file in data/, and a placement of its men.
 SAMPLES = [
     ("KNvK", "wdl", "knvk_wdl_constant.rtbw", "w Kb1 Na1 kc1"),

@@ -49,7 +49,7 @@ def passes(header: str, library: str, data: str, damaged: str) -> bool:
         built = subprocess.run(words, capture_output=True, text=True)
         if built.returncode:
             sys.exit(f"enumerators.c is not compiled with an exchange:\n{built.stderr}")
-        return subprocess.run([program, data, damaged], stdout=subprocess.DEVNULL).returncode == 0
+        return subprocess.run([program, data, damaged, str(ROOT / "samples")], stdout=subprocess.DEVNULL).returncode == 0
 
 
 def main() -> None:

@@ -159,6 +159,7 @@ class Reader:
     def read(self):
         for sub in self.sections():
             self.fill_to(64)
+            sub.place = self.at
             self.blocks(sub)
         return self.ended()
 

@@ -1,5 +1,5 @@
-/* Holds each enumerator, each field and each text of szg.h against what the library returns for it: enumerators DATA DAMAGED
- * DATA has the sample tables, DAMAGED what checks/damaged_files.py writes. Linked with malloc, realloc and free wrapped. The
+/* Holds each enumerator, each field and each text of szg.h against what the library returns for it: enumerators DATA DAMAGED SAMPLES
+ * DATA has the sample tables, DAMAGED what checks/damaged_files.py writes, SAMPLES all tables of three men. Linked with malloc, realloc and free wrapped. The
  * status is 0 if all is as expected. */
 #include "trying.h"
 #include "refusing.h"
@@ -12,6 +12,7 @@ static const struct { uint32_t number; const char *name; } statuses[] = {
     {SZG_PAWN_RANK, "PawnRank"}, {SZG_OTHER_MATERIAL, "OtherMaterial"}, {SZG_IRREGULAR, "Irregular"},
     {SZG_KINGS_TOUCH, "KingsTouch"}, {SZG_WRONG_SIDE, "WrongSide"}, {SZG_NO_CLASS, "NoClass"}, {SZG_DRAW, "Draw"},
     {SZG_OUTSIDE_MAP, "OutsideMap"}, {SZG_CHANGED, "Changed"}, {SZG_BAD_BLOCK, "BadBlock"},
+    {SZG_EN_PASSANT, "EnPassant"}, {SZG_IN_CHECK, "InCheck"}, {SZG_MISSING, "Missing"}, {SZG_CONTRADICTION, "Contradiction"},
 }, reasons[] = {
     {SZG_TRUNCATED, "Truncated"}, {SZG_MAGIC, "Magic"}, {SZG_SPLIT_BIT, "SplitBit"}, {SZG_PAWN_BIT, "PawnBit"},
     {SZG_PIECES, "Pieces"}, {SZG_PAWNS_FIRST, "PawnsFirst"}, {SZG_ORDER_PLACE, "OrderPlace"},
@@ -41,7 +42,7 @@ static void text_is(size_t (*call)(uint32_t, char *, size_t), uint32_t number, c
 
 static void all_texts(void) {
     text_is(version_text, 0, SZG_VERSION);
-    want("statuses", STATUSES, SZG_BAD_BLOCK + 1);
+    want("statuses", STATUSES, SZG_CONTRADICTION + 1);
     want("reasons", REASONS, SZG_WORD);
     for (uint32_t i = 0; i < STATUSES; i++) text_is(szg_status_text, statuses[i].number, statuses[i].name);
     for (uint32_t i = 0; i < REASONS; i++) text_is(szg_reason_text, reasons[i].number, reasons[i].name);
@@ -50,7 +51,7 @@ static void all_texts(void) {
         text_is(szg_status_text, none[i], "");
         text_is(szg_reason_text, none[i], "");
     }
-    text_is(szg_status_text, SZG_BAD_BLOCK + 1, "");
+    text_is(szg_status_text, SZG_CONTRADICTION + 1, "");
     text_is(szg_reason_text, 0, "");
     text_is(szg_reason_text, SZG_WORD + 1, "");
 }
@@ -195,14 +196,67 @@ static void other_statuses(const char *data) {
     szg_close(&table);
 }
 
+/* A tablebase without the table, with it, and with its blocks damaged. */
+static void tablebases(const char *data) {
+    szg_tablebase tablebase = SZG_NO_TABLEBASE;
+    szg_missing missing = {"", true, 7, 7};
+    int8_t class = 9;
+    szg_man men[] = {man(SZG_KING, SZG_WHITE, 4), man(SZG_QUEEN, SZG_WHITE, 20), man(SZG_KING, SZG_BLACK, 60)};
+    want("check", szg_tablebase_wdl(&tablebase, men, 3, SZG_WHITE, SZG_NO_SQUARE, &class, &missing), SZG_IN_CHECK);
+    men[1].square = 19;
+    want("en passant", szg_tablebase_wdl(&tablebase, men, 3, SZG_WHITE, 44, &class, &missing), SZG_EN_PASSANT);
+    want("missing", szg_tablebase_wdl(&tablebase, men, 3, SZG_WHITE, SZG_NO_SQUARE, &class, &missing), SZG_MISSING);
+    want("its name", strcmp(missing.name, "KQvK") == 0, 1);
+    want("its kind", missing.dtz, 0);
+    load_sample(data, PAIRED);
+    want("add", szg_tablebase_add(&tablebase, OF_FILE, &answer), SZG_DONE);
+    memset(bytes + 256, 0, 64);
+    want("bad block", szg_tablebase_wdl(&tablebase, men, 3, SZG_WHITE, SZG_NO_SQUARE, &class, &missing), SZG_BAD_BLOCK);
+    want("its number", missing.block < 2, 1);
+    want("its offset", (int64_t)missing.offset, 256 + 32 * (int64_t)missing.block);
+    szg_close_tablebase(&tablebase);
+}
+
+/* With the kings on f7 and h8 the queen mates from g1, and the mate is the first move; it can stalemate, too. */
+static void folders(const char *samples) {
+    const szg_man men[] = {man(SZG_KING, SZG_WHITE, 53), man(SZG_QUEEN, SZG_WHITE, 6), man(SZG_KING, SZG_BLACK, 63)};
+    const szg_man pawn[] = {man(SZG_KING, SZG_WHITE, 53), man(SZG_PAWN, SZG_WHITE, 48), man(SZG_KING, SZG_BLACK, 63)};
+    szg_folders *tables;
+    szg_missing missing;
+    szg_distance distance = {9, 9};
+    szg_move moves[SZG_MAX_MOVES];
+    size_t count = 0, stalemates = 0;
+    want("folders", szg_open_folders(samples, &tables), SZG_DONE);
+    want("distance", szg_folders_dtz(tables, men, 3, SZG_WHITE, SZG_NO_SQUARE, 0, &distance, &missing), SZG_DONE);
+    want("class", distance.class_of_position, 2);
+    want("plies", distance.dtz, 1);
+    want("late", szg_folders_dtz(tables, men, 3, SZG_WHITE, SZG_NO_SQUARE, 100, &distance, &missing), SZG_DONE);
+    want("cursed", distance.class_of_position, 1);
+    want("moves", szg_folders_moves(tables, men, 3, SZG_WHITE, SZG_NO_SQUARE, 0, moves, SZG_MAX_MOVES, &count, &missing), SZG_DONE);
+    for (size_t i = 0; i < count; i++) stalemates += moves[i].stalemate;
+    want("from", moves->from, 6);
+    want("promotion", moves->promotion, 0);
+    want("class", moves->class_of_position, 2);
+    want("plies", moves->dtz, 1);
+    want("zeroing, mate, stalemate", moves->zeroing * 4 + moves->mate * 2 + moves->stalemate, 2);
+    want("stalemates", stalemates > 0, 1);
+    want("short list", szg_folders_moves(tables, men, 3, SZG_WHITE, SZG_NO_SQUARE, 0, moves, count - 1, &count, &missing), SZG_RANGE);
+    want("pawn", szg_folders_moves(tables, pawn, 3, SZG_WHITE, SZG_NO_SQUARE, 0, moves, SZG_MAX_MOVES, &count, &missing), SZG_DONE);
+    want("queen", moves->promotion == SZG_QUEEN || moves->promotion == SZG_ROOK, 1);
+    want("zeroing", moves->zeroing, 1);
+    szg_close_folders(tables);
+}
+
 int main(int count, char **words) {
-    if (count != 3) return fprintf(stderr, "enumerators DATA DAMAGED\n"), 2;
+    if (count != 4) return fprintf(stderr, "enumerators DATA DAMAGED SAMPLES\n"), 2;
     all_texts();
     all_reasons(words[2]);
     kinds(words[1]);
     pawns(words[1]);
     refused_men(words[1]);
     other_statuses(words[1]);
+    tablebases(words[1]);
+    folders(words[3]);
     szg_close(&table);
     return ended();
 }

@@ -236,6 +236,11 @@ static void pawns(const char *folder) {
     probe_is("Ke1 Pa2 ke8", SZG_WHITE, 0, SZG_DRAW, 0);
     probe_is("Ke1 Pa2 ke8", SZG_WHITE, 3, SZG_RANGE, 0);
     probe_is("Ke1 Pa2 ke8", SZG_BLACK, 2, SZG_WRONG_SIDE, 0);
+    probe_is("Ke1 ke8 pa7", SZG_BLACK, 2, SZG_DONE, 14);
+    index_is("Ke1 Pe2 ke8", SZG_WHITE, SZG_DONE, (szg_spot){.part = 3, .side = 0, .index = 21564});
+    uint32_t number;
+    want("number of a draw", szg_number(&table, 0, 0, 0, &number), SZG_DRAW);
+    want("number outside of the map", szg_number(&table, 0, 2, 1, &number), SZG_OUTSIDE_MAP);
     for (uint8_t part = 0; part < 4; part++) there_and_back(part, 0);
 }
 

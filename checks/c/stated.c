@@ -12,7 +12,7 @@
 #include <fcntl.h>
 #include <unistd.h>
 
-enum { KB = 1024, STACK = 1 << 20, READING = 56 * KB, OTHERS = 8 * KB, STEP = 97 };
+enum { KB = 1024, STACK = 1 << 20, READING = 56 * KB, LISTING = 32 * KB, OTHERS = 8 * KB, STEP = 97 };
 
 static szg_table table;
 static szg_front front;
@@ -166,10 +166,35 @@ static void attempt_stacks(void) {
         size_t used = used_by(reading[i]) - least;
         want("whether a call that reads a table uses less than 56 KB of stack", used < READING, true);
     }
-    void (*const others[])(void) = {all, look_up};
-    for (size_t i = 0; i < sizeof others / sizeof *others; i++)
-        want("whether another call uses less than 8 KB of stack", used_by(others[i]) - least < OTHERS, true);
+    want("whether a list of all values uses less than 32 KB of stack", used_by(all) - least < LISTING, true);
+    want("whether other calls use less than 8 KB of stack", used_by(look_up) - least < OTHERS, true);
     free(values);
+}
+
+/* A table of KQvK whose last symbol has 256 values by pairs that are nested 255 deep, each of the symbol before and a leaf. */
+static void make_deep(void) {
+    enum { SYMBOLS = 256, SPANS = 8, SPAN = 1 << 12, VALUES = 31332 };
+    uint8_t *at = bytes;
+    memset(bytes, 0, 1024);
+    /* one block of 16 bytes; the words 0 and 1 are the symbols 254 and 255 */
+    memcpy(at, "\x71\xe8\x23\x5d\x01\x00\x66\x55\xee\0" "\0\x04\x0c\0" "\x01\0\0\0" "\x01\x01\xfe\0" "\0\x01", 24);
+    at += 24;
+    memcpy(at, "\x02\xf0\xff", 3), at += 3;
+    for (int symbol = 1; symbol < SYMBOLS; symbol++) *at = (uint8_t)(symbol - 1), at += 3;
+    memcpy(at, "\x80\x02", 2), at += 2;
+    for (int span = 0; span < SPANS; span++, at += 6) at[4] = (SPAN * span + SPAN / 2) & 255, at[5] = (SPAN * span + SPAN / 2) >> 8;
+    *at++ = (VALUES - 1) & 255, *at++ = (VALUES - 1) >> 8;
+    at += -(at - bytes) & 63;
+    memset(at, 255, 16), at += 64;
+    take("deep", "KQvK", false, (size_t)(at - bytes) + 16);
+}
+
+static void attempt_deep(void) {
+    make_deep();
+    want("open", open_table(&table), SZG_DONE);
+    want("open front", open_front(&front), SZG_DONE);
+    attempt_stacks();
+    szg_close(&table), szg_close_front(&front);
 }
 
 /* ---- A map whose file is truncated */
@@ -223,5 +248,6 @@ static void attempt(void) {
 
 int main(int count, char **words) {
     each_sample(folder_of(count, words), attempt);
+    attempt_deep();
     return ended();
 }

@@ -2,7 +2,7 @@
 import shutil
 import sys
 from pathlib import Path
-from typing import Callable, Iterator, List, NamedTuple, Optional, Tuple
+from typing import Callable, Iterator, NamedTuple, Tuple
 
 import pytest
 import szg
@@ -10,27 +10,7 @@ import szg
 ROOT = Path(__file__).resolve().parents[3]
 sys.path.insert(0, str(ROOT / "checks"))
 from damaged_files import Damaged, damaged  # noqa: E402
-from table_reader import Reader, Subtable, words_of  # noqa: E402
-
-
-class PlacedReader(Reader):
-    """The second reader, which notes the offset of each subtable's first block."""
-
-    def blocks(self, sub: Subtable) -> None:
-        self.fill_to(64)
-        sub.first_block = self.at
-        super().blocks(sub)
-
-
-def block_values(sub: Subtable, number: int, block: bytes) -> Optional[List[int]]:
-    """The values of a block with these bytes, by the second reader. None if it does not decode."""
-    needed = min(sub.starts[number + 1], sub.size) - sub.starts[number]
-    values: List[int] = []
-    for symbol in words_of(sub, block):
-        if len(values) >= needed:
-            break
-        values += sub.expansions[symbol]
-    return values[:needed] if len(values) >= needed else None
+from table_reader import Reader  # noqa: E402
 
 
 class Sample(NamedTuple):
@@ -48,7 +28,7 @@ class Sample(NamedTuple):
 
 def sample(file: str, name: str, kind: str) -> Sample:
     data = (ROOT / "data" / file).read_bytes()
-    return Sample(name, kind, data, PlacedReader(name, kind, data).read())
+    return Sample(name, kind, data, Reader(name, kind, data).read())
 
 
 SAMPLES = [
@@ -122,20 +102,3 @@ def is_closed(call: Callable[..., object], *words: object) -> bool:
     with pytest.raises(ValueError, match="^the table(base)? is closed$"):
         call(*words)
     return True
-
-
-class Piece:
-    """python-chess's words for a man."""
-
-    def __init__(self, piece_type: int, color: bool) -> None:
-        self.piece_type, self.color = piece_type, color
-
-
-class Board:
-    """What the package asks of a board, in python-chess's words."""
-
-    def __init__(self, men: list, turn: bool) -> None:
-        self.men, self.turn = men, turn
-
-    def piece_map(self) -> dict:
-        return {square: Piece(kind, color) for kind, color, square in self.men}

@@ -9,7 +9,8 @@ from typing import Any, Optional
 import pytest
 import stand_in
 import szg
-from conftest import ROOT, Board
+from conftest import ROOT
+from stand_in import Board
 from szg import BLACK, KING, QUEEN, WHITE
 
 EXAMPLE = ROOT / "bindings/examples/full_probing.py"
@@ -45,17 +46,17 @@ def test_what_python_chess_calls(folder: Path, full: types.ModuleType) -> None:
     inner = szg.Tablebase()
     with full.FullTablebase(inner) as tables:
         assert tables.add_directory(str(folder)) == 3
-        assert tables.probe_wdl_table(Board(QUEEN_MEN, WHITE)) == 2
-        pawn = Board([(KING, WHITE, 4), (szg.PAWN, WHITE, 9), (KING, BLACK, 60)], WHITE)
+        assert tables.probe_wdl_table(Board.of(QUEEN_MEN, WHITE)) == 2
+        pawn = Board.of([(KING, WHITE, 4), (szg.PAWN, WHITE, 9), (KING, BLACK, 60)], WHITE)
         assert tables.probe_dtz_table(pawn, 2) == (600, 1)
-        for missing in (lambda: tables.probe_wdl_table(pawn), lambda: tables.probe_dtz_table(Board(QUEEN_MEN, WHITE), 2)):
+        for missing in (lambda: tables.probe_wdl_table(pawn), lambda: tables.probe_dtz_table(Board.of(QUEEN_MEN, WHITE), 2)):
             pytest.raises(stand_in.MissingTableError, missing)
         # what no table has an entry for is a KeyError too, which python-chess's get_wdl and get_dtz catch
-        for untold in (lambda: tables.probe_wdl_table(Board(QUEEN_MEN[1:], WHITE)), lambda: tables.probe_dtz_table(pawn, 0)):
+        for untold in (lambda: tables.probe_wdl_table(Board.of(QUEEN_MEN[1:], WHITE)), lambda: tables.probe_dtz_table(pawn, 0)):
             assert type(pytest.raises(KeyError, untold).value) is KeyError
         pytest.raises(ValueError, tables.probe_dtz_table, pawn, 3)
     assert tables.is_closed
-    pytest.raises(ValueError, inner.probe_wdl_table, Board(QUEEN_MEN, WHITE))
+    pytest.raises(ValueError, inner.probe_wdl_table, Board.of(QUEEN_MEN, WHITE))
 
 
 @pytest.mark.parametrize("fen, wdl, dtz", [

@@ -75,12 +75,12 @@ def test_statuses_and_reasons_are_the_headers() -> None:
     reasons = {spelled(name[4:]): number for name, number in enumerators("szg_reason").items()}
     assert reasons == {_library.reason_text(number): number for number in range(1, 19)}
     statuses = {name[4:]: number for name, number in enumerators("szg_status").items()}
-    assert {spelled(name): number for name, number in statuses.items()} == {_library.status_text(number): number for number in range(19)}
+    assert {spelled(name): number for name, number in statuses.items()} == {_library.status_text(number): number for number in range(23)}
     for name in ("DONE", "NAME", "REFUSED", "MEMORY", "RANGE", "CLOSED", "MAN", "OUTSIDE_MAP", "CHANGED", "BAD_BLOCK"):
         assert getattr(_library, name) == statuses[name]
     sizes = dict(re.findall(r"#define SZG_(TEXT_SIZE|MAX_MEN) (\d+)", HEADER))
     assert (_library.TEXT_SIZE, _library.MAX_MEN) == (int(sizes["TEXT_SIZE"]), int(sizes["MAX_MEN"]))
-    assert [_library.reason_text(number) for number in (0, 19, 1 << 31)] == [_library.status_text(number) for number in (19, 256, 1 << 31)] == [""] * 3
+    assert [_library.reason_text(number) for number in (0, 19, 1 << 31)] == [_library.status_text(number) for number in (23, 256, 1 << 31)] == [""] * 3
 
 
 def test_a_text_longer_than_the_buffer_is_whole() -> None:

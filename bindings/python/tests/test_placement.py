@@ -1,7 +1,8 @@
 """Placements as callers write them."""
 import pytest
 import szg
-from conftest import PAWN, UNPAIRED, Board, untold
+from conftest import PAWN, UNPAIRED, untold
+from stand_in import Board
 from szg import BLACK, KING, QUEEN, WHITE
 
 MEN = [(KING, WHITE, 60), (QUEEN, WHITE, 0), (KING, BLACK, 7)]
@@ -18,9 +19,9 @@ def test_every_form_of_a_placement_is_the_same(table: szg.Table) -> None:
     for turn, letter in ((WHITE, "w"), (BLACK, "b")):
         wanted = table.index(MEN, turn)
         assert wanted == (0, 0 if turn else 1, 11711)
-        for board in (Board(MEN, turn), FEN + f" {letter}", FEN + f" {letter} - - 0 1", f" {FEN}  {letter} -"):
+        for board in (Board.of(MEN, turn), FEN + f" {letter}", FEN + f" {letter} - - 0 1", f" {FEN}  {letter} -"):
             assert table.index(board) == wanted
-        for board in (FEN, iter(MEN), tuple(reversed(MEN)), [list(man) for man in MEN], Board(MEN, not turn), FEN + " w - - 0 1"):
+        for board in (FEN, iter(MEN), tuple(reversed(MEN)), [list(man) for man in MEN], Board.of(MEN, not turn), FEN + " w - - 0 1"):
             assert table.index(board, turn) == wanted
 
 
@@ -45,7 +46,7 @@ def test_what_is_no_fen(table: szg.Table, text: str) -> None:
 
 
 def test_the_side_to_move_must_be_known(table: szg.Table) -> None:
-    for board in (MEN, FEN, type("BaseBoard", (), {"piece_map": Board(MEN, WHITE).piece_map})()):
+    for board in (MEN, FEN, type("BaseBoard", (), {"piece_map": Board.of(MEN, WHITE).piece_map})()):
         with pytest.raises(TypeError, match="^turn, the side to move, must be given"):
             table.probe_wdl(board)
         assert table.probe_wdl(board, WHITE) == 2

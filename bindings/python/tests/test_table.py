@@ -12,9 +12,11 @@ from pathlib import Path
 
 import pytest
 import szg
-from conftest import DAMAGED, KNIGHT, PAIRED, PAWN, UNPAIRED, Board, Sample, block_values, is_closed, refused, untold
+from conftest import DAMAGED, KNIGHT, PAIRED, PAWN, UNPAIRED, Sample, is_closed, refused, untold
 from damaged_files import Damaged
+from stand_in import Board
 from szg import BISHOP, BLACK, KING, QUEEN, ROOK, WHITE, _library, _mapped
+from table_reader import decoded
 
 QUEEN_MEN = [(KING, WHITE, 60), (QUEEN, WHITE, 0), (KING, BLACK, 7)]
 PAWN_MEN = [(KING, WHITE, 4), (szg.PAWN, WHITE, 12), (KING, BLACK, 60)]
@@ -160,7 +162,7 @@ def test_opening_looks_at_no_block(tmp_path) -> None:
     """Whatever the blocks are, the table is opened, and refused with `verify`."""
     sub = PAIRED.read.subs[0]
     data = bytearray(PAIRED.data)
-    data[sub.first_block:sub.first_block + (sub.block_count << sub.block_bits)] = bytes(sub.block_count << sub.block_bits)
+    data[sub.place:sub.place + (sub.block_count << sub.block_bits)] = bytes(sub.block_count << sub.block_bits)
     path = tmp_path / "KQvK.rtbw"
     path.write_bytes(data)
     for table, of_file in ((szg.Table("KQvK", "wdl", data), None), (szg.Table.open(path), str(path))):
@@ -168,10 +170,10 @@ def test_opening_looks_at_no_block(tmp_path) -> None:
         for call in (lambda: table.get(11711), lambda: table.probe_wdl(QUEEN_MEN, WHITE)):
             with pytest.raises(szg.BadBlock) as caught:
                 call()
-            assert caught.value.offset == sub.first_block + (caught.value.block << sub.block_bits)
+            assert caught.value.offset == sub.place + (caught.value.block << sub.block_bits)
             assert caught.value.path == of_file
         for call in (table.verify, table.values):
-            assert refused(call) == (sub.first_block, "Word")
+            assert refused(call) == (sub.place, "Word")
 
 
 def test_each_changed_byte_of_a_block_is_a_value_or_a_fault(each_sample: Sample) -> None:
@@ -182,12 +184,12 @@ def test_each_changed_byte_of_a_block_is_a_value_or_a_fault(each_sample: Sample)
         for sub in each_sample.read.subs:
             for number in range(sub.block_count if sub.constant is None else 0):
                 first, last = sub.starts[number], min(sub.starts[number + 1], sub.size) - 1
-                at = sub.first_block + (number << sub.block_bits)
+                at = sub.place + (number << sub.block_bits)
                 end = at + (1 << sub.block_bits)
                 others = [index for index in (first - 1, last + 1) if 0 <= index < sub.size]
                 for byte in range(at, end):
                     data[byte] ^= 1 + byte % 255
-                    values = block_values(sub, number, bytes(data[at:end]))
+                    values, _ = decoded(sub, number, bytes(data[at:end]))
                     for index in {first, (first + last) // 2, last}:
                         if values is not None:
                             assert table.get(index, sub.part, sub.side) == values[index - first]
@@ -325,9 +327,9 @@ def test_a_with_block_lets_exceptions_through() -> None:
 def test_probe_wdl(tmp_path, way: str) -> None:
     with opened(UNPAIRED, tmp_path, way) as table:
         # e8 a1 h1 is flipped to d1 h8 a8, which is 11711 by the numbering of the format
-        assert table.index(Board(QUEEN_MEN, WHITE)) == szg.Spot(0, 0, 11711)
+        assert table.index(Board.of(QUEEN_MEN, WHITE)) == szg.Spot(0, 0, 11711)
         assert table.index(iter(QUEEN_MEN), BLACK) == szg.Spot(0, 1, 11711)
-        assert [table.probe_wdl(Board(QUEEN_MEN, turn)) for turn in (WHITE, BLACK)] == [2, 0]
+        assert [table.probe_wdl(Board.of(QUEEN_MEN, turn)) for turn in (WHITE, BLACK)] == [2, 0]
         assert table.probe_wdl(QUEEN_MEN, WHITE) == table.get(11711) - 2
         # the colours exchanged: the side of the name's first side is Black's
         exchanged = [(kind, not color, square) for kind, color, square in QUEEN_MEN]
@@ -355,7 +357,7 @@ def test_probe_dtz(tmp_path, way: str) -> None:
         assert [table.number(0, wdl=2, part=part) for part in range(3)] == [14, 600, 0]
         assert table.number(7, wdl=-1, part=3) == 14
         for square, distance in ((10, 0), (9, 600), (8, 14)):
-            for board in (Board(pawn_on(square), WHITE), pawn_on(square)):
+            for board in (Board.of(pawn_on(square), WHITE), pawn_on(square)):
                 assert table.probe_dtz(board, WHITE, wdl=2) == distance
             assert table.index(pawn_on(square), WHITE).part == square - 8
         # White's pawn on e2, kings on e1 and e8

@@ -6,7 +6,8 @@ from pathlib import Path
 
 import pytest
 import szg
-from conftest import PAIRED, PAWN, UNPAIRED, Board, is_closed, untold
+from conftest import PAIRED, PAWN, UNPAIRED, is_closed, untold
+from stand_in import Board
 from szg import BLACK, KING, QUEEN, WHITE
 
 QUEEN_MEN = [(KING, WHITE, 60), (QUEEN, WHITE, 0), (KING, BLACK, 7)]
@@ -17,7 +18,7 @@ PAWN_FEN = "4k3/8/8/8/8/8/1P6/4K3 w"
 def test_a_folder_of_tables(folder: Path) -> None:
     with szg.open_tablebase(folder) as tables:
         assert repr(tables) == "<szg.Tablebase with 3 tables>"
-        assert [tables.probe_wdl_table(Board(QUEEN_MEN, turn)) for turn in (WHITE, BLACK)] == [2, 0]
+        assert [tables.probe_wdl_table(Board.of(QUEEN_MEN, turn)) for turn in (WHITE, BLACK)] == [2, 0]
         assert tables.probe_wdl_table(QUEEN_MEN, WHITE) == tables.probe_wdl_table(QUEEN_FEN) == 2
         # colours exchanged, and the name with them
         assert tables.probe_wdl_table("4k3/8/8/8/8/8/8/q6K b") == 2
@@ -99,7 +100,7 @@ def test_a_file_that_is_no_table_is_refused_when_it_is_probed(folder: Path) -> N
 def test_a_bad_block_spoils_no_other_probe(folder: Path) -> None:
     sub, data = PAIRED.read.subs[0], bytearray(PAIRED.data)
     block = max(number for number in range(sub.block_count) if sub.starts[number] <= 11711)
-    at = sub.first_block + (block << sub.block_bits)
+    at = sub.place + (block << sub.block_bits)
     data[at:at + (1 << sub.block_bits)] = bytes(1 << sub.block_bits)
     (folder / "KQvK.rtbw").write_bytes(data)
     with szg.open_tablebase(folder) as tables:

@@ -156,3 +156,17 @@ with szg.open_tablebase(sys.argv[1]) as tables:
     print(tables.get_wdl(FEN))
 """, str(tmp_path), seconds=20)
     assert said == f"[Errno 22] not a regular file: '{tmp_path}/KQvK.rtbw'\nNone\n"
+
+
+def test_a_pipe_that_takes_a_files_place_is_no_table(tmp_path: Path) -> None:
+    """It comes there after the file was looked at."""
+    os.mkfifo(tmp_path / "KQvK.rtbw")
+    said = ended("""
+found = os.stat(FOLDER + "/KQvK.rtbw")
+os.stat = lambda path: found
+try:
+    szg.Table.open(sys.argv[1] + "/KQvK.rtbw")
+except OSError as error:
+    print(error)
+""", str(tmp_path), seconds=20)
+    assert said == f"[Errno 22] not a regular file: '{tmp_path}/KQvK.rtbw'\n"

@@ -77,7 +77,7 @@ impl<'a> Blocks for Whole<'a> {
 }
 
 /// Returns the blocks that are stored in the subtable; none if it is constant.
-pub fn blocks_in(sub: &Sub) -> Whole<'_>
+pub(crate) fn blocks_in(sub: &Sub) -> Whole<'_>
     requires { IfSome (layout_of sub.now) (λ layout. layout.code.symbols ≡ length layout.entries) }
     ensures packed { result.packed.now ≡ packed_of sub.now }
     ensures bits { IfSome (layout_of sub.now) (λ layout. result.block_bits ≡ layout.block_bits) }

@@ -156,7 +156,13 @@ fn spells_on(code: &Code, dict: &Dict, left: Bits, needed: u64) -> bool
 
 /// Returns the value at `index` in a block, in one pass over the words of the block's first `needed` values. None if
 /// the block's bits spell fewer than `needed` values.
-pub fn find_verified(code: &Code, dict: &Dict, block: &[u8], index: u64, needed: u64) -> Option<u16>
+pub(crate) fn find_verified(
+    code: &Code,
+    dict: &Dict,
+    block: &[u8],
+    index: u64,
+    needed: u64,
+) -> Option<u16>
     requires accepted { IsCode code.now }
     requires symbols { code.now.symbols ≡ length dict.now }
     requires size { length block.now ≤ 2 ^ 60 }
@@ -224,7 +230,7 @@ pub struct Found {
 
 /// Decodes the value at `index` in a block, word by word from the block's start. The block's own bits must spell
 /// more than `index` values.
-pub fn find_in_block(code: &Code, dict: &Dict, block: &[u8], index: u64) -> Found
+pub(crate) fn find_in_block(code: &Code, dict: &Dict, block: &[u8], index: u64) -> Found
     requires accepted { IsCode code.now }
     requires symbols { code.now.symbols ≡ length dict.now }
     requires size { length block.now ≤ 2 ^ 60 }
@@ -285,7 +291,7 @@ fn push_symbol(
 }
 
 /// Appends the first `needed` values of a block whose own bits spell at least that many.
-pub fn push_values(
+pub(crate) fn push_values(
     code: &Code,
     dict: &Dict,
     block: &[u8],

@@ -95,11 +95,11 @@ pub record IsAdded (kind : Kind) (choice : Choice) (flags : ℕ) (values : List 
 
 abbrev pub gathered_dump : Gathered → Dump
 gathered_dump gathered = record {
-  material = gathered.front.material;
-  kind = gathered.front.kind;
-  parts = map part_of gathered.front.parts.items;
+  material = gathered.header.material;
+  kind = gathered.header.kind;
+  parts = map part_of gathered.header.parts.items;
   flags = gathered.subs.flags.items;
   maps = map (option_map map_of) gathered.subs.maps.items;
-  last = gathered.front.last;
-  lists = lists_in gathered.front.kind gathered.subs;
+  last = gathered.header.last;
+  lists = lists_in gathered.header.kind gathered.subs;
 }

@@ -80,3 +80,8 @@ pub record HasNoFault (plan : Plan) (lists : List (List ℕ)) : Type 0 where
   pub range : IsInRange plan
   pub each : AllByRecursion (IsBuildable plan.kind) lists
   pub maps : has_maps plan ≡ true
+
+-- the subtables built from a plan and lists without fault
+pub record AreMade (choice : Choice) (plan : Plan) (lists : List (List ℕ)) (subtables : List Subtable) : Type 0 where
+  pub is_valid : HasNoFault plan lists
+  pub built : AreBuilt choice plan plan.flags lists subtables

@@ -15,7 +15,7 @@ ghost use Rattle.szg_file.specs.Held.{sparse_of, subtable_of};
 ghost use Rattle.szg_build.specs.Building.{IsExtended, IsMadeSub, IsPairing};
 ghost use Rattle.szg_build.specs.Rule.{HasSpanIndex, HasTruncatedBinary};
 
-use crate::building::blocks::{Cut, fill_blocks};
+use crate::building::blocks::{FilledBlocks, fill_blocks};
 use crate::building::coding::choose_code;
 use crate::building::sparse::sparse_index;
 use crate::pairing::leaves::Paired;
@@ -95,7 +95,7 @@ pub(crate) fn build_paired(
         Err(DictFault::LongSymbol(_)) => unreachable!(),
     };
     let code = choose_code(alloc, &dict, &symbols, is_huffman)?;
-    let Cut {
+    let FilledBlocks {
         mut lengths,
         packed,
     } = fill_blocks(alloc, &code, &dict, &symbols, packing.block_bits)?;

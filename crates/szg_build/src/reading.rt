@@ -36,21 +36,6 @@ use szg_values::Material;
 
 // ---- values
 
-/// Reads an item from a line of its own.
-fn read_item<T: Item, R: Input>(
-    following: u64,
-    input: &mut R,
-    incoming: &mut Incoming,
-) -> Result<T, DumpReadFault>
-    requires { length (held_of incoming.old) ≤ following + 1 }
-    ensures lines { ReadsLines (number_line (value ∷ []) T.GREATEST) T.number incoming.old incoming.new R.Input input.old input.new result }
-    ensures following { OnOk result (length (held_of incoming.new) ≤ following) }
-    ensures memory { IsErrOf result DumpReadFault.Memory → ⊥ }
-{
-    let number = read_number(b"", T::GREATEST, following, input, incoming)?;
-    Ok(T::of(number))
-}
-
 /// Reads `count` items, one a line.
 fn read_items<T: Item, R: Input>(
     alloc: Global,
@@ -67,8 +52,9 @@ fn read_items<T: Item, R: Input>(
 {
     let mut list = Vec::new(alloc);
     'items: for i in 0..count {
-        let item = read_item(following + (count - 1 - i), input, incoming)?;
-        list.push(item)?;
+        let left = count - 1 - i;
+        let number = read_number(b"", T::GREATEST, following + left, input, incoming)?;
+        list.push(T::of(number))?;
     }
     Ok(list)
 }

@@ -17,7 +17,7 @@ mod trimming;
 
 use crate::building::sizing::choose_sizes;
 use crate::pairing::leaves::{MAX_SYMBOLS, Paired};
-use crate::pairing::proposing::{Proposal, with_pairs};
+use crate::pairing::proposing::with_pairs;
 use crate::shrinking::costs::BIT;
 use crate::shrinking::dropping::without_poor;
 use crate::shrinking::tries::{Best, Blend, copy_of};
@@ -154,7 +154,7 @@ pub(crate) fn shrink<V: Watcher>(
     begun: Paired,
     other_bytes: Option<u64>,
     watcher: &mut V,
-) -> Result<Proposal, AllocError> {
+) -> Result<Paired, AllocError> {
     let is_short = begun.symbols.len() <= FEW_VALUES;
     let (first, tries) = if is_short {
         (FIRST_BOUNDS, 4)
@@ -173,8 +173,5 @@ pub(crate) fn shrink<V: Watcher>(
     }
     polish(alloc, tries, &mut best)?;
     let Best { paired, .. } = best;
-    Ok(Proposal {
-        entries: paired.entries,
-        symbols: paired.symbols,
-    })
+    Ok(paired)
 }

@@ -12,7 +12,8 @@ ghost use Rattle.szg_build.specs.Chosen.{IsBuiltAs, IsCodedTable};
 ghost use Rattle.szg_build.specs.Plan.{build_fault};
 ghost use Rattle.szg_build.specs.Rule.{byte4_for, constant_for, constant_in, HasSpanIndex, HasTruncatedBinary};
 ghost use Rattle.szg_build.specs.Shown.{plan_seen};
-ghost use Rattle.szg_build.specs.Tabling.{AreBuilt, IsBuildable, IsBuiltBy, IsChoiceOf, IsInRange, IsOfBytes, IsOfItems, HasNoFault};
+ghost use Rattle.szg_build.specs.Tabling.{AreBuilt, AreMade, IsBuildable, IsBuiltBy, IsChoiceOf, IsInRange, IsOfBytes, IsOfItems, HasNoFault};
+ghost use Rattle.szg_build.specs.declared.building.Choice.{Choice};
 
 use crate::building::headers::count_other_bytes;
 use crate::building::subtables::build_sub;
@@ -40,7 +41,7 @@ pub(crate) fn parts_fit(parts: &[PartBytes])
 }
 
 /// For proofs alone: the items of maps fit their widths.
-pub(crate) fn maps_fit(maps: &[Option<Map>])
+fn maps_fit(maps: &[Option<Map>])
     ensures { AllByRecursion IsOfItems (map (option_map map_of) maps.now) }
 {
     'maps: for item in maps {
@@ -65,7 +66,7 @@ pub(crate) fn maps_fit(maps: &[Option<Map>])
 // ---- the table
 
 /// Returns byte 4: bit 0 is set if the material is not symmetric, bit 1 if it has pawns.
-pub(crate) fn byte4_of(material: &Material) -> u8
+fn byte4_of(material: &Material) -> u8
     ensures split { has_bit 0 result ≡ not (is_symmetric material.now) }
     ensures pawns { has_bit 1 result ≡ has_pawns material.now }
     ensures rule { result ≡ byte4_for material.now }
@@ -113,7 +114,7 @@ fn build_subs<V: Watcher>(
 }
 
 /// Fills in the padding of `fields`, which have none yet, with zeros, and creates the table.
-pub(crate) fn padded(alloc: Global, mut fields: Fields) -> Result<Table, AllocError>
+fn padded(alloc: Global, mut fields: Fields) -> Result<Table, AllocError>
     requires { (fill : List ℕ) → AreBytes (fill_asked (fields_shown fields).contents) fill → IsAccepted (fields_shown fields).contents fill }
     ensures contents { IfOk result (λ t. t.contents ≡ (fields_shown fields).contents) }
     ensures accepted { IfOk result (λ t. IsAccepted t.contents t.filled) }
@@ -122,6 +123,31 @@ pub(crate) fn padded(alloc: Global, mut fields: Fields) -> Result<Table, AllocEr
     let fill = vec![in alloc; 0u8; fields.fill_asked() as usize]?;
     fields.fill = fill;
     Ok(Table::assemble(fields))
+}
+
+/// Returns the table of a plan and of the subtables that were built for it, padded with zeros.
+pub(crate) fn table_from(alloc: Global, plan: &Plan, subs: Vec<Sub>) -> Result<Table, AllocError>
+    requires { (choice : Choice) × (lists : List (List ℕ)) × AreMade choice (plan_seen plan.now) lists (map subtable_of subs.items) }
+    ensures built { (choice : Choice) (lists : List (List ℕ)) → AreMade choice (plan_seen plan.now) lists (map subtable_of subs.items) → IfOk result (λ t. IsBuiltBy choice (plan_seen plan.now) lists t.contents) }
+    ensures accepted { IfOk result (λ t. IsAccepted t.contents t.filled) }
+    ensures padding { IfOk result (λ t. AllByRecursion (λ byte. byte ≡ 0) t.filled) }
+{
+    maps_fit(&plan.maps);
+    let parts = copy_parts(alloc, &plan.parts)?;
+    let maps = copy_maps(alloc, &plan.maps)?;
+    let byte4 = byte4_of(&plan.material);
+    let last = end_bytes(byte4, &plan.last);
+    let fields = Fields {
+        material: plan.material.copy(),
+        kind: plan.kind,
+        byte4,
+        parts,
+        subs,
+        maps,
+        fill: Vec::new(alloc),
+        last,
+    };
+    padded(alloc, fields)
 }
 
 /// Builds the table of a plan and lists that are not refused.
@@ -138,23 +164,8 @@ fn build_table<V: Watcher>(
     ensures accepted { IfOk result (λ t. IsAccepted t.contents t.filled) }
     ensures padding { IfOk result (λ t. AllByRecursion (λ byte. byte ≡ 0) t.filled) }
 {
-    maps_fit(&plan.maps);
     let subs = build_subs(alloc, plan, choice, lists, watcher)?;
-    let parts = copy_parts(alloc, &plan.parts)?;
-    let maps = copy_maps(alloc, &plan.maps)?;
-    let byte4 = byte4_of(&plan.material);
-    let last = end_bytes(byte4, &plan.last);
-    let fields = Fields {
-        material: plan.material.copy(),
-        kind: plan.kind,
-        byte4,
-        parts,
-        subs,
-        maps,
-        fill: Vec::new(alloc),
-        last,
-    };
-    padded(alloc, fields)
+    table_from(alloc, plan, subs)
 }
 
 /// Builds the table of a plan and lists, packed by `choice`. Errors: the first fault of the plan and lists.

@@ -24,7 +24,7 @@ ghost use Rattle.szg_build.specs.Shown.{dump_seen, form_of, sub_in, sub_count, s
 use crate::dump::Dump;
 use crate::item::Item;
 use crate::places::places;
-use crate::writing::outgoing::{Outgoing, flush, put};
+use crate::writing::outgoing::{OutgoingText, flush, put};
 use arrayvec::ArrayVec;
 use itoa::Buffer;
 use szg_file::{Map, PartBytes, WriteFault, part_count};
@@ -37,11 +37,11 @@ type Line = ArrayVec<u8, 96>;
 // ---- lines
 
 /// Appends bytes to a line.
-fn add(line: &mut Line, piece: &[u8])
-    requires { length line.old.items + length piece.now ≤ 96 }
-    ensures { line.new.items ≡ line.old.items ++ piece.now }
+fn add(line: &mut Line, chunk: &[u8])
+    requires { length line.old.items + length chunk.now ≤ 96 }
+    ensures { line.new.items ≡ line.old.items ++ chunk.now }
 {
-    let Ok(()) = line.try_extend_from_slice(piece) else {
+    let Ok(()) = line.try_extend_from_slice(chunk) else {
         unreachable!()
     };
 }
@@ -62,7 +62,7 @@ pub(crate) fn put_number<W: Output>(
     front: &[u8],
     number: u64,
     output: &mut W,
-    outgoing: &mut Outgoing,
+    outgoing: &mut OutgoingText,
 ) -> Result<(), WriteFault>
     requires { length front.now ≤ 16 }
     ensures { Writing ((front.now ++ decimal number) ++ 10 ∷ []) outgoing.old outgoing.new W.Output output.old output.new result }
@@ -75,12 +75,12 @@ pub(crate) fn put_number<W: Output>(
 }
 
 /// Writes a line: fixed words with the space after them, and two decimals.
-pub(crate) fn put_pair<W: Output>(
+fn put_pair<W: Output>(
     front: &[u8],
     first: u64,
     second: u64,
     output: &mut W,
-    outgoing: &mut Outgoing,
+    outgoing: &mut OutgoingText,
 ) -> Result<(), WriteFault>
     requires { length front.now ≤ 16 }
     ensures { Writing ((front.now ++ (decimal first ++ 32 ∷ decimal second)) ++ 10 ∷ []) outgoing.old outgoing.new W.Output output.old output.new result }
@@ -99,7 +99,7 @@ fn put_word<W: Output>(
     front: &[u8],
     word: &[u8],
     output: &mut W,
-    outgoing: &mut Outgoing,
+    outgoing: &mut OutgoingText,
 ) -> Result<(), WriteFault>
     requires front { length front.now ≤ 16 }
     requires word { length word.now ≤ 32 }
@@ -127,7 +127,7 @@ fn digits(byte: u8) -> [u8; 2]
 fn put_hex<W: Output>(
     bytes: &[u8],
     output: &mut W,
-    outgoing: &mut Outgoing,
+    outgoing: &mut OutgoingText,
 ) -> Result<(), WriteFault>
     ensures { Writing (encode_lower bytes.now) outgoing.old outgoing.new W.Output output.old output.new result }
 {
@@ -143,7 +143,7 @@ fn put_hex<W: Output>(
 fn put_items<T: Item, W: Output>(
     items: &[T],
     output: &mut W,
-    outgoing: &mut Outgoing,
+    outgoing: &mut OutgoingText,
 ) -> Result<(), WriteFault>
     ensures { Writing (lines_text (map (λ v. decimal v ∷ []) (map T.number items.now))) outgoing.old outgoing.new W.Output output.old output.new result }
 {
@@ -169,19 +169,24 @@ pub(crate) fn run_length(values: &[u16]) -> usize
     values.len()
 }
 
-/// Writes a line for each maximal run of equal values.
-fn put_runs<W: Output>(
-    values: &[u16],
+/// Writes equal values in form `form`.
+pub(crate) fn put_equal<W: Output>(
+    form: u8,
+    count: u64,
+    value: u16,
     output: &mut W,
-    outgoing: &mut Outgoing,
+    outgoing: &mut OutgoingText,
 ) -> Result<(), WriteFault>
-    ensures { Writing (lines_text (map (λ run. decimal run.0 ∷ decimal run.1 ∷ []) (runs_of values.now))) outgoing.old outgoing.new W.Output output.old output.new result }
+    ensures { Writing (lines_text (value_lines (form_of form) (replicate count value))) outgoing.old outgoing.new W.Output output.old output.new result }
 {
-    let mut from = 0;
-    'runs: while from < values.len() {
-        let count = run_length(&values[from..]);
-        put_pair(b"", count as u64, u64::from(values[from]), output, outgoing)?;
-        from += count;
+    if form == 2 {
+        if count == 0 {
+            return Ok(());
+        }
+        return put_pair(b"", count, u64::from(value), output, outgoing);
+    }
+    'lines: for _done in 0..count {
+        put_number(b"", u64::from(value), output, outgoing)?;
     }
     Ok(())
 }
@@ -191,16 +196,18 @@ fn put_list<W: Output>(
     form: u8,
     values: &[u16],
     output: &mut W,
-    outgoing: &mut Outgoing,
+    outgoing: &mut OutgoingText,
 ) -> Result<(), WriteFault>
     ensures { Writing (lines_text (values_lines (form_of form) values.now)) outgoing.old outgoing.new W.Output output.old output.new result }
 {
     put_number(b"values ", values.len() as u64, output, outgoing)?;
-    if form == 2 {
-        put_runs(values, output, outgoing)
-    } else {
-        put_items(values, output, outgoing)
+    let mut from = 0;
+    'runs: while from < values.len() {
+        let count = run_length(&values[from..]);
+        put_equal(form, count as u64, values[from], output, outgoing)?;
+        from += count;
     }
+    Ok(())
 }
 
 // ---- maps
@@ -210,7 +217,7 @@ fn put_map_list<T: Item, W: Output>(
     j: usize,
     list: &[T],
     output: &mut W,
-    outgoing: &mut Outgoing,
+    outgoing: &mut OutgoingText,
 ) -> Result<(), WriteFault>
     ensures { Writing (lines_text (map_list_lines j (map T.number list.now))) outgoing.old outgoing.new W.Output output.old output.new result }
 {
@@ -222,7 +229,7 @@ fn put_map_list<T: Item, W: Output>(
 fn put_map_lists<T: Item, W: Output>(
     lists: &[Vec<T>; 4],
     output: &mut W,
-    outgoing: &mut Outgoing,
+    outgoing: &mut OutgoingText,
 ) -> Result<(), WriteFault>
     ensures { Writing (lines_text (flat_map_beside map_list_lines (0 ∷ 1 ∷ 2 ∷ 3 ∷ []) (map (λ list. map T.number list.items) lists.now))) outgoing.old outgoing.new W.Output output.old output.new result }
 {
@@ -236,7 +243,7 @@ fn put_map_lists<T: Item, W: Output>(
 fn put_map<W: Output>(
     map: &Option<Map>,
     output: &mut W,
-    outgoing: &mut Outgoing,
+    outgoing: &mut OutgoingText,
 ) -> Result<(), WriteFault>
     ensures { Writing (lines_text (map_lines (option_map map_of map.now))) outgoing.old outgoing.new W.Output output.old output.new result }
 {
@@ -253,7 +260,7 @@ fn put_map<W: Output>(
 pub(crate) fn put_subtable_id<W: Output>(
     place: (u8, u8),
     output: &mut W,
-    outgoing: &mut Outgoing,
+    outgoing: &mut OutgoingText,
 ) -> Result<(), WriteFault>
     requires { place.0 < 4 }
     ensures { Writing (line_text (codes "sub" ∷ part_word place.0 ∷ decimal place.1 ∷ [])) outgoing.old outgoing.new W.Output output.old output.new result }
@@ -267,7 +274,7 @@ pub(crate) fn put_flags_and_map<W: Output>(
     flags: u8,
     map: &Option<Map>,
     output: &mut W,
-    outgoing: &mut Outgoing,
+    outgoing: &mut OutgoingText,
 ) -> Result<(), WriteFault>
     ensures { Writing (line_text (codes "flags" ∷ decimal flags ∷ []) ++ lines_text (map_lines (option_map map_of map.now))) outgoing.old outgoing.new W.Output output.old output.new result }
 {
@@ -280,7 +287,7 @@ fn put_flags<W: Output>(
     dump: &Dump,
     s: usize,
     output: &mut W,
-    outgoing: &mut Outgoing,
+    outgoing: &mut OutgoingText,
 ) -> Result<(), WriteFault>
     requires { s < sub_count dump.now }
     ensures { Writing (lines_text (flags_lines dump.now.kind (sub_in dump.now s))) outgoing.old outgoing.new W.Output output.old output.new result }
@@ -298,7 +305,7 @@ fn put_sub<W: Output>(
     s: usize,
     place: (u8, u8),
     output: &mut W,
-    outgoing: &mut Outgoing,
+    outgoing: &mut OutgoingText,
 ) -> Result<(), WriteFault>
     requires there { s < sub_count dump.now }
     requires place { place.0 < 4 }
@@ -324,7 +331,7 @@ fn put_subs<W: Output>(
     form: u8,
     dump: &Dump,
     output: &mut W,
-    outgoing: &mut Outgoing,
+    outgoing: &mut OutgoingText,
 ) -> Result<(), WriteFault>
     ensures { Writing (lines_text (flat_map_beside (sub_lines (form_of form) dump.now.kind) (subtable_ids_of dump.now.material dump.now.kind) (subs_seen dump.now))) outgoing.old outgoing.new W.Output output.old output.new result }
 {
@@ -342,7 +349,7 @@ fn put_part<W: Output>(
     number: u8,
     part: &PartBytes,
     output: &mut W,
-    outgoing: &mut Outgoing,
+    outgoing: &mut OutgoingText,
 ) -> Result<(), WriteFault>
     requires { number < 4 }
     ensures { Writing (lines_text (part_lines number (part_of part.now))) outgoing.old outgoing.new W.Output output.old output.new result }
@@ -361,7 +368,7 @@ pub(crate) fn put_parts<W: Output>(
     material: &Material,
     parts: &[PartBytes],
     output: &mut W,
-    outgoing: &mut Outgoing,
+    outgoing: &mut OutgoingText,
 ) -> Result<(), WriteFault>
     ensures { Writing (lines_text (flat_map_beside part_lines (part_numbers material.now) (map part_of parts.now))) outgoing.old outgoing.new W.Output output.old output.new result }
 {
@@ -378,7 +385,7 @@ pub(crate) fn put_front<W: Output>(
     kind: Kind,
     last: &[u8; 16],
     output: &mut W,
-    outgoing: &mut Outgoing,
+    outgoing: &mut OutgoingText,
 ) -> Result<(), WriteFault>
     requires { (form ≡ 1) ⊎ (form ≡ 2) }
     ensures { Writing (lines_text (front_lines (form_of form) material.now kind last.now)) outgoing.old outgoing.new W.Output output.old output.new result }
@@ -410,7 +417,7 @@ fn put_dump<W: Output>(
     form: u8,
     dump: &Dump,
     output: &mut W,
-    outgoing: &mut Outgoing,
+    outgoing: &mut OutgoingText,
 ) -> Result<(), WriteFault>
     requires { (form ≡ 1) ⊎ (form ≡ 2) }
     ensures text { Writing (dump_text (form_of form) (dump_seen dump.now)) outgoing.old outgoing.new W.Output output.old output.new result }
@@ -441,6 +448,6 @@ pub fn write_dump<W: Output>(dump: &Dump, form: u8, output: &mut W) -> Result<()
     ensures failed { OnErr result (HasFailed (W.failures output.old) (W.failures output.new) (W.interrupted output.new)) }
     ensures quiet { OnOk result (W.failures output.new ≡ W.failures output.old) }
 {
-    let mut outgoing = Outgoing::new();
+    let mut outgoing = OutgoingText::new();
     put_dump(form, dump, output, &mut outgoing)
 }

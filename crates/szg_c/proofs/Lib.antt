@@ -4,9 +4,11 @@ pub mod HandleWalks
 pub mod FrontKind
 pub mod FrontsStated
 pub mod TableKind
+pub mod TablebaseKind
 pub mod HeldValues
 pub mod FrontBlocks
 pub mod SoundMen
+pub mod TooManyMen
 pub mod Sizes
 pub mod Values
 pub mod TableProbes

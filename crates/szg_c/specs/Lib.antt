@@ -7,6 +7,7 @@ pub mod Owned
 pub mod Fronts
 pub mod FrontBlocks
 pub mod Texts
+pub mod Tablebases
 pub use Rattle.szg_file.specs.Held
 pub use Rattle.szg_file.specs.Values
 pub use Rattle.szg_file.specs.Opened

@@ -1,6 +1,6 @@
 -- The texts that C gets: the version, and the names of statuses and reasons.
 use Rattle.std.specs.Prelude.{ℕ, ◌==◌, ◌++◌, List, [], ◌∷◌, length, take, drop, min, codes, if◌then◌else◌}
-use Rattle.szg_c.specs.declared.status.TheConstants.{DONE, NAME, REFUSED, MEMORY, RANGE, CLOSED, MAN, MEN, SAME_SQUARE, PAWN_RANK, OTHER_MATERIAL, IRREGULAR, KINGS_TOUCH, WRONG_SIDE, NO_CLASS, DRAW, OUTSIDE_MAP, CHANGED, BAD_BLOCK}
+use Rattle.szg_c.specs.declared.status.TheConstants.{DONE, NAME, REFUSED, MEMORY, RANGE, CLOSED, MAN, MEN, SAME_SQUARE, PAWN_RANK, OTHER_MATERIAL, IRREGULAR, KINGS_TOUCH, WRONG_SIDE, NO_CLASS, DRAW, OUTSIDE_MAP, CHANGED, BAD_BLOCK, EN_PASSANT, IN_CHECK, MISSING, CONTRADICTION}
 
 -- a text as snprintf writes it to a buffer: as much of it as leaves room for a zero byte, then this byte; the rest of the
 -- buffer stays, and so does an empty buffer
@@ -33,7 +33,11 @@ status_text status =
     if status == DRAW then codes "Draw" else
     if status == OUTSIDE_MAP then codes "OutsideMap" else
     if status == CHANGED then codes "Changed" else
-    if status == BAD_BLOCK then codes "BadBlock" else []
+    if status == BAD_BLOCK then codes "BadBlock" else
+    if status == EN_PASSANT then codes "EnPassant" else
+    if status == IN_CHECK then codes "InCheck" else
+    if status == MISSING then codes "Missing" else
+    if status == CONTRADICTION then codes "Contradiction" else []
 
 -- the name of a reason by its number, as the program prints it; a number that is no reason's has the empty name
 unfoldable pub reason_text : ℕ → List ℕ

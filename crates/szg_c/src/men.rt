@@ -103,7 +103,7 @@ pub fn placement_or_fault(men: &[CodedMan], mover: u8) -> Result<Placement, u32>
 }
 
 /// Whether each man's numbers encode a kind, a colour and a square.
-fn are_coded_men(men: &[CodedMan]) -> bool
+pub fn are_coded_men(men: &[CodedMan]) -> bool
     ensures { result ≡ list_all is_coded_man men.now }
 {
     men.iter().all(|man| is_coded_man(man))
@@ -116,7 +116,7 @@ fn is_coded_man(man: &CodedMan) -> bool
 }
 
 /// Decodes the men. None if a man's numbers are invalid.
-fn placed_men(men: &[CodedMan]) -> Option<ArrayVec<(Man, Color, Square), MAX_MEN>>
+pub fn placed_men(men: &[CodedMan]) -> Option<ArrayVec<(Man, Color, Square), MAX_MEN>>
     requires { length men.now ≤ 6 }
     ensures reported { IfSome result (λ placed_men. IsTrue (list_all is_coded_man men.now) × (placed_men.items ≡ map placed_man_of men.now)) }
     ensures unstated { IsNone result → IsFalse (list_all is_coded_man men.now) }
@@ -155,7 +155,7 @@ fn kind_of(kind: u8) -> Man
     }
 }
 
-fn color_of(color: u8) -> Color
+pub fn color_of(color: u8) -> Color
     ensures { result ≡ color_stated color }
 {
     if color == 0 {

@@ -43,6 +43,14 @@ pub const OUTSIDE_MAP: u32 = 16;
 pub const CHANGED: u32 = 17;
 /// The block that has the value doesn't decode.
 pub const BAD_BLOCK: u32 = 18;
+/// No pawn can just have passed over the en passant square by a double step.
+pub const EN_PASSANT: u32 = 19;
+/// The side not to move is in check.
+pub const IN_CHECK: u32 = 20;
+/// A tablebase does not have a table that is needed.
+pub const MISSING: u32 = 21;
+/// The tables of a tablebase contradict themselves.
+pub const CONTRADICTION: u32 = 22;
 
 /// Returns the number of a reason.
 pub fn number_of(reason: Reason) -> u32

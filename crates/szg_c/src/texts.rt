@@ -3,8 +3,9 @@ ghost use Rattle.std.specs.Prelude.{◌≡◌, length};
 ghost use Rattle.szg_c.specs.Texts.{printed, reason_text, status_text, version_text};
 
 use crate::status::{
-    BAD_BLOCK, CHANGED, CLOSED, DONE, DRAW, IRREGULAR, KINGS_TOUCH, MAN, MEMORY, MEN, NAME,
-    NO_CLASS, OTHER_MATERIAL, OUTSIDE_MAP, PAWN_RANK, RANGE, REFUSED, SAME_SQUARE, WRONG_SIDE,
+    BAD_BLOCK, CHANGED, CLOSED, CONTRADICTION, DONE, DRAW, EN_PASSANT, IN_CHECK, IRREGULAR,
+    KINGS_TOUCH, MAN, MEMORY, MEN, MISSING, NAME, NO_CLASS, OTHER_MATERIAL, OUTSIDE_MAP, PAWN_RANK,
+    RANGE, REFUSED, SAME_SQUARE, WRONG_SIDE,
 };
 
 /// Writes the library's version, that of `szg.h`; returns its length.
@@ -40,7 +41,7 @@ pub extern "C" fn szg_reason_text(reason: u32, text: &mut [u8]) -> usize
 }
 
 /// Writes as much of a name as leaves room for a zero byte, and this byte; returns the length of the whole name.
-fn print(name: &str, text: &mut [u8]) -> usize
+pub fn print(name: &str, text: &mut [u8]) -> usize
     ensures length { result ≡ length name.now }
     ensures text { text.new ≡ printed name.now text.old }
 {
@@ -77,6 +78,10 @@ fn status_name(status: u32) -> &'static str
         OUTSIDE_MAP => "OutsideMap",
         CHANGED => "Changed",
         BAD_BLOCK => "BadBlock",
+        EN_PASSANT => "EnPassant",
+        IN_CHECK => "InCheck",
+        MISSING => "Missing",
+        CONTRADICTION => "Contradiction",
         _ => "",
     }
 }

@@ -1,25 +1,27 @@
 -- Whether a move leaves its king in check, without the list of the men after it.
-use Rattle.std.proofs.Common.{◌≡◌, ℕ, ◌<◌, List, [], ◌∷◌, map, get_or, refl, sym, ap, ◌∙◌, Bool, true, false, inl, inr, Some}
+use Rattle.std.proofs.Common.{◌≡◌, ◌≢◌, ℕ, ◌<◌, List, [], ◌∷◌, map, get_or, length, zero, refl, sym, ap, ◌∙◌, Bool, true, false, arith, inl, inr, Option, Some, None}
 use Rattle.std.specs.Prelude.{filter, not, ◌&&◌, ◌||◌, ◌==◌, unwrap_or}
-use Rattle.std.specs.List.{All, list_any, Contains}
-use Rattle.std.proofs.lemmas.Bool.{cases_Bool, and_parts, or_cases, eq-eqb, ne_eqb, eqb-true, eqb-false, not-true, not_from_false}
-use Rattle.std.proofs.lemmas.List.Elements.{All-head, All-tail, All-map, All-filter, All-contains_itself}
-use Rattle.szg_values.specs.Men.{is_man, is_color, other_color}
+use Rattle.std.specs.List.{All, find, list_any, Contains}
+use Rattle.std.proofs.lemmas.Bool.{cases_Bool, and_parts, and_from, and_right, or_cases, eq-eqb, ne_eqb, eqb-true, eqb-false, not-true, not_from_false}
+use Rattle.std.proofs.lemmas.List.Elements.{All-head, All-tail, All-map, All-filter, All-contains_itself, Contains-append_right}
+use Rattle.std.proofs.lemmas.List.Sums.{length-filter}
+use Rattle.szg_values.specs.Men.{is_man, is_color, other_color, rank_of}
 use Rattle.szg_values.specs.Placement.{PlacedMan, AreOnBoard}
-use Rattle.szg_values.specs.declared.Man.TheVariants.{King}
+use Rattle.szg_values.specs.declared.Man.TheVariants.{Pawn, Knight, Bishop, Rook, Queen, King}
 use Rattle.szg_values.specs.declared.Man.{Man}
 use Rattle.szg_values.specs.declared.Color.{Color}
 use Rattle.szg_values.specs.declared.Color.TheVariants.{White, Black}
 use Rattle.szg_chess.specs.declared.Move.{Move}
 use Rattle.szg_chess.specs.Attacks.{attacks, is_attacked, is_between, is_clear, is_in_check, is_occupied}
 use Rattle.szg_chess.specs.Position.{Position, IsPosition}
-use Rattle.szg_chess.specs.Moves.{is_en_passant, captured_square, man_after, men_after, is_legal}
-use Rattle.szg_chess.specs.Squares.{is_in, is_in_moved, is_attacked_king, squares_of, attacks_past}
-use Rattle.szg_chess.proofs.Members.{any_of, some_of, any_map, same_man}
+use Rattle.szg_chess.specs.Moves.{promotes, is_en_passant, captured_square, man_after, men_after, is_legal}
+use Rattle.szg_chess.specs.Squares.{is_in, is_in_moved, squares_of, attacks_past}
+use Rattle.szg_chess.proofs.Members.{any_of, some_of, any_map, same_man, contains_cons}
 use Rattle.szg_chess.proofs.AfterMen.{is_off, moved, off_is, goes, stays, some_moved}
 use Rattle.szg_chess.proofs.Sets.{same_bool, in_set}
 use Rattle.szg_chess.proofs.Reach.{reach_split, attacks_by_sets}
-use Rattle.szg_chess.proofs.Facts.{IsFaultless, faultless}
+use Rattle.szg_chess.proofs.Facts.{IsFaultless, faultless, has_men_parts, one_king}
+use Rattle.szg_chess.proofs.Relation.{contains_filter}
 
 any_fused : {X Y : Type 0} (f : Y → Bool) (g : X → Y) (h : X → Bool) (xs : List X) → list_any f (map g (filter h xs)) ≡ list_any (λ x. h x && f (g x)) xs
 any_fused f g h [] = refl
@@ -105,8 +107,14 @@ on_board_after m to s h = elim (cases_Bool (s.2 == m.from)) [ inl t ↦ rw t to 
 board_after : (m : Move) → m.to < 64 → (captured : ℕ) (men : List PlacedMan) → AreOnBoard men → AreOnBoard (moved m captured men)
 board_after m to captured men all = All-map (λ (s : PlacedMan). s.2 < 64) (man_after m) (filter (is_off captured) men) (λ k d h. on_board_after m to (get_or (filter (is_off captured) men) k d) (All-filter (is_off captured) (λ (s : PlacedMan). s.2 < 64) men all k d h))
 
+-- After the move m, which captures on the square `captured` and leaves men on the squares `occupied`, the man `king` is the
+-- mover's king and is attacked.
+abbrev is_attacked_king : Position → Move → ℕ → ℕ → PlacedMan → Bool
+is_attacked_king p m captured occupied king = is_man King king.0 && is_color p.mover king.1
+    && list_any (λ s. is_off captured s && (is_color (other_color p.mover) (man_after m s).1 && attacks_past occupied (man_after m s) king.2)) p.placed_men
+
 -- the test by sets, without the list
-pub check_after : (p : Position) (m : Move) (captured occupied : ℕ) → AreOnBoard p.placed_men → m.to < 64 → captured ≡ captured_square p m → occupied ≡ squares_of (men_after p m) →
+check_after : (p : Position) (m : Move) (captured occupied : ℕ) → AreOnBoard p.placed_men → m.to < 64 → captured ≡ captured_square p m → occupied ≡ squares_of (men_after p m) →
     list_any (λ s. not (s.2 == captured) && is_attacked_king p m captured occupied (man_after m s)) p.placed_men ≡ is_in_check (men_after p m) p.mover
 unfolding men_after
 check_after p m captured occupied board to is_captured is_occupied_ =
@@ -124,6 +132,118 @@ check_after p m captured occupied board to is_captured is_occupied_ =
     sym (any_fused by_king (man_after m) (is_off captured) p.placed_men)
     ∙ any_alike (λ (s : PlacedMan). s.2 < 64) by_king (λ (s : PlacedMan). is_man King s.0 && is_color p.mover s.1 && is_attacked men other s.2) men inside attacked
     ∙ ap (λ (ms : List PlacedMan). is_in_check ms p.mover) (sym whole)
+
+-- ---- the mover has one king, and the enemy's men stay
+
+not_other : (color : Color) → is_color (other_color color) color ≡ false
+not_other White = refl
+not_other Black = refl
+
+color_is : (a b : Color) → is_color a b ≡ true → b ≡ a
+color_is White White e = refl
+color_is White Black e = cc
+color_is Black White e = cc
+color_is Black Black e = refl
+
+single : {X : Type 0} (xs : List X) (a b : X) → length xs ≡ 1 → Contains xs a → Contains xs b → a ≡ b
+single [] a b e one two = absurd (omega (arith, one.1))
+single (x ∷ []) a b e one two = elim (contains_cons x [] a one) [
+  | inl here ↦ elim (contains_cons x [] b two) [ inl there ↦ sym here ∙ there | inr none ↦ absurd (omega (arith, none.1)) ]
+  | inr none ↦ absurd (omega (arith, none.1))
+]
+single (x ∷ y ∷ xs) a b e one two = absurd (omega (arith, e))
+
+abbrev pub is_own_king : Position → PlacedMan → Bool
+is_own_king p s = is_man King s.0 && is_color p.mover s.1
+
+count_kings : (p : Position) → IsFaultless p → length (filter (is_own_king p) p.placed_men) ≡ 1
+count_kings p known =
+    let one = one_king p.placed_men (has_men_parts p.placed_men known.men) p.mover in
+    let count = length-filter (is_own_king p) p.placed_men in
+    omega (arith, one, count)
+
+same_king : (p : Position) → IsFaultless p → (s u : PlacedMan) → Contains p.placed_men s → is_own_king p s ≡ true → Contains p.placed_men u → is_own_king p u ≡ true → s ≡ u
+same_king p known s u held king held_too king_too =
+    single (filter (is_own_king p) p.placed_men) s u (count_kings p known) (contains_filter (is_own_king p) p.placed_men s held king) (contains_filter (is_own_king p) p.placed_men u held_too king_too)
+
+found_some : {X : Type 0} (test : X → Bool) (xs : List X) (x : X) → find test xs ≡ Some x → Contains xs x × (test x ≡ true)
+found_some test [] x e = cc
+found_some {X} test (y ∷ ys) x e = elim (cases_Bool (test y)) [
+  | inl t ↦
+      let here : Some y ≡ Some x = rw t at e in
+      let same : y ≡ x = ap (λ (o : Option X). unwrap_or o y) here in
+      ((zero, omega arith, same), ap test (sym same) ∙ t)
+  | inr f ↦ let rest = found_some test ys x (rw f at e) in (Contains-append_right (y ∷ []) ys x rest.0, rest.1)
+]
+
+found_none : {X : Type 0} (test : X → Bool) (xs : List X) → find test xs ≡ None → length (filter test xs) ≡ 0
+found_none test [] e = refl
+found_none test (y ∷ ys) e = elim (cases_Bool (test y)) [
+  | inl t ↦ let h = rw t at e in absurd cc
+  | inr f ↦ rw f (found_none test ys (rw f at e))
+]
+
+-- the first king that is found is the mover's
+pub king_found : (p : Position) (s : PlacedMan) → find (is_own_king p) p.placed_men ≡ Some s → Contains p.placed_men s × (is_own_king p s ≡ true)
+king_found p s e = found_some (is_own_king p) p.placed_men s e
+
+pub king_not_found : (p : Position) → IsPosition p → find (is_own_king p) p.placed_men ≢ None
+king_not_found p position e =
+    let none = found_none (is_own_king p) p.placed_men e in let one = count_kings p (faultless p position.no_fault) in absurd (omega (arith, none, one))
+
+-- a man that is not promoted is what it was
+king_stays : (p : Position) (m : Move) → m.promotion ≡ None → (s : PlacedMan) → is_own_king p (man_after m s) ≡ is_own_king p s
+king_stays p m plain s = elim (cases_Bool (s.2 == m.from)) [ inl t ↦ rw (t, plain) refl | inr f ↦ rw f refl ]
+
+-- the king after a move is the one before it
+king_after : (p : Position) (m : Move) (king : PlacedMan) → IsFaultless p → m.promotion ≡ None → Contains p.placed_men king → is_own_king p king ≡ true → (captured : ℕ) (test : ℕ → Bool) →
+    list_any (λ s. is_off captured s && (is_own_king p (man_after m s) && test (man_after m s).2)) p.placed_men ≡ (is_off captured king && test (man_after m king).2)
+king_after p m king known plain stands is_king captured test =
+    let men = p.placed_men in
+    let f : PlacedMan → Bool = λ s. is_off captured s && (is_own_king p (man_after m s) && test (man_after m s).2) in
+    let g : PlacedMan → Bool = λ s. is_off captured s && test (man_after m s).2 in
+    same_bool (list_any f men) (g king)
+    (λ e.
+    let found = some_of f men e in let u = found.0 in
+    let parts = and_parts (is_off captured u) (is_own_king p (man_after m u) && test (man_after m u).2) found.1.1 in
+    let more = and_parts (is_own_king p (man_after m u)) (test (man_after m u).2) parts.1 in
+    let same = same_king p known u king found.1.0 (sym (king_stays p m plain u) ∙ more.0) stands is_king in
+    ap g (sym same) ∙ and_from (is_off captured u) (test (man_after m u).2) parts.0 more.1)
+    (λ e.
+    let parts = and_parts (is_off captured king) (test (man_after m king).2) e in
+    any_of f men king stands (and_from (is_off captured king) (is_own_king p (man_after m king) && test (man_after m king).2) parts.0
+    (and_from (is_own_king p (man_after m king)) (test (man_after m king).2) (king_stays p m plain king ∙ is_king) parts.1)))
+
+-- an enemy man attacks from where it stood before
+attacker_stays : (p : Position) (m : Move) (s : PlacedMan) → IsFaultless p → Contains p.placed_men s → is_color p.mover s.1 ≡ true → m.from ≡ s.2 → (captured occupied q : ℕ) (u : PlacedMan) → Contains p.placed_men u →
+    (is_off captured u && (is_color (other_color p.mover) (man_after m u).1 && attacks_past occupied (man_after m u) q)) ≡ (is_color (other_color p.mover) u.1 && is_off captured u && attacks_past occupied u q)
+attacker_stays p m s known stands own from captured occupied q u held = elim (cases_Bool (u.2 == m.from)) [
+  | inl t ↦
+      let same = same_man p.placed_men known.apart s stands u held (eqb-true u.2 m.from t ∙ from) in
+      let none : is_color (other_color p.mover) u.1 ≡ false = ap (is_color (other_color p.mover)) (ap (λ (v : PlacedMan). v.1) same ∙ color_is p.mover s.1 own) ∙ not_other p.mover in
+      rw (t, none) (and_right (is_off captured u) false refl)
+  | inr f ↦ rw f (order (is_off captured u) (is_color (other_color p.mover) u.1) (attacks_past occupied u q))
+]
+  where
+    order : (a b c : Bool) → (a && (b && c)) ≡ (b && a && c)
+    order true true c = refl
+    order true false c = refl
+    order false true c = refl
+    order false false c = refl
+
+-- The test of a move that promotes nobody: the king is not captured, and attacked where it is then.
+pub check_after_plain : (p : Position) (m : Move) (s king : PlacedMan) (captured occupied : ℕ) → IsPosition p → m.promotion ≡ None → Contains p.placed_men s → is_color p.mover s.1 ≡ true → m.from ≡ s.2 → m.to < 64 →
+    Contains p.placed_men king → is_own_king p king ≡ true → captured ≡ captured_square p m → occupied ≡ squares_of (men_after p m) →
+    (is_off captured king && list_any (λ t. is_color (other_color p.mover) t.1 && is_off captured t && attacks_past occupied t (man_after m king).2) p.placed_men) ≡ is_in_check (men_after p m) p.mover
+check_after_plain p m s king captured occupied position plain stands own from to king_stands is_king is_captured is_occupied_ =
+    let men = p.placed_men in let other = other_color p.mover in let known = faultless p position.no_fault in
+    let before : ℕ → Bool = λ q. list_any (λ t. is_color other t.1 && is_off captured t && attacks_past occupied t q) men in
+    let later : ℕ → Bool = λ q. list_any (λ t. is_off captured t && (is_color other (man_after m t).1 && attacks_past occupied (man_after m t) q)) men in
+    let alike : (q : ℕ) → later q ≡ before q = λ q. any_alike (Contains men) (λ (t : PlacedMan). is_off captured t && (is_color other (man_after m t).1 && attacks_past occupied (man_after m t) q))
+    (λ (t : PlacedMan). is_color other t.1 && is_off captured t && attacks_past occupied t q) men (All-contains_itself men) (attacker_stays p m s known stands own from captured occupied q) in
+    ap (λ (b : Bool). is_off captured king && b) (sym (alike (man_after m king).2))
+    ∙ sym (king_after p m king known plain king_stands is_king captured later)
+    ∙ check_after p m captured occupied position.squares.men to is_captured is_occupied_
 
 -- the test of a position by sets
 pub check_here : (men : List PlacedMan) (occupied : ℕ) (color : Color) → AreOnBoard men → occupied ≡ squares_of men →
@@ -153,16 +273,6 @@ clear_alike m n from to captured men a b =
 attacks_alike : (m n : Move) → n.from ≡ m.from → n.to ≡ m.to → (captured : ℕ) (men : List PlacedMan) (s : PlacedMan) (q : ℕ) → attacks (moved m captured men) s q ≡ attacks (moved n captured men) s q
 attacks_alike m n from to captured men s q =
     reach_split (moved m captured men) s q ∙ ap (λ (b : Bool). attacks [] s q && b) (clear_alike m n from to captured men s.2 q) ∙ sym (reach_split (moved n captured men) s q)
-
-not_other : (color : Color) → is_color (other_color color) color ≡ false
-not_other White = refl
-not_other Black = refl
-
-color_is : (a b : Color) → is_color a b ≡ true → b ≡ a
-color_is White White e = refl
-color_is White Black e = cc
-color_is Black White e = cc
-color_is Black Black e = refl
 
 -- a man that promotes, and where it goes
 pub record Promotes (p : Position) (m : Move) (s : PlacedMan) : Type 0 where
@@ -223,11 +333,20 @@ legal_alike p m n s one two to captured =
     ∙ sym (any_fused (λ (u : PlacedMan). is_man King u.0 && is_color p.mover u.1 && is_attacked (moved n square men) other u.2) (man_after n) (is_off square) men)
     ∙ ap (λ (k : ℕ). is_in_check (moved n k men) p.mover) (sym captured))
 
--- a pawn's promotions are legal together
-pub promotions_alike : (p : Position) → IsPosition p → (s : PlacedMan) → Contains p.placed_men s → is_color p.mover s.1 ≡ true → (to : ℕ) (a b : Man) → is_man King a ≡ false → is_man King b ≡ false →
-    is_legal p (record { from = s.2; to = to; promotion = Some a }) ≡ is_legal p (record { from = s.2; to = to; promotion = Some b })
+-- a promotion is legal if the same move without one is
+pub promotion_alike : (p : Position) → IsPosition p → (s : PlacedMan) → Contains p.placed_men s → is_color p.mover s.1 ≡ true → (to : ℕ) → promotes s to ≡ true → (piece : Man) → is_man King piece ≡ false →
+    is_legal p (record { from = s.2; to = to; promotion = Some piece }) ≡ is_legal p (record { from = s.2; to = to; promotion = None })
 unfolding is_en_passant
-promotions_alike p position s stands own to a b no_king_a no_king_b =
+promotion_alike p position s held own to pawns piece no_king =
     let known = faultless p position.no_fault in
-    let m : Move = record { from = s.2; to = to; promotion = Some a } in let n : Move = record { from = s.2; to = to; promotion = Some b } in
-    legal_alike p m n s (record { known = known; stands = stands; own = own; leaves = refl; no_king = no_king_a }) (record { known = known; stands = stands; own = own; leaves = refl; no_king = no_king_b }) refl refl
+    let m : Move = record { from = s.2; to = to; promotion = Some piece } in let n : Move = record { from = s.2; to = to; promotion = None } in
+    let pawn = (and_parts (is_man Pawn s.0) (rank_of to == 0 || rank_of to == 7) pawns).0 in
+    legal_alike p m n s (record { known = known; stands = held; own = own; leaves = refl; no_king = no_king }) (record { known = known; stands = held; own = own; leaves = refl; no_king = pawn_no_king s.0 pawn }) refl refl
+  where
+    pawn_no_king : (man : Man) → is_man Pawn man ≡ true → is_man King man ≡ false
+    pawn_no_king Pawn e = refl
+    pawn_no_king Knight e = cc
+    pawn_no_king Bishop e = cc
+    pawn_no_king Rook e = cc
+    pawn_no_king Queen e = cc
+    pawn_no_king King e = cc

@@ -11,12 +11,15 @@ use Rattle.szg_values.specs.declared.Color.TheVariants.{White, Black}
 
 -- ---- geometry of the board
 
+-- the difference of two numbers, whichever is the greater (a - b is 0 if b is)
 abbrev pub distance : ℕ → ℕ → ℕ
 distance a b = (a - b) + (b - a)
 
+-- how many files two squares are apart
 abbrev pub files_apart : ℕ → ℕ → ℕ
 files_apart a b = distance (file_of a) (file_of b)
 
+-- how many ranks two squares are apart
 abbrev pub ranks_apart : ℕ → ℕ → ℕ
 ranks_apart a b = distance (rank_of a) (rank_of b)
 
@@ -32,9 +35,9 @@ is_diagonal a b = not (a == b) && files_apart a b == ranks_apart a b
 abbrev pub is_amid : ℕ → ℕ → ℕ → Bool
 is_amid a b m = (nat_lt a m && nat_lt m b) || (nat_lt b m && nat_lt m a)
 
--- The square m is strictly between the squares a and b on a file, a rank or a diagonal. On a file all three have the same file, and m's rank is
--- between the others; on a rank likewise. On a diagonal both file and rank of m are between those of a and b, and m
--- shares a diagonal with each.
+-- The square m is strictly between the squares a and b on a file, a rank or a diagonal. On a file all three squares have the
+-- same file, and m's rank is between the ranks of a and b; on a rank likewise. On a diagonal m shares a diagonal with each of
+-- a and b, and its file and its rank are between theirs.
 unfoldable pub is_between : ℕ → ℕ → ℕ → Bool
 is_between a b m =
     (files_apart a m == 0 && files_apart m b == 0 && is_amid (rank_of a) (rank_of b) (rank_of m))
@@ -68,8 +71,8 @@ is_knight_jump from to = (files_apart from to == 1 && ranks_apart from to == 2) 
 abbrev pub is_pawn_attack : Color → ℕ → ℕ → Bool
 is_pawn_attack color from to = is_ahead color from to && files_apart from to == 1
 
--- A man of this kind and colour on `from` attacks the square `to`. Bishops, rooks and queens attack along lines whose
--- squares between are empty.
+-- A man of this kind and colour on `from` attacks the square `to`, whether that is empty or has a man of either colour. For a
+-- bishop, a rook or a queen the squares between must be empty.
 abbrev pub attacks_from : List PlacedMan → Man → Color → ℕ → ℕ → Bool
 attacks_from men Pawn color from to = is_pawn_attack color from to
 attacks_from men Knight color from to = is_knight_jump from to
@@ -78,7 +81,7 @@ attacks_from men Rook color from to = is_straight from to && is_clear men from t
 attacks_from men Queen color from to = (is_straight from to || is_diagonal from to) && is_clear men from to
 attacks_from men King color from to = is_king_step from to
 
--- a placed man attacks the square
+-- a man where it stands attacks the square
 unfoldable pub attacks : List PlacedMan → PlacedMan → ℕ → Bool
 attacks men s to = attacks_from men s.0 s.1 s.2 to
 

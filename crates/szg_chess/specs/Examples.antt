@@ -1,4 +1,4 @@
--- Worked examples: positions by their text, and what the definitions say of them.
+-- Worked examples: positions by their text, and what the definitions say of them. Squares are numbered a1 = 0, b1 = 1, .. h8 = 63.
 use Rattle.std.specs.Prelude.{ℕ, ◌≡◌, true, false, List, [], ◌∷◌, map, filter, length, Some, None, codes}
 use Rattle.szg_values.specs.Placement.{PlacedMan}
 use Rattle.szg_values.specs.declared.Man.{Man}

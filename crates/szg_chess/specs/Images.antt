@@ -25,6 +25,7 @@ square_image FlipRanks square = square_at (file_of square) (7 - rank_of square)
 square_image FlipDiagonal square = square_at (rank_of square) (file_of square)
 square_image ExchangeColors square = square_at (file_of square) (7 - rank_of square)
 
+-- only `ExchangeColors` changes a colour
 abbrev pub color_image : Symmetry → Color → Color
 color_image Same color = color
 color_image FlipFiles color = color

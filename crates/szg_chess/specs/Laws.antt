@@ -1,4 +1,4 @@
--- Laws over the definitions.
+-- Laws that follow from the definitions: what each says is proved.
 use Rattle.std.specs.Prelude.{ℕ, ⊤, ◌≢◌, ◌+◌, ◌-◌, ◌<◌, ◌≡◌, ◌↔◌, ◌==◌, ◌&&◌, ◌||◌, nat_lt, Bool, true, false, List, [], ◌∷◌, filter, map, length, Option, Some, None, is_none, if◌then◌else◌, Contains}
 use Rattle.std.specs.List.{All, list_any}
 use Rattle.szg_values.specs.Men.{is_color, other_color, rank_of}
@@ -39,7 +39,8 @@ is_promotion (Some King) = false
 abbrev pub fits_rank : PlacedMan → Move → Bool
 fits_rank s m = if promotes s m.to then is_promotion m.promotion else is_none m.promotion
 
--- a man of the side to move leaves its square for one that it may go to
+-- A move, said without lists: a man of the side to move leaves its square for one that it may go to, and is promoted exactly if it
+-- is a pawn that reaches the last rank.
 pub record IsMoveOf (p : Position) (m : Move) : Type 0 where
   pub man : PlacedMan
   pub stands : Contains p.placed_men man
@@ -48,7 +49,7 @@ pub record IsMoveOf (p : Position) (m : Move) : Type 0 where
   pub goes : may_go p man m.to ≡ true
   pub rank : fits_rank man m ≡ true
 
--- the legal moves are these that leave the mover's king unattacked
+-- the legal moves are exactly the moves in this sense that leave the mover's king unattacked
 abbrev pub LawMoves : Type 0
 LawMoves = (p : Position) (m : Move) → Contains (legal_moves p) m ↔ (IsMoveOf p m × (is_legal p m ≡ true))
 
@@ -75,7 +76,7 @@ LawCaptures = (p : Position) → IsPosition p → filter (is_capture p) (legal_m
 abbrev pub LawCaptured : Type 0
 LawCaptured = (p : Position) (m : Move) → IsPosition p → Contains (legal_moves p) m → length (after p m).placed_men + (if is_capture p m then 1 else 0) ≡ length p.placed_men
 
--- the ranks that a pawn is away from its last rank
+-- how many ranks a pawn has to go to its last rank; no other man has any to go
 abbrev pub ranks_to_go : Man → Color → ℕ → ℕ
 ranks_to_go Pawn White square = 7 - rank_of square
 ranks_to_go Pawn Black square = rank_of square
@@ -85,7 +86,7 @@ ranks_to_go Rook color square = 0
 ranks_to_go Queen color square = 0
 ranks_to_go King color square = 0
 
--- the number of men, and of the ranks that their pawns have to go
+-- the number of men plus the number of ranks that their pawns still have to go
 unfoldable pub zeroing_left : List PlacedMan → ℕ
 zeroing_left [] = 0
 zeroing_left (s ∷ men) = 1 + ranks_to_go s.0 s.1 s.2 + zeroing_left men
@@ -94,7 +95,7 @@ zeroing_left (s ∷ men) = 1 + ranks_to_go s.0 s.1 s.2 + zeroing_left men
 abbrev pub LawZeroing : Type 0
 LawZeroing = (p : Position) (m : Move) → IsPosition p → Contains (legal_moves p) m → is_zeroing p m ≡ true → zeroing_left (after p m).placed_men < zeroing_left p.placed_men
 
--- any other move keeps it
+-- any other move keeps this number
 abbrev pub LawQuiet : Type 0
 LawQuiet = (p : Position) (m : Move) → IsPosition p → Contains (legal_moves p) m → is_zeroing p m ≡ false → zeroing_left (after p m).placed_men ≡ zeroing_left p.placed_men
 

@@ -1,4 +1,5 @@
--- The moves of a position.
+-- The moves of a position: first what men may do if checks did not matter, then the position after a move, then the legal moves.
+-- Ranks are numbered from 0.
 use Rattle.std.specs.Prelude.{ℕ, ◌+◌, ◌/◌, Bool, false, not, ◌&&◌, ◌||◌, ◌==◌, List, [], ◌∷◌, ◌++◌, map, flat_map, filter, length, Option, Some, None, if◌then◌else◌, unwrap_or}
 use Rattle.std.specs.List.{list_any, range_with_len}
 use Rattle.szg_values.specs.Men.{is_man, is_color, other_color, file_of, rank_of, square_at}
@@ -10,13 +11,13 @@ use Rattle.szg_chess.specs.Attacks.{attacks, is_occupied, is_in_check, is_ahead,
 use Rattle.szg_chess.specs.Position.{Position, is_on}
 use Rattle.szg_chess.specs.declared.Move.{Move}
 
--- ---- what a man may do, without regard to checks
+-- ---- what a man may do, if checks did not matter
 
 -- the men of a colour
 abbrev pub men_of : Color → List PlacedMan → List PlacedMan
 men_of color men = filter (λ s. is_color color s.1) men
 
--- a pawn promotes on the last rank; it never stands on its own first rank
+-- The man is a pawn, and the square is on rank 8 or 1. A pawn only advances, so this is its last rank, where it promotes.
 abbrev pub promotes : PlacedMan → ℕ → Bool
 promotes s to = is_man Pawn s.0 && (rank_of to == 0 || rank_of to == 7)
 
@@ -54,7 +55,7 @@ abbrev pub home_rank : Color → ℕ
 home_rank White = 1
 home_rank Black = 6
 
--- a pawn reaches rank 4 by a double step, which has the number 3, or rank 5 if it is Black's
+-- a double step of White's pawn ends on rank 4, which has the number 3, and one of Black's on rank 5
 abbrev pub double_rank : Color → ℕ
 double_rank White = 3
 double_rank Black = 4
@@ -63,7 +64,8 @@ double_rank Black = 4
 abbrev pub middle : ℕ → ℕ → ℕ
 middle from to = (from + to) / 2
 
--- a pawn's push: one square straight ahead, or two from its home rank over an empty square (a double step)
+-- A pawn's push: one square straight ahead, or two from its home rank over an empty square (a double step). That the square where
+-- it ends is empty too is said below.
 abbrev pub is_push : List PlacedMan → Color → ℕ → ℕ → Bool
 is_push men color from to = files_apart from to == 0
     && (is_ahead color from to || (rank_of from == home_rank color && rank_of to == double_rank color && not (is_occupied men (middle from to))))
@@ -90,7 +92,7 @@ moves_of p = captures_of p ++ quiet_moves_of p
 
 -- ---- the position after a move
 
--- the mover's man on the square is a pawn
+-- a pawn of the side to move is on the square
 abbrev pub is_pawn_on : Position → ℕ → Bool
 is_pawn_on p square = is_on Pawn p.mover p.placed_men square
 
@@ -108,7 +110,7 @@ is_en_passant p m = is_square p.en_passant m.to && files_apart m.from m.to == 1 
 abbrev pub captured_square : Position → Move → ℕ
 captured_square p m = if is_en_passant p m then square_at (file_of m.to) (rank_of m.from) else m.to
 
--- the man that moves is on its new square, promoted if the move says so; every other man stays
+-- A man after a move: the one that moves is on its new square, promoted if the move says so; every other man stays.
 abbrev pub man_after : Move → PlacedMan → PlacedMan
 man_after m s = if s.2 == m.from then (unwrap_or m.promotion s.0, s.1, m.to) else s
 
@@ -116,7 +118,7 @@ man_after m s = if s.2 == m.from then (unwrap_or m.promotion s.0, s.1, m.to) els
 unfoldable pub men_after : Position → Move → List PlacedMan
 men_after p m = map (man_after m) (filter (λ s. not (s.2 == captured_square p m)) p.placed_men)
 
--- a double step: a pawn moves two ranks
+-- a double step: a pawn goes two ranks ahead
 abbrev pub is_double_step : Position → Move → Bool
 is_double_step p m = ranks_apart m.from m.to == 2 && is_pawn_on p m.from
 
@@ -134,7 +136,7 @@ after p m = record {
 unfoldable pub is_legal : Position → Move → Bool
 is_legal p m = not (is_in_check (men_after p m) p.mover)
 
--- the moves that leave the mover's king unattacked
+-- the legal moves: those that leave the mover's king unattacked
 abbrev pub legal_moves : Position → List Move
 legal_moves p = filter (is_legal p) (moves_of p)
 
@@ -146,7 +148,7 @@ is_capture p m = list_any (λ s. is_color (other_color p.mover) s.1 && s.2 == m.
 abbrev pub is_zeroing : Position → Move → Bool
 is_zeroing p m = is_pawn_on p m.from || is_capture p m
 
--- the captures that leave it unattacked
+-- the legal captures: those that leave the mover's king unattacked
 abbrev pub legal_captures : Position → List Move
 legal_captures p = filter (is_legal p) (captures_of p)
 
@@ -154,12 +156,15 @@ legal_captures p = filter (is_legal p) (captures_of p)
 abbrev pub is_check : Position → Bool
 is_check p = is_in_check p.placed_men p.mover
 
+-- the side to move has no legal move
 abbrev pub has_no_move : Position → Bool
 has_no_move p = length (legal_moves p) == 0
 
+-- mate: the side to move is in check, and has no legal move
 abbrev pub is_mate : Position → Bool
 is_mate p = is_check p && has_no_move p
 
+-- stalemate: the side to move is not in check, and has no legal move
 abbrev pub is_stalemate : Position → Bool
 is_stalemate p = not (is_check p) && has_no_move p
 

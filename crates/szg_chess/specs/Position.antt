@@ -1,4 +1,5 @@
--- A position: men on squares, the side to move, and the square that a pawn has just passed over.
+-- A position: men on squares, the side to move, and the square that a pawn has just passed over. Ranks are numbered from 0: rank
+-- 6 has the number 5.
 use Rattle.std.specs.Prelude.{ℕ, ◌≡◌, ◌<◌, Bool, true, not, ◌&&◌, ◌==◌, nat_le, List, [], ◌∷◌, length, Option, Some, None, option_map, if◌then◌else◌}
 use Rattle.std.specs.List.{list_any, find}
 use Rattle.std.specs.Option.{ForSome}
@@ -13,8 +14,11 @@ use Rattle.szg_chess.specs.declared.PositionFault.{PositionFault}
 use Rattle.szg_chess.specs.declared.PositionFault.TheVariants as fault
 
 pub record Position : Type 0 where
+  -- the men of both colours with their squares, in any order
   pub placed_men : List PlacedMan
+  -- the side to move
   pub mover : Color
+  -- the square that a pawn of the other side passed over by a double step in the move before, if the position says so
   pub en_passant : Option ℕ
 
 -- a man of this kind and colour is on the square
@@ -45,7 +49,7 @@ abbrev pub has_sound_en_passant : List PlacedMan → Color → Option ℕ → Bo
 has_sound_en_passant men mover None = true
 has_sound_en_passant men mover (Some square) = was_passed men mover square
 
--- the first fault of a list in which some tests found none
+-- the first fault in a list of answers, each of which is a fault or none
 abbrev pub first_of : List (Option PositionFault) → Option PositionFault
 first_of [] = None
 first_of (None ∷ faults) = first_of faults
@@ -69,12 +73,12 @@ state_fault p =
 unfoldable pub position_fault : Position → Option PositionFault
 position_fault p = first_of (men_fault p.placed_men ∷ state_fault p ∷ [])
 
--- all squares are on the board: their numbers are below 64
+-- all squares that the position names are on the board: their numbers are below 64
 pub record AreSquares (p : Position) : Type 0 where
   pub men : AreOnBoard p.placed_men
   pub en_passant : ForSome p.en_passant (λ square. square < 64)
 
--- a position: it has no fault
+-- this is a position: its squares are on the board, and it has no fault
 pub record IsPosition (p : Position) : Type 0 where
   pub no_fault : position_fault p ≡ None
   pub squares : AreSquares p

@@ -9,19 +9,19 @@ use Rattle.szg_chess.specs.Moves.{legal_moves, after, is_capture, is_check, is_m
 use Rattle.szg_chess.specs.Uci.{square_text}
 use Rattle.szg_chess.specs.declared.Move.{Move}
 
--- what the man that moves is
+-- the kind of the man that moves
 abbrev pub moved_kind : Position → Move → Man
 moved_kind p m = unwrap_or (option_map (λ man. man.0) (man_on p.placed_men m.from)) Pawn
 
--- another piece of the same kind may go to the same square by the legal move n
+-- by the move n, another man of the same kind goes to the same square
 abbrev pub is_rival : Position → Move → Move → Bool
 is_rival p m n = n.to == m.to && not (n.from == m.from) && is_man (moved_kind p n) (moved_kind p m)
 
--- and that piece is on the file of the one that moves
+-- and that man is on the same file as the one that moves
 abbrev pub is_rival_on_file : Position → Move → Move → Bool
 is_rival_on_file p m n = is_rival p m n && file_of n.from == file_of m.from
 
--- or on its rank
+-- and that man is on the same rank as the one that moves
 abbrev pub is_rival_on_rank : Position → Move → Move → Bool
 is_rival_on_rank p m n = is_rival p m n && rank_of n.from == rank_of m.from
 

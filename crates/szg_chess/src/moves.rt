@@ -1,13 +1,14 @@
 //! The moves of a position, and the position after a move.
 
-ghost use Rattle.std.specs.Prelude.{ℕ, true, ◌≡◌, ◌≢◌, ◌<◌, ◌≤◌, ◌+◌, ◌==◌, ◌&&◌, ◌||◌, ◌++◌, ◌∷◌, [], not, filter, flat_map, length, IsTrue, Some, None, unwrap_or, if◌then◌else◌, Contains};
-ghost use Rattle.std.specs.List.{All, list_any};
+ghost use Rattle.std.specs.Prelude.{ℕ, true, ◌≡◌, ◌≢◌, ◌<◌, ◌≤◌, ◌+◌, ◌==◌, ◌&&◌, ◌||◌, ◌++◌, ◌∷◌, [], not, filter, flat_map, length, IsTrue, Some, None, unwrap_or, option_copied, if◌then◌else◌, Contains};
+ghost use Rattle.std.specs.List.{All, find, list_any};
 ghost use Rattle.arrayvec.specs.ArrayVec.{array_vec_len};
 ghost use Rattle.szg_values.specs.Men.{is_man, is_color, other_color, file_of, rank_of, square_at};
 ghost use Rattle.szg_values.specs.Placement.{AreOnBoard};
+ghost use Rattle.szg_values.specs.declared.Man.TheVariants.{King};
 ghost use Rattle.szg_chess.specs.Attacks.{attacks, is_occupied, is_in_check};
 ghost use Rattle.szg_chess.specs.Position.{IsPosition};
-ghost use Rattle.szg_chess.specs.Squares.{is_in, is_in_moved, is_attacked_king, squares_of, attacks_past};
+ghost use Rattle.szg_chess.specs.Squares.{is_in, is_in_moved, squares_of, attacks_past};
 ghost use Rattle.szg_chess.specs.Moves.{men_of, promotes, moves_to, moves_if, may_pass, en_passant_moves, captures_by, captures_of, home_rank, double_rank, is_push, may_enter, quiet_moves_by, quiet_moves_of, moves_of, is_pawn_on, is_square, is_en_passant, captured_square, man_after, men_after, is_double_step, middle, after, is_legal, legal_moves, legal_captures, is_capture, is_zeroing, is_mate, is_stalemate, has_move_beside_en_passant};
 
 use crate::attacks::{attacks_past, files_apart, is_ahead, is_in, other_color, ranks_apart};
@@ -47,11 +48,13 @@ impl Position {
         ensures { result ≡ after self.now m }
     {
         let captured = self.captured_square(&m);
+        let occupied = self.squares_after(&m, captured);
+        let en_passant = self.passed_square(&m);
         Position {
             men: self.men_after(&m, captured),
-            occupied: self.squares_after(&m, captured),
+            occupied,
             mover: other_color(self.mover()),
-            en_passant: self.passed_square(&m),
+            en_passant,
         }
     }
 
@@ -248,77 +251,53 @@ impl Position {
         requires room { array_vec_len moves.old + length (moves_to man.now to) ≤ CAP }
         ensures { moves.new.items ≡ moves.old.items ++ filter (is_legal self.now) (moves_to man.now to) }
     {
-        if promotes(man, to) {
-            // One test is enough: what the pawn is promoted to makes no difference to the mover's king.
-            if self.is_legal(&promoted(man.2, to, Man::Queen)) {
+        // One test is enough: what a pawn is promoted to makes no difference to the mover's king.
+        if self.is_safe(man, to) {
+            if promotes(man, to) {
                 moves.push(promoted(man.2, to, Man::Queen));
                 moves.push(promoted(man.2, to, Man::Rook));
                 moves.push(promoted(man.2, to, Man::Bishop));
                 moves.push(promoted(man.2, to, Man::Knight));
+            } else {
+                moves.push(plain_move(man.2, to));
             }
-        } else {
-            self.push_if_legal(
-                moves,
-                Move {
-                    from: man.2,
-                    to,
-                    promotion: None,
-                },
-            );
         }
     }
 
-    fn push_if_legal<const CAP: usize>(&self, moves: &mut ArrayVec<Move, CAP>, m: Move)
-        requires { array_vec_len moves.old < CAP }
-        ensures items { moves.new.items ≡ moves.old.items ++ filter (is_legal self.now) (m ∷ []) }
-        ensures len { array_vec_len moves.new ≤ array_vec_len moves.old + 1 }
-    {
-        if self.is_legal(&m) {
-            moves.push(m);
-        }
-    }
-
-    /// Returns whether the mover's king is not attacked after a move.
+    /// Returns whether the mover's king is not attacked after a man of the mover's goes to a square.
     #[tactic(auto, unfolding(crate::specs::Moves::is_legal))]
-    fn is_legal(&self, m: &Move) -> bool
-        ensures legal { result ≡ is_legal self.now m.now }
+    fn is_safe(&self, man: &(Man, Color, Square), to: Square) -> bool
+        requires standing { Contains self.now.placed_men man.now }
+        requires own { is_color self.now.mover man.now.1 ≡ true }
+        ensures safe { result ≡ is_legal self.now (record { from = man.now.2; to = to; promotion = None }) }
         ensures position { IsPosition self.now }
     {
-        let captured = self.captured_square(m);
-        let occupied = self.squares_after(m, captured);
-        !self.leaves_check(m, captured, occupied)
+        let m = plain_move(man.2, to);
+        let captured = self.captured_square(&m);
+        let occupied = self.squares_after(&m, captured);
+        let king = self.king();
+        king.2.number() == captured
+            || !self.is_attacked_after(captured, occupied, man_after(&m, &king).2)
     }
 
-    /// Returns whether the mover's king is attacked after a move that captures on one square and leaves men on the others.
-    fn leaves_check(&self, m: &Move, captured: u8, occupied: u64) -> bool
-        ensures { result ≡ list_any (λ s. not (s.2 == captured) && is_attacked_king self.now m.now captured occupied (man_after m.now s)) self.now.placed_men }
+    /// Returns the mover's king.
+    fn king(&self) -> (Man, Color, Square)
+        ensures standing { Contains self.now.placed_men result }
+        ensures king { (is_man King result.0 && is_color self.now.mover result.1) ≡ true }
     {
-        self.men().iter().any(|man| {
-            man.2.number() != captured
-                && self.is_attacked_king(m, captured, occupied, &man_after(m, man))
-        })
+        match king_of(self.men(), self.mover()) {
+            Some(king) => *king,
+            None => (Man::King, self.mover(), Square::default()),
+        }
     }
 
-    fn is_attacked_king(
-        &self,
-        m: &Move,
-        captured: u8,
-        occupied: u64,
-        king: &(Man, Color, Square),
-    ) -> bool
-        ensures { result ≡ is_attacked_king self.now m.now captured occupied king.now }
-    {
-        king.0 == Man::King
-            && king.1 == self.mover
-            && self.is_attacked_after(m, captured, occupied, king.2)
-    }
-
-    fn is_attacked_after(&self, m: &Move, captured: u8, occupied: u64, square: Square) -> bool
-        ensures { result ≡ list_any (λ s. not (s.2 == captured) && (is_color (other_color self.now.mover) (man_after m.now s).1 && attacks_past occupied (man_after m.now s) square)) self.now.placed_men }
+    /// Returns whether an enemy man attacks a square, if the one on `captured` is gone and men are on the squares `occupied`.
+    fn is_attacked_after(&self, captured: u8, occupied: u64, square: Square) -> bool
+        ensures { result ≡ list_any (λ s. is_color (other_color self.now.mover) s.1 && not (s.2 == captured) && attacks_past occupied s square) self.now.placed_men }
     {
         let other = other_color(self.mover());
         self.men().iter().any(|man| {
-            man.2.number() != captured && is_attacker(other, occupied, &man_after(m, man), square)
+            man.1 == other && man.2.number() != captured && attacks_past(occupied, man, square)
         })
     }
 
@@ -459,11 +438,22 @@ fn squares_moved(occupied: u64, captured: u8, from: u8, to: u8) -> u64
     }
 }
 
-/// Returns whether a man is of a colour and attacks a square, if the men are on these squares.
-fn is_attacker(color: Color, occupied: u64, man: &(Man, Color, Square), square: Square) -> bool
-    ensures { result ≡ (is_color color man.now.1 && attacks_past occupied man.now square) }
+/// Returns the first king of a colour.
+fn king_of(men: &[(Man, Color, Square)], color: Color) -> Option<&(Man, Color, Square)>
+    ensures { option_copied result ≡ find (λ s. is_man King s.0 && is_color color s.1) men.now }
 {
-    man.1 == color && attacks_past(occupied, man, square)
+    men.iter().find(|man| man.0 == Man::King && man.1 == color)
+}
+
+/// Returns the move of a man that is not promoted.
+fn plain_move(from: Square, to: Square) -> Move
+    ensures { result ≡ record { from = from; to = to; promotion = None } }
+{
+    Move {
+        from,
+        to,
+        promotion: None,
+    }
 }
 
 /// Returns the move of a pawn that is promoted.

@@ -2,7 +2,7 @@
 ghost use Rattle.std.specs.Prelude.{◌≡◌, slice_index};
 
 /// Returns the byte at `offset`, or 0 past the end.
-pub fn byte_or_zero(bytes: &[u8], offset: usize) -> u8
+pub(crate) fn byte_or_zero(bytes: &[u8], offset: usize) -> u8
     ensures { result ≡ slice_index bytes.now offset }
 {
     if offset < bytes.len() {

@@ -24,7 +24,7 @@ impl CodeHeader {
     ghost use Rattle.szg_code.specs.CodeHeader.{code_of};
 
     /// Returns whether words have 1 to 32 bits and each length has one lowest symbol.
-    pub fn has_lengths(&self) -> bool
+    pub(crate) fn has_lengths(&self) -> bool
         ensures { IsTrue result ↔ HasLengths (code_of self.now) }
     {
         0 < self.min
@@ -35,7 +35,7 @@ impl CodeHeader {
 
     /// Returns the first index of a lowest symbol that is above the one before it. None if the list never
     /// increases.
-    pub fn first_rise(&self) -> Option<u8>
+    pub(crate) fn first_rise(&self) -> Option<u8>
         requires { HasLengths (code_of self.now) }
         ensures found { IfSome result (λ j. IsFirstRise (code_of self.now) j) }
         ensures none { IfNone result ((j : ℕ) → IsOrderedAt (code_of self.now) j) }
@@ -92,7 +92,7 @@ impl CodeHeader {
 
     /// Returns the index of the first length, from index `from` on, whose base, shifted to the top of 64 bits, is
     /// at most the window.
-    pub fn reached_index_from(&self, bases: &[u64; 32], from: usize, window: u64) -> usize
+    pub(crate) fn reached_index_from(&self, bases: &[u64; 32], from: usize, window: u64) -> usize
         requires accepted { IsCode (code_of self.now) }
         requires bases { HasShiftedBases (code_of self.now) bases.now }
         requires inside { from < length self.now.lowest.items }

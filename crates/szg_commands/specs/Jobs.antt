@@ -25,6 +25,7 @@ pub record AreOptionsIn (found : Found) (options : CheckOptions) : Type 0 where
   pub kind : options.naming.kind ≡ kind_given found
   pub trailing : options.allow_trailing ≡ is_word (first_value found (codes "allow-trailing")) (codes "true")
   pub format : options.format ≡ parsed_report_format (first_value found (codes "format"))
+  pub quiet : options.quiet ≡ is_word (first_value found (codes "quiet")) (codes "true")
 
 -- The request is that of the values that were found, on the table whose name and kind are given or in the file's name.
 pub record IsFileRequest (command : List ℕ) (found : Found) (request : Request) : Type 0 where

@@ -12,7 +12,7 @@ use Rattle.szg_files.specs.Draft.{published_target, published_text}
 use Rattle.szg_files.specs.FileSystem.{IsOpened}
 use Rattle.szg_files.specs.declared.draft.Published.{Published}
 use Rattle.szg_named.specs.Requested.{files_to_check}
-use Rattle.szg_named.specs.Verdicts.{IsReport, plain_options}
+use Rattle.szg_named.specs.Verdicts.{IsFoundReport, plain_options}
 use Rattle.szg_named.specs.declared.many.CheckOptions.{CheckOptions}
 use Rattle.szg_named.specs.declared.stop.Stop.TheVariants as check_stops
 use Rattle.szg_named.specs.declared.stop.Tally.{Tally}
@@ -201,7 +201,7 @@ HasShort finds content failures filing reading writing words system system' read
 abbrev pub EndsWell : {S F R W : Type 0} → (CommandForm → List (List ℕ) → ArgMatches → Type 0) → (CommandForm → List (List ℕ) → Type 0) → (S → List ℕ → Option (List ℕ)) → (S → ℕ) → input.Ghosts F → input.Ghosts R → output.Ghosts W → List (List ℕ) → Ending → S → S → R → R → W → W → Type 0
 EndsWell finds refuses content failures filing reading writing words (endings.Checked stated) system system' reader reader' writer writer' =
     (options : CheckOptions) × (paths : List (List ℕ)) × AsksToCheck finds words options paths × (reader' ≡ reader)
-    × AreChecked (endings.Checked stated) (IsReport content failures filing writing options paths system system' writer writer')
+    × AreChecked (endings.Checked stated) (IsFoundReport content failures filing writing options paths system system' writer writer')
     (HasFailed (writing.failures writer) (writing.failures writer') (writing.interrupted writer'))
 EndsWell finds refuses content failures filing reading writing words (endings.Done published) system system' reader reader' writer writer' =
     HasDone finds content failures filing reading writing words system system' reader reader' writer writer' published

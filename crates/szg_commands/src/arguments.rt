@@ -11,6 +11,8 @@ enum Form {
     Word,
     /// One or more words.
     Words,
+    /// Any number of words.
+    OptionalWords,
     /// An option with a value, which has a name and a default.
     Option {
         value: &'static str,
@@ -56,13 +58,31 @@ pub const FILE: Argument = Argument {
     help: "Table file; its name gives material and kind: KQvKR.rtbw is WDL, KQvKR.rtbz is DTZ",
 };
 
-/// Tables' files.
+/// Tables' files, and folders of them.
 pub const FILES: Argument = Argument {
     id: "FILE",
     form: Form::Words,
     values: ValueParser::String,
     is_number: false,
-    help: "Table files; their names give material and kind: KQvKR.rtbw is WDL, KQvKR.rtbz is DTZ",
+    help: "Table files, and folders: all table files below them; their names give material and{n}kind: KQvKR.rtbw is WDL, KQvKR.rtbz is DTZ",
+};
+
+/// A folder of tables.
+pub const FOLDER: Argument = Argument {
+    id: "FOLDER",
+    form: Form::Word,
+    values: ValueParser::String,
+    is_number: false,
+    help: "Folder of table files",
+};
+
+/// Materials of a folder.
+pub const NAMES: Argument = Argument {
+    id: "NAME",
+    form: Form::OptionalWords,
+    values: ValueParser::String,
+    is_number: false,
+    help: "Materials to verify, such as KQvKR, with those that captures and promotions lead to{n}[default: all of the folder]",
 };
 
 /// A dump's file.
@@ -117,6 +137,15 @@ pub const ALLOW_TRAILING: Argument = Argument {
     values: ValueParser::Bool,
     is_number: false,
     help: "Accept files with more bytes after the table",
+};
+
+/// Whether a report has bad files alone.
+pub const QUIET: Argument = Argument {
+    id: "quiet",
+    form: Form::Flag,
+    values: ValueParser::Bool,
+    is_number: false,
+    help: "Report only files that are refused or can't be read, and the summary",
 };
 
 /// The form of a report on files.
@@ -283,7 +312,7 @@ pub const VERIFY: Argument = Argument {
 
 impl Argument {
     /// The argument as `clap` has it.
-    pub fn to_clap<'a>(&self, alloc: Global) -> Arg<'a> {
+    pub(crate) fn to_clap<'a>(&self, alloc: Global) -> Arg<'a> {
         formed(alloc, self.id, self.form)
             .value_parser(self.values)
             .allow_negative_numbers(self.is_number)
@@ -295,7 +324,8 @@ impl Argument {
 fn formed<'a>(alloc: Global, id: &'a str, form: Form) -> Arg<'a> {
     match form {
         Form::Word => word(alloc, id),
-        Form::Words => words(alloc, id),
+        Form::Words => words(alloc, id).required(true),
+        Form::OptionalWords => words(alloc, id),
         Form::Option { value, default } => option(alloc, id, value, default),
         Form::OptionalWord => Arg::new(alloc, id).action(ArgAction::Set),
         Form::OptionalOption { value, short } => optional(alloc, id, value, short),
@@ -308,10 +338,9 @@ fn word<'a>(alloc: Global, id: &'a str) -> Arg<'a> {
     Arg::new(alloc, id).required(true).action(ArgAction::Set)
 }
 
-/// One or more words.
+/// One or more words, if any.
 fn words<'a>(alloc: Global, id: &'a str) -> Arg<'a> {
     Arg::new(alloc, id)
-        .required(true)
         .action(ArgAction::Append)
         .num_args(ValueRange::from(1usize..))
 }

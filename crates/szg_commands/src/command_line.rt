@@ -1,14 +1,15 @@
 //! The command line: the program's commands with their texts of help.
 
 use crate::arguments::{
-    ALLOW_TRAILING, Argument, BLOCK, CLASS, DUMP, FILE, FILES, FORM, INDEX, KIND, KIND_GIVEN, MEN,
-    MOVER, NAME, NAME_GIVEN, OUTPUT, PART, PLAN, REPORT, ROUNDS, SIDE, SPAN, STEPS, VERIFY,
+    ALLOW_TRAILING, Argument, BLOCK, CLASS, DUMP, FILE, FILES, FOLDER, FORM, INDEX, KIND,
+    KIND_GIVEN, MEN, MOVER, NAME, NAME_GIVEN, NAMES, OUTPUT, PART, PLAN, QUIET, REPORT, ROUNDS,
+    SIDE, SPAN, STEPS, VERIFY,
 };
 use clap::Command;
 use std::alloc::{AllocError, Global};
 
 /// The commands, in the order of the help.
-static COMMANDS: [&str; 10] = [
+static COMMANDS: [&str; 11] = [
     "check",
     "show",
     "get",
@@ -18,6 +19,7 @@ static COMMANDS: [&str; 10] = [
     "build",
     "index",
     "probe",
+    "verify",
     "placement",
 ];
 
@@ -46,7 +48,7 @@ static OF_OUTCOME: [Argument; 5] = [NAME, KIND, MOVER, MEN, CLASS];
 static OF_BUILD: [Argument; 4] = [PLAN, BLOCK, SPAN, ROUNDS];
 
 /// Those of the check of files.
-static OF_FILES: [Argument; 5] = [FILES, REPORT, ALLOW_TRAILING, NAME_GIVEN, KIND_GIVEN];
+static OF_FILES: [Argument; 6] = [FILES, QUIET, REPORT, ALLOW_TRAILING, NAME_GIVEN, KIND_GIVEN];
 
 /// Those of the description of a file.
 static OF_FILE: [Argument; 3] = [FILE, NAME_GIVEN, KIND_GIVEN];
@@ -77,6 +79,9 @@ static OF_FILE_OUTCOME: [Argument; 7] = [FILE, MOVER, MEN, CLASS, VERIFY, NAME_G
 /// Those of a build from or to a file.
 static OF_FILE_BUILD: [Argument; 6] = [DUMP, PLAN, BLOCK, SPAN, ROUNDS, OUTPUT];
 
+/// Those of the verification of a folder.
+static OF_FOLDER: [Argument; 2] = [FOLDER, NAMES];
+
 /// Whether a command line names files, or works on the standard streams alone.
 #[derive(Clone, Copy)]
 pub enum CommandForm {
@@ -86,7 +91,7 @@ pub enum CommandForm {
 
 /// The text below the program's help.
 const AFTER_HELP: &str =
-    "Examples:{n}  szg check *.rtbw *.rtbz{n}  szg get KQvK.rtbw 31331 --side 1{n}  szg get KQvK wdl 31331 --side 1 < KQvK.rtbw{n}{n}A FILE that ends in .rtbw or .rtbz replaces NAME and KIND; szg get KQvK.rtbw --help prints the{n}options for files. szg build takes the file of a dump.{n}{n}Exit status: 0 done; 1 refused, and a line on standard output gives the reason; 2 wrong words, or{n}help; 3 standard input or output failed; 4 out of memory.";
+    "Examples:{n}  szg probe tables '7k/8/8/8/8/8/3Q4/K7 w - - 0 1'{n}  szg check *.rtbw *.rtbz{n}  szg get KQvK.rtbw 31331 --side 1{n}  szg get KQvK wdl 31331 --side 1 < KQvK.rtbw{n}{n}A FILE that ends in .rtbw or .rtbz replaces NAME and KIND: szg get --help prints the options for{n}files, szg get KQvK wdl --help those for standard input. szg build takes the file of a dump.{n}{n}Exit status: 0 done; 1 refused, and a line on standard output gives the reason; 2 wrong words, or{n}help; 3 standard input or output failed; 4 out of memory.";
 
 /// The program with all its commands.
 pub fn program<'a>(alloc: Global, form: CommandForm) -> Result<Command<'a>, AllocError> {
@@ -140,6 +145,7 @@ fn arguments_of(name: &str) -> &'static [Argument] {
         "build" => &OF_BUILD,
         "index" => &OF_PLACEMENT,
         "probe" => &OF_OUTCOME,
+        "verify" => &OF_FOLDER,
         _ => &OF_TABLE,
     }
 }
@@ -156,6 +162,7 @@ fn file_arguments_of(name: &str) -> &'static [Argument] {
         "build" => &OF_FILE_BUILD,
         "index" => &OF_FILE_PLACEMENT,
         "probe" => &OF_FILE_OUTCOME,
+        "verify" => &OF_FOLDER,
         _ => &OF_FILE,
     }
 }
@@ -172,7 +179,8 @@ fn about(name: &str) -> &'static str {
         "build" => "Build a table file from a dump",
         "index" => "Print the part, side and index of a placement",
         "probe" =>
-            "Print the stored value of a placement: not its result where a capture (WDL), or a capture or{n}pawn move (DTZ), decides; en passant and the fifty-move counter don't change it",
+            "Print the stored value of a placement: not its result if a capture (WDL), or a capture or pawn{n}move (DTZ), decides; en passant and the fifty-move counter don't change it; szg probe FOLDER FEN{n}prints the result",
+        "verify" => "Verify a folder's tables against chess: each position against its own moves",
         _ => "Print the placement at an index: the side to move, and the men",
     }
 }
@@ -188,39 +196,44 @@ fn example_of(name: &str, form: CommandForm) -> &'static str {
 /// An example of a command on the standard streams, and where the help for files is.
 fn example(name: &str) -> &'static str {
     match name {
-        "check" => "Example: szg check KQvK wdl < KQvK.rtbw{n}Files: szg check KQvK.rtbw --help",
-        "show" => "Example: szg show KQvK wdl < KQvK.rtbw{n}Files: szg show KQvK.rtbw --help",
-        "get" =>
-            "Example: szg get KQvK wdl 31331 --side 1 < KQvK.rtbw{n}Files: szg get KQvK.rtbw --help",
-        "values" =>
-            "Example: szg values KPvK wdl --part c < KPvK.rtbw{n}Files: szg values KPvK.rtbw --help",
-        "copy" =>
-            "Example: szg copy KQvK wdl < KQvK.rtbw > copy.rtbw{n}Files: szg copy KQvK.rtbw --help",
-        "dump" =>
-            "Example: szg dump KQvK wdl < KQvK.rtbw > KQvK.txt{n}Files: szg dump KQvK.rtbw --help",
-        "build" =>
-            "Example: szg build --block 8 < KQvK.txt > KQvK.rtbw{n}Files: szg build KQvK.txt --help",
+        "check" => "Example: szg check KQvK wdl < KQvK.rtbw{n}Files: szg check --help",
+        "show" => "Example: szg show KQvK wdl < KQvK.rtbw{n}Files: szg show --help",
+        "get" => "Example: szg get KQvK wdl 31331 --side 1 < KQvK.rtbw{n}Files: szg get --help",
+        "values" => "Example: szg values KPvK wdl --part c < KPvK.rtbw{n}Files: szg values --help",
+        "copy" => "Example: szg copy KQvK wdl < KQvK.rtbw > copy.rtbw{n}Files: szg copy --help",
+        "dump" => "Example: szg dump KQvK wdl < KQvK.rtbw > KQvK.txt{n}Files: szg dump --help",
+        "build" => "Example: szg build --block 8 < KQvK.txt > KQvK.rtbw{n}Files: szg build --help",
         "index" =>
-            "Example: szg index KQvK wdl w Ke1 Qd1 kc8 < KQvK.rtbw{n}Files: szg index KQvK.rtbw --help",
+            "Example: szg index KQvK wdl w Ke1 Qd1 kc8 < KQvK.rtbw{n}Files: szg index --help",
         "probe" =>
-            "Example: szg probe KQvK wdl w Ke1 Qd1 kc8 < KQvK.rtbw{n}Files: szg probe KQvK.rtbw --help",
-        _ =>
-            "Example: szg placement KQvK wdl 11711 < KQvK.rtbw{n}Files: szg placement KQvK.rtbw --help",
+            "Example: szg probe KQvK wdl w Ke1 Qd1 kc8 < KQvK.rtbw{n}Files: szg probe --help",
+        "verify" => "Example: szg verify tables KQvKR",
+        _ => "Example: szg placement KQvK wdl 11711 < KQvK.rtbw{n}Files: szg placement --help",
     }
 }
 
 /// An example of a command on files.
 fn file_example(name: &str) -> &'static str {
     match name {
-        "check" => "Example: szg check *.rtbw *.rtbz",
-        "show" => "Example: szg show KQvK.rtbw",
-        "get" => "Example: szg get KQvK.rtbw 31331 --side 1",
-        "values" => "Example: szg values KPvK.rtbw --part c",
-        "copy" => "Example: szg copy KQvK.rtbw -o copy.rtbw",
-        "dump" => "Example: szg dump KQvK.rtbw -o KQvK.txt",
-        "build" => "Example: szg build KQvK.txt -o KQvK.rtbw",
-        "index" => "Example: szg index KQvK.rtbw w Ke1 Qd1 kc8",
-        "probe" => "Example: szg probe KQvK.rtbz w Ke1 Qd1 kc8 --class win",
-        _ => "Example: szg placement KQvK.rtbw 11711",
+        "check" =>
+            "Example: szg check *.rtbw *.rtbz{n}Standard input: szg check KQvK wdl < KQvK.rtbw",
+        "show" => "Example: szg show KQvK.rtbw{n}Standard input: szg show KQvK wdl < KQvK.rtbw",
+        "get" =>
+            "Example: szg get KQvK.rtbw 31331 --side 1{n}Standard input: szg get KQvK wdl 31331 --side 1 < KQvK.rtbw",
+        "values" =>
+            "Example: szg values KPvK.rtbw --part c{n}Standard input: szg values KPvK wdl --part c < KPvK.rtbw",
+        "copy" =>
+            "Example: szg copy KQvK.rtbw -o copy.rtbw{n}Standard input: szg copy KQvK wdl < KQvK.rtbw > copy.rtbw",
+        "dump" =>
+            "Example: szg dump KQvK.rtbw -o KQvK.txt{n}Standard input: szg dump KQvK wdl < KQvK.rtbw > KQvK.txt",
+        "build" =>
+            "Example: szg build KQvK.txt -o KQvK.rtbw{n}Standard input: szg build --block 8 < KQvK.txt > KQvK.rtbw",
+        "index" =>
+            "Example: szg index KQvK.rtbw w Ke1 Qd1 kc8{n}Standard input: szg index KQvK wdl w Ke1 Qd1 kc8 < KQvK.rtbw",
+        "probe" =>
+            "Example: szg probe KQvK.rtbz w Ke1 Qd1 kc8 --class win{n}Result of a position: szg probe FOLDER FEN{n}Standard input: szg probe KQvK wdl w Ke1 Qd1 kc8 < KQvK.rtbw",
+        "verify" => "Example: szg verify tables KQvKR",
+        _ =>
+            "Example: szg placement KQvK.rtbw 11711{n}Standard input: szg placement KQvK wdl 11711 < KQvK.rtbw",
     }
 }

@@ -93,7 +93,7 @@ pub fn run_by<F: Finder, R: Input, W: Output, V: Watcher>(
 }
 
 /// How a run ends whose words make no command.
-pub fn words_outcome(error: Error) -> Outcome
+pub(crate) fn words_outcome(error: Error) -> Outcome
     ensures done { OnDone result ⊥ }
     ensures refused { OnRefused result ⊥ }
     ensures words { OnWords result (kind_of_error error ≡ ErrorKind.OutOfMemory → ⊥) }
@@ -107,7 +107,7 @@ pub fn words_outcome(error: Error) -> Outcome
 }
 
 /// Writes why a command is refused.
-pub fn refuse<W: Output>(alloc: Global, refusal: Refusal, writer: &mut W) -> Outcome
+pub(crate) fn refuse<W: Output>(alloc: Global, refusal: Refusal, writer: &mut W) -> Outcome
     ensures done { OnDone result ⊥ }
     ensures refused { OnRefused result (Gives W.Output writer.old writer.new (refusal_line refusal) 0) }
     ensures words { OnWords result ⊥ }
@@ -124,7 +124,7 @@ pub fn refuse<W: Output>(alloc: Global, refusal: Refusal, writer: &mut W) -> Out
 }
 
 /// Carries a task out, or returns why not; where it is refused nothing was written. `watcher` sees a build.
-pub fn carry_out<R: Input, W: Output, V: Watcher>(
+pub(crate) fn carry_out<R: Input, W: Output, V: Watcher>(
     alloc: Global,
     task: &Task,
     reader: &mut R,

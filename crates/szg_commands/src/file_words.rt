@@ -21,11 +21,12 @@ use clap::error::ErrorKind;
 use clap::{ArgMatches, Error};
 use std::alloc::{AllocError, Global};
 use szg_named::{CheckOptions, Naming, ReportFormat, named_as, named_by};
+use szg_values::Material;
 
 /// What a command line that names files asks for.
 #[derive(Drop)]
 pub enum FileJob<'a> {
-    /// The check of files.
+    /// The check of files and of what is below folders.
     Check {
         options: CheckOptions<'a>,
         paths: Vec<&'a str>,
@@ -78,6 +79,7 @@ fn is_file_option(word: &str) -> bool {
         || word.starts_with("--kind")
         || word.starts_with("--allow-trailing")
         || word.starts_with("--format")
+        || word.starts_with("--quiet")
 }
 
 /// Whether the option takes the next word as its value, in each form of `build`.
@@ -100,15 +102,43 @@ fn build_names_files(words: &[&str]) -> bool {
     false
 }
 
-/// Whether a command line names files: a word that ends as a table's file does, an option that only files have, or a
-/// dump's file.
-pub fn names_files(words: &[&str]) -> bool {
+/// Whether the words of `check` name files or folders: it is no table's name that comes first, and no word is a kind.
+fn check_names_files(words: &[&str]) -> bool {
+    let mut first = None;
+    'words: for word in words {
+        if matches!(*word, "wdl" | "dtz") {
+            return false;
+        }
+        if first.is_none() && !word.starts_with('-') {
+            first = Some(*word);
+        }
+    }
+    match first {
+        Some(word) => Material::parse(word).is_err(),
+        None => false,
+    }
+}
+
+/// Whether only help is asked for: then it is the help for files.
+fn asks_help(command: &str, rest: &[&str]) -> bool {
+    command == "help" || (rest.len() == 1 && matches!(rest[0], "-h" | "--help"))
+}
+
+/// Whether a command line names files: a word that ends as a table's file does, an option that only files have, a dump's
+/// file, or what `check` is to check. So is taken a command line that only asks for help.
+pub(crate) fn names_files(words: &[&str]) -> bool {
     if words.len() < 3 {
         return false;
     }
     let rest = &words[2..];
+    if asks_help(words[1], rest) {
+        return true;
+    }
     if words[1] == "build" {
         return build_names_files(rest);
+    }
+    if words[1] == "check" && check_names_files(rest) {
+        return true;
     }
     'rest: for word in rest {
         if named_by(word).is_some() || is_file_option(word) {
@@ -203,6 +233,7 @@ fn options_in<'a>(chosen: &ArgMatches<'a>) -> CheckOptions<'a>
         naming: naming_in(chosen),
         allow_trailing: is_given(chosen.get_str("allow-trailing"), "true"),
         format: report_format_of(chosen.get_str("format")),
+        quiet: is_given(chosen.get_str("quiet"), "true"),
     }
 }
 

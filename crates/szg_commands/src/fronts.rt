@@ -55,7 +55,7 @@ impl From<AllocError> for LookUpStop {
 }
 
 /// Whether an action is a look-up: it needs a table's front, and at most one block.
-pub fn is_look_up(action: &Action) -> bool
+pub(crate) fn is_look_up(action: &Action) -> bool
     ensures yes { (result ≡ true) → IsLookUp action.now }
     ensures no { (result ≡ false) → IsLookUp action.now → ⊥ }
 {

@@ -25,6 +25,7 @@ mod running;
 mod saying;
 mod statuses;
 mod streaming;
+mod verification;
 
 pub use commands::{run, run_by};
 pub use finding::{Clap, Finder};

@@ -36,7 +36,7 @@ pub fn check_index(table: &Table, request: &Request, index: u64) -> Result<(), R
 }
 
 /// The line of the value at an index.
-pub fn get_answer(
+pub(crate) fn get_answer(
     alloc: Global,
     table: &Table,
     request: &Request,
@@ -52,7 +52,7 @@ pub fn get_answer(
 }
 
 /// The line of the value at an index, and of the steps by which it is found.
-pub fn counted_answer(
+pub(crate) fn counted_answer(
     alloc: Global,
     table: &Table,
     request: &Request,
@@ -81,7 +81,7 @@ fn counted_line(alloc: Global, value: u16, steps: Steps) -> Result<String, Alloc
 }
 
 /// Writes each value of a subtable on a line, a block's values at a time.
-pub fn write_all_values<W: Output>(
+pub(crate) fn write_all_values<W: Output>(
     alloc: Global,
     table: &Table,
     request: &Request,

@@ -8,7 +8,7 @@ use szg_values::{Material, NameFault};
 
 /// The name that a word means, or its file's name, if that one is refused only for the order of its sides: `KQvK` for
 /// `KvKQ` and for `KvKQ.rtbw`. None for another word.
-pub fn meant_name(alloc: Global, word: &str) -> Result<Option<String>, AllocError>
+pub(crate) fn meant_name(alloc: Global, word: &str) -> Result<Option<String>, AllocError>
     ensures { IfOk result (λ meant. IfSome meant (λ name. IsOk (parsed (string_bytes name)))) }
 {
     let name = match named_by(word) {

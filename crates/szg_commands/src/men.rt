@@ -114,7 +114,7 @@ fn square_in(file: u8, rank: u8) -> Option<Square>
 }
 
 /// Adds a word for each man, White's before Black's, each in the order of a name, equal men by square.
-pub fn add_men(placement: &Placement, text: &mut String) -> Result<(), AllocError>
+pub(crate) fn add_men(placement: &Placement, text: &mut String) -> Result<(), AllocError>
     ensures { OnOk result (string_bytes text.new ≡ string_bytes text.old ++ men_words placement.now.placed_men) }
 {
     'colors: for color in COLORS {

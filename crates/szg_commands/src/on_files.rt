@@ -29,7 +29,7 @@ use szg_build::Watcher;
 use szg_file::Ahead;
 use szg_files::{Draft, FileFault, FileSystem, Published, Reasons};
 use szg_io::{Input, Output};
-use szg_named::{CheckOptions, Tally, check_files, files_to_check};
+use szg_named::{CheckOptions, Tally, check_files, check_found, files_to_check};
 
 /// A file that can't be opened, read or written, and why.
 #[derive(Clone, Copy)]
@@ -451,7 +451,7 @@ where
     }
     match parse_files(alloc, finder, words) {
         Ok(FileJob::Check { options, paths }) => {
-            Ending::Checked(check_files(alloc, system, machine, options, &paths, writer))
+            Ending::Checked(check_found(alloc, system, machine, options, &paths, writer))
         }
         Ok(
             FileJob::Run {

@@ -16,7 +16,11 @@ use szg_place::{ProbeFault, Spot, index_of, placement_of, probe_dtz, probe_wdl};
 use szg_values::{Color, Kind, Placement};
 
 /// Returns the line of a placement's part, side and index.
-pub fn spot_answer(alloc: Global, table: &Table, placement: &Placement) -> Result<String, Stop>
+pub(crate) fn spot_answer(
+    alloc: Global,
+    table: &Table,
+    placement: &Placement,
+) -> Result<String, Stop>
     ensures stated { IfOk result (λ line. IsSpotLine table.now.contents placement.now (string_bytes line)) }
     ensures refused { (refusal : Refusal) → IsErrOf result (Stop.Refused refusal) → spot_refusal table.now.contents placement.now ≡ Some refusal }
     ensures device { IsErrOf result Stop.Device → ⊥ }
@@ -28,7 +32,7 @@ pub fn spot_answer(alloc: Global, table: &Table, placement: &Placement) -> Resul
 }
 
 /// A spot's line.
-pub fn spot_line(alloc: Global, spot: Spot) -> Result<String, AllocError>
+pub(crate) fn spot_line(alloc: Global, spot: Spot) -> Result<String, AllocError>
     ensures { IfOk result (λ line. string_bytes line ≡ spot_line spot) }
 {
     let letter = part_letter(spot.part);
@@ -48,7 +52,7 @@ fn part_letter(part: u8) -> &'static str
 }
 
 /// Returns the line of a placement's value: of a WDL table its class, of a DTZ table its number in a class.
-pub fn outcome_answer(
+pub(crate) fn outcome_answer(
     alloc: Global,
     table: &Table,
     placement: &Placement,
@@ -78,7 +82,7 @@ fn class_answer(alloc: Global, table: &Table, placement: &Placement) -> Result<S
 }
 
 /// A class's line.
-pub fn class_line(alloc: Global, class: Option<i8>) -> Result<String, AllocError>
+pub(crate) fn class_line(alloc: Global, class: Option<i8>) -> Result<String, AllocError>
     ensures { IfOk result (λ line. string_bytes line ≡ class_line class) }
 {
     match class {
@@ -107,7 +111,7 @@ fn number_answer(
 }
 
 /// The line of the placement of an index.
-pub fn placement_answer(
+pub(crate) fn placement_answer(
     alloc: Global,
     table: &Table,
     request: &Request,

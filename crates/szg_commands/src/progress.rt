@@ -1,7 +1,10 @@
-//! How far a build has come, shown on a terminal.
+//! How far a build or a verification has come, shown on a terminal.
 use std::fmt::{self, Display, Formatter};
 use std::time::{Clock, Duration, Instant};
 use szg_build::Watcher;
+use szg_values::Material;
+use szg_verified::Progress;
+use szg_verify::Watcher as WalkWatcher;
 
 /// Returns to the beginning of the terminal's line and erases it.
 const ERASE: &str = "\r\x1b[K";
@@ -28,15 +31,67 @@ impl Display for Subtable {
     }
 }
 
-/// Shows on standard error how far a build has come: one line, which is rewritten, and erased at the end. Nothing is
+/// A walk over a material's positions, when it was first seen.
+#[derive(Clone, Copy)]
+struct Walk {
+    began: Instant,
+    done: u64,
+    positions: u64,
+}
+
+/// How fast a walk goes.
+#[derive(Clone, Copy)]
+struct Pace {
+    /// Positions in a second.
+    rate: u64,
+    /// The seconds until the walk ends, if it goes on so.
+    left: u64,
+}
+
+impl Walk {
+    /// Returns the pace of a walk up to now: `rest` of the numbers that place positions are left.
+    fn pace(&self, now: Instant, done: u64, positions: u64, rest: u64) -> Pace {
+        let elapsed = now.duration_since(self.began);
+        let millis = elapsed
+            .as_secs()
+            .saturating_mul(1000)
+            .saturating_add(u64::from(elapsed.subsec_millis()))
+            .max(1);
+        let numbers = done.saturating_sub(self.done).saturating_mul(1000) / millis;
+        let positions = positions.saturating_sub(self.positions);
+        Pace {
+            rate: positions.saturating_mul(1000) / millis,
+            left: rest / numbers.max(1),
+        }
+    }
+}
+
+impl Display for Pace {
+    fn fmt<W: fmt::Write>(&self, f: &mut Formatter<W>) -> fmt::Result {
+        let Pace { rate, left } = *self;
+        if left < 120 {
+            write!(f, "{rate} a second, {left} s left")
+        } else if left < 7200 {
+            let minutes = left / 60;
+            write!(f, "{rate} a second, {minutes} min left")
+        } else {
+            let hours = left / 3600;
+            write!(f, "{rate} a second, {hours} h left")
+        }
+    }
+}
+
+/// Shows on standard error how far a build or a verification has come: one line, which is rewritten, and erased at the end. Nothing is
 /// written if standard error is no terminal. It is ignored if a text can't be written.
 #[derive(Drop)]
 pub struct ProgressLine<'a, E, C> {
     errors: &'a E,
     clock: &'a C,
     is_terminal: bool,
-    // None if no line is shown
+    // None if no build's line is shown
     shown: Option<Subtable>,
+    // None if no walk was seen
+    walk: Option<Walk>,
     // when the line was written last. None before, and if the clock failed
     written: Option<Instant>,
 }
@@ -49,6 +104,7 @@ impl<'a, E: Eprint, C: Clock> ProgressLine<'a, E, C> {
             clock,
             is_terminal,
             shown: None,
+            walk: None,
             written: None,
         }
     }
@@ -57,17 +113,21 @@ impl<'a, E: Eprint, C: Clock> ProgressLine<'a, E, C> {
     fn due(&mut self, is_first: bool) -> Option<Subtable> {
         let subtable = self.shown?;
         let now = Instant::now(self.clock).ok();
-        let is_late = match (self.written, now) {
-            (Some(written), Some(now)) => {
-                now.duration_since(written) >= Duration::from_millis(PAUSE_MILLIS)
-            }
-            _ => false,
-        };
-        if !is_first && !is_late {
+        if !is_first && !self.is_late(now) {
             return None;
         }
         self.written = now;
         Some(subtable)
+    }
+
+    /// Returns whether the line was written long enough before.
+    fn is_late(&self, now: Option<Instant>) -> bool {
+        match (self.written, now) {
+            (Some(written), Some(now)) => {
+                now.duration_since(written) >= Duration::from_millis(PAUSE_MILLIS)
+            }
+            _ => false,
+        }
     }
 }
 
@@ -107,5 +167,41 @@ impl<'a, E: Eprint, C: Clock> Watcher for ProgressLine<'a, E, C> {
             let _ = eprint!(self.errors; "{ERASE}");
         }
         self.shown = None;
+    }
+}
+
+impl<'a, E: Eprint, C: Clock> WalkWatcher for ProgressLine<'a, E, C> {
+    fn see_progress(&mut self, material: &Material, done: u64, to: u64, positions: u64) {
+        if !self.is_terminal {
+            return;
+        }
+        let Ok(now) = Instant::now(self.clock) else {
+            return;
+        };
+        let Some(walk) = self.walk else {
+            self.walk = Some(Walk {
+                began: now,
+                done,
+                positions,
+            });
+            self.written = Some(now);
+            return;
+        };
+        if self.is_late(Some(now)) {
+            self.written = Some(now);
+            let pace = walk.pace(now, done, positions, to.saturating_sub(done));
+            let name = material.name();
+            let name = name.as_str();
+            let _ = eprint!(self.errors; "{ERASE}{name}: {positions} positions, {pace}");
+        }
+    }
+}
+
+impl<'a, E: Eprint, C: Clock> Progress for ProgressLine<'a, E, C> {
+    fn end(&mut self) {
+        if self.walk.is_some() {
+            let _ = eprint!(self.errors; "{ERASE}");
+        }
+        self.walk = None;
     }
 }

@@ -166,12 +166,12 @@ fn line_of<'a>(words: &'a [&'a str]) -> &'a [&'a str]
 }
 
 /// The error of words that have no command.
-pub fn missing_command(alloc: Global, form: CommandForm) -> Result<Error, AllocError> {
+pub(crate) fn missing_command(alloc: Global, form: CommandForm) -> Result<Error, AllocError> {
     program(alloc, form)?.error(ErrorKind::MissingSubcommand, "a command is missing")
 }
 
 /// Creates the error of a word that is none of its argument's numbers.
-pub fn number_error(
+pub(crate) fn number_error(
     alloc: Global,
     command: &str,
     form: CommandForm,
@@ -204,7 +204,7 @@ fn is_small(chosen: &ArgMatches<'_>) -> bool
 }
 
 /// Whether there is this word.
-pub fn is_given(given: Option<&str>, word: &str) -> bool
+pub(crate) fn is_given(given: Option<&str>, word: &str) -> bool
     ensures { result ≡ is_word (option_map (λ text. text.now) given.entry) word.now }
 {
     match given {
@@ -224,7 +224,7 @@ fn is_typed(chosen: &ArgMatches<'_>, argument: &str) -> bool
 }
 
 /// Returns the first number of a fixed plan that is given with a small plan.
-pub fn unused_by_plan(chosen: &ArgMatches<'_>) -> Option<NumberArgument>
+pub(crate) fn unused_by_plan(chosen: &ArgMatches<'_>) -> Option<NumberArgument>
     ensures { MatchOption result (has_unused (found_of chosen.now) ≡ false) (λ argument. has_unused (found_of chosen.now) ≡ true) }
 {
     if !is_small(chosen) {
@@ -243,7 +243,7 @@ pub fn unused_by_plan(chosen: &ArgMatches<'_>) -> Option<NumberArgument>
 }
 
 /// Creates the error of a number that a small plan does not take.
-pub fn conflict_error(
+pub(crate) fn conflict_error(
     alloc: Global,
     command: &str,
     form: CommandForm,
@@ -261,7 +261,7 @@ pub fn conflict_error(
 }
 
 /// An error with the usage of a command.
-pub fn usage_error(
+pub(crate) fn usage_error(
     alloc: Global,
     command: &str,
     form: CommandForm,
@@ -285,7 +285,7 @@ fn task_in<'a>(command: &str, chosen: &ArgMatches<'a>) -> Result<Task<'a>, Numbe
 }
 
 /// Returns the packing that the words ask for.
-pub fn packing_in<'a>(chosen: &ArgMatches<'a>) -> Result<Packing, NumberFault<'a>>
+pub(crate) fn packing_in<'a>(chosen: &ArgMatches<'a>) -> Result<Packing, NumberFault<'a>>
     ensures packing { IfOk result (IsPackingIn (found_of chosen.now)) }
     ensures none { IfErr result (λ fault. (is_word (first_value (found_of chosen.now) (codes "plan")) (codes "small") ≡ false) × (has_sizes (found_of chosen.now) ≡ false)) }
 {
@@ -323,7 +323,7 @@ fn request_in<'a>(command: &str, chosen: &ArgMatches<'a>) -> Result<Request<'a>,
 }
 
 /// What is asked of a table of this name and kind.
-pub fn request_on<'a>(
+pub(crate) fn request_on<'a>(
     command: &str,
     chosen: &ArgMatches<'a>,
     name: &'a str,

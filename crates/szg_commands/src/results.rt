@@ -7,7 +7,7 @@ use std::io::{self, BufRead, BufReader, BufWriter, Read, Write};
 use std::process::ExitCode;
 use std::rt::Files;
 use szg_files::Disk;
-use szg_results::{Folders, ResultStop, stop_text};
+use szg_results::{Folders, ResultStop, board_of, stop_text};
 
 /// What a command line asks of folders.
 #[derive(Clone, Copy)]
@@ -19,7 +19,7 @@ pub struct Asked<'a> {
 }
 
 /// Returns what a command line asks of folders: its command is `probe`, and its last word has a space, or is `-`.
-pub fn asked_of<'a>(words: &'a [&'a str]) -> Option<Asked<'a>> {
+pub(crate) fn asked_of<'a>(words: &'a [&'a str]) -> Option<Asked<'a>> {
     let count = words.len();
     if count < 4 || words[1] != "probe" {
         return None;
@@ -34,21 +34,28 @@ pub fn asked_of<'a>(words: &'a [&'a str]) -> Option<Asked<'a>> {
     })
 }
 
-/// Writes the results that a command line asks for. The status is 1 if a position is refused, 3 if a stream failed.
-pub fn run_results(
+/// Writes the results that a command line asks for, one position's on a terminal below its board. The status is 1 if a
+/// position is refused, 3 if a stream failed.
+pub(crate) fn run_results(
     rt: &(impl Eprint + AllocGlobal),
     machine: &impl Files,
     asked: Asked<'_>,
+    is_terminal: bool,
     input: impl Read + Drop,
     output: impl Write + Drop,
 ) -> ExitCode {
-    let outcome = match write_results(rt.alloc(), machine, asked, input, output) {
+    let written = write_results(rt.alloc(), machine, asked, is_terminal, input, output);
+    status_of(rt, &outcome_of(written))
+}
+
+/// Returns the outcome of a command that wrote its lines and says whether nothing was refused, or that failed.
+pub fn outcome_of(written: io::Result<bool>) -> Outcome {
+    match written {
         Ok(true) => Outcome::Done,
         Ok(false) => Outcome::Refused,
         Err(error) if error.kind() == io::ErrorKind::OutOfMemory => Outcome::Memory,
         Err(_) => Outcome::Device,
-    };
-    status_of(rt, &outcome)
+    }
 }
 
 /// Writes the results; returns whether no position was refused.
@@ -56,6 +63,7 @@ fn write_results(
     alloc: Global,
     machine: &impl Files,
     asked: Asked<'_>,
+    is_terminal: bool,
     input: impl Read + Drop,
     output: impl Write + Drop,
 ) -> io::Result<bool> {
@@ -76,6 +84,10 @@ fn write_results(
             is_good = write_line(alloc, &mut writer, fen, found)? && is_good;
         }
     } else {
+        if is_terminal {
+            let board = board_of(alloc, asked.fen)?;
+            writer.write_all(board.as_bytes())?;
+        }
         match folders.text(alloc, &mut disk, asked.fen) {
             Ok(text) => writer.write_all(text.as_bytes())?,
             Err(stop) => {

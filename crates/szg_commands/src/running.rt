@@ -7,6 +7,7 @@ use crate::on_files::{Ending, run_words};
 use crate::outcome::Outcome;
 use crate::results::{asked_of, run_results};
 use crate::statuses::{ending_status, status_of};
+use crate::verification::{run_verify, verification_of};
 use std::alloc::{AllocError, Global};
 use std::env::{self, Env};
 use std::io::{self, BufWriter, Read, Write};
@@ -16,6 +17,7 @@ use std::time::Clock;
 use szg_build::Watcher;
 use szg_files::{Disk, Monitored};
 use szg_io::Std;
+use szg_verified::Progress;
 
 /// The words of the command line.
 pub fn words_given(rt: &(impl Env + AllocGlobal)) -> io::Result<Vec<String>> {
@@ -83,20 +85,24 @@ pub fn print_assumed_class(rt: &(impl Eprint + AllocGlobal), words: &[String]) {
 }
 
 /// Runs the words of a command line on a machine's files, on an input and an output; faults are printed on standard error.
-/// `watcher` sees a build.
+/// `watcher` sees a build or a verification. `is_terminal` says whether the output is a terminal.
 pub fn run_given(
     rt: &(impl Eprint + AllocGlobal),
     machine: &(impl Files + Clock),
     words: &[String],
+    is_terminal: bool,
     input: impl Read + Drop,
     output: impl Write + Drop,
-    watcher: &mut impl Watcher,
+    watcher: &mut (impl Watcher + Progress),
 ) -> ExitCode {
     let Ok(texts) = texts_of(rt.alloc(), words) else {
         return status_of(rt, &Outcome::Memory);
     };
     if let Some(asked) = asked_of(texts.as_slice()) {
-        return run_results(rt, machine, asked, input, output);
+        return run_results(rt, machine, asked, is_terminal, input, output);
+    }
+    if let Some(asked) = verification_of(texts.as_slice()) {
+        return run_verify(rt, machine, asked, output, watcher);
     }
     let (ending, is_closed) = run_on_streams(
         rt.alloc(),

@@ -22,7 +22,7 @@ pub fn say<W: Output>(writer: &mut W, text: &[u8]) -> Result<(), Stop>
 }
 
 /// Writes a line whole, where there is one.
-pub fn say_line<W: Output>(writer: &mut W, line: Result<String, Stop>) -> Result<(), Stop>
+pub(crate) fn say_line<W: Output>(writer: &mut W, line: Result<String, Stop>) -> Result<(), Stop>
     requires { IsErrOf line Stop.Device → ⊥ }
     ensures given { OnOk result (IsOkAnd line (λ text. Gives W.Output writer.old writer.new (string_bytes text) 0)) }
     ensures device { IsErrOf result Stop.Device → HasFailed (W.failures writer.old) (W.failures writer.new) (W.interrupted writer.new) }

@@ -69,7 +69,7 @@ fn failure_status(rt: &(impl Eprint + AllocGlobal), failure: FileFailure<'_>) ->
 }
 
 /// The status of a run. Nothing is printed if the reader of the output closed it.
-pub fn ending_status(
+pub(crate) fn ending_status(
     rt: &(impl Eprint + AllocGlobal),
     ending: Ending<'_>,
     is_closed: bool,

@@ -62,7 +62,7 @@ fn are_all(code: u8, men: &[u8]) -> bool
 
 /// Returns the codes of the lead pawns and of the other pawns, for a material with pawns. The first side leads if
 /// its number of pawns is the number of lead pawns.
-pub fn pawn_codes(material: &Material, codes: &[u8]) -> (u8, u8)
+pub(crate) fn pawn_codes(material: &Material, codes: &[u8]) -> (u8, u8)
     requires { codes.now ≡ man_codes material.now }
     ensures lead { IsTrue (has_pawns material.now) → result.0 ≡ lead_pawn_code material.now }
     ensures other { IsTrue (has_pawns material.now) → result.1 ≡ other_pawn_code material.now }

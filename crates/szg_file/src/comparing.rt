@@ -12,7 +12,7 @@ fn same_part(part: &PartBytes, other: &PartBytes) -> bool
 }
 
 /// Whether parts have the same bytes.
-pub fn same_parts(parts: &[PartBytes], others: &[PartBytes]) -> bool
+pub(crate) fn same_parts(parts: &[PartBytes], others: &[PartBytes]) -> bool
     ensures { IsTrue result ↔ (map part_of parts.now ≡ map part_of others.now) }
 {
     if parts.len() != others.len() {
@@ -63,7 +63,7 @@ fn same_map(map: &Option<Map>, other: &Option<Map>) -> bool
 }
 
 /// Whether maps are the same.
-pub fn same_maps(maps: &[Option<Map>], others: &[Option<Map>]) -> bool
+pub(crate) fn same_maps(maps: &[Option<Map>], others: &[Option<Map>]) -> bool
     ensures { IsTrue result ↔ (map (option_map map_of) maps.now ≡ map (option_map map_of) others.now) }
 {
     if maps.len() != others.len() {

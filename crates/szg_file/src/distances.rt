@@ -7,7 +7,7 @@ use crate::flags::has_bit;
 use crate::table::Map;
 
 /// Returns the number of a map's list for a class. None for a draw.
-pub fn list_number(class: i8) -> Option<usize>
+pub(crate) fn list_number(class: i8) -> Option<usize>
     ensures number { result ≡ list_of_class class }
     ensures below { IfSome result (λ list. list < 4) }
 {
@@ -43,7 +43,7 @@ fn in_plies(flags: u8, list: usize) -> bool
 
 /// Returns the distance in plies that value `v` encodes in one of a part's lists: through the map if the part has
 /// one. None if the map has no such item.
-pub fn number_at(flags: u8, map: &Option<Map>, list: usize, v: u16) -> Option<u32>
+pub(crate) fn number_at(flags: u8, map: &Option<Map>, list: usize, v: u16) -> Option<u32>
     requires { list < 4 }
     ensures { result ≡ number_of flags (option_map map_of map.now) list v }
 {

@@ -27,7 +27,7 @@ fn is_sub_valid(slot: &Slot, sub: &Sub) -> bool
 }
 
 /// Returns whether there is one subtable per slot, and each passes its checks.
-pub fn are_subs_valid(slots: &[Slot], subs: &[Sub]) -> bool
+pub(crate) fn are_subs_valid(slots: &[Slot], subs: &[Sub]) -> bool
     ensures { IsTrue result ↔ SideBySide IsSubtable slots.now (map subtable_of subs.now) }
 {
     if slots.len() != subs.len() {

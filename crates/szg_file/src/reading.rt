@@ -64,7 +64,7 @@ pub struct Pieces {
 }
 
 /// Reads the magic, byte 4, the parts, the headers and the maps.
-pub fn read_opening<R: Input>(
+pub(crate) fn read_opening<R: Input>(
     alloc: Global,
     material: &Material,
     kind: Kind,
@@ -95,7 +95,7 @@ pub fn read_opening<R: Input>(
 }
 
 /// Reads the padding after the blocks, and the last sixteen bytes.
-pub fn read_ending<R: Input>(
+pub(crate) fn read_ending<R: Input>(
     alloc: Global,
     input: &mut R,
     front: &mut Front,

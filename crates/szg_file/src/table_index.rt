@@ -58,7 +58,7 @@ impl Model for TableIndex {
 }
 
 /// Creates the index of a table whose subtables are in memory.
-pub fn index_of_subs(
+pub(crate) fn index_of_subs(
     material: Material,
     kind: Kind,
     parts: Parts,
@@ -78,7 +78,7 @@ pub fn index_of_subs(
 }
 
 /// Creates the index of a table whose blocks are not in memory.
-pub fn index_of_placed(
+pub(crate) fn index_of_placed(
     material: Material,
     kind: Kind,
     parts: Parts,

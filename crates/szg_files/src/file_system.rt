@@ -33,13 +33,15 @@ pub trait FileSystem {
     /// the number of paths that could not be opened so far
     ghost failures: { Self → ℕ };
 
-    /// Opens the regular file at a path, at its first byte. Errors: `FileFault`, only if the system failed.
+    /// Opens the regular file at a path, at its first byte. Errors: `FileFault`, only if the system failed, and doesn't
+    /// specify the file's bytes.
     fn open(&mut self, path: &str) -> Result<Self::File, FileFault>
         ensures unread { IfOk result (λ file. Self.File.moved file ≡ []) }
         ensures coming { IfOk result (λ file. IfSome (content self.old path.now) (λ bytes. Self.File.coming file ≡ Some bytes)) }
         ensures content { content self.new ≡ content self.old }
         ensures quiet { OnOk result (failures self.new ≡ failures self.old) }
-        ensures failed { OnErr result (failures self.new ≡ raised (failures self.old)) };
+        ensures failed { OnErr result (failures self.new ≡ raised (failures self.old)) }
+        ensures absent { OnErr result (content self.old path.now ≡ None) };
 
     /// Returns the number of bytes of an opened file. Errors: the system's reason, only if the bytes are not known.
     fn len(&self, file: &Self::File) -> Result<u64, FileFault>

@@ -4,6 +4,7 @@
 mod disk;
 mod draft;
 mod file_system;
+mod folders;
 mod memory;
 mod monitored;
 mod ranges;
@@ -11,6 +12,7 @@ mod ranges;
 pub use disk::{Disk, DiskFile, SystemFile};
 pub use draft::{Draft, DraftFile, Published, Sealed};
 pub use file_system::{FileFault, FileSystem, Reasons};
+pub use folders::{Below, Finding, files_below, first_bytes, is_folder};
 pub use memory::{MemoryFile, MemoryFiles};
 pub use monitored::Monitored;
 pub use ranges::{RangeFault, read_range};

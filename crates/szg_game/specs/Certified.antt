@@ -1,4 +1,5 @@
--- The local conditions on a table: each is about the entry of one position and the entries of its successors.
+-- The local conditions on a table: each is about the entry of one position and the entries of its successors, the positions after
+-- its moves. An entry is a class, and a lower and an upper bound on the plies to mate or to the next zeroing move.
 use Rattle.std.specs.Prelude.{ℕ, ◌+◌, Bool, true, false, cond, not, ◌&&◌, ◌||◌, ltb, leb, ◌≤◌, List, map, All, IsTrue}
 use Rattle.std.specs.List.{list_any, list_all}
 use Rattle.szg_game.specs.Game.{Move, Game, is_empty}
@@ -6,6 +7,7 @@ use Rattle.szg_game.specs.declared.Class.{Class}
 use Rattle.szg_game.specs.declared.Class.TheVariants.{Loss, BlessedLoss, Draw, CursedWin, Win}
 use Rattle.szg_game.specs.declared.Entry.{Entry}
 
+-- a win within the limit
 abbrev pub is_win : Class → Bool
 is_win Win = true
 is_win CursedWin = false
@@ -13,6 +15,7 @@ is_win Draw = false
 is_win BlessedLoss = false
 is_win Loss = false
 
+-- a loss within the limit
 abbrev pub is_loss : Class → Bool
 is_loss Win = false
 is_loss CursedWin = false
@@ -40,7 +43,8 @@ is_lost Loss = true
 abbrev pub makes_progress : Entry → Move Entry → Bool
 makes_progress entry (f, zeroing) = zeroing || ltb f.upper entry.upper
 
--- The move is not zeroing, and with it the win or loss takes at least `bound` plies: by the lower bound after it, and one.
+-- The move is not zeroing, and with it the win or loss takes at least `bound` plies: one for the move, and at least the lower
+-- bound of the entry after it.
 abbrev pub lasts : ℕ → Move Entry → Bool
 lasts bound (f, zeroing) = not zeroing && leb bound (f.lower + 1)
 
@@ -100,7 +104,8 @@ successors_of game entry p = map (λ (q, zeroing). (entry q, zeroing)) (game.mov
 abbrev pub accepts_at : {P : Type 0} → Game P → ℕ → (P → Entry) → P → Bool
 accepts_at game limit entry p = accepts limit (entry p) (game.in_check p) (successors_of game entry p)
 
--- A table `entry` of the good positions of a game passes the conditions.
+-- A table passes the conditions: `entry` gives the entries of the positions that are `good`, those that the table is about, and
+-- `rank` a number that zeroing moves lower.
 pub record Certified {P : Type 0} (game : Game P) (limit : ℕ) (good : P → Bool) (rank : P → ℕ) (entry : P → Entry) : Type 0 where
   -- each successor of a good position is good
   pub closed : (p : P) → IsTrue (good p) → All (λ (q, zeroing). IsTrue (good q)) (game.moves p)

@@ -1,2 +1,3 @@
 mod Reporting
+pub mod Listing
 pub mod Asking

@@ -5,7 +5,9 @@ use Rattle.szg_values.specs.declared.NameFault.TheVariants as names
 use Rattle.szg_file.specs.declared.fault.Reason.{Reason}
 use Rattle.szg_file.specs.declared.fault.Reason.TheVariants as reasons
 use Rattle.szg_named.specs.declared.file_verdict.FileVerdict.{FileVerdict}
-use Rattle.szg_named.specs.declared.file_verdict.FileVerdict.TheVariants.{Whole, Ending, Name, At, Trailing, Unopened, Unread}
+use Rattle.szg_named.specs.declared.file_verdict.FileVerdict.TheVariants.{Whole, Ending, Name, At, Trailing, Unopened, Unread, NoText, Empty, Skipped}
+use Rattle.szg_named.specs.declared.file_verdict.Skip.{Skip}
+use Rattle.szg_named.specs.declared.file_verdict.Skip.TheVariants as skips
 use Rattle.szg_named.specs.declared.stop.Tally.{Tally}
 
 abbrev pub name_word : NameFault → List ℕ
@@ -52,6 +54,11 @@ escaped_byte byte =
 abbrev pub escaped : List ℕ → List ℕ
 escaped path = flat_map escaped_byte path
 
+-- the path in a line; where its name is not UTF-8, it is escaped already
+abbrev pub path_text : FileVerdict → List ℕ → List ℕ
+path_text NoText path = path
+path_text verdict path = escaped path
+
 -- ---- lines
 
 -- a refusal of a name
@@ -62,9 +69,25 @@ name_text word = codes ": refused name: " ++ (word ++ 10 ∷ [])
 abbrev pub refused_text : ℕ → List ℕ → List ℕ
 refused_text offset word = codes ": refused at " ++ (decimal offset ++ (codes ": " ++ (word ++ 10 ∷ [])))
 
+-- why a path is unread
+abbrev pub reason_text : List ℕ → List ℕ
+reason_text reason = codes ": " ++ (reason ++ 10 ∷ [])
+
+abbrev pub no_text : List ℕ
+no_text = codes "its name is not UTF-8"
+
+abbrev pub empty : List ℕ
+empty = codes "no table file is below it"
+
+-- why a path is not checked
+abbrev pub skip_reason : Skip → List ℕ
+skip_reason skips.Ending = codes "it looks like a table, and ends in neither .rtbw nor .rtbz"
+skip_reason skips.Loop = codes "it leads to a folder that it is in"
+skip_reason skips.Again = codes "another link led to this folder"
+
 -- a reason of the system
 abbrev pub IsReasonText : List ℕ → Type 0
-IsReasonText text = (reason : List ℕ) × (text ≡ codes ": " ++ (reason ++ 10 ∷ []))
+IsReasonText text = (reason : List ℕ) × (text ≡ reason_text reason)
 
 -- The text of a verdict, up to the end of its line.
 abbrev pub IsVerdictText : Bool → FileVerdict → List ℕ → Type 0
@@ -76,12 +99,19 @@ IsVerdictText true (Trailing size) text = text ≡ codes ": ok " ++ (decimal siz
 IsVerdictText false (Trailing size) text = text ≡ refused_text size (codes "Trailing")
 IsVerdictText allow_trailing (Unopened fault) text = IsReasonText text
 IsVerdictText allow_trailing (Unread error) text = IsReasonText text
+IsVerdictText allow_trailing NoText text = text ≡ reason_text no_text
+IsVerdictText allow_trailing Empty text = text ≡ reason_text empty
+IsVerdictText allow_trailing (Skipped skip) text = text ≡ codes ": skipped: " ++ (skip_reason skip ++ 10 ∷ [])
 
 -- The line of a path and its verdict.
 abbrev pub IsLine : Bool → List ℕ → FileVerdict → List ℕ → Type 0
-IsLine allow_trailing path verdict line = (text : List ℕ) × IsVerdictText allow_trailing verdict text × (line ≡ escaped path ++ text)
+IsLine allow_trailing path verdict line = (text : List ℕ) × IsVerdictText allow_trailing verdict text × (line ≡ path_text verdict path ++ text)
+
+-- the number of paths that were skipped, if there are any
+abbrev pub skipped_text : ℕ → List ℕ
+skipped_text skipped = if skipped == 0 then [] else codes ", skipped " ++ decimal skipped
 
 -- the last line: the number of files, and how many of them are good, refused and unread
-abbrev pub summary_text : ℕ → Tally → List ℕ
-summary_text count tally = codes "files " ++ (decimal count ++ (codes ": ok " ++ (decimal tally.good ++ (codes ", refused "
-    ++ (decimal tally.refused ++ (codes ", unread " ++ (decimal tally.unread ++ 10 ∷ [])))))))
+abbrev pub summary_text : Tally → List ℕ
+summary_text tally = codes "files " ++ (decimal (tally.good + tally.refused + tally.unread) ++ (codes ": ok " ++ (decimal tally.good ++ (codes ", refused "
+    ++ (decimal tally.refused ++ (codes ", unread " ++ (decimal tally.unread ++ (skipped_text tally.skipped ++ 10 ∷ []))))))))

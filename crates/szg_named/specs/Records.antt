@@ -1,9 +1,9 @@
 -- The records of a report for programs.
-use Rattle.std.specs.Prelude.{◌≡◌, ℕ, ◌/◌, ◌%◌, ◌==◌, ◌||◌, nat_lt, Bool, true, if◌then◌else◌, List, [], ◌∷◌, ◌++◌, flat_map, codes, decimal, Option, Some, None, IsSome}
+use Rattle.std.specs.Prelude.{◌≡◌, ℕ, ◌/◌, ◌%◌, ◌==◌, ◌||◌, nat_lt, Bool, true, false, if◌then◌else◌, List, [], ◌∷◌, ◌++◌, flat_map, codes, decimal, Option, Some, None, IsSome}
 use Rattle.std.specs.List.{concat}
-use Rattle.szg_named.specs.Lines.{IsLine, escaped_byte, hex_digit, name_word, reason_word, summary_text}
+use Rattle.szg_named.specs.Lines.{IsLine, empty, escaped_byte, hex_digit, name_word, no_text, path_text, reason_word, skip_reason, summary_text}
 use Rattle.szg_named.specs.declared.file_verdict.FileVerdict.{FileVerdict}
-use Rattle.szg_named.specs.declared.file_verdict.FileVerdict.TheVariants.{Whole, Ending, Name, At, Trailing, Unopened, Unread}
+use Rattle.szg_named.specs.declared.file_verdict.FileVerdict.TheVariants.{Whole, Ending, Name, At, Trailing, Unopened, Unread, NoText, Empty, Skipped}
 use Rattle.szg_named.specs.declared.report_format.ReportFormat.{ReportFormat}
 use Rattle.szg_named.specs.declared.report_format.ReportFormat.TheVariants.{Text, Tsv, Json}
 use Rattle.szg_named.specs.declared.stop.Tally.{Tally}
@@ -16,6 +16,9 @@ verdict_word allow_trailing (Whole size) = codes "ok"
 verdict_word true (Trailing size) = codes "ok"
 verdict_word allow_trailing (Unopened fault) = codes "unread"
 verdict_word allow_trailing (Unread error) = codes "unread"
+verdict_word allow_trailing NoText = codes "unread"
+verdict_word allow_trailing Empty = codes "unread"
+verdict_word allow_trailing (Skipped skip) = codes "skipped"
 verdict_word allow_trailing verdict = codes "refused"
 
 -- the table's length
@@ -39,6 +42,9 @@ IsReasonField (At offset reason) field = field ≡ Some (reason_word reason)
 IsReasonField (Trailing size) field = field ≡ Some (codes "Trailing")
 IsReasonField (Unopened fault) field = IsSome field
 IsReasonField (Unread error) field = IsSome field
+IsReasonField NoText field = field ≡ Some no_text
+IsReasonField Empty field = field ≡ Some empty
+IsReasonField (Skipped skip) field = field ≡ Some (skip_reason skip)
 
 abbrev pub number_or : List ℕ → Option ℕ → List ℕ
 number_or absent None = absent
@@ -88,10 +94,10 @@ json_reason (Some reason) = quoted reason
 abbrev pub tab : List ℕ
 tab = codes "\t"
 
--- path, verdict, bytes, reason, offset and seconds, separated by tabs
+-- the path's text, verdict, bytes, reason, offset and seconds, separated by tabs
 abbrev pub tsv_text : List ℕ → List ℕ → Option ℕ → Option (List ℕ) → Option ℕ → Option ℕ → List ℕ
 tsv_text path word bytes reason offset nanos =
-    concat (escaped_in Tsv path ∷ tab ∷ word ∷ tab ∷ number_or [] bytes ∷ tab ∷ tsv_reason reason
+    concat (path ∷ tab ∷ word ∷ tab ∷ number_or [] bytes ∷ tab ∷ tsv_reason reason
     ∷ tab ∷ number_or [] offset ∷ tab ∷ seconds_or [] nanos ∷ codes "\n" ∷ [])
 
 abbrev pub null : List ℕ
@@ -108,7 +114,7 @@ json_text path word bytes reason offset nanos =
 abbrev pub IsTsvRecord : Bool → List ℕ → FileVerdict → List ℕ → Type 0
 IsTsvRecord allow_trailing path verdict line =
     (reason : Option (List ℕ)) × IsReasonField verdict reason × (nanos : Option ℕ)
-    × (line ≡ tsv_text path (verdict_word allow_trailing verdict) (bytes_field verdict) reason (offset_field verdict) nanos)
+    × (line ≡ tsv_text (path_text verdict path) (verdict_word allow_trailing verdict) (bytes_field verdict) reason (offset_field verdict) nanos)
 
 abbrev pub IsJsonRecord : Bool → List ℕ → FileVerdict → List ℕ → Type 0
 IsJsonRecord allow_trailing path verdict line =
@@ -121,8 +127,25 @@ IsReportLine Text allow_trailing path verdict line = IsLine allow_trailing path 
 IsReportLine Tsv allow_trailing path verdict line = IsTsvRecord allow_trailing path verdict line
 IsReportLine Json allow_trailing path verdict line = IsJsonRecord allow_trailing path verdict line
 
--- What follows the last file: a summary of `count` files for a reader, nothing for a program.
-abbrev pub report_end : ReportFormat → ℕ → Tally → List ℕ
-report_end Text count tally = summary_text count tally
-report_end Tsv count tally = []
-report_end Json count tally = []
+-- not a table, or one with trailing bytes if these are not allowed, or unread
+abbrev pub is_bad : Bool → FileVerdict → Bool
+is_bad allow_trailing (Whole size) = false
+is_bad true (Trailing size) = false
+is_bad allow_trailing (Skipped skip) = false
+is_bad allow_trailing verdict = true
+
+-- What a report of bad files has of a file that is bad, or isn't.
+abbrev pub IsBadLine : Bool → ReportFormat → Bool → List ℕ → FileVerdict → List ℕ → Type 0
+IsBadLine true format allow_trailing path verdict line = IsReportLine format allow_trailing path verdict line
+IsBadLine false format allow_trailing path verdict line = line ≡ []
+
+-- What a report has of a file: if only bad ones are wanted, nothing of the others.
+abbrev pub IsShownLine : Bool → ReportFormat → Bool → List ℕ → FileVerdict → List ℕ → Type 0
+IsShownLine false format allow_trailing path verdict line = IsReportLine format allow_trailing path verdict line
+IsShownLine true format allow_trailing path verdict line = IsBadLine (is_bad allow_trailing verdict) format allow_trailing path verdict line
+
+-- What follows the last file: a summary for a reader, nothing for a program.
+abbrev pub report_end : ReportFormat → Tally → List ℕ
+report_end Text tally = summary_text tally
+report_end Tsv tally = []
+report_end Json tally = []

@@ -1,5 +1,5 @@
 -- The verdict on a file by its path, and the effect of the check on the system.
-use Rattle.std.specs.Prelude.{◌≡◌, ℕ, Bool, true, false, List, [], ◌∷◌, ◌++◌, length, Option, None, Some, Result, Ok, Err}
+use Rattle.std.specs.Prelude.{◌≡◌, ℕ, Bool, true, false, List, [], ◌∷◌, ◌++◌, map, string_bytes, is_some, Option, None, Some, Result, Ok, Err, length}
 use Rattle.std.specs.List.{sum_by}
 use Rattle.std.specs.Io.KnownBytes.{IsAtEnd}
 use Rattle.szg_io.specs.Device.{HasFailed, raised}
@@ -13,10 +13,11 @@ use Rattle.szg_file.specs.Held.{Shown, file_bytes}
 use Rattle.szg_file.specs.WholeRead.{IsFileRead}
 use Rattle.szg_file.specs.declared.fault.ReadFault.TheVariants.{Refused}
 use Rattle.szg_files.specs.FileSystem.{IsOpened}
-use Rattle.szg_named.specs.Records.{IsReportLine, report_end}
-use Rattle.szg_named.specs.Named.{name_given, named_as}
+use Rattle.szg_named.specs.Records.{IsShownLine, report_end}
+use Rattle.szg_named.specs.Named.{name_given, named_as, named_by}
 use Rattle.szg_named.specs.declared.file_verdict.FileVerdict.{FileVerdict}
-use Rattle.szg_named.specs.declared.file_verdict.FileVerdict.TheVariants.{Whole, Ending, Name, At, Trailing, Unopened, Unread}
+use Rattle.szg_named.specs.declared.file_verdict.FileVerdict.TheVariants.{Whole, Ending, Name, At, Trailing, Unopened, Unread, NoText, Empty, Skipped}
+use Rattle.szg_named.specs.declared.entries.Entry.{Entry}
 use Rattle.szg_named.specs.declared.many.CheckOptions.{CheckOptions}
 use Rattle.szg_named.specs.declared.named.Naming.{Naming}
 use Rattle.szg_named.specs.declared.report_format.ReportFormat.TheVariants as report_formats
@@ -59,16 +60,42 @@ IsFileVerdict content failures device naming path system system' verdict =
 
 -- each file by its own name, no trailing bytes, and a report for a reader
 abbrev pub plain_options : CheckOptions
-plain_options = record { naming = record { name = None; kind = None }; allow_trailing = false; format = report_formats.Text }
+plain_options = record { naming = record { name = None; kind = None }; allow_trailing = false; format = report_formats.Text; quiet = false }
 
--- Each path was checked in its order, and has its line or record.
-abbrev pub Reports : {S F : Type 0} → (S → List ℕ → Option (List ℕ)) → (S → ℕ) → input.Ghosts F → CheckOptions → List (List ℕ) → List FileVerdict → S → S → List ℕ → Type 0
+-- a path that a report is of, and its verdict if it is known without opening a file
+abbrev pub Listed : Type 0
+Listed = List ℕ × Option FileVerdict
+
+abbrev pub file_at : List ℕ → Listed
+file_at path = (path, None)
+
+abbrev pub listed_of : Entry → Listed
+listed_of entry = (string_bytes entry.path, entry.note)
+
+-- What is listed for a path: if it ends as a table's file does, the file. Of what is found below folders nothing is stated.
+abbrev pub IsListedAt : List ℕ → List Listed → Type 0
+IsListedAt path here = is_some (named_by path) ≡ true → here ≡ file_at path ∷ []
+
+-- What is listed for each path in turn.
+abbrev pub AreListed : List (List ℕ) → List Listed → Type 0
+AreListed [] listed = listed ≡ []
+AreListed (path ∷ paths) listed =
+    (here : List Listed) × (rest : List Listed) × IsListedAt path here × (listed ≡ here ++ rest) × AreListed paths rest
+
+-- The verdict on a listed path: the known one, or that on the file.
+abbrev pub IsVerdictAt : {S F : Type 0} → (S → List ℕ → Option (List ℕ)) → (S → ℕ) → input.Ghosts F → Naming → List ℕ → Option FileVerdict → S → S → FileVerdict → Type 0
+IsVerdictAt content failures device naming path (Some known) system system' verdict = (verdict ≡ known) × (system' ≡ system)
+IsVerdictAt content failures device naming path None system system' verdict = IsFileVerdict content failures device naming path system system' verdict
+
+-- Each listed path has its verdict and its line or record, in its order.
+abbrev pub Reports : {S F : Type 0} → (S → List ℕ → Option (List ℕ)) → (S → ℕ) → input.Ghosts F → CheckOptions → List Listed → List FileVerdict → S → S → List ℕ → Type 0
 Reports content failures device options [] [] system system' text = (system' ≡ system) × (text ≡ [])
 Reports content failures device options [] (verdict ∷ verdicts) system system' text = ⊥
-Reports content failures device options (path ∷ paths) [] system system' text = ⊥
-Reports {S = S} content failures device options (path ∷ paths) (verdict ∷ verdicts) system system' text =
-    (next : S) × IsFileVerdict content failures device options.naming path system next verdict × (line : List ℕ) × IsReportLine options.format options.allow_trailing path verdict line
-    × (rest : List ℕ) × (text ≡ line ++ rest) × Reports content failures device options paths verdicts next system' rest
+Reports content failures device options (listed ∷ more) [] system system' text = ⊥
+Reports {S = S} content failures device options (listed ∷ more) (verdict ∷ verdicts) system system' text =
+    (next : S) × IsVerdictAt content failures device options.naming listed.0 listed.1 system next verdict
+    × (line : List ℕ) × IsShownLine options.quiet options.format options.allow_trailing listed.0 verdict line
+    × (rest : List ℕ) × (text ≡ line ++ rest) × Reports content failures device options more verdicts next system' rest
 
 -- a table and nothing else, or a table with trailing bytes if these are allowed
 abbrev pub good_of : Bool → FileVerdict → ℕ
@@ -79,9 +106,15 @@ good_of allow_trailing verdict = 0
 abbrev pub unread_of : FileVerdict → ℕ
 unread_of (Unopened fault) = 1
 unread_of (Unread error) = 1
+unread_of NoText = 1
+unread_of Empty = 1
 unread_of verdict = 0
 
--- neither good nor unread
+abbrev pub skipped_of : FileVerdict → ℕ
+skipped_of (Skipped skip) = 1
+skipped_of verdict = 0
+
+-- neither good, nor unread, nor skipped
 abbrev pub refused_of : Bool → FileVerdict → ℕ
 refused_of allow_trailing Ending = 1
 refused_of allow_trailing (Name fault) = 1
@@ -89,17 +122,28 @@ refused_of allow_trailing (At offset reason) = 1
 refused_of false (Trailing size) = 1
 refused_of allow_trailing verdict = 0
 
--- the numbers of good, refused and unread verdicts
+-- the numbers of good, refused, unread and skipped verdicts
 pub record Counts (allow_trailing : Bool) (verdicts : List FileVerdict) (tally : Tally) : Type 0 where
   pub good : tally.good ≡ sum_by (good_of allow_trailing) verdicts
   pub refused : tally.refused ≡ sum_by (refused_of allow_trailing) verdicts
   pub unread : tally.unread ≡ sum_by unread_of verdicts
+  pub skipped : tally.skipped ≡ sum_by skipped_of verdicts
 
--- All files were checked in their order, and just their lines or records and what ends the report were written.
-pub record IsReport {S F W : Type 0} (content : S → List ℕ → Option (List ℕ)) (failures : S → ℕ) (device : input.Ghosts F) (writing : output.Ghosts W)
-    (options : CheckOptions) (paths : List (List ℕ)) (system system' : S) (writer writer' : W) (tally : Tally) : Type 0 where
+-- All listed paths have their verdicts, in their order, and just their lines or records and what ends the report were written.
+pub record IsReportOn {S F W : Type 0} (content : S → List ℕ → Option (List ℕ)) (failures : S → ℕ) (device : input.Ghosts F) (writing : output.Ghosts W)
+    (options : CheckOptions) (listed : List Listed) (system system' : S) (writer writer' : W) (tally : Tally) : Type 0 where
   pub verdicts : List FileVerdict
   pub text : List ℕ
-  pub reports : Reports content failures device options paths verdicts system system' text
+  pub reports : Reports content failures device options listed verdicts system system' text
   pub counts : Counts options.allow_trailing verdicts tally
-  pub given : Gives writing writer writer' (text ++ report_end options.format (length paths) tally) 0
+  pub given : Gives writing writer writer' (text ++ report_end options.format tally) 0
+
+-- The same of the files at these paths.
+abbrev pub IsReport : {S F W : Type 0} → (S → List ℕ → Option (List ℕ)) → (S → ℕ) → input.Ghosts F → output.Ghosts W → CheckOptions → List (List ℕ) → S → S → W → W → Tally → Type 0
+IsReport content failures device writing options paths system system' writer writer' tally =
+    IsReportOn content failures device writing options (map file_at paths) system system' writer writer' tally
+
+-- The same of the files at these paths, and of what was found below folders.
+abbrev pub IsFoundReport : {S F W : Type 0} → (S → List ℕ → Option (List ℕ)) → (S → ℕ) → input.Ghosts F → output.Ghosts W → CheckOptions → List (List ℕ) → S → S → W → W → Tally → Type 0
+IsFoundReport content failures device writing options paths system system' writer writer' tally =
+    (listed : List Listed) × AreListed paths listed × IsReportOn content failures device writing options listed system system' writer writer' tally

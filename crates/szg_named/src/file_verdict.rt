@@ -4,7 +4,7 @@ use szg_file::Reason;
 use szg_files::FileFault;
 use szg_values::NameFault;
 
-/// The verdict on a file, opened by its path.
+/// The verdict on a file, opened by its path, or on another path below a folder.
 #[derive(Clone, Copy)]
 pub enum FileVerdict {
     /// It is a table and nothing else. Carries its length in bytes.
@@ -21,4 +21,21 @@ pub enum FileVerdict {
     Unopened(FileFault),
     /// It cannot be read. Carries the system's reason if there is one.
     Unread(Option<Error>),
+    /// Its name is not UTF-8, so it can't be opened.
+    NoText,
+    /// It is a folder, and no table file is below it.
+    Empty,
+    /// It is not checked.
+    Skipped(Skip),
+}
+
+/// Why a path below a folder is not checked.
+#[derive(Clone, Copy)]
+pub enum Skip {
+    /// It looks like a table, and has another ending.
+    Ending,
+    /// It leads to a folder that it is in.
+    Loop,
+    /// It is a link to a folder that another link led to.
+    Again,
 }

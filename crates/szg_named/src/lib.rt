@@ -2,6 +2,7 @@
 #![tactic(auto)]
 
 mod check_paths;
+mod entries;
 mod file_verdict;
 mod lines;
 mod many;
@@ -12,9 +13,10 @@ mod report_format;
 mod stop;
 
 pub use check_paths::files_to_check;
-pub use file_verdict::FileVerdict;
+pub use entries::{Entry, entries_at};
+pub use file_verdict::{FileVerdict, Skip};
 pub use lines::{error_text, fault_text, name_word, reason_word, summary_line, verdict_line};
-pub use many::{CheckOptions, check_files};
+pub use many::{CheckOptions, check_entries, check_files, check_found};
 pub use named::{Naming, named_as, named_by};
 pub use one::check_path;
 pub use records::{json_record, tsv_record};

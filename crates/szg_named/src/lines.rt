@@ -1,9 +1,9 @@
 //! The lines of a report.
-ghost use Rattle.std.specs.Prelude.{◌≡◌, ◌++◌, ◌∷◌, [], ◌/◌, ◌%◌, ◌<◌, IfOk, OnOk, string_bytes};
+ghost use Rattle.std.specs.Prelude.{◌≡◌, ◌++◌, ◌∷◌, [], ◌+◌, ◌/◌, ◌%◌, ◌^◌, ◌<◌, IfOk, OnOk, string_bytes};
 ghost use Rattle.szg_named.specs.Records.{escaped_byte_in, escaped_in, json_byte};
-ghost use Rattle.szg_named.specs.Lines.{IsLine, IsVerdictText, escaped, escaped_byte, hex_digit, is_escaped, name_text, name_word, reason_word, refused_text, summary_text};
+ghost use Rattle.szg_named.specs.Lines.{IsLine, IsVerdictText, empty, escaped, escaped_byte, hex_digit, is_escaped, name_text, name_word, no_text, path_text, reason_text, reason_word, refused_text, skip_reason, skipped_text, summary_text};
 
-use crate::file_verdict::FileVerdict;
+use crate::file_verdict::{FileVerdict, Skip};
 use crate::report_format::ReportFormat;
 use crate::stop::Tally;
 use std::alloc::{AllocError, Global};
@@ -73,7 +73,11 @@ fn push_escaped_in(text: &mut Vec<u8>, format: ReportFormat, byte: u8) -> Result
 
 /// A text with its control characters and backslashes, in JSON also its quotes, escaped: it stays within one line and one
 /// field.
-pub fn escaped_in(alloc: Global, format: ReportFormat, source: &str) -> Result<Vec<u8>, AllocError>
+pub(crate) fn escaped_in(
+    alloc: Global,
+    format: ReportFormat,
+    source: &str,
+) -> Result<Vec<u8>, AllocError>
     ensures { IfOk result (λ text. text.items ≡ escaped_in format source.now) }
 {
     let mut text = Vec::new(alloc);
@@ -81,6 +85,24 @@ pub fn escaped_in(alloc: Global, format: ReportFormat, source: &str) -> Result<V
         push_escaped_in(&mut text, format, *byte)?;
     }
     Ok(text)
+}
+
+/// Returns the path of a file in a line: escaped, unless the verdict says that it is already.
+pub(crate) fn path_text(
+    alloc: Global,
+    verdict: &FileVerdict,
+    path: &str,
+) -> Result<Vec<u8>, AllocError>
+    ensures { IfOk result (λ text. text.items ≡ path_text verdict.now path.now) }
+{
+    match verdict {
+        FileVerdict::NoText => {
+            let mut text = Vec::new(alloc);
+            text.extend_from_slice(path.as_bytes())?;
+            Ok(text)
+        }
+        _ => escaped_in(alloc, ReportFormat::Text, path),
+    }
 }
 
 /// Returns the line of a file: its path and its verdict.
@@ -92,7 +114,7 @@ pub fn verdict_line(
 ) -> Result<Vec<u8>, AllocError>
     ensures { IfOk result (λ line. IsLine allow_trailing path.now verdict.now line.items) }
 {
-    let mut line = escaped_in(alloc, ReportFormat::Text, path)?;
+    let mut line = path_text(alloc, verdict, path)?;
     let rest = verdict_text(alloc, verdict, allow_trailing)?;
     line.extend_from_slice(rest.as_bytes())?;
     Ok(line)
@@ -123,7 +145,45 @@ fn verdict_text(
             let reason = error_text(alloc, error)?;
             format!(in alloc; ": {reason}\n")
         }
+        FileVerdict::NoText => reason_text(alloc, no_text()),
+        FileVerdict::Empty => reason_text(alloc, empty()),
+        FileVerdict::Skipped(skip) => {
+            let reason = skip_reason(*skip);
+            format!(in alloc; ": skipped: {reason}\n")
+        }
     }
+}
+
+/// Why a file whose name is not UTF-8 is unread.
+pub(crate) fn no_text() -> &'static str
+    ensures { result.now ≡ no_text }
+{
+    "its name is not UTF-8"
+}
+
+/// Why a folder without table files is unread.
+pub fn empty() -> &'static str
+    ensures { result.now ≡ empty }
+{
+    "no table file is below it"
+}
+
+/// Returns why a path is not checked.
+pub(crate) fn skip_reason(skip: Skip) -> &'static str
+    ensures { result.now ≡ skip_reason skip }
+{
+    match skip {
+        Skip::Ending => "it looks like a table, and ends in neither .rtbw nor .rtbz",
+        Skip::Loop => "it leads to a folder that it is in",
+        Skip::Again => "another link led to this folder",
+    }
+}
+
+/// Returns the text of a reason.
+fn reason_text(alloc: Global, reason: &str) -> Result<String, AllocError>
+    ensures { IfOk result (λ text. string_bytes text ≡ reason_text reason.now) }
+{
+    format!(in alloc; ": {reason}\n")
 }
 
 /// Returns the text of a refused name.
@@ -140,16 +200,31 @@ fn refused_text(alloc: Global, offset: u64, word: &str) -> Result<String, AllocE
     format!(in alloc; ": refused at {offset}: {word}\n")
 }
 
-/// Returns the summary of `count` files.
-pub fn summary_line(alloc: Global, count: usize, tally: &Tally) -> Result<String, AllocError>
-    ensures { IfOk result (λ line. string_bytes line ≡ summary_text count tally.now) }
+/// Returns the summary: the number of files, and how many of them are good, refused and unread; and the number of paths that
+/// were skipped, if there are any.
+pub fn summary_line(alloc: Global, tally: &Tally) -> Result<String, AllocError>
+    requires { tally.now.good + tally.now.refused + tally.now.unread < 2 ^ 64 }
+    ensures { IfOk result (λ line. string_bytes line ≡ summary_text tally.now) }
 {
     let Tally {
         good,
         refused,
         unread,
+        skipped,
     } = *tally;
-    format!(in alloc; "files {count}: ok {good}, refused {refused}, unread {unread}\n")
+    let count = good + refused + unread;
+    let more = skipped_text(alloc, skipped)?;
+    format!(in alloc; "files {count}: ok {good}, refused {refused}, unread {unread}{more}\n")
+}
+
+/// Returns the part of a summary about paths that were skipped: nothing if there are none.
+fn skipped_text(alloc: Global, skipped: u64) -> Result<String, AllocError>
+    ensures { IfOk result (λ text. string_bytes text ≡ skipped_text skipped) }
+{
+    if skipped == 0 {
+        return Ok(String::new(alloc));
+    }
+    format!(in alloc; ", skipped {skipped}")
 }
 
 /// Returns the reason why a file is not opened.

@@ -1,9 +1,10 @@
 //! The check of many files.
-ghost use Rattle.std.specs.Prelude.{◌≡◌, ◌<◌, ◌^◌, IfOk, IsErrOf, length, map, string_bytes};
+ghost use Rattle.std.specs.Prelude.{◌≡◌, ◌+◌, ◌<◌, ◌^◌, IfOk, IsErrOf, map, string_bytes};
 ghost use Rattle.szg_io.specs.Device.{HasFailed};
-ghost use Rattle.szg_named.specs.Records.{IsReportLine, report_end};
-ghost use Rattle.szg_named.specs.Verdicts.{IsFileVerdict, IsReport};
+ghost use Rattle.szg_named.specs.Records.{IsReportLine, IsShownLine, is_bad, report_end};
+ghost use Rattle.szg_named.specs.Verdicts.{IsFoundReport, IsReport, IsReportOn, IsVerdictAt, listed_of};
 
+use crate::entries::{Entry, entries_at, files_at};
 use crate::file_verdict::FileVerdict;
 use crate::lines::{summary_line, verdict_line};
 use crate::named::Naming;
@@ -12,6 +13,7 @@ use crate::records::{json_record, tsv_record};
 use crate::report_format::ReportFormat;
 use crate::stop::{Stop, Tally};
 use std::alloc::{AllocError, Global};
+use std::rt::Files;
 use std::time::{Clock, Duration, Instant};
 use szg_file::Ahead;
 use szg_files::FileSystem;
@@ -26,6 +28,8 @@ pub struct CheckOptions<'a> {
     pub allow_trailing: bool,
     /// How the report is written.
     pub format: ReportFormat,
+    /// Whether the report has only files that are refused or unread.
+    pub quiet: bool,
 }
 
 impl CheckOptions<'_> {
@@ -43,6 +47,7 @@ impl CheckOptions<'_> {
             },
             allow_trailing: false,
             format: ReportFormat::Text,
+            quiet: false,
         }
     }
 }
@@ -81,53 +86,102 @@ fn report_line(
     }
 }
 
-/// What a file's check says, and what the report has of it.
+/// Whether a file is refused or unread.
+fn is_bad(verdict: &FileVerdict, allow_trailing: bool) -> bool
+    ensures { result ≡ is_bad allow_trailing verdict.now }
+{
+    match verdict {
+        FileVerdict::Whole(_) | FileVerdict::Skipped(_) => false,
+        FileVerdict::Trailing(_) if allow_trailing => false,
+        FileVerdict::Ending
+        | FileVerdict::Name(_)
+        | FileVerdict::At(..)
+        | FileVerdict::Trailing(_)
+        | FileVerdict::Unopened(_)
+        | FileVerdict::Unread(_)
+        | FileVerdict::NoText
+        | FileVerdict::Empty => true,
+    }
+}
+
+/// What the report has of a file, where only bad ones may be wanted.
+fn shown_line(
+    alloc: Global,
+    options: CheckOptions<'_>,
+    path: &str,
+    verdict: &FileVerdict,
+    elapsed: Option<Duration>,
+) -> Result<Vec<u8>, AllocError>
+    ensures { IfOk result (λ line. IsShownLine options.entry.quiet options.entry.format options.entry.allow_trailing path.now verdict.now line.items) }
+{
+    if !options.quiet {
+        return report_line(alloc, options, path, verdict, elapsed);
+    }
+    if is_bad(verdict, options.allow_trailing) {
+        return report_line(alloc, options, path, verdict, elapsed);
+    }
+    Ok(Vec::new(alloc))
+}
+
+/// The verdict on an entry, and what the report has of it.
 #[derive(Drop)]
 struct Reported {
     verdict: FileVerdict,
     line: Vec<u8>,
 }
 
-/// Checks the file at a path, and times the check where a record has the seconds. Errors: `Memory`.
-fn report_path<S: FileSystem, C: Clock>(
+/// Returns the verdict of an entry: the one that is known, else that on its file. Errors: `Memory`.
+fn verdict_of<S: FileSystem>(
+    alloc: Global,
+    system: &mut S,
+    naming: Naming<'_>,
+    entry: &Entry,
+) -> Result<FileVerdict, Stop>
+where
+    S::File: Ahead,
+    ensures verdict { IfOk result (λ verdict. IsVerdictAt S.content S.failures S.File.Input naming.entry (string_bytes entry.now.path) entry.now.note system.old system.new verdict) }
+    ensures only { IsErrOf result Stop.Device → ⊥ }
+{
+    match entry.note {
+        Some(verdict) => Ok(verdict),
+        None => check_path(alloc, system, naming, entry.path.as_str()),
+    }
+}
+
+/// Finds the verdict of an entry, and times that where a record has the seconds. Errors: `Memory`.
+fn report_entry<S: FileSystem, C: Clock>(
     alloc: Global,
     system: &mut S,
     clock: &C,
     options: CheckOptions<'_>,
-    path: &str,
+    entry: &Entry,
 ) -> Result<Reported, Stop>
 where
     S::File: Ahead,
-    ensures verdict { IfOk result (λ reported. IsFileVerdict S.content S.failures S.File.Input options.entry.naming path.now system.old system.new reported.verdict) }
-    ensures line { IfOk result (λ reported. IsReportLine options.entry.format options.entry.allow_trailing path.now reported.verdict reported.line.items) }
+    ensures verdict { IfOk result (λ reported. IsVerdictAt S.content S.failures S.File.Input options.entry.naming (string_bytes entry.now.path) entry.now.note system.old system.new reported.verdict) }
+    ensures line { IfOk result (λ reported. IsShownLine options.entry.quiet options.entry.format options.entry.allow_trailing (string_bytes entry.now.path) reported.verdict reported.line.items) }
     ensures only { IsErrOf result Stop.Device → ⊥ }
 {
     let started = time_now(clock, options.format);
-    let verdict = check_path(alloc, system, options.naming, path)?;
+    let verdict = verdict_of(alloc, system, options.naming, entry)?;
     let elapsed = between(started, time_now(clock, options.format));
-    let line = report_line(alloc, options, path, &verdict, elapsed)?;
+    let line = shown_line(alloc, options, entry.path.as_str(), &verdict, elapsed)?;
     Ok(Reported { verdict, line })
 }
 
 /// What follows the last file.
-fn report_end(
-    alloc: Global,
-    format: ReportFormat,
-    count: usize,
-    tally: &Tally,
-) -> Result<String, AllocError>
-    ensures { IfOk result (λ text. string_bytes text ≡ report_end format count tally.now) }
+fn report_end(alloc: Global, format: ReportFormat, tally: &Tally) -> Result<String, AllocError>
+    requires { tally.now.good + tally.now.refused + tally.now.unread < 2 ^ 64 }
+    ensures { IfOk result (λ text. string_bytes text ≡ report_end format tally.now) }
 {
     match format {
-        ReportFormat::Text => summary_line(alloc, count, tally),
+        ReportFormat::Text => summary_line(alloc, tally),
         ReportFormat::Tsv | ReportFormat::Json => Ok(String::new(alloc)),
     }
 }
 
-/// Checks the files at these paths in their order; writes a line or a record of each, and, for a reader, a summary. The
-/// clock is read for records alone.
-///
-/// Errors: `Device` only if the writer failed, `Memory` if an allocation was refused.
+/// Checks the files at these paths in their order, as `check_entries`.
+#[tactic(auto, using(crate::proofs::Listing::files_are_listed))]
 pub fn check_files<S: FileSystem, C: Clock, W: Output>(
     alloc: Global,
     system: &mut S,
@@ -139,21 +193,63 @@ pub fn check_files<S: FileSystem, C: Clock, W: Output>(
 where
     S::File: Ahead,
     ensures report { IfOk result (λ tally. IsReport S.content S.failures S.File.Input W.Output options.entry (map (λ path. path.now) paths.now) system.old system.new writer.old writer.new tally) }
+    ensures found { IfOk result (λ tally. IsFoundReport S.content S.failures S.File.Input W.Output options.entry (map (λ path. path.now) paths.now) system.old system.new writer.old writer.new tally) }
+    ensures device { IsErrOf result Stop.Device → HasFailed (W.failures writer.old) (W.failures writer.new) (W.interrupted writer.new) }
+{
+    let entries = files_at(alloc, paths)?;
+    check_entries(alloc, system, clock, options, &entries, writer)
+}
+
+/// Checks the files at these paths and the table files below folders, in their order, as `check_entries`. What is below a
+/// folder comes in the byte order of the paths. A path that ends as a table's file does isn't taken for a folder.
+pub fn check_found<S: FileSystem, D: Files + Clock, W: Output>(
+    alloc: Global,
+    system: &mut S,
+    machine: &D,
+    options: CheckOptions<'_>,
+    paths: &[&str],
+    writer: &mut W,
+) -> Result<Tally, Stop>
+where
+    S::File: Ahead,
+    ensures found { IfOk result (λ tally. IsFoundReport S.content S.failures S.File.Input W.Output options.entry (map (λ path. path.now) paths.now) system.old system.new writer.old writer.new tally) }
+    ensures device { IsErrOf result Stop.Device → HasFailed (W.failures writer.old) (W.failures writer.new) (W.interrupted writer.new) }
+{
+    let entries = entries_at(alloc, machine, paths)?;
+    check_entries(alloc, system, machine, options, &entries, writer)
+}
+
+/// Checks the files of these entries in their order; writes a line or a record of each, and, for a reader, a summary. The
+/// clock is read for records alone.
+///
+/// Errors: `Device` only if the writer failed, `Memory` if an allocation was refused.
+pub fn check_entries<S: FileSystem, C: Clock, W: Output>(
+    alloc: Global,
+    system: &mut S,
+    clock: &C,
+    options: CheckOptions<'_>,
+    entries: &[Entry],
+    writer: &mut W,
+) -> Result<Tally, Stop>
+where
+    S::File: Ahead,
+    ensures report { IfOk result (λ tally. IsReportOn S.content S.failures S.File.Input W.Output options.entry (map listed_of entries.now) system.old system.new writer.old writer.new tally) }
     ensures device { IsErrOf result Stop.Device → HasFailed (W.failures writer.old) (W.failures writer.new) (W.interrupted writer.new) }
 {
     let mut tally = Tally {
         good: 0,
         refused: 0,
         unread: 0,
+        skipped: 0,
     };
-    'paths: for path in paths {
-        let reported = report_path(alloc, system, clock, options, path)?;
+    'entries: for entry in entries {
+        let reported = report_entry(alloc, system, clock, options, entry)?;
         if give_whole(writer, &reported.line).is_err() {
             return Err(Stop::Device);
         }
         tally = tally.with(&reported.verdict, options.allow_trailing);
     }
-    let end = report_end(alloc, options.format, paths.len(), &tally)?;
+    let end = report_end(alloc, options.format, &tally)?;
     if give_whole(writer, end.as_bytes()).is_err() {
         return Err(Stop::Device);
     }

@@ -4,19 +4,26 @@ ghost use Rattle.std.specs.Duration.{as_nanos};
 ghost use Rattle.szg_named.specs.Records.{IsJsonRecord, IsReasonField, IsTsvRecord, bytes_field, json_reason, json_text, number_or, offset_field, quoted, seconds_or, tsv_reason, tsv_text, verdict_word};
 
 use crate::file_verdict::FileVerdict;
-use crate::lines::{error_text, escaped_in, fault_text, name_word, reason_word};
+use crate::lines::{
+    empty, error_text, escaped_in, fault_text, name_word, no_text, path_text, reason_word,
+    skip_reason,
+};
 use crate::report_format::ReportFormat;
 use std::alloc::{AllocError, Global};
 use std::time::Duration;
 
-/// The word for what a file's check says: `ok`, `refused` or `unread`.
+/// The word for what a file's check says: `ok`, `refused`, `unread` or `skipped`.
 fn verdict_word(verdict: &FileVerdict, allow_trailing: bool) -> &'static str
     ensures { result.now ≡ verdict_word allow_trailing verdict.now }
 {
     match verdict {
         FileVerdict::Whole(_) => "ok",
         FileVerdict::Trailing(_) if allow_trailing => "ok",
-        FileVerdict::Unopened(_) | FileVerdict::Unread(_) => "unread",
+        FileVerdict::Unopened(_)
+        | FileVerdict::Unread(_)
+        | FileVerdict::NoText
+        | FileVerdict::Empty => "unread",
+        FileVerdict::Skipped(_) => "skipped",
         FileVerdict::Ending
         | FileVerdict::Name(_)
         | FileVerdict::At(..)
@@ -57,6 +64,9 @@ fn reason_field(alloc: Global, verdict: &FileVerdict) -> Result<Option<String>, 
         FileVerdict::Name(fault) => name_word(*fault),
         FileVerdict::At(_, reason) => reason_word(*reason),
         FileVerdict::Trailing(_) => "Trailing",
+        FileVerdict::NoText => no_text(),
+        FileVerdict::Empty => empty(),
+        FileVerdict::Skipped(skip) => skip_reason(*skip),
     };
     Ok(Some(String::from_str(alloc, word)?))
 }
@@ -139,11 +149,10 @@ struct Fields {
 }
 
 /// The fields of a TSV record in a line, separated by tabs.
-fn tsv_text(alloc: Global, path: &str, fields: &Fields) -> Result<Vec<u8>, AllocError>
-    ensures { IfOk result (λ line. line.items ≡ tsv_text path.now fields.now.word.now fields.now.bytes (option_map (λ text. string_bytes text) fields.now.reason) fields.now.offset (option_map (λ d. as_nanos d) fields.now.elapsed)) }
+fn tsv_text(alloc: Global, path: Vec<u8>, fields: &Fields) -> Result<Vec<u8>, AllocError>
+    ensures { IfOk result (λ line. line.items ≡ tsv_text path.items fields.now.word.now fields.now.bytes (option_map (λ text. string_bytes text) fields.now.reason) fields.now.offset (option_map (λ d. as_nanos d) fields.now.elapsed)) }
 {
     let tab = "\t".as_bytes();
-    let path = escaped_in(alloc, ReportFormat::Tsv, path)?;
     let bytes = number_or(alloc, fields.bytes, "")?;
     let reason = tsv_reason(alloc, &fields.reason)?;
     let offset = number_or(alloc, fields.offset, "")?;
@@ -228,6 +237,7 @@ pub fn tsv_record(
     ensures { IfOk result (λ line. IsTsvRecord allow_trailing path.now verdict.now line.items) }
 {
     let fields = fields_of(alloc, verdict, allow_trailing, elapsed)?;
+    let path = path_text(alloc, verdict, path)?;
     tsv_text(alloc, path, &fields)
 }
 

@@ -25,7 +25,7 @@ pub struct CodedMan {
 /// otherwise, when White does not have the men of the name's first side. None if the men are not the material's. No
 /// branch depends on whether they are exchanged, since a processor could not predict it.
 #[inline(always)]
-pub fn exchange_of(material: &MaterialInfo, placement: &PlacedMen<'_>) -> Option<bool>
+pub(crate) fn exchange_of(material: &MaterialInfo, placement: &PlacedMen<'_>) -> Option<bool>
     ensures other { IfNone result (is_of_material material.now placement.now ≡ false) }
     ensures men { IfSome result (λ exchanged. is_of_material material.now placement.now ≡ true) }
     ensures exchanged { IfSome result (λ exchanged. exchanged ≡ is_exchanged material.now placement.now) }
@@ -58,7 +58,7 @@ fn is_symmetric_with_black_to_move(material: &MaterialInfo, placement: &PlacedMe
 }
 
 /// Returns the side to move as the table numbers sides: 0 if it is the name's first side, else 1.
-pub fn moving_side(exchanged: bool, mover: Color) -> u8
+pub(crate) fn moving_side(exchanged: bool, mover: Color) -> u8
     ensures { result ≡ (if is_color Color.White (exchanged_color exchanged mover) then 0 else 1) }
 {
     match exchanged_color(exchanged, mover) {
@@ -68,7 +68,7 @@ pub fn moving_side(exchanged: bool, mover: Color) -> u8
 }
 
 /// Returns a colour, exchanged if `exchanged`.
-pub fn exchanged_color(exchanged: bool, color: Color) -> Color
+fn exchanged_color(exchanged: bool, color: Color) -> Color
     ensures { result ≡ exchanged_color exchanged color }
 {
     if !exchanged {

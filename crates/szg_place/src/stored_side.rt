@@ -9,7 +9,7 @@ use szg_count::MaterialInfo;
 use szg_values::Kind;
 
 /// Returns the side of the subtable for a side to move: the same in WDL, 0 in DTZ, where each part has one subtable.
-pub fn side_at(kind: Kind, queried: u8) -> u8
+pub(crate) fn side_at(kind: Kind, queried: u8) -> u8
     ensures { result ≡ (if is_dtz kind then 0 else queried) }
 {
     match kind {
@@ -27,7 +27,7 @@ fn byte_at(bytes: &[u8], i: usize) -> u8
 
 /// Returns whether a DTZ subtable stores another side to move than `queried`. False in WDL, and if both sides have the
 /// same men and there are no pawns.
-pub fn is_wrong_side(
+pub(crate) fn is_wrong_side(
     material: &MaterialInfo,
     kind: Kind,
     flags: &[u8],

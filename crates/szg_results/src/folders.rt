@@ -1,17 +1,19 @@
 //! Tables of folders: each is read when it is first needed, and stays.
 
-ghost use Rattle.std.specs.Prelude.{IfOk, string_bytes};
-ghost use Rattle.szg_tables.specs.Stored.{stored_classes, stored_numbers};
-ghost use Rattle.szg_results.specs.Results.{IsAnswer};
+ghost use Rattle.std.specs.Prelude.{◌≡◌, false, [], IfNone, IfOk, IfSome, map, option_map, string_bytes};
+ghost use Rattle.szg_results.specs.Folders.{IsAbsent, IsAbsentAt, IsAnswerIn, LacksDistances, ending_of, may_do_without, path_of, words_of};
+ghost use Rattle.szg_results.specs.Results.{IsAnswerOf};
 ghost use Rattle.szg_results.specs.Lines.{IsLineOf, IsTextOf};
 
-use crate::{Answer, line_of, probe_fen, text_of};
+use crate::classes_alone::ClassesAlone;
+use crate::{Answer, line_of, probe_position, text_of};
 use std::alloc::{AllocError, Global};
 use std::io::ErrorKind;
 use szg_chess::{FenRecord, Position, PositionFault};
 use szg_file::{ReadFault, Reason, Table, read};
 use szg_files::{FileFault, FileSystem, Reasons};
-use szg_named::{fault_text, reason_word};
+use szg_io::Input;
+use szg_named::{fault_text, named_by, reason_word};
 use szg_probe::DistanceFault;
 use szg_tables::{Missing, MissingReason, TableSet};
 use szg_values::{Kind, Material};
@@ -58,9 +60,11 @@ impl<'a> Folders<'a> {
         }
     }
 
-    /// Probes a position, and ranks its moves. Reads the tables that are missing.
+    /// Probes a position, and ranks its moves. Reads the tables that are missing; where a DTZ table is in none of the
+    /// folders, the answer has no distances.
     ///
     /// Errors: the first that is met.
+    #[tactic(auto, using(crate::proofs::Absent::same_lacking))]
     pub fn answer<S: FileSystem>(
         &mut self,
         alloc: Global,
@@ -68,22 +72,49 @@ impl<'a> Folders<'a> {
         fen: &FenRecord,
     ) -> Result<Answer, ResultStop>
         // the answer is that of the tables that have been read
-        ensures { IfOk result (λ a. IsAnswer (stored_classes self.new.tables.items) (stored_numbers self.new.tables.items) fen.now a) }
+        ensures answer { IfOk result (λ a. IsAnswerOf self.new.tables.items fen.now a) }
+        ensures distances { IfOk result (λ a. a.has_distances ≡ false → LacksDistances (S.content system.old) (words_of self.old) fen.now.position) }
     {
-        for _ in 0..MOST_TABLES {
-            match self.answer_now(fen) {
+        let words = self.words;
+        'tables: for _ in 0..MOST_TABLES {
+            let missing = match self.answer_now(fen, true) {
                 Ok(answer) => return Ok(answer),
                 Err(DistanceFault::Contradiction) => return Err(ResultStop::Contradiction),
-                Err(DistanceFault::Tables(missing)) => {
-                    match read_missing(alloc, system, self.words, missing) {
-                        Ok(table) => {
-                            if self.tables.push(table).is_err() {
-                                return Err(ResultStop::Memory);
-                            }
-                        }
-                        Err(stop) => return Err(stop),
-                    }
-                }
+                Err(DistanceFault::Tables(missing)) => missing,
+            };
+            let Some(table) = read_or_lack(alloc, system, words, &fen.position, &missing)? else {
+                return match self.answer_by_classes(alloc, system, fen) {
+                    Ok(answer) => Ok(answer),
+                    Err(stop) => Err(stop),
+                };
+            };
+            if self.tables.push(table).is_err() {
+                return Err(ResultStop::Memory);
+            }
+        }
+        Err(ResultStop::Contradiction)
+    }
+
+    /// Probes a position by the classes alone, as `answer`.
+    fn answer_by_classes<S: FileSystem>(
+        &mut self,
+        alloc: Global,
+        system: &mut S,
+        fen: &FenRecord,
+    ) -> Result<Answer, ResultStop>
+        ensures { IfOk result (λ a. IsAnswerOf self.new.tables.items fen.now a) }
+    {
+        for _ in 0..MOST_TABLES {
+            let missing = match self.answer_now(fen, false) {
+                Ok(answer) => return Ok(answer),
+                Err(DistanceFault::Contradiction) => return Err(ResultStop::Contradiction),
+                Err(DistanceFault::Tables(missing)) => missing,
+            };
+            let Some(table) = read_missing(alloc, system, self.words, &missing)? else {
+                return Err(ResultStop::Missing(missing));
+            };
+            if self.tables.push(table).is_err() {
+                return Err(ResultStop::Memory);
             }
         }
         Err(ResultStop::Contradiction)
@@ -98,7 +129,7 @@ impl<'a> Folders<'a> {
         system: &mut S,
         fen: &str,
     ) -> Result<String, ResultStop>
-        ensures { IfOk result (λ text. IsTextOf (stored_classes self.new.tables.items) (stored_numbers self.new.tables.items) fen.now (string_bytes text)) }
+        ensures { IfOk result (λ text. IsTextOf (IsAnswerIn (S.content system.old) (words_of self.old) self.new.tables.items) fen.now (string_bytes text)) }
     {
         let record = match Position::parse_fen(fen) {
             Ok(record) => record,
@@ -123,7 +154,7 @@ impl<'a> Folders<'a> {
         system: &mut S,
         fen: &str,
     ) -> Result<String, ResultStop>
-        ensures { IfOk result (λ line. IsLineOf (stored_classes self.new.tables.items) (stored_numbers self.new.tables.items) fen.now (string_bytes line)) }
+        ensures { IfOk result (λ line. IsLineOf (IsAnswerIn (S.content system.old) (words_of self.old) self.new.tables.items) fen.now (string_bytes line)) }
     {
         let record = match Position::parse_fen(fen) {
             Ok(record) => record,
@@ -140,50 +171,121 @@ impl<'a> Folders<'a> {
     }
 
     /// Probes a position over the tables that were read.
-    fn answer_now(&self, fen: &FenRecord) -> Result<Answer, DistanceFault<Missing>>
-        ensures { IfOk result (λ a. IsAnswer (stored_classes self.now.tables.items) (stored_numbers self.now.tables.items) fen.now a) }
+    #[tactic(auto, using(crate::proofs::Answered::answered))]
+    fn answer_now(
+        &self,
+        fen: &FenRecord,
+        has_distances: bool,
+    ) -> Result<Answer, DistanceFault<Missing>>
+        ensures answer { IfOk result (λ a. IsAnswerOf self.now.tables.items fen.now a) }
+        ensures has_distances { IfOk result (λ a. a.has_distances ≡ has_distances) }
     {
         let mut set = TableSet::new(&self.tables);
-        probe_fen(&mut set, fen)
+        if has_distances {
+            return probe_position(&mut set, &fen.position, fen.halfmove, true);
+        }
+        let mut alone = ClassesAlone { tables: set };
+        probe_position(&mut alone, &fen.position, 0, false)
     }
 }
 
-/// Reads a table that is missing from the first folder that has it.
-fn read_missing<S: FileSystem>(
+/// Returns whether an answer without distances does without a table: a DTZ table, of as many men as the position or fewer.
+fn may_do_without(missing: &Missing, position: &Position) -> bool
+    ensures { result ≡ may_do_without missing.now.kind missing.now.material position.now }
+{
+    matches!(missing.kind, Kind::Dtz) && missing.material.men().len() <= position.men().len()
+}
+
+/// Reads a table that is missing, as `read_missing`. None only if an answer without distances does without it.
+#[tactic(auto, using(crate::proofs::Absent::lacking))]
+fn read_or_lack<S: FileSystem>(
     alloc: Global,
     system: &mut S,
     words: &[&str],
-    missing: Missing,
-) -> Result<Table, ResultStop> {
-    if !matches!(missing.reason, MissingReason::Table) {
-        return Err(ResultStop::Missing(missing));
+    position: &Position,
+    missing: &Missing,
+) -> Result<Option<Table>, ResultStop>
+    ensures content { IfOk result (λ table. S.content system.new ≡ S.content system.old) }
+    ensures lacks { IfOk result (λ table. IfNone table (LacksDistances (S.content system.old) (map (λ word. word.now) words.now) position.now)) }
+{
+    match read_missing(alloc, system, words, missing)? {
+        Some(table) => Ok(Some(table)),
+        None if may_do_without(missing, position) => Ok(None),
+        None => Err(ResultStop::Missing(copy_of(missing))),
     }
-    for word in words {
-        let path = match path_of(alloc, word, &missing) {
-            Ok(Some(path)) => path,
-            Ok(None) => continue,
-            Err(_) => return Err(ResultStop::Memory),
-        };
-        match system.open(path.as_str()) {
-            Ok(mut file) => {
-                let material = missing.material.copy();
-                return match read(alloc, material, missing.kind, &mut file) {
-                    Ok(table) => Ok(table),
-                    Err(ReadFault::Refused { place, reason }) => Err(ResultStop::Table(
-                        missing.material,
-                        missing.kind,
-                        place,
-                        reason,
-                    )),
-                    Err(ReadFault::Device) => Err(ResultStop::Failed(failure(&file))),
-                    Err(ReadFault::Memory) => Err(ResultStop::Memory),
-                };
-            }
-            Err(fault) if is_absent(&fault) => {}
-            Err(fault) => return Err(ResultStop::Failed(fault)),
+}
+
+/// Reads a table that is missing from the first folder that has it. None if none has it.
+///
+/// Errors: the table was read, and has no class or number; the file is no table, or it failed; an allocation was
+/// refused.
+#[tactic(auto, using(crate::proofs::Absent::absent_next))]
+pub fn read_missing<S: FileSystem>(
+    alloc: Global,
+    system: &mut S,
+    words: &[&str],
+    missing: &Missing,
+) -> Result<Option<Table>, ResultStop>
+    ensures content { IfOk result (λ table. S.content system.new ≡ S.content system.old) }
+    ensures absent { IfOk result (λ table. IfNone table (IsAbsent (S.content system.old) (map (λ word. word.now) words.now) missing.now.material missing.now.kind)) }
+{
+    if !matches!(missing.reason, MissingReason::Table) {
+        return Err(ResultStop::Missing(copy_of(missing)));
+    }
+    'words: for word in words {
+        if let Some(file) = open_at(alloc, system, word, missing)? {
+            return Ok(Some(read_from(alloc, missing, file)?));
         }
     }
-    Err(ResultStop::Missing(missing))
+    Ok(None)
+}
+
+/// Opens a table's file in a folder, or the file at a path. None if there is no such file.
+fn open_at<S: FileSystem>(
+    alloc: Global,
+    system: &mut S,
+    word: &str,
+    missing: &Missing,
+) -> Result<Option<S::File>, ResultStop>
+    ensures content { IfOk result (λ file. S.content system.new ≡ S.content system.old) }
+    ensures absent { IfOk result (λ file. IfNone file (IsAbsentAt (S.content system.old) missing.now.material missing.now.kind word.now)) }
+    ensures unread { IfOk result (λ file. IfSome file (λ opened. S.File.moved opened ≡ [])) }
+{
+    let Some(path) = path_of(alloc, word, missing)? else {
+        return Ok(None);
+    };
+    match system.open(path.as_str()) {
+        Ok(file) => Ok(Some(file)),
+        Err(fault) if is_absent(&fault) => Ok(None),
+        Err(fault) => Err(ResultStop::Failed(fault)),
+    }
+}
+
+/// Reads a table from its file.
+fn read_from<F: Input + Reasons + Drop>(
+    alloc: Global,
+    missing: &Missing,
+    mut file: F,
+) -> Result<Table, ResultStop>
+    requires { F.moved file ≡ [] }
+{
+    let Missing { material, kind, .. } = missing;
+    match read(alloc, material.copy(), *kind, &mut file) {
+        Ok(table) => Ok(table),
+        Err(ReadFault::Refused { place, reason }) => {
+            Err(ResultStop::Table(material.copy(), *kind, place, reason))
+        }
+        Err(ReadFault::Device) => Err(ResultStop::Failed(failure(&file))),
+        Err(ReadFault::Memory) => Err(ResultStop::Memory),
+    }
+}
+
+fn copy_of(missing: &Missing) -> Missing {
+    Missing {
+        material: missing.material.copy(),
+        kind: missing.kind,
+        reason: missing.reason,
+    }
 }
 
 /// Returns why a read of a file failed.
@@ -202,23 +304,26 @@ fn is_absent(fault: &FileFault) -> bool {
     }
 }
 
-/// Returns the path of a table in a folder, or the word itself if it is the table's file. None if it is another
-/// table's file.
-fn path_of(alloc: Global, word: &str, missing: &Missing) -> Result<Option<String>, AllocError> {
+/// Returns the path of a table in a folder, or the word itself if it is the path of the table's file. None if it is the
+/// path of another table's file.
+fn path_of(alloc: Global, word: &str, missing: &Missing) -> Result<Option<String>, AllocError>
+    ensures { IfOk result (λ path. option_map (λ text. string_bytes text) path ≡ path_of missing.now.material missing.now.kind word.now) }
+{
     let name = missing.material.name();
     let name = name.as_str();
     let ending = ending_of(missing.kind);
-    let file = format!(in alloc; "{name}.{ending}")?;
-    if word.ends_with(".rtbw") || word.ends_with(".rtbz") {
-        if !word.ends_with(file.as_str()) {
-            return Ok(None);
+    match named_by(word) {
+        Some((other, kind)) if other == name && ending_of(kind) == ending => {
+            Ok(Some(String::from_str(alloc, word)?))
         }
-        return Ok(Some(String::from_str(alloc, word)?));
+        Some(_) => Ok(None),
+        None => Ok(Some(format!(in alloc; "{word}/{name}.{ending}")?)),
     }
-    Ok(Some(format!(in alloc; "{word}/{file}")?))
 }
 
-fn ending_of(kind: Kind) -> &'static str {
+fn ending_of(kind: Kind) -> &'static str
+    ensures { result.now ≡ ending_of kind }
+{
     match kind {
         Kind::Wdl => "rtbw",
         Kind::Dtz => "rtbz",
@@ -239,6 +344,9 @@ pub fn stop_text(alloc: Global, stop: &ResultStop) -> Result<String, AllocError>
                     format!(in alloc; "refused place in {name} {kind}: {fault}")
                 }
                 MissingReason::Value => format!(in alloc; "refused value in {name} {kind}"),
+                MissingReason::Block { number, offset } => {
+                    format!(in alloc; "refused block {number} of {name} {kind} at {offset}")
+                }
             }
         }
         ResultStop::Contradiction => String::from_str(alloc, "refused contradiction"),

@@ -7,7 +7,7 @@ ghost use Rattle.szg_probe.specs.Distances.{MayLack, probed_distance, ranked};
 ghost use Rattle.szg_results.specs.Results.{IsAnswer, counted};
 
 use arrayvec::ArrayVec;
-use szg_chess::{FenRecord, MAX_MOVES, Position};
+use szg_chess::{MAX_MOVES, Position};
 use szg_probe::{Distance, DistanceFault, DistanceTables, RankedMove, probe_dtz, rank_moves};
 
 /// The result of a position.
@@ -17,27 +17,34 @@ pub struct Answer {
     pub distance: Distance,
     /// The legal moves, the best first.
     pub moves: ArrayVec<RankedMove, MAX_MOVES>,
+    /// Whether the distances are those of DTZ tables. Else they say nothing.
+    pub has_distances: bool,
 }
 
-/// Probes a position with its fifty-move counter, and ranks its moves. It allocates nothing.
+/// Probes a position with its fifty-move counter, and ranks its moves. `has_distances` says whether the numbers are
+/// those of DTZ tables. It allocates nothing.
 ///
 /// Errors: those of `probe_dtz` and of `rank_moves`.
-pub fn probe_fen<T: DistanceTables>(
+pub fn probe_position<T: DistanceTables>(
     tables: &mut T,
-    fen: &FenRecord,
+    position: &Position,
+    counter: u32,
+    has_distances: bool,
 ) -> Result<Answer, DistanceFault<T::Fault>>
     ensures same { T.stored tables.new ≡ T.stored tables.old }
     ensures same_numbers { T.numbers tables.new ≡ T.numbers tables.old }
-    ensures stated { IfOk result (λ a. IsAnswer (T.stored tables.old) (T.numbers tables.old) fen.now a) }
+    ensures stated { IfOk result (λ a. IsAnswer (T.stored tables.old) (T.numbers tables.old) position.now counter a) }
+    ensures has_distances { IfOk result (λ a. a.has_distances ≡ has_distances) }
 {
-    let distance = match probe_dtz(tables, &fen.position) {
+    let distance = match probe_dtz(tables, position) {
         Ok(distance) => distance,
         Err(fault) => return Err(fault),
     };
-    match rank_moves(tables, &fen.position, fen.halfmove) {
+    match rank_moves(tables, position, counter) {
         Ok(moves) => Ok(Answer {
-            distance: counted(&fen.position, fen.halfmove, distance),
+            distance: counted(position, counter, distance),
             moves,
+            has_distances,
         }),
         Err(fault) => Err(fault),
     }

@@ -1,3 +1,4 @@
 mod Stored
 mod Images
 mod ImageDistances
+mod MappedFiles

@@ -1,3 +1,4 @@
 pub mod Stored
 pub mod Distances
 pub mod Images
+pub mod Mapped

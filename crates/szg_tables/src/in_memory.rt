@@ -63,7 +63,7 @@ fn is_for(table: &Table, kind: Kind, material: &Material) -> bool
     is_kind(kind, table.kind()) && material.is_same(table.material())
 }
 
-fn is_kind(kind: Kind, other: Kind) -> bool
+pub(crate) fn is_kind(kind: Kind, other: Kind) -> bool
     ensures { result ≡ is_kind kind other }
 {
     matches!(
@@ -73,7 +73,7 @@ fn is_kind(kind: Kind, other: Kind) -> bool
 }
 
 /// Returns the class of a WDL value. None if it is above 4.
-fn class_of_value(value: u16) -> Option<Class>
+pub(crate) fn class_of_value(value: u16) -> Option<Class>
     ensures { result ≡ class_of_value value }
 {
     match value {

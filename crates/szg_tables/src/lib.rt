@@ -8,9 +8,11 @@ use thiserror::Error;
 mod distances;
 mod in_memory;
 pub mod laws;
+mod mapped;
 mod verifying;
 
 pub use in_memory::{TableSet, number_of_class};
+pub use mapped::{MappedSet, MappedTable};
 pub use verifying::{VerifyFault, verify_tables};
 
 /// What a set of tables does not have for the men of a position.
@@ -34,4 +36,6 @@ pub enum MissingReason {
     Place(PlaceFault),
     /// The table's value has no meaning: it is no class, or has no number in the class.
     Value,
+    /// The block that has the value does not decode: its number in its subtable, and its offset in the file.
+    Block { number: u32, offset: u64 },
 }

@@ -1,10 +1,10 @@
 //! Helpers for tests of whole files: a fixture is read, changed, written or refused.
 
-use crate::fixtures::{self, Fixture};
 use std::alloc::{AllocError, Global};
 use std::fmt::Debug;
 use std::process::Abort;
 use szg_file::{ReadFault, Reason, Table, file_len, read, read_bytes, write};
+use szg_fixtures::Fixture;
 use szg_io::Std;
 use szg_values::Material;
 
@@ -31,25 +31,6 @@ pub fn answer(rt: &(impl Abort + Alloc<A = Global>), file: &Fixture) -> Result<T
     read(rt.alloc(), material(rt, file), file.kind, &mut input)
 }
 
-/// The file with some bytes changed.
-pub fn changed(
-    rt: &(impl Abort + Alloc<A = Global>),
-    file: &Fixture,
-    changes: &[(usize, u8)],
-) -> Fixture {
-    let mut bytes = made(rt, Vec::from_slice(rt.alloc(), &file.bytes));
-    for (at, byte) in changes {
-        if *at < bytes.len() {
-            bytes[*at] = *byte;
-        }
-    }
-    Fixture {
-        name: file.name,
-        kind: file.kind,
-        bytes,
-    }
-}
-
 /// The table is written as these bytes.
 pub fn check_written(rt: &(impl Abort + Alloc<A = Global>), table: &Table, bytes: &[u8]) {
     let mut output = Std::new(Vec::new(rt.alloc()));
@@ -63,7 +44,7 @@ pub fn accepted(
     file: &Fixture,
     changes: &[(usize, u8)],
 ) -> Table {
-    let file = changed(rt, file, changes);
+    let file = made(rt, file.changed(rt.alloc(), changes));
     let table = made(rt, answer(rt, &file));
     check_written(rt, &table, &file.bytes);
     assert!(rt; read_bytes(rt.alloc(), material(rt, &file), file.kind, &file.bytes).is_ok());
@@ -83,18 +64,9 @@ pub fn check_refused(
     place: u64,
     reason: Reason,
 ) {
-    let file = changed(rt, file, changes);
+    let file = made(rt, file.changed(rt.alloc(), changes));
     let want = Some(ReadFault::Refused { place, reason });
     assert!(rt; answer(rt, &file).err() == want, "at {place}");
     let same = read_bytes(rt.alloc(), material(rt, &file), file.kind, &file.bytes).err();
     assert!(rt; same == want, "at {place}");
-}
-
-pub fn fixtures_of_all_sections(alloc: Global) -> Result<Vec<Fixture>, AllocError> {
-    let mut all = Vec::new(alloc);
-    all.push(fixtures::knvk_wdl_constant(alloc)?)?;
-    all.push(fixtures::kqvk_wdl_unpaired(alloc)?)?;
-    all.push(fixtures::kqvk_wdl_paired(alloc)?)?;
-    all.push(fixtures::kpvk_dtz_mapped(alloc)?)?;
-    Ok(all)
 }

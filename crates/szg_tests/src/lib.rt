@@ -1,15 +1,12 @@
-//! Tests of the libraries, through their public items alone: examples of the format, texts, refused memory, and
+//! Tests of tables and of what they are made of, through public items alone: examples of the format, texts, refused memory, and
 //! devices that are interrupted or fail. What a contract says is not tested again.
 //!
-//! The tests of the program's commands are in `szg_program_tests`, which is proved beside this crate.
+//! Tests of the builder are in `szg_build_tests`, those of chess, probing and verification in `szg_probe_tests`, those of the
+//! program's commands in `szg_program_tests`: the four crates are proved side by side.
 #![tactic(auto)]
 
 #[cfg(test)]
 mod block;
-#[cfg(test)]
-mod build;
-#[cfg(test)]
-mod chess;
 #[cfg(test)]
 mod code;
 #[cfg(test)]
@@ -21,15 +18,11 @@ mod file;
 #[cfg(test)]
 mod files;
 #[cfg(test)]
-mod fixtures;
-#[cfg(test)]
 mod io;
 #[cfg(test)]
 mod pairs;
 #[cfg(test)]
 mod place;
-#[cfg(test)]
-mod probe;
 #[cfg(test)]
 mod readme;
 #[cfg(test)]

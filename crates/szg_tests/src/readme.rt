@@ -1,7 +1,6 @@
 //! The examples of the README, word for word, with sample tables.
 
 use crate::files::{made, table_of};
-use crate::fixtures;
 use crate::standing::placement;
 use std::alloc::Global;
 use szg_file::{Table, read};
@@ -32,12 +31,12 @@ pub fn number(table: &Table, placement: &Placement, class: i8) -> Option<u32> {
 
 #[test]
 fn examples_of_the_readme(rt: HostRuntime) {
-    let queen = made(&rt, fixtures::kqvk_wdl_unpaired(rt.alloc()));
+    let queen = made(&rt, szg_fixtures::kqvk_wdl_unpaired(rt.alloc()));
     for (i, want) in [(31331, Some(4)), (31332, None)] {
         let found = value(rt.alloc(), queen.name, &queen.bytes, i);
         assert!(rt; found == want, "at {i}");
     }
-    let pawn = table_of(&rt, fixtures::kpvk_dtz_mapped(rt.alloc()));
+    let pawn = table_of(&rt, szg_fixtures::kpvk_dtz_mapped(rt.alloc()));
     let men = placement(&rt, White, "Ke1 Pa2 ke8");
     for (class, want) in [(2, Some(14)), (-1, None), (3, None)] {
         let found = number(&pawn, &men, class);

@@ -4,7 +4,6 @@ use crate::files::made;
 use std::alloc::Global;
 use std::fmt::Display;
 use std::process::Abort;
-use szg_build::{BuildFault, DumpFault};
 use szg_count::OrderFault;
 use szg_file::{MapFault, ReadFault, Reason, WriteFault};
 use szg_place::{PlaceFault, ProbeFault};
@@ -47,39 +46,6 @@ fn faults_of_reading_and_writing(rt: HostRuntime) {
     check_text(&rt, &ReadFault::Device, "Device");
     check_text(&rt, &ReadFault::Memory, "Memory");
     check_text(&rt, &WriteFault { out: 7 }, "WriteFault")
-}
-
-#[test]
-fn faults_of_building(rt: HostRuntime) {
-    for (fault, text) in [
-        (BuildFault::Order, "Order"),
-        (BuildFault::Bits, "Bits"),
-        (BuildFault::Rounds, "Rounds"),
-        (BuildFault::Count, "Count"),
-        (BuildFault::Length(3), "Length"),
-        (BuildFault::Value(3), "Value"),
-        (BuildFault::TooManyValues(3), "TooManyValues"),
-        (BuildFault::Map, "Map"),
-        (BuildFault::Memory, "Memory"),
-    ] {
-        check_text(&rt, &fault, text);
-    }
-}
-
-#[test]
-fn faults_of_dumps(rt: HostRuntime) {
-    for (fault, number, text) in [
-        (DumpFault::Version, 1, "Version"),
-        (DumpFault::Field, 2, "Field"),
-        (DumpFault::Number, 3, "Number"),
-        (DumpFault::Hex, 4, "Hex"),
-        (DumpFault::Name, 5, "Name"),
-        (DumpFault::Ended, 6, "Ended"),
-        (DumpFault::Run, 7, "Run"),
-    ] {
-        assert!(rt; fault as u8 == number, "{text}");
-        check_text(&rt, &fault, text);
-    }
 }
 
 /// A fault of a look-up has the text of what it carries, whatever carries it.

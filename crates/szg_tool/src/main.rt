@@ -14,7 +14,15 @@ fn main(rt: HostRuntime) -> ExitCode {
         Ok(words) => {
             let is_terminal = rt.stderr().is_terminal();
             let mut line = ProgressLine::new(&rt, &rt, is_terminal);
-            let status = run_given(&rt, &rt, &words, rt.reader(), io::writer(&rt), &mut line);
+            let status = run_given(
+                &rt,
+                &rt,
+                &words,
+                rt.stdout().is_terminal(),
+                rt.reader(),
+                io::writer(&rt),
+                &mut line,
+            );
             if is_terminal && status == ExitCode::SUCCESS {
                 print_assumed_class(&rt, &words);
             }

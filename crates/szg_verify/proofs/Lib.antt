@@ -15,3 +15,5 @@ pub mod Materials
 pub mod Arranged
 pub mod Whole
 pub mod Changes
+pub mod Broken
+pub mod Kept

@@ -1,6 +1,6 @@
 -- The walk over the positions of a material leaves out none but images.
 use Rattle.std.proofs.Common.{◌≡◌, ℕ, ◌+◌, ◌*◌, ◌/◌, ◌%◌, ◌^◌, ◌<◌, ◌≤◌, ◌⊎◌, List, [], ◌∷◌, ◌++◌, length, length-append, map, refl, sym, ap, ◌∙◌, subst, Bool, true, false, arith, inl, inr, get_or, take, Contains, Option, Some, None}
-use Rattle.std.specs.Prelude.{filter, not, ◌&&◌, ◌||◌, ◌==◌, nat_le, nat_lt, option_map, is_some, count_by, IfSome}
+use Rattle.std.specs.Prelude.{filter, not, ◌&&◌, ◌||◌, ◌==◌, nat_le, nat_lt, option_map, count_by}
 use Rattle.std.specs.List.{list_any}
 use Rattle.std.proofs.lemmas.Bool.{cases_Bool, and_parts, and_from, and_right, or_cases, or_left, or_right, eqb-true, leb-true, leb-false, le-leb, ltb-true, ltb-false, not-true, or_parts, both_ways, false_from_ne_true, not_from_false}
 use Rattle.std.proofs.lemmas.List.Elements.{All-head, All-tail, filter-append}
@@ -435,11 +435,3 @@ pub one_more : (xs : List Sides) (i : ℕ) (x s : Sides) → i < length xs → x
 one_more xs i x s less is held =
     let e : take (i + 1) xs ≡ take i xs ++ x ∷ [] = take_more xs i x less ∙ ap (λ (y : Sides). take i xs ++ y ∷ []) (sym is) in
     elim (in_last (take i xs) x s (in_contains (take i xs ++ x ∷ []) s (subst (λ (ys : List Sides). Contains ys s) e held))) [ inl same ↦ inl same | inr j ↦ inr (contains_in (take i xs) s j) ]
-
--- what holds of tables holds of the same ones
-pub carried : (P : StoredTables → Type 0) (a b : StoredClasses) (c d : StoredDistances) → a ≡ b → c ≡ d → P (tables_of a c) → P (tables_of b d)
-carried P a b c d classes distances h = subst (λ (x : StoredDistances). P (tables_of b x)) distances (subst (λ (x : StoredClasses). P (tables_of x c)) classes h)
-
-pub some_position : (o : Option Position) (P : Position → Type 0) → is_some o ≡ true → IfSome o P → (p : Position) × P p
-some_position None P e h = absurd cc
-some_position (Some p) P e h = (p, h)

@@ -1,5 +1,5 @@
 -- The walk over the positions of a material. It leaves out images.
-use Rattle.std.specs.Prelude.{ℕ, ◌≡◌, ◌≤◌, ◌<◌, ◌%◌, ◌/◌, ◌^◌, nat_lt, nat_le, ◌==◌, Bool, not, count_by, ◌&&◌, ◌||◌, List, [], ◌∷◌, ◌++◌, map, length, Some, None, IsTrue, Contains, if◌then◌else◌}
+use Rattle.std.specs.Prelude.{ℕ, ◌≡◌, ◌≤◌, ◌<◌, ◌%◌, ◌/◌, ◌^◌, nat_lt, nat_le, ◌==◌, Bool, not, count_by, ◌&&◌, ◌||◌, List, [], ◌∷◌, ◌++◌, map, length, Some, None, IsTrue, Contains, if◌then◌else◌, IsFalse}
 use Rattle.std.specs.List.{list_any}
 use Rattle.szg_values.specs.Men.{is_man, is_color, file_of, rank_of}
 use Rattle.szg_values.specs.Material.{Sides}
@@ -14,6 +14,8 @@ use Rattle.szg_probe.specs.Chess.{ChessClass}
 use Rattle.szg_probe.specs.Probing.{probed}
 use Rattle.szg_verify.specs.Entries.{StoredTables}
 use Rattle.szg_verify.specs.Verified.{AreSymmetric, HasCheckedImage, is_checked}
+use Rattle.szg_verify.specs.Conditions.{breaks}
+use Rattle.szg_verify.specs.declared.conditions.Condition.{Condition}
 use Rattle.szg_verify.specs.Materials.{are_closed, covers, is_of}
 
 -- the man of a code in a file
@@ -68,6 +70,26 @@ is_king_walked men square = is_walked (has_lone_pawns men) (not (has_pawn men)) 
 abbrev pub IsRangeChecked : StoredTables → Sides → ℕ → ℕ → Type 0
 IsRangeChecked tables sides from to = (number : ℕ) (mover : Color) → from ≤ number → number < to → IsTrue (is_king_walked (colored_men sides) (number % 64)) →
     IsPosition (position_by number (colored_men sides) mover) → IsTrue (is_checked tables (position_by number (colored_men sides) mover))
+
+-- A position of these men is not accepted, since it breaks the condition.
+pub record IsRefused (tables : StoredTables) (men : List PlacedMan) (p : Position) (c : Condition) : Type 0 where
+  pub placed : p ≡ record { placed_men = men; mover = p.mover; en_passant = None }
+  pub position : IsPosition p
+  pub refused : IsFalse (is_checked tables p)
+  pub broken : IsTrue (breaks tables p c)
+
+-- The number, of this range, places the position, with White's king on a walked square. It is refused; the positions of
+-- the numbers before it in the range are not.
+pub record IsFirstRefused (tables : StoredTables) (sides : Sides) (from to number : ℕ) (p : Position) (c : Condition) : Type 0 where
+  pub not_below : from ≤ number
+  pub below : number < to
+  pub walked : IsTrue (is_king_walked (colored_men sides) (number % 64))
+  pub refused : IsRefused tables (placed_by number (colored_men sides)) p c
+  pub before : IsRangeChecked tables sides from number
+
+-- A position of one of the materials, the first of its material that is refused.
+abbrev pub IsRefusedOf : StoredTables → List Sides → ℕ → Position → Condition → Type 0
+IsRefusedOf tables materials number p c = (sides : Sides) × Contains materials sides × IsFirstRefused tables sides 0 (number_count (colored_men sides)) number p c
 
 -- of each position of the material an image was checked
 abbrev pub IsMaterialChecked : StoredTables → Sides → Type 0

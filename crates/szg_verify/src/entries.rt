@@ -3,11 +3,13 @@
 ghost use Rattle.std.specs.Prelude.{◌≡◌, ◌+◌, ◌||◌, IfOk, Some, ◌≤◌, option_map};
 ghost use Rattle.std.specs.List.{list_any, list_all};
 ghost use Rattle.szg_chess.specs.Moves.{has_no_move, is_zeroing, legal_moves};
+ghost use Rattle.szg_verify.specs.Memory.{AreRight};
 ghost use Rattle.szg_verify.specs.Entries.{is_drawn, keeps, least_plies, most_plies, plies_before, entry_by_distance, wins_at_once, is_one_ply, farthest, greatest, least, entry_before, near_entry, near_after, far_as, quiet_moves, steps_to, plain_entry, tables_of, StepList};
 
+use crate::memory::{keep, recall};
 use crate::steps::Steps;
-use crate::{Distance, DtzTables};
-use szg_chess::Position;
+use crate::{Cell, Distance, DtzTables};
+use szg_chess::{Move, Position};
 use szg_game::{Class, Entry};
 use szg_probe::{Tables, probe_wdl};
 
@@ -15,14 +17,14 @@ use szg_probe::{Tables, probe_wdl};
 const FARTHEST: u32 = 1_000_000;
 
 /// Returns whether a class is a draw.
-fn is_drawn(class: Class) -> bool
+pub(crate) fn is_drawn(class: Class) -> bool
     ensures { result ≡ is_drawn class }
 {
     matches!(class, Class::Draw)
 }
 
 /// Returns whether a move to a position of class `next` keeps a win or a cursed win.
-fn keeps(class: Class, next: Class) -> bool
+pub(crate) fn keeps(class: Class, next: Class) -> bool
     ensures { result ≡ keeps class next }
 {
     match class {
@@ -54,17 +56,18 @@ fn entry_by_distance(class: Class, distance: Distance) -> Entry
     }
 }
 
-/// Returns whether some zeroing move keeps a win.
+/// Returns whether some zeroing move keeps a win, given the legal moves.
 fn has_win_at_once<T: Tables>(
     classes: &mut T,
     class: Class,
     position: &Position,
+    moves: &[Move],
 ) -> Result<bool, T::Fault>
+    requires { moves.now ≡ legal_moves position.now }
     ensures same { T.stored classes.new ≡ T.stored classes.old }
     ensures test { IfOk result (λ b. b ≡ list_any (wins_at_once (T.stored classes.old) class position.now) (legal_moves position.now)) }
 {
-    let moves = position.legal_moves();
-    for m in moves.as_slice() {
+    for m in moves {
         if position.is_zeroing(m) {
             let next = match probe_wdl(classes, &position.after(*m)) {
                 Ok(next) => next,
@@ -78,39 +81,43 @@ fn has_win_at_once<T: Tables>(
     Ok(false)
 }
 
-/// Returns whether each legal move is zeroing.
-fn has_only_zeroing(position: &Position) -> bool
-    ensures { result ≡ list_all (is_zeroing position.now) (legal_moves position.now) }
+/// Returns whether each of these moves is zeroing.
+fn has_only_zeroing(position: &Position, moves: &[Move]) -> bool
+    ensures { result ≡ list_all (is_zeroing position.now) moves.now }
 {
-    let moves = position.legal_moves();
-    moves.as_slice().iter().all(|m| position.is_zeroing(m))
+    moves.iter().all(|m| position.is_zeroing(m))
 }
 
-/// Returns whether the next zeroing move is one ply away.
+/// Returns whether the next zeroing move is one ply away, given the legal moves.
 fn is_one_ply<T: Tables>(
     classes: &mut T,
     class: Class,
     position: &Position,
+    moves: &[Move],
 ) -> Result<bool, T::Fault>
+    requires { moves.now ≡ legal_moves position.now }
     ensures same { T.stored classes.new ≡ T.stored classes.old }
     ensures test { IfOk result (λ b. b ≡ is_one_ply (T.stored classes.old) class position.now) }
 {
     if class.is_won() {
-        has_win_at_once(classes, class, position)
+        has_win_at_once(classes, class, position, moves)
     } else {
-        Ok(has_only_zeroing(position))
+        Ok(has_only_zeroing(position, moves))
     }
 }
 
-/// Returns whether a position of this class is a draw or has no move.
-fn is_ended(class: Class, position: &Position) -> bool
-    ensures { result ≡ (is_drawn class || has_no_move position.now) }
+/// Returns whether there is no move, given the legal moves.
+fn is_ended(position: &Position, moves: &[Move]) -> bool
+    requires { moves.now ≡ legal_moves position.now }
+    ensures { result ≡ has_no_move position.now }
 {
-    is_drawn(class) || position.legal_moves().is_empty()
+    // The position is in the contract alone.
+    let _ = position;
+    moves.is_empty()
 }
 
 /// Returns the entry of a position from its class and the stored number alone. None if there is no number.
-pub fn near_entry<T: Tables, D: DtzTables<Fault = T::Fault>>(
+fn near_entry<T: Tables, D: DtzTables<Fault = T::Fault>>(
     classes: &mut T,
     distances: &mut D,
     position: &Position,
@@ -123,14 +130,22 @@ pub fn near_entry<T: Tables, D: DtzTables<Fault = T::Fault>>(
         Ok(class) => class,
         Err(fault) => return Err(fault),
     };
-    if is_ended(class, position) {
+    if is_drawn(class) {
         return Ok(Some(Entry {
             class,
             lower: 0,
             upper: 0,
         }));
     }
-    let one_ply = match is_one_ply(classes, class, position) {
+    let moves = position.legal_moves();
+    if is_ended(position, moves.as_slice()) {
+        return Ok(Some(Entry {
+            class,
+            lower: 0,
+            upper: 0,
+        }));
+    }
+    let one_ply = match is_one_ply(classes, class, position, moves.as_slice()) {
         Ok(one_ply) => one_ply,
         Err(fault) => return Err(fault),
     };
@@ -148,21 +163,50 @@ pub fn near_entry<T: Tables, D: DtzTables<Fault = T::Fault>>(
     }
 }
 
+/// `near_entry`, if it was not found before.
+fn known_near<T: Tables, D: DtzTables<Fault = T::Fault>>(
+    classes: &mut T,
+    distances: &mut D,
+    cells: &mut [Cell],
+    position: &Position,
+) -> Result<Option<Entry>, T::Fault>
+    requires right { AreRight (tables_of (T.stored classes.old) (D.distances distances.old)) cells.old }
+    ensures same_classes { T.stored classes.new ≡ T.stored classes.old }
+    ensures same_distances { D.distances distances.new ≡ D.distances distances.old }
+    ensures right { AreRight (tables_of (T.stored classes.old) (D.distances distances.old)) cells.new }
+    ensures entry { IfOk result (λ e. e ≡ near_entry (tables_of (T.stored classes.old) (D.distances distances.old)) position.now) }
+{
+    if let Some(entry) = recall(cells, true, position) {
+        return Ok(Some(entry));
+    }
+    match near_entry(classes, distances, position) {
+        Ok(Some(entry)) => {
+            keep(cells, true, position, entry);
+            Ok(Some(entry))
+        }
+        Ok(None) => Ok(None),
+        Err(fault) => Err(fault),
+    }
+}
+
 /// Returns the entries after the moves that are not zeroing. None if there is no number for one of them.
 fn quiet_steps<T: Tables, D: DtzTables<Fault = T::Fault>>(
     classes: &mut T,
     distances: &mut D,
+    cells: &mut [Cell],
     position: &Position,
 ) -> Result<Option<Steps>, T::Fault>
+    requires right { AreRight (tables_of (T.stored classes.old) (D.distances distances.old)) cells.old }
     ensures same_classes { T.stored classes.new ≡ T.stored classes.old }
     ensures same_distances { D.distances distances.new ≡ D.distances distances.old }
+    ensures right { AreRight (tables_of (T.stored classes.old) (D.distances distances.old)) cells.new }
     ensures steps { IfOk result (λ o. option_map (λ s. s.items) o ≡ steps_to (near_after (tables_of (T.stored classes.old) (D.distances distances.old)) position.now) position.now (quiet_moves position.now)) }
 {
     let moves = position.legal_moves();
     let mut steps = Steps::new();
     for m in moves.as_slice() {
         if !position.is_zeroing(m) {
-            match near_entry(classes, distances, &position.after(*m)) {
+            match known_near(classes, distances, cells, &position.after(*m)) {
                 Ok(Some(entry)) => steps.push(entry, false),
                 Ok(None) => return Ok(None),
                 Err(fault) => return Err(fault),
@@ -230,14 +274,17 @@ fn entry_before(class: Class, steps: &[(Entry, bool)]) -> Entry
 fn far_entry<T: Tables, D: DtzTables<Fault = T::Fault>>(
     classes: &mut T,
     distances: &mut D,
+    cells: &mut [Cell],
     position: &Position,
     class: Class,
 ) -> Result<Option<Entry>, T::Fault>
+    requires right { AreRight (tables_of (T.stored classes.old) (D.distances distances.old)) cells.old }
     ensures same_classes { T.stored classes.new ≡ T.stored classes.old }
     ensures same_distances { D.distances distances.new ≡ D.distances distances.old }
+    ensures right { AreRight (tables_of (T.stored classes.old) (D.distances distances.old)) cells.new }
     ensures entry { IfOk result (λ e. e ≡ far_as (tables_of (T.stored classes.old) (D.distances distances.old)) position.now class) }
 {
-    match quiet_steps(classes, distances, position) {
+    match quiet_steps(classes, distances, cells, position) {
         Ok(Some(steps)) => Ok(Some(entry_before(class, steps.as_slice()))),
         Ok(None) => Ok(None),
         Err(fault) => Err(fault),
@@ -246,21 +293,50 @@ fn far_entry<T: Tables, D: DtzTables<Fault = T::Fault>>(
 
 /// Returns the entry of a position without regard to its en passant square. None if there is no number for the position
 /// or for one after its moves.
-pub fn plain_entry<T: Tables, D: DtzTables<Fault = T::Fault>>(
+fn find_entry<T: Tables, D: DtzTables<Fault = T::Fault>>(
     classes: &mut T,
     distances: &mut D,
+    cells: &mut [Cell],
     position: &Position,
 ) -> Result<Option<Entry>, T::Fault>
+    requires right { AreRight (tables_of (T.stored classes.old) (D.distances distances.old)) cells.old }
     ensures same_classes { T.stored classes.new ≡ T.stored classes.old }
     ensures same_distances { D.distances distances.new ≡ D.distances distances.old }
+    ensures right { AreRight (tables_of (T.stored classes.old) (D.distances distances.old)) cells.new }
     ensures entry { IfOk result (λ e. e ≡ plain_entry (tables_of (T.stored classes.old) (D.distances distances.old)) position.now) }
 {
-    match near_entry(classes, distances, position) {
+    match known_near(classes, distances, cells, position) {
         Ok(Some(entry)) => Ok(Some(entry)),
         Ok(None) => match probe_wdl(classes, position) {
-            Ok(class) => far_entry(classes, distances, position, class),
+            Ok(class) => far_entry(classes, distances, cells, position, class),
             Err(fault) => Err(fault),
         },
+        Err(fault) => Err(fault),
+    }
+}
+
+/// `find_entry`, if the entry was not found before.
+pub(crate) fn plain_entry<T: Tables, D: DtzTables<Fault = T::Fault>>(
+    classes: &mut T,
+    distances: &mut D,
+    cells: &mut [Cell],
+    position: &Position,
+) -> Result<Option<Entry>, T::Fault>
+    requires right { AreRight (tables_of (T.stored classes.old) (D.distances distances.old)) cells.old }
+    ensures same_classes { T.stored classes.new ≡ T.stored classes.old }
+    ensures same_distances { D.distances distances.new ≡ D.distances distances.old }
+    ensures right { AreRight (tables_of (T.stored classes.old) (D.distances distances.old)) cells.new }
+    ensures entry { IfOk result (λ e. e ≡ plain_entry (tables_of (T.stored classes.old) (D.distances distances.old)) position.now) }
+{
+    if let Some(entry) = recall(cells, false, position) {
+        return Ok(Some(entry));
+    }
+    match find_entry(classes, distances, cells, position) {
+        Ok(Some(entry)) => {
+            keep(cells, false, position, entry);
+            Ok(Some(entry))
+        }
+        Ok(None) => Ok(None),
         Err(fault) => Err(fault),
     }
 }

@@ -7,19 +7,22 @@
 
 mod checking;
 mod closed;
+mod conditions;
 mod entries;
 pub mod laws;
+mod memory;
 mod steps;
 mod tables;
 mod verifying;
 mod walk;
 
-pub use checking::{check_all, check_position};
+pub use checking::check_position;
 pub use closed::are_closed;
-pub use entries::plain_entry;
+pub use conditions::{Condition, broken_by};
+pub use memory::Cell;
 pub use tables::{DtzTables, has_equal_sides};
-pub use verifying::{Watcher, verify};
-pub use walk::{Walked, check_range, number_count};
+pub use verifying::verify;
+pub use walk::{Refusal, Walked, Watcher, number_count, verify_range};
 
 /// A number that a DTZ table stores: the plies after the first one, up to mate or to the zeroing move.
 #[derive(Clone, Copy, Debug, PartialEq, Eq)]

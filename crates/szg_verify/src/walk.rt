@@ -5,14 +5,19 @@ ghost use Rattle.szg_values.specs.Men.{is_man, is_color};
 ghost use Rattle.szg_values.specs.declared.Color.{Color};
 ghost use Rattle.szg_chess.specs.Position.{IsPosition};
 ghost use Rattle.szg_verify.specs.Entries.{tables_of};
+ghost use Rattle.szg_verify.specs.Memory.{AreRight};
 ghost use Rattle.szg_verify.specs.Verified.{is_checked};
-ghost use Rattle.szg_verify.specs.Walk.{IsRangeChecked, colored_man, colored_men, has_lone_pawns, has_pawn, is_walked, kind_of, number_count, placed_by, position_by};
+ghost use Rattle.szg_verify.specs.Walk.{IsFirstRefused, IsRangeChecked, IsRefused, colored_man, colored_men, has_lone_pawns, has_pawn, is_walked, kind_of, number_count, placed_by, position_by};
 
-use crate::{DtzTables, check_position};
+use crate::memory::clear;
+use crate::{Cell, Condition, DtzTables, check_position};
 use arrayvec::ArrayVec;
 use szg_chess::Position;
 use szg_probe::Tables;
 use szg_values::{Color, Man, Material, Square};
+
+/// The numbers that are checked before the watcher sees how far the walk has come.
+const CHUNK: u64 = 65_536;
 
 /// What a walk over positions found.
 #[derive(Drop)]
@@ -20,7 +25,24 @@ pub struct Walked {
     /// The number of positions that were checked.
     pub positions: u64,
     /// The first position that does not pass.
-    pub refused: Option<Position>,
+    pub refused: Option<Refusal>,
+}
+
+/// A position that does not pass.
+#[derive(Drop)]
+pub struct Refusal {
+    /// The number that places its men.
+    pub number: u64,
+    /// The position.
+    pub position: Position,
+    /// A condition that it breaks.
+    pub condition: Condition,
+}
+
+/// Sees how a verification goes.
+pub trait Watcher {
+    /// Sees that the numbers of a range that ends at `to` were checked below `done`, and how many positions they placed.
+    fn see_progress(&mut self, material: &Material, done: u64, to: u64, positions: u64);
 }
 
 /// Returns the number of ways to put the men of a material on squares, 64 for each man.
@@ -35,28 +57,35 @@ pub fn number_count(material: &Material) -> u64
 /// Checks the positions of a material that the numbers from `from` to `to` place, `to` left out, up to the first that
 /// does not pass. Both sides move; White has the men of the first side. One position of each set of images by flips of
 /// the board is enough: White's king is on the files a to d, unless a side has two pawns, and without pawns on the ranks
-/// 1 to 4.
+/// 1 to 4. The watcher sees each 65,536 numbers, and the end of a range that passes. The cells are room for what was found:
+/// the more there are, the faster it is, up to some four for each placement; none is right too.
 ///
 /// Errors: those of the tables.
-pub fn check_range<T: Tables, D: DtzTables<Fault = T::Fault>>(
+pub fn verify_range<T: Tables, D: DtzTables<Fault = T::Fault>, W: Watcher>(
     classes: &mut T,
     distances: &mut D,
     material: &Material,
     from: u64,
     to: u64,
+    cells: &mut [Cell],
+    watcher: &mut W,
 ) -> Result<Walked, T::Fault>
     ensures same_classes { T.stored classes.new ≡ T.stored classes.old }
     ensures same_distances { D.distances distances.new ≡ D.distances distances.old }
     ensures checked { IfOk result (λ w. IsNone w.refused → IsRangeChecked (tables_of (T.stored classes.old) (D.distances distances.old)) material.now from to) }
-    ensures refused { IfOk result (λ w. IfSome w.refused (λ p. IsFalse (is_checked (tables_of (T.stored classes.old) (D.distances distances.old)) p))) }
+    ensures refused { IfOk result (λ w. IfSome w.refused (λ r. IsFirstRefused (tables_of (T.stored classes.old) (D.distances distances.old)) material.now from to r.number r.position r.condition)) }
 {
+    clear(cells);
     let men = colored_men(material);
     let lone = has_lone_pawns(men.as_slice());
     let none = !has_pawn(men.as_slice());
     let mut positions: u64 = 0;
     for number in from..to {
+        if number % CHUNK == 0 {
+            watcher.see_progress(material, number, to, positions);
+        }
         if is_walked(lone, none, (number % 64) as u8) {
-            match check_number(classes, distances, men.as_slice(), number) {
+            match check_number(classes, distances, cells, men.as_slice(), number) {
                 Ok(walked) => {
                     positions = positions.saturating_add(walked.positions);
                     if walked.refused.is_some() {
@@ -70,6 +99,7 @@ pub fn check_range<T: Tables, D: DtzTables<Fault = T::Fault>>(
             }
         }
     }
+    watcher.see_progress(material, to, to, positions);
     Ok(Walked {
         positions,
         refused: None,
@@ -116,24 +146,41 @@ fn is_pawn(man: Man) -> bool
 fn check_number<T: Tables, D: DtzTables<Fault = T::Fault>>(
     classes: &mut T,
     distances: &mut D,
+    cells: &mut [Cell],
     men: &[(Man, Color)],
     number: u64,
 ) -> Result<Walked, T::Fault>
-    requires { length men.now ≤ 6 }
+    requires few { length men.now ≤ 6 }
+    requires right { AreRight (tables_of (T.stored classes.old) (D.distances distances.old)) cells.old }
     ensures same_classes { T.stored classes.new ≡ T.stored classes.old }
     ensures same_distances { D.distances distances.new ≡ D.distances distances.old }
+    ensures right { AreRight (tables_of (T.stored classes.old) (D.distances distances.old)) cells.new }
     ensures checked { IfOk result (λ w. IsNone w.refused → (mover : Color) → IsPosition (position_by number men.now mover) → IsTrue (is_checked (tables_of (T.stored classes.old) (D.distances distances.old)) (position_by number men.now mover))) }
-    ensures refused { IfOk result (λ w. IfSome w.refused (λ p. IsFalse (is_checked (tables_of (T.stored classes.old) (D.distances distances.old)) p))) }
+    ensures refused { IfOk result (λ w. IfSome w.refused (λ r. (r.number ≡ number) × IsRefused (tables_of (T.stored classes.old) (D.distances distances.old)) (placed_by number men.now) r.position r.condition)) }
 {
     let placed = place(number, men);
-    let white = match check_placed(classes, distances, placed.as_slice(), Color::White) {
+    let white = match check_placed(
+        classes,
+        distances,
+        cells,
+        number,
+        placed.as_slice(),
+        Color::White,
+    ) {
         Ok(walked) => walked,
         Err(fault) => return Err(fault),
     };
     if white.refused.is_some() {
         return Ok(white);
     }
-    match check_placed(classes, distances, placed.as_slice(), Color::Black) {
+    match check_placed(
+        classes,
+        distances,
+        cells,
+        number,
+        placed.as_slice(),
+        Color::Black,
+    ) {
         Ok(black) => Ok(Walked {
             positions: white.positions.saturating_add(black.positions),
             refused: black.refused,
@@ -142,17 +189,21 @@ fn check_number<T: Tables, D: DtzTables<Fault = T::Fault>>(
     }
 }
 
-/// Checks the position of men and a side to move. If there is none, no position is checked.
+/// Checks the position of the men that a number places and a side to move. If there is none, no position is checked.
 fn check_placed<T: Tables, D: DtzTables<Fault = T::Fault>>(
     classes: &mut T,
     distances: &mut D,
+    cells: &mut [Cell],
+    number: u64,
     placed: &[(Man, Color, Square)],
     mover: Color,
 ) -> Result<Walked, T::Fault>
+    requires right { AreRight (tables_of (T.stored classes.old) (D.distances distances.old)) cells.old }
     ensures same_classes { T.stored classes.new ≡ T.stored classes.old }
     ensures same_distances { D.distances distances.new ≡ D.distances distances.old }
+    ensures right { AreRight (tables_of (T.stored classes.old) (D.distances distances.old)) cells.new }
     ensures checked { IfOk result (λ w. IsNone w.refused → IsPosition (record { placed_men = placed.now; mover = mover; en_passant = None }) → IsTrue (is_checked (tables_of (T.stored classes.old) (D.distances distances.old)) (record { placed_men = placed.now; mover = mover; en_passant = None }))) }
-    ensures refused { IfOk result (λ w. IfSome w.refused (λ p. IsFalse (is_checked (tables_of (T.stored classes.old) (D.distances distances.old)) p))) }
+    ensures refused { IfOk result (λ w. IfSome w.refused (λ r. (r.number ≡ number) × IsRefused (tables_of (T.stored classes.old) (D.distances distances.old)) placed.now r.position r.condition)) }
 {
     let position = match Position::new(placed, mover, None) {
         Ok(position) => position,
@@ -163,16 +214,23 @@ fn check_placed<T: Tables, D: DtzTables<Fault = T::Fault>>(
             });
         }
     };
-    match check_position(classes, distances, &position) {
-        Ok(true) => Ok(Walked {
+    let broken = match check_position(classes, distances, cells, &position) {
+        Ok(broken) => broken,
+        Err(fault) => return Err(fault),
+    };
+    match broken {
+        None => Ok(Walked {
             positions: 1,
             refused: None,
         }),
-        Ok(false) => Ok(Walked {
+        Some(condition) => Ok(Walked {
             positions: 1,
-            refused: Some(position),
+            refused: Some(Refusal {
+                number,
+                position,
+                condition,
+            }),
         }),
-        Err(fault) => Err(fault),
     }
 }
 

@@ -8,15 +8,15 @@
     with szg.Table.open("tables/KQvK.rtbw") as table:
         table.probe_wdl([(szg.KING, szg.WHITE, 60), (szg.QUEEN, szg.WHITE, 0), (szg.KING, szg.BLACK, 7)], szg.WHITE)
         table.placement(0, 0, 11711)                       # the men of an index, and who moves
-        table.values()                                     # all values, as numpy.asarray takes them
+        table.values()                                     # all values: numpy.asarray takes them
 
-Each class and number is what a table stores, which isn't the result of the position where a capture (WDL), or a capture or
+Each class and number is what a table stores, which isn't the result of the position if a capture (WDL), or a capture or
 pawn move (DTZ), decides; en passant and the fifty-move counter aren't known to a table either. python-chess gets results on
 top of this package: see `Tablebase.probe_wdl_table`.
 
 Opening a table checks all of it but its blocks, and these too with verify=True: you get the table, or Refused with the
 first check that fails and its byte. Each block is checked when a value is fetched from it: you get the value, or BadBlock.
-The checks are not made here: the C library makes them. It is that of SZG_LIBRARY, a path, where it is set, else the one
+The checks are not made here: the C library makes them. It is that of SZG_LIBRARY, a path, if it is set, else the one
 in this package, else the system's. `version` is the library's own version, whose first two numbers are always those of
 `__version__`: another library is an ImportError.
 """

@@ -10,7 +10,7 @@ def _of(path: Optional[str]) -> str:
 class Refused(ValueError):
     """The bytes are not a table of this material and kind.
 
-    `place` is the byte offset of the first check that fails, `reason` its name, as `Truncated`; `path` is that of the file,
+    `place` is the byte offset of the first check that fails, `reason` its name, such as `Truncated`; `path` is that of the file,
     None for other bytes."""
 
     def __init__(self, place: int, reason: str, path: Optional[str] = None) -> None:

@@ -65,7 +65,7 @@ def _signatures() -> "dict[str, list[Any]]":
 
 
 def _load() -> ctypes.CDLL:
-    """The library of SZG_LIBRARY where it is set, else the one beside this file, else the system's.
+    """The library of SZG_LIBRARY if it is set, else the one beside this file, else the system's.
 
     Errors: OSError if it cannot be loaded; ImportError if it lacks a call."""
     beside = Path(__file__).resolve().parent / "libszg.so"
@@ -105,12 +105,12 @@ def _text(call: Callable[..., int], *words: int) -> str:
 
 
 def status_text(status: int) -> str:
-    """The name of a status, as OtherMaterial; empty for a number that is no status."""
+    """The name of a status, such as OtherMaterial; empty for a number that is no status."""
     return _text(library.szg_status_text, status)
 
 
 def reason_text(reason: int) -> str:
-    """The name of a reason, as Truncated; empty for a number that is no reason."""
+    """The name of a reason, such as Truncated; empty for a number that is no reason."""
     return _text(library.szg_reason_text, reason)
 
 
@@ -223,7 +223,7 @@ class Handles:
         return self._lent is None
 
     def ask(self, call: Callable[..., int], *words: Any) -> int:
-        """Makes a call on the whole file, as `ask_file`."""
+        """Makes a call on the whole file: see `ask_file`."""
         return ask_file(call, self._name, self._kind, self.lent(), *words)
 
     def __call__(self, call: Callable[..., int], *words: Any) -> None:
@@ -253,7 +253,7 @@ class Handles:
         return opened
 
     def _made(self) -> Handle:
-        """A new handle, shared with the first one; where that is being shared already, the front is opened once more."""
+        """A new handle, shared with the first one; if that is being shared already, the front is opened once more."""
         try:
             first = self._first.pop()
         except IndexError:

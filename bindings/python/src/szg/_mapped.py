@@ -1,6 +1,7 @@
 """A file's bytes in memory, without a file descriptor that stays open."""
 import ctypes
 import errno
+import io
 import mmap
 import os
 import stat
@@ -20,13 +21,19 @@ def mapped(path: Union[str, "os.PathLike[str]"]) -> Lent:
     """The bytes of a regular file, mapped. They are unmapped when they go.
 
     Errors: OSError, also if the file is a folder, a pipe or a device."""
-    found = os.stat(path)
-    if not stat.S_ISREG(found.st_mode):
-        # to open a pipe would be to wait for a writer
-        raise OSError(errno.EISDIR if stat.S_ISDIR(found.st_mode) else errno.EINVAL, "not a regular file", os.fspath(path))
-    with open(path, "rb", buffering=0) as file:
-        length = os.fstat(file.fileno()).st_size
+    _require_regular(os.stat(path), path)
+    # it may have become a pipe by now, which to open would be to wait for a writer; no bytecode runs between the two calls, so
+    # that no signal handler's exception can come where nobody has the descriptor
+    with next(map(io.FileIO, map(os.open, [path], [os.O_RDONLY | os.O_NONBLOCK | os.O_CLOEXEC]))) as file:
+        found = os.fstat(file.fileno())
+        _require_regular(found, path)
+        length = found.st_size
         return _lent(file.fileno(), length, path) if length else Lent(b"", os.fsdecode(path))
+
+
+def _require_regular(found: os.stat_result, path: Union[str, "os.PathLike[str]"]) -> None:
+    if not stat.S_ISREG(found.st_mode):
+        raise OSError(errno.EISDIR if stat.S_ISDIR(found.st_mode) else errno.EINVAL, "not a regular file", os.fspath(path))
 
 
 def _lent(file: int, length: int, path: Union[str, "os.PathLike[str]"]) -> Lent:

@@ -1,4 +1,4 @@
-"""An opened table: which calls of the C library serve it is known here alone."""
+"""An opened table: only this file knows which calls of the C library serve it."""
 import ctypes
 from ctypes import byref, c_int64, c_size_t, c_uint8, c_uint16, c_uint32, c_uint64
 from typing import Tuple

@@ -41,7 +41,7 @@ class Men(NamedTuple):
         return 0 if self.turn else 1
 
     def table_name(self) -> Optional[str]:
-        """The name of the table for these men, as KQvKR. None if no material of three to six men has them."""
+        """The name of the table for these men, such as KQvKR. None if no material of three to six men has them."""
         sides: Dict[bool, List[int]] = {WHITE: [], BLACK: []}
         for kind, color, _ in self.men:
             if not PAWN <= kind <= KING:
@@ -72,7 +72,7 @@ def _color(color: Any, what: str) -> bool:
 
 
 def _men_of_fen(text: str) -> Tuple[Tuple[Man, ...], Optional[bool]]:
-    """The men of a FEN's piece placement, and who moves where the FEN has its second field."""
+    """The men of a FEN's piece placement, and who moves if the FEN has its second field."""
     fields = text.split()
     ranks = fields[0].split("/") if fields else []
     if len(ranks) != 8:
@@ -114,7 +114,7 @@ def _men_of_list(men: Any) -> Tuple[Man, ...]:
 def men_of(board: Placement, turn: Optional[bool] = None) -> Men:
     """The men of a board, a FEN or a list. `turn` comes before the board's own side to move.
 
-    Errors: TypeError for another type, or where nothing says who moves; ValueError for a text that is no FEN."""
+    Errors: TypeError for another type, or if nothing says who moves; ValueError for a text that is no FEN."""
     own: Any = None
     if isinstance(board, str):
         men, own = _men_of_fen(board)

@@ -29,16 +29,16 @@ class Table:
 
     A table has parts and sides. With pawns the parts 0 to 3 are for the files a to d of the leading pawn; without pawns
     there is part 0. In a WDL table side 0 is where the first side of the name moves, side 1 where the second does;
-    symmetric and DTZ tables have side 0 alone.
+    symmetric and DTZ tables have only side 0.
 
-    Where a call takes a placement, it is one of: a board of python-chess, or anything with its `piece_map()` and `turn`;
-    a FEN, whole or its piece placement alone; men as tuples (kind, colour, square), numbered as in python-chess. `turn`
-    (True if White moves) must be given where the placement does not say who moves, and comes first where it does.
+    A placement that a call takes is one of: a board of python-chess, or anything with its `piece_map()` and `turn`;
+    a FEN, whole or only its piece placement; men as tuples (kind, colour, square), numbered as in python-chess. `turn`
+    (True if White moves) must be given if the placement does not say who moves, and comes first if it does.
     Castling, en passant, captures and checks are not looked at.
     """
 
     name: str
-    """The material, as KQvKR."""
+    """The material, such as KQvKR."""
     kind: str
     """`wdl` or `dtz`."""
     _path: Optional[str] = None
@@ -57,12 +57,12 @@ class Table:
     def open(cls, path: Union[str, "os.PathLike[str]"], *, verify: bool = False) -> "Table":
         """Maps a file and opens its table: checks all of it but its blocks, and these too with `verify`.
 
-        The file's name has its material and kind, as KQvKR.rtbw. The file must stay as it is while the Table is open. If
+        The file's name has its material and kind, as in KQvKR.rtbw. The file must stay as it is while the Table is open. If
         it is changed, a value may be another one or raise BadBlock; if it is truncated, the system may end the program (by
         SIGBUS). No file descriptor stays open.
 
         Errors: Refused if the file is not such a table, an empty one too; ValueError for another file name; OSError, also
-        for what is no regular file, as a pipe; MemoryError."""
+        for what is no regular file, such as a pipe; MemoryError."""
         name, kind = named(path)
         table = cls.__new__(cls)
         table._open(name, kind, mapped(path), verify)
@@ -127,12 +127,12 @@ class Table:
         table's own order. In a DTZ table the stored side moves.
 
         Errors: IndexError if the table has no such part, side or index; Untold if the part's side has no placements:
-        `Irregular`, or `WrongSide` for a DTZ table with pawns that stores Black where both sides have the same men."""
+        `Irregular`, or `WrongSide` for a DTZ table with pawns that stores Black if both sides have the same men."""
         men, turn = self._opened.placement(_byte(part, "part"), _byte(side, "side"), _index(index))
         return men, turn
 
     def probe_wdl(self, board: Placement, turn: Optional[bool] = None) -> int:
-        """The stored class of a placement, which isn't the position's where a capture decides: there it may be lower.
+        """The stored class of a placement, which isn't the position's if a capture decides: then it may be lower.
 
         It is that of the side to move: 2 win, 1 cursed win, 0 draw, -1 blessed loss, -2 loss. En passant isn't known to the
         table. python-chess's `probe_wdl_table` returns the same; its `probe_wdl` returns the position's class, also on top
@@ -143,12 +143,12 @@ class Table:
         return self._probe(men_of(board, turn), 0)
 
     def probe_dtz(self, board: Placement, turn: Optional[bool] = None, *, wdl: int) -> int:
-        """The stored number n of a placement, which isn't the position's distance where a capture or pawn move decides.
+        """The stored number n of a placement, which isn't the position's distance if a capture or pawn move decides.
 
         It counts the plies before the zeroing one (a capture, a pawn move or mate), without sign; in the classes 1 and -1
         from the 101st on. En passant and the fifty-move counter aren't known to the table. `wdl` is the class of the side
         to move: 2 win, 1 cursed win, -1 blessed loss, -2 loss. n is the first number of python-chess's `probe_dtz_table`.
-        python-chess's `probe_dtz` is another number: where no capture, pawn move or en passant decides, it is n + 1 for a
+        python-chess's `probe_dtz` is another number: if no capture, pawn move or en passant decides, it is n + 1 for a
         win, n + 101 for a cursed win, -(n + 101) for a blessed loss and -(n + 1) for a loss. What a table counts in moves is
         doubled, and the distance may be one ply more.
 

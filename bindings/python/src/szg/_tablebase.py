@@ -19,11 +19,11 @@ class Tablebase:
     """The tables of any number of folders, in python-chess's words. Any number of threads use one Tablebase at once, and
     signal handlers and forked processes too: no call waits for another.
 
-    Each table is mapped and opened by its front when it is first probed; then the error Refused may come, at each probe of
+    Each table is mapped, and checked but for its blocks, when it is first probed; then Refused may come, at each probe of
     a file that is not a table. A block is checked when a value is fetched from it, and may raise BadBlock. With
     `max_tables` at most this number stay open, those probed last.
 
-    What is probed is what the tables store, which isn't the result of the position where a capture (WDL), or a capture or
+    What is probed is what the tables store, which isn't the result of the position if a capture (WDL), or a capture or
     pawn move (DTZ), decides. `chess.syzygy.Tablebase` adds captures, en passant and moves: see `probe_wdl_table`.
 
     A copy, also one by `pickle`, has the tables that are in the folders by then.
@@ -40,9 +40,9 @@ class Tablebase:
         self._is_closed = False
 
     def add_directory(self, directory: Directory, *, load_wdl: bool = True, load_dtz: bool = True) -> int:
-        """Adds the tables of a folder, by their names, as KQvKR.rtbw; returns their number. No file is opened.
+        """Adds the tables of a folder, by their names (KQvKR.rtbw); returns their number. No file is opened.
 
-        Where two folders have a table of one name, the one that was added last serves. Other files are passed over, and links
+        If two folders have a table of one name, the one that was added last serves. Other files are passed over, and links
         that lead nowhere.
 
         Errors: OSError if the folder cannot be listed; TypeError; ValueError if the tablebase is closed."""
@@ -59,10 +59,10 @@ class Tablebase:
         return len(found)
 
     def probe_wdl_table(self, board: Placement, turn: Optional[bool] = None) -> int:
-        """The class that a WDL table stores, which isn't the position's where a capture decides: there it may be lower.
+        """The class that a WDL table stores, which isn't the position's if a capture decides: then it may be lower.
 
         It is that of the side to move: 2 win, 1 cursed win, 0 draw, -1 blessed loss, -2 loss. `board` is as for `Table`. Two
-        kings alone are a draw without a table. It is what python-chess's `probe_wdl_table` returns. For results subclass
+        kings are a draw without a table. It is what python-chess's `probe_wdl_table` returns. For results subclass
         `chess.syzygy.Tablebase` and let its `probe_wdl_table` and `probe_dtz_table` call these
         (bindings/examples/full_probing.py).
 
@@ -74,7 +74,7 @@ class Tablebase:
         return self._table(men, "wdl")._probe(men, 0)
 
     def probe_dtz_table(self, board: Placement, wdl: int, turn: Optional[bool] = None) -> Tuple[int, int]:
-        """The number n that a DTZ table stores, which isn't the position's where a capture or pawn move decides; and 1.
+        """The number n that a DTZ table stores, which isn't the position's if a capture or pawn move decides; and 1.
 
         It is that of the class `wdl`; `Table.probe_dtz` says what it counts. (0, -1) if the table stores the other side to
         move only. It is what python-chess's `probe_dtz_table` returns.
@@ -116,7 +116,7 @@ class Tablebase:
         return number if success == 1 else default
 
     def _table(self, men: Men, kind: str) -> Table:
-        """The table of these men, opened if it isn't open yet: twice, where two calls come at once, and one is dropped."""
+        """The table of these men, opened if it isn't open yet: twice, if two calls come at once, and one is dropped."""
         self._require_open()
         name = men.table_name()
         if name is None:
@@ -141,7 +141,7 @@ class Tablebase:
         return None
 
     def _note(self, key: Key) -> None:
-        """Notes that a table was probed, and lets those go that were probed longest ago where there are too many."""
+        """Notes that a table was probed, and lets those go that were probed longest ago if there are too many."""
         if self._max_tables is None:
             return
         try:
@@ -230,7 +230,7 @@ def _is_two_kings(men: Men) -> bool:
 
 
 def _require_placement(men: Men) -> None:
-    """Errors: Untold where the men are no placement, of any number of men."""
+    """Errors: Untold if the men are no placement, of any number of men."""
     kings = [sum(kind == 6 and color is side for kind, color, _ in men.men) for side in (True, False)]
     if any(not 1 <= kind <= 6 or not 0 <= square < 64 for kind, _, square in men.men):
         raise Untold("Man")

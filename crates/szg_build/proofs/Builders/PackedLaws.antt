@@ -1,16 +1,15 @@
 -- Subtables of a dump that are packed while it is read.
 use Rattle.std.proofs.Common.{◌≡◌, ℕ, zero, suc, ◌+◌, ◌<◌, ◌≤◌, ◌^◌, Bool, true, false, List, [], ◌∷◌, ◌++◌, length, map, replicate, refl, sym, ap, subst, ◌∙◌, append_assoc, append-nil, arith, inl, inr, Some, None}
-use Rattle.std.specs.Prelude.{◌==◌, not, nat_le, if◌then◌else◌}
+use Rattle.std.specs.Prelude.{◌==◌, nat_le, if◌then◌else◌}
 use Rattle.std.specs.List.{AllByRecursion, list_any}
 use Rattle.std.proofs.lemmas.Bool.{eqb-true, false_from_ne_true, leb-true}
 use Rattle.std.proofs.lemmas.List.{length-append, length-map, length-replicate, map-append}
 use Rattle.szg_values.specs.declared.Kind.{Kind}
 use Rattle.szg_values.specs.declared.Kind.TheVariants.{Wdl, Dtz}
-use Rattle.szg_values.specs.Material.{has_pawns, is_symmetric}
 use Rattle.szg_block.specs.Subtable.{packed_of, IsShaped, IsSoundOver}
 use Rattle.szg_block.specs.declared.Sub.{Sub}
-use Rattle.szg_file.specs.Accepted.{AreBytes, IsPart, SideBySide}
-use Rattle.szg_file.specs.Contents.{Contents, Slot, Subtable, constant, has_bit, part_numbers, slots}
+use Rattle.szg_file.specs.Accepted.{IsPart, SideBySide}
+use Rattle.szg_file.specs.Contents.{Contents, Slot, Subtable, constant, part_numbers, slots}
 use Rattle.szg_file.specs.Held.{subtable_of}
 use Rattle.szg_file.specs.Values.{constant_value, values_in}
 use Rattle.szg_file.proofs.Tables.TableFinds.{shaped_and_sound}
@@ -22,17 +21,16 @@ use Rattle.szg_build.specs.declared.reading.gathering.Gathered.{Gathered}
 use Rattle.szg_build.specs.declared.reading.gathering.Subs.{Subs}
 use Rattle.szg_build.specs.Built.{dump_plan}
 use Rattle.szg_build.specs.Chosen.{numbers_in, plan_by, IsBuiltAs, IsCodedTable}
-use Rattle.szg_build.specs.Dump.{Dump}
 use Rattle.szg_build.specs.Plan.{Plan, different_values, greatest_value, has_maps}
 use Rattle.szg_build.specs.Building.{IsBuiltSub, IsCodedBy}
-use Rattle.szg_build.specs.Rule.{byte4_for, constant_for}
-use Rattle.szg_build.specs.Tabling.{AreBuilt, IsBuildable, IsBuiltBare, IsBuiltBy, IsChoiceOf, IsOfItems, HasNoFault}
+use Rattle.szg_build.specs.Rule.{constant_for}
+use Rattle.szg_build.specs.Tabling.{AreBuilt, AreMade, IsBuildable, IsBuiltBy, IsChoiceOf, HasNoFault}
 use Rattle.szg_build.specs.Packed.{flags_in, gathered_dump, lists_in, packed_values, AreFlagsOf, ArePacked, IsAdded, IsPackedAs, IsPackedSub, IsSettled}
 use Rattle.szg_build.specs.Wholes.{only_in_dtz}
 use Rattle.szg_build.proofs.Pairs.LeafLaws.{values_below-few, values_below-missing}
 use Rattle.szg_build.proofs.Builders.RefusalLaws.{bits_parsed}
 use Rattle.szg_build.proofs.Builders.SubLaws.{replicated_all}
-use Rattle.szg_build.proofs.Builders.TableLaws.{codes_are, fixed_is_built, four, small_flags, small_is_built, table_copied, table_is_valid}
+use Rattle.szg_build.proofs.Builders.TableLaws.{codes_are, fixed_is_built, four, small_flags, small_is_built}
 
 -- ---- one subtable
 
@@ -270,27 +268,25 @@ settled_flags : (kind : Kind) (old new : List PackedSub) (flags : List ℕ) → 
 settled_flags Wdl old new flags e h = (h.0, settled_zero old new e h.1)
 settled_flags Dtz old new flags e h = h ∙ sym e
 
--- the fields of a table of packed subtables, some of which were packed again
-pub assembled : (choice : Choice) (plan : Plan) (byte4 : ℕ) (packed settled : List PackedSub) (subs : List Sub) (last : List ℕ) → byte4 < 256 → has_bit 0 byte4 ≡ not (is_symmetric plan.material) → has_bit 1 byte4 ≡ has_pawns plan.material →
-    byte4 ≡ byte4_for plan.material → last ≡ plan.last → AreBytes 16 plan.last → AllByRecursion IsOfItems plan.maps → HasNoFault plan (map (packed_values plan.kind) packed) → AreFlagsOf plan.kind packed plan.flags →
-    IsSettled plan.kind choice packed settled → subs ≡ map (λ p. p.sub) settled →
-    IsBuiltBare choice plan (map (packed_values plan.kind) packed) (record { material = plan.material; kind = plan.kind; byte4 = byte4; parts = plan.parts; subtables = map subtable_of subs; maps = plan.maps; last = last })
-assembled choice plan byte4 packed settled subs last small split pawns rule e bytes fit is_valid flags h same =
+-- packed subtables, some of which were packed again, are those of the plan and the lists
+pub settled_are_made : (choice : Choice) (plan : Plan) (packed settled : List PackedSub) (subs : List Sub) → HasNoFault plan (map (packed_values plan.kind) packed) → AreFlagsOf plan.kind packed plan.flags →
+    IsSettled plan.kind choice packed settled → subs ≡ map (λ p. p.sub) settled → AreMade choice plan (map (packed_values plan.kind) packed) (map subtable_of subs)
+settled_are_made choice plan packed settled subs is_valid flags h same =
     let lists = map (packed_values plan.kind) packed in
     let shown : map subtable_of subs ≡ map (λ p. subtable_of p.sub) settled = ap (map subtable_of) same ∙ subs_shown settled in
-    let built : AreBuilt choice plan plan.flags lists (map (λ p. subtable_of p.sub) settled) =
-    subst (λ (z : List (List ℕ)). AreBuilt choice plan plan.flags z (map (λ p. subtable_of p.sub) settled)) h.values
-    (packed_are_built choice plan settled h.each (settled_flags plan.kind packed settled plan.flags h.flags flags)) in
-    table_copied choice plan lists byte4 (map subtable_of subs) plan.material plan.parts plan.maps last refl refl refl e
-    (table_is_valid choice plan byte4 lists (map subtable_of subs) small split pawns rule bytes fit is_valid
-    (subst (λ (z : List Subtable). AreBuilt choice plan plan.flags lists z) (sym shown) built))
+    record {
+      is_valid = is_valid;
+      built = subst (λ (z : List Subtable). AreBuilt choice plan plan.flags lists z) (sym shown)
+          (subst (λ (z : List (List ℕ)). AreBuilt choice plan plan.flags z (map (λ p. subtable_of p.sub) settled)) h.values
+          (packed_are_built choice plan settled h.each (settled_flags plan.kind packed settled plan.flags h.flags flags)));
+    }
 
 -- all that was read is packed
 pub whole_built : (choice : Choice) (gathered : Gathered) (numbers : Packing) (t : Contents) → numbers ≡ numbers_in choice → gathered.subs.rest.items ≡ [] →
-    IsBuiltBy choice (dump_plan (gathered_dump gathered) numbers.block_bits numbers.span_bits numbers.rounds) (map (packed_values gathered.front.kind) gathered.subs.packed.items) t →
-    IsBuiltBy choice (plan_by choice (gathered_dump gathered)) (lists_in gathered.front.kind gathered.subs) t
+    IsBuiltBy choice (dump_plan (gathered_dump gathered) numbers.block_bits numbers.span_bits numbers.rounds) (map (packed_values gathered.header.kind) gathered.subs.packed.items) t →
+    IsBuiltBy choice (plan_by choice (gathered_dump gathered)) (lists_in gathered.header.kind gathered.subs) t
 whole_built choice gathered numbers t e none h =
-    let packed = map (packed_values gathered.front.kind) gathered.subs.packed.items in
-    let all : lists_in gathered.front.kind gathered.subs ≡ packed = ap (λ z. packed ++ map (λ list. list.items) z) none ∙ append-nil packed in
+    let packed = map (packed_values gathered.header.kind) gathered.subs.packed.items in
+    let all : lists_in gathered.header.kind gathered.subs ≡ packed = ap (λ z. packed ++ map (λ list. list.items) z) none ∙ append-nil packed in
     subst (λ (z : List (List ℕ)). IsBuiltBy choice (plan_by choice (gathered_dump gathered)) z t) (sym all)
     (subst (λ (z : Packing). IsBuiltBy choice (dump_plan (gathered_dump gathered) z.block_bits z.span_bits z.rounds) packed t) e h)

@@ -74,11 +74,11 @@ nothing_refused plan lists h =
 
 -- all that was read is packed, and has no fault
 pub whole_passes : (choice : Choice) (gathered : Gathered) (numbers : Packing) → numbers ≡ numbers_in choice → gathered.subs.rest.items ≡ [] →
-    HasNoFault (dump_plan (gathered_dump gathered) numbers.block_bits numbers.span_bits numbers.rounds) (map (packed_values gathered.front.kind) gathered.subs.packed.items) →
-    build_fault (plan_by choice (gathered_dump gathered)) (lists_in gathered.front.kind gathered.subs) ≡ None
+    HasNoFault (dump_plan (gathered_dump gathered) numbers.block_bits numbers.span_bits numbers.rounds) (map (packed_values gathered.header.kind) gathered.subs.packed.items) →
+    build_fault (plan_by choice (gathered_dump gathered)) (lists_in gathered.header.kind gathered.subs) ≡ None
 whole_passes choice gathered numbers e none h =
-    let packed = map (packed_values gathered.front.kind) gathered.subs.packed.items in
-    let all : lists_in gathered.front.kind gathered.subs ≡ packed = ap (λ z. packed ++ map (λ list. list.items) z) none ∙ append-nil packed in
+    let packed = map (packed_values gathered.header.kind) gathered.subs.packed.items in
+    let all : lists_in gathered.header.kind gathered.subs ≡ packed = ap (λ z. packed ++ map (λ list. list.items) z) none ∙ append-nil packed in
     subst (λ (z : List (List ℕ)). build_fault (plan_by choice (gathered_dump gathered)) z ≡ None) (sym all)
     (subst (λ (z : Packing). build_fault (dump_plan (gathered_dump gathered) z.block_bits z.span_bits z.rounds) packed ≡ None) e
     (nothing_refused (dump_plan (gathered_dump gathered) numbers.block_bits numbers.span_bits numbers.rounds) packed h))

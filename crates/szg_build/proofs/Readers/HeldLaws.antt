@@ -20,15 +20,15 @@ split_held bytes from to size h =
     ap (λ (m : ℕ). take (to - m) (drop m bytes)) e ∙ drop_front bytes from to (size + 1) le
 
 -- The buffered bytes after they were moved to the front of the buffer and a chunk was read after them.
-pub refill_held : (bytes room piece : List ℕ) (from to got k : ℕ) → room ≡ copy_within bytes from to 0 → to ≤ length bytes → got ≤ length piece →
-    take (((to - from) + got) - 0) (drop 0 (put_mid (to - from) k room piece)) ≡ take (to - from) (drop from bytes) ++ take got piece
-refill_held bytes room piece from to got k e within fits =
+pub refill_held : (bytes room chunk : List ℕ) (from to got k : ℕ) → room ≡ copy_within bytes from to 0 → to ≤ length bytes → got ≤ length chunk →
+    take (((to - from) + got) - 0) (drop 0 (put_mid (to - from) k room chunk)) ≡ take (to - from) (drop from bytes) ++ take got chunk
+refill_held bytes room chunk from to got k e within fits =
     let n : ℕ = to - from in
     let none : (n + got) - 0 ≡ n + got = omega arith in
     let zeroed : 0 + n ≡ n = omega arith in
     let long : n ≤ length (drop from bytes) = omega (arith, length-drop from bytes, within) in
     let packed : take n room ≡ take n (drop from bytes) = ap (λ (z : List ℕ). take n z) e ∙ ap (λ (m : ℕ). take m (paste bytes 0 (drop from bytes) n)) (sym zeroed) ∙ take-paste bytes 0 (drop from bytes) n (omega arith) long in
     let there : n ≤ length room = omega (arith, ap length packed, length-take n room, length-take n (drop from bytes), long) in
-    ap (λ (m : ℕ). take m (put_mid n k room piece)) none
-    ∙ chunk_prefix n got k room piece there fits
-    ∙ ap (λ (z : List ℕ). z ++ take got piece) packed
+    ap (λ (m : ℕ). take m (put_mid n k room chunk)) none
+    ∙ chunk_prefix n got k room chunk there fits
+    ∙ ap (λ (z : List ℕ). z ++ take got chunk) packed

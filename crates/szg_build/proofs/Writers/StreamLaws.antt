@@ -3,7 +3,7 @@ use Rattle.std.proofs.Common.{◌≡◌, ℕ, zero, suc, ◌+◌, ◌%◌, ◌<�
 use Rattle.std.specs.Prelude.{◌⊎◌, ◌==◌, codes, slice_index}
 use Rattle.std.specs.Fmt.{decimal}
 use Rattle.std.proofs.lemmas.Bool.{eq-eqb}
-use Rattle.std.proofs.lemmas.List.{length-map, length-drop, map-append, get_or-drop, replicate-append-replicate}
+use Rattle.std.proofs.lemmas.List.{length-map, length-drop, map-append, get_or-drop, drop-drop, take-append-drop, replicate-append-replicate}
 use Rattle.std.proofs.lemmas.List.Folds.{flat_map-map}
 use Rattle.std.proofs.Math.Seq.{drop-cons, take-append_seam, drop-append_seam}
 use Rattle.szg_values.specs.declared.Kind.{Kind}
@@ -333,6 +333,38 @@ same_text count v = flat_map-map line_text (λ (v : ℕ). decimal v ∷ []) (rep
 pub same_next : (count v : ℕ) → replicate (count + 1) v ≡ replicate count v ++ v ∷ []
 same_next count v = sym (replicate-append-replicate count 1 v)
 
+pub no_values : (form : Form) → lines_text (value_lines form []) ≡ []
+no_values single = refl
+no_values runs = refl
+
+-- the first run of a list, and the others
+run_apart : (form : Form) (chunk : List ℕ) (n x : ℕ) → 0 < n → runs_of chunk ≡ (n, x) ∷ runs_of (drop n chunk) → take n chunk ≡ replicate n x →
+    lines_text (value_lines form chunk) ≡ lines_text (value_lines form (replicate n x)) ++ lines_text (value_lines form (drop n chunk))
+run_apart runs chunk n x some first same =
+    ap (λ (z : List (ℕ × ℕ)). lines_text (map (λ (run : ℕ × ℕ). decimal run.0 ∷ decimal run.1 ∷ []) z)) first
+    ∙ ap (λ (z : List ℕ). z ++ lines_text (value_lines runs (drop n chunk))) (sym (run_text n x some))
+run_apart single chunk n x some first same =
+    ap (λ (z : List ℕ). lines_text (value_lines single z)) (sym (take-append-drop n chunk) ∙ ap (λ (z : List ℕ). z ++ drop n chunk) same)
+    ∙ ap lines_text (map-append (λ (v : ℕ). decimal v ∷ []) (replicate n x) (drop n chunk))
+    ∙ lines-append (value_lines single (replicate n x)) (value_lines single (drop n chunk))
+
+-- the first run of the remaining values, after those that were written
+pub run_left : (form : Form) (values chunk text : List ℕ) (from n : ℕ) → chunk ≡ drop from values → 0 < n → runs_of chunk ≡ (n, slice_index chunk 0) ∷ runs_of (drop n chunk) → take n chunk ≡ replicate n (slice_index chunk 0) →
+    text ++ lines_text (value_lines form (drop from values)) ≡ lines_text (value_lines form values) →
+    (text ++ lines_text (value_lines form (replicate n (get_or values from 0)))) ++ lines_text (value_lines form (drop (from + n) values)) ≡ lines_text (value_lines form values)
+run_left form values chunk text from n is some first same whole =
+    let same_place : from + 0 ≡ from = omega arith in
+    let value : slice_index chunk 0 ≡ get_or values from 0 = ap (λ (z : List ℕ). get_or z 0 0) is ∙ get_or-drop from values 0 0 ∙ ap (λ (m : ℕ). get_or values m 0) same_place in
+    let dropped : drop n chunk ≡ drop (from + n) values = ap (λ (z : List ℕ). drop n z) is ∙ drop-drop n from values in
+    let here : List ℕ = lines_text (value_lines form (replicate n (get_or values from 0))) in
+    append_assoc text here (lines_text (value_lines form (drop (from + n) values)))
+    ∙ ap (λ (z : List ℕ). text ++ z) (
+    ap (λ (z : List ℕ). here ++ lines_text (value_lines form z)) (sym dropped)
+    ∙ ap (λ (x : ℕ). lines_text (value_lines form (replicate n x)) ++ lines_text (value_lines form (drop n chunk))) (sym value)
+    ∙ sym (run_apart form chunk n (slice_index chunk 0) some first same)
+    ∙ ap (λ (z : List ℕ). lines_text (value_lines form z)) is
+    ) ∙ whole
+
 -- ---- the values of a chunk
 
 take_on : (from n : ℕ) (xs : List ℕ) → take (from + n) xs ≡ take from xs ++ take n (drop from xs)
@@ -344,11 +376,11 @@ take_on (suc from) n (x ∷ xs) =
     ap (λ (k : ℕ). take k (x ∷ xs)) e ∙ ap (λ (z : List ℕ). x ∷ z) (take_on from n xs)
 
 -- the equal values at the beginning of what is left of a chunk
-pub run_on : (values piece : List ℕ) (from n : ℕ) → piece ≡ drop from values → take n piece ≡ replicate n (slice_index piece 0) →
+pub run_on : (values chunk : List ℕ) (from n : ℕ) → chunk ≡ drop from values → take n chunk ≡ replicate n (slice_index chunk 0) →
     take from values ++ replicate n (get_or values from 0) ≡ take (from + n) values
-run_on values piece from n p same =
+run_on values chunk from n p same =
     let none : from + 0 ≡ from = omega arith in
-    let first : slice_index piece 0 ≡ get_or values from 0 = ap (λ (z : List ℕ). get_or z 0 0) p ∙ get_or-drop from values 0 0 ∙ ap (λ (m : ℕ). get_or values m 0) none in
+    let first : slice_index chunk 0 ≡ get_or values from 0 = ap (λ (z : List ℕ). get_or z 0 0) p ∙ get_or-drop from values 0 0 ∙ ap (λ (m : ℕ). get_or values m 0) none in
     ap (λ (v : ℕ). take from values ++ replicate n v) (sym first)
     ∙ ap (λ (z : List ℕ). take from values ++ z) (sym same)
     ∙ ap (λ (z : List ℕ). take from values ++ take n z) p

@@ -28,7 +28,7 @@ impl Model for WordBits {
 
 impl WordBits {
     /// Creates a buffer without bits. Allocates nothing.
-    pub fn new(alloc: Global) -> WordBits
+    pub(crate) fn new(alloc: Global) -> WordBits
         ensures { result ≡ [] }
     {
         WordBits {
@@ -39,7 +39,7 @@ impl WordBits {
     }
 
     /// Returns the number of bits.
-    pub fn len(&self) -> u64
+    pub(crate) fn len(&self) -> u64
         requires { length self.now < 2 ^ 62 }
         ensures { result ≡ length self.now }
     {
@@ -47,7 +47,7 @@ impl WordBits {
     }
 
     /// Appends the bits of a word.
-    pub fn append(&mut self, word: Word) -> Result<(), AllocError>
+    pub(crate) fn append(&mut self, word: Word) -> Result<(), AllocError>
         requires short { word.length ≤ 32 }
         requires spelled { word.number < 2 ^ word.length }
         ensures { OnOk result (self.new ≡ self.old ++ bits_of_number word.length word.number) }
@@ -70,7 +70,7 @@ impl WordBits {
 
     /// Appends the bits as bytes to `packed`, padded with zeros to a multiple of four bytes, and empties the buffer;
     /// returns the number of bytes.
-    pub fn move_to(&mut self, packed: &mut Vec<u8>) -> Result<usize, AllocError>
+    pub(crate) fn move_to(&mut self, packed: &mut Vec<u8>) -> Result<usize, AllocError>
         ensures bytes { IfOk result (λ n. (bytes : List ℕ) × (fill : ℕ) × (length bytes ≡ n) × (packed.new.items ≡ packed.old.items ++ bytes) × (bits bytes ≡ self.old ++ replicate fill false)) }
         ensures few { IfOk result (λ n. n ≡ 4 * ((length self.old + 31) / 32)) }
         ensures empty { OnOk result (self.new ≡ []) }

@@ -15,7 +15,7 @@ const MAX_VALUES: u32 = 65_536;
 
 /// Blocks, and their lengths.
 #[derive(Drop)]
-pub(crate) struct Cut {
+pub(crate) struct FilledBlocks {
     /// For each block, its number of values less one.
     pub lengths: Vec<u16>,
     pub packed: Vec<u8>,
@@ -91,7 +91,7 @@ pub(crate) fn fill_blocks(
     dict: &Dict,
     symbols: &[u16],
     block_bits: u8,
-) -> Result<Cut, AllocError>
+) -> Result<FilledBlocks, AllocError>
     requires chosen { IsChosen (length dict.now) code.now }
     requires below { AllByRecursion (λ s. s < length dict.now) symbols.now }
     requires some { 0 < length symbols.now }
@@ -117,5 +117,5 @@ pub(crate) fn fill_blocks(
     } = filling;
     words_fit(&lengths);
     bytes_fit(&packed);
-    Ok(Cut { lengths, packed })
+    Ok(FilledBlocks { lengths, packed })
 }

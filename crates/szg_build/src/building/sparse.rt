@@ -11,14 +11,14 @@ use szg_block::Entry;
 
 /// A block, and the index of its first value.
 #[derive(Drop)]
-struct Walk {
+struct BlockWalk {
     block: usize,
     start: u64,
 }
 
 /// Moves on to the block that contains value `index`. Returns the sparse entry that leads to this value: the block, and
 /// the offset in it. If `index` is `size` or more, the entry points past the last block.
-fn entry_to(lengths: &[u16], walk: &mut Walk, index: u64, size: u64) -> Entry
+fn entry_to(lengths: &[u16], walk: &mut BlockWalk, index: u64, size: u64) -> Entry
     requires there { walk.old.block < length lengths.now }
     requires at { walk.old.start ≡ start lengths.now walk.old.block }
     requires from { walk.old.start ≤ index }
@@ -68,7 +68,7 @@ pub(crate) fn sparse_index(
 {
     let span = 1u64 << span_bits;
     let count = size.div_ceil(span);
-    let mut walk = Walk { block: 0, start: 0 };
+    let mut walk = BlockWalk { block: 0, start: 0 };
     let mut sparse = Vec::new(alloc);
     for span_number in 0..count {
         let middle = span_number * span + span / 2;

@@ -8,7 +8,6 @@ ghost use Rattle.szg_build.specs.Building.{AreLens, IsRound, IsSymbolAt};
 ghost use Rattle.szg_build.specs.Pairing.{IsUsed, pairs_in, values_of};
 
 use crate::pairing::leaves::{MAX_SYMBOLS, Paired, count_different};
-use crate::pairing::proposing::Proposal;
 use std::alloc::{AllocError, Global};
 use szg_file::typed::bytes_fit;
 use szg_pairs::entry::{is_leaf, left, right};
@@ -134,20 +133,24 @@ fn fit_three_bytes(entries: &[[u8; 3]])
     }
 }
 
-/// Tests a proposal, and returns it together with the number of values of each symbol. None if there are too many
+/// Tests a proposal, and returns it with the number of values of each symbol counted anew. None if there are too many
 /// entries, if the number of leaves is not the number of different values, if a symbol of the text is not in the
 /// dictionary, if a pair occurs neither in the text nor in another pair, if the dictionary is not accepted, or if the
 /// text does not expand to `values`.
 pub(crate) fn accept(
     alloc: Global,
     values: &[u16],
-    proposal: Proposal,
+    proposal: Paired,
 ) -> Result<Option<Paired>, AllocError>
     requires { AllByRecursion (λ v. v ≤ 4095) values.now }
     ensures round { IfOk result (λ found. IfSome found (λ p. IsRound values.now (length (pairs_in p.entries.items)) p.entries.items p.symbols.items)) }
     ensures lens { IfOk result (λ found. IfSome found (λ p. AreLens p.entries.items p.lens.items)) }
 {
-    let Proposal { entries, symbols } = proposal;
+    let Paired {
+        entries,
+        symbols,
+        ..
+    } = proposal;
     let (listed, text) = (entries.as_slice(), symbols.as_slice());
     let pairs = count_pairs_in(listed);
     if listed.len() > MAX_SYMBOLS || listed.len() - pairs != count_different(values) {

@@ -74,13 +74,13 @@ pub(crate) fn is_even_from(cells: &[u16], start: usize, symbol: u16, length: usi
 
 impl Cells {
     /// Returns whether a pair has at most `MAX_VALUES` values, so that it may be made.
-    pub fn is_short(&self, pair: Pair) -> bool {
+    pub(crate) fn is_short(&self, pair: Pair) -> bool {
         length_in(&self.values, pair.left) + length_in(&self.values, pair.right)
             <= MAX_VALUES as usize
     }
 
     /// Removes all cells but the first of each symbol, so that each symbol has one cell.
-    pub fn close_up(&mut self) {
+    pub(crate) fn close_up(&mut self) {
         let cells = self.cells.as_mut_slice();
         let mut count = 0usize;
         for read in 0..cells.len() {

@@ -9,17 +9,10 @@
 use crate::pairing::cells::{Cells, length_in};
 use crate::pairing::leaves::{MAX_SYMBOLS, Paired, entry};
 use crate::pairing::occurrences::Occurrences;
-use crate::pairing::tally::{Enough, Tally};
+use crate::pairing::tally::{Enough, PairTally};
 use crate::pairing::{LEAST_COUNT, MAX_VALUES, Pair, replace};
 use crate::watching::Watcher;
 use std::alloc::{AllocError, Global};
-
-/// A proposed dictionary and text, of which nothing is known yet.
-#[derive(Drop)]
-pub(crate) struct Proposal {
-    pub entries: Vec<[u8; 3]>,
-    pub symbols: Vec<u16>,
-}
 
 /// The cost of a pass over the whole text is the number of the text's symbols plus the number of pairs that are
 /// counted. A pair is replaced in such a pass if its count is at least this cost divided by `DENSE_PART`, rounded down.
@@ -69,7 +62,7 @@ impl Making {
     /// Returns how often a pair must occur to get a list. If the text has fewer symbols than there can be pairs, this
     /// is `LEAST_COUNT`: each pair that may be made and occurs that often gets a list. All symbols, also those to come,
     /// are below `width`.
-    fn least_count(&self, tally: &Tally, most: u32, width: u16) -> u32 {
+    fn least_count(&self, tally: &PairTally, most: u32, width: u16) -> u32 {
         let symbols = self.text.cells.len() as u64;
         if u64::from(width) * u64::from(width) > symbols {
             return LEAST_COUNT;
@@ -98,7 +91,7 @@ impl Making {
             return Ok(false);
         }
         watcher.round(self.done, self.rounds);
-        let tally = Tally::new(alloc, &self.text)?;
+        let tally = PairTally::new(alloc, &self.text)?;
         let Some(best) = tally.most_frequent(&self.text) else {
             return Ok(false);
         };
@@ -120,7 +113,7 @@ impl Making {
     fn make_listed<V: Watcher>(
         &mut self,
         alloc: Global,
-        tally: Tally,
+        tally: PairTally,
         most: u32,
         watcher: &mut V,
     ) -> Result<bool, AllocError> {

@@ -9,7 +9,7 @@ ghost use Rattle.szg_build.specs.Plan.{different_values};
 use crate::pairing::accepting::{accept, count_pairs_in};
 use crate::pairing::leaves::{MAX_SYMBOLS, Paired, begin, entry};
 use crate::pairing::numbering::numbered_by_count;
-use crate::pairing::proposing::{Proposal, with_pairs};
+use crate::pairing::proposing::with_pairs;
 use crate::pairing::{LEAST_COUNT, MAX_VALUES, Pair, count_pairs, replace};
 use crate::shrinking::shrink;
 use crate::watching::Watcher;
@@ -133,12 +133,8 @@ pub(crate) fn pair_up<V: Watcher>(
 {
     if rounds > 0 && values.len() <= MAX_OFFSETS {
         let begun = begin(alloc, values)?;
-        let Paired {
-            entries,
-            symbols,
-            ..
-        } = with_pairs(alloc, begun, rounds, watcher)?;
-        if let Some(paired) = accept(alloc, values, Proposal { entries, symbols })? {
+        let proposal = with_pairs(alloc, begun, rounds, watcher)?;
+        if let Some(paired) = accept(alloc, values, proposal)? {
             if is_finished(alloc, &paired, rounds)? {
                 return Ok(paired);
             }

@@ -17,9 +17,10 @@ ghost use Rattle.szg_build.specs.Wholes.{dump_after_kind, dump_after_parts};
 use crate::building::{Choice, Packing};
 use crate::dump::{Dump, DumpReadFault};
 use crate::places::places;
-use crate::reading::gathering::{Front, Gathered, Subs, add_sub, list_dump};
+use crate::reading::gathering::{Gathered, Header, Subs, add_sub, list_dump};
 use crate::reading::incoming::Incoming;
-use crate::reading::lines::{read_end, read_form, read_kind, read_material};
+use crate::reading::line_parsing::{parse_form, parse_kind, parse_last_bytes, parse_material};
+use crate::reading::lines::read_parsed;
 use crate::reading::packed_dump::{PackedDump, packed_dump};
 use crate::reading::read_parts;
 use crate::reading::subreading::read_sub;
@@ -50,20 +51,20 @@ fn sizes_of(material: &Material, kind: Kind, parts: &[PartBytes]) -> Option<Arra
 fn read_subs<R: Input, V: Watcher>(
     alloc: Global,
     form: u8,
-    front: Front,
+    header: Header,
     choice: Choice,
     input: &mut R,
     incoming: &mut Incoming,
     watcher: &mut V,
 ) -> Result<Gathered, DumpReadFault>
-    requires { length (held_of incoming.old) ≤ 2 * length (subtable_ids_of front.material front.kind) }
-    ensures lines { ReadsLines (dump_after_parts (form_of form) front.material front.kind front.last (map part_of front.parts.items)) gathered_dump incoming.old incoming.new R.Input input.old input.new result }
+    requires { length (held_of incoming.old) ≤ 2 * length (subtable_ids_of header.material header.kind) }
+    ensures lines { ReadsLines (dump_after_parts (form_of form) header.material header.kind header.last (map part_of header.parts.items)) gathered_dump incoming.old incoming.new R.Input input.old input.new result }
     ensures held { OnOk result (held_of incoming.new ≡ []) }
-    ensures packed { IfOk result (λ gathered. ArePacked gathered.front.kind choice gathered.subs) }
-    ensures memory { IsErrOf result DumpReadFault.Memory → LacksLines (dump_after_parts (form_of form) front.material front.kind front.last (map part_of front.parts.items)) 0 incoming.old R.Input input.old input.new }
+    ensures packed { IfOk result (λ gathered. ArePacked gathered.header.kind choice gathered.subs) }
+    ensures memory { IsErrOf result DumpReadFault.Memory → LacksLines (dump_after_parts (form_of form) header.material header.kind header.last (map part_of header.parts.items)) 0 incoming.old R.Input input.old input.new }
 {
-    let sizes = sizes_of(&front.material, front.kind, &front.parts);
-    let places = places(&front.material, front.kind);
+    let sizes = sizes_of(&header.material, header.kind, &header.parts);
+    let places = places(&header.material, header.kind);
     let count = places.len();
     let mut subs = Subs {
         flags: Vec::new(alloc),
@@ -74,11 +75,19 @@ fn read_subs<R: Input, V: Watcher>(
     'each: for s in 0..count {
         let following = 2 * (count - 1 - s) as u64;
         let sub = read_sub(
-            alloc, form, front.kind, &sizes, s, places[s], following, input, incoming,
+            alloc,
+            form,
+            header.kind,
+            &sizes,
+            s,
+            places[s],
+            following,
+            input,
+            incoming,
         )?;
-        add_sub(alloc, front.kind, choice, count, sub, &mut subs, watcher)?;
+        add_sub(alloc, header.kind, choice, count, sub, &mut subs, watcher)?;
     }
-    Ok(Gathered { front, subs })
+    Ok(Gathered { header, subs })
 }
 
 /// Reads what comes after the kind: the last bytes, the parts and the subtables.
@@ -95,19 +104,19 @@ fn read_after_kind<R: Input, V: Watcher>(
     requires { length (held_of incoming.old) ≤ 2 }
     ensures lines { ReadsLines (dump_after_kind (form_of form) material kind) gathered_dump incoming.old incoming.new R.Input input.old input.new result }
     ensures held { OnOk result (held_of incoming.new ≡ []) }
-    ensures packed { IfOk result (λ gathered. ArePacked gathered.front.kind choice gathered.subs) }
+    ensures packed { IfOk result (λ gathered. ArePacked gathered.header.kind choice gathered.subs) }
     ensures memory { IsErrOf result DumpReadFault.Memory → LacksLines (dump_after_kind (form_of form) material kind) 0 incoming.old R.Input input.old input.new }
 {
     let due = 2 * places(&material, kind).len() as u64;
-    let last = read_end(due + 1, input, incoming)?;
+    let last = read_parsed(parse_last_bytes, due + 1, input, incoming)?;
     let parts = read_parts(alloc, &material, due, input, incoming)?;
-    let front = Front {
+    let header = Header {
         material,
         kind,
         parts,
         last,
     };
-    read_subs(alloc, form, front, choice, input, incoming, watcher)
+    read_subs(alloc, form, header, choice, input, incoming, watcher)
 }
 
 /// Reads the whole text. Packs subtables by `choice` while it reads, up to the first that `add_sub` does not pack. The
@@ -122,12 +131,12 @@ fn read_gathered<R: Input, V: Watcher>(
     requires { held_of incoming.old ≡ [] }
     ensures lines { ReadsLines dump_format gathered_dump incoming.old incoming.new R.Input input.old input.new result }
     ensures held { OnOk result (held_of incoming.new ≡ []) }
-    ensures packed { IfOk result (λ gathered. ArePacked gathered.front.kind choice gathered.subs) }
+    ensures packed { IfOk result (λ gathered. ArePacked gathered.header.kind choice gathered.subs) }
     ensures memory { IsErrOf result DumpReadFault.Memory → LacksLines dump_format 0 incoming.old R.Input input.old input.new }
 {
-    let form = read_form(4, input, incoming)?;
-    let material = read_material(3, input, incoming)?;
-    let kind = read_kind(2, input, incoming)?;
+    let form = read_parsed(parse_form, 4, input, incoming)?;
+    let material = read_parsed(parse_material, 3, input, incoming)?;
+    let kind = read_parsed(parse_kind, 2, input, incoming)?;
     read_after_kind(
         alloc, form, material, kind, choice, input, incoming, watcher,
     )

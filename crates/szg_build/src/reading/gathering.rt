@@ -18,7 +18,7 @@ use szg_values::{Kind, Material};
 
 /// The lines before the subtables.
 #[derive(Drop)]
-pub(crate) struct Front {
+pub(crate) struct Header {
     pub material: Material,
     pub kind: Kind,
     pub parts: Vec<PartBytes>,
@@ -39,7 +39,7 @@ pub(crate) struct Subs {
 /// The content of a dump.
 #[derive(Drop)]
 pub(crate) struct Gathered {
-    pub front: Front,
+    pub header: Header,
     pub subs: Subs,
 }
 
@@ -117,19 +117,6 @@ pub(crate) fn add_sub<V: Watcher>(
     Ok(())
 }
 
-/// Lists the values of packed subtables.
-fn unpack_all(alloc: Global, kind: Kind, packed: &[PackedSub]) -> Result<Vec<Vec<u16>>, AllocError>
-    requires { (choice : Choice) × AllByRecursion (IsPackedSub kind choice) packed.now }
-    ensures { IfOk result (λ lists. map (λ list. list.items) lists.items ≡ map (packed_values kind) packed.now) }
-{
-    let mut lists = Vec::new(alloc);
-    'subs: for sub in packed {
-        let list = unpack(alloc, kind, sub)?;
-        lists.push(list)?;
-    }
-    Ok(lists)
-}
-
 /// Lists the values of all subtables.
 pub(crate) fn list_all(
     alloc: Global,
@@ -140,29 +127,33 @@ pub(crate) fn list_all(
     requires { (choice : Choice) × AllByRecursion (IsPackedSub kind choice) packed.now }
     ensures { IfOk result (λ lists. map (λ list. list.items) lists.items ≡ lists_held kind packed.now (map (λ list. list.items) rest.items)) }
 {
-    let mut lists = unpack_all(alloc, kind, packed)?;
+    let mut lists = Vec::new(alloc);
+    'subs: for sub in packed {
+        let list = unpack(alloc, kind, sub)?;
+        lists.push(list)?;
+    }
     lists.append(&mut rest)?;
     Ok(lists)
 }
 
 /// Returns the dump, with the values of all subtables listed.
 pub(crate) fn list_dump(alloc: Global, gathered: Gathered) -> Result<Dump, AllocError>
-    requires { (choice : Choice) × ArePacked gathered.front.kind choice gathered.subs }
+    requires { (choice : Choice) × ArePacked gathered.header.kind choice gathered.subs }
     ensures { IfOk result (λ dump. dump_seen dump ≡ gathered_dump gathered) }
 {
-    let Gathered { front, subs } = gathered;
+    let Gathered { header, subs } = gathered;
     let Subs {
         flags,
         maps,
         packed,
         rest,
     } = subs;
-    let last = front.last;
-    let lists = list_all(alloc, front.kind, &packed, rest)?;
+    let last = header.last;
+    let lists = list_all(alloc, header.kind, &packed, rest)?;
     Ok(Dump {
-        material: front.material,
-        kind: front.kind,
-        parts: front.parts,
+        material: header.material,
+        kind: header.kind,
+        parts: header.parts,
         flags,
         maps,
         last,

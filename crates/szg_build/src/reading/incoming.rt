@@ -29,7 +29,7 @@ impl Incoming {
     ghost use Rattle.szg_build.specs.Held.{held_of};
 
     /// Creates the state before the first line.
-    pub fn new() -> Incoming
+    pub(crate) fn new() -> Incoming
         ensures line { result.line ≡ 0 }
         ensures held { held_of result ≡ [] }
     {
@@ -42,14 +42,14 @@ impl Incoming {
     }
 
     /// Returns the bytes read ahead.
-    pub fn held(&self) -> &[u8]
+    pub(crate) fn held(&self) -> &[u8]
         ensures { result.now ≡ held_of self.now }
     {
         &self.bytes[self.from..self.to]
     }
 
     /// Takes a line of `size` bytes and its 0A from the bytes read ahead; returns the line without its 0A.
-    pub fn split_line(&mut self, size: usize) -> ArrayVec<u8, 80>
+    pub(crate) fn split_line(&mut self, size: usize) -> ArrayVec<u8, 80>
         requires short { size ≤ 80 }
         requires there { size < length (held_of self.old) }
         ensures text { result.items ≡ take size (held_of self.old) }
@@ -67,7 +67,11 @@ impl Incoming {
 
     /// Reads up to `most` more bytes ahead, in one call of the device; interrupted calls are repeated. Returns the
     /// number of bytes read, which is 0 only at the end of the input.
-    pub fn refill<R: Input>(&mut self, most: u64, input: &mut R) -> Result<usize, DeviceFault>
+    pub(crate) fn refill<R: Input>(
+        &mut self,
+        most: u64,
+        input: &mut R,
+    ) -> Result<usize, DeviceFault>
         requires some { 0 < most }
         requires room { length (held_of self.old) ≤ 80 }
         ensures line { self.new.line ≡ self.old.line }

@@ -46,7 +46,7 @@ pub(crate) fn next_line<R: Input>(
 {
     let line = incoming.line.saturating_add(1);
     incoming.line = line;
-    'pieces: loop {
+    'chunks: loop {
         if let Some(size) = line_len(incoming.held()) {
             return Ok(incoming.split_line(size));
         }

@@ -1,22 +1,17 @@
 //! Reads a dump's lines from a device, one at a time.
-ghost use Rattle.std.specs.Prelude.{◌≡◌, ◌+◌, ◌<◌, ◌≤◌, List, [], length, IfOk, IsErrOf, OnOk};
+ghost use Rattle.std.specs.Prelude.{◌≡◌, ◌+◌, ◌<◌, ◌≤◌, List, length, IfOk, IsErrOf, OnOk};
 ghost use Rattle.std.specs.Fn.{FnOnceReturnsAt};
-ghost use Rattle.szg_build.specs.Fronts.{IsFront, ParsesLine, in_line, sub_line};
-ghost use Rattle.szg_build.specs.Grammar.{Word, version_line, name_line, kind_line, end_line, part_line, number_line, run_line};
+ghost use Rattle.szg_build.specs.Fronts.{IsFront, ParsesLine, in_line};
+ghost use Rattle.szg_build.specs.Grammar.{Word, number_line, part_line, run_line};
 ghost use Rattle.szg_build.specs.Held.{held_of};
 ghost use Rattle.szg_build.specs.Reading.{ReadsLines};
-ghost use Rattle.szg_build.specs.Shown.{form_of};
 
 use crate::dump::{DumpFault, DumpReadFault};
 use crate::reading::incoming::Incoming;
 use crate::reading::line::next_line;
-use crate::reading::line_parsing::{
-    check_subtable_line, parse_form, parse_kind, parse_last_bytes, parse_material,
-    parse_number_line, parse_part, parse_run,
-};
+use crate::reading::line_parsing::{parse_number_line, parse_part, parse_run};
 use arrayvec::ArrayVec;
 use szg_io::Input;
-use szg_values::{Kind, Material};
 
 /// The least number of bytes of a line with its 0A.
 const LEAST_LINE: usize = 1;
@@ -35,7 +30,7 @@ fn with_line<T: Drop>(stated: Result<T, DumpFault>, line: u64) -> Result<T, Dump
 }
 
 /// Reads a line and parses it with `parse`.
-fn read_parsed<T: Drop, R: Input, F: FnOnce(&[u8]) -> Result<T, DumpFault> + Drop>(
+pub(crate) fn read_parsed<T: Drop, R: Input, F: FnOnce(&[u8]) -> Result<T, DumpFault> + Drop>(
     parse: F,
     following: u64,
     input: &mut R,
@@ -49,62 +44,6 @@ fn read_parsed<T: Drop, R: Input, F: FnOnce(&[u8]) -> Result<T, DumpFault> + Dro
 {
     let text = next_line(LEAST_LINE, following, input, incoming)?;
     with_line(parse(text.as_slice()), incoming.line)
-}
-
-/// Reads the line of the form.
-pub(crate) fn read_form<R: Input>(
-    following: u64,
-    input: &mut R,
-    incoming: &mut Incoming,
-) -> Result<u8, DumpReadFault>
-    requires { length (held_of incoming.old) ≤ following + 1 }
-    ensures lines { ReadsLines version_line form_of incoming.old incoming.new R.Input input.old input.new result }
-    ensures following { OnOk result (length (held_of incoming.new) ≤ following) }
-    ensures memory { IsErrOf result DumpReadFault.Memory → ⊥ }
-{
-    read_parsed(parse_form, following, input, incoming)
-}
-
-/// Reads the line of the name.
-pub(crate) fn read_material<R: Input>(
-    following: u64,
-    input: &mut R,
-    incoming: &mut Incoming,
-) -> Result<Material, DumpReadFault>
-    requires { length (held_of incoming.old) ≤ following + 1 }
-    ensures lines { ReadsLines name_line (λ material. material) incoming.old incoming.new R.Input input.old input.new result }
-    ensures following { OnOk result (length (held_of incoming.new) ≤ following) }
-    ensures memory { IsErrOf result DumpReadFault.Memory → ⊥ }
-{
-    read_parsed(parse_material, following, input, incoming)
-}
-
-/// Reads the line of the kind.
-pub(crate) fn read_kind<R: Input>(
-    following: u64,
-    input: &mut R,
-    incoming: &mut Incoming,
-) -> Result<Kind, DumpReadFault>
-    requires { length (held_of incoming.old) ≤ following + 1 }
-    ensures lines { ReadsLines kind_line (λ kind. kind) incoming.old incoming.new R.Input input.old input.new result }
-    ensures following { OnOk result (length (held_of incoming.new) ≤ following) }
-    ensures memory { IsErrOf result DumpReadFault.Memory → ⊥ }
-{
-    read_parsed(parse_kind, following, input, incoming)
-}
-
-/// Reads the line of the last bytes.
-pub(crate) fn read_end<R: Input>(
-    following: u64,
-    input: &mut R,
-    incoming: &mut Incoming,
-) -> Result<[u8; 16], DumpReadFault>
-    requires { length (held_of incoming.old) ≤ following + 1 }
-    ensures lines { ReadsLines end_line (λ bytes. bytes) incoming.old incoming.new R.Input input.old input.new result }
-    ensures following { OnOk result (length (held_of incoming.new) ≤ following) }
-    ensures memory { IsErrOf result DumpReadFault.Memory → ⊥ }
-{
-    read_parsed(parse_last_bytes, following, input, incoming)
 }
 
 /// Reads the line of a part.
@@ -121,28 +60,6 @@ pub(crate) fn read_part<R: Input>(
     ensures memory { IsErrOf result DumpReadFault.Memory → ⊥ }
 {
     read_parsed(|text| parse_part(number, text), following, input, incoming)
-}
-
-/// Reads the line that names a subtable.
-pub(crate) fn read_subtable_id<R: Input>(
-    place: (u8, u8),
-    following: u64,
-    input: &mut R,
-    incoming: &mut Incoming,
-) -> Result<(), DumpReadFault>
-    requires part { place.0 < 4 }
-    requires side { place.1 < 2 }
-    requires held { length (held_of incoming.old) ≤ following + 1 }
-    ensures lines { ReadsLines (sub_line place) (λ _. []) incoming.old incoming.new R.Input input.old input.new result }
-    ensures following { OnOk result (length (held_of incoming.new) ≤ following) }
-    ensures memory { IsErrOf result DumpReadFault.Memory → ⊥ }
-{
-    read_parsed(
-        |text| check_subtable_line(place, text),
-        following,
-        input,
-        incoming,
-    )
 }
 
 /// Reads the line of a run, which has at most `left` values.

@@ -15,14 +15,13 @@ use crate::building::{Choice, Packing};
 use crate::reading::gathering::{Gathered, Subs, list_all};
 use crate::reading::packing::{PackedSub, pack_again};
 use crate::refusing::{MAX_ROUNDS, are_bits_valid, are_maps_valid};
-use crate::table::{build_by, byte4_of, maps_fit, padded, parts_fit};
+use crate::table::{build_by, parts_fit, table_from};
 use crate::watching::Watcher;
 use crate::{BuildFault, Plan};
 use std::alloc::{AllocError, Global};
 use std::marker::Model;
 use szg_block::{Sub, block_count};
-use szg_file::typed::end_bytes;
-use szg_file::{Fields, Table, subtable_sizes};
+use szg_file::{Table, subtable_sizes};
 
 /// The content of a dump, whose subtables were packed while it was read.
 #[derive(Drop)]
@@ -39,12 +38,12 @@ impl Model for PackedDump {
 
     ghost view = { λ packed. record { dump = gathered_dump packed.gathered; choice = packed.choice } };
 
-    ghost invariant = { λ packed. ArePacked packed.gathered.front.kind packed.choice packed.gathered.subs };
+    ghost invariant = { λ packed. ArePacked packed.gathered.header.kind packed.choice packed.gathered.subs };
 }
 
 /// Wraps what was read.
 pub(crate) fn packed_dump(gathered: Gathered, choice: Choice) -> PackedDump
-    requires { ArePacked gathered.front.kind choice gathered.subs }
+    requires { ArePacked gathered.header.kind choice gathered.subs }
     ensures { result ≡ record { dump = gathered_dump gathered; choice = choice } }
 {
     PackedDump { gathered, choice }
@@ -158,34 +157,21 @@ fn settle<V: Watcher>(
 /// subtable is packed again.
 fn assemble<V: Watcher>(
     alloc: Global,
-    plan: Plan,
+    plan: &Plan,
     choice: Choice,
     packed: Vec<PackedSub>,
     watcher: &mut V,
 ) -> Result<Table, AllocError>
-    requires is_valid { HasNoFault (plan_seen plan) (map (packed_values plan.kind) packed.items) }
-    requires packed { AllByRecursion (IsPackedSub plan.kind choice) packed.items }
-    requires flags { AreFlagsOf plan.kind packed.items plan.flags.items }
-    ensures built { IfOk result (λ t. IsBuiltBy choice (plan_seen plan) (map (packed_values plan.kind) packed.items) t.contents) }
+    requires is_valid { HasNoFault (plan_seen plan.now) (map (packed_values plan.now.kind) packed.items) }
+    requires packed { AllByRecursion (IsPackedSub plan.now.kind choice) packed.items }
+    requires flags { AreFlagsOf plan.now.kind packed.items plan.now.flags.items }
+    ensures built { IfOk result (λ t. IsBuiltBy choice (plan_seen plan.now) (map (packed_values plan.now.kind) packed.items) t.contents) }
     ensures accepted { IfOk result (λ t. IsAccepted t.contents t.filled) }
     ensures padding { IfOk result (λ t. AllByRecursion (λ byte. byte ≡ 0) t.filled) }
 {
-    maps_fit(&plan.maps);
-    let settled = settle(alloc, &plan, choice, packed, watcher)?;
-    let byte4 = byte4_of(&plan.material);
-    let last = end_bytes(byte4, &plan.last);
+    let settled = settle(alloc, plan, choice, packed, watcher)?;
     let subs = subs_of(alloc, settled)?;
-    let fields = Fields {
-        material: plan.material,
-        kind: plan.kind,
-        byte4,
-        parts: plan.parts,
-        subs,
-        maps: plan.maps,
-        fill: Vec::new(alloc),
-        last,
-    };
-    padded(alloc, fields)
+    table_from(alloc, plan, subs)
 }
 
 /// Returns the lists as slices.
@@ -249,14 +235,14 @@ fn build_gathered<V: Watcher>(
     choice: Choice,
     watcher: &mut V,
 ) -> Result<Table, BuildFault>
-    requires { ArePacked gathered.front.kind choice gathered.subs }
+    requires { ArePacked gathered.header.kind choice gathered.subs }
     ensures refused { (fault : BuildFault) → result ≡ Err fault → (fault ≡ BuildFault.Memory) ⊎ (build_fault (plan_by choice (gathered_dump gathered)) (gathered_dump gathered).lists ≡ Some fault) }
     ensures no_fault { IfOk result (λ _. build_fault (plan_by choice (gathered_dump gathered)) (gathered_dump gathered).lists ≡ None) }
     ensures built { IfOk result (λ t. IsBuiltBy choice (plan_by choice (gathered_dump gathered)) (gathered_dump gathered).lists t.contents) }
     ensures accepted { IfOk result (λ t. IsAccepted t.contents t.filled) }
     ensures padding { IfOk result (λ t. AllByRecursion (λ byte. byte ≡ 0) t.filled) }
 {
-    let Gathered { front, subs } = gathered;
+    let Gathered { header, subs } = gathered;
     let Subs {
         flags,
         maps,
@@ -264,11 +250,11 @@ fn build_gathered<V: Watcher>(
         rest,
     } = subs;
     let numbers = numbers_of(choice);
-    let last = front.last;
+    let last = header.last;
     let plan = Plan {
-        material: front.material,
-        kind: front.kind,
-        parts: front.parts,
+        material: header.material,
+        kind: header.kind,
+        parts: header.parts,
         block_bits: numbers.block_bits,
         span_bits: numbers.span_bits,
         rounds: numbers.rounds,
@@ -277,7 +263,7 @@ fn build_gathered<V: Watcher>(
         last,
     };
     if rest.is_empty() && are_complete(&plan, &packed) {
-        return match assemble(alloc, plan, choice, packed, watcher) {
+        return match assemble(alloc, &plan, choice, packed, watcher) {
             Ok(table) => Ok(table),
             Err(_failed) => Err(BuildFault::Memory),
         };

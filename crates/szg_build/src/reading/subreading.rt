@@ -12,8 +12,8 @@ ghost use Rattle.szg_build.specs.declared.BuildFault.TheVariants.{Length, Order}
 use crate::BuildFault;
 use crate::dump::DumpReadFault;
 use crate::reading::incoming::Incoming;
-use crate::reading::line_parsing::GREATEST_COUNT;
-use crate::reading::lines::{read_number, read_subtable_id};
+use crate::reading::line_parsing::{GREATEST_COUNT, check_subtable_line};
+use crate::reading::lines::{read_number, read_parsed};
 use crate::reading::values::Values;
 use crate::reading::{read_map, read_values};
 use arrayvec::ArrayVec;
@@ -150,7 +150,12 @@ pub(crate) fn read_sub<R: Input>(
     ensures small { IfOk result (λ sub. sub.flags < 32) }
     ensures memory { IsErrOf result DumpReadFault.Memory → LacksLines (subtable_format (form_of form) kind (option_map (λ list. list.items) sizes.now) s place) following incoming.old R.Input input.old input.new }
 {
-    read_subtable_id(place, following + 1, input, incoming)?;
+    read_parsed(
+        |text| check_subtable_line(place, text),
+        following + 1,
+        input,
+        incoming,
+    )?;
     if !may_follow(form, sizes) {
         return Err(DumpReadFault::Build(BuildFault::Order));
     }

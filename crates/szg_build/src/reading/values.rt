@@ -23,15 +23,6 @@ fn push_run(list: &mut Vec<u16>, size: u64, value: u16) -> Result<(), AllocFaile
     Ok(())
 }
 
-/// Lists a run of `count` equal values.
-fn list_run(alloc: Global, value: u16, count: u64) -> Result<Vec<u16>, AllocError>
-    ensures { IfOk result (λ list. list.items ≡ replicate count value) }
-{
-    let mut list = Vec::new(alloc);
-    push_run(&mut list, count, value)?;
-    Ok(list)
-}
-
 impl Values {
     /// Creates an empty list of values, as a run of length 0.
     pub(crate) fn new() -> Values
@@ -63,7 +54,7 @@ impl Values {
                         count: count + size,
                     });
                 }
-                let mut list = list_run(alloc, first, count)?;
+                let mut list = vec![in alloc; first; count as usize]?;
                 push_run(&mut list, size, value)?;
                 Ok(Values::Listed(list))
             }
@@ -86,7 +77,7 @@ impl Values {
     {
         match self {
             Values::Listed(list) => Ok(list),
-            Values::Run { value, count } => list_run(alloc, value, count),
+            Values::Run { value, count } => Ok(vec![in alloc; value; count as usize]?),
         }
     }
 }

@@ -29,12 +29,7 @@ pub(crate) fn log2(number: u64) -> u64 {
 
 /// Returns the count of a symbol; 0 if `symbol` is after the end of `counts`.
 pub(crate) fn count_at(counts: &[u64], symbol: u16) -> u64 {
-    let place = usize::from(symbol);
-    if place < counts.len() {
-        counts[place]
-    } else {
-        0
-    }
+    counts.get(usize::from(symbol)).copied().unwrap_or(0)
 }
 
 /// How many symbols a text has, and how often the most frequent one occurs.

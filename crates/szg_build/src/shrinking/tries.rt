@@ -42,7 +42,7 @@ pub(crate) fn copy_of(alloc: Global, paired: &Paired) -> Result<Paired, AllocErr
 impl Best {
     /// Returns the approximate number of bytes with the best text: those of its subtable and, if `other_bytes` is
     /// known, also the table's other bytes before the sparse indexes.
-    pub fn bytes(&self) -> u64 {
+    pub(crate) fn bytes(&self) -> u64 {
         match self.other_bytes {
             None => self.cost,
             Some(_) => self.cost / 64,
@@ -50,13 +50,13 @@ impl Best {
     }
 
     /// Returns what a try costs.
-    pub fn cost_of(&self, alloc: Global, tried: &Paired) -> Result<u64, AllocError> {
+    pub(crate) fn cost_of(&self, alloc: Global, tried: &Paired) -> Result<u64, AllocError> {
         let values = self.leaves.len() as u64;
         Ok(choose_sizes(alloc, values, tried, self.other_bytes)?.cost)
     }
 
     /// Copies `tried` into `paired` if it costs less than the best text. Returns whether it does.
-    pub fn offer(&mut self, alloc: Global, tried: &Paired) -> Result<bool, AllocError> {
+    pub(crate) fn offer(&mut self, alloc: Global, tried: &Paired) -> Result<bool, AllocError> {
         self.tries = self.tries.saturating_add(1);
         let cost = self.cost_of(alloc, tried)?;
         if cost >= self.cost {
@@ -70,7 +70,7 @@ impl Best {
     /// Spells the leaves with a dictionary, and drops the pairs that the new text does not need. A symbol's cost is
     /// `4 - quarters` quarters of the length of its word in the code chosen by the dictionary's counts, and `quarters`
     /// quarters of the bits estimated from its count.
-    pub fn spelled(
+    pub(crate) fn spelled(
         &mut self,
         alloc: Global,
         dictionary: Kept,

@@ -10,37 +10,37 @@ use szg_io::{Output, give_whole};
 
 /// The state of a writer of text.
 #[derive(Drop)]
-pub(crate) struct Outgoing {
+pub(crate) struct OutgoingText {
     /// The number of bytes written; it saturates at the greatest 64-bit value.
     pub out: u64,
     /// The buffered bytes, which come after the written ones.
     pub held: ArrayVec<u8, 4096>,
 }
 
-impl Outgoing {
+impl OutgoingText {
     /// Creates the state before the first byte.
-    pub fn new() -> Outgoing
+    pub(crate) fn new() -> OutgoingText
         ensures out { result.out ≡ 0 }
         ensures held { result.held.items ≡ [] }
     {
-        Outgoing {
+        OutgoingText {
             out: 0,
             held: ArrayVec::new(),
         }
     }
 }
 
-/// Writes `piece` after `out` bytes; returns the new total.
-fn give<W: Output>(piece: &[u8], output: &mut W, out: u64) -> Result<u64, WriteFault>
-    ensures ok { IfOk result (λ now. now ≡ min (out + length piece.now) (2 ^ 64 - 1)) }
-    ensures given { OnOk result (Gives W.Output output.old output.new piece.now 0) }
+/// Writes `chunk` after `out` bytes; returns the new total.
+fn give<W: Output>(chunk: &[u8], output: &mut W, out: u64) -> Result<u64, WriteFault>
+    ensures ok { IfOk result (λ now. now ≡ min (out + length chunk.now) (2 ^ 64 - 1)) }
+    ensures given { OnOk result (Gives W.Output output.old output.new chunk.now 0) }
     ensures quiet { OnOk result (W.failures output.new ≡ W.failures output.old) }
-    ensures fault { IfErr result (λ fault. (n : ℕ) × (n < length piece.now) × (fault.out ≡ min (out + n) (2 ^ 64 - 1))
-        × Gives W.Output output.old output.new (take n piece.now) 1) }
+    ensures fault { IfErr result (λ fault. (n : ℕ) × (n < length chunk.now) × (fault.out ≡ min (out + n) (2 ^ 64 - 1))
+        × Gives W.Output output.old output.new (take n chunk.now) 1) }
     ensures failed { OnErr result (HasFailed (W.failures output.old) (W.failures output.new) (W.interrupted output.new)) }
 {
-    match give_whole(output, piece) {
-        Ok(()) => Ok(out.saturating_add(piece.len() as u64)),
+    match give_whole(output, chunk) {
+        Ok(()) => Ok(out.saturating_add(chunk.len() as u64)),
         Err(n) => Err(WriteFault {
             out: out.saturating_add(n as u64),
         }),
@@ -48,7 +48,10 @@ fn give<W: Output>(piece: &[u8], output: &mut W, out: u64) -> Result<u64, WriteF
 }
 
 /// Writes the buffered bytes.
-pub(crate) fn flush<W: Output>(output: &mut W, outgoing: &mut Outgoing) -> Result<(), WriteFault>
+pub(crate) fn flush<W: Output>(
+    output: &mut W,
+    outgoing: &mut OutgoingText,
+) -> Result<(), WriteFault>
     ensures none { Writing [] outgoing.old outgoing.new W.Output output.old output.new result }
     ensures held { OnOk result (outgoing.new.held.items ≡ []) }
 {
@@ -57,29 +60,29 @@ pub(crate) fn flush<W: Output>(output: &mut W, outgoing: &mut Outgoing) -> Resul
     Ok(())
 }
 
-/// Appends `piece` to the buffer.
-fn hold(piece: &[u8], outgoing: &mut Outgoing)
-    requires { length outgoing.old.held.items + length piece.now ≤ 4096 }
+/// Appends `chunk` to the buffer.
+fn hold(chunk: &[u8], outgoing: &mut OutgoingText)
+    requires { length outgoing.old.held.items + length chunk.now ≤ 4096 }
     ensures out { outgoing.new.out ≡ outgoing.old.out }
-    ensures held { outgoing.new.held.items ≡ outgoing.old.held.items ++ piece.now }
+    ensures held { outgoing.new.held.items ≡ outgoing.old.held.items ++ chunk.now }
 {
-    let Ok(()) = outgoing.held.try_extend_from_slice(piece) else {
+    let Ok(()) = outgoing.held.try_extend_from_slice(chunk) else {
         unreachable!()
     };
 }
 
-/// Appends `piece`, at most 4,096 bytes, to the buffer. The buffer is written first only if `piece` does not fit.
+/// Appends `chunk`, at most 4,096 bytes, to the buffer. The buffer is written first only if `chunk` does not fit.
 pub(crate) fn put<W: Output>(
-    piece: &[u8],
+    chunk: &[u8],
     output: &mut W,
-    outgoing: &mut Outgoing,
+    outgoing: &mut OutgoingText,
 ) -> Result<(), WriteFault>
-    requires { length piece.now ≤ 4096 }
-    ensures { Writing piece.now outgoing.old outgoing.new W.Output output.old output.new result }
+    requires { length chunk.now ≤ 4096 }
+    ensures { Writing chunk.now outgoing.old outgoing.new W.Output output.old output.new result }
 {
-    if outgoing.held.len() + piece.len() > 4096 {
+    if outgoing.held.len() + chunk.len() > 4096 {
         flush(output, outgoing)?;
     }
-    hold(piece, outgoing);
+    hold(chunk, outgoing);
     Ok(())
 }

@@ -12,65 +12,13 @@ ghost use Rattle.szg_build.specs.Writing.{Writing};
 
 use crate::places::places;
 use crate::writing::dump_sink::DumpSink;
-use crate::writing::outgoing::{Outgoing, flush};
+use crate::writing::outgoing::{OutgoingText, flush};
 use crate::writing::{
-    put_flags_and_map, put_front, put_number, put_pair, put_parts, put_subtable_id, run_length,
+    put_equal, put_flags_and_map, put_front, put_number, put_parts, put_subtable_id, run_length,
 };
 use szg_file::{SinkFault, TableIndex, ValueSink, WriteFault};
 use szg_io::Output;
 use szg_values::Kind;
-
-// ---- runs
-
-/// Writes the line of a run, unless the run is empty.
-fn put_run<W: Output>(
-    count: u64,
-    value: u16,
-    output: &mut W,
-    outgoing: &mut Outgoing,
-) -> Result<(), WriteFault>
-    ensures written { OnOk result (Writing {X = Unit {0}} (lines_text (value_lines (form_of 2) (replicate count value))) outgoing.old outgoing.new W.Output output.old output.new (Ok tt)) }
-    ensures failed { OnErr result (HasFailed (W.failures output.old) (W.failures output.new) (W.interrupted output.new)) }
-{
-    if count == 0 {
-        return Ok(());
-    }
-    put_pair(b"", count, u64::from(value), output, outgoing)
-}
-
-/// Writes a value `count` times, each time on a line.
-fn put_same<W: Output>(
-    count: u64,
-    value: u16,
-    output: &mut W,
-    outgoing: &mut Outgoing,
-) -> Result<(), WriteFault>
-    ensures written { OnOk result (Writing {X = Unit {0}} (lines_text (value_lines (form_of 1) (replicate count value))) outgoing.old outgoing.new W.Output output.old output.new (Ok tt)) }
-    ensures failed { OnErr result (HasFailed (W.failures output.old) (W.failures output.new) (W.interrupted output.new)) }
-{
-    'lines: for _done in 0..count {
-        put_number(b"", u64::from(value), output, outgoing)?;
-    }
-    Ok(())
-}
-
-/// Writes equal values in form `form`.
-fn put_equal<W: Output>(
-    form: u8,
-    count: u64,
-    value: u16,
-    output: &mut W,
-    outgoing: &mut Outgoing,
-) -> Result<(), WriteFault>
-    ensures written { OnOk result (Writing {X = Unit {0}} (lines_text (value_lines (form_of form) (replicate count value))) outgoing.old outgoing.new W.Output output.old output.new (Ok tt)) }
-    ensures failed { OnErr result (HasFailed (W.failures output.old) (W.failures output.new) (W.interrupted output.new)) }
-{
-    if form == 2 {
-        put_run(count, value, output, outgoing)
-    } else {
-        put_same(count, value, output, outgoing)
-    }
-}
 
 // ---- the lines before a subtable's values
 
@@ -101,7 +49,7 @@ fn put_flags_of<W: Output>(
     index: &TableIndex,
     s: usize,
     output: &mut W,
-    outgoing: &mut Outgoing,
+    outgoing: &mut OutgoingText,
 ) -> Result<(), WriteFault>
     requires { s < length (heads_of index.now) }
     ensures written { OnOk result (Writing {X = Unit {0}} (lines_text (flags_lines index.now.kind (sub_of (get_or (heads_of index.now) s no_head)))) outgoing.old outgoing.new W.Output output.old output.new (Ok tt)) }
@@ -130,7 +78,7 @@ fn put_head<W: Output>(
     index: &TableIndex,
     s: usize,
     output: &mut W,
-    outgoing: &mut Outgoing,
+    outgoing: &mut OutgoingText,
 ) -> Result<(), WriteFault>
     requires { s < head_count index.now }
     ensures written { OnOk result (Writing {X = Unit {0}} (lines_text (head_lines index.now.kind (get_or (subtable_ids_of index.now.material index.now.kind) s (0, 0)) (get_or (heads_of index.now) s no_head))) outgoing.old outgoing.new W.Output output.old output.new (Ok tt)) }
@@ -147,7 +95,7 @@ fn put_heads<W: Output>(
     index: &TableIndex,
     from: usize,
     output: &mut W,
-    outgoing: &mut Outgoing,
+    outgoing: &mut OutgoingText,
 ) -> Result<(), WriteFault>
     ensures written { OnOk result (Writing {X = Unit {0}} (heads_text index.now.kind (drop from (subtable_ids_of index.now.material index.now.kind)) (drop from (heads_of index.now))) outgoing.old outgoing.new W.Output output.old output.new (Ok tt)) }
     ensures failed { OnErr result (HasFailed (W.failures output.old) (W.failures output.new) (W.interrupted output.new)) }
@@ -175,7 +123,7 @@ pub(crate) fn begin_dump<'a, W: Output>(
     ensures failed { OnErr result (HasFailed (W.failures output.old) (W.failures output.new) (W.interrupted output.new)) }
     ensures quiet { OnOk result (W.failures output.new ≡ W.failures output.old) }
 {
-    let mut outgoing = Outgoing::new();
+    let mut outgoing = OutgoingText::new();
     let material = index.material();
     put_front(form, material, index.kind(), last, output, &mut outgoing)?;
     put_parts(material, index.parts(), output, &mut outgoing)?;

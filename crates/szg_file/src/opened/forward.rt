@@ -76,7 +76,7 @@ impl<S: Source + Drop> Forward<S> {
     }
 
     /// Returns the source.
-    pub fn into_source(self) -> S
+    pub(crate) fn into_source(self) -> S
         ensures content { S.content result ≡ self.content }
         ensures failed { S.failed result ≡ self.failed }
     {

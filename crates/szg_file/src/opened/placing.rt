@@ -31,7 +31,7 @@ struct Extent {
 }
 
 /// Returns the number of padding bytes from offset `place` up to a multiple of 64.
-pub fn padding_to_64(place: u64) -> u64
+pub(crate) fn padding_to_64(place: u64) -> u64
     ensures gap { result ≡ gap 64 place }
     ensures few { result < 64 }
 {
@@ -68,7 +68,11 @@ fn place_blocks(sub: &Sub, place: u64) -> Extent
 
 /// Computes the offsets of each subtable's blocks. The padding of the first begins at offset `place`, and each
 /// subtable follows the previous one. Errors: an allocation was refused.
-pub fn place_subs(alloc: Global, list: Vec<Measured>, place: u64) -> Result<PlacedSubs, AllocError>
+pub(crate) fn place_subs(
+    alloc: Global,
+    list: Vec<Measured>,
+    place: u64,
+) -> Result<PlacedSubs, AllocError>
     requires few { length list.items ≤ 8 }
     requires place { place < 2 ^ 60 }
     ensures subs { IfOk result (λ p. (content : List ℕ) → map (whole_sub content) p.subs.items ≡ unread_subs content place list.items) }

@@ -18,7 +18,7 @@ use szg_block::{Sub, check_block_from};
 use szg_io::Input;
 
 /// Reads the blocks of each subtable that is not constant.
-pub fn read_blocks<R: Input>(
+pub(crate) fn read_blocks<R: Input>(
     alloc: Global,
     list: Vec<Measured>,
     input: &mut R,
@@ -120,7 +120,7 @@ fn take_packed<R: Input>(
 }
 
 /// Returns the number of bytes of each block, 0 for a constant subtable.
-pub fn block_bytes(sub: &Sub) -> u64
+pub(crate) fn block_bytes(sub: &Sub) -> u64
     requires { IfSome (layout_of sub.now) (λ layout. layout.block_bits ≤ 18) }
     ensures bytes { IfSome (layout_of sub.now) (λ layout. result ≡ 2 ^ layout.block_bits) }
     ensures none { IfNone (layout_of sub.now) (result ≡ 0) }

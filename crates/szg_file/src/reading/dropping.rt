@@ -34,7 +34,7 @@ pub struct PlacedSub {
 /// Reads and checks the blocks of each subtable that is not constant, and keeps the offset of the first. The buffer
 /// grows to the longest block. The values that the sink wants are handed to it in file order. Errors: `Memory` too if
 /// the sink takes no more values.
-pub fn pass_subs<R: Input + Ahead, W, K: ValueSink<W>>(
+pub(crate) fn pass_subs<R: Input + Ahead, W, K: ValueSink<W>>(
     alloc: Global,
     kind: Kind,
     list: Vec<Measured>,
@@ -116,7 +116,7 @@ fn make_room(buffer: &mut Vec<u8>, size: usize) -> Result<(), ReadFault>
 
 /// Reads block `n` into a buffer of a block's length and checks it there. `before` is the number of values in the
 /// blocks before it.
-pub fn pass_block<R: Input>(
+pub(crate) fn pass_block<R: Input>(
     buffer: &mut [u8],
     sub: &Sub,
     size: u64,

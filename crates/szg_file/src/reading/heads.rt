@@ -27,7 +27,7 @@ use szg_pairs::{Dict, DictFault};
 ///
 /// `BlockBits`, `SpanBits`, `CodeLengths`, `LowestOrder`, `TooFull`, `Child`, `Cycle` and `LongSymbol` are checked
 /// in the order of a header's bytes.
-pub fn read_heads<R: Input>(
+pub(crate) fn read_heads<R: Input>(
     alloc: Global,
     slots: &[Slot],
     input: &mut R,

@@ -77,7 +77,7 @@ fn read_index<R: Input>(
 }
 
 /// Reads the sparse index of each subtable that is not constant, and then the block lengths of each.
-pub fn read_lengths<R: Input>(
+pub(crate) fn read_lengths<R: Input>(
     alloc: Global,
     list: Vec<Begun>,
     input: &mut R,

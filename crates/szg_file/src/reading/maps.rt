@@ -19,7 +19,7 @@ use szg_io::Input;
 use szg_values::Kind;
 
 /// Reads the maps of a DTZ file, one item per part, and the padding after them. A WDL file has none.
-pub fn read_maps<R: Input>(
+pub(crate) fn read_maps<R: Input>(
     alloc: Global,
     kind: Kind,
     heads: &[Begun],

@@ -34,7 +34,7 @@ pub struct Outline {
 
 /// Reads a whole file. Each block is read into the buffer, which grows to the longest. The values that the sink wants
 /// are handed to it in file order. Errors: as `read`; `Memory` too if the sink takes no more values.
-pub fn read_outline<R: Input + Ahead, W, K: ValueSink<W>>(
+pub(crate) fn read_outline<R: Input + Ahead, W, K: ValueSink<W>>(
     alloc: Global,
     material: &Material,
     kind: Kind,

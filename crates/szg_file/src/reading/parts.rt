@@ -30,7 +30,7 @@ pub struct Parts {
 }
 
 /// Returns the number of order bytes of a part.
-pub fn order_count(material: &Material) -> usize
+pub(crate) fn order_count(material: &Material) -> usize
     ensures number { result ≡ order_bytes material.now }
     ensures some { 1 ≤ result }
     ensures few { result ≤ 2 }
@@ -90,7 +90,7 @@ pub struct SideSizes {
 
 /// Returns the sizes of the sides of a part that begins at offset `place`. Errors: the offset and the reason of its
 /// refusal.
-pub fn part_sizes(
+pub(crate) fn part_sizes(
     material: &Material,
     kind: Kind,
     part: u8,
@@ -184,7 +184,7 @@ pub fn part_count(material: &Material) -> u8
 }
 
 /// Appends the slots of a part.
-pub fn push_slots(slots: &mut ArrayVec<Slot, 8>, part: u8, sizes: SideSizes)
+pub(crate) fn push_slots(slots: &mut ArrayVec<Slot, 8>, part: u8, sizes: SideSizes)
     requires part { part < 4 }
     requires first { sizes.first < 2 ^ 33 }
     requires second { IfSome sizes.second (λ second. second < 2 ^ 33) }

@@ -29,7 +29,7 @@ pub struct FrontRead {
 }
 
 /// Reads all sections up to the block lengths.
-pub fn read_front<R: Input>(
+pub(crate) fn read_front<R: Input>(
     alloc: Global,
     material: &Material,
     kind: Kind,

@@ -23,7 +23,7 @@ pub fn magic(kind: Kind) -> [u8; 4]
 }
 
 /// Returns whether bit 1 of byte 4 is set exactly if the material has pawns.
-pub fn pawns_as(material: &Material, byte: u8) -> bool
+pub(crate) fn pawns_as(material: &Material, byte: u8) -> bool
     ensures { result ≡ agrees (has_bit 1 byte) (has_pawns material.now) }
 {
     has_bit(1, byte) == material.has_pawns()
@@ -31,7 +31,7 @@ pub fn pawns_as(material: &Material, byte: u8) -> bool
 
 /// Returns whether bit 0 of byte 4 of a WDL file is set exactly if the material is not symmetric. True for a DTZ
 /// file.
-pub fn splits_as(material: &Material, kind: Kind, byte: u8) -> bool
+pub(crate) fn splits_as(material: &Material, kind: Kind, byte: u8) -> bool
     ensures { result ≡ split_agrees material.now kind byte }
 {
     match kind {
@@ -41,7 +41,7 @@ pub fn splits_as(material: &Material, kind: Kind, byte: u8) -> bool
 }
 
 /// Reads the magic and byte 4, each with its checks; returns byte 4.
-pub fn read_start<R: Input>(
+pub(crate) fn read_start<R: Input>(
     material: &Material,
     kind: Kind,
     input: &mut R,

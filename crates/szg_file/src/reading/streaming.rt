@@ -105,7 +105,7 @@ fn stream_blocks<R: Input, W, K: ValueSink<W>>(
 
 /// Reads the blocks of a subtable in order, each with its check. Their values are handed to the sink, if it wants
 /// those of this part and side.
-pub fn pass_blocks_to<R: Input, W, K: ValueSink<W>>(
+pub(crate) fn pass_blocks_to<R: Input, W, K: ValueSink<W>>(
     alloc: Global,
     buffer: &mut [u8],
     sub: &Sub,
@@ -144,7 +144,7 @@ pub fn pass_blocks_to<R: Input, W, K: ValueSink<W>>(
 
 /// Hands the values of a constant subtable to the sink, if it wants those of this part and side. Errors: `Memory`;
 /// the sink takes no more values.
-pub fn put_constant<W, K: ValueSink<W>>(
+pub(crate) fn put_constant<W, K: ValueSink<W>>(
     kind: Kind,
     sub: &Sub,
     slot: Slot,

@@ -15,7 +15,7 @@ use szg_block::Entry;
 use szg_io::{Input, take_whole};
 
 /// Reads a field into `piece`, which it fills.
-pub fn take_field<R: Input>(
+pub(crate) fn take_field<R: Input>(
     input: &mut R,
     front: &mut Front,
     piece: &mut [u8],
@@ -42,7 +42,7 @@ pub fn take_field<R: Input>(
 }
 
 /// Reads a byte.
-pub fn read_byte<R: Input>(input: &mut R, front: &mut Front) -> Result<u8, ReadFault>
+pub(crate) fn read_byte<R: Input>(input: &mut R, front: &mut Front) -> Result<u8, ReadFault>
     requires { front.old.place < 2 ^ 62 }
     ensures byte { Reading (number_field 1) (λ byte. byte) front.old front.new R.Input input.old input.new result }
     ensures place { OnOk result (front.new.place ≡ front.old.place + 1) }
@@ -98,7 +98,7 @@ fn take_piece<R: Input>(
 }
 
 /// Reads a field of `count` bytes into a new list, in chunks.
-pub fn take_bytes<R: Input>(
+pub(crate) fn take_bytes<R: Input>(
     alloc: Global,
     count: u64,
     input: &mut R,
@@ -118,7 +118,7 @@ pub fn take_bytes<R: Input>(
 }
 
 /// Reads a field of `count` bytes in chunks, and appends it to a list.
-pub fn take_more<R: Input>(
+pub(crate) fn take_more<R: Input>(
     list: &mut Vec<u8>,
     count: u64,
     input: &mut R,
@@ -143,7 +143,7 @@ pub fn take_more<R: Input>(
 }
 
 /// Reads `count` padding bytes, at most 63.
-pub fn take_spare<R: Input>(
+pub(crate) fn take_spare<R: Input>(
     alloc: Global,
     count: u8,
     input: &mut R,
@@ -170,7 +170,7 @@ pub fn take_spare<R: Input>(
 }
 
 /// Reads the padding up to a multiple of `unit`, which is 2 or 64.
-pub fn take_fill<R: Input>(
+pub(crate) fn take_fill<R: Input>(
     alloc: Global,
     unit: u8,
     input: &mut R,
@@ -223,7 +223,7 @@ fn grow_ahead<T>(
 }
 
 /// Reads `count` two-byte numbers as one field.
-pub fn take_numbers<R: Input>(
+pub(crate) fn take_numbers<R: Input>(
     alloc: Global,
     count: u64,
     input: &mut R,
@@ -250,7 +250,7 @@ pub fn take_numbers<R: Input>(
 }
 
 /// Reads `count` dictionary entries, three bytes each, as one field.
-pub fn take_entries<R: Input>(
+pub(crate) fn take_entries<R: Input>(
     alloc: Global,
     count: u64,
     input: &mut R,
@@ -277,7 +277,7 @@ pub fn take_entries<R: Input>(
 }
 
 /// Reads `count` entries of a sparse index, six bytes each, as one field.
-pub fn take_sparse<R: Input>(
+pub(crate) fn take_sparse<R: Input>(
     alloc: Global,
     count: u64,
     input: &mut R,

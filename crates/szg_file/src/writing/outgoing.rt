@@ -95,7 +95,7 @@ pub fn put<W: Output>(
 }
 
 /// Buffers or writes the next `count` padding bytes.
-pub fn put_spare<W: Output>(
+pub(crate) fn put_spare<W: Output>(
     count: u64,
     output: &mut W,
     outgoing: &mut Outgoing,
@@ -110,7 +110,7 @@ pub fn put_spare<W: Output>(
 }
 
 /// Buffers or writes the padding up to a multiple of `unit`, which is 2 or 64.
-pub fn put_padding<W: Output>(
+pub(crate) fn put_padding<W: Output>(
     unit: u64,
     output: &mut W,
     outgoing: &mut Outgoing,
@@ -165,7 +165,7 @@ fn put_u32<W: Output>(
 }
 
 /// Writes two-byte numbers.
-pub fn put_numbers<W: Output>(
+pub(crate) fn put_numbers<W: Output>(
     list: &[u16],
     output: &mut W,
     outgoing: &mut Outgoing,
@@ -181,7 +181,7 @@ pub fn put_numbers<W: Output>(
 }
 
 /// Writes the entries of a dictionary.
-pub fn put_symbols<W: Output>(
+pub(crate) fn put_symbols<W: Output>(
     dict: &Dict,
     output: &mut W,
     outgoing: &mut Outgoing,
@@ -206,7 +206,7 @@ fn put_entry<W: Output>(
 }
 
 /// Writes a sparse index.
-pub fn put_sparse<W: Output>(
+pub(crate) fn put_sparse<W: Output>(
     sparse: &[Entry],
     output: &mut W,
     outgoing: &mut Outgoing,

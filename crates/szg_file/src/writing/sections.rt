@@ -59,7 +59,7 @@ pub struct FieldsRef<'a> {
 }
 
 /// Hands all sections of a table's file to a sink.
-pub fn put_sections<W, S: SectionSink<W>>(fields: &FieldsRef, sink: &mut S, out: &mut W)
+pub(crate) fn put_sections<W, S: SectionSink<W>>(fields: &FieldsRef, sink: &mut S, out: &mut W)
     ensures { Took S.takes (sections (contents_in fields.now)) sink.old out.old sink.new out.new }
 {
     let FieldsRef {

@@ -6,6 +6,7 @@ mod placements;
 mod program;
 mod shapes;
 mod texts;
+mod verification;
 mod words;
 
 use fixtures::{knvk_wdl_constant, kpvk_dtz_mapped, kqvk_wdl_unpaired};

@@ -39,7 +39,7 @@ impl Errors {
     }
 
     /// Returns its text, and begins it anew.
-    fn take(&self, alloc: Global) -> Result<String, Fail> {
+    pub fn take(&self, alloc: Global) -> Result<String, Fail> {
         Ok(self.text.try_replace(String::new(alloc))?)
     }
 }
@@ -69,6 +69,7 @@ fn run_line(
         &errors,
         rt,
         &words,
+        false,
         input,
         output,
         &mut ProgressLine::new(&errors, rt, false),
@@ -175,7 +176,7 @@ fn streams_and_statuses(rt: HostRuntime) -> Result<(), Fail> {
 
 /// The help of the program.
 const HELP: &str =
-    "Check, show, copy, dump and build Syzygy table files, and look up values and placements in them.\nReads the table file (for build: the dump) from standard input, or by its path.\n\nUsage: szg <COMMAND>\n\nCommands:\n  check      Check a table file, and print ok and its length in bytes\n  show       Print the header of a table file: its parts, orders, flags and sizes\n  get        Print the stored value at an index\n  values     Print all stored values of one part and side, one per line\n  copy       Check a table file, and write it without any bytes that follow it\n  dump       Print a table as text, which build takes\n  build      Build a table file from a dump\n  index      Print the part, side and index of a placement\n  probe      Print the stored value of a placement: not its result where a capture (WDL), or a capture or\n             pawn move (DTZ), decides; en passant and the fifty-move counter don't change it\n  placement  Print the placement at an index: the side to move, and the men\n  help       Print this message or the help of the given subcommand(s)\n\nOptions:\n  -h, --help     Print help\n  -V, --version  Print version\n\nExamples:\n  szg check *.rtbw *.rtbz\n  szg get KQvK.rtbw 31331 --side 1\n  szg get KQvK wdl 31331 --side 1 < KQvK.rtbw\n\nA FILE that ends in .rtbw or .rtbz replaces NAME and KIND; szg get KQvK.rtbw --help prints the\noptions for files. szg build takes the file of a dump.\n\nExit status: 0 done; 1 refused, and a line on standard output gives the reason; 2 wrong words, or\nhelp; 3 standard input or output failed; 4 out of memory.\n";
+    "Check, show, copy, dump and build Syzygy table files, and look up values and placements in them.\nReads the table file (for build: the dump) from standard input, or by its path.\n\nUsage: szg <COMMAND>\n\nCommands:\n  check      Check a table file, and print ok and its length in bytes\n  show       Print the header of a table file: its parts, orders, flags and sizes\n  get        Print the stored value at an index\n  values     Print all stored values of one part and side, one per line\n  copy       Check a table file, and write it without any bytes that follow it\n  dump       Print a table as text, which build takes\n  build      Build a table file from a dump\n  index      Print the part, side and index of a placement\n  probe      Print the stored value of a placement: not its result if a capture (WDL), or a capture or pawn\n             move (DTZ), decides; en passant and the fifty-move counter don't change it; szg probe FOLDER FEN\n             prints the result\n  verify     Verify a folder's tables against chess: each position against its own moves\n  placement  Print the placement at an index: the side to move, and the men\n  help       Print this message or the help of the given subcommand(s)\n\nOptions:\n  -h, --help     Print help\n  -V, --version  Print version\n\nExamples:\n  szg probe tables '7k/8/8/8/8/8/3Q4/K7 w - - 0 1'\n  szg check *.rtbw *.rtbz\n  szg get KQvK.rtbw 31331 --side 1\n  szg get KQvK wdl 31331 --side 1 < KQvK.rtbw\n\nA FILE that ends in .rtbw or .rtbz replaces NAME and KIND: szg get --help prints the options for\nfiles, szg get KQvK wdl --help those for standard input. szg build takes the file of a dump.\n\nExit status: 0 done; 1 refused, and a line on standard output gives the reason; 2 wrong words, or\nhelp; 3 standard input or output failed; 4 out of memory.\n";
 
 #[test]
 fn help(rt: HostRuntime) -> Result<(), Fail> {

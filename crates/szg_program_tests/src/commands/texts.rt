@@ -16,7 +16,7 @@ const TABLE: &str =
     "<FILE> Table file; its name gives material and kind: KQvKR.rtbw is WDL, KQvKR.rtbz is DTZ";
 
 const TABLES: &str =
-    "<FILE>... Table files; their names give material and kind: KQvKR.rtbw is WDL, KQvKR.rtbz is DTZ";
+    "<FILE>... Table files, and folders: all table files below them; their names give material and kind: KQvKR.rtbw is WDL, KQvKR.rtbz is DTZ";
 
 const DUMP: &str = "[DUMP] Dump file [default: standard input]";
 
@@ -66,6 +66,8 @@ const OUTPUT: &str =
 
 const TRAILING: &str = "--allow-trailing Accept files with more bytes after the table";
 
+const QUIET: &str = "--quiet Report only files that are refused or can't be read, and the summary";
+
 const REPORT: &str =
     "--format <FORMAT> Format of the report: text is one line per file and a summary; tsv and json are one record per file: path, verdict, bytes, reason, offset (bytes), time (seconds) [default: text] [possible values: text, tsv, json]";
 
@@ -79,6 +81,16 @@ struct Text<'a> {
     end: &'a str,
 }
 
+const VERIFICATION: Text<'_> = Text {
+    usage: "<FOLDER> [NAME]...",
+    arguments: &[
+        "<FOLDER> Folder of table files",
+        "[NAME]... Materials to verify, such as KQvKR, with those that captures and promotions lead to [default: all of the folder]",
+    ],
+    options: &[HELP],
+    end: "Example: szg verify tables KQvKR",
+};
+
 /// A command: what it does, and its texts of help on the standard streams and for files.
 struct Command<'a> {
     name: &'a str,
@@ -87,7 +99,7 @@ struct Command<'a> {
     files: Text<'a>,
 }
 
-static COMMANDS: [Command<'_>; 10] = [
+static COMMANDS: [Command<'_>; 11] = [
     Command {
         name: "check",
         about: "Check a table file, and print ok and its length in bytes",
@@ -95,13 +107,13 @@ static COMMANDS: [Command<'_>; 10] = [
             usage: "<NAME> <KIND>",
             arguments: &[NAME, KIND],
             options: &[HELP],
-            end: "Example: szg check KQvK wdl < KQvK.rtbw Files: szg check KQvK.rtbw --help",
+            end: "Example: szg check KQvK wdl < KQvK.rtbw Files: szg check --help",
         },
         files: Text {
             usage: "[OPTIONS] <FILE>...",
             arguments: &[TABLES],
-            options: &[REPORT, TRAILING, NAMED, KINDED, HELP],
-            end: "Example: szg check *.rtbw *.rtbz",
+            options: &[QUIET, REPORT, TRAILING, NAMED, KINDED, HELP],
+            end: "Example: szg check *.rtbw *.rtbz Standard input: szg check KQvK wdl < KQvK.rtbw",
         },
     },
     Command {
@@ -111,13 +123,13 @@ static COMMANDS: [Command<'_>; 10] = [
             usage: "<NAME> <KIND>",
             arguments: &[NAME, KIND],
             options: &[HELP],
-            end: "Example: szg show KQvK wdl < KQvK.rtbw Files: szg show KQvK.rtbw --help",
+            end: "Example: szg show KQvK wdl < KQvK.rtbw Files: szg show --help",
         },
         files: Text {
             usage: "[OPTIONS] <FILE>",
             arguments: &[TABLE],
             options: &[NAMED, KINDED, HELP],
-            end: "Example: szg show KQvK.rtbw",
+            end: "Example: szg show KQvK.rtbw Standard input: szg show KQvK wdl < KQvK.rtbw",
         },
     },
     Command {
@@ -127,13 +139,13 @@ static COMMANDS: [Command<'_>; 10] = [
             usage: "[OPTIONS] <NAME> <KIND> <INDEX>",
             arguments: &[NAME, KIND, INDEX],
             options: &[PART, SIDE, STEPS, HELP],
-            end: "Example: szg get KQvK wdl 31331 --side 1 < KQvK.rtbw Files: szg get KQvK.rtbw --help",
+            end: "Example: szg get KQvK wdl 31331 --side 1 < KQvK.rtbw Files: szg get --help",
         },
         files: Text {
             usage: "[OPTIONS] <FILE> <INDEX>",
             arguments: &[TABLE, INDEX],
             options: &[PART, SIDE, STEPS, VERIFY, NAMED, KINDED, HELP],
-            end: "Example: szg get KQvK.rtbw 31331 --side 1",
+            end: "Example: szg get KQvK.rtbw 31331 --side 1 Standard input: szg get KQvK wdl 31331 --side 1 < KQvK.rtbw",
         },
     },
     Command {
@@ -143,13 +155,13 @@ static COMMANDS: [Command<'_>; 10] = [
             usage: "[OPTIONS] <NAME> <KIND>",
             arguments: &[NAME, KIND],
             options: &[PART, SIDE, HELP],
-            end: "Example: szg values KPvK wdl --part c < KPvK.rtbw Files: szg values KPvK.rtbw --help",
+            end: "Example: szg values KPvK wdl --part c < KPvK.rtbw Files: szg values --help",
         },
         files: Text {
             usage: "[OPTIONS] <FILE>",
             arguments: &[TABLE],
             options: &[PART, SIDE, NAMED, KINDED, HELP],
-            end: "Example: szg values KPvK.rtbw --part c",
+            end: "Example: szg values KPvK.rtbw --part c Standard input: szg values KPvK wdl --part c < KPvK.rtbw",
         },
     },
     Command {
@@ -159,13 +171,13 @@ static COMMANDS: [Command<'_>; 10] = [
             usage: "<NAME> <KIND>",
             arguments: &[NAME, KIND],
             options: &[HELP],
-            end: "Example: szg copy KQvK wdl < KQvK.rtbw > copy.rtbw Files: szg copy KQvK.rtbw --help",
+            end: "Example: szg copy KQvK wdl < KQvK.rtbw > copy.rtbw Files: szg copy --help",
         },
         files: Text {
             usage: "[OPTIONS] <FILE>",
             arguments: &[TABLE],
             options: &[OUTPUT, NAMED, KINDED, HELP],
-            end: "Example: szg copy KQvK.rtbw -o copy.rtbw",
+            end: "Example: szg copy KQvK.rtbw -o copy.rtbw Standard input: szg copy KQvK wdl < KQvK.rtbw > copy.rtbw",
         },
     },
     Command {
@@ -175,13 +187,13 @@ static COMMANDS: [Command<'_>; 10] = [
             usage: "[OPTIONS] <NAME> <KIND>",
             arguments: &[NAME, KIND],
             options: &[FORM, HELP],
-            end: "Example: szg dump KQvK wdl < KQvK.rtbw > KQvK.txt Files: szg dump KQvK.rtbw --help",
+            end: "Example: szg dump KQvK wdl < KQvK.rtbw > KQvK.txt Files: szg dump --help",
         },
         files: Text {
             usage: "[OPTIONS] <FILE>",
             arguments: &[TABLE],
             options: &[FORM, OUTPUT, NAMED, KINDED, HELP],
-            end: "Example: szg dump KQvK.rtbw -o KQvK.txt",
+            end: "Example: szg dump KQvK.rtbw -o KQvK.txt Standard input: szg dump KQvK wdl < KQvK.rtbw > KQvK.txt",
         },
     },
     Command {
@@ -191,13 +203,13 @@ static COMMANDS: [Command<'_>; 10] = [
             usage: "[OPTIONS]",
             arguments: &[],
             options: &[PLAN, BLOCK, SPAN, ROUNDS, HELP],
-            end: "Example: szg build --block 8 < KQvK.txt > KQvK.rtbw Files: szg build KQvK.txt --help",
+            end: "Example: szg build --block 8 < KQvK.txt > KQvK.rtbw Files: szg build --help",
         },
         files: Text {
             usage: "[OPTIONS] [DUMP]",
             arguments: &[DUMP],
             options: &[PLAN, BLOCK, SPAN, ROUNDS, OUTPUT, HELP],
-            end: "Example: szg build KQvK.txt -o KQvK.rtbw",
+            end: "Example: szg build KQvK.txt -o KQvK.rtbw Standard input: szg build --block 8 < KQvK.txt > KQvK.rtbw",
         },
     },
     Command {
@@ -207,30 +219,36 @@ static COMMANDS: [Command<'_>; 10] = [
             usage: "<NAME> <KIND> <MOVER> <MAN>...",
             arguments: &[NAME, KIND, MOVER, MEN],
             options: &[HELP],
-            end: "Example: szg index KQvK wdl w Ke1 Qd1 kc8 < KQvK.rtbw Files: szg index KQvK.rtbw --help",
+            end: "Example: szg index KQvK wdl w Ke1 Qd1 kc8 < KQvK.rtbw Files: szg index --help",
         },
         files: Text {
             usage: "[OPTIONS] <FILE> <MOVER> <MAN>...",
             arguments: &[TABLE, MOVER, MEN],
             options: &[VERIFY, NAMED, KINDED, HELP],
-            end: "Example: szg index KQvK.rtbw w Ke1 Qd1 kc8",
+            end: "Example: szg index KQvK.rtbw w Ke1 Qd1 kc8 Standard input: szg index KQvK wdl w Ke1 Qd1 kc8 < KQvK.rtbw",
         },
     },
     Command {
         name: "probe",
-        about: "Print the stored value of a placement: not its result where a capture (WDL), or a capture or pawn move (DTZ), decides; en passant and the fifty-move counter don't change it",
+        about: "Print the stored value of a placement: not its result if a capture (WDL), or a capture or pawn move (DTZ), decides; en passant and the fifty-move counter don't change it; szg probe FOLDER FEN prints the result",
         streams: Text {
             usage: "[OPTIONS] <NAME> <KIND> <MOVER> <MAN>...",
             arguments: &[NAME, KIND, MOVER, MEN],
             options: &[CLASS, HELP],
-            end: "Example: szg probe KQvK wdl w Ke1 Qd1 kc8 < KQvK.rtbw Files: szg probe KQvK.rtbw --help",
+            end: "Example: szg probe KQvK wdl w Ke1 Qd1 kc8 < KQvK.rtbw Files: szg probe --help",
         },
         files: Text {
             usage: "[OPTIONS] <FILE> <MOVER> <MAN>...",
             arguments: &[TABLE, MOVER, MEN],
             options: &[CLASS, VERIFY, NAMED, KINDED, HELP],
-            end: "Example: szg probe KQvK.rtbz w Ke1 Qd1 kc8 --class win",
+            end: "Example: szg probe KQvK.rtbz w Ke1 Qd1 kc8 --class win Result of a position: szg probe FOLDER FEN Standard input: szg probe KQvK wdl w Ke1 Qd1 kc8 < KQvK.rtbw",
         },
+    },
+    Command {
+        name: "verify",
+        about: "Verify a folder's tables against chess: each position against its own moves",
+        streams: VERIFICATION,
+        files: VERIFICATION,
     },
     Command {
         name: "placement",
@@ -239,13 +257,13 @@ static COMMANDS: [Command<'_>; 10] = [
             usage: "[OPTIONS] <NAME> <KIND> <INDEX>",
             arguments: &[NAME, KIND, INDEX],
             options: &[PART, SIDE, HELP],
-            end: "Example: szg placement KQvK wdl 11711 < KQvK.rtbw Files: szg placement KQvK.rtbw --help",
+            end: "Example: szg placement KQvK wdl 11711 < KQvK.rtbw Files: szg placement --help",
         },
         files: Text {
             usage: "[OPTIONS] <FILE> <INDEX>",
             arguments: &[TABLE, INDEX],
             options: &[PART, SIDE, NAMED, KINDED, HELP],
-            end: "Example: szg placement KQvK.rtbw 11711",
+            end: "Example: szg placement KQvK.rtbw 11711 Standard input: szg placement KQvK wdl 11711 < KQvK.rtbw",
         },
     },
 ];
@@ -301,8 +319,14 @@ fn check_help(
 #[test]
 fn help_of_commands(rt: HostRuntime) -> Result<(), Fail> {
     for command in &COMMANDS {
-        check_help(&rt, command, "", &command.streams)?;
+        check_help(&rt, command, "", &command.files)?;
         check_help(&rt, command, " KQvK.rtbw", &command.files)?;
+        let words = if command.name == "build" {
+            " --rounds 1"
+        } else {
+            " KQvK wdl"
+        };
+        check_help(&rt, command, words, &command.streams)?;
     }
     Ok(())
 }

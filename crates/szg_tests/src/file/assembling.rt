@@ -1,12 +1,12 @@
 //! Tables assembled from their fields, unchanged and with a fault.
 
-use crate::files::{accepted, check_written, fixtures_of_all_sections, made, push, table_of};
-use crate::fixtures::{self, Fixture};
+use crate::files::{accepted, check_written, made, push, table_of};
 use std::alloc::{AllocError, Global};
 use std::process::Abort;
 use szg_block::Sub;
 use szg_code::Code;
 use szg_file::{Fields, Map, PartBytes, Table};
+use szg_fixtures::Fixture;
 use szg_pairs::Dict;
 
 fn copy_of_list<T: Copy>(rt: &(impl Abort + Alloc<A = Global>), list: &[T]) -> Vec<T> {
@@ -153,11 +153,14 @@ fn check_put_together(rt: &(impl Abort + Alloc<A = Global>), file: &Fixture) {
 
 #[test]
 fn tables_are_put_together(rt: HostRuntime) {
-    for file in &made(&rt, fixtures_of_all_sections(rt.alloc())) {
+    for file in &made(&rt, szg_fixtures::of_all_sections(rt.alloc())) {
         check_put_together(&rt, file);
     }
-    check_put_together(&rt, &made(&rt, fixtures::kqvk_dtz_packed(rt.alloc())));
-    check_put_together(&rt, &made(&rt, fixtures::kpvkp_wdl_constant(rt.alloc())));
+    check_put_together(&rt, &made(&rt, szg_fixtures::kqvk_dtz_packed(rt.alloc())));
+    check_put_together(
+        &rt,
+        &made(&rt, szg_fixtures::kpvkp_wdl_constant(rt.alloc())),
+    );
 }
 
 /// Fields that pass still pass with other values of the unused bits of byte 4 and of the padding bytes.
@@ -176,6 +179,6 @@ fn check_faults(rt: &impl Abort, mut fields: Fields) {
 
 #[test]
 fn faults_of_fields(rt: HostRuntime) {
-    let table = table_of(&rt, fixtures::kqvk_wdl_paired(rt.alloc()));
+    let table = table_of(&rt, szg_fixtures::kqvk_wdl_paired(rt.alloc()));
     check_faults(&rt, fields_of(&rt, &table));
 }

@@ -1,11 +1,11 @@
 //! The contents of tables, and look-ups in them.
 
 use crate::files::{accepted, made, table_of};
-use crate::fixtures::{self, Fixture};
 use std::alloc::{AllocError, Global};
 use std::process::Abort;
 use szg_block::Sub;
 use szg_file::{Map, MapFault, PartBytes, Table};
+use szg_fixtures::Fixture;
 use szg_values::Kind;
 
 /// A value, if the table has it.
@@ -29,7 +29,7 @@ fn number(table: &Table, part: u8, class: i8, v: u16) -> Option<Result<u32, MapF
 
 #[test]
 fn pawns_on_both_sides(rt: HostRuntime) {
-    let file = made(&rt, fixtures::kpvkp_wdl_constant(rt.alloc()));
+    let file = made(&rt, szg_fixtures::kpvkp_wdl_constant(rt.alloc()));
     assert!(rt; file.bytes.len() == 80);
     let table = accepted(&rt, &file, &[]);
     for part in 0..4 {
@@ -39,7 +39,7 @@ fn pawns_on_both_sides(rt: HostRuntime) {
 
 #[test]
 fn packed_distances(rt: HostRuntime) {
-    let file = made(&rt, fixtures::kqvk_dtz_packed(rt.alloc()));
+    let file = made(&rt, szg_fixtures::kqvk_dtz_packed(rt.alloc()));
     assert!(rt; file.bytes.len() == 4304);
     let table = accepted(&rt, &file, &[]);
     assert_eq!(rt; table.size(0, 0), Some(31332));
@@ -50,7 +50,7 @@ fn packed_distances(rt: HostRuntime) {
 
 #[test]
 fn two_packed_sides(rt: HostRuntime) {
-    let file = made(&rt, fixtures::kqvk_wdl_both_sides(rt.alloc()));
+    let file = made(&rt, szg_fixtures::kqvk_wdl_both_sides(rt.alloc()));
     assert!(rt; file.bytes.len() == 8528);
     let table = accepted(&rt, &file, &[]);
     for side in 0..2 {
@@ -97,15 +97,15 @@ fn check_sizes(
 
 #[test]
 fn sizes_of_sides(rt: HostRuntime) {
-    check_sizes(&rt, fixtures::knvk_wdl_constant(rt.alloc()), 1, 31332);
-    check_sizes(&rt, fixtures::kpvk_wdl_constant(rt.alloc()), 4, 23436);
-    let six = fixtures::kqrbvkn_wdl_constant(rt.alloc());
+    check_sizes(&rt, szg_fixtures::knvk_wdl_constant(rt.alloc()), 1, 31332);
+    check_sizes(&rt, szg_fixtures::kpvk_wdl_constant(rt.alloc()), 4, 23436);
+    let six = szg_fixtures::kqrbvkn_wdl_constant(rt.alloc());
     check_sizes(&rt, six, 1, 6765832080);
 }
 
 #[test]
 fn values_of_constant_sides(rt: HostRuntime) {
-    let table = table_of(&rt, fixtures::knvk_wdl_constant(rt.alloc()));
+    let table = table_of(&rt, szg_fixtures::knvk_wdl_constant(rt.alloc()));
     for side in 0..2 {
         assert!(rt; value(&table, 0, side, 31331) == Some(2));
         assert!(rt;
@@ -122,14 +122,14 @@ fn values_of_constant_sides(rt: HostRuntime) {
 
 #[test]
 fn values_of_pairs(rt: HostRuntime) {
-    let table = table_of(&rt, fixtures::kqvk_wdl_paired(rt.alloc()));
+    let table = table_of(&rt, szg_fixtures::kqvk_wdl_paired(rt.alloc()));
     check_queen(&rt, &table);
 }
 
 /// A last length that no value needs, extra lengths, and entries of the sparse index that locate them.
 #[test]
 fn values_under_other_lengths(rt: HostRuntime) {
-    let file = made(&rt, fixtures::kqvk_wdl_unpaired(rt.alloc()));
+    let file = made(&rt, szg_fixtures::kqvk_wdl_unpaired(rt.alloc()));
     let needless = [(282, 0xff), (283, 0xff), (32, 0x7a), (36, 0x00), (37, 0x06)];
     let small_extra = [(284, 0), (285, 0)];
     let beyond = [(284, 0), (285, 0), (32, 0x7c), (36, 0x9b)];
@@ -167,7 +167,7 @@ fn is_zero(table: &Table, part: u8, want: u8) -> bool {
 
 #[test]
 fn contents_of_a_file_of_distances(rt: HostRuntime) {
-    let table = table_of(&rt, fixtures::kpvk_dtz_mapped(rt.alloc()));
+    let table = table_of(&rt, szg_fixtures::kpvk_dtz_mapped(rt.alloc()));
     assert!(rt; has_ends(&table, "KPvK") && table.parts().len() == 4);
     assert!(rt; has_parts(table.parts(), &[0], &[1, 6, 14]));
     assert!(rt;
@@ -194,7 +194,7 @@ fn check_number(
 
 #[test]
 fn distances_of_values(rt: HostRuntime) {
-    let table = table_of(&rt, fixtures::kpvk_dtz_mapped(rt.alloc()));
+    let table = table_of(&rt, szg_fixtures::kpvk_dtz_mapped(rt.alloc()));
     check_number(&rt, &table, (0, 2, 0), Ok(14));
     check_number(&rt, &table, (1, 2, 0), Ok(600));
     check_number(&rt, &table, (2, 2, 0), Ok(0));
@@ -206,7 +206,7 @@ fn distances_of_values(rt: HostRuntime) {
 #[test]
 fn distances_of_losses(rt: HostRuntime) {
     for (flags, want) in [(0x82, 18), (0x8a, 9)] {
-        let table = table_of(&rt, fixtures::kpvk_dtz_losses(rt.alloc(), flags));
+        let table = table_of(&rt, szg_fixtures::kpvk_dtz_losses(rt.alloc(), flags));
         assert!(rt; number(&table, 0, -2, 1) == Some(Ok(want)));
         assert!(rt; number(&table, 0, -2, 2) == Some(Err(MapFault::OutsideMap)));
     }

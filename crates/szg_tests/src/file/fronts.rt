@@ -1,10 +1,10 @@
 //! Tables opened by their front from a reader, and values in blocks that the caller brings.
 
-use crate::files::{accepted, changed, fixtures_of_all_sections, made, material};
-use crate::fixtures::{self, Fixture};
+use crate::files::{accepted, made, material};
 use std::alloc::Global;
 use std::process::Abort;
 use szg_file::{FetchFault, FrontTable, ReadFault, Reason, Table, open_front};
+use szg_fixtures::Fixture;
 use szg_io::{Bytes, Cut};
 
 /// Opens a file of `size` bytes by its front, three bytes at a time; returns the number of bytes read, too.
@@ -75,7 +75,7 @@ fn check_values(
 /// Of each fixture the first thousand values and the last ones.
 #[test]
 fn values_by_a_front(rt: HostRuntime) {
-    for file in &made(&rt, fixtures_of_all_sections(rt.alloc())) {
+    for file in &made(&rt, szg_fixtures::of_all_sections(rt.alloc())) {
         let table = accepted(&rt, file, &[]);
         let (front, read) = match front_of(&rt, file, size_of(file)) {
             Ok(found) => found,
@@ -90,8 +90,11 @@ fn values_by_a_front(rt: HostRuntime) {
 /// The first block doesn't decode: its values are refused, and the last one is found.
 #[test]
 fn bad_block_by_a_front(rt: HostRuntime) {
-    let good = made(&rt, fixtures::kqvk_wdl_unpaired(rt.alloc()));
-    let file = changed(&rt, &good, &[(38, 0), (39, 1), (36, 0x9b)]);
+    let good = made(&rt, szg_fixtures::kqvk_wdl_unpaired(rt.alloc()));
+    let file = made(
+        &rt,
+        good.changed(rt.alloc(), &[(38, 0), (39, 1), (36, 0x9b)]),
+    );
     let (front, _) = match front_of(&rt, &file, size_of(&file)) {
         Ok(found) => found,
         Err(_) => panic!(rt; "it is not opened"),
@@ -107,7 +110,7 @@ fn bad_block_by_a_front(rt: HostRuntime) {
 /// A file that is too short for its front or its blocks is refused at its size, and a wrong first byte at that byte.
 #[test]
 fn short_files_by_a_front(rt: HostRuntime) {
-    let file = made(&rt, fixtures::kqvk_wdl_paired(rt.alloc()));
+    let file = made(&rt, szg_fixtures::kqvk_wdl_paired(rt.alloc()));
     for size in [0, 64, size_of(&file).saturating_sub(1)] {
         match front_of(&rt, &file, size) {
             Err(ReadFault::Refused { place, reason }) => {
@@ -116,7 +119,7 @@ fn short_files_by_a_front(rt: HostRuntime) {
             _ => panic!(rt; "it is not refused"),
         }
     }
-    let cut = changed(&rt, &file, &[(0, 0)]);
+    let cut = made(&rt, file.changed(rt.alloc(), &[(0, 0)]));
     match front_of(&rt, &cut, size_of(&cut)) {
         Err(ReadFault::Refused { place, reason }) => {
             assert!(rt; place == 0 && reason == Reason::Magic)

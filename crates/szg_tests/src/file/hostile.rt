@@ -1,13 +1,13 @@
 //! Opening a table over hostile bytes, sources and allocators: truncated files of many blocks, headers with sizes
 //! past the end of the file, a source that fails at each call, and memory that is refused.
 
-use crate::files::{answer, changed, fixtures_of_all_sections, made, material};
-use crate::fixtures::{self, Fixture};
+use crate::files::{answer, made, material};
 use std::alloc::Global;
 use std::fs::{self, Files};
 use std::process::Abort;
 use szg_block::{Image, Watch};
 use szg_file::{OpenFault, Reason, open};
+use szg_fixtures::Fixture;
 
 /// The fault of the first `length` bytes of a file over a source that fails at call `fails_at`, and the number of
 /// its calls.
@@ -31,7 +31,7 @@ fn refused(place: u64, reason: Reason) -> Option<OpenFault> {
 
 #[test]
 fn a_cut_file_of_many_blocks_is_not_opened(rt: HostRuntime) {
-    let file = made(&rt, fixtures::kqvk_wdl_unpaired(rt.alloc()));
+    let file = made(&rt, szg_fixtures::kqvk_wdl_unpaired(rt.alloc()));
     for n in 0..file.bytes.len() {
         let (fault, _) = fault_of(&rt, &file, n, 0);
         assert!(rt; fault == refused(n as u64, Reason::Truncated), "at {n}");
@@ -46,7 +46,7 @@ fn check_refused(
     place: u64,
     reason: Reason,
 ) {
-    let other = changed(rt, file, changes);
+    let other = made(rt, file.changed(rt.alloc(), changes));
     let (fault, _) = fault_of(rt, &other, other.bytes.len(), 0);
     assert!(rt; fault == refused(place, reason), "at {place}");
 }
@@ -54,7 +54,7 @@ fn check_refused(
 /// More symbols, more blocks and longer blocks than the file has bytes for, and sparse entries past the blocks.
 #[test]
 fn heads_of_more_than_is_there(rt: HostRuntime) {
-    let file = made(&rt, fixtures::kqvk_wdl_unpaired(rt.alloc()));
+    let file = made(&rt, szg_fixtures::kqvk_wdl_unpaired(rt.alloc()));
     let many = [(14, 0xff), (15, 0xff), (16, 0xff), (17, 0xff)];
     let large = [(11, 0x12), (14, 0xff), (15, 0xff), (16, 0xff), (17, 0xff)];
     check_refused(
@@ -85,16 +85,19 @@ fn check_failing_calls(rt: &(impl Abort + Alloc<A = Global>), file: &Fixture) {
 
 #[test]
 fn sources_that_fail(rt: HostRuntime) {
-    for file in &made(&rt, fixtures_of_all_sections(rt.alloc())) {
+    for file in &made(&rt, szg_fixtures::of_all_sections(rt.alloc())) {
         check_failing_calls(&rt, file);
     }
-    check_failing_calls(&rt, &made(&rt, fixtures::kqvk_wdl_one_block(rt.alloc())));
+    check_failing_calls(
+        &rt,
+        &made(&rt, szg_fixtures::kqvk_wdl_one_block(rt.alloc())),
+    );
 }
 
 /// For runs in which each allocation in turn is refused: the only error is `Memory`.
 #[test]
 fn refused_growths_are_want_of_memory(rt: HostRuntime) {
-    let Ok(files) = fixtures_of_all_sections(rt.alloc()) else {
+    let Ok(files) = szg_fixtures::of_all_sections(rt.alloc()) else {
         return;
     };
     for file in &files {
@@ -131,13 +134,13 @@ fn peak(rt: &(impl Abort + Alloc<A = Global> + Files)) -> u64 {
 /// lengths alone would be 8 GiB.
 #[test]
 fn no_memory_is_requested_ahead_of_the_bytes(rt: HostRuntime) {
-    let file = made(&rt, fixtures::kqvk_wdl_unpaired(rt.alloc()));
+    let file = made(&rt, szg_fixtures::kqvk_wdl_unpaired(rt.alloc()));
     let many = [(14, 0xff), (15, 0xff), (16, 0xff), (17, 0xff)];
     let large = [(11, 0x12), (14, 0xff), (15, 0xff), (16, 0xff), (17, 0xff)];
     let symbols = [(22, 0xff), (23, 0xff)];
     let before = peak(&rt);
     for changes in [many.as_slice(), large.as_slice(), symbols.as_slice()] {
-        let hostile = changed(&rt, &file, changes);
+        let hostile = made(&rt, file.changed(rt.alloc(), changes));
         let (fault, _) = fault_of(&rt, &hostile, hostile.bytes.len(), 0);
         assert!(rt; fault == refused(4304, Reason::Truncated));
         assert!(rt; answer(&rt, &hostile).is_err());

@@ -1,11 +1,11 @@
 //! Look-ups: their steps from the sparse index, and tables whose blocks are read from a source.
 
-use crate::files::{accepted, changed, fixtures_of_all_sections, made, material};
-use crate::fixtures::{self, Fixture};
+use crate::files::{accepted, made, material};
 use std::alloc::Global;
 use std::process::Abort;
 use szg_block::{Image, Source, SourceFault, Steps, Watch};
 use szg_file::{OpenFault, Opened, Reason, Table, open};
+use szg_fixtures::Fixture;
 
 /// Value `i` of a side, and the steps to it.
 fn counted(rt: &impl Abort, table: &Table, side: u8, i: u64) -> (u16, Steps) {
@@ -71,7 +71,7 @@ fn check_steps(
 /// From an entry past the size and from one in the first block, and past a length that belongs to no block.
 #[test]
 fn steps_from_sparse_entries(rt: HostRuntime) {
-    let file = made(&rt, fixtures::kqvk_wdl_unpaired(rt.alloc()));
+    let file = made(&rt, szg_fixtures::kqvk_wdl_unpaired(rt.alloc()));
     let first = [(32, 0), (36, 0), (37, 0x80)];
     let short = [(284, 0), (285, 0)];
     let last = [(284, 0), (285, 0), (32, 0x7c), (36, 0x9b)];
@@ -81,14 +81,14 @@ fn steps_from_sparse_entries(rt: HostRuntime) {
     check_steps(&rt, &file, &first, 0, (2, 0, 1, 0));
     check_steps(&rt, &file, &short, 31331, (4, 1, 100, 0));
     check_steps(&rt, &file, &last, 31331, (4, 2, 100, 0));
-    let paired = made(&rt, fixtures::kqvk_wdl_paired(rt.alloc()));
+    let paired = made(&rt, szg_fixtures::kqvk_wdl_paired(rt.alloc()));
     check_steps(&rt, &paired, &[], 31331, (4, 0, 40, 2));
     check_steps(&rt, &paired, &[], 0, (2, 0, 1, 8));
 }
 
 #[test]
 fn files_of_all_sections_are_opened(rt: HostRuntime) {
-    for file in &made(&rt, fixtures_of_all_sections(rt.alloc())) {
+    for file in &made(&rt, szg_fixtures::of_all_sections(rt.alloc())) {
         let table = accepted(&rt, file, &[]);
         let mut opened = opened(&rt, file, 0);
         assert!(rt; looked_up(&rt, &mut opened, 0, 7) == Ok(value(&rt, &table, 0, 7)));
@@ -120,8 +120,8 @@ fn check_values(rt: &(impl Abort + Alloc<A = Global>), file: &Fixture) {
 
 #[test]
 fn values_by_a_source(rt: HostRuntime) {
-    check_values(&rt, &made(&rt, fixtures::kqvk_wdl_unpaired(rt.alloc())));
-    check_values(&rt, &made(&rt, fixtures::kqvk_wdl_paired(rt.alloc())));
+    check_values(&rt, &made(&rt, szg_fixtures::kqvk_wdl_unpaired(rt.alloc())));
+    check_values(&rt, &made(&rt, szg_fixtures::kqvk_wdl_paired(rt.alloc())));
 }
 
 /// The block of value `i` is at this offset.
@@ -132,7 +132,7 @@ fn check_place<'a>(rt: &impl Abort, opened: &mut Opened<Watch<Image<'a>>>, i: u6
 
 #[test]
 fn places_of_blocks(rt: HostRuntime) {
-    let file = made(&rt, fixtures::kqvk_wdl_unpaired(rt.alloc()));
+    let file = made(&rt, szg_fixtures::kqvk_wdl_unpaired(rt.alloc()));
     let mut opened = opened(&rt, &file, 0);
     check_place(&rt, &mut opened, 31331, 4224);
     check_place(&rt, &mut opened, 0, 320);
@@ -143,7 +143,7 @@ fn places_of_blocks(rt: HostRuntime) {
 /// A fault is returned, and the next call succeeds. A look-up requests its block in one call.
 #[test]
 fn a_source_that_fails_once(rt: HostRuntime) {
-    let file = made(&rt, fixtures::kqvk_wdl_one_block(rt.alloc()));
+    let file = made(&rt, szg_fixtures::kqvk_wdl_one_block(rt.alloc()));
     let source = Watch::new(Image::new(&file.bytes), 3);
     let source = match open(rt.alloc(), material(&rt, &file), file.kind, source) {
         Err((OpenFault::Source, source)) => source,
@@ -211,7 +211,7 @@ fn check_no_byte_after(rt: &(impl Abort + Alloc<A = Global>), file: &Fixture) {
 
 #[test]
 fn no_byte_after_a_table_is_requested(rt: HostRuntime) {
-    for file in &made(&rt, fixtures_of_all_sections(rt.alloc())) {
+    for file in &made(&rt, szg_fixtures::of_all_sections(rt.alloc())) {
         check_no_byte_after(&rt, file);
     }
 }
@@ -241,8 +241,8 @@ fn check_change(
     place: u64,
     reason: Reason,
 ) {
-    let file = made(rt, fixtures::kqvk_wdl_unpaired(rt.alloc()));
-    let other = changed(rt, &file, &[change]);
+    let file = made(rt, szg_fixtures::kqvk_wdl_unpaired(rt.alloc()));
+    let other = made(rt, file.changed(rt.alloc(), &[change]));
     check_not_opened(rt, &other, &other.bytes, readable, place, reason);
 }
 
@@ -265,7 +265,7 @@ fn check_cuts(rt: &(impl Abort + Alloc<A = Global>), file: &Fixture) {
 
 #[test]
 fn cut_files_are_not_opened(rt: HostRuntime) {
-    check_cuts(&rt, &made(&rt, fixtures::knvk_wdl_constant(rt.alloc())));
-    check_cuts(&rt, &made(&rt, fixtures::kqvk_wdl_paired(rt.alloc())));
-    check_cuts(&rt, &made(&rt, fixtures::kpvk_dtz_mapped(rt.alloc())));
+    check_cuts(&rt, &made(&rt, szg_fixtures::knvk_wdl_constant(rt.alloc())));
+    check_cuts(&rt, &made(&rt, szg_fixtures::kqvk_wdl_paired(rt.alloc())));
+    check_cuts(&rt, &made(&rt, szg_fixtures::kpvk_dtz_mapped(rt.alloc())));
 }

@@ -1,13 +1,10 @@
 //! Files that are read whole, in chunks, truncated, changed, and from devices that fail.
 
-use crate::files::{
-    accepted, answer, changed, check_refused, check_written, fixtures_of_all_sections, made,
-    material,
-};
-use crate::fixtures::{self, Fixture};
+use crate::files::{accepted, answer, check_refused, check_written, made, material};
 use std::alloc::Global;
 use std::process::Abort;
 use szg_file::{ReadFault, Reason, Table, file_len, read, read_bytes, write};
+use szg_fixtures::Fixture;
 use szg_io::{Bytes, Cut, Input, IoFault, Std};
 
 /// The bytes of a file, and one byte after them.
@@ -53,7 +50,7 @@ fn check_pieces(rt: &(impl Abort + Alloc<A = Global>), file: &Fixture, bytes: &[
 
 #[test]
 fn pieces_of_any_length_are_joined(rt: HostRuntime) {
-    for file in &made(&rt, fixtures_of_all_sections(rt.alloc())) {
+    for file in &made(&rt, szg_fixtures::of_all_sections(rt.alloc())) {
         check_pieces(&rt, file, &with_a_byte_after(&rt, file));
     }
 }
@@ -69,7 +66,7 @@ fn check_in_memory(rt: &(impl Abort + Alloc<A = Global>), file: &Fixture, bytes:
 
 #[test]
 fn bytes_in_memory_are_read(rt: HostRuntime) {
-    for file in &made(&rt, fixtures_of_all_sections(rt.alloc())) {
+    for file in &made(&rt, szg_fixtures::of_all_sections(rt.alloc())) {
         check_in_memory(&rt, file, &with_a_byte_after(&rt, file));
     }
 }
@@ -88,20 +85,20 @@ fn check_cuts(rt: &(impl Abort + Alloc<A = Global>), file: &Fixture) {
 
 #[test]
 fn cut_files_are_truncated_at_their_lengths(rt: HostRuntime) {
-    check_cuts(&rt, &made(&rt, fixtures::knvk_wdl_constant(rt.alloc())));
-    check_cuts(&rt, &made(&rt, fixtures::kqvk_wdl_paired(rt.alloc())));
-    check_cuts(&rt, &made(&rt, fixtures::kpvk_dtz_mapped(rt.alloc())));
+    check_cuts(&rt, &made(&rt, szg_fixtures::knvk_wdl_constant(rt.alloc())));
+    check_cuts(&rt, &made(&rt, szg_fixtures::kqvk_wdl_paired(rt.alloc())));
+    check_cuts(&rt, &made(&rt, szg_fixtures::kpvk_dtz_mapped(rt.alloc())));
 }
 
 #[test]
 fn a_cut_file_of_many_blocks_is_truncated(rt: HostRuntime) {
-    check_cuts(&rt, &made(&rt, fixtures::kqvk_wdl_unpaired(rt.alloc())));
+    check_cuts(&rt, &made(&rt, szg_fixtures::kqvk_wdl_unpaired(rt.alloc())));
 }
 
 /// For runs in which each allocation in turn is refused: the only error is `Memory`.
 #[test]
 fn refused_growths_are_want_of_memory(rt: HostRuntime) {
-    let Ok(files) = fixtures_of_all_sections(rt.alloc()) else {
+    let Ok(files) = szg_fixtures::of_all_sections(rt.alloc()) else {
         return;
     };
     for file in &files {
@@ -114,37 +111,37 @@ fn refused_growths_are_want_of_memory(rt: HostRuntime) {
 
 #[test]
 fn changed_files_of_constants(rt: HostRuntime) {
-    let file = made(&rt, fixtures::knvk_wdl_constant(rt.alloc()));
+    let file = made(&rt, szg_fixtures::knvk_wdl_constant(rt.alloc()));
     check_refused(&rt, &file, &[(0, 0x70)], 0, Reason::Magic);
     check_refused(&rt, &file, &[(4, 0x00)], 4, Reason::SplitBit);
     check_refused(&rt, &file, &[(4, 0x03)], 4, Reason::PawnBit);
     check_refused(&rt, &file, &[(8, 0xe6)], 6, Reason::Pieces);
     check_refused(&rt, &file, &[(5, 0x01)], 5, Reason::OrderPlace);
-    let mut start = changed(&rt, &file, &[(0, 0x70)]);
+    let mut start = made(&rt, file.changed(rt.alloc(), &[(0, 0x70)]));
     start.bytes.truncate(2);
     check_refused(&rt, &start, &[], 2, Reason::Truncated);
 }
 
 #[test]
 fn carried_bits_and_fill(rt: HostRuntime) {
-    let file = made(&rt, fixtures::knvk_wdl_constant(rt.alloc()));
+    let file = made(&rt, szg_fixtures::knvk_wdl_constant(rt.alloc()));
     let table = accepted(&rt, &file, &[(4, 0x81), (20, 0x5a)]);
     assert!(rt; table.byte4() == 0x81 && table.fill().len() == 51);
 }
 
 #[test]
 fn changed_files_with_pawns(rt: HostRuntime) {
-    let one = made(&rt, fixtures::kpvk_wdl_constant(rt.alloc()));
+    let one = made(&rt, szg_fixtures::kpvk_wdl_constant(rt.alloc()));
     check_refused(&rt, &one, &[(10, 0x66), (11, 0x11)], 10, Reason::PawnsFirst);
     check_refused(&rt, &one, &[(9, 0x03)], 9, Reason::OrderPlace);
-    let two = made(&rt, fixtures::kpvkp_wdl_constant(rt.alloc()));
+    let two = made(&rt, szg_fixtures::kpvkp_wdl_constant(rt.alloc()));
     check_refused(&rt, &two, &[(6, 0)], 5, Reason::OrderPlace);
     check_refused(&rt, &two, &[(7, 9), (8, 1)], 7, Reason::PawnsFirst);
 }
 
 #[test]
 fn changed_files_of_blocks(rt: HostRuntime) {
-    let file = made(&rt, fixtures::kqvk_wdl_unpaired(rt.alloc()));
+    let file = made(&rt, szg_fixtures::kqvk_wdl_unpaired(rt.alloc()));
     let many = [(14, 0xff), (15, 0xff), (16, 0xff), (17, 0xff)];
     let large = [(11, 0x12), (14, 0xff), (15, 0xff), (16, 0xff), (17, 0xff)];
     check_refused(&rt, &file, &[(11, 0x13)], 11, Reason::BlockBits);
@@ -176,7 +173,7 @@ fn changed_files_of_blocks(rt: HostRuntime) {
 
 #[test]
 fn changed_files_of_codes(rt: HostRuntime) {
-    let file = made(&rt, fixtures::kqvk_wdl_unpaired(rt.alloc()));
+    let file = made(&rt, szg_fixtures::kqvk_wdl_unpaired(rt.alloc()));
     let rising = [(18, 2), (20, 0), (22, 2), (24, 2), (25, 0)];
     check_refused(&rt, &file, &rising, 22, Reason::LowestOrder);
     let full = [(18, 2), (20, 4), (22, 0), (24, 4), (25, 0)];
@@ -185,9 +182,12 @@ fn changed_files_of_codes(rt: HostRuntime) {
 
 #[test]
 fn files_that_end_in_their_dictionary(rt: HostRuntime) {
-    let long = made(&rt, fixtures::kqvk_wdl_with_a_long_symbol(rt.alloc()));
+    let long = made(&rt, szg_fixtures::kqvk_wdl_with_a_long_symbol(rt.alloc()));
     check_refused(&rt, &long, &[], 51, Reason::LongSymbol);
-    let cut = made(&rt, fixtures::kqvk_wdl_cut_in_its_dictionary(rt.alloc()));
+    let cut = made(
+        &rt,
+        szg_fixtures::kqvk_wdl_cut_in_its_dictionary(rt.alloc()),
+    );
     check_refused(&rt, &cut, &[], 29, Reason::Truncated);
 }
 
@@ -211,7 +211,7 @@ fn check_failing_call(rt: &(impl Abort + Alloc<A = Global>), file: &Fixture, cal
 
 #[test]
 fn readers_that_fail(rt: HostRuntime) {
-    for file in &made(&rt, fixtures_of_all_sections(rt.alloc())) {
+    for file in &made(&rt, szg_fixtures::of_all_sections(rt.alloc())) {
         for call in 1..=file.bytes.len() as u64 + 1 {
             check_failing_call(&rt, file, call);
         }
@@ -220,7 +220,7 @@ fn readers_that_fail(rt: HostRuntime) {
 
 #[test]
 fn readers_that_are_interrupted(rt: HostRuntime) {
-    let file = made(&rt, fixtures::knvk_wdl_constant(rt.alloc()));
+    let file = made(&rt, szg_fixtures::knvk_wdl_constant(rt.alloc()));
     for (before, want) in [(1000, None), (1001, Some(ReadFault::Device))] {
         let mut input = Cut::new(Std::new(file.bytes.as_slice()), 1, before, 0);
         let answer = read(rt.alloc(), material(&rt, &file), file.kind, &mut input);

@@ -1,6 +1,6 @@
 //! Files written to writers that accept few bytes, or fail.
 
-use crate::files::{answer, fixtures_of_all_sections, made};
+use crate::files::{answer, made};
 use std::alloc::Global;
 use std::io::{Error, ErrorKind, Write};
 use std::process::Abort;
@@ -45,7 +45,7 @@ fn check_narrow(rt: &(impl Abort + Alloc<A = Global>), table: &Table, bytes: &[u
 
 #[test]
 fn writers_that_fail(rt: HostRuntime) {
-    for file in &made(&rt, fixtures_of_all_sections(rt.alloc())) {
+    for file in &made(&rt, szg_fixtures::of_all_sections(rt.alloc())) {
         let table = made(&rt, answer(&rt, file));
         for room in 0..file.bytes.len() {
             check_narrow(&rt, &table, &file.bytes, room);

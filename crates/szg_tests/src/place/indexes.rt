@@ -1,11 +1,11 @@
 //! Placements and what tables return for them: the examples of the format.
 
 use crate::files::{accepted, made, table_of};
-use crate::fixtures::{self, Fixture};
 use crate::standing::placement;
 use std::alloc::Global;
 use std::process::Abort;
 use szg_file::{MapFault, Table};
+use szg_fixtures::Fixture;
 use szg_place::{PlaceFault, ProbeFault, index_of, probe_dtz, probe_wdl};
 use szg_values::Color::{Black, White};
 use szg_values::{Color, Kind};
@@ -32,7 +32,7 @@ fn check_both(rt: &impl Abort, table: &Table, men: &str, index: u64) {
 
 #[test]
 fn three_lead_men(rt: HostRuntime) {
-    let table = table_of(&rt, fixtures::knvk_wdl_constant(rt.alloc()));
+    let table = table_of(&rt, szg_fixtures::knvk_wdl_constant(rt.alloc()));
     check_both(&rt, &table, "Kb1 Na1 kc1", 0);
     check_both(&rt, &table, "Ka2 Na1 kh8", 61);
     check_both(&rt, &table, "Ke8 Na1 kh1", 11711);
@@ -50,7 +50,7 @@ fn three_lead_men(rt: HostRuntime) {
 
 #[test]
 fn two_lead_kings(rt: HostRuntime) {
-    let table = table_of(&rt, fixtures::kbbvk_wdl_kings_lead(rt.alloc()));
+    let table = table_of(&rt, szg_fixtures::kbbvk_wdl_kings_lead(rt.alloc()));
     check_spot(&rt, &table, White, "Kb1 kd1 Bc1 Be1", Ok((0, 0, 924)));
     check_spot(&rt, &table, White, "Kd4 kh8 Ba1 Bb1", Ok((0, 0, 461)));
     check_spot(&rt, &table, White, "Kb1 Bg8 Bh8 kd1", Ok((0, 0, 873180)));
@@ -66,7 +66,7 @@ fn two_lead_kings(rt: HostRuntime) {
 
 #[test]
 fn a_lead_man_with_a_twin(rt: HostRuntime) {
-    let table = table_of(&rt, fixtures::kbbvk_wdl_bishop_leads(rt.alloc()));
+    let table = table_of(&rt, szg_fixtures::kbbvk_wdl_bishop_leads(rt.alloc()));
     for men in ["Kb1 Bg8 Bh8 kd1", "Kb1 Bg8 Bh8 kb2"] {
         check_spot(&rt, &table, White, men, Err(PlaceFault::Irregular));
     }
@@ -86,9 +86,9 @@ fn check_row(
 
 #[test]
 fn lead_pawns(rt: HostRuntime) {
-    let one = made(&rt, fixtures::kpvk_wdl_constant(rt.alloc()));
+    let one = made(&rt, szg_fixtures::kpvk_wdl_constant(rt.alloc()));
     check_row(&rt, &one, &[(White, "Pe2 Ke1 ke8", 3, 21564)]);
-    let two = made(&rt, fixtures::kppvk_wdl_constant(rt.alloc()));
+    let two = made(&rt, szg_fixtures::kppvk_wdl_constant(rt.alloc()));
     check_row(
         &rt,
         &two,
@@ -97,13 +97,13 @@ fn lead_pawns(rt: HostRuntime) {
             (White, "Pa2 Ph2 Ke1 ke2", 0, 157294),
         ],
     );
-    let four = made(&rt, fixtures::kppppvk_wdl_constant(rt.alloc()));
+    let four = made(&rt, szg_fixtures::kppppvk_wdl_constant(rt.alloc()));
     check_row(
         &rt,
         &four,
         &[(White, "Pa2 Pb2 Pc2 Pd2 Ke1 ke8", 0, 232327569)],
     );
-    let both = made(&rt, fixtures::kpvkp_wdl_constant(rt.alloc()));
+    let both = made(&rt, szg_fixtures::kpvkp_wdl_constant(rt.alloc()));
     check_row(
         &rt,
         &both,
@@ -116,14 +116,14 @@ fn lead_pawns(rt: HostRuntime) {
 
 #[test]
 fn six_men(rt: HostRuntime) {
-    let six = made(&rt, fixtures::kqrbvkn_wdl_constant(rt.alloc()));
+    let six = made(&rt, szg_fixtures::kqrbvkn_wdl_constant(rt.alloc()));
     let men = "Kd4 Qh8 kg7 Rg8 Bf8 ne8";
     check_row(&rt, &six, &[(White, men, 0, 6765832079)]);
 }
 
 #[test]
 fn outcomes_of_placements(rt: HostRuntime) {
-    let table = table_of(&rt, fixtures::kqvk_wdl_unpaired(rt.alloc()));
+    let table = table_of(&rt, szg_fixtures::kqvk_wdl_unpaired(rt.alloc()));
     assert!(rt; table.kind() == Kind::Wdl);
     for (mover, class) in [(White, 2), (Black, 0)] {
         let found = probe_wdl(&table, &placement(&rt, mover, "Ke8 Qa1 kh1"));
@@ -146,7 +146,7 @@ fn check_distance(
 
 #[test]
 fn distances_of_placements(rt: HostRuntime) {
-    let table = table_of(&rt, fixtures::kpvk_dtz_mapped(rt.alloc()));
+    let table = table_of(&rt, szg_fixtures::kpvk_dtz_mapped(rt.alloc()));
     let outside = Err(ProbeFault::Map(MapFault::OutsideMap));
     let draw = Err(ProbeFault::Map(MapFault::Draw));
     let side = Err(ProbeFault::Place(PlaceFault::WrongSide));

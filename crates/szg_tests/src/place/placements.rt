@@ -2,11 +2,11 @@
 //! What a table opened by its front returns for placements.
 
 use crate::files::{accepted, made, material, table_of};
-use crate::fixtures::{self, Fixture};
 use crate::standing::placement;
 use std::alloc::Global;
 use std::process::Abort;
 use szg_file::{FetchFault, FrontTable, Table, open_front};
+use szg_fixtures::Fixture;
 use szg_io::Bytes;
 use szg_place::{
     FrontBytes, PlaceFault, ProbeFault, Unprobed, index_of, locate, placement_of, probe_class,
@@ -43,20 +43,20 @@ fn check_placement(
 
 #[test]
 fn placements_of_indexes(rt: HostRuntime) {
-    let queen = table_of(&rt, fixtures::kqvk_wdl_unpaired(rt.alloc()));
+    let queen = table_of(&rt, szg_fixtures::kqvk_wdl_unpaired(rt.alloc()));
     check_placement(&rt, &queen, (0, 0, 11711), White, "Kd1 Qh8 ka8");
     check_placement(&rt, &queen, (0, 1, 11711), Black, "Kd1 Qh8 ka8");
-    let pawn = table_of(&rt, fixtures::kpvk_wdl_constant(rt.alloc()));
+    let pawn = table_of(&rt, szg_fixtures::kpvk_wdl_constant(rt.alloc()));
     check_placement(&rt, &pawn, (3, 0, 21564), White, "Pd2 Kd1 kd8");
-    let pawns = table_of(&rt, fixtures::kppvk_wdl_constant(rt.alloc()));
+    let pawns = table_of(&rt, szg_fixtures::kppvk_wdl_constant(rt.alloc()));
     check_placement(&rt, &pawns, (0, 0, 891622), White, "Pa2 Ph2 Ke1 ke8");
 }
 
 #[test]
 fn indexes_without_a_placement(rt: HostRuntime) {
-    let irregular = table_of(&rt, fixtures::kbbvk_wdl_bishop_leads(rt.alloc()));
+    let irregular = table_of(&rt, szg_fixtures::kbbvk_wdl_bishop_leads(rt.alloc()));
     assert!(rt; found(&rt, &irregular, 0, 0, 0).err() == Some(PlaceFault::Irregular));
-    let wrong = table_of(&rt, fixtures::kpvkp_dtz_constant(rt.alloc(), 0x81));
+    let wrong = table_of(&rt, szg_fixtures::kpvkp_dtz_constant(rt.alloc(), 0x81));
     assert!(rt; found(&rt, &wrong, 0, 0, 0).err() == Some(PlaceFault::WrongSide));
 }
 
@@ -84,15 +84,15 @@ fn check_samples(rt: &impl Abort, table: &Table, part: u8) {
 
 #[test]
 fn indexes_there_and_back(rt: HostRuntime) {
-    let table = table_of(&rt, fixtures::kqvk_wdl_unpaired(rt.alloc()));
+    let table = table_of(&rt, szg_fixtures::kqvk_wdl_unpaired(rt.alloc()));
     for index in 0..31332u64 {
         check_return(&rt, &table, 0, 0, index);
     }
-    let kings = table_of(&rt, fixtures::kbbvk_wdl_kings_lead(rt.alloc()));
+    let kings = table_of(&rt, szg_fixtures::kbbvk_wdl_kings_lead(rt.alloc()));
     check_samples(&rt, &kings, 0);
-    let two = table_of(&rt, fixtures::kppvk_wdl_constant(rt.alloc()));
+    let two = table_of(&rt, szg_fixtures::kppvk_wdl_constant(rt.alloc()));
     check_samples(&rt, &two, 2);
-    let both = table_of(&rt, fixtures::kpvkp_wdl_constant(rt.alloc()));
+    let both = table_of(&rt, szg_fixtures::kpvkp_wdl_constant(rt.alloc()));
     check_samples(&rt, &both, 3);
 }
 
@@ -131,7 +131,7 @@ fn check_dtz(rt: &impl Abort, table: &Table, values: FrontBytes, placement: &Pla
 
 #[test]
 fn outcomes_by_a_front(rt: HostRuntime) {
-    let file = made(&rt, fixtures::kqvk_wdl_unpaired(rt.alloc()));
+    let file = made(&rt, szg_fixtures::kqvk_wdl_unpaired(rt.alloc()));
     let table = accepted(&rt, &file, &[]);
     let front = by_front(&rt, &file);
     let values = FrontBytes {
@@ -150,7 +150,7 @@ fn outcomes_by_a_front(rt: HostRuntime) {
 
 #[test]
 fn distances_by_a_front(rt: HostRuntime) {
-    let file = made(&rt, fixtures::kpvk_dtz_mapped(rt.alloc()));
+    let file = made(&rt, szg_fixtures::kpvk_dtz_mapped(rt.alloc()));
     let table = accepted(&rt, &file, &[]);
     let front = by_front(&rt, &file);
     let values = FrontBytes {
@@ -170,7 +170,7 @@ fn distances_by_a_front(rt: HostRuntime) {
 /// The bytes that are lent end before the value's block.
 #[test]
 fn a_front_with_too_few_bytes(rt: HostRuntime) {
-    let file = made(&rt, fixtures::kqvk_wdl_unpaired(rt.alloc()));
+    let file = made(&rt, szg_fixtures::kqvk_wdl_unpaired(rt.alloc()));
     let front = by_front(&rt, &file);
     let placement = placement(&rt, White, "Ke8 Qa1 kh1");
     let men = PlacedMen::of(&placement);
@@ -204,12 +204,12 @@ fn check_spot(
 
 #[test]
 fn placements_by_the_groups_of_each_side(rt: HostRuntime) {
-    let table = table_of(&rt, fixtures::knvk_wdl_constant(rt.alloc()));
+    let table = table_of(&rt, szg_fixtures::knvk_wdl_constant(rt.alloc()));
     let other = Err(PlaceFault::OtherMaterial);
     check_spot(&rt, &table, White, "Ka2 Na1 kh8", Ok((0, 0, 61)));
     check_spot(&rt, &table, Black, "Kd4 Nh8 kg7", Ok((0, 1, 31331)));
     check_spot(&rt, &table, White, "Kb1 Qa1 kc1", other);
-    let table = table_of(&rt, fixtures::kppvk_wdl_constant(rt.alloc()));
+    let table = table_of(&rt, szg_fixtures::kppvk_wdl_constant(rt.alloc()));
     let want = Ok((0, 0, 891622));
     check_spot(&rt, &table, White, "Pa2 Ph2 Ke1 ke8", want);
     check_spot(&rt, &table, Black, "pa7 ph7 ke8 Ke1", want);

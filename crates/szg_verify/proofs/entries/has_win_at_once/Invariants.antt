@@ -6,5 +6,5 @@ use Rattle.szg_verify.proofs.entries.has_win_at_once.Given as goal
 abbrev pub invariant-loop-m : goal.invariant-loop-m
 invariant-loop-m g l = record {
   same : g.T.Tables.stored l.classes ≡ g.T.Tables.stored l.fn.classes;
-  left : list_any (wins_at_once (g.T.Tables.stored l.fn.classes) l.class l.position) (drop l.m-index l.m-items) ≡ list_any (wins_at_once (g.T.Tables.stored l.fn.classes) l.class l.position) l.m-items;
+  left : list_any (wins_at_once (g.T.Tables.stored l.fn.classes) l.class l.position) (drop l.m-index l.moves) ≡ list_any (wins_at_once (g.T.Tables.stored l.fn.classes) l.class l.position) l.moves;
 }

@@ -1,9 +1,11 @@
-use Rattle.std.proofs.Common.{refl, sym, ap, ◌∙◌, arith, length, length-append, List, [], ◌∷◌, Some, false}
+use Rattle.std.proofs.Common.{subst, refl, sym, ap, ◌∙◌, arith, length, length-append, List, [], ◌∷◌, Some, false}
 use Rattle.szg_game.specs.Game.{Move as Step}
 use Rattle.szg_game.specs.declared.Entry.{Entry}
 use Rattle.szg_chess.specs.declared.Move.{Move}
 use Rattle.szg_chess.specs.Moves.{after}
-use Rattle.szg_verify.specs.Entries.{StepList, near_entry, near_after, steps_to, tables_of}
+use Rattle.szg_verify.specs.Memory.{AreRight}
+use Rattle.szg_verify.proofs.Kept.{carried}
+use Rattle.szg_verify.specs.Entries.{StoredTables, StepList, near_entry, near_after, steps_to, tables_of}
 use Rattle.szg_verify.proofs.Loops.{quiet, none_yet, quiet_pushed, quiet_passed, quiet_stopped, entry_carried}
 use Rattle.szg_verify.proofs.entries.quiet_steps.Goals as goal
 use Rattle.szg_verify.proofs.entries.quiet_steps.Goals.{then-not-is_zeroing+in-Ok-Some, else-not-is_zeroing}
@@ -12,6 +14,7 @@ pub loop-m-init : goal.loop-m-init
 loop-m-init g c = record {
   same_classes = refl;
   same_distances = refl;
+  right = c.requires.right;
   few = let e = ap length c.new-steps.ensures in omega (arith, e);
   so_far = none_yet (near_after (tables_of (g.T.Tables.stored c.args.classes.now) (g.D.DtzTables.distances c.args.distances.now)) c.args.position.now) c.args.position.now c.new-steps.result.items c.new-steps.ensures;
 }
@@ -38,8 +41,9 @@ loop-m-preserved g c =
           let some = entry_carried near_entry (g.T.Tables.stored c.loop-m.classes) classes (g.D.DtzTables.distances c.loop-m.distances) distances w.after.result (after p c.m-item.result) w.in-Ok-Some.field-0 before.same_classes before.same_distances w.after.ensures w.in-Ok-Some.ensures.entry in
           let items = ap (λ (s : StepList). s.items) w.steps-is ∙ w.push.ensures in
           record {
-            same_classes = ap g.T.Tables.stored w.classes-is ∙ (w.near_entry.ensures.same_classes ∙ before.same_classes);
-            same_distances = ap g.D.DtzTables.distances w.distances-is ∙ (w.near_entry.ensures.same_distances ∙ before.same_distances);
+            same_classes = ap g.T.Tables.stored w.classes-is ∙ (w.known_near.ensures.same_classes ∙ before.same_classes);
+            same_distances = ap g.D.DtzTables.distances w.distances-is ∙ (w.known_near.ensures.same_distances ∙ before.same_distances);
+            right = subst (AreRight (tables_of classes distances)) (sym w.cells-is) (carried (λ (t : StoredTables). AreRight t w.known_near.new.cells) (g.T.Tables.stored c.loop-m.classes) classes (g.D.DtzTables.distances c.loop-m.distances) distances before.same_classes before.same_distances w.known_near.ensures.right);
             few = let few = before.few in let size = ap length items ∙ length-append c.loop-m.steps.items ((w.in-Ok-Some.entry, false) ∷ []) in omega (arith, few, size);
             so_far = quiet_pushed entry p c.as_slice-m-items.result.now c.loop-m.m-index c.m-item.result c.loop-m-test.true c.m-item.is c.loop-m.steps.items c.if-not-is_zeroing.steps.items w.in-Ok-Some.entry
                 (sym c.is_zeroing.ensures ∙ w.if-not-is_zeroing.true) before.so_far (some ∙ w.in-Ok-Some.field-0-is) items;
@@ -49,6 +53,7 @@ loop-m-preserved g c =
           record {
             same_classes = ap g.T.Tables.stored w.classes-is ∙ before.same_classes;
             same_distances = ap g.D.DtzTables.distances w.distances-is ∙ before.same_distances;
+            right = subst (AreRight (tables_of classes distances)) (sym w.cells-is) before.right;
             few = let few = before.few in let size = ap length items in omega (arith, few, size);
             so_far = quiet_passed entry p c.as_slice-m-items.result.now c.loop-m.m-index c.m-item.result c.loop-m-test.true c.m-item.is c.loop-m.steps.items
                 (sym c.is_zeroing.ensures ∙ w.if-not-is_zeroing.false) before.so_far ∙ ap (λ (ns : List (Step Entry)). Some ns) (sym items);

@@ -1,9 +1,6 @@
 use Rattle.std.proofs.Common.{◌≡◌, Contains, take}
-use Rattle.std.specs.Prelude.{IsTrue, IsFalse}
 use Rattle.szg_values.specs.Material.{Sides}
-use Rattle.szg_chess.specs.Position.{Position}
 use Rattle.szg_verify.specs.Entries.{tables_of}
-use Rattle.szg_verify.specs.Verified.{is_checked}
 use Rattle.szg_verify.specs.Walk.{IsMaterialChecked}
 use Rattle.szg_verify.proofs.verifying.verify.Given as goal
 
@@ -11,6 +8,5 @@ abbrev pub invariant-loop-material : goal.invariant-loop-material
 invariant-loop-material g l = record {
   same_classes : g.T.Tables.stored l.classes ≡ g.T.Tables.stored l.fn.classes;
   same_distances : g.D.DtzTables.distances l.distances ≡ g.D.DtzTables.distances l.fn.distances;
-  checked : IsTrue l.is_good → (sides : Sides) → Contains (take l.material-index l.materials) sides → IsMaterialChecked (tables_of (g.T.Tables.stored l.fn.classes) (g.D.DtzTables.distances l.fn.distances)) sides;
-  refused : IsFalse l.is_good → (p : Position) × IsFalse (is_checked (tables_of (g.T.Tables.stored l.fn.classes) (g.D.DtzTables.distances l.fn.distances)) p);
+  checked : (sides : Sides) → Contains (take l.material-index l.materials) sides → IsMaterialChecked (tables_of (g.T.Tables.stored l.fn.classes) (g.D.DtzTables.distances l.fn.distances)) sides;
 }

@@ -1,3 +1,6 @@
+use Rattle.std.proofs.Common.{rules}
+use Rattle.szg_build.specs.Fronts.{lines_after}
+use Rattle.szg_build.proofs.Readers.LineParses.{known_reads}
 use Rattle.std.proofs.lemmas.Result.{err_from_is_err_and}
 use Rattle.szg_build.specs.Lines.{◌>>=◌}
 use Rattle.szg_build.specs.Grammar.{version_line, name_line, kind_line}
@@ -12,26 +15,26 @@ use Rattle.szg_build.proofs.reading.dumpreading.read_gathered.Goals as goal
 pub returns-in_err-form-clause-lines : goal.returns-in_err-form-clause-lines
 returns-in_err-form-clause-lines g c =
     let p = err_from_is_err_and c.from_residual.result c.from_residual.ensures.1 in
-    rw (p.1, p.2) (reads_as whole_text (reads_stopped version_line after_form form_of gathered_dump c.in_err-form.field-0.0 c.in_err-form.ensures.lines))
+    rw (p.1, p.2) (reads_as whole_text (reads_stopped version_line after_form form_of gathered_dump c.in_err-form.field-0.0 (known_reads (lines_after version_line) form_of (λ text stated gave. search rules) c.in_err-form.ensures.lines)))
 
 pub returns-in_err-material-clause-lines : goal.returns-in_err-material-clause-lines
 returns-in_err-material-clause-lines g c =
     let p = err_from_is_err_and c.from_residual-in_err-material.result c.from_residual-in_err-material.ensures.1 in
-    rw (p.1, p.2) (reads_as whole_text (reads_then version_line after_form form_of gathered_dump c.in_ok-form.form c.in_ok-form.ensures.lines
-    (reads_stopped name_line (λ material. kind_line >>= λ kind. dump_after_kind (form_of c.in_ok-form.form) material kind) (λ material. material) gathered_dump c.in_err-material.field-0.0 c.in_err-material.ensures.lines)))
+    rw (p.1, p.2) (reads_as whole_text (reads_then version_line after_form form_of gathered_dump c.in_ok-form.form (known_reads (lines_after version_line) form_of (λ text stated gave. search rules) c.in_ok-form.ensures.lines)
+    (reads_stopped name_line (λ material. kind_line >>= λ kind. dump_after_kind (form_of c.in_ok-form.form) material kind) (λ material. material) gathered_dump c.in_err-material.field-0.0 (known_reads (lines_after name_line) (λ material. material) (λ text stated gave. search rules) c.in_err-material.ensures.lines))))
 
 pub returns-in_err-kind-clause-lines : goal.returns-in_err-kind-clause-lines
 returns-in_err-kind-clause-lines g c =
     let p = err_from_is_err_and c.from_residual-in_err-kind.result c.from_residual-in_err-kind.ensures.1 in
-    rw (p.1, p.2) (reads_as whole_text (reads_then version_line after_form form_of gathered_dump c.in_ok-form.form c.in_ok-form.ensures.lines
-    (reads_then name_line (λ material. kind_line >>= λ kind. dump_after_kind (form_of c.in_ok-form.form) material kind) (λ material. material) gathered_dump c.in_ok-material.material c.in_ok-material.ensures.lines
-    (reads_stopped kind_line (λ kind. dump_after_kind (form_of c.in_ok-form.form) c.in_ok-material.material kind) (λ kind. kind) gathered_dump c.in_err-kind.field-0.0 c.in_err-kind.ensures.lines))))
+    rw (p.1, p.2) (reads_as whole_text (reads_then version_line after_form form_of gathered_dump c.in_ok-form.form (known_reads (lines_after version_line) form_of (λ text stated gave. search rules) c.in_ok-form.ensures.lines)
+    (reads_then name_line (λ material. kind_line >>= λ kind. dump_after_kind (form_of c.in_ok-form.form) material kind) (λ material. material) gathered_dump c.in_ok-material.material (known_reads (lines_after name_line) (λ material. material) (λ text stated gave. search rules) c.in_ok-material.ensures.lines)
+    (reads_stopped kind_line (λ kind. dump_after_kind (form_of c.in_ok-form.form) c.in_ok-material.material kind) (λ kind. kind) gathered_dump c.in_err-kind.field-0.0 (known_reads (lines_after kind_line) (λ kind. kind) (λ text stated gave. search rules) c.in_err-kind.ensures.lines)))))
 
 pub returns-clause-lines : goal.returns-clause-lines
 returns-clause-lines g c =
-    reads_as whole_text (reads_then version_line after_form form_of gathered_dump c.in_ok-form.form c.in_ok-form.ensures.lines
-    (reads_then name_line (λ material. kind_line >>= λ kind. dump_after_kind (form_of c.in_ok-form.form) material kind) (λ material. material) gathered_dump c.in_ok-material.material c.in_ok-material.ensures.lines
-    (reads_then kind_line (λ kind. dump_after_kind (form_of c.in_ok-form.form) c.in_ok-material.material kind) (λ kind. kind) gathered_dump c.in_ok-kind.kind c.in_ok-kind.ensures.lines c.read_after_kind.ensures.lines)))
+    reads_as whole_text (reads_then version_line after_form form_of gathered_dump c.in_ok-form.form (known_reads (lines_after version_line) form_of (λ text stated gave. search rules) c.in_ok-form.ensures.lines)
+    (reads_then name_line (λ material. kind_line >>= λ kind. dump_after_kind (form_of c.in_ok-form.form) material kind) (λ material. material) gathered_dump c.in_ok-material.material (known_reads (lines_after name_line) (λ material. material) (λ text stated gave. search rules) c.in_ok-material.ensures.lines)
+    (reads_then kind_line (λ kind. dump_after_kind (form_of c.in_ok-form.form) c.in_ok-material.material kind) (λ kind. kind) gathered_dump c.in_ok-kind.kind (known_reads (lines_after kind_line) (λ kind. kind) (λ text stated gave. search rules) c.in_ok-kind.ensures.lines) c.read_after_kind.ensures.lines)))
 
 pub returns-in_err-form-clause-memory : goal.returns-in_err-form-clause-memory
 returns-in_err-form-clause-memory g c = passed_on c.from_residual.ensures.1 c.in_err-form.ensures.memory
@@ -44,6 +47,6 @@ returns-in_err-kind-clause-memory g c = passed_on c.from_residual-in_err-kind.en
 
 pub returns-clause-memory : goal.returns-clause-memory
 returns-clause-memory g c = λ e.
-    lacks_as whole_text (lacks_then version_line after_form 0 form_of c.in_ok-form.form c.in_ok-form.ensures.lines
-    (lacks_then name_line (λ material. kind_line >>= λ kind. dump_after_kind (form_of c.in_ok-form.form) material kind) 0 (λ material. material) c.in_ok-material.material c.in_ok-material.ensures.lines
-    (lacks_then kind_line (λ kind. dump_after_kind (form_of c.in_ok-form.form) c.in_ok-material.material kind) 0 (λ kind. kind) c.in_ok-kind.kind c.in_ok-kind.ensures.lines (c.read_after_kind.ensures.memory e))))
+    lacks_as whole_text (lacks_then version_line after_form 0 form_of c.in_ok-form.form (known_reads (lines_after version_line) form_of (λ text stated gave. search rules) c.in_ok-form.ensures.lines)
+    (lacks_then name_line (λ material. kind_line >>= λ kind. dump_after_kind (form_of c.in_ok-form.form) material kind) 0 (λ material. material) c.in_ok-material.material (known_reads (lines_after name_line) (λ material. material) (λ text stated gave. search rules) c.in_ok-material.ensures.lines)
+    (lacks_then kind_line (λ kind. dump_after_kind (form_of c.in_ok-form.form) c.in_ok-material.material kind) 0 (λ kind. kind) c.in_ok-kind.kind (known_reads (lines_after kind_line) (λ kind. kind) (λ text stated gave. search rules) c.in_ok-kind.ensures.lines) (c.read_after_kind.ensures.memory e))))

@@ -15,7 +15,7 @@ use Rattle.szg_build.proofs.reading.packed_dump.build_gathered.Goals.{in-Ok, in-
 
 pub are_complete-requires : goal.are_complete-requires
 are_complete-requires g c =
-    (c.args.choice, subst (λ z. AllByRecursion (IsPackedSub c.args.gathered.front.kind c.args.choice) z) (sym c.deref.ensures.value) c.requires.each)
+    (c.args.choice, subst (λ z. AllByRecursion (IsPackedSub c.args.gathered.header.kind c.args.choice) z) (sym c.deref.ensures.value) c.requires.each)
 
 pub assemble-requires-clause-flags : goal.assemble-requires-clause-flags
 assemble-requires-clause-flags g c =
@@ -28,10 +28,10 @@ returns-then-are_complete-clause-built g c =
     let none = no_items c.args.gathered.subs.rest.items count in
     elim c.match-assemble.branch [
       | in-Ok w ↦
-          subst (λ r. IfOk r (λ t. IsBuiltBy c.args.choice (plan_by c.args.choice (gathered_dump c.args.gathered)) (lists_in c.args.gathered.front.kind c.args.gathered.subs) t.contents)) (sym w.result-is)
+          subst (λ r. IfOk r (λ t. IsBuiltBy c.args.choice (plan_by c.args.choice (gathered_dump c.args.gathered)) (lists_in c.args.gathered.header.kind c.args.gathered.subs) t.contents)) (sym w.result-is)
           (whole_built c.args.choice c.args.gathered c.numbers_of-numbers.result w.in-Ok.table.contents c.numbers_of-numbers.ensures none w.in-Ok.ensures.built)
       | in-Err w ↦
-          subst (λ r. IfOk r (λ t. IsBuiltBy c.args.choice (plan_by c.args.choice (gathered_dump c.args.gathered)) (lists_in c.args.gathered.front.kind c.args.gathered.subs) t.contents)) (sym w.result-is) tt
+          subst (λ r. IfOk r (λ t. IsBuiltBy c.args.choice (plan_by c.args.choice (gathered_dump c.args.gathered)) (lists_in c.args.gathered.header.kind c.args.gathered.subs) t.contents)) (sym w.result-is) tt
     ]
 
 pub returns-then-are_complete-clause-no_fault : goal.returns-then-are_complete-clause-no_fault
@@ -39,11 +39,11 @@ returns-then-are_complete-clause-no_fault g c =
     let count : length c.args.gathered.subs.rest.items ≡ 0 = grind (arith, common_steps, c.is_empty.ensures, c.if-is_empty.true) in
     let none = no_items c.args.gathered.subs.rest.items count in
     let numbers = c.numbers_of-numbers.result in
-    let passes : build_fault (plan_by c.args.choice (gathered_dump c.args.gathered)) (lists_in c.args.gathered.front.kind c.args.gathered.subs) ≡ None =
+    let passes : build_fault (plan_by c.args.choice (gathered_dump c.args.gathered)) (lists_in c.args.gathered.header.kind c.args.gathered.subs) ≡ None =
     whole_passes c.args.choice c.args.gathered c.numbers_of-numbers.result c.numbers_of-numbers.ensures none
-    (subst (λ z. HasNoFault (dump_plan (gathered_dump c.args.gathered) numbers.block_bits numbers.span_bits numbers.rounds) (map (packed_values c.args.gathered.front.kind) z))
+    (subst (λ z. HasNoFault (dump_plan (gathered_dump c.args.gathered) numbers.block_bits numbers.span_bits numbers.rounds) (map (packed_values c.args.gathered.header.kind) z))
     c.deref.ensures.value (c.are_complete.ensures c.if-are_complete.true)) in
     elim c.match-assemble.branch [
-      | in-Ok w ↦ subst (λ r. IfOk r (λ _. build_fault (plan_by c.args.choice (gathered_dump c.args.gathered)) (lists_in c.args.gathered.front.kind c.args.gathered.subs) ≡ None)) (sym w.result-is) passes
-      | in-Err w ↦ subst (λ r. IfOk r (λ _. build_fault (plan_by c.args.choice (gathered_dump c.args.gathered)) (lists_in c.args.gathered.front.kind c.args.gathered.subs) ≡ None)) (sym w.result-is) tt
+      | in-Ok w ↦ subst (λ r. IfOk r (λ _. build_fault (plan_by c.args.choice (gathered_dump c.args.gathered)) (lists_in c.args.gathered.header.kind c.args.gathered.subs) ≡ None)) (sym w.result-is) passes
+      | in-Err w ↦ subst (λ r. IfOk r (λ _. build_fault (plan_by c.args.choice (gathered_dump c.args.gathered)) (lists_in c.args.gathered.header.kind c.args.gathered.subs) ≡ None)) (sym w.result-is) tt
     ]

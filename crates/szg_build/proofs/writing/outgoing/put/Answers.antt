@@ -6,4 +6,4 @@ use Rattle.szg_build.proofs.writing.outgoing.put.Goals as goal
 pub returns-in_err-flush : goal.returns-in_err-flush
 returns-in_err-flush g c =
     let p = err_from_is_err_and c.from_residual.result c.from_residual.ensures.1 in
-    rw (p.1, p.2) (writes_stopped [] c.args.piece.now c.in_err-flush.field-0.0 c.in_err-flush.ensures.none)
+    rw (p.1, p.2) (writes_stopped [] c.args.chunk.now c.in_err-flush.field-0.0 c.in_err-flush.ensures.none)

@@ -33,5 +33,5 @@ returns-clause-goes g c =
       | else-sink-gt0-via-then-sink-gt0+else-sink-value w ↦ inr w.if-sink-value.false
       | else-sink-gt0-via-else-sink-gt0 w ↦ inl (omega (arith, w.if-sink-gt0.false))
     ] in
-    goes_written (replicate c.args.count c.args.value) (lines_text (value_lines (form_of s.form) (replicate s.count s.value))) c.in_ok-put_equal.ensures.written
+    goes_written (replicate c.args.count c.args.value) (lines_text (value_lines (form_of s.form) (replicate s.count s.value))) c.in_ok-put_equal.ensures
     (λ rest. run_ends (form_of s.form) x.kind (drop s.next (subtable_ids_of x.material x.kind)) (drop s.next (heads_of x)) s.count s.value c.args.count c.args.value s.left (s.left - c.args.count) rest (omega (arith, c.requires.within)) apart c.requires.some)

@@ -20,4 +20,4 @@ returns-clause-given g c =
     end_given (run ++ (others ++ [])) (text_left s []) c.flush.result
     (ap (λ (z : List ℕ). run ++ z) (append-nil others ∙ sym (subs_empty form x.kind places heads)) ∙ sym (run_last form x.kind places heads s.count s.value s.left))
     c.flush.ensures.held
-    (writes_then run (others ++ []) tt c.in_ok-put_equal.ensures.written (writes_then others [] tt c.in_ok-put_heads.ensures.written c.flush.ensures.none))
+    (writes_then run (others ++ []) tt c.in_ok-put_equal.ensures (writes_then others [] tt c.in_ok-put_heads.ensures.written c.flush.ensures.none))

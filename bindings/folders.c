@@ -1,0 +1,218 @@
+/* Tables of folders, over the calls of a tablebase: a file is found, mapped and added when a probe first says that its table is
+ * missing.
+ *
+ * All handles that share tables have one `opened` in common. Under its lock a file is mapped once, and its table added to the
+ * tablebase there; each handle then shares that tablebase's tables. So a probe takes the lock only if its handle lacks a table. A
+ * mutex of the default kind is never refused.
+ * Files are unmapped when the last handle is closed, after all tablebases. */
+#define _GNU_SOURCE
+#include "szg.h"
+#include <errno.h>
+#include <fcntl.h>
+#include <pthread.h>
+#include <stdlib.h>
+#include <string.h>
+#include <sys/mman.h>
+#include <sys/stat.h>
+#include <unistd.h>
+
+/* A mapped file. The list owns the mappings; the tables read them. */
+struct mapping {
+    struct mapping *next;
+    void *bytes;
+    size_t length;
+};
+
+struct opened {
+    pthread_mutex_t lock;     /* for all below but `paths` */
+    size_t handles;           /* the number of handles */
+    unsigned long count;      /* the number of tables that were added */
+    szg_tablebase tablebase;  /* all of them */
+    struct mapping *mappings;
+    char paths[];             /* those of the folders, separated by ':' */
+};
+
+struct szg_folders {
+    szg_tablebase tablebase; /* the first `count` of the tables */
+    unsigned long count;
+    struct opened *opened;
+};
+
+/* Opens the file of a table in the first folder that has it. -1 with errno ENOENT if none has. */
+static int open_file(const struct opened *opened, const szg_missing *missing)
+{
+    size_t longest = strlen(opened->paths) + sizeof "/" + sizeof missing->name + sizeof ".rtbw";
+    char *path = malloc(longest);
+    int file = -1;
+    if (path == NULL)
+        return -1;
+    errno = ENOENT;
+    for (const char *folder = opened->paths; file < 0 && errno == ENOENT; folder++) {
+        size_t length = strcspn(folder, ":");
+        memcpy(path, folder, length);
+        path[length] = '/';
+        strcpy(path + length + 1, missing->name);
+        strcat(path, missing->dtz ? ".rtbz" : ".rtbw");
+        file = open(path, O_RDONLY | O_CLOEXEC);
+        folder += length;
+        if (*folder == '\0')
+            break;
+    }
+    int why = errno;
+    free(path);
+    errno = why;
+    return file;
+}
+
+/* Maps a file, and closes it. False with errno if the system refuses. */
+static bool map_file(int file, struct mapping *mapping)
+{
+    struct stat state;
+    bool mapped = fstat(file, &state) == 0;
+    if (mapped) {
+        /* an empty file can't be mapped, and is refused by its first check */
+        mapping->length = (size_t)state.st_size;
+        mapping->bytes = mapping->length == 0 ? NULL : mmap(NULL, mapping->length, PROT_READ, MAP_SHARED, file, 0);
+        mapped = mapping->bytes != MAP_FAILED;
+    }
+    int why = errno;
+    close(file);
+    errno = why;
+    return mapped;
+}
+
+static void unmap_file(struct mapping *mapping)
+{
+    if (mapping->bytes != NULL)
+        munmap(mapping->bytes, mapping->length);
+    free(mapping);
+}
+
+/* Finds, maps and adds the file of a table, under the lock. */
+static uint32_t add_table(struct opened *opened, szg_missing *missing)
+{
+    static const uint8_t nothing;
+    struct mapping *mapping = malloc(sizeof *mapping);
+    if (mapping == NULL)
+        return SZG_MEMORY;
+    int file = open_file(opened, missing);
+    if (file < 0 || !map_file(file, mapping)) {
+        int why = errno;
+        free(mapping);
+        errno = why;
+        return SZG_MISSING;
+    }
+    szg_answer answer = {0, 0};
+    uint32_t status = szg_tablebase_add(&opened->tablebase, missing->name, strlen(missing->name), missing->dtz,
+                                        mapping->bytes == NULL ? &nothing : mapping->bytes, mapping->length, &answer);
+    if (status != SZG_DONE) {
+        missing->block = answer.reason;
+        missing->offset = answer.place;
+        unmap_file(mapping);
+        return status;
+    }
+    mapping->next = opened->mappings;
+    opened->mappings = mapping;
+    opened->count++;
+    return SZG_DONE;
+}
+
+/* Gives a handle the table that it lacks: one that another handle has opened, or a new one. */
+static uint32_t fetch(szg_folders *folders, szg_missing *missing)
+{
+    struct opened *opened = folders->opened;
+    pthread_mutex_lock(&opened->lock);
+    uint32_t status = folders->count < opened->count ? SZG_DONE : add_table(opened, missing);
+    if (status == SZG_DONE) {
+        /* the handle has no table until this is done */
+        folders->count = 0;
+        status = szg_share_tablebase(&opened->tablebase, &folders->tablebase);
+        if (status == SZG_DONE)
+            folders->count = opened->count;
+    }
+    pthread_mutex_unlock(&opened->lock);
+    return status;
+}
+
+static szg_folders *new_handle(struct opened *opened)
+{
+    szg_folders *folders = malloc(sizeof *folders);
+    if (folders != NULL)
+        *folders = (szg_folders){SZG_NO_TABLEBASE, 0, opened};
+    return folders;
+}
+
+uint32_t szg_open_folders(const char *paths, szg_folders **folders)
+{
+    size_t length = strlen(paths) + 1;
+    struct opened *opened = calloc(1, sizeof *opened + length);
+    szg_folders *handle = opened == NULL ? NULL : new_handle(opened);
+    if (handle == NULL || pthread_mutex_init(&opened->lock, NULL) != 0) {
+        free(handle);
+        free(opened);
+        return SZG_MEMORY;
+    }
+    memcpy(opened->paths, paths, length);
+    opened->handles = 1;
+    *folders = handle;
+    return SZG_DONE;
+}
+
+uint32_t szg_share_folders(szg_folders *folders, szg_folders **second)
+{
+    szg_folders *handle = new_handle(folders->opened);
+    if (handle == NULL)
+        return SZG_MEMORY;
+    pthread_mutex_lock(&folders->opened->lock);
+    folders->opened->handles++;
+    pthread_mutex_unlock(&folders->opened->lock);
+    *second = handle;
+    return SZG_DONE;
+}
+
+/* A probe, and again with each table that it lacked. */
+#define PROBED(probe) do { \
+    uint32_t status = (probe); \
+    while (status == SZG_MISSING && (status = fetch(folders, missing)) == SZG_DONE) \
+        status = (probe); \
+    return status; \
+} while (0)
+
+uint32_t szg_folders_wdl(szg_folders *folders, const szg_man *men, size_t count, uint8_t mover, uint8_t en_passant,
+                         int8_t *class_of_position, szg_missing *missing)
+{
+    PROBED(szg_tablebase_wdl(&folders->tablebase, men, count, mover, en_passant, class_of_position, missing));
+}
+
+uint32_t szg_folders_dtz(szg_folders *folders, const szg_man *men, size_t count, uint8_t mover, uint8_t en_passant,
+                         uint32_t counter, szg_distance *distance, szg_missing *missing)
+{
+    PROBED(szg_tablebase_dtz(&folders->tablebase, men, count, mover, en_passant, counter, distance, missing));
+}
+
+uint32_t szg_folders_moves(szg_folders *folders, const szg_man *men, size_t count, uint8_t mover, uint8_t en_passant,
+                           uint32_t counter, szg_move *moves, size_t capacity, size_t *move_count, szg_missing *missing)
+{
+    PROBED(szg_tablebase_moves(&folders->tablebase, men, count, mover, en_passant, counter, moves, capacity, move_count, missing));
+}
+
+void szg_close_folders(szg_folders *folders)
+{
+    if (folders == NULL)
+        return;
+    struct opened *opened = folders->opened;
+    szg_close_tablebase(&folders->tablebase);
+    free(folders);
+    pthread_mutex_lock(&opened->lock);
+    bool last = --opened->handles == 0;
+    pthread_mutex_unlock(&opened->lock);
+    if (!last)
+        return;
+    szg_close_tablebase(&opened->tablebase);
+    for (struct mapping *mapping = opened->mappings, *next; mapping != NULL; mapping = next) {
+        next = mapping->next;
+        unmap_file(mapping);
+    }
+    pthread_mutex_destroy(&opened->lock);
+    free(opened);
+}

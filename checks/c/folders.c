@@ -1,0 +1,96 @@
+/* Four threads probe random positions of three men by the tables of a folder, each with a handle of its own, and all open the
+ * files: folders FOLDER. They must find the same; a class must be that of its distance, and the first move must give it. A folder
+ * that is missing, one that is a file, and no table are refused. The status is 0 if all is so. */
+#define _GNU_SOURCE
+#include "szg.h"
+#include <errno.h>
+#include <inttypes.h>
+#include <pthread.h>
+#include <stdio.h>
+#include <stdlib.h>
+#include <string.h>
+#include <unistd.h>
+
+enum { POSITIONS = 20000, THREADS = 4 };
+static szg_folders *folders;
+static uint64_t found[THREADS];
+static int failed;
+
+static void want(const char *what, int64_t got, int64_t wanted) {
+    if (got != wanted) printf("folders: %s: %" PRId64 ", not %" PRId64 "\n", what, got, wanted), failed = 1;
+}
+
+static const char *probe(szg_folders *mine, unsigned *seed, uint64_t *sum) {
+    szg_man men[] = {{SZG_KING, SZG_WHITE, 0}, {(uint8_t)(1 + rand_r(seed) % 5), (uint8_t)(rand_r(seed) % 2), 0}, {SZG_KING, SZG_BLACK, 0}};
+    for (int i = 0; i < 3; i++) men[i].square = (uint8_t)(rand_r(seed) % 64);
+    uint8_t mover = (uint8_t)(rand_r(seed) % 2);
+    int8_t class;
+    szg_missing missing;
+    szg_distance distance;
+    szg_move moves[SZG_MAX_MOVES];
+    size_t count;
+    uint32_t status = szg_folders_wdl(mine, men, 3, mover, SZG_NO_SQUARE, &class, &missing);
+    if (status == SZG_IN_CHECK || status == SZG_SAME_SQUARE || status == SZG_PAWN_RANK) return NULL;
+    if (status != SZG_DONE) return "class";
+    if (szg_folders_dtz(mine, men, 3, mover, SZG_NO_SQUARE, 0, &distance, &missing) != SZG_DONE) return "distance";
+    if (distance.class_of_position != class) return "class of the distance";
+    if (szg_folders_moves(mine, men, 3, mover, SZG_NO_SQUARE, 0, moves, SZG_MAX_MOVES, &count, &missing) != SZG_DONE) return "moves";
+    if (count > 0 && moves->class_of_position != class) return "class of the first move";
+    *sum = *sum * 31 + (uint64_t)distance.dtz + count;
+    return NULL;
+}
+
+static void *run(void *number) {
+    unsigned seed = 7;
+    szg_folders *mine;
+    const char *why = szg_share_folders(folders, &mine) == SZG_DONE ? NULL : "share";
+    for (int i = 0; i < POSITIONS && why == NULL; i++) why = probe(mine, &seed, (uint64_t *)number);
+    szg_close_folders(mine);
+    return (void *)(uintptr_t)why;
+}
+
+/* The status of a probe, and errno or the offset of the refusal. */
+static void refused(const char *paths, uint32_t due, int due_errno) {
+    const szg_man men[] = {{SZG_KING, SZG_WHITE, 0}, {SZG_QUEEN, SZG_WHITE, 20}, {SZG_KING, SZG_BLACK, 63}};
+    int8_t class = 9;
+    szg_missing missing = {"", true, 7, 7};
+    szg_folders *none;
+    want(paths, szg_open_folders(paths, &none), SZG_DONE);
+    want(paths, szg_folders_wdl(none, men, 3, SZG_WHITE, SZG_NO_SQUARE, &class, &missing), due);
+    if (due == SZG_MISSING) want("errno", errno, due_errno);
+    if (due == SZG_REFUSED) want("reason", missing.block, SZG_TRUNCATED), want("offset", (int64_t)missing.offset, due_errno);
+    want("class", class, 9);
+    want("name", strcmp(missing.name, "KQvK"), 0);
+    szg_close_folders(none);
+}
+
+int main(int count, char **words) {
+    pthread_t threads[THREADS];
+    char paths[4096];
+    if (count != 2) return fprintf(stderr, "folders FOLDER\n"), 2;
+    snprintf(paths, sizeof paths, "/nowhere:%s", words[1]);
+    want("open", szg_open_folders(paths, &folders), SZG_DONE);
+    for (int i = 0; i < THREADS; i++) pthread_create(&threads[i], NULL, run, &found[i]);
+    for (int i = 0; i < THREADS; i++) {
+        void *why;
+        pthread_join(threads[i], &why);
+        want(why ? (const char *)why : "thread", why == NULL, 1);
+        want("the same", found[i] == found[0], 1);
+    }
+    szg_close_folders(folders);
+    refused("/nowhere", SZG_MISSING, ENOENT);
+    snprintf(paths, sizeof paths, "%s/KQvK.rtbw", words[1]);
+    refused(paths, SZG_MISSING, ENOTDIR);
+    char made[] = "/tmp/szg_folders_XXXXXX";
+    if (mkdtemp(made) == NULL) return perror(made), 2;
+    snprintf(paths, sizeof paths, "%s/KQvK.rtbw", made);
+    for (int bytes = 0; bytes < 3; bytes++) {
+        FILE *file = fopen(paths, "w");
+        if (file == NULL || fwrite("\x71\xe8", 1, (size_t)bytes, file) != (size_t)bytes || fclose(file) != 0) return perror(paths), 2;
+        refused(made, SZG_REFUSED, bytes);
+    }
+    unlink(paths);
+    rmdir(made);
+    if (!failed) puts("folders: as expected");
+    return failed;
+}

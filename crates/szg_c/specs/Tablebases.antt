@@ -1,0 +1,154 @@
+-- What calls on a tablebase return: the probes of chess positions over the tables that were added.
+use Rattle.std.specs.Prelude.{ℕ, ℤ, ◌≡◌, ◌++◌, ◌∷◌, [], ◌&&◌, ◌⊎◌, ◌<◌, Bool, not, nat_lt, List, length, drop, map, Option, Some, None, Result, Ok, Err, IsPermutation, if◌then◌else◌}
+use Rattle.std.specs.List.{list_all}
+use Rattle.std.specs.List.Sorted.{IsNonDecreasingBy}
+use Rattle.szg_values.specs.Men.{code_of}
+use Rattle.szg_values.specs.Material.{name_of}
+use Rattle.szg_values.specs.declared.Man.{Man}
+use Rattle.szg_place.specs.Layout.{is_dtz}
+use Rattle.szg_game.specs.declared.Class.{Class}
+use Rattle.szg_chess.specs.Position.{Position, position_fault}
+use Rattle.szg_chess.specs.Moves.{legal_moves}
+use Rattle.szg_chess.specs.declared.PositionFault.{PositionFault}
+use Rattle.szg_chess.specs.declared.PositionFault.TheVariants as fault
+use Rattle.szg_probe.specs.Probing.{MayFail, all_known, probed}
+use Rattle.szg_probe.specs.Distances.{class_at, probed_distance, rank_of, ranked, signed_distance}
+use Rattle.szg_probe.specs.declared.assessments.RankedMove.{RankedMove}
+use Rattle.szg_tables.specs.Mapped.{MappedFile, mapped_classes, mapped_numbers}
+use Rattle.szg_tables.specs.Stored.{IsMissing, number_of_class}
+use Rattle.szg_tables.specs.declared.Missing.{Missing}
+use Rattle.szg_tables.specs.declared.MissingReason.{MissingReason}
+use Rattle.szg_tables.specs.declared.MissingReason.TheVariants as reason
+use Rattle.szg_c.specs.Fronts.{IsFront}
+use Rattle.szg_c.specs.Men.{is_coded_man, placed_man_of, color_of}
+use Rattle.szg_c.specs.Places.{place_status}
+use Rattle.szg_c.specs.Texts.{printed}
+use Rattle.szg_c.specs.declared.men.CodedMan.{CodedMan}
+use Rattle.szg_c.specs.declared.status.TheConstants.{BAD_BLOCK, CONTRADICTION, DONE, EN_PASSANT, IN_CHECK, MAN, MEN, MISSING, NO_CLASS, PAWN_RANK, RANGE, SAME_SQUARE}
+use Rattle.szg_c.specs.declared.tablebase_calls.RawDistance.{RawDistance}
+use Rattle.szg_c.specs.declared.tablebase_calls.RawMissing.{RawMissing}
+use Rattle.szg_c.specs.declared.tablebase_calls.RawMove.{RawMove}
+
+-- ---- tables
+
+-- the tables of a tablebase; none if its handle holds nothing
+abbrev pub files_of : Option (List MappedFile) → List MappedFile
+files_of None = []
+files_of (Some files) = files
+
+-- a file was added behind the others: these bytes, opened as the table of this name and kind
+abbrev pub IsAdded : List ℕ → Bool → List ℕ → List MappedFile → Option (List MappedFile) → Type 0
+IsAdded name dtz bytes before after = (f : MappedFile) × IsFront name dtz bytes f.kept × (f.bytes ≡ bytes) × (after ≡ Some (before ++ f ∷ []))
+
+-- ---- positions
+
+abbrev pub position_status : PositionFault → ℕ
+position_status fault.Letter = MAN
+position_status fault.Rank = MAN
+position_status fault.Men = MEN
+position_status fault.Kings = MEN
+position_status fault.SameSquare = SAME_SQUARE
+position_status fault.PawnRank = PAWN_RANK
+position_status fault.SideToMove = MAN
+position_status fault.Castling = MAN
+position_status fault.EnPassant = EN_PASSANT
+position_status fault.OpponentInCheck = IN_CHECK
+position_status fault.Counters = MAN
+
+abbrev pub square_of : ℕ → Option ℕ
+square_of number = if nat_lt number 64 then Some number else None
+
+abbrev pub position_unless : Option PositionFault → Position → Result Position ℕ
+position_unless None p = Ok p
+position_unless (Some why) p = Err (position_status why)
+
+abbrev pub coded_position : List CodedMan → ℕ → ℕ → Position
+coded_position men mover en_passant = record { placed_men = map placed_man_of men; mover = color_of mover; en_passant = square_of en_passant }
+
+-- the position of men, a side to move and an en passant square, or the status that says why there is none
+unfoldable pub position_of : List CodedMan → ℕ → ℕ → Result Position ℕ
+position_of men mover en_passant =
+    if not (nat_lt mover 2 && list_all is_coded_man men) then Err MAN else
+    position_unless (position_fault (coded_position men mover en_passant)) (coded_position men mover en_passant)
+
+-- ---- what is missing
+
+abbrev pub missing_status : MissingReason → ℕ
+missing_status reason.Table = MISSING
+missing_status (reason.Place why) = place_status why
+missing_status reason.Value = NO_CLASS
+missing_status (reason.Block number offset) = BAD_BLOCK
+
+-- the number and offset of a block that does not decode; else they stay
+abbrev pub IsBlockWritten : MissingReason → RawMissing → RawMissing → Type 0
+IsBlockWritten (reason.Block number offset) before after = (after.block ≡ number) × (after.offset ≡ offset)
+IsBlockWritten reason.Table before after = (after.block ≡ before.block) × (after.offset ≡ before.offset)
+IsBlockWritten (reason.Place why) before after = (after.block ≡ before.block) × (after.offset ≡ before.offset)
+IsBlockWritten reason.Value before after = (after.block ≡ before.block) × (after.offset ≡ before.offset)
+
+-- the status says what is missing, and the table is named
+pub record IsMissingReported (missing : Missing) (status : ℕ) (before after : RawMissing) : Type 0 where
+  pub status_is : status ≡ missing_status missing.reason
+  pub name : after.name ≡ printed (name_of missing.material) before.name
+  pub kind : after.dtz ≡ is_dtz missing.kind
+  pub block : IsBlockWritten missing.reason before after
+
+-- a position of as many men or fewer misses what is reported
+abbrev pub IsLacking : List MappedFile → Position → ℕ → RawMissing → RawMissing → Type 0
+IsLacking files p status before after =
+    (missing : Missing) × MayFail (IsMissing (mapped_classes files) (mapped_numbers files) missing) p × IsMissingReported missing status before after
+
+-- ---- probes
+
+-- The class of the position by the tables, or what is missing.
+pub record IsClassProbed (files : List MappedFile) (p : Position) (status : ℕ) (class : ℤ) (before after : RawMissing) : Type 0 where
+  pub done : status ≡ 0 → (k : Class) × (probed (mapped_classes files) p ≡ Some k) × (class ≡ number_of_class k)
+  pub lacking : (status ≡ 0 → ⊥) → IsLacking files p status before after
+
+-- The tables contradict themselves where they have no answer; else the status says what is missing.
+abbrev pub IsUnanswered : List MappedFile → Type 0 → Position → ℕ → RawMissing → RawMissing → Type 0
+IsUnanswered files none p status before after = ((status ≡ CONTRADICTION) × none) ⊎ IsLacking files p status before after
+
+-- The class with the fifty-move counter and the DTZ of the position by the tables, or why there is none.
+pub record IsDistanceProbed (files : List MappedFile) (counter : ℕ) (p : Position) (status : ℕ) (distance : RawDistance) (before after : RawMissing) : Type 0 where
+  pub done : status ≡ 0 → (k : Class) × (plies : ℕ) × (probed_distance (mapped_classes files) (mapped_numbers files) p ≡ Some (k, plies))
+      × (distance.class ≡ number_of_class (class_at counter k plies)) × (distance.dtz ≡ signed_distance k plies)
+  pub lacking : (status ≡ 0 → ⊥) → IsUnanswered files (probed_distance (mapped_classes files) (mapped_numbers files) p ≡ None) p status before after
+
+-- ---- moves
+
+abbrev pub promotion_code : Option Man → ℕ
+promotion_code None = 0
+promotion_code (Some man) = code_of man
+
+abbrev pub raw_move : RankedMove → RawMove
+raw_move r = record {
+  from = r.m.from;
+  to = r.m.to;
+  promotion = promotion_code r.m.promotion;
+  class = number_of_class r.distance.class;
+  dtz = signed_distance r.distance.class r.distance.plies;
+  zeroing = r.zeroing;
+  mate = r.mate;
+  stalemate = r.stalemate;
+}
+
+-- each legal move with what it gives by the tables; None if that is not known
+abbrev pub known_moves : List MappedFile → ℕ → Position → Option (List RankedMove)
+known_moves files counter p = all_known (map (ranked (mapped_classes files) (mapped_numbers files) counter p) (legal_moves p))
+
+-- the list begins with the legal moves, the best first, and its rest is as before; their number is written
+pub record AreRankedIn (files : List MappedFile) (counter : ℕ) (p : Position) (before after : List RawMove) (count : ℕ) : Type 0 where
+  pub moves : List RankedMove
+  pub all : List RankedMove
+  pub known : known_moves files counter p ≡ Some all
+  pub same : IsPermutation all moves
+  pub best_first : IsNonDecreasingBy rank_of moves
+  pub written : after ≡ map raw_move moves ++ drop (length moves) before
+  pub number : count ≡ length moves
+
+-- the ranked moves; or the list is too short for them; or why there are none
+pub record IsRankedWritten (files : List MappedFile) (counter : ℕ) (p : Position) (status : ℕ) (before after : List RawMove) (count : ℕ) (lack_before lack_after : RawMissing) : Type 0 where
+  pub done : status ≡ 0 → AreRankedIn files counter p before after count
+  pub short : status ≡ RANGE → length before < length (legal_moves p)
+  pub lacking : (status ≡ 0 → ⊥) → (status ≡ RANGE → ⊥) → IsUnanswered files (known_moves files counter p ≡ None) p status lack_before lack_after

@@ -1,0 +1,283 @@
+//! What is below a folder.
+
+use crate::file_system::FileFault;
+use std::alloc::{AllocError, Global};
+use std::fs::{self, Metadata};
+use std::io::Read;
+use std::os::unix::fs::MetadataExt;
+use std::rt::Files;
+
+/// The number of bytes of names that are read at once.
+const BUFFER: usize = 1 << 15;
+
+/// What a walk says of a path below a folder.
+#[derive(Clone, Copy)]
+pub enum Finding {
+    /// It is no folder.
+    File,
+    /// It can't be looked at, or it is a folder that can't be read.
+    Unread(FileFault),
+    /// Its name isn't UTF-8. In the path each backslash, and each byte that isn't printable ASCII, is `\xNN`.
+    NoText,
+    /// It leads to a folder that it is in.
+    Loop,
+    /// It is a link to a folder that another link led to.
+    Again,
+}
+
+/// A path below a folder, and what a walk says of it.
+#[derive(Drop)]
+pub struct Below {
+    pub path: String,
+    pub finding: Finding,
+}
+
+/// Which folder it is, whatever its path: its device, and its number there.
+#[derive(Clone, Copy, PartialEq, Eq)]
+struct Node {
+    device: u64,
+    number: u64,
+}
+
+impl Node {
+    fn of(metadata: &Metadata) -> Node {
+        Node {
+            device: metadata.dev(),
+            number: metadata.ino(),
+        }
+    }
+}
+
+/// A folder that is to be read.
+#[derive(Drop)]
+struct Folder {
+    path: String,
+    node: Node,
+    /// The number of the folder in which it was found. None of the first one.
+    parent: Option<usize>,
+}
+
+/// A walk through folders.
+#[derive(Drop)]
+struct Walk<'a, R: Files> {
+    alloc: Global,
+    files: &'a R,
+    folders: Vec<Folder>,
+    /// The folders that links led to.
+    followed: Vec<Node>,
+    found: Vec<Below>,
+}
+
+/// Returns whether a path is that of a folder, or of a link to one. Errors: the system's reason.
+pub fn is_folder<R: Files>(files: &R, path: &str) -> Result<bool, FileFault> {
+    Ok(files.metadata(path)?.is_dir())
+}
+
+/// Returns the first four bytes of a regular file. None if it has fewer, or can't be read.
+pub fn first_bytes<R: Files>(files: &R, path: &str) -> Option<[u8; 4]> {
+    let metadata = files.metadata(path).ok()?;
+    if !metadata.is_file() {
+        return None;
+    }
+    let mut bytes = [0; 4];
+    match fs::open(files, path).ok()?.read(&mut bytes) {
+        Ok(4) => Some(bytes),
+        _ => None,
+    }
+}
+
+/// Returns all that is below a folder and is no folder, and the folders that weren't read, in the byte order of their paths.
+/// A link to a folder is followed once, and not if it leads to a folder that it is in.
+pub fn files_below<R: Files>(
+    alloc: Global,
+    files: &R,
+    folder: &str,
+) -> Result<Vec<Below>, AllocError> {
+    let mut walk = Walk {
+        alloc,
+        files,
+        folders: Vec::new(alloc),
+        followed: Vec::new(alloc),
+        found: Vec::new(alloc),
+    };
+    walk.begin(folder)?;
+    'folders: for number in 0..usize::MAX {
+        if number >= walk.folders.len() {
+            break;
+        }
+        walk.read(number)?;
+    }
+    let mut found = walk.found;
+    found.sort_by(|one, other| one.path.as_bytes().cmp(other.path.as_bytes()))?;
+    Ok(found)
+}
+
+impl<'a, R: Files> Walk<'a, R> {
+    /// Begins with a folder.
+    fn begin(&mut self, folder: &str) -> Result<(), AllocError> {
+        let path = String::from_str(self.alloc, folder.trim_end_matches('/'))?;
+        match self.files.metadata(folder) {
+            Ok(metadata) => Ok(
+                self.folders.push(Folder {
+                    path,
+                    node: Node::of(&metadata),
+                    parent: None,
+                })?,
+            ),
+            Err(error) => self.add(path, Finding::Unread(FileFault::System(error))),
+        }
+    }
+
+    /// Takes note of a path.
+    fn add(&mut self, path: String, finding: Finding) -> Result<(), AllocError> {
+        Ok(self.found.push(Below { path, finding })?)
+    }
+
+    /// Reads a folder.
+    fn read(&mut self, number: usize) -> Result<(), AllocError> {
+        let Some(folder) = self.folders.get(number) else {
+            return Ok(());
+        };
+        let path = folder.path.clone()?;
+        let names = match names_in(self.alloc, self.files, path.as_str()) {
+            Ok(names) => names,
+            Err(FileFault::Memory) => return Err(AllocError),
+            Err(fault) => return self.add(path, Finding::Unread(fault)),
+        };
+        'names: for name in &names {
+            self.add_name(number, path.as_str(), name)?;
+        }
+        Ok(())
+    }
+
+    /// Looks at a name in a folder.
+    fn add_name(&mut self, parent: usize, folder: &str, name: &[u8]) -> Result<(), AllocError> {
+        match std::str::from_utf8(name) {
+            Ok(name) => {
+                let path = format!(in self.alloc; "{folder}/{name}")?;
+                self.look_at(parent, path)
+            }
+            Err(_) => {
+                let path = printable(self.alloc, folder.as_bytes(), name)?;
+                self.add(path, Finding::NoText)
+            }
+        }
+    }
+
+    /// Looks at a path in a folder.
+    fn look_at(&mut self, parent: usize, path: String) -> Result<(), AllocError> {
+        let itself = match self.files.symlink_metadata(path.as_str()) {
+            Ok(metadata) => metadata,
+            Err(error) => return self.add(path, Finding::Unread(FileFault::System(error))),
+        };
+        if itself.is_dir() {
+            return self.enter(parent, path, Node::of(&itself));
+        }
+        if !itself.is_symlink() {
+            return self.add(path, Finding::File);
+        }
+        match self.files.metadata(path.as_str()) {
+            Ok(target) if target.is_dir() => self.follow(parent, path, Node::of(&target)),
+            Ok(_) => self.add(path, Finding::File),
+            Err(error) => self.add(path, Finding::Unread(FileFault::System(error))),
+        }
+    }
+
+    /// Follows a link to a folder that no other link led to.
+    fn follow(&mut self, parent: usize, path: String, node: Node) -> Result<(), AllocError> {
+        if self.is_within(parent, node) {
+            return self.add(path, Finding::Loop);
+        }
+        if self.followed.contains(&node) {
+            return self.add(path, Finding::Again);
+        }
+        self.followed.push(node)?;
+        self.enter(parent, path, node)
+    }
+
+    /// Takes a folder that is to be read, unless it is within itself.
+    fn enter(&mut self, parent: usize, path: String, node: Node) -> Result<(), AllocError> {
+        if self.is_within(parent, node) {
+            return self.add(path, Finding::Loop);
+        }
+        Ok(
+            self.folders.push(Folder {
+                path,
+                node,
+                parent: Some(parent),
+            })?,
+        )
+    }
+
+    /// Whether a folder is this node, or was found below it.
+    fn is_within(&self, number: usize, node: Node) -> bool {
+        let mut next = Some(number);
+        'parents: for _ in 0..self.folders.len() {
+            let Some(number) = next else {
+                return false;
+            };
+            let Some(folder) = self.folders.get(number) else {
+                return false;
+            };
+            if folder.node == node {
+                return true;
+            }
+            next = folder.parent;
+        }
+        false
+    }
+}
+
+/// Returns the names in a folder, without `.` and `..`, in their byte order.
+fn names_in<R: Files>(alloc: Global, files: &R, folder: &str) -> Result<Vec<Vec<u8>>, FileFault> {
+    let path = memory(format!(in alloc; "{folder}/"))?;
+    let mut directory = files.open_dir(path.as_str())?;
+    let mut buffer = memory(vec![in alloc; 0; BUFFER])?;
+    let mut names = Vec::new(alloc);
+    'chunks: for _ in 0..u64::MAX {
+        let count = directory.read(&mut buffer)?;
+        if count == 0 {
+            break;
+        }
+        memory(add_names(alloc, &buffer[..count], &mut names))?;
+    }
+    memory(names.sort())?;
+    Ok(names)
+}
+
+/// A growth that was refused, as a fault of a file.
+fn memory<T>(grown: Result<T, AllocError>) -> Result<T, FileFault> {
+    match grown {
+        Ok(value) => Ok(value),
+        Err(_) => Err(FileFault::Memory),
+    }
+}
+
+/// Adds the names of a chunk, of which each is followed by a zero byte.
+fn add_names(alloc: Global, chunk: &[u8], names: &mut Vec<Vec<u8>>) -> Result<(), AllocError> {
+    let mut name = Vec::new(alloc);
+    'bytes: for byte in chunk {
+        if *byte != 0 {
+            name.push(*byte)?;
+            continue;
+        }
+        if name.as_slice() != b".".as_slice() && name.as_slice() != b"..".as_slice() {
+            names.push(name)?;
+        }
+        name = Vec::new(alloc);
+    }
+    Ok(())
+}
+
+/// A path in printable ASCII: each other byte, and each backslash, is `\xNN`.
+fn printable(alloc: Global, folder: &[u8], name: &[u8]) -> Result<String, AllocError> {
+    let mut text = String::new(alloc);
+    'bytes: for byte in folder.iter().chain(b"/").chain(name) {
+        if (32..127).contains(byte) && *byte != b'\\' {
+            text.push(char::from(*byte))?;
+        } else {
+            write!(text, "\\x{byte:02x}")?;
+        }
+    }
+    Ok(text)
+}

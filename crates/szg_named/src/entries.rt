@@ -1,0 +1,152 @@
+//! What a check reports on: files at paths, and what is below folders.
+ghost use Rattle.std.specs.Prelude.{◌≡◌, ◌++◌, ◌∷◌, [], IfOk, OnOk, map};
+ghost use Rattle.szg_named.specs.Verdicts.{AreListed, IsListedAt, file_at, listed_of};
+
+use crate::file_verdict::{FileVerdict, Skip};
+use crate::named::named_by;
+use std::alloc::{AllocError, Global};
+use std::path::Path;
+use std::rt::Files;
+use szg_files::{Below, Finding, files_below, first_bytes, is_folder};
+use szg_values::Material;
+
+/// The first four bytes of a WDL table and of a DTZ table.
+const MAGICS: [[u8; 4]; 2] = [[0x71, 0xe8, 0x23, 0x5d], [0xd7, 0x66, 0x0c, 0xa5]];
+
+/// A path, and its verdict if it is known without opening a file.
+#[derive(Drop)]
+pub struct Entry {
+    pub path: String,
+    pub note: Option<FileVerdict>,
+}
+
+/// Appends the file at a path.
+#[tactic(auto, using(crate::proofs::Listing::entries_more))]
+fn add_file(alloc: Global, path: &str, entries: &mut Vec<Entry>) -> Result<(), AllocError>
+    ensures { OnOk result (map listed_of entries.new.items ≡ map listed_of entries.old.items ++ map file_at (path.now ∷ [])) }
+{
+    let path = String::from_str(alloc, path)?;
+    Ok(entries.push(Entry { path, note: None })?)
+}
+
+/// Returns the files at these paths.
+#[tactic(auto, using(crate::proofs::Listing::files_more))]
+pub(crate) fn files_at(alloc: Global, paths: &[&str]) -> Result<Vec<Entry>, AllocError>
+    ensures { IfOk result (λ entries. map listed_of entries.items ≡ map file_at (map (λ path. path.now) paths.now)) }
+{
+    let mut entries = Vec::new(alloc);
+    'paths: for path in paths {
+        add_file(alloc, path, &mut entries)?;
+    }
+    Ok(entries)
+}
+
+/// Whether a file's name has the ending of a table's file in it, in any case of letters.
+fn has_ending(name: &str) -> bool {
+    'windows: for window in name.as_bytes().windows(5) {
+        if window.eq_ignore_ascii_case(b".rtbw") || window.eq_ignore_ascii_case(b".rtbz") {
+            return true;
+        }
+    }
+    false
+}
+
+/// Whether a file's name begins with a material, up to its end or a dot.
+fn has_material(name: &str) -> bool {
+    let stem = match name.split_once('.') {
+        Some((stem, _)) => stem,
+        None => name,
+    };
+    Material::parse(stem).is_ok()
+}
+
+/// Whether a file looks like a table: by its name, or by its first four bytes.
+fn looks_like_table<R: Files>(files: &R, path: &str) -> bool {
+    let name = Path::new(path).file_name().unwrap_or("");
+    if has_ending(name) || has_material(name) {
+        return true;
+    }
+    match first_bytes(files, path) {
+        Some(bytes) => MAGICS.contains(&bytes),
+        None => false,
+    }
+}
+
+/// Returns what a report has of a path below a folder. None if it isn't a table's file, and doesn't look like one.
+fn entry_of<R: Files>(files: &R, below: Below) -> Option<Entry> {
+    let Below { path, finding } = below;
+    let note = match finding {
+        Finding::File if named_by(path.as_str()).is_some() => None,
+        Finding::File if looks_like_table(files, path.as_str()) => {
+            Some(FileVerdict::Skipped(Skip::Ending))
+        }
+        Finding::File => return None,
+        Finding::Unread(fault) => Some(FileVerdict::Unopened(fault)),
+        Finding::NoText => Some(FileVerdict::NoText),
+        Finding::Loop => Some(FileVerdict::Skipped(Skip::Loop)),
+        Finding::Again => Some(FileVerdict::Skipped(Skip::Again)),
+    };
+    Some(Entry { path, note })
+}
+
+/// Returns the table files below a folder, in the byte order of their paths, and what else a report has to have of it.
+fn entries_below<R: Files>(
+    alloc: Global,
+    files: &R,
+    folder: &str,
+) -> Result<Vec<Entry>, AllocError> {
+    let mut entries = Vec::new(alloc);
+    let mut is_empty = true;
+    'found: for below in files_below(alloc, files, folder)? {
+        if let Some(entry) = entry_of(files, below) {
+            is_empty = is_empty && matches!(entry.note, Some(FileVerdict::Skipped(_)));
+            entries.push(entry)?;
+        }
+    }
+    if is_empty {
+        let mut note = noted(alloc, folder, FileVerdict::Empty)?;
+        entries.append(&mut note)?;
+    }
+    Ok(entries)
+}
+
+/// Returns a path alone, with its verdict.
+fn noted(alloc: Global, path: &str, verdict: FileVerdict) -> Result<Vec<Entry>, AllocError> {
+    let mut entries = Vec::new(alloc);
+    let path = String::from_str(alloc, path)?;
+    let note = Some(verdict);
+    entries.push(Entry { path, note })?;
+    Ok(entries)
+}
+
+/// Returns what a report has of a path: the file there, or what is below a folder. A path that ends as a table's file does
+/// isn't looked at here.
+fn entries_at_path<R: Files>(alloc: Global, files: &R, path: &str) -> Result<Vec<Entry>, AllocError>
+    ensures { IfOk result (λ entries. IsListedAt path.now (map listed_of entries.items)) }
+{
+    if named_by(path).is_some() {
+        return files_at(alloc, &[path]);
+    }
+    match is_folder(files, path) {
+        Ok(true) => entries_below(alloc, files, path),
+        Ok(false) => files_at(alloc, &[path]),
+        Err(fault) => noted(alloc, path, FileVerdict::Unopened(fault)),
+    }
+}
+
+/// Returns what a report has of these paths, in their order: of a folder what is below it.
+#[tactic(auto, using(crate::proofs::Listing::listed_next))]
+pub fn entries_at<R: Files>(
+    alloc: Global,
+    files: &R,
+    paths: &[&str],
+) -> Result<Vec<Entry>, AllocError>
+    ensures { IfOk result (λ entries. AreListed (map (λ path. path.now) paths.now) (map listed_of entries.items)) }
+{
+    let mut entries = Vec::new(alloc);
+    'paths: for path in paths {
+        let mut here = entries_at_path(alloc, files, path)?;
+        entries.append(&mut here)?;
+    }
+    Ok(entries)
+}

@@ -1,0 +1,18 @@
+//! Helpers for tests: calls that must succeed.
+
+use std::fmt::Debug;
+use std::process::Abort;
+use szg_chess::Position;
+
+/// The value of a call that must succeed.
+pub fn made<T, E: Debug>(rt: &impl Abort, answer: Result<T, E>) -> T {
+    match answer {
+        Ok(made) => made,
+        Err(fault) => panic!(rt; "{fault:?}"),
+    }
+}
+
+/// The position of a text.
+pub fn position(rt: &impl Abort, fen: &str) -> Position {
+    made(rt, Position::parse_fen(fen)).position
+}

@@ -1,0 +1,180 @@
+//! Results of positions over folders of tables in memory.
+
+use crate::helpers::made;
+use std::alloc::Global;
+use std::process::Abort;
+use szg_files::{MemoryFile, MemoryFiles};
+use szg_fixtures::{
+    Fixture, kbvk_wdl_constant, knvkp_wdl_constant, kqvk_dtz_packed, kqvk_wdl_true_but_for_ends,
+};
+use szg_results::{Folders, board_of, stop_text};
+
+/// How an answer is asked for.
+#[derive(Clone, Copy)]
+enum Form {
+    Lines,
+    Line,
+}
+
+/// The text of an answer, or of a refusal.
+fn found(
+    rt: &(impl Abort + Alloc<A = Global>),
+    files: &[MemoryFile<'_>],
+    words: &[&str],
+    form: Form,
+    fen: &str,
+) -> String {
+    let mut system = MemoryFiles { files, failures: 0 };
+    let mut folders = Folders::new(rt.alloc(), words);
+    let answer = match form {
+        Form::Lines => folders.text(rt.alloc(), &mut system, fen),
+        Form::Line => folders.line(rt.alloc(), &mut system, fen),
+    };
+    match answer {
+        Ok(text) => text,
+        Err(stop) => made(rt, stop_text(rt.alloc(), &stop)),
+    }
+}
+
+/// A position's text, the form, and the answer.
+type Case<'a> = (&'a str, Form, &'a str);
+
+/// The folder `t` answers what the cases say.
+fn check_cases(
+    rt: &(impl Abort + Alloc<A = Global>),
+    files: &[MemoryFile<'_>],
+    cases: &[Case<'_>],
+) {
+    for (fen, form, due) in cases {
+        let text = found(rt, files, &["t"], *form, fen);
+        assert_eq!(rt; text.as_str(), *due, "{fen}");
+    }
+}
+
+/// A mate in one by g1g7: 7 plies by the table, which counts three moves after the first ply.
+const MATE_IN_ONE: &str = "7k/8/5K2/8/8/8/8/6Q1 w - - 0 1";
+
+/// White's queen may be captured.
+const QUEEN_LOST: &str = "8/8/8/3Q4/3k4/8/8/K7 b - - 0 1";
+
+/// A table's file at this path.
+fn at<'a>(path: &'a str, file: &'a Fixture) -> MemoryFile<'a> {
+    MemoryFile {
+        path,
+        bytes: &file.bytes,
+    }
+}
+
+/// What a folder with both tables of king and queen against king answers.
+const OF_A_FOLDER: [Case<'static>; 10] = [
+    (
+        MATE_IN_ONE,
+        Form::Line,
+        "7k/8/5K2/8/8/8/8/6Q1 w - - 0 1\t2\t7\tg1g7\n",
+    ),
+    // 7 plies more than 94 are too many
+    (
+        "7k/8/5K2/8/8/8/8/6Q1 w - - 93 80",
+        Form::Line,
+        "7k/8/5K2/8/8/8/8/6Q1 w - - 93 80\t2\t7\tg1g7\n",
+    ),
+    (
+        "7k/8/5K2/8/8/8/8/6Q1 w - - 94 80",
+        Form::Line,
+        "7k/8/5K2/8/8/8/8/6Q1 w - - 94 80\t1\t7\tg1g7\n",
+    ),
+    // the table says a loss
+    (
+        QUEEN_LOST,
+        Form::Line,
+        "8/8/8/3Q4/3k4/8/8/K7 b - - 0 1\t0\t0\td4d5\n",
+    ),
+    (
+        "7k/6Q1/5K2/8/8/8/8/8 b - -",
+        Form::Lines,
+        "result loss\ndtz -1\n",
+    ),
+    (
+        "k7/8/1K6/4B3/8/8/8/8 b - -",
+        Form::Lines,
+        "result draw\ndtz 0\n",
+    ),
+    // the capture en passant is the only move, and White wins after it
+    (
+        "8/8/8/8/4Pp2/5N2/8/5K1k b - e3 0 1",
+        Form::Lines,
+        "result loss\ndtz -1\nf4e3\tfxe3\tloss\t-1\tzeroing\n",
+    ),
+    (
+        "8/8/8/8/8/2k5/8/K2R4 w - - 0 1",
+        Form::Line,
+        "refused missing table KRvK wdl",
+    ),
+    (
+        "r3k3/8/8/8/8/8/8/4K3 b q - 0 1",
+        Form::Line,
+        "refused fen: Castling",
+    ),
+    // two kings need no table
+    (
+        "8/8/8/8/8/8/8/K1k5 w - -",
+        Form::Lines,
+        "result draw\ndtz 0\na1a2\tKa2\tdraw\t0\n",
+    ),
+];
+
+#[test]
+fn results_of_a_folder(rt: HostRuntime) {
+    let wdl = made(&rt, kqvk_wdl_true_but_for_ends(rt.alloc()));
+    let dtz = made(&rt, kqvk_dtz_packed(rt.alloc()));
+    let bishop = made(&rt, kbvk_wdl_constant(rt.alloc()));
+    let knight = made(&rt, knvkp_wdl_constant(rt.alloc()));
+    let files = [
+        at("t/KQvK.rtbw", &wdl),
+        at("t/KQvK.rtbz", &dtz),
+        at("t/KBvK.rtbw", &bishop),
+        at("t/KNvKP.rtbw", &knight),
+    ];
+    check_cases(&rt, &files, &OF_A_FOLDER);
+}
+
+#[test]
+fn results_without_distances(rt: HostRuntime) {
+    let wdl = made(&rt, kqvk_wdl_true_but_for_ends(rt.alloc()));
+    let files = [at("t/KQvK.rtbw", &wdl)];
+    check_cases(
+        &rt,
+        &files,
+        &[
+            (
+                MATE_IN_ONE,
+                Form::Line,
+                "7k/8/5K2/8/8/8/8/6Q1 w - - 0 1\t2\t-\tg1g7\n",
+            ),
+            (
+                QUEEN_LOST,
+                Form::Line,
+                "8/8/8/3Q4/3k4/8/8/K7 b - - 0 1\t0\t-\td4d5\n",
+            ),
+        ],
+    );
+    // another table's file, and the table's own
+    let text = found(
+        &rt,
+        &files,
+        &["t/KRKQvK.rtbw", "t/KQvK.rtbw"],
+        Form::Line,
+        QUEEN_LOST,
+    );
+    assert!(rt; text.as_str() == "8/8/8/3Q4/3k4/8/8/K7 b - - 0 1\t0\t-\td4d5\n");
+}
+
+#[test]
+fn boards(rt: HostRuntime) {
+    let board = made(&rt, board_of(rt.alloc(), MATE_IN_ONE));
+    let due =
+        " . . . . . . . k\n . . . . . . . .\n . . . . . K . .\n . . . . . . . .\n . . . . . . . .\n . . . . . . . .\n . . . . . . . .\n . . . . . . Q .\n\n";
+    assert!(rt; board.as_str() == due);
+    let none = made(&rt, board_of(rt.alloc(), "9/8/8/8/8/8/8/8 w - -"));
+    assert!(rt; none.as_str() == "");
+}

@@ -1,0 +1,31 @@
+use Rattle.std.proofs.Common.{◌∙◌, ap}
+use Rattle.szg_values.specs.declared.Kind.TheVariants.{Wdl}
+use Rattle.szg_tables.specs.Mapped.{class_in, mapped_classes, mapped_numbers}
+use Rattle.szg_tables.proofs.MappedFiles.{class_by, no_class}
+use Rattle.szg_tables.proofs.Stored.{placed_is, lacks}
+use Rattle.szg_tables.proofs.mapped.MappedSetTables.class.Goals as goal
+
+pub returns-in-Err-clause-fault : goal.returns-in-Err-clause-fault
+returns-in-Err-clause-fault c =
+    let men = c.args.position.now.placed_men in
+    let mover = c.args.position.now.mover in
+    let files = c.args.self.now.tables.now in
+    let board = c.in-Some.placement in
+    let is = placed_is men mover c.placement.result board c.placement.ensures.placed c.requires c.in-Some.is in
+    lacks Wdl c.in-Err.missing.kind (mapped_classes files) (mapped_numbers files) men mover c.in-Err.ensures.missing (no_class files men mover board is c.in-Err.ensures.none)
+
+pub returns-in-Ok-class_in-clause-class : goal.returns-in-Ok-class_in-clause-class
+returns-in-Ok-class_in-clause-class c =
+    let men = c.args.position.now.placed_men in
+    let mover = c.args.position.now.mover in
+    let board = c.in-Some.placement in
+    let is = placed_is men mover c.placement.result board c.placement.ensures.placed c.requires c.in-Some.is in
+    class_by c.args.self.now.tables.now men mover board is c.in-Ok.table.now _ c.in-Ok.ensures.found (ap (class_in board) c.file.ensures.file ∙ c.in-Ok-class_in.ensures.class)
+
+pub returns-in-Err-class_in-clause-fault : goal.returns-in-Err-class_in-clause-fault
+returns-in-Err-class_in-clause-fault c =
+    let men = c.args.position.now.placed_men in
+    let mover = c.args.position.now.mover in
+    let board = c.in-Some.placement in
+    let is = placed_is men mover c.placement.result board c.placement.ensures.placed c.requires c.in-Some.is in
+    class_by c.args.self.now.tables.now men mover board is c.in-Ok.table.now _ c.in-Ok.ensures.found (ap (class_in board) c.file.ensures.file ∙ c.in-Err-class_in.ensures.none)

@@ -1,0 +1,6 @@
+use Rattle.std.proofs.Common.{Contains}
+use Rattle.szg_values.specs.Material.{Sides}
+use Rattle.szg_verified.proofs.changes.add_new.Given as goal
+
+abbrev pub invariant-found : goal.invariant-found
+invariant-found l = (m : Sides) → Contains l.fn.materials.items m → Contains l.materials.items m

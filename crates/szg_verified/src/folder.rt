@@ -1,0 +1,146 @@
+//! The verification of a folder.
+
+ghost use Rattle.std.specs.Prelude.{Contains, IfOk, IsTrue};
+ghost use Rattle.szg_values.specs.Material.{Sides};
+ghost use Rattle.szg_verified.specs.Verified.{AreTrue};
+
+use crate::changes::add_needed;
+use crate::verifying::{Progress, verify_materials};
+use std::alloc::{AllocError, Global};
+use std::io::{self, Write};
+use std::rt::Files;
+use szg_file::Table;
+use szg_files::{FileSystem, Finding, files_below};
+use szg_named::named_by;
+use szg_results::{ResultStop, read_missing};
+use szg_tables::{Missing, MissingReason};
+use szg_values::{Kind, Material, NameFault};
+
+/// What was verified.
+#[derive(Drop)]
+pub struct Verification {
+    /// The tables that were read.
+    pub tables: Vec<Table>,
+    /// The materials that were asked for, and all that captures and promotions lead to from them.
+    pub materials: Vec<Material>,
+    /// Whether the tables of all these are verified.
+    pub is_all: bool,
+}
+
+/// Why a folder was not verified to the end.
+#[derive(Drop)]
+pub enum VerifyStop {
+    /// A name is no material's.
+    Name(NameFault),
+    /// The folder can't be read, a file fails or is no table, or an allocation was refused.
+    Read(ResultStop),
+    /// The output failed, or an allocation was refused.
+    Output(io::Error),
+}
+
+impl From<ResultStop> for VerifyStop {
+    fn from(stop: ResultStop) -> VerifyStop {
+        VerifyStop::Read(stop)
+    }
+}
+
+impl From<AllocError> for VerifyStop {
+    fn from(_failed: AllocError) -> VerifyStop {
+        VerifyStop::Read(ResultStop::Memory)
+    }
+}
+
+/// Returns the materials of the tables in a folder, of either kind. What is in folders below it does not count.
+///
+/// Errors: the folder can't be read; an allocation was refused.
+pub fn materials_in<R: Files>(
+    alloc: Global,
+    files: &R,
+    folder: &str,
+) -> Result<Vec<Material>, ResultStop> {
+    let folder = folder.trim_end_matches('/');
+    let mut materials = Vec::new(alloc);
+    for below in files_below(alloc, files, folder)? {
+        if let Finding::Unread(fault) = below.finding {
+            if below.path.as_str() == folder {
+                return Err(ResultStop::Failed(fault));
+            }
+        }
+        if let Some(material) = material_at(folder, below.path.as_str()) {
+            if !materials.contains(&material) {
+                if materials.push(material).is_err() {
+                    return Err(ResultStop::Memory);
+                }
+            }
+        }
+    }
+    Ok(materials)
+}
+
+/// Returns the material of a table's file in a folder. None for another path.
+fn material_at(folder: &str, path: &str) -> Option<Material> {
+    let name = path.strip_prefix(folder)?.strip_prefix('/')?;
+    if name.contains('/') {
+        return None;
+    }
+    let (name, _) = named_by(name)?;
+    Material::parse(name).ok()
+}
+
+/// Verifies the tables of materials in a folder, and those of all that captures and promotions lead to from them: each is
+/// read once, whole. Writes a line for each material, those of the fewest men first, and a summary.
+///
+/// If all are verified, then for each position of these materials a probe of the tables that were read finds its class in
+/// chess with the fifty-move rule, whoever made the tables.
+///
+/// Errors: `VerifyStop`; the lines of materials that came before were written.
+pub fn verify_folder<S: FileSystem, W: Write, P: Progress>(
+    alloc: Global,
+    system: &mut S,
+    folder: &str,
+    asked: Vec<Material>,
+    output: &mut W,
+    progress: &mut P,
+) -> Result<Verification, VerifyStop>
+    ensures true_tables { IfOk result (λ v. IsTrue v.is_all → AreTrue v.tables.items v.materials.items) }
+    ensures asked { IfOk result (λ v. (m : Sides) → Contains asked.items m → Contains v.materials.items m) }
+{
+    let mut materials = asked;
+    add_needed(alloc, &mut materials)?;
+    let tables = tables_in(alloc, system, folder, &materials)?;
+    match verify_materials(alloc, &tables, &materials, output, progress) {
+        Ok(is_all) => Ok(Verification {
+            tables,
+            materials,
+            is_all,
+        }),
+        Err(error) => Err(VerifyStop::Output(error)),
+    }
+}
+
+/// Reads the tables of materials that a folder has.
+///
+/// Errors: a file is no table, or it fails; an allocation was refused.
+fn tables_in<S: FileSystem>(
+    alloc: Global,
+    system: &mut S,
+    folder: &str,
+    materials: &[Material],
+) -> Result<Vec<Table>, ResultStop> {
+    let mut tables = Vec::new(alloc);
+    for material in materials {
+        for kind in [Kind::Wdl, Kind::Dtz] {
+            let missing = Missing {
+                material: material.copy(),
+                kind,
+                reason: MissingReason::Table,
+            };
+            if let Some(table) = read_missing(alloc, system, &[folder], &missing)? {
+                if tables.push(table).is_err() {
+                    return Err(ResultStop::Memory);
+                }
+            }
+        }
+    }
+    Ok(tables)
+}

@@ -1,0 +1,52 @@
+//! The lines of a verification.
+
+use crate::verifying::{Finding, Tally};
+use std::alloc::{AllocError, Global};
+use szg_results::{ResultStop, stop_text};
+use szg_values::Material;
+
+/// Returns the line of a material.
+pub fn material_line(
+    alloc: Global,
+    material: &Material,
+    finding: Finding,
+) -> Result<String, AllocError> {
+    let name = material.name();
+    let name = name.as_str();
+    match finding {
+        Finding::Verified(positions) => {
+            format!(in alloc; "{name} verified positions {positions}\n")
+        }
+        Finding::Refused(refusal) => {
+            let fen = refusal.position.fen();
+            let fen = fen.as_str();
+            let condition = refusal.condition;
+            format!(in alloc; "{name} refused {fen} 0 1: {condition}\n")
+        }
+        Finding::Missing(missing) => {
+            let text = stop_text(alloc, &ResultStop::Missing(missing))?;
+            format!(in alloc; "{name} {text}\n")
+        }
+        Finding::Unchecked(other) => {
+            let other = other.name();
+            let other = other.as_str();
+            format!(in alloc; "{name} unchecked: it leads to {other}\n")
+        }
+    }
+}
+
+/// Returns the summary.
+pub fn summary_line(alloc: Global, is_all: bool, tally: &Tally) -> Result<String, AllocError> {
+    let Tally {
+        materials,
+        verified,
+        positions,
+    } = *tally;
+    if is_all {
+        format!(in alloc; "all verified: materials {materials}, positions {positions}\n")
+    } else {
+        format!(in alloc;
+            "not all verified: materials {materials}, verified {verified}, positions {positions}\n"
+        )
+    }
+}
