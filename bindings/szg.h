@@ -379,13 +379,13 @@ typedef struct szg_move {
     bool stalemate;
 } szg_move;
 
-/* A list of this many moves has room for each position's. */
+/* No position of two to six men has more legal moves. */
 #define SZG_MAX_MOVES 128
 
 /* The legal moves of a position, the best first: by class, then a win by the least DTZ and a loss by the greatest. They are
  * written to the beginning of `moves`, a list of `capacity` items, and their number to *move_count; 0 is mate or stalemate. The
- * statuses are those of szg_tablebase_dtz, and SZG_RANGE for a list that is too short. With another status than SZG_DONE the list
- * and *move_count stay. */
+ * statuses are those of szg_tablebase_dtz, and SZG_RANGE for a list that is too short (one of SZG_MAX_MOVES items never is). With
+ * another status than SZG_DONE the list and *move_count stay. */
 uint32_t szg_tablebase_moves(szg_tablebase *tablebase, const szg_man *men, size_t count, uint8_t mover, uint8_t en_passant,
                              uint32_t counter, szg_move *moves, size_t capacity, size_t *move_count, szg_missing *missing);
 
@@ -406,13 +406,17 @@ uint32_t szg_open_folders(const char *paths, szg_folders **folders);
 /* Makes *second a second handle of the same tables, for another thread. A file is mapped, and kept in memory, once for all. */
 uint32_t szg_share_folders(szg_folders *folders, szg_folders **second);
 
-/* The probes, as szg_tablebase_wdl, szg_tablebase_dtz and szg_tablebase_moves. SZG_MISSING: the file of missing->name can't be
- * opened or mapped, and errno says why: ENOENT if no folder has it. SZG_REFUSED: it is no table, missing->offset is the offset of
- * the check that fails, and missing->block the reason, as enum szg_reason. SZG_MEMORY: there is no memory to add it. */
+/* The class of a position, as szg_tablebase_wdl. SZG_MISSING: the file of missing->name can't be opened or mapped, and errno says
+ * why: ENOENT if no folder has it. SZG_REFUSED: it is no table, missing->offset is the offset of the check that fails, and
+ * missing->block the reason, as enum szg_reason. SZG_MEMORY: there is no memory to add it. */
 uint32_t szg_folders_wdl(szg_folders *folders, const szg_man *men, size_t count, uint8_t mover, uint8_t en_passant,
                          int8_t *class_of_position, szg_missing *missing);
+
+/* The class and the DTZ of a position, as szg_tablebase_dtz, with the statuses of szg_folders_wdl too. */
 uint32_t szg_folders_dtz(szg_folders *folders, const szg_man *men, size_t count, uint8_t mover, uint8_t en_passant,
                          uint32_t counter, szg_distance *distance, szg_missing *missing);
+
+/* The ranked moves of a position, as szg_tablebase_moves, with the statuses of szg_folders_wdl too. */
 uint32_t szg_folders_moves(szg_folders *folders, const szg_man *men, size_t count, uint8_t mover, uint8_t en_passant,
                            uint32_t counter, szg_move *moves, size_t capacity, size_t *move_count, szg_missing *missing);
 
