@@ -4,6 +4,7 @@ pub mod Spelling
 pub mod WordAt
 pub mod Joined
 pub mod Pushing
+pub mod Written
 pub mod Powers
 pub mod Parts
 pub mod Reading

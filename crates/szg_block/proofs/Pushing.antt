@@ -16,6 +16,11 @@ module _ (entries : List (List ℕ)) (accepted : IsDictionary entries) (s : ℕ)
       let c : count ≡ 1 = omega (arith, n) in
       rw (c, one) refl
 
+  pub leaf_has_one : is_leaf entry ≡ true → length (expansion_of entries s) ≡ 1
+  leaf_has_one single =
+      let one : expansion_of entries s ≡ left_of entry ∷ [] = leaf_at entries accepted s entry there at single in
+      ap length one
+
   pub first_of_left : is_leaf entry ≡ false → (count : ℕ) → count ≤ length (expansion_of entries (left_of entry)) → take count (expansion_of entries (left_of entry)) ≡ take count (expansion_of entries s)
   first_of_left paired count short =
       let p : IsPairAt entries s entry = pair_at entries accepted s entry there at paired in

@@ -1,6 +1,6 @@
 //! The values of sound subtables.
 
-ghost use Rattle.std.specs.Prelude.{◌≡◌, ◌<◌, ◌≤◌, ◌+◌, ◌^◌, ◌*◌, IfNone, IfOk, IfSome, IsOk, IsOkAnd, Some, length, slice_get};
+ghost use Rattle.std.specs.Prelude.{◌≡◌, ◌<◌, ◌≤◌, ◌+◌, ◌^◌, ◌*◌, IfNone, IfOk, IfSome, IsOk, IsOkAnd, Some, length, replicate, slice_get};
 ghost use Rattle.szg_block.specs.Subtable.{layout_of, packed_of, IsShaped, IsShapedHead, IsSoundOver};
 ghost use Rattle.szg_block.specs.BlocksTrait.{raised, failed_after, bytes_at};
 ghost use Rattle.szg_block.specs.Paging.{source_of, first_of, count_of, size_of};
@@ -13,7 +13,7 @@ use crate::packed::block_of;
 use crate::paged::Paged;
 use crate::probing::{Steps, find_value, load_early, look_up};
 use crate::source::Source;
-use crate::words::push_values;
+use crate::words::write_values;
 use std::alloc::{AllocError, Global};
 use std::marker::Model;
 
@@ -99,11 +99,21 @@ impl<'a> Sound<'a, Whole<'a>> {
         look_up(self.sub, self.size, self.constant, i, &mut blocks)
     }
 
-    /// Decodes all values in order, block by block. Errors: memory was refused.
+    /// Decodes all values in order. Errors: memory was refused.
     pub fn values(&self, alloc: Global) -> Result<Vec<u16>, AllocError>
         ensures { IfOk result (λ values. values.items ≡ values_shown self.now) }
     {
         let mut values = Vec::with_capacity(alloc, self.size as usize)?;
+        values.resize(self.size as usize, 0)?;
+        self.write_values(&mut values);
+        Ok(values)
+    }
+
+    /// Decodes all values in order into a list of their number, block by block. Allocates nothing.
+    pub fn write_values(&self, values: &mut [u16])
+        requires { length values.old ≡ self.now.size }
+        ensures { values.new ≡ values_shown self.now }
+    {
         let Sub::Pairs {
             blocks,
             code,
@@ -112,23 +122,28 @@ impl<'a> Sound<'a, Whole<'a>> {
             ..
         } = self.sub
         else {
-            values.resize(self.size as usize, self.constant)?;
-            return Ok(values);
+            fill(values, self.constant);
+            return;
         };
+        let mut at = 0;
         let mut start = 0;
         for n in 0..*blocks {
             let count = lengths[n as usize];
             let block = block_of(self.blocks.packed, self.blocks.block_bits, n as usize);
-            push_values(
-                code,
-                dict,
-                block,
-                needed_from(count, self.size, start),
-                &mut values,
-            )?;
+            let needed = needed_from(count, self.size, start) as usize;
+            write_values(code, dict, block, &mut values[at..at + needed]);
+            at += needed;
             start += u64::from(count) + 1;
         }
-        Ok(values)
+    }
+}
+
+/// Makes each item of a list this value.
+fn fill(values: &mut [u16], value: u16)
+    ensures { values.new ≡ replicate (length values.old) value }
+{
+    'items: for i in 0..values.len() {
+        values[i] = value;
     }
 }
 

@@ -317,3 +317,49 @@ pub(crate) fn push_values(
     }
     Ok(())
 }
+
+/// Writes the first values of a symbol, as many as `values` has room for.
+///
+/// It makes one call for each pair and each leaf that it expands. Pairs are nested at most 255 deep, so calls are
+/// nested at most 256 deep.
+fn write_symbol(dict: &Dict, symbol: u16, values: &mut [u16])
+    requires dictionary { IsDictionary dict.now }
+    requires there { symbol < length dict.now }
+    requires some { 1 ≤ length values.old }
+    requires within { length values.old ≤ length (expansion_of dict.now symbol) }
+    ensures { values.new ≡ take (length values.old) (expansion_of dict.now symbol) }
+{
+    let entry = dict.entry(symbol);
+    let first = left(entry);
+    if is_leaf(entry) {
+        values[0] = first;
+        return;
+    }
+    let length = dict.len(first) as usize;
+    if values.len() <= length {
+        return write_symbol(dict, first, values);
+    }
+    write_symbol(dict, first, &mut values[..length]);
+    write_symbol(dict, right(entry), &mut values[length..]);
+}
+
+/// Writes the first values of a block whose own bits spell at least as many as `values` has room for.
+pub fn write_values(code: &Code, dict: &Dict, block: &[u8], values: &mut [u16])
+    requires accepted { IsCode code.now }
+    requires symbols { code.now.symbols ≡ length dict.now }
+    requires size { length block.now ≤ 2 ^ 60 }
+    requires within { length values.old ≤ length (values_spelled code.now dict.now (bits block.now)) }
+    ensures { values.new ≡ take (length values.old) (values_spelled code.now dict.now (bits block.now)) }
+{
+    prove_eq!(code.symbols(), dict.symbols());
+    let mut words = Bits::new(block);
+    let mut at = 0;
+    'words: while at < values.len() {
+        let Some(symbol) = next(code, &mut words) else {
+            unreachable!()
+        };
+        let count = (dict.len(symbol) as usize).min(values.len() - at);
+        write_symbol(dict, symbol, &mut values[at..at + count]);
+        at += count;
+    }
+}

@@ -52,7 +52,7 @@ impl Model for Table {
 }
 
 impl Table {
-    ghost use Rattle.std.specs.Prelude.{◌≡◌, ◌≢◌, ℤ, pos, ◌<◌, ◌↔◌, map, IsSome, IfSome, IfOk, option_map, option_copied, Ok, Err, Some, None, MatchOption, neg_ℤ, ◌≤ℤ◌};
+    ghost use Rattle.std.specs.Prelude.{◌≡◌, ◌≢◌, ℤ, pos, ◌<◌, ◌↔◌, length, map, IsSome, IfSome, IfOk, option_map, option_copied, Ok, Err, Some, None, MatchOption, neg_ℤ, ◌≤ℤ◌};
     ghost use Rattle.szg_file.specs.Accepted.{IsAccepted};
     ghost use Rattle.szg_file.specs.Held.{part_of, subtable_of, map_of};
     ghost use Rattle.szg_block.specs.Subtable.{packed_of, IsShaped, IsSoundOver};
@@ -204,6 +204,19 @@ impl Table {
         };
         let constant = constant_value(self.kind(), found.sub);
         Sound::of(found.sub, found.size, constant).values(alloc)
+    }
+
+    /// Writes all values of a part's side, in the order of their indexes, to a list of their number. Allocates nothing.
+    pub fn write_values(&self, part: u8, side: u8, values: &mut [u16])
+        requires there { IsSome (subtable_at self.now.contents part side) }
+        requires number { IfSome (subtable_at self.now.contents part side) (λ found. length values.old ≡ found.0.size) }
+        ensures { IfSome (subtable_at self.now.contents part side) (λ found. values.new ≡ values_of self.now.contents.kind found) }
+    {
+        let Some(found) = self.find(part, side) else {
+            unreachable!()
+        };
+        let constant = constant_value(self.kind(), found.sub);
+        Sound::of(found.sub, found.size, constant).write_values(values);
     }
 
     /// Returns the distance in plies of a DTZ value in a class (2 win, 1 cursed win, -1 blessed loss, -2 loss).

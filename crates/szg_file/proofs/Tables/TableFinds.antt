@@ -158,6 +158,12 @@ values_at None kind sub size values h e = tt
 values_at (Some pair) kind sub size values h e =
     e ∙ values_found kind sub size ∙ sym (ap (λ (n : ℕ). values_in kind n pair.1) h.0 ∙ ap (λ (s : Subtable). values_in kind size s) h.1)
 
+-- a list of its number
+pub size_found : (there : Option (Slot × Subtable)) (sub : Sub) (size : ℕ) (values : List ℕ) → IsFound there size (subtable_of sub) →
+    IfSome there (λ pair. length values ≡ pair.0.size) → length values ≡ size
+size_found None sub size values h e = absurd h
+size_found (Some pair) sub size values h e = e ∙ h.0
+
 -- ---- parts of a DTZ table
 
 pub slot_count : (material : Sides) (number : ℕ) (parts : List Part) → length (slots_from material (0 ∷ []) number parts) ≡ length parts

@@ -1,0 +1,46 @@
+-- A list whose parts are written one after another.
+use Rattle.std.proofs.Common.{ℕ, ◌≡◌, ◌+◌, ◌-◌, ◌≤◌, min, List, [], ◌++◌, length, take, drop, ap, sym, ◌∙◌, arith, append-nil, append_assoc, length-take, length-append}
+use Rattle.std.proofs.lemmas.List.{take_at, drop_all, length-drop}
+use Rattle.szg_block.proofs.Joined.{take-append_both}
+use borrow.Rule.Slice.PartMut.{put_mid, post_of}
+
+-- the first n items and then the others
+pub both_written : (n : ℕ) (xs ys zs : List ℕ) → length ys ≡ n → take n (ys ++ drop n xs) ++ (zs ++ post_of n (length (ys ++ drop n xs) - n) (ys ++ drop n xs)) ≡ ys ++ zs
+both_written n xs ys zs long =
+    let all : List ℕ = ys ++ drop n xs in
+    let first : take n all ≡ ys = take_at ys (drop n xs) n long in
+    let rest : post_of n (length all - n) all ≡ [] = drop_all (length all - n) (drop n all) (omega (arith, length-drop n all)) in
+    ap (λ u. take n all ++ (zs ++ u)) rest ∙ ap (λ u. u ++ (zs ++ [])) first ∙ ap (λ u. ys ++ u) (append-nil zs)
+
+-- the number of the first ones, and of the others
+pub first_long : (n : ℕ) (xs all ys : List ℕ) → n ≤ length xs → n ≤ length all → ys ≡ take (length (take n xs)) all → length ys ≡ n
+first_long n xs all ys within enough are = omega (arith, ap (λ u. length u) are, length-take (length (take n xs)) all, length-take n xs)
+
+pub rest_long : (n : ℕ) (xs ys : List ℕ) → length ys ≡ n → length (take (length (ys ++ drop n xs) - n) (drop n (ys ++ drop n xs))) ≡ length xs - n
+rest_long n xs ys long =
+    omega (arith, long, length-take (length (ys ++ drop n xs) - n) (drop n (ys ++ drop n xs)), length-drop n (ys ++ drop n xs), length-append ys (drop n xs), length-drop n xs)
+
+-- k more items after the first `at` ones: those of xs, as far as there is room
+pub more_fits : (at k : ℕ) (values ys : List ℕ) → at + k ≤ length values → length ys ≡ k → length (put_mid at (at + k - at) values ys) ≡ length values
+more_fits at k values ys within long =
+    let rest : List ℕ = post_of at (at + k - at) values in
+    omega (arith, long, length-append (take at values) (ys ++ rest), length-append ys rest, length-take at values, length-drop (at + k - at) (drop at values), length-drop at values)
+
+pub front_written : (at k : ℕ) (values ys : List ℕ) → at ≤ length values → length ys ≡ k → take (at + k) (put_mid at (at + k - at) values ys) ≡ take at values ++ ys
+front_written at k values ys there long =
+    let after : List ℕ = post_of at (at + k - at) values in
+    ap (take (at + k)) (sym (append_assoc (take at values) ys after)) ∙ take_at (take at values ++ ys) after (at + k) (omega (arith, long, length-append (take at values) ys, length-take at values))
+
+pub more_written : (at k : ℕ) (values xs ys rest : List ℕ) → at ≤ length values → k ≡ min (length xs) (length values - at) → ys ≡ take k xs
+    → take (at + k) (put_mid at (at + k - at) values ys) ++ take (length (put_mid at (at + k - at) values ys) - (at + k)) rest ≡ take at values ++ take (length values - at) (xs ++ rest)
+more_written at k values xs ys rest there are first =
+    let long : length ys ≡ k = omega (arith, ap (λ u. length u) first, length-take k xs, are) in
+    let left : length (put_mid at (at + k - at) values ys) - (at + k) ≡ (length values - at) - k = omega (arith, more_fits at k values ys (omega (arith, are, there)) long) in
+    ap (λ u. u ++ take (length (put_mid at (at + k - at) values ys) - (at + k)) rest) (front_written at k values ys there long)
+    ∙ ap (λ m. (take at values ++ ys) ++ take m rest) left
+    ∙ ap (λ u. (take at values ++ u) ++ take ((length values - at) - k) rest) first
+    ∙ take-append_both (take at values) xs rest (length values - at) k are
+
+-- the room for k items
+pub room_is : (at k : ℕ) (values : List ℕ) → at + k ≤ length values → length (take (at + k - at) (drop at values)) ≡ k
+room_is at k values within = omega (arith, length-take (at + k - at) (drop at values), length-drop at values)
