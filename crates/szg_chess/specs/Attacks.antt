@@ -81,7 +81,7 @@ attacks_from men Rook color from to = is_straight from to && is_clear men from t
 attacks_from men Queen color from to = (is_straight from to || is_diagonal from to) && is_clear men from to
 attacks_from men King color from to = is_king_step from to
 
--- a man where it stands attacks the square
+-- the man attacks the square from where it stands
 unfoldable pub attacks : List PlacedMan → PlacedMan → ℕ → Bool
 attacks men s to = attacks_from men s.0 s.1 s.2 to
 

@@ -6,7 +6,7 @@ use Rattle.szg_values.specs.declared.Man.TheVariants.{Pawn, Knight, Bishop, Rook
 use Rattle.szg_values.specs.declared.Color.TheVariants.{White, Black}
 use Rattle.szg_chess.specs.Attacks.{attacks, is_between}
 use Rattle.szg_chess.specs.Position.{position_fault}
-use Rattle.szg_chess.specs.Moves.{all_squares, legal_moves, legal_captures, after, is_zeroing, is_mate, is_stalemate}
+use Rattle.szg_chess.specs.Moves.{all_squares, legal_moves, legal_captures, after, is_zeroing, is_mate, is_stalemate, has_move_beside_en_passant}
 use Rattle.szg_chess.specs.Laws.{zeroing_left}
 use Rattle.szg_chess.specs.Fen.{fen_fault, position_of, record_of, fen_text}
 use Rattle.szg_chess.specs.Uci.{uci_text}
@@ -105,6 +105,73 @@ pub record Examples : Type 0 where
   pub right_lapses : (after (position_of (codes "8/8/8/3pP3/8/8/8/k6K w - d6")) (move 7 6)).en_passant ≡ None
   pub single_step : (after (position_of (codes "4k3/8/8/8/8/8/4P3/4K3 w - -")) (move 12 20)).en_passant ≡ None
   pub black_to_move : (after (position_of (codes "4k3/8/8/8/8/8/4P3/4K3 w - -")) (move 12 20)).mover ≡ Black
+  -- kings in opposition: none goes beside the other
+  pub opposition : texts (legal_moves (position_of (codes "8/8/4k3/8/4K3/8/8/8 w - -"))) ≡ codes "e4d3" ∷ codes "e4e3" ∷ codes "e4f3" ∷ codes "e4d4" ∷ codes "e4f4" ∷ []
+  pub opposition_in_corner : texts (legal_moves (position_of (codes "8/8/8/8/8/k7/8/K7 w - -"))) ≡ codes "a1b1" ∷ []
+  -- a knight pinned on a file does not move
+  pub pinned_knight : texts (legal_moves (position_of (codes "4k3/4r3/8/8/8/4N3/8/4K3 w - -"))) ≡ codes "e1d1" ∷ codes "e1f1" ∷ codes "e1d2" ∷ codes "e1e2" ∷ codes "e1f2" ∷ []
+  -- a pinned bishop neither, with Black to move
+  pub black_pinned_bishop : texts (legal_moves (position_of (codes "4k3/4b3/8/8/8/8/4R3/4K3 b - -"))) ≡ codes "e8d7" ∷ codes "e8f7" ∷ codes "e8d8" ∷ codes "e8f8" ∷ []
+  -- a pinned rook moves along the file of the pin, and captures the rook that pins it
+  pub black_pinned_rook : texts (legal_moves (position_of (codes "4k3/4r3/8/8/8/4R3/8/4K3 b - -"))) ≡ codes "e7e3" ∷ codes "e8d7" ∷ codes "e8f7" ∷ codes "e8d8" ∷ codes "e8f8" ∷ codes "e7e4" ∷ codes "e7e5" ∷ codes "e7e6" ∷ []
+  -- a pinned queen stays on its diagonal
+  pub pinned_queen : texts (legal_moves (position_of (codes "8/7k/8/b7/8/2Q5/8/4K3 w - -"))) ≡ codes "c3a5" ∷ codes "c3d2" ∷ codes "c3b4" ∷ codes "e1d1" ∷ codes "e1f1" ∷ codes "e1d2" ∷ codes "e1e2" ∷ codes "e1f2" ∷ []
+  -- in check a man may be put between, unless it is pinned itself
+  pub put_between : texts (legal_moves (position_of (codes "k3r3/8/8/8/8/8/3R4/4K3 w - -"))) ≡ codes "d2e2" ∷ codes "e1d1" ∷ codes "e1f1" ∷ codes "e1f2" ∷ []
+  pub pinned_between : texts (legal_moves (position_of (codes "k3r3/8/8/8/1b6/8/3R4/4K3 w - -"))) ≡ codes "e1d1" ∷ codes "e1f1" ∷ codes "e1f2" ∷ []
+  -- the man that gives check may be captured, by the king only if no other man guards it
+  pub checker_captured : texts (legal_moves (position_of (codes "4k3/8/8/8/8/8/3q4/4K3 w - -"))) ≡ codes "e1d2" ∷ codes "e1f1" ∷ []
+  pub guarded_checker : texts (legal_moves (position_of (codes "4k3/8/8/8/5b2/8/3q4/4K3 w - -"))) ≡ codes "e1f1" ∷ []
+  pub checker_captured_by_rook : texts (legal_captures (position_of (codes "4k3/8/5N2/8/8/8/5r2/6K1 b - -"))) ≡ codes "f2f6" ∷ []
+  -- a king in check does not go on along the line of the check
+  pub along_the_line : texts (legal_moves (position_of (codes "k3r3/8/8/8/4K3/8/8/8 w - -"))) ≡ codes "e4d3" ∷ codes "e4f3" ∷ codes "e4d4" ∷ codes "e4f4" ∷ codes "e4d5" ∷ codes "e4f5" ∷ []
+  -- in double check Black's king moves too
+  pub black_double_check : texts (legal_moves (position_of (codes "r3k3/8/3N4/8/8/8/8/4R2K b - -"))) ≡ codes "e8d7" ∷ codes "e8d8" ∷ codes "e8f8" ∷ []
+  -- pawns before each other are blocked
+  pub blocked_pawns : texts (legal_moves (position_of (codes "4k3/8/8/3p4/3P4/8/8/4K3 w - -"))) ≡ codes "e1d1" ∷ codes "e1f1" ∷ codes "e1d2" ∷ codes "e1e2" ∷ codes "e1f2" ∷ []
+  -- a double step over an attacked square
+  pub over_attacked : texts (legal_moves (position_of (codes "4k3/8/8/8/8/7r/P7/4K3 w - -"))) ≡ codes "a2a3" ∷ codes "a2a4" ∷ codes "e1d1" ∷ codes "e1f1" ∷ codes "e1d2" ∷ codes "e1e2" ∷ codes "e1f2" ∷ []
+  -- a pawn captures on both sides, and neither straight ahead nor behind it
+  pub pawn_captures : texts (legal_captures (position_of (codes "4k3/8/8/3p1p2/4P3/8/8/4K3 w - -"))) ≡ codes "e4d5" ∷ codes "e4f5" ∷ []
+  pub pawn_captures_nothing : texts (legal_captures (position_of (codes "4k3/8/8/4p3/4P3/3p4/8/4K3 w - -"))) ≡ []
+  pub black_pawn_captures : texts (legal_captures (position_of (codes "4k3/8/8/4p3/3P1P2/8/8/4K3 b - -"))) ≡ codes "e5d4" ∷ codes "e5f4" ∷ []
+  -- a pawn on file h does not capture on file a
+  pub edge_pawn : texts (legal_captures (position_of (codes "4k3/p7/8/7P/8/8/8/4K3 w - -"))) ≡ []
+  -- a pawn promotes by a step or by a capture
+  pub both_promotions : length (legal_moves (position_of (codes "1r5k/P7/8/8/8/8/8/K7 w - -"))) ≡ 9
+  pub black_captures_and_promotes : texts (legal_captures (position_of (codes "k7/8/8/8/8/8/p7/1R5K b - -"))) ≡ codes "a2b1q" ∷ codes "a2b1r" ∷ codes "a2b1b" ∷ codes "a2b1n" ∷ []
+  -- a king and a rook do not castle
+  pub no_castling : length (legal_moves (position_of (codes "4k3/8/8/8/8/8/8/4K2R w - -"))) ≡ 14
+  -- Black's pawns capture en passant from both sides
+  pub black_two_pawns : texts (legal_captures (position_of (codes "4k3/8/8/8/3pPp2/8/8/4K3 b - e3"))) ≡ codes "d4e3" ∷ codes "f4e3" ∷ []
+  -- en passant opens the diagonal of a bishop to the king: not legal
+  pub diagonal_opened : texts (legal_captures (position_of (codes "6b1/8/8/3pP3/8/8/K7/7k w - d6"))) ≡ []
+  -- with a knight between the king and the rook both pawns may vanish from their rank
+  pub rank_kept_closed : texts (legal_captures (position_of (codes "7k/8/8/KN1pP2r/8/8/8/8 w - d6"))) ≡ codes "e5d6" ∷ []
+  -- a check by another man remains
+  pub other_check : texts (legal_captures (position_of (codes "4r1k1/8/8/1Pp5/8/8/8/4K3 w - c6"))) ≡ []
+  -- mates by two bishops, by a bishop and a knight, and by a queen from afar
+  pub two_bishops : is_mate (position_of (codes "k7/8/1K6/3BB3/8/8/8/8 b - -")) ≡ true
+  pub bishop_and_knight : is_mate (position_of (codes "k7/8/NK6/3B4/8/8/8/8 b - -")) ≡ true
+  pub white_mated : is_mate (position_of (codes "8/8/8/8/8/1k6/8/K2q4 w - -")) ≡ true
+  -- stalemates: by a pawn on the seventh rank, with blocked pawns; none if a pawn still moves
+  pub last_pawn : is_stalemate (position_of (codes "7k/7P/6K1/8/8/8/8/8 b - -")) ≡ true
+  pub blocked_stalemate : is_stalemate (position_of (codes "7k/7P/6K1/p7/P7/8/8/8 b - -")) ≡ true
+  pub free_pawn : texts (legal_moves (position_of (codes "7k/7P/6K1/p7/8/8/8/8 b - -"))) ≡ codes "a5a4" ∷ []
+  -- a guarded rook beside a king in the corner leaves stalemate
+  pub rook_stalemate : is_stalemate (position_of (codes "k7/1R6/2K5/8/8/8/8/8 b - -")) ≡ true
+  -- a promotion mates; to a queen it may leave stalemate, to a rook not
+  pub san_promotes_mate : san_text (position_of (codes "k7/2P5/1K6/8/8/8/8/8 w - -")) (promotion 50 58 Queen) ≡ codes "c8=Q#"
+  pub queen_stalemates : is_stalemate (after (position_of (codes "8/5P1k/8/6K1/8/8/8/8 w - -")) (promotion 53 61 Queen)) ≡ true
+  pub rook_does_not : is_stalemate (after (position_of (codes "8/5P1k/8/6K1/8/8/8/8 w - -")) (promotion 53 61 Rook)) ≡ false
+  pub san_black_promotes : san_text (position_of (codes "8/8/8/8/8/1k6/2p5/K7 b - -")) (promotion 10 2 Rook) ≡ codes "c1=R#"
+  -- a discovered check
+  pub san_discovered : san_text (position_of (codes "4k3/8/8/8/4N3/8/8/K3R3 w - -")) (move 28 34) ≡ codes "Nc5+"
+  -- six men
+  pub six_men : texts (legal_moves (position_of (codes "6k1/5ppp/8/8/8/8/8/4R2K b - -"))) ≡ codes "g8f8" ∷ codes "g8h8" ∷ codes "f7f5" ∷ codes "f7f6" ∷ codes "g7g5" ∷ codes "g7g6" ∷ codes "h7h5" ∷ codes "h7h6" ∷ []
+  -- the only legal move captures en passant; without the right it would be mate
+  pub only_en_passant : has_move_beside_en_passant (position_of (codes "8/1Q6/8/k7/1Pp5/K7/8/8 b - b3")) ≡ false
+  pub mate_without_right : is_mate (position_of (codes "8/1Q6/8/k7/1Pp5/K7/8/8 b - -")) ≡ true
   -- each fault of a text, and of men
   pub letter : fen_fault (codes "4k3/8/8/8/8/8/4x3/4K3 w - -") ≡ Some fault.Letter
   pub seven_ranks : fen_fault (codes "4k3/8/8/8/8/8/4K3 w - -") ≡ Some fault.Rank

@@ -64,7 +64,7 @@ are_ranks (suc n) board = rank_width (before_first is_slash board) == 8 && are_r
 abbrev pub has_ranks : List ℕ → Bool
 has_ranks board = count_by is_slash board == 7 && are_ranks 8 board
 
--- the man of a letter on a square, if it is one
+-- the man on a square, if the character there is a man's letter
 unfoldable pub men_at : ℕ → Option (Man × Color) → List PlacedMan
 men_at square None = []
 men_at square (Some man) = (man.0, man.1, square) ∷ []

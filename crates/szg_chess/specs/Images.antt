@@ -18,6 +18,7 @@ pub data Symmetry : Type 0 where
   FlipDiagonal : Symmetry
   ExchangeColors : Symmetry
 
+-- where the symmetry takes a square
 abbrev pub square_image : Symmetry → ℕ → ℕ
 square_image Same square = square
 square_image FlipFiles square = square_at (7 - file_of square) (rank_of square)
@@ -33,9 +34,11 @@ color_image FlipRanks color = color
 color_image FlipDiagonal color = color
 color_image ExchangeColors color = other_color color
 
+-- the image of a man: its kind stays
 abbrev pub man_image : Symmetry → PlacedMan → PlacedMan
 man_image f s = (s.0, color_image f s.1, square_image f s.2)
 
+-- the image of a position, its men in the same order
 abbrev pub image : Symmetry → Position → Position
 image f p = record {
   placed_men = map (man_image f) p.placed_men;
@@ -43,10 +46,11 @@ image f p = record {
   en_passant = option_map (square_image f) p.en_passant;
 }
 
+-- the image of a move: a pawn is promoted to the same piece
 abbrev pub move_image : Symmetry → Move → Move
 move_image f m = record { from = square_image f m.from; to = square_image f m.to; promotion = m.promotion }
 
--- Pawns keep their direction.
+-- pawns keep their direction: each still advances to its own last rank
 abbrev pub keeps_pawns : Symmetry → Bool
 keeps_pawns Same = true
 keeps_pawns FlipFiles = true

@@ -118,7 +118,7 @@ man_after m s = if s.2 == m.from then (unwrap_or m.promotion s.0, s.1, m.to) els
 unfoldable pub men_after : Position → Move → List PlacedMan
 men_after p m = map (man_after m) (filter (λ s. not (s.2 == captured_square p m)) p.placed_men)
 
--- a double step: a pawn goes two ranks ahead
+-- a double step: a pawn of the side to move goes two ranks ahead
 abbrev pub is_double_step : Position → Move → Bool
 is_double_step p m = ranks_apart m.from m.to == 2 && is_pawn_on p m.from
 

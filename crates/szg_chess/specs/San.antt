@@ -13,15 +13,15 @@ use Rattle.szg_chess.specs.declared.Move.{Move}
 abbrev pub moved_kind : Position → Move → Man
 moved_kind p m = unwrap_or (option_map (λ man. man.0) (man_on p.placed_men m.from)) Pawn
 
--- by the move n, another man of the same kind goes to the same square
+-- the move n is a rival of m: by it another man of the same kind goes to the same square
 abbrev pub is_rival : Position → Move → Move → Bool
 is_rival p m n = n.to == m.to && not (n.from == m.from) && is_man (moved_kind p n) (moved_kind p m)
 
--- and that man is on the same file as the one that moves
+-- a rival that is on the same file as the man that moves
 abbrev pub is_rival_on_file : Position → Move → Move → Bool
 is_rival_on_file p m n = is_rival p m n && file_of n.from == file_of m.from
 
--- and that man is on the same rank as the one that moves
+-- a rival that is on the same rank as the man that moves
 abbrev pub is_rival_on_rank : Position → Move → Move → Bool
 is_rival_on_rank p m n = is_rival p m n && rank_of n.from == rank_of m.from
 
@@ -61,6 +61,6 @@ promotion_text (Some man) = 61 ∷ letter_of man ∷ []
 abbrev pub check_text : Position → List ℕ
 check_text p = if is_mate p then 35 ∷ [] else if is_check p then 43 ∷ [] else []
 
--- The mover, x for a capture, the square that the man goes to, the promotion, and the sign of a check or a mate.
+-- The man that moves, x for a capture, the square that the man goes to, the promotion, and the sign of a check or a mate.
 unfoldable pub san_text : Position → Move → List ℕ
 san_text p m = mover_text p m ++ capture_text (is_capture p m) ++ square_text m.to ++ promotion_text m.promotion ++ check_text (after p m)

@@ -13,5 +13,6 @@ abbrev pub promotion_text : Option Man → List ℕ
 promotion_text None = []
 promotion_text (Some man) = (32 + letter_of man) ∷ []
 
+-- the square that the man leaves, the one that it goes to, and the promotion
 abbrev pub uci_text : Move → List ℕ
 uci_text m = square_text m.from ++ square_text m.to ++ promotion_text m.promotion
