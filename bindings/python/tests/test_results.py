@@ -149,6 +149,7 @@ def test_en_passant_counts(passing: szg.Tablebase) -> None:
         best = max(prober.after(board, move, passing.probe_wdl) for move in board.generate_legal_ep())
         others = [prober.after(board, move, passing.probe_wdl) for move in board.legal_moves() if board.is_capture(move)]
         assert passing.probe_wdl(board) == (max(stored, best, *others) if board.legal_moves() else best)
+        assert passing.probe_many([board, board]) == [passing.probe_wdl(board)] * 2
         # without the right there is no such move
         assert any(move.uci in map(board.uci, board.generate_legal_ep()) for move in passing.rank_moves(board))
         board.now.passed = None
@@ -193,6 +194,7 @@ class Fields:
     (Fields(castling_rights=1 << 7), "tables know no castling rights"), (Fields(uci_variant="atomic"), "tables know no variant atomic"),
 ])
 def test_what_no_table_knows(tables: szg.Tablebase, board: object, said: str) -> None:
+    assert tables.probe_many([ROOK_FEN, QUEEN_FEN]) == [2, 2]
     for call in (tables.probe_wdl, tables.probe_dtz, tables.rank_moves):
         caught = pytest.raises(KeyError, call, board).value
         assert type(caught) is KeyError and caught.args == (said,)

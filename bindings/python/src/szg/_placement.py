@@ -110,7 +110,7 @@ def _of_fen(text: str) -> Tuple[bytes, Optional[bool], int, int, str]:
     ranks = pieces.split("/")
     if len(ranks) != 8:
         raise ValueError("it must have eight ranks")
-    men = b"".join([read(rank) for read, rank in zip(RANKS, ranks)])
+    men = b"".join([read(rank) for read, rank in zip(RANKS, ranks) if rank != "8"])
     if mover not in ("w", "b", ""):
         raise ValueError("w or b must follow the pieces")
     if castling != "-" and not re.fullmatch("[A-HKQa-hkq]+", castling):

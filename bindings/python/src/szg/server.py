@@ -1,4 +1,4 @@
-"""Answers as lichess's tablebase does, over folders of tables: python -m szg.server [--host HOST] [--port PORT] FOLDER..
+"""Responds as lichess's tablebase does, over folders of tables: python -m szg.server [--host HOST] [--port PORT] FOLDER..
 
     /standard?fen=FEN    JSON: category, dtz, checkmate, stalemate, insufficient_material, and the moves, best first
     /?fen=FEN            a page with the board and its moves, which lead on
@@ -40,10 +40,6 @@ def men_of(position: Position) -> Men:
     return {square: (kind, color == 0) for kind, color, square in zip(men[::3], men[1::3], men[2::3])}
 
 
-def letter(kind: int, color: bool) -> str:
-    return LETTERS[kind] if color else LETTERS[kind].lower()
-
-
 def after(position: Position, uci: str) -> Position:
     """The position after a legal move."""
     men, start, end = men_of(position), SQUARES.index(uci[:2]), SQUARES.index(uci[2:4])
@@ -58,9 +54,8 @@ def after(position: Position, uci: str) -> Position:
 
 
 def fen_of(position: Position) -> str:
-    men = men_of(position)
-    rows = ["".join(letter(*men[square]) if square in men else "1" for square in range(8 * rank, 8 * rank + 8)) for rank in range(7, -1, -1)]
-    text = "/".join(rows)
+    letters = {square: LETTERS[kind] if color else LETTERS[kind].lower() for square, (kind, color) in men_of(position).items()}
+    text = "/".join("".join(letters.get(square, "1") for square in range(8 * rank, 8 * rank + 8)) for rank in range(7, -1, -1))
     for count in range(8, 1, -1):
         text = text.replace("1" * count, str(count))
     passed = "-" if position.en_passant == NO_SQUARE else SQUARES[position.en_passant]
@@ -101,7 +96,7 @@ def described(tables: Tablebase, position: Position, category: int, mate: bool, 
 
 
 def answer(tables: Tablebase, fen: str) -> Dict[str, Any]:
-    """What lichess's tablebase answers, as far as tables know it. Errors: those of `Tablebase.rank_moves`."""
+    """What lichess's tablebase returns, as far as tables know it. Errors: those of `Tablebase.rank_moves`."""
     position, moves = position_of(fen), tables.rank_moves(fen)
     is_mate = not moves and is_check(tables, position)
     best = moves[0].wdl if moves else -2 if is_mate else 0
@@ -128,7 +123,7 @@ def page(tables: Tablebase, fen: str) -> str:
 
 
 class Handler(BaseHTTPRequestHandler):
-    """Answers the requests of one connection."""
+    """Responds to the requests of one connection."""
 
     tables: Tablebase
 
