@@ -1,8 +1,8 @@
 /* Probes random positions by Fathom's interface: fathom FOLDER SEED COUNT NAME..
  *
  * It is compiled with libfathom and with bindings/fathom, and must print the same. For each position of the materials NAME.. it
- * prints a line: the FEN, the class, class and DTZ at the root, and each call's answers for each move, in the order of squares: all
- * of them for up to 100 positions, else a checksum. In half of the positions with pawns of both colors one of them has just passed a
+ * prints a line: the FEN, the class, class and DTZ at the root, and what each call returns for each move, in the order of squares: all
+ * of it for up to 100 positions, else a checksum. In half of the positions with pawns of both colors one of them has just passed a
  * square. The move that is suggested at the root must have the class of the position, and of those the best DTZ. Status 0 if it
  * always has. */
 #include "questions.h"
@@ -73,17 +73,17 @@ static void draw(struct question *q, const char *name) {
     } while ((rand() & 1 && !pass(q)) || is_illegal(q));
 }
 
-/* ---- answers */
+/* ---- probing */
 
-struct answer { unsigned move; int first, second; };
+struct ranked_move { unsigned move; int first, second; };
 
-static int by_move(const void *a, const void *b) { return (int)((const struct answer *)a)->move - (int)((const struct answer *)b)->move; }
+static int by_move(const void *a, const void *b) { return (int)((const struct ranked_move *)a)->move - (int)((const struct ranked_move *)b)->move; }
 
-static void print_all(struct answer *answers, size_t count) {
+static void print_all(struct ranked_move *list, size_t count) {
     uint64_t sum = count;
-    qsort(answers, count, sizeof *answers, by_move);
+    qsort(list, count, sizeof *list, by_move);
     for (size_t i = 0; i < count; i++) {
-        const struct answer *a = &answers[i];
+        const struct ranked_move *a = &list[i];
         if (is_listed) printf(" %u-%u/%u:%d:%d", a->move >> 9, a->move >> 3 & 63, a->move & 7, a->first, a->second);
         sum = (sum ^ a->move) * 0x9e3779b97f4a7c15, sum = (sum ^ (unsigned)a->first) * 0x9e3779b97f4a7c15, sum = (sum ^ (unsigned)a->second) * 0x9e3779b97f4a7c15;
         sum ^= sum >> 29;
@@ -92,14 +92,14 @@ static void print_all(struct answer *answers, size_t count) {
 }
 
 static void print_ranked(int status) {
-    struct answer answers[TB_MAX_MOVES];
+    struct ranked_move list[TB_MAX_MOVES];
     for (unsigned i = 0; status && i < ranked.size; i++) {
         const struct TbRootMove *m = &ranked.moves[i];
-        answers[i] = (struct answer){(unsigned)(TB_MOVE_FROM(m->move) << 9 | TB_MOVE_TO(m->move) << 3 | TB_MOVE_PROMOTES(m->move)), m->tbRank, m->tbScore};
+        list[i] = (struct ranked_move){(unsigned)(TB_MOVE_FROM(m->move) << 9 | TB_MOVE_TO(m->move) << 3 | TB_MOVE_PROMOTES(m->move)), m->tbRank, m->tbScore};
         if (is_listed) printf(" pv %u %u", m->pvSize, m->pv[0] == m->move);
     }
     printf("\t%d", status);
-    print_all(answers, status ? ranked.size : 0);
+    print_all(list, status ? ranked.size : 0);
 }
 
 /* The better, the larger, whoever wins. */
@@ -109,19 +109,19 @@ static long value_of(unsigned result) {
 }
 
 static void print_root(const char *fen, unsigned root, const unsigned *results) {
-    struct answer answers[TB_MAX_MOVES];
+    struct ranked_move list[TB_MAX_MOVES];
     size_t count = 0;
     long best = -1000000, suggested = -1000000;
     if (root == TB_RESULT_FAILED) { printf("\tfailed"); return; }
     printf("\t%u %u", TB_GET_WDL(root), TB_GET_DTZ(root));
     for (const unsigned *r = results; *r != TB_RESULT_FAILED; r++, count++) {
-        answers[count] = (struct answer){TB_GET_FROM(*r) << 9 | TB_GET_TO(*r) << 3 | TB_GET_PROMOTES(*r), (int)(TB_GET_WDL(*r) | TB_GET_EP(*r) << 4), (int)TB_GET_DTZ(*r)};
+        list[count] = (struct ranked_move){TB_GET_FROM(*r) << 9 | TB_GET_TO(*r) << 3 | TB_GET_PROMOTES(*r), (int)(TB_GET_WDL(*r) | TB_GET_EP(*r) << 4), (int)TB_GET_DTZ(*r)};
         if (value_of(*r) > best) best = value_of(*r);
         if (!((*r ^ root) & ~TB_RESULT_DTZ_MASK)) suggested = value_of(*r);
     }
     if (count == 0) ++*(root == TB_RESULT_CHECKMATE ? &mates : &stalemates);
     if (best != suggested && differences++ < SHOWN) fprintf(stderr, "fathom: %s: the suggested move is not a best one\n", fen);
-    print_all(answers, count);
+    print_all(list, count);
 }
 
 static void probe(const struct question *q) {
