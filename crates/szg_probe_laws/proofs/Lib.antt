@@ -5,3 +5,4 @@ pub mod First
 pub mod Exact
 pub mod Searched
 pub mod Chosen
+pub mod Counter

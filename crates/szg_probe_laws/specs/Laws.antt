@@ -1,5 +1,5 @@
 -- Laws of distances and of ranked moves, over the definitions alone.
-use Rattle.std.specs.Prelude.{ℕ, ℤ, pos, ◌≡◌, ◌+◌, ◌^◌, ◌<◌, ◌<ℤ◌, ◌↔◌, false, IsTrue, Some, None, List, ◌∷◌, map, All, IsPermutation}
+use Rattle.std.specs.Prelude.{ℕ, pos, ◌≡◌, ◌+◌, ◌^◌, ◌<◌, ◌<ℤ◌, ◌↔◌, false, IsTrue, Some, None, List, ◌∷◌, map, All, IsPermutation}
 use Rattle.std.specs.List.Sorted.{IsNonDecreasingBy}
 use Rattle.szg_game.specs.Game.{IsWon, IsLost}
 use Rattle.szg_game.specs.Certified.{is_won, is_lost}

@@ -4,6 +4,7 @@
 //! function is a law, and its body is empty.
 #![tactic(auto)]
 
+ghost use Rattle.szg_probe_laws.specs.Counter.{FirstKeepsClass};
 ghost use Rattle.szg_probe_laws.specs.Laws.{DistanceIsExact, FirstKeepsResult, SignIsOfClass, SignIsTrue};
 ghost use Rattle.szg_probe_laws.specs.Within.{DistanceOfClass, WithinIsFromCounter};
 
@@ -36,4 +37,9 @@ pub fn first_keeps_result()
 /// Over true tables whose numbers are exact the probed distance of a position is its distance.
 pub fn distance_is_exact()
     ensures { DistanceIsExact }
+{}
+
+/// Over true tables with exact numbers the first of the ranked moves keeps the class of the position at the counter.
+pub fn first_keeps_class()
+    ensures { FirstKeepsClass }
 {}
