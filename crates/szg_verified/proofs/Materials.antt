@@ -1,6 +1,6 @@
 -- Elements of lists of materials.
-use Rattle.std.proofs.Common.{ℕ, ◌≡◌, ◌+◌, ◌<◌, ◌⊎◌, List, [], ◌∷◌, ◌++◌, length, refl, sym, ap, ◌∙◌, subst, arith, inl, inr, get_or, take, Contains, Option, Some, None}
-use Rattle.std.specs.Prelude.{IsSome, OnOk, Result, Ok, Err, slice_index_or}
+use Rattle.std.proofs.Common.{ℕ, ◌≡◌, ◌+◌, ◌<◌, ◌⊎◌, List, [], ◌∷◌, ◌++◌, length, refl, sym, ap, ◌∙◌, subst, arith, inl, inr, get_or, take, Contains}
+use Rattle.std.specs.Prelude.{IsOk, OnOk, Result, Ok, Err, slice_index_or}
 use Rattle.std.proofs.lemmas.List.{take_more}
 use Rattle.std.proofs.lemmas.List.Elements.{Contains-append_cases}
 use Rattle.szg_values.specs.Material.{Sides}
@@ -14,8 +14,8 @@ one_more xs i x s less is held =
     let e : take (i + 1) xs ≡ take i xs ++ x ∷ [] = take_more xs i x less ∙ ap (λ (y : Sides). take i xs ++ y ∷ []) (sym is) in
     elim (Contains-append_cases (take i xs) (x ∷ []) s (subst (λ (ys : List Sides). Contains ys s) e held)) [ inl before ↦ inr before | inr last ↦ inl (only x s last) ]
 
-pub some : {T : Type 0} (o : Option T) (x : T) → o ≡ Some x → IsSome o
-some o x e = rw e refl
+pub ok : {T E : Type 0} (r : Result T E) (x : T) → r ≡ Ok x → IsOk r
+ok r x e = rw e refl
 
 pub on_ok : {T E : Type 0} (r : Result T E) (P : Type 0) → P → OnOk r P
 on_ok (Ok x) P p = p

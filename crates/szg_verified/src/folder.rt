@@ -1,11 +1,11 @@
 //! The verification of a folder.
 
-ghost use Rattle.std.specs.Prelude.{Contains, IfOk, IsTrue};
+ghost use Rattle.std.specs.Prelude.{◌≡◌, All, Contains, IfOk, IsTrue};
 ghost use Rattle.szg_values.specs.Material.{Sides};
-ghost use Rattle.szg_verified.specs.Verified.{AreTrue};
+ghost use Rattle.szg_verified.specs.Verified.{AreTrue, IsCaused, is_whole};
 
 use crate::changes::add_needed;
-use crate::verifying::{Progress, verify_materials};
+use crate::verifying::{Progress, Unverified, verify_materials};
 use std::alloc::{AllocError, Global};
 use std::io::{self, Write};
 use std::rt::Files;
@@ -25,6 +25,8 @@ pub struct Verification {
     pub materials: Vec<Material>,
     /// Whether the tables of all these are verified.
     pub is_all: bool,
+    /// The materials that are not verified, in their order.
+    pub unverified: Vec<Unverified>,
 }
 
 /// Why a folder was not verified to the end.
@@ -103,16 +105,20 @@ pub fn verify_folder<S: FileSystem, W: Write, P: Progress>(
     progress: &mut P,
 ) -> Result<Verification, VerifyStop>
     ensures true_tables { IfOk result (λ v. IsTrue v.is_all → AreTrue v.tables.items v.materials.items) }
+    // It says no with a cause: a refusal names the first position of a material that breaks a condition over these tables.
+    ensures caused { IfOk result (λ v. All (IsCaused v.tables.items v.materials.items) v.unverified.items) }
+    ensures all { IfOk result (λ v. v.is_all ≡ is_whole v.materials.items v.unverified.items) }
     ensures asked { IfOk result (λ v. (m : Sides) → Contains asked.items m → Contains v.materials.items m) }
 {
     let mut materials = asked;
     add_needed(alloc, &mut materials)?;
     let tables = tables_in(alloc, system, folder, &materials)?;
     match verify_materials(alloc, &tables, &materials, output, progress) {
-        Ok(is_all) => Ok(Verification {
+        Ok(found) => Ok(Verification {
             tables,
             materials,
-            is_all,
+            is_all: found.is_all,
+            unverified: found.unverified,
         }),
         Err(error) => Err(VerifyStop::Output(error)),
     }

@@ -10,4 +10,4 @@ mod verifying;
 
 pub use folder::{Verification, VerifyStop, verify_folder};
 pub use run::run_verification;
-pub use verifying::Progress;
+pub use verifying::{Cause, Progress, Unverified};

@@ -1,11 +1,12 @@
 //! The verification of materials over tables in memory.
 
-ghost use Rattle.std.specs.Prelude.{IfOk, IsSome, IsTrue};
+ghost use Rattle.std.specs.Prelude.{◌≡◌, All, IfErr, IfOk, IsOk, IsTrue};
+ghost use Rattle.szg_game.specs.Game.{is_empty};
 ghost use Rattle.szg_verify.specs.Entries.{tables_of};
 ghost use Rattle.szg_verify.specs.Walk.{IsMaterialChecked};
 ghost use Rattle.szg_tables.specs.Distances.{stored_distances};
 ghost use Rattle.szg_tables.specs.Stored.{stored_classes};
-ghost use Rattle.szg_verified.specs.Verified.{AreTrue};
+ghost use Rattle.szg_verified.specs.Verified.{AreTrue, IsCause, IsCaused, is_whole};
 
 use crate::changes::changes;
 use crate::lines::{material_line, summary_line};
@@ -27,17 +28,33 @@ pub trait Progress: Watcher {
     fn end(&mut self);
 }
 
-/// What a verification found of a material.
+/// Why a material is not verified.
 #[derive(Drop)]
-pub enum Finding {
-    /// Each position passes: their number.
-    Verified(u64),
+pub enum Cause {
     /// The first position that does not pass.
     Refused(Refusal),
     /// What the tables do not have.
     Missing(Missing),
     /// It was not looked at, since a capture or a promotion leads to this one, which is not verified.
     Unchecked(Material),
+}
+
+/// A material that is not verified.
+#[derive(Drop)]
+pub struct Unverified {
+    /// The material.
+    pub material: Material,
+    /// Why it is not verified.
+    pub cause: Cause,
+}
+
+/// What a verification of materials found.
+#[derive(Drop)]
+pub struct Outcome {
+    /// Whether all are verified.
+    pub is_all: bool,
+    /// Those that are not, in the order of the materials.
+    pub unverified: Vec<Unverified>,
 }
 
 /// What a verification came to.
@@ -52,7 +69,7 @@ pub struct Tally {
 }
 
 /// Verifies the tables of materials, each of which comes after those that captures and promotions lead to from it. Writes
-/// a line for each, and a summary. Returns whether all are verified.
+/// a line for each, and a summary.
 ///
 /// Errors: the output's; an allocation was refused.
 pub fn verify_materials<W: Write, P: Progress>(
@@ -61,38 +78,41 @@ pub fn verify_materials<W: Write, P: Progress>(
     materials: &[Material],
     output: &mut W,
     progress: &mut P,
-) -> io::Result<bool>
-    ensures { IfOk result (λ is_all. IsTrue is_all → AreTrue tables.now materials.now) }
+) -> io::Result<Outcome>
+    ensures true_tables { IfOk result (λ found. IsTrue found.is_all → AreTrue tables.now materials.now) }
+    ensures caused { IfOk result (λ found. All (IsCaused tables.now materials.now) found.unverified.items) }
+    ensures all { IfOk result (λ found. found.is_all ≡ is_whole materials.now found.unverified.items) }
 {
     stored_at_images(tables);
     verified_is_true();
-    let mut faulty = Vec::new(alloc);
+    let mut unverified = Vec::new(alloc);
     let mut cells = new_cells(alloc)?;
-    let mut is_all = !materials.is_empty() && are_closed(materials);
     let mut tally = Tally {
         materials: materials.len(),
         verified: 0,
         positions: 0,
     };
     'materials: for material in materials {
-        let found = verify_material(
-            alloc, tables, material, &faulty, &mut cells, output, progress,
-        )?;
+        let found = verify_material(alloc, tables, material, &unverified, &mut cells, progress)?;
+        let line = material_line(alloc, material, &found)?;
+        output.write_all(line.as_bytes())?;
+        output.flush()?;
         match found {
-            Some(positions) => {
+            Ok(positions) => {
                 tally.verified = tally.verified.saturating_add(1);
                 tally.positions = tally.positions.saturating_add(positions);
             }
-            None => {
-                is_all = false;
-                faulty.push(material.copy())?;
-            }
+            Err(cause) => unverified.push(Unverified {
+                material: material.copy(),
+                cause,
+            })?,
         }
     }
+    let is_all = is_whole(materials, &unverified);
     let line = summary_line(alloc, is_all, &tally)?;
     output.write_all(line.as_bytes())?;
     output.flush()?;
-    Ok(is_all)
+    Ok(Outcome { is_all, unverified })
 }
 
 /// Returns room for the entries that walks find.
@@ -100,38 +120,50 @@ fn new_cells(alloc: Global) -> Result<Vec<Cell>, AllocError> {
     Ok(vec![in alloc; Cell::default(); CELLS]?)
 }
 
-/// Verifies the tables of a material, and writes its line. Returns the number of positions that were checked. None if
-/// one does not pass, if something is missing, or if a capture or a promotion leads to a faulty material.
-fn verify_material<W: Write, P: Progress>(
+/// Returns whether there are materials, closed under captures and promotions, and none of them is not verified.
+fn is_whole(materials: &[Material], unverified: &[Unverified]) -> bool
+    ensures { result ≡ is_whole materials.now unverified.now }
+{
+    let is_none = is_empty(materials);
+    let is_closed = are_closed(materials);
+    let is_verified = is_empty(unverified);
+    !is_none && is_closed && is_verified
+}
+
+fn is_empty<T>(items: &[T]) -> bool
+    ensures { result ≡ is_empty items.now }
+{
+    items.is_empty()
+}
+
+/// Verifies the tables of a material. Returns the number of positions that were checked, or why it is not verified.
+fn verify_material<P: Progress>(
     alloc: Global,
     tables: &[Table],
     material: &Material,
-    faulty: &[Material],
+    unverified: &[Unverified],
     cells: &mut [Cell],
-    output: &mut W,
     progress: &mut P,
-) -> io::Result<Option<u64>>
-    ensures { IfOk result (λ found. IsSome found → IsMaterialChecked (tables_of (stored_classes tables.now) (stored_distances tables.now)) material.now) }
+) -> Result<Result<u64, Cause>, AllocError>
+    ensures checked { IfOk result (λ found. IsOk found → IsMaterialChecked (tables_of (stored_classes tables.now) (stored_distances tables.now)) material.now) }
+    ensures cause { IfOk result (λ found. IfErr found (λ cause. IsCause tables.now material.now cause)) }
 {
-    let (found, finding) = match first_faulty(alloc, material, faulty)? {
-        Some(other) => (None, Finding::Unchecked(other)),
-        None => walk(tables, material, cells, progress),
-    };
-    let line = material_line(alloc, material, finding)?;
-    output.write_all(line.as_bytes())?;
-    output.flush()?;
-    Ok(found)
+    match first_unverified(alloc, material, unverified)? {
+        Some(other) => Ok(Err(Cause::Unchecked(other))),
+        None => Ok(walk(tables, material, cells, progress)),
+    }
 }
 
 /// Checks each position of a material, but for images, up to the first that does not pass. Returns the number of
-/// positions if each passes, and what was found.
+/// positions if each passes.
 fn walk<P: Progress>(
     tables: &[Table],
     material: &Material,
     cells: &mut [Cell],
     progress: &mut P,
-) -> (Option<u64>, Finding)
-    ensures { IsSome result.0 → IsMaterialChecked (tables_of (stored_classes tables.now) (stored_distances tables.now)) material.now }
+) -> Result<u64, Cause>
+    ensures checked { IsOk result → IsMaterialChecked (tables_of (stored_classes tables.now) (stored_distances tables.now)) material.now }
+    ensures cause { IfErr result (λ cause. IsCause tables.now material.now cause) }
 {
     walk_is_whole();
     let mut classes = TableSet::new(tables);
@@ -153,25 +185,25 @@ fn walk<P: Progress>(
                 positions,
                 refused: None,
             },
-        ) => (Some(positions), Finding::Verified(positions)),
+        ) => Ok(positions),
         Ok(
             Walked {
                 refused: Some(refusal),
                 ..
             },
-        ) => (None, Finding::Refused(refusal)),
-        Err(missing) => (None, Finding::Missing(missing)),
+        ) => Err(Cause::Refused(refusal)),
+        Err(missing) => Err(Cause::Missing(missing)),
     }
 }
 
-/// Returns the first faulty material to which a capture or a promotion leads.
-fn first_faulty(
+/// Returns the first of the materials to which a capture or a promotion leads that is not verified.
+fn first_unverified(
     alloc: Global,
     material: &Material,
-    faulty: &[Material],
+    unverified: &[Unverified],
 ) -> Result<Option<Material>, AllocError> {
     for change in changes(alloc, material)? {
-        if faulty.contains(&change) {
+        if unverified.iter().any(|other| other.material == change) {
             return Ok(Some(change));
         }
     }
