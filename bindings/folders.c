@@ -39,8 +39,22 @@ struct szg_folders {
     struct opened *opened;
 };
 
-/* Opens the file of a table in the first folder that has it. -1 with errno ENOENT if none has. */
-static int open_file(struct opened *opened, const szg_missing *missing)
+/* The length of an open file, if it is a regular one. Else the file is closed, and it is -1 with errno. */
+static off_t length_of(int file)
+{
+    struct stat state;
+    bool is_known = fstat(file, &state) == 0;
+    if (is_known && S_ISREG(state.st_mode))
+        return state.st_size;
+    int why = is_known ? ENOENT : errno;
+    close(file);
+    errno = why;
+    return -1;
+}
+
+/* Opens the file of a table in the first folder that has it, and finds its length. -1 with errno ENOENT if none has. What is no
+ * regular file doesn't count, and a pipe isn't waited for. */
+static int open_file(struct opened *opened, const szg_missing *missing, size_t *size)
 {
     for (const char *folder = opened->paths;; folder++) {
         size_t length = strcspn(folder, ":");
@@ -48,28 +62,25 @@ static int open_file(struct opened *opened, const szg_missing *missing)
         opened->path[length] = '/';
         strcpy(opened->path + length + 1, missing->name);
         strcat(opened->path, missing->dtz ? ".rtbz" : ".rtbw");
-        int file = open(opened->path, O_RDONLY | O_CLOEXEC);
+        int file = open(opened->path, O_RDONLY | O_CLOEXEC | O_NONBLOCK);
+        off_t found = file < 0 ? -1 : length_of(file);
         folder += length;
-        if (file >= 0 || errno != ENOENT || *folder == '\0')
-            return file;
+        if (found >= 0)
+            return *size = (size_t)found, file;
+        if (errno != ENOENT || *folder == '\0')
+            return -1;
     }
 }
 
 /* Maps a file, and closes it. False with errno if the system refuses. */
 static bool map_file(int file, struct mapping *mapping)
 {
-    struct stat state;
-    bool mapped = fstat(file, &state) == 0;
-    if (mapped) {
-        /* an empty file can't be mapped, and is refused by its first check */
-        mapping->length = (size_t)state.st_size;
-        mapping->bytes = mapping->length == 0 ? NULL : mmap(NULL, mapping->length, PROT_READ, MAP_SHARED, file, 0);
-        mapped = mapping->bytes != MAP_FAILED;
-    }
+    /* an empty file can't be mapped, and is refused by its first check */
+    mapping->bytes = mapping->length == 0 ? NULL : mmap(NULL, mapping->length, PROT_READ, MAP_SHARED, file, 0);
     int why = errno;
     close(file);
     errno = why;
-    return mapped;
+    return mapping->bytes != MAP_FAILED;
 }
 
 static void unmap_file(struct mapping *mapping)
@@ -86,7 +97,7 @@ static uint32_t add_table(struct opened *opened, szg_missing *missing)
     struct mapping *mapping = malloc(sizeof *mapping);
     if (mapping == NULL)
         return SZG_MEMORY;
-    int file = open_file(opened, missing);
+    int file = open_file(opened, missing, &mapping->length);
     if (file < 0 || !map_file(file, mapping)) {
         int why = errno;
         free(mapping);

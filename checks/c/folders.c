@@ -1,7 +1,7 @@
 /* Four threads probe random positions of three men by the tables of a folder, each with a handle of its own, and all open the
  * files: folders FOLDER [POSITIONS]. They must find the same; a class must be that of its distance, the first move must give it, and
- * Fathom's interface must return it. A folder that is missing, one that is a file, and no table are refused. The status is 0 if all
- * is so. */
+ * Fathom's interface must return it. A folder that is missing, one that is a file, and no table are refused; a pipe or a folder with
+ * a table's name is passed over. The status is 0 if all is so. */
 #define _GNU_SOURCE
 #include "szg.h"
 #include "tbprobe.h"
@@ -11,6 +11,7 @@
 #include <stdio.h>
 #include <stdlib.h>
 #include <string.h>
+#include <sys/stat.h>
 #include <unistd.h>
 
 enum { THREADS = 4 };
@@ -80,7 +81,14 @@ int main(int count, char **words) {
     char paths[4096];
     if (count != 2 && count != 3) return fprintf(stderr, "folders FOLDER [POSITIONS]\n"), 2;
     if (count == 3) positions = atoi(words[2]);
-    snprintf(paths, sizeof paths, "/nowhere:%s", words[1]);
+    /* what is no regular file hides no table of a later folder */
+    char made[] = "/tmp/szg_folders_XXXXXX", file_path[64], folder_path[64];
+    if (mkdtemp(made) == NULL) return perror(made), 2;
+    snprintf(file_path, sizeof file_path, "%s/KQvK.rtbw", made);
+    snprintf(folder_path, sizeof folder_path, "%s/KQvK.rtbz", made);
+    if (mkfifo(file_path, 0600) != 0 || mkdir(folder_path, 0700) != 0) return perror(made), 2;
+    refused(made, SZG_MISSING, ENOENT);
+    snprintf(paths, sizeof paths, "/nowhere:%s:%s", made, words[1]);
     want("open", szg_open_folders(paths, &folders), SZG_DONE);
     want("by Fathom's interface", tb_init(paths) && TB_LARGEST == 3, true);
     for (int i = 0; i < THREADS; i++) pthread_create(&threads[i], NULL, run, &found[i]);
@@ -95,16 +103,13 @@ int main(int count, char **words) {
     refused("/nowhere", SZG_MISSING, ENOENT);
     snprintf(paths, sizeof paths, "%s/KQvK.rtbw", words[1]);
     refused(paths, SZG_MISSING, ENOTDIR);
-    char made[] = "/tmp/szg_folders_XXXXXX";
-    if (mkdtemp(made) == NULL) return perror(made), 2;
-    snprintf(paths, sizeof paths, "%s/KQvK.rtbw", made);
+    unlink(file_path);
     for (int bytes = 0; bytes < 3; bytes++) {
-        FILE *file = fopen(paths, "w");
-        if (file == NULL || fwrite("\x71\xe8", 1, (size_t)bytes, file) != (size_t)bytes || fclose(file) != 0) return perror(paths), 2;
+        FILE *file = fopen(file_path, "w");
+        if (file == NULL || fwrite("\x71\xe8", 1, (size_t)bytes, file) != (size_t)bytes || fclose(file) != 0) return perror(file_path), 2;
         refused(made, SZG_REFUSED, bytes);
     }
-    unlink(paths);
-    rmdir(made);
+    unlink(file_path), rmdir(folder_path), rmdir(made);
     if (!failed) puts("folders: as expected");
     return failed;
 }
