@@ -205,13 +205,12 @@ uint32_t szg_placement(szg_table *table, uint8_t part, uint8_t side, uint64_t in
 
 /* Returns what the table stores for a placement, which isn't the result of the position if a capture (WDL), or a capture or
  * pawn move (DTZ), decides: then a table may hold whatever value makes the file small. En passant and the fifty-move counter
- * aren't known to a table either. A result needs moves, which this library doesn't make: bindings/examples/full_probing.py
- * gets one by python-chess. A WDL table stores the class for the side to move (2 win, 1 cursed win, 0 draw, -1 blessed loss,
- * -2 loss) and ignores `class_of_position`. A DTZ table stores a number n of plies without sign for this class: it counts the
- * plies before the zeroing one (a capture, a pawn move or mate), in the classes 1 and -1 from the 101st on. So DTZ is n + 1
- * for a win, n + 101 for a cursed win, -(n + 101) for a blessed loss, -(n + 1) for a loss. What the table counts in moves is
- * doubled, and the distance may be one ply more. In a DTZ table SZG_RANGE means a class below -2 or above 2. With another
- * status than SZG_DONE *outcome stays. */
+ * aren't known to a table either. szg_folders_wdl and szg_folders_dtz return results. A WDL table stores the class for the
+ * side to move (2 win, 1 cursed win, 0 draw, -1 blessed loss, -2 loss) and ignores `class_of_position`. A DTZ table stores a
+ * number n of plies without sign for this class: it counts the plies before the zeroing one (a capture, a pawn move or
+ * mate), in the classes 1 and -1 from the 101st on. So DTZ is n + 1 for a win, n + 101 for a cursed win, -(n + 101) for a
+ * blessed loss, -(n + 1) for a loss. What the table counts in moves is doubled, and the distance may be one ply more. In a
+ * DTZ table SZG_RANGE means a class below -2 or above 2. With another status than SZG_DONE *outcome stays. */
 uint32_t szg_probe(szg_table *table, const szg_man *men, size_t count, uint8_t mover, int8_t class_of_position,
                    int64_t *outcome);
 

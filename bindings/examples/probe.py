@@ -1,9 +1,8 @@
 #!/usr/bin/env python3
 """Probes positions in a folder of tables: probe.py FOLDER < FENS
 
-Each line of standard input is a FEN. Printed is the stored class for the side to move and, where it is not a draw and the DTZ
-table stores this side, the stored number of plies; or what is missing. Where a capture or a pawn move decides these are not
-the position's: full_probing.py gets those.
+Each line of standard input is a FEN. Printed are its class for the side to move, its DTZ if the tables for it are there, and
+the best move; or what is missing.
 """
 import sys
 
@@ -12,11 +11,12 @@ import szg
 
 def probe(tables: szg.Tablebase, fen: str) -> str:
     try:
-        wdl = tables.probe_wdl_table(fen)
-        dtz = tables.get_dtz(fen, wdl) if wdl else None
+        words = [tables.probe_wdl(fen)]
+        if tables.get_dtz(fen) is not None:
+            words += [tables.probe_dtz(fen), *(move.uci for move in tables.rank_moves(fen)[:1])]
     except (LookupError, ValueError) as error:
         return str(error)
-    return f"{wdl}" if dtz is None else f"{wdl} {dtz}"
+    return " ".join(map(str, words))
 
 
 def main() -> None:

@@ -4,6 +4,7 @@ The library is that of SZG_LIBRARY, a path, where it is set; else the one that t
 links. Nothing is downloaded.
 """
 import os
+import re
 import shutil
 import subprocess
 import tempfile
@@ -37,14 +38,21 @@ class BuildWithLibrary(build_py):
 
 
 class WheelOfPlatform(bdist_wheel):
-    """A wheel for any Python 3 on this platform: ctypes loads the library."""
+    """A wheel for any Python 3 on this platform: ctypes loads the library, which needs the C library alone.
+
+    The tag is PEP 600's: the glibc whose symbols the library needs, 2.17 at least."""
 
     def finalize_options(self) -> None:
         super().finalize_options()
         self.root_is_pure = False
 
     def get_tag(self) -> Tuple[str, str, str]:
-        return "py3", "none", super().get_tag()[2]
+        platform = super().get_tag()[2]
+        library = Path(self.get_finalized_command("build_py").build_lib) / "szg/libszg.so"
+        if platform.startswith("linux_") and library.exists():
+            newest = max(17, *map(int, re.findall(rb"\0GLIBC_2\.(\d+)", library.read_bytes())))
+            platform = f"manylinux_2_{newest}_{platform[len('linux_'):]}"
+        return "py3", "none", platform
 
 
 class WithLibrary(Distribution):

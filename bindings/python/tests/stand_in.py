@@ -1,15 +1,14 @@
-"""A stand-in for python-chess where it isn't installed: a board over the rules of `checks/chess_rules.py`, and how
-chess.syzygy.Tablebase probes.
+"""A board with python-chess's names over the rules of `checks/chess_rules.py`, and how python-chess probes.
 
-The names and the order of steps are those of python-chess 1.x, as far as the tests need them: `probe_wdl` looks at captures and
-at en passant, `probe_dtz` looks at zeroing moves, asks `probe_dtz_table`, and looks one ply ahead where the table stores the
-other side to move.
+`Prober` has the steps of chess.syzygy.Tablebase (python-chess 1.x), over stored values: `probe_wdl` looks at captures and at en
+passant; `probe_dtz` looks at zeroing moves, takes the stored number, and looks one ply ahead where the table stores the other
+side to move.
 """
-import types
 from typing import Any, Dict, Iterable, List, NamedTuple, Optional, Tuple
 
 import conftest  # noqa: F401  # it adds the folder checks
 import chess_rules
+import szg
 
 Move = Tuple[Tuple[int, int], Tuple[int, int], Optional[str]]
 
@@ -68,6 +67,10 @@ class Board:
     def is_in_check(self, color: bool) -> bool:
         return self.now.is_attacked(self.now.king("w" if color else "b"), "b" if color else "w")
 
+    def uci(self, move: Move) -> str:
+        (file, rank), (to_file, to_rank), kind = move
+        return f"{'abcdefgh'[file]}{rank + 1}{'abcdefgh'[to_file]}{to_rank + 1}{kind or ''}".lower()
+
     def is_checkmate(self) -> bool:
         return self.now.is_check() and not self.now.legal_moves()
 
@@ -80,25 +83,15 @@ class Board:
         self.now, self.halfmove_clock = self.stack.pop()
 
 
-class MissingTableError(KeyError):
-    pass
-
-
 def dtz_before_zeroing(wdl: int) -> int:
     return ((wdl > 0) - (wdl < 0)) * (1 if abs(wdl) == 2 else 101)
 
 
-class Tablebase:
-    """The probes of chess.syzygy.Tablebase, over the two methods that a subclass replaces."""
+class Prober:
+    """Results by python-chess's steps over what tables store."""
 
-    def __init__(self) -> None:
-        self.is_closed = False
-
-    def probe_wdl_table(self, board: Board) -> int:
-        raise AssertionError("python-chess's own tables are asked")
-
-    def probe_dtz_table(self, board: Board, wdl: int) -> Tuple[int, int]:
-        raise AssertionError("python-chess's own tables are asked")
+    def __init__(self, tables: szg.Tablebase) -> None:
+        self.tables = tables
 
     def after(self, board: Board, move: Move, probe: Any) -> int:
         board.push(move)
@@ -115,7 +108,7 @@ class Tablebase:
                     if value >= beta:
                         return value, 2
                     alpha = value
-        value = self.probe_wdl_table(board)
+        value = self.tables.probe_wdl_table(board)
         return (alpha, 1 + int(alpha > 0)) if alpha >= value else (value, 1)
 
     def probe_wdl(self, board: Board) -> int:
@@ -136,7 +129,7 @@ class Tablebase:
             for move in moves:
                 if board.is_pawn_move(move) and not board.is_capture(move) and self.after(board, move, self.probe_wdl) == wdl:
                     return 1 if wdl == 2 else 101
-        dtz, success = self.probe_dtz_table(board, wdl)
+        dtz, success = self.tables.probe_dtz_table(board, wdl)
         if success >= 0:
             return dtz_before_zeroing(wdl) + (dtz if wdl > 0 else -dtz)
         return self.best_win(board, moves) if wdl > 0 else self.best_loss(board, moves, wdl)
@@ -170,35 +163,15 @@ class Tablebase:
         return best
 
     def probe_dtz(self, board: Board) -> int:
-        if board.ep_square is not None and board.generate_legal_ep():
-            raise NotImplementedError("no test probes a distance where en passant is possible")
-        return self.probe_dtz_no_ep(board)
-
-    def get_wdl(self, board: Board) -> Optional[int]:
-        try:
-            return self.probe_wdl(board)
-        except KeyError:
-            return None
-
-    def get_dtz(self, board: Board) -> Optional[int]:
-        try:
-            return self.probe_dtz(board)
-        except KeyError:
-            return None
-
-    def close(self) -> None:
-        self.is_closed = True
-
-    def __enter__(self) -> "Tablebase":
-        return self
-
-    def __exit__(self, *_: object) -> None:
-        self.close()
-
-
-def modules() -> Dict[str, types.ModuleType]:
-    """The modules `chess` and `chess.syzygy`."""
-    chess, syzygy = types.ModuleType("chess"), types.ModuleType("chess.syzygy")
-    chess.Board, chess.syzygy = Board, syzygy  # type: ignore[attr-defined]
-    syzygy.Tablebase, syzygy.MissingTableError = Tablebase, MissingTableError  # type: ignore[attr-defined]
-    return {"chess": chess, "chess.syzygy": syzygy}
+        value = self.probe_dtz_no_ep(board)
+        passing = [self.after(board, move, lambda board: self.probe_ab(board, -2, 2)[0]) for move in board.generate_legal_ep()]
+        if not passing:
+            return value
+        best = dtz_before_zeroing(max(passing))
+        if value < -100:
+            return best if best >= 0 else value
+        if value < 0:
+            return best if best >= 0 or best < -100 else value
+        if value > 0:
+            return best if 0 < best and (value > 100 or best == 1) else value
+        return best if best >= 0 or not board.legal_moves() else value

@@ -12,7 +12,7 @@ from pathlib import Path
 import pytest
 import szg
 from conftest import ROOT, UNPAIRED
-from szg import _library, _version
+from szg import _library, _placement, _version
 
 HEADER = (ROOT / "bindings/szg.h").read_text(encoding="utf-8")
 
@@ -40,7 +40,7 @@ def test_the_examples_of_the_readme_run(folder: Path, monkeypatch: pytest.Monkey
     program, others = re.findall(r"```python\n(.*?)```", text, re.S)
     monkeypatch.chdir(ROOT)
     exec(program, {})
-    assert capsys.readouterr().out.strip() == re.search(r"^It prints `(.*?)`", text, re.M)[1]
+    assert capsys.readouterr().out.splitlines() == re.findall("`(.*?)`", re.search("^It prints (.*)", text, re.M)[1])
     monkeypatch.chdir(folder.parent)
     found = {"szg": szg, "data": UNPAIRED.data}
     exec(others, found)
@@ -48,7 +48,7 @@ def test_the_examples_of_the_readme_run(folder: Path, monkeypatch: pytest.Monkey
 
 
 def test_errors_are_pickled() -> None:
-    for error in (szg.Refused(7, "Word"), szg.Refused(7, "Word", "KQvK.rtbw"), szg.Untold("Man"), szg.Changed("it"), szg.MissingTableError("none"),
+    for error in (szg.Refused(7, "Word"), szg.Refused(7, "Word", "KQvK.rtbw"), szg.Untold("Man"), szg.Untold("NoClass", "KQvK.rtbw"), szg.Changed("it"), szg.MissingTableError("none"),
                   szg.BadBlock(3, 320), szg.BadBlock(3, 320, "KQvK.rtbw")):
         again = pickle.loads(pickle.dumps(error))
         assert type(again) is type(error) and str(again) == str(error) and vars(again) == vars(error)
@@ -76,10 +76,11 @@ def test_statuses_and_reasons_are_the_headers() -> None:
     assert reasons == {_library.reason_text(number): number for number in range(1, 19)}
     statuses = {name[4:]: number for name, number in enumerators("szg_status").items()}
     assert {spelled(name): number for name, number in statuses.items()} == {_library.status_text(number): number for number in range(23)}
-    for name in ("DONE", "NAME", "REFUSED", "MEMORY", "RANGE", "CLOSED", "MAN", "OUTSIDE_MAP", "CHANGED", "BAD_BLOCK"):
+    for name in ("DONE", "NAME", "REFUSED", "MEMORY", "RANGE", "CLOSED", "MAN", "MEN", "OTHER_MATERIAL", "WRONG_SIDE", "NO_CLASS", "OUTSIDE_MAP",
+                 "CHANGED", "BAD_BLOCK", "EN_PASSANT", "IN_CHECK", "MISSING", "CONTRADICTION"):
         assert getattr(_library, name) == statuses[name]
-    sizes = dict(re.findall(r"#define SZG_(TEXT_SIZE|MAX_MEN) (\d+)", HEADER))
-    assert (_library.TEXT_SIZE, _library.MAX_MEN) == (int(sizes["TEXT_SIZE"]), int(sizes["MAX_MEN"]))
+    sizes = {name: int(size) for name, size in re.findall(r"#define SZG_(TEXT_SIZE|MAX_MEN|MAX_MOVES|NO_SQUARE) (\d+)", HEADER)}
+    assert sizes == {"TEXT_SIZE": _library.TEXT_SIZE, "MAX_MEN": _library.MAX_MEN, "MAX_MOVES": _library.MAX_MOVES, "NO_SQUARE": _placement.NO_SQUARE}
     assert [_library.reason_text(number) for number in (0, 19, 1 << 31)] == [_library.status_text(number) for number in (23, 256, 1 << 31)] == [""] * 3
 
 
@@ -102,6 +103,12 @@ def test_the_version_is_the_librarys(monkeypatch: pytest.MonkeyPatch) -> None:
             _library.require_version(other)
 
 
+def test_calls_with_a_tablebase_keep_the_interpreters_lock() -> None:
+    """So no other thread calls with the same handle, and none forks while one of them has the library's memory in hand."""
+    keeps_lock = 4  # ctypes' FUNCFLAG_PYTHONAPI
+    assert _library.LOCKED == tuple(name for name in _library._signatures() if getattr(_library.library, name)._flags_ & keeps_lock)
+
+
 def test_a_library_that_lacks_a_call_is_an_import_error(monkeypatch: pytest.MonkeyPatch) -> None:
     # the system's C library has none of the calls
     monkeypatch.setenv("SZG_LIBRARY", "libc.so.6")
@@ -119,7 +126,9 @@ def test_a_library_that_lacks_a_call_is_an_import_error(monkeypatch: pytest.Monk
     (13, szg.Untold, "the table has no entry: WrongSide"), (14, szg.Untold, "the table has no entry: NoClass"),
     (15, szg.Untold, "the table has no entry: Draw"), (16, szg.Untold, "the table has no entry: OutsideMap"),
     (17, szg.Changed, "the table's file was changed"), (18, szg.BadBlock, "block 0 at 0 does not decode"),
-    (19, RuntimeError, "the library returned the status 19"),
+    (19, szg.Untold, "the table has no entry: EnPassant"), (20, szg.Untold, "the table has no entry: InCheck"),
+    (21, RuntimeError, "the library returned the status 21"), (22, szg.Untold, "the table has no entry: Contradiction"),
+    (23, RuntimeError, "the library returned the status 23"),
 ])
 def test_each_status_of_a_call_is_an_exception(status: int, fault: type, said: str) -> None:
     with szg.Table("KQvK", "wdl", UNPAIRED.data) as table:

@@ -37,7 +37,8 @@ def test_all_letters_of_a_fen() -> None:
 @pytest.mark.parametrize("text", [
     "", " ", "4K3/8/8/8/8/8/8", "4K3/8/8/8/8/8/8/Q6k/8", "4K4/8/8/8/8/8/8/Q6k", "4K2/8/8/8/8/8/8/Q6k", "44/8/8/8/8/8/8/Q5kK",
     "4X3/8/8/8/8/8/8/Q6k", "9/8/8/8/8/8/8/Q6k", "0K7/8/8/8/8/8/8/Q6k", "4K3/8/8/8/8/8/8/Q6k W", "4K3/8/8/8/8/8/8/Q6k white",
-    "4K3/8/8/8/8/8/8/Q~6k", "4K\u00b33/8/8/8/8/8/8/Q6k",
+    "4K3/8/8/8/8/8/8/Q~6k", "4K\u00b33/8/8/8/8/8/8/Q6k", FEN + " w x", FEN + " w - e4", FEN + " w - E3", FEN + " w - - x", FEN + " w - - -1",
+    FEN + " w - - \u00b3", FEN + " w - - 1234567890",
 ])
 def test_what_is_no_fen(table: szg.Table, text: str) -> None:
     with pytest.raises(ValueError, match="is no FEN: ") as caught:

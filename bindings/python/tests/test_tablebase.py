@@ -26,28 +26,23 @@ def test_a_folder_of_tables(folder: Path) -> None:
         assert tables.probe_dtz_table("4k3/1p6/8/8/8/8/8/4K3 b", 2) == (600, 1)
         assert tables.probe_dtz_table(PAWN_FEN.replace("w", "b"), 2) == (0, -1)
         assert tables.probe_wdl_table("4k3/8/8/8/8/8/8/4K3 w") == 0
-        assert tables.get_wdl(QUEEN_FEN) == 2 and tables.get_dtz(PAWN_FEN, 2) == 600
 
 
 def test_missing_tables(folder: Path) -> None:
     with szg.open_tablebase(str(folder)) as tables:
-        for fen in (ROOK_FEN, "rnbqkbnr/pppppppp/8/8/8/8/PPPPPPPP/RNBQKBNR w", PAWN_FEN):
-            with pytest.raises(szg.MissingTableError) as caught:
-                tables.probe_wdl_table(fen)
-            assert isinstance(caught.value, KeyError)
-            assert tables.get_wdl(fen) is None and tables.get_wdl(fen, 7) == 7
-        assert str(pytest.raises(szg.MissingTableError, tables.probe_wdl_table, ROOK_FEN).value) == "no WDL table of KRvK was added"
-        assert str(pytest.raises(szg.MissingTableError, tables.probe_dtz_table, ROOK_FEN, 2).value) == "no DTZ table of KRvK was added"
-        for fen in (ROOK_FEN, QUEEN_FEN, "4k3/8/8/8/8/8/8/4K3 w"):
-            pytest.raises(szg.MissingTableError, tables.probe_dtz_table, fen, 2)
-            assert tables.get_dtz(fen, 2) is None and tables.get_dtz(fen, 2, "none") == "none"
-        assert tables.get_dtz(PAWN_FEN.replace("w", "b"), 2, 7) == 7
+        for fen, said in ((ROOK_FEN, "no WDL table of KRvK was added"), (PAWN_FEN, "no WDL table of KPvK was added"),
+                          ("rnbqkbnr/pppppppp/8/8/8/8/PPPPPPPP/RNBQKBNR w", "no table of 32 men was added")):
+            caught = pytest.raises(szg.MissingTableError, tables.probe_wdl_table, fen).value
+            assert isinstance(caught, KeyError) and str(caught) == said
+        for fen, said in ((ROOK_FEN, "no DTZ table of KRvK was added"), (QUEEN_FEN, "no DTZ table of KQvK was added"),
+                          ("4k3/8/8/8/8/8/8/4K3 w", "no DTZ table has two kings alone")):
+            assert str(pytest.raises(szg.MissingTableError, tables.probe_dtz_table, fen, 2).value) == said
         for fen, reason in (("8/8/8/8/8/8/8/Q6k w", "Men"), ("K7/8/8/8/8/8/8/K6k w", "Men")):
-            for call in (tables.probe_wdl_table, tables.get_wdl):
-                assert untold(call, fen) == reason
+            for words in ((tables.probe_wdl_table, fen), (tables.probe_dtz_table, fen, 2)):
+                assert untold(*words) == reason
+        assert untold(tables.probe_wdl_table, [(7, True, 0), (KING, True, 1), (KING, False, 60)], True) == "Man"
         for wdl, reason in ((0, "Draw"), (-1, "OutsideMap")):
-            for call in (tables.probe_dtz_table, tables.get_dtz):
-                assert untold(call, "4k3/8/8/8/8/8/P7/4K3 w", wdl) == reason
+            assert untold(tables.probe_dtz_table, "4k3/8/8/8/8/8/P7/4K3 w", wdl) == reason
         for wdl in (3, -3):
             pytest.raises(ValueError, tables.probe_dtz_table, PAWN_FEN, wdl)
         pytest.raises(TypeError, tables.probe_dtz_table, PAWN_FEN, True)
@@ -60,8 +55,6 @@ def test_what_is_loaded(folder: Path, tmp_path: Path) -> None:
     pytest.raises(szg.MissingTableError, tables.probe_dtz_table, PAWN_FEN, 2)
     assert tables.add_directory(folder, load_wdl=False) == 1
     assert tables.probe_dtz_table(PAWN_FEN, 2) == (600, 1)
-    assert szg.open_tablebase(folder, load_wdl=False).get_wdl(QUEEN_FEN) is None
-    assert szg.open_tablebase(folder, load_dtz=False).get_dtz(PAWN_FEN, 2) is None
     assert tables.add_directory(tmp_path) == 0
     pytest.raises(FileNotFoundError, tables.add_directory, tmp_path / "none")
     pytest.raises(FileNotFoundError, szg.open_tablebase, tmp_path / "none")
@@ -86,7 +79,7 @@ def test_a_file_that_is_no_table_is_refused_when_it_is_probed(folder: Path) -> N
     for data, place in ((b"", 0), (PAIRED.data[:200], 200)):
         (folder / "KRvK.rtbw").write_bytes(data)
         with szg.open_tablebase(folder) as tables:
-            for call in (tables.probe_wdl_table, tables.get_wdl, tables.probe_wdl_table):
+            for call in (tables.probe_wdl_table, tables.probe_wdl_table):
                 caught = pytest.raises(szg.Refused, call, ROOK_FEN).value
                 assert caught.reason in ("Truncated", "Pieces") and caught.place == (place if not data else 6)
                 assert str(caught).startswith(f"{folder / 'KRvK.rtbw'}: refused at ")
@@ -94,7 +87,7 @@ def test_a_file_that_is_no_table_is_refused_when_it_is_probed(folder: Path) -> N
     (folder / "KRvK.rtbw").unlink()
     with szg.open_tablebase(folder) as tables:
         (folder / "KQvK.rtbw").unlink()
-        pytest.raises(FileNotFoundError, tables.get_wdl, QUEEN_FEN)
+        pytest.raises(FileNotFoundError, tables.probe_wdl_table, QUEEN_FEN)
 
 
 def test_a_bad_block_spoils_no_other_probe(folder: Path) -> None:
@@ -104,9 +97,8 @@ def test_a_bad_block_spoils_no_other_probe(folder: Path) -> None:
     data[at:at + (1 << sub.block_bits)] = bytes(1 << sub.block_bits)
     (folder / "KQvK.rtbw").write_bytes(data)
     with szg.open_tablebase(folder) as tables:
-        for call in (tables.probe_wdl_table, tables.get_wdl):
-            caught = pytest.raises(szg.BadBlock, call, QUEEN_FEN).value
-            assert (caught.block, caught.offset, caught.path) == (block, at, str(folder / "KQvK.rtbw"))
+        caught = pytest.raises(szg.BadBlock, tables.probe_wdl_table, QUEEN_FEN).value
+        assert (caught.block, caught.offset, caught.path) == (block, at, str(folder / "KQvK.rtbw"))
         assert tables.probe_wdl_table("4K3/8/8/8/8/8/8/Q6k b") == 0
         assert tables.probe_dtz_table(PAWN_FEN, 2) == (600, 1)
 
@@ -137,16 +129,10 @@ def test_a_bound_on_open_tables(folder: Path) -> None:
         for _ in range(3):
             assert tables.probe_wdl_table(QUEEN_FEN) == 2
             assert tables.probe_dtz_table(PAWN_FEN, 2) == (600, 1)
-            assert list(tables._tables) == [("KPvK", "dtz")]
+            assert list(tables._current.tables) == [("KPvK", "dtz")]
     with szg.open_tablebase(folder) as tables:
         tables.probe_wdl_table(QUEEN_FEN), tables.probe_dtz_table(PAWN_FEN, 2)
-        assert len(tables._tables) == 2
-    with szg.open_tablebase(folder, max_tables=2) as tables:
-        for call in (lambda: tables.probe_wdl_table(QUEEN_FEN), lambda: tables.probe_dtz_table(PAWN_FEN, 2), lambda: tables.probe_wdl_table(QUEEN_FEN),
-                     lambda: tables.probe_wdl_table("4k3/8/8/8/8/8/8/N3K3 w")):
-            call()
-        # the one that was probed longest ago went
-        assert list(tables._tables) == [("KQvK", "wdl"), ("KNvK", "wdl")]
+        assert len(tables._current.tables) == 2
 
 
 def test_what_goes_wrong_between_calls(folder: Path, other: Path, monkeypatch: pytest.MonkeyPatch) -> None:
@@ -163,13 +149,15 @@ def test_what_goes_wrong_between_calls(folder: Path, other: Path, monkeypatch: p
                 return opening(path)
             with monkeypatch.context() as patch:
                 patch.setattr(szg.Table, "open", opened)
-                if what == "close":
-                    pytest.raises(ValueError, tables.probe_wdl_table, fen)
-                else:
-                    assert tables.probe_wdl_table(fen) == (2 if what == "add" else 0)
-            assert not comes and len(tables._tables) == (0 if what == "close" else 2 if bound is None else 1)
+                # the call that is interrupted goes on with the folders that it began with
+                assert tables.probe_wdl_table(fen) == 0
+            if what == "close":
+                assert is_closed(tables.probe_wdl_table, fen)
+            else:
+                assert tables.probe_wdl_table(fen) == (2 if what == "add" else 0)
+            assert not comes
             tables.close()
-            assert not tables._tables
+            assert not tables._current.tables
 
 
 def test_other_files_hide_no_folder(folder: Path) -> None:
@@ -181,7 +169,7 @@ def test_other_files_hide_no_folder(folder: Path) -> None:
     os.mkfifo(os.fsencode(folder) + b"/K\xffvK.rtbw")
     with szg.open_tablebase(folder) as tables:
         assert repr(tables) == "<szg.Tablebase with 3 tables>"
-        assert tables.probe_wdl_table(QUEEN_FEN) == 2 and tables.get_wdl(PAWN_FEN) is None
+        assert tables.probe_wdl_table(QUEEN_FEN) == 2 and tables.get_wdl("8/8/8/8/8/8/1P5k/4K3 w") is None
     assert repr(tables) == "<szg.Tablebase with 0 tables, closed>"
 
 
@@ -194,8 +182,8 @@ def test_a_copy_has_the_same_folders(folder: Path, other: Path, again, monkeypat
     second = again(tables)
     tables.close()
     assert second.probe_wdl_table("4k3/8/8/8/8/8/8/N3K3 w") == second.probe_wdl_table(QUEEN_FEN) == 2
-    assert second.get_dtz(PAWN_FEN, 2) is None and repr(second) == "<szg.Tablebase with 2 tables>"
-    assert list(second._tables) == [("KQvK", "wdl")]
+    pytest.raises(szg.MissingTableError, second.probe_dtz_table, PAWN_FEN, 2)
+    assert repr(second) == "<szg.Tablebase with 2 tables>" and list(second._current.tables) == [("KQvK", "wdl")]
     assert is_closed(again, tables)
 
 
@@ -205,8 +193,7 @@ def test_a_closed_tablebase(folder: Path) -> None:
             tables.probe_wdl_table(QUEEN_FEN)
             raise ZeroDivisionError
     tables.close()
-    for call in (lambda: tables.probe_wdl_table(QUEEN_FEN), lambda: tables.get_wdl(QUEEN_FEN),
-                 lambda: tables.probe_dtz_table(PAWN_FEN, 2), lambda: tables.add_directory(folder)):
+    for call in (lambda: tables.probe_wdl_table(QUEEN_FEN), lambda: tables.probe_dtz_table(PAWN_FEN, 2), lambda: tables.add_directory(folder)):
         assert is_closed(call)
 
 
@@ -217,7 +204,7 @@ def test_names_of_materials(tmp_path: Path) -> None:
         (tmp_path / f"{name}.rtbw").write_bytes(b"")
     (tmp_path / "KQvKR.RTBW").write_bytes(b"")
     with szg.open_tablebase(tmp_path) as tables:
-        assert sorted(name for name, _ in tables._paths) == sorted(
+        assert sorted(name for name, _ in tables._files().paths) == sorted(
             ["KQvKR", "KNNvKB", "KBPvKN", "KQQvKQ", "KRvKR", "KPvKP", "KQRBNvK"])
         # each is asked by both colours
         for fen in ("4k3/8/8/8/8/8/8/nn2K2B w", "4k3/8/8/8/8/8/8/NN2K2b w", "4k3/8/8/8/8/8/8/q3K2R b"):

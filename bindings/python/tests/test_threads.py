@@ -6,9 +6,10 @@ from typing import Callable, List
 
 import pytest
 import szg
-from conftest import UNPAIRED
+from conftest import ROOT, UNPAIRED
 from szg import WHITE
 
+SAMPLES = ROOT / "samples"
 QUEEN_FEN, PAWN_FEN, KNIGHT_FEN = "4K3/8/8/8/8/8/8/Q6k w", "4k3/8/8/8/8/8/1P6/4K3 w", "4k3/8/8/8/8/8/8/N3K3 w"
 
 
@@ -91,11 +92,24 @@ def test_threads_use_one_tablebase(folder: Path) -> None:
                 for _ in range(60):
                     assert tables.probe_wdl_table(QUEEN_FEN) == 2
                     assert tables.probe_dtz_table(PAWN_FEN, 2) == (600, 1)
-                    assert tables.probe_wdl_table(KNIGHT_FEN) == 0
+                    assert tables.probe_wdl_table(KNIGHT_FEN) == tables.probe_wdl(KNIGHT_FEN) == 0
                     if number == 0:
                         tables.add_directory(folder)
 
             in_threads(6, ask)
+
+
+def test_threads_open_tables_for_results() -> None:
+    pawn = "8/1k2P3/8/8/8/8/8/K7 w"
+    with szg.open_tablebase(SAMPLES) as tables:
+        wanted = tables.rank_moves(pawn)
+    for _ in range(20):
+        for max_tables in (None, 1):
+            with szg.open_tablebase(SAMPLES, max_tables=max_tables) as tables:
+                def ask(number: int) -> None:
+                    assert tables.rank_moves(pawn) == wanted and tables.probe_many([pawn] * 3) == [2] * 3
+
+                in_threads(6, ask)
 
 
 def test_a_tablebase_is_closed_while_threads_use_it(folder: Path) -> None:
@@ -110,7 +124,7 @@ def test_a_tablebase_is_closed_while_threads_use_it(folder: Path) -> None:
                 return
             while True:
                 try:
-                    assert tables.probe_wdl_table(QUEEN_FEN) == 2
+                    assert tables.probe_wdl_table(QUEEN_FEN) == 2 and tables.probe_wdl(KNIGHT_FEN) == 0
                     asked[number] += 1
                 except ValueError as error:
                     assert "closed" in str(error)

@@ -14,7 +14,7 @@ from pathlib import Path
 import szg
 DATA = Path({str(ROOT / "data" / "kqvk_wdl_unpaired.rtbw")!r}).read_bytes()
 FOLDER = {str(ROOT / "samples")!r}
-FEN = "4K3/8/8/8/8/8/8/Q6k w"
+FEN, MATE_FEN = "4K3/8/8/8/8/8/8/Q6k w", "7k/8/5K2/8/8/8/8/6Q1 w"
 """
 
 
@@ -30,16 +30,19 @@ def test_a_signal_handler_calls_what_it_interrupts() -> None:
     ended("""
 tables, answers = szg.open_tablebase(FOLDER, max_tables=1), []
 def handle(*_):
-    answers.append((table.get(11711), tables.probe_wdl_table(FEN)))
+    answers.append((table.get(11711), tables.probe_wdl_table(FEN), tables.probe_wdl(MATE_FEN), tables.probe_dtz(MATE_FEN)))
 signal.signal(signal.SIGALRM, handle)
 table = szg.Table("KQvK", "wdl", DATA)
-signal.setitimer(signal.ITIMER_REAL, 2e-4, 2e-4)
-while len(answers) < 3000:
+rng = random.Random(3)
+while len(answers) < 1500:
     table = szg.Table("KQvK", "wdl", DATA)
     for _ in range(20):
+        signal.setitimer(signal.ITIMER_REAL, rng.uniform(1e-6, 5e-4))
         assert table.get(11711) == 4 and tables.probe_wdl_table(FEN) == 2 and tables.probe_dtz_table("8/8/8/8/8/k7/8/K1Q5 w", 2)
-signal.setitimer(signal.ITIMER_REAL, 0)
-assert set(answers) == {(4, 2)}
+        assert tables.probe_dtz(MATE_FEN) == 1 and tables.probe_wdl("4k3/8/8/8/8/8/8/4K2R w") == 2
+while signal.getitimer(signal.ITIMER_REAL)[0]:
+    time.sleep(1e-3)
+assert set(answers) == {(4, 2, 2, 1)}
 """)
 
 
@@ -50,15 +53,15 @@ class Asks:
     def __init__(self, table, tables):
         self.me, self.table, self.tables = self, table, tables
     def __del__(self):
-        answers.append((self.table.get(11711), self.tables.probe_wdl_table(FEN)))
+        answers.append((self.table.get(11711), self.tables.probe_wdl_table(FEN), self.tables.probe_wdl(MATE_FEN)))
 for threshold in range(1, 60):
     gc.set_threshold(threshold)
     for _ in range(40):
         table, tables = szg.Table("KQvK", "wdl", DATA), szg.open_tablebase(FOLDER)
         Asks(table, tables)
-        assert table.get(11711) == 4 and tables.probe_wdl_table(FEN) == 2
+        assert table.get(11711) == 4 and tables.probe_wdl_table(FEN) == 2 and tables.probe_wdl(MATE_FEN) == 2
 gc.collect()
-assert len(answers) == 59 * 40 and set(answers) == {(4, 2)}
+assert len(answers) == 59 * 40 and set(answers) == {(4, 2, 2)}
 """)
 
 
@@ -69,7 +72,7 @@ sys.setswitchinterval(1e-6)
 is_over = False
 def ask():
     while not is_over:
-        table.get(11711), tables.probe_wdl_table(FEN), tables.probe_wdl_table("4K3/8/8/8/8/8/8/R6k w")
+        table.get(11711), tables.probe_wdl_table(FEN), tables.probe_wdl_table("4K3/8/8/8/8/8/8/R6k w"), tables.probe_dtz(MATE_FEN)
 threads = [threading.Thread(target=ask) for _ in range(6)]
 for thread in threads:
     thread.start()
@@ -78,7 +81,7 @@ for _ in range(150):
     child = os.fork()
     if not child:
         signal.alarm(10)
-        is_right = table.get(11711) == 4 and tables.probe_wdl_table(FEN) == 2
+        is_right = table.get(11711) == 4 and tables.probe_wdl_table(FEN) == 2 and tables.probe_dtz(MATE_FEN) == 1
         os._exit(0 if is_right else 1)
     statuses.append(os.waitpid(child, 0)[1])
 is_over = True
@@ -132,6 +135,7 @@ def once():
     table.close()
     tables = szg.open_tablebase(FOLDER)
     attempt(lambda: tables.probe_wdl_table(FEN), 4e-4)
+    attempt(lambda: tables.probe_dtz(MATE_FEN), 6e-4)
     tables.close()
 for _ in range(300):
     once()
@@ -153,7 +157,7 @@ try:
 except OSError as error:
     print(error)
 with szg.open_tablebase(sys.argv[1]) as tables:
-    print(tables.get_wdl(FEN))
+    print(tables.get_wdl(MATE_FEN))
 """, str(tmp_path), seconds=20)
     assert said == f"[Errno 22] not a regular file: '{tmp_path}/KQvK.rtbw'\nNone\n"
 

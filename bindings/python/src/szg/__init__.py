@@ -1,18 +1,18 @@
-"""Syzygy tables, read with proof: a folder of tables in python-chess's words, and single tables.
+"""Syzygy tables, read with proof: results over folders of tables in python-chess's words, and single tables.
 
     import szg
     with szg.open_tablebase("tables") as tables:
-        tables.probe_wdl_table(board)                      # a board of python-chess
-        tables.probe_wdl_table("4k3/8/8/8/8/8/8/Q3K3 w")   # or a FEN
+        tables.probe_wdl(board)                            # a board of python-chess
+        tables.probe_dtz("4k3/8/8/8/8/8/8/Q3K3 w - - 0 1")  # or a FEN
+        tables.rank_moves("4k3/8/8/8/8/8/8/Q3K3 w - - 0 1")  # the legal moves, the best first
 
     with szg.Table.open("tables/KQvK.rtbw") as table:
         table.probe_wdl([(szg.KING, szg.WHITE, 60), (szg.QUEEN, szg.WHITE, 0), (szg.KING, szg.BLACK, 7)], szg.WHITE)
         table.placement(0, 0, 11711)                       # the men of an index, and who moves
         table.values()                                     # all values: numpy.asarray takes them
 
-Each class and number is what a table stores, which isn't the result of the position if a capture (WDL), or a capture or
-pawn move (DTZ), decides; en passant and the fifty-move counter aren't known to a table either. python-chess gets results on
-top of this package: see `Tablebase.probe_wdl_table`.
+What a single table stores (`Table`, `probe_wdl_table`, `probe_dtz_table`) isn't the result of the position if a capture
+(WDL), or a capture or pawn move (DTZ), decides. `probe_wdl`, `probe_dtz` and `rank_moves` of a Tablebase are results.
 
 Opening a table checks all of it but its blocks, and these too with verify=True: you get the table, or Refused with the
 first check that fails and its byte. Each block is checked when a value is fetched from it: you get the value, or BadBlock.
@@ -23,11 +23,12 @@ in this package, else the system's. `version` is the library's own version, whos
 from ._errors import BadBlock, Changed, MissingTableError, Refused, Untold
 from ._library import version
 from ._placement import BISHOP, BLACK, KING, KNIGHT, PAWN, QUEEN, ROOK, WHITE, Board, Placement
+from ._results import RankedMove
 from ._table import Spot, Table
 from ._tablebase import Tablebase, open_tablebase
 from ._version import __version__
 
 __all__ = [
     "BISHOP", "BLACK", "BadBlock", "Board", "Changed", "KING", "KNIGHT", "MissingTableError", "PAWN", "Placement", "QUEEN", "ROOK",
-    "Refused", "Spot", "Table", "Tablebase", "Untold", "WHITE", "__version__", "open_tablebase", "version",
+    "RankedMove", "Refused", "Spot", "Table", "Tablebase", "Untold", "WHITE", "__version__", "open_tablebase", "version",
 ]

@@ -24,20 +24,25 @@ class Refused(ValueError):
 
 
 class Untold(LookupError):
-    """The table has no entry for the placement or the value. `reason` is why:
+    """The tables have no entry for the placement or the value. `reason` is why:
 
     - the men are no placement: `Man` (no such kind, colour or square), `Men` (not three to six men, or a colour without
       exactly one king), `SameSquare`, `PawnRank`;
+    - they are no position: `EnPassant` (no pawn can just have passed over that square), `InCheck` (the side not to move);
     - the table has no index for it: `OtherMaterial`, `Irregular`, `KingsTouch`, `WrongSide` (a DTZ table stores one side
       to move only);
-    - the value means nothing: `NoClass`, `Draw` (a draw has no DTZ), `OutsideMap`."""
+    - the value means nothing: `NoClass`, `Draw` (a draw has no DTZ), `OutsideMap`; or values contradict each other:
+      `Contradiction`.
 
-    def __init__(self, reason: str) -> None:
-        super().__init__(reason)
+    `path` is that of the table's file where a result needs it; else None."""
+
+    def __init__(self, reason: str, path: Optional[str] = None) -> None:
+        super().__init__(reason, path)
         self.reason = reason
+        self.path = path
 
     def __str__(self) -> str:
-        return f"the table has no entry: {self.reason}"
+        return f"{_of(self.path)}the table has no entry: {self.reason}"
 
 
 class BadBlock(ValueError):

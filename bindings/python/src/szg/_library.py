@@ -2,19 +2,22 @@
 import ctypes
 import os
 from ctypes import (
-    POINTER, byref, c_bool, c_char_p, c_int, c_int8, c_int64, c_size_t, c_uint8, c_uint16, c_uint32, c_uint64, c_void_p, py_object,
+    POINTER, byref, c_bool, c_char, c_char_p, c_int, c_int8, c_int64, c_size_t, c_uint8, c_uint16, c_uint32, c_uint64, c_void_p,
+    py_object,
 )
 from functools import lru_cache
 from pathlib import Path
-from typing import Any, Callable, List, NoReturn, Optional
+from typing import Any, Callable, List, NoReturn, Optional, Tuple
 
 from ._errors import BadBlock, Changed, Refused, Untold
 from ._version import __version__
 
-# enum szg_status. MAN to OUTSIDE_MAP say why a table has no entry.
-DONE, NAME, REFUSED, MEMORY, RANGE, CLOSED, MAN = range(7)
-OUTSIDE_MAP, CHANGED, BAD_BLOCK = 16, 17, 18
-MAX_MEN = 6
+# enum szg_status. MAN to OUTSIDE_MAP, EN_PASSANT, IN_CHECK and CONTRADICTION say why tables have no entry.
+DONE, NAME, REFUSED, MEMORY, RANGE, CLOSED, MAN, MEN = range(8)
+OUTSIDE_MAP, CHANGED, BAD_BLOCK, EN_PASSANT, IN_CHECK, MISSING, CONTRADICTION = range(16, 23)
+# those with which a result names the table that it lacks: the men have no index in it, or it has no class
+OTHER_MATERIAL, WRONG_SIDE, NO_CLASS = 10, 13, 14
+MAX_MEN, MAX_MOVES = 6, 128
 TEXT_SIZE = 32
 
 
@@ -28,21 +31,39 @@ class Handle(ctypes.Structure):
     _fields_ = [("held", c_void_p)]
 
 
+class TablebaseHandle(ctypes.Structure):
+    """A szg_tablebase. It is closed when it goes, and then the bytes of its tables' files are given back."""
+
+    _fields_ = [("held", c_void_p)]
+    lent: "Tuple[Lent, ...]" = ()
+
+
 class NamedBlock(ctypes.Structure):
     _fields_ = [("block", c_uint32), ("offset", c_uint64)]
-
-
-class CodedMan(ctypes.Structure):
-    _fields_ = [("kind", c_uint8), ("color", c_uint8), ("square", c_uint8)]
 
 
 class FoundSpot(ctypes.Structure):
     _fields_ = [("part", c_uint8), ("side", c_uint8), ("index", c_uint64)]
 
 
+class MissingTable(ctypes.Structure):
+    _fields_ = [("name", c_char * 8), ("dtz", c_bool), ("block", c_uint32), ("offset", c_uint64)]
+
+
+class Distance(ctypes.Structure):
+    _fields_ = [("wdl", c_int8), ("dtz", c_int64)]
+
+
+class FoundMove(ctypes.Structure):
+    _fields_ = [("start", c_uint8), ("end", c_uint8), ("promotion", c_uint8), ("wdl", c_int8), ("dtz", c_int64),
+                ("zeroing", c_bool), ("mate", c_bool), ("stalemate", c_bool)]
+
+
 def _signatures() -> "dict[str, list[Any]]":
-    handle, subtable = POINTER(Handle), [c_uint8, c_uint8]
+    handle, tablebase, subtable = POINTER(Handle), POINTER(TablebaseHandle), [c_uint8, c_uint8]
     file = [c_char_p, c_size_t, c_bool, c_void_p, c_size_t]
+    # men, as Position.men
+    placement = [c_char_p, c_size_t, c_uint8]
     text = [c_char_p, c_size_t]
     return {
         "szg_version": text,
@@ -54,14 +75,23 @@ def _signatures() -> "dict[str, list[Any]]":
         "szg_share_front": [handle, handle],
         "szg_front_size": [handle, *subtable, POINTER(c_uint64)],
         "szg_front_get": [handle, c_void_p, c_size_t, *subtable, c_uint64, POINTER(c_uint16), POINTER(NamedBlock)],
-        "szg_front_index": [handle, POINTER(CodedMan), c_size_t, c_uint8, POINTER(FoundSpot)],
-        "szg_front_placement": [
-            handle, *subtable, c_uint64, POINTER(CodedMan), c_size_t, POINTER(c_size_t), POINTER(c_uint8)],
-        "szg_front_probe": [
-            handle, c_void_p, c_size_t, POINTER(CodedMan), c_size_t, c_uint8, c_int8, POINTER(c_int64), POINTER(NamedBlock)],
+        "szg_front_index": [handle, *placement, POINTER(FoundSpot)],
+        "szg_front_placement": [handle, *subtable, c_uint64, c_char_p, c_size_t, POINTER(c_size_t), POINTER(c_uint8)],
+        "szg_front_probe": [handle, c_void_p, c_size_t, *placement, c_int8, POINTER(c_int64), POINTER(NamedBlock)],
         "szg_front_number": [handle, c_uint8, c_int8, c_uint16, POINTER(c_uint32)],
         "szg_close_front": [handle],
+        "szg_tablebase_add": [tablebase, *file, POINTER(Answer)],
+        "szg_share_tablebase": [tablebase, tablebase],
+        "szg_tablebase_wdl": [tablebase, *placement, c_uint8, POINTER(c_int8), POINTER(MissingTable)],
+        "szg_tablebase_dtz": [tablebase, *placement, c_uint8, c_uint32, POINTER(Distance), POINTER(MissingTable)],
+        "szg_tablebase_moves": [
+            tablebase, *placement, c_uint8, c_uint32, POINTER(FoundMove), c_size_t, POINTER(c_size_t), POINTER(MissingTable)],
+        "szg_close_tablebase": [tablebase],
     }
+
+
+# Short calls, which keep the interpreter's lock: meanwhile no other thread calls with the same handle, and none forks.
+LOCKED = ("szg_share_tablebase", "szg_tablebase_wdl", "szg_tablebase_dtz", "szg_tablebase_moves")
 
 
 def _load() -> ctypes.CDLL:
@@ -70,11 +100,13 @@ def _load() -> ctypes.CDLL:
     Errors: OSError if it cannot be loaded; ImportError if it lacks a call."""
     beside = Path(__file__).resolve().parent / "libszg.so"
     library = ctypes.CDLL(os.environ.get("SZG_LIBRARY") or (str(beside) if beside.exists() else f"libszg.so.{__version__.split('.')[0]}"))
+    locked = ctypes.PyDLL(library._name)
     for name, arguments in _signatures().items():
         try:
-            call = getattr(library, name)
+            call = getattr(locked if name in LOCKED else library, name)
         except AttributeError:
             raise ImportError(f"{library._name} has no {name}: szg {__version__} needs another library") from None
+        setattr(library, name, call)
         call.argtypes, call.restype = arguments, c_uint32
         if name.startswith("szg_close"):
             call.restype = None
@@ -92,6 +124,7 @@ def _finalizer(call: Callable[..., Any]) -> Any:
 
 library = _load()
 Handle.__del__ = _finalizer(library.szg_close_front)  # type: ignore[attr-defined]
+TablebaseHandle.__del__ = _finalizer(library.szg_close_tablebase)  # type: ignore[attr-defined]
 
 
 def _text(call: Callable[..., int], *words: int) -> str:
@@ -170,7 +203,7 @@ def judge(status: int) -> None:
 
 
 def _raise(status: int) -> NoReturn:
-    if MAN <= status <= OUTSIDE_MAP:
+    if MAN <= status <= OUTSIDE_MAP or status in (EN_PASSANT, IN_CHECK, CONTRADICTION):
         raise Untold(status_text(status))
     if status == RANGE:
         raise IndexError("the table has no such part, side or index")

@@ -3,8 +3,8 @@ import ctypes
 from ctypes import byref, c_int64, c_size_t, c_uint8, c_uint16, c_uint32, c_uint64
 from typing import Tuple
 
-from ._library import MAX_MEN, CodedMan, FoundSpot, Handles, Lent, library
-from ._placement import Men
+from ._library import MAX_MEN, FoundSpot, Handles, Lent, library
+from ._placement import Man, Position
 
 
 class Opened:
@@ -44,19 +44,20 @@ class Opened:
         self._front(library.szg_front_number, part, wdl, value, byref(number))
         return number.value
 
-    def index(self, men: Men) -> Tuple[int, int, int]:
-        coded, spot = men.coded(), FoundSpot()
-        self._front(library.szg_front_index, coded, len(coded), men.mover, byref(spot))
+    def index(self, position: Position) -> Tuple[int, int, int]:
+        spot = FoundSpot()
+        self._front(library.szg_front_index, position.men, len(position.men) // 3, position.mover, byref(spot))
         return spot.part, spot.side, spot.index
 
-    def placement(self, part: int, side: int, index: int) -> Men:
-        coded, count, mover = (CodedMan * MAX_MEN)(), c_size_t(), c_uint8()
-        self._front(library.szg_front_placement, part, side, index, coded, len(coded), byref(count), byref(mover))
-        return Men(tuple((man.kind, man.color == 0, man.square) for man in coded[:count.value]), mover.value == 0)
+    def placement(self, part: int, side: int, index: int) -> Tuple[Tuple[Man, ...], bool]:
+        men, count, mover = ctypes.create_string_buffer(3 * MAX_MEN), c_size_t(), c_uint8()
+        self._front(library.szg_front_placement, part, side, index, men, MAX_MEN, byref(count), byref(mover))
+        found = men.raw[:3 * count.value]
+        return tuple((kind, color == 0, square) for kind, color, square in zip(found[::3], found[1::3], found[2::3])), mover.value == 0
 
-    def probe(self, men: Men, wdl: int) -> int:
-        coded, outcome = men.coded(), c_int64()
-        self._front.fetch(library.szg_front_probe, coded, len(coded), men.mover, wdl, byref(outcome))
+    def probe(self, position: Position, wdl: int) -> int:
+        outcome = c_int64()
+        self._front.fetch(library.szg_front_probe, position.men, len(position.men) // 3, position.mover, wdl, byref(outcome))
         return outcome.value
 
     def close(self) -> None:

@@ -7,7 +7,7 @@ from typing import Any, Callable, NamedTuple, Optional, Tuple, Type, Union
 from ._library import Lent
 from ._mapped import mapped
 from ._opened import Opened
-from ._placement import Man, Men, Placement, integer, men_of
+from ._placement import Man, Placement, Position, integer, position_of
 
 KINDS = {".rtbw": "wdl", ".rtbz": "dtz"}
 
@@ -117,7 +117,7 @@ class Table:
 
     def index(self, board: Placement, turn: Optional[bool] = None) -> Spot:
         """Where the table stores a placement. Errors: Untold if it has no index; TypeError; ValueError for a bad FEN."""
-        return Spot(*self._opened.index(men_of(board, turn)))
+        return Spot(*self._opened.index(position_of(board, turn)))
 
     def placement(self, part: int, side: int, index: int) -> Tuple[Tuple[Man, ...], bool]:
         """The placement of an index: the men as tuples (kind, colour, square), and who moves (True if White).
@@ -128,19 +128,17 @@ class Table:
 
         Errors: IndexError if the table has no such part, side or index; Untold if the part's side has no placements:
         `Irregular`, or `WrongSide` for a DTZ table with pawns that stores Black if both sides have the same men."""
-        men, turn = self._opened.placement(_byte(part, "part"), _byte(side, "side"), _index(index))
-        return men, turn
+        return self._opened.placement(_byte(part, "part"), _byte(side, "side"), _index(index))
 
     def probe_wdl(self, board: Placement, turn: Optional[bool] = None) -> int:
         """The stored class of a placement, which isn't the position's if a capture decides: then it may be lower.
 
         It is that of the side to move: 2 win, 1 cursed win, 0 draw, -1 blessed loss, -2 loss. En passant isn't known to the
-        table. python-chess's `probe_wdl_table` returns the same; its `probe_wdl` returns the position's class, also on top
-        of this package: see `Tablebase.probe_wdl_table`.
+        table. python-chess's `probe_wdl_table` returns the same. The position's class: `Tablebase.probe_wdl`.
 
         Errors: Untold if the table has no class for it; BadBlock; ValueError for a DTZ table or a bad FEN; TypeError."""
         self._require("wdl")
-        return self._probe(men_of(board, turn), 0)
+        return self._probe(position_of(board, turn), 0)
 
     def probe_dtz(self, board: Placement, turn: Optional[bool] = None, *, wdl: int) -> int:
         """The stored number n of a placement, which isn't the position's distance if a capture or pawn move decides.
@@ -148,17 +146,16 @@ class Table:
         It counts the plies before the zeroing one (a capture, a pawn move or mate), without sign; in the classes 1 and -1
         from the 101st on. En passant and the fifty-move counter aren't known to the table. `wdl` is the class of the side
         to move: 2 win, 1 cursed win, -1 blessed loss, -2 loss. n is the first number of python-chess's `probe_dtz_table`.
-        python-chess's `probe_dtz` is another number: if no capture, pawn move or en passant decides, it is n + 1 for a
-        win, n + 101 for a cursed win, -(n + 101) for a blessed loss and -(n + 1) for a loss. What a table counts in moves is
-        doubled, and the distance may be one ply more.
+        The position's distance: `Tablebase.probe_dtz`. What a table counts in moves is doubled, and the distance may be one
+        ply more.
 
         Errors: Untold `WrongSide` if the table stores the other side to move only, `Draw` for the class 0, or another
         reason; BadBlock; ValueError for a WDL table, another class or a bad FEN; TypeError."""
         self._require("dtz")
-        return self._probe(men_of(board, turn), _class(wdl))
+        return self._probe(position_of(board, turn), _class(wdl))
 
-    def _probe(self, men: Men, wdl: int) -> int:
-        return self._opened.probe(men, wdl)
+    def _probe(self, position: Position, wdl: int) -> int:
+        return self._opened.probe(position, wdl)
 
     def verify(self) -> int:
         """Checks all bytes of the table, as they are now; returns its number of bytes.

@@ -1,0 +1,140 @@
+"""The server of results: python -m szg.server."""
+import json
+import os
+import re
+import subprocess
+import sys
+import urllib.error
+import urllib.request
+from html.parser import HTMLParser
+from pathlib import Path
+from typing import Iterator, Tuple
+from urllib.parse import quote
+
+import pytest
+import stand_in
+import szg
+from conftest import ROOT
+from szg import server
+
+PROMOTES = "8/1k2P3/8/8/8/8/8/K7 w - - 0 1"
+
+
+@pytest.fixture(scope="module")
+def address() -> Iterator[str]:
+    env = {**os.environ, "PYTHONPATH": str(Path(szg.__file__).parents[1])}
+    words = [sys.executable, "-m", "szg.server", "--port", "0", str(ROOT / "samples")]
+    with subprocess.Popen(words, env=env, stdout=subprocess.PIPE, stderr=subprocess.DEVNULL, text=True) as running:
+        try:
+            yield running.stdout.readline().strip()
+        finally:
+            running.kill()
+
+
+def got(address: str, path: str) -> Tuple[int, str, str]:
+    """The status, the type and the text of an answer."""
+    try:
+        with urllib.request.urlopen(address + path, timeout=20) as answer:
+            return answer.status, answer.headers["Content-Type"], answer.read().decode()
+    except urllib.error.HTTPError as error:
+        return error.code, error.headers["Content-Type"], error.read().decode()
+
+
+def test_an_answer_has_the_fields_of_lichess(address: str) -> None:
+    for path in (f"standard?fen={PROMOTES.replace(' ', '_')}", f"standard?fen={quote(PROMOTES)}"):
+        status, kind, text = got(address, path)
+        assert (status, kind) == (200, "application/json")
+        found = json.loads(text)
+        moves = found.pop("moves")
+        assert found == {"category": "win", "dtz": 1, "checkmate": False, "stalemate": False, "variant_win": False, "variant_loss": False,
+                         "insufficient_material": False}
+        # of the position after it, for the player who moves then: Black has lost
+        assert moves[0] == {**found, "uci": "e7e8q", "san": "e8=Q", "zeroing": True, "category": "loss", "dtz": moves[0]["dtz"]}
+        assert moves[0]["dtz"] < 0 and {move["san"] for move in moves} >= {"e8=Q", "e8=R", "e8=N", "e8=B", "Ka2"}
+        draw = next(move for move in moves if move["san"] == "e8=N")
+        assert (draw["category"], draw["dtz"], draw["insufficient_material"]) == ("draw", 0, True)
+
+
+@pytest.mark.parametrize("fen, wanted", [
+    ("7k/6Q1/5K2/8/8/8/8/8 b - - 0 1", ("loss", -1, True, False)), ("7k/8/5KQ1/8/8/8/8/8 b - - 0 1", ("draw", 0, False, True)),
+    ("2k5/8/1K6/8/8/8/8/R7 w - - 98 80", ("cursed-win", 3, False, False)), ("1k6/8/1K6/8/8/8/8/R7 b - - 99 80", ("blessed-loss", -4, False, False)),
+])
+def test_ends_and_the_counter(address: str, fen: str, wanted: tuple) -> None:
+    found = json.loads(got(address, "standard?fen=" + quote(fen))[2])
+    assert (found["category"], found["dtz"], found["checkmate"], found["stalemate"]) == wanted
+    assert bool(found["moves"]) == (not wanted[2] and not wanted[3])
+
+
+def test_moves_are_written_as_in_games() -> None:
+    """Against the rules that checks/chess_rules.py has, in positions with captures, promotions and en passant too."""
+    fens = [PROMOTES, "8/8/8/8/8/1Q6/2k5/K7 b - -", "7k/8/5K2/8/8/8/8/6Q1 w - -", "4k3/8/8/8/1pP5/8/8/4K3 b - c3", "3rk3/4P3/8/8/8/8/8/K7 w - -",
+            "1k6/8/8/R7/8/R7/8/4K2R w - -", "k7/8/8/3N1N2/8/8/8/K4N2 w - -", "7k/4P3/8/8/8/8/8/K7 w - - 5 9", "4k3/8/8/8/8/8/2P5/4K3 w - -"]
+    with szg.open_tablebase(ROOT / "samples") as tables:
+        for fen in fens:
+            board, position = stand_in.Board(fen), server.position_of(fen)
+            legal = board.now.legal_moves()
+            moves = [szg.RankedMove(board.uci(move), 0, 0, False, False, False) for move in legal]
+            for move, one in zip(legal, moves):
+                then, after = server.after(position, one.uci), board.now.made(move)
+                mate = one._replace(mate=after.is_check() and not after.legal_moves())
+                assert server.san(position, mate, moves, server.is_check(tables, then)) == board.now.san(move, legal)
+                text = server.fen_of(then)
+                assert stand_in.Board(text).now.men == after.men and text.split()[1] == after.mover
+                passed = "-" if after.passed is None else "abcdefgh"[after.passed[0]] + str(after.passed[1] + 1)
+                zeroing = board.is_zeroing(move)
+                assert text.split()[2:] == ["-", passed, "0" if zeroing else str(position.counter + 1), "1"]
+
+
+class Page(HTMLParser):
+    """The squares of a page's board, and its links."""
+
+    def __init__(self, text: str) -> None:
+        super().__init__()
+        self.links, self.open, self.text = [], [], ""
+        self.feed(text)
+
+    def handle_starttag(self, tag: str, words: list) -> None:
+        if tag == "a":
+            self.links.append(dict(words)["href"])
+
+    def handle_data(self, data: str) -> None:
+        self.text += data
+
+
+def test_the_page_has_the_board_and_moves_that_lead_on(address: str) -> None:
+    status, kind, text = got(address, "")
+    assert (status, kind) == (200, "text/html; charset=utf-8") and "White to move: win, DTZ 3" in text
+    board = re.search(r'<table class="board">(.*?)</table>', text, re.S)[1]
+    rows = [re.findall("<td>(.*?)</td>", row) for row in board.split("</tr>")[:-1]]
+    assert [len(row) for row in rows] == [8] * 8
+    # 4k3/8/4K3/4P3: a white king, a white pawn, a black king
+    assert (rows[0][4], rows[2][4], rows[3][4]) == ("&#9818;", "&#9812;", "&#9817;") and sum(map(bool, sum(rows, []))) == 3
+    page = Page(text)
+    assert len(page.links) == 4 and "Kd6" in page.text
+    status, _, text = got(address, page.links[0].lstrip("/"))
+    assert status == 200 and "Black to move: loss" in text
+    # what follows the counter is nobody's
+    assert "&quot;&gt;&lt;b&gt;" in got(address, "?fen=" + quote(PROMOTES + '"><b>'))[2]
+
+
+@pytest.mark.parametrize("path, status, said", [
+    ("standard", 400, "eight ranks"), ("standard?fen=4k3", 400, "eight ranks"), ("?fen=%3Cb%3E", 400, "is no FEN"),
+    ("standard?fen=7k/6Q1/5K2/8/8/8/8/8_w", 400, "InCheck"), ("standard?fen=7k/6Q1/5K2/8/8/8/8/8", 400, "turn"),
+    ("standard?fen=4K2R/8/8/8/8/8/8/7k_w_K_-_0_1", 404, "castling"), ("standard?fen=k7/8/8/8/8/8/8/KBN5_w", 404, "no WDL table of KBNvK was added"),
+    ("elsewhere", 404, "no such page"),
+])
+def test_what_is_refused(address: str, path: str, status: int, said: str) -> None:
+    found, kind, text = got(address, path)
+    assert (found, kind) == (status, "text/plain") and said in text
+
+
+def test_a_damaged_table_is_the_servers_fault(tmp_path: Path) -> None:
+    (tmp_path / "KQvK.rtbw").write_bytes(b"")
+    with szg.open_tablebase(tmp_path) as tables, server.server(tables, port=0) as running:
+        import threading
+        thread = threading.Thread(target=running.serve_forever)
+        thread.start()
+        status, _, text = got(f"http://127.0.0.1:{running.server_port}/", "standard?fen=" + quote("7k/8/5K2/8/8/8/8/6Q1 w - - 0 1"))
+        running.shutdown()
+        thread.join()
+    assert status == 500 and text.startswith(str(tmp_path / "KQvK.rtbw"))
