@@ -355,3 +355,10 @@ def test_no_call_loses_want_of_memory(call: str, monkeypatch: pytest.MonkeyPatch
     use()
     monkeypatch.setattr(_library.library, call, lambda *_: 3)
     pytest.raises(MemoryError, use)
+
+
+def test_a_library_that_adds_nothing_is_not_asked_for_ever(monkeypatch: pytest.MonkeyPatch) -> None:
+    monkeypatch.setattr(_library.library, "szg_tablebase_add", lambda *_: 0)
+    monkeypatch.setattr(_library.library, "szg_share_tablebase", lambda *_: 0)
+    with szg.open_tablebase(FOLDERS[0]) as tables:
+        pytest.raises(RuntimeError, tables.probe_wdl, MATE_FEN)

@@ -85,6 +85,15 @@ def test_moves_are_written_as_in_games() -> None:
                 assert text.split()[2:] == ["-", passed, "0" if zeroing else str(position.counter + 1), "1"]
 
 
+@pytest.mark.parametrize("men, wanted", [
+    ("k7/8/8/8/8/8/8/K7", True), ("k7/8/8/8/8/8/8/KN6", True), ("k7/8/8/8/8/8/8/KB6", True), ("k7/8/8/8/8/8/b7/KB6", True),
+    ("kb6/8/8/8/8/8/8/KB6", False), ("k7/8/8/8/8/8/8/KNN5", False), ("kn6/8/8/8/8/8/8/KN6", False), ("kn6/8/8/8/8/8/8/KB6", False),
+    ("k7/8/8/8/8/8/P7/K7", False), ("k7/8/8/8/8/8/R7/K7", False), ("k7/8/8/8/8/8/B1B5/K7", True),
+])
+def test_what_is_insufficient(men: str, wanted: bool) -> None:
+    assert server.is_insufficient(server.men_of(server.position_of(men, True))) == wanted
+
+
 class Page(HTMLParser):
     """The squares of a page's board, and its links."""
 

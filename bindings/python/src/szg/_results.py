@@ -105,6 +105,8 @@ class Results:
         path = self._paths.get(key)
         if path is None:
             raise MissingTableError(f"no {key[1].upper()} table of {key[0]} was added")
+        if any(lent.path == path for lent in handle.lent):
+            raise RuntimeError(f"the library lacks {path}, which was added")
         more, lent = TablebaseHandle(), mapped(path)
         if handle.lent:
             judge(library.szg_share_tablebase(handle, more))
