@@ -29,6 +29,7 @@ struct opened {
     unsigned long count;      /* the number of tables that were added */
     szg_tablebase tablebase;  /* all of them */
     struct mapping *mappings;
+    char *path;               /* room for that of a file */
     char paths[];             /* those of the folders, separated by ':' */
 };
 
@@ -39,29 +40,19 @@ struct szg_folders {
 };
 
 /* Opens the file of a table in the first folder that has it. -1 with errno ENOENT if none has. */
-static int open_file(const struct opened *opened, const szg_missing *missing)
+static int open_file(struct opened *opened, const szg_missing *missing)
 {
-    size_t longest = strlen(opened->paths) + sizeof "/" + sizeof missing->name + sizeof ".rtbw";
-    char *path = malloc(longest);
-    int file = -1;
-    if (path == NULL)
-        return -1;
-    errno = ENOENT;
-    for (const char *folder = opened->paths; file < 0 && errno == ENOENT; folder++) {
+    for (const char *folder = opened->paths;; folder++) {
         size_t length = strcspn(folder, ":");
-        memcpy(path, folder, length);
-        path[length] = '/';
-        strcpy(path + length + 1, missing->name);
-        strcat(path, missing->dtz ? ".rtbz" : ".rtbw");
-        file = open(path, O_RDONLY | O_CLOEXEC);
+        memcpy(opened->path, folder, length);
+        opened->path[length] = '/';
+        strcpy(opened->path + length + 1, missing->name);
+        strcat(opened->path, missing->dtz ? ".rtbz" : ".rtbw");
+        int file = open(opened->path, O_RDONLY | O_CLOEXEC);
         folder += length;
-        if (*folder == '\0')
-            break;
+        if (file >= 0 || errno != ENOENT || *folder == '\0')
+            return file;
     }
-    int why = errno;
-    free(path);
-    errno = why;
-    return file;
 }
 
 /* Maps a file, and closes it. False with errno if the system refuses. */
@@ -124,8 +115,7 @@ static uint32_t fetch(szg_folders *folders, szg_missing *missing)
     pthread_mutex_lock(&opened->lock);
     uint32_t status = folders->count < opened->count ? SZG_DONE : add_table(opened, missing);
     if (status == SZG_DONE) {
-        /* the handle has no table until this is done */
-        folders->count = 0;
+        /* if this is refused, the handle has no tables, but still a count below that of all */
         status = szg_share_tablebase(&opened->tablebase, &folders->tablebase);
         if (status == SZG_DONE)
             folders->count = opened->count;
@@ -144,14 +134,15 @@ static szg_folders *new_handle(struct opened *opened)
 
 uint32_t szg_open_folders(const char *paths, szg_folders **folders)
 {
-    size_t length = strlen(paths) + 1;
-    struct opened *opened = calloc(1, sizeof *opened + length);
+    size_t length = strlen(paths) + 1, longest = length + sizeof "/" + sizeof ((szg_missing *)0)->name + sizeof ".rtbw";
+    struct opened *opened = calloc(1, sizeof *opened + length + longest);
     szg_folders *handle = opened == NULL ? NULL : new_handle(opened);
     if (handle == NULL || pthread_mutex_init(&opened->lock, NULL) != 0) {
         free(handle);
         free(opened);
         return SZG_MEMORY;
     }
+    opened->path = opened->paths + length;
     memcpy(opened->paths, paths, length);
     opened->handles = 1;
     *folders = handle;
@@ -215,4 +206,27 @@ void szg_close_folders(szg_folders *folders)
     }
     pthread_mutex_destroy(&opened->lock);
     free(opened);
+}
+
+uint32_t szg_board_men(const szg_board *board, szg_man *men, size_t *count)
+{
+    const uint64_t kinds[] = {board->pawns, board->knights, board->bishops, board->rooks, board->queens, board->kings};
+    uint64_t of_colors = board->white | board->black, of_kinds = 0, again = board->white & board->black;
+    for (size_t i = 0; i < 6; i++) {
+        again |= of_kinds & kinds[i];
+        of_kinds |= kinds[i];
+    }
+    if (of_colors != of_kinds)
+        return SZG_MAN;
+    if (again != 0)
+        return SZG_SAME_SQUARE;
+    if (__builtin_popcountll(of_kinds) > SZG_MAX_MEN)
+        return SZG_MEN;
+    *count = 0;
+    for (size_t i = 0; i < 6; i++)
+        for (uint64_t left = kinds[i]; left != 0; left &= left - 1) {
+            uint8_t square = (uint8_t)__builtin_ctzll(left);
+            men[(*count)++] = (szg_man){(uint8_t)(SZG_PAWN + i), (board->black >> square & 1) != 0, square};
+        }
+    return SZG_DONE;
 }

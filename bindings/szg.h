@@ -194,6 +194,23 @@ uint32_t szg_index(szg_table *table, const szg_man *men, size_t count, uint8_t m
 /* The most men that a placement has. */
 #define SZG_MAX_MEN 6
 
+/* The squares of men, as engines have them: those of each side and of each kind. Bit 0 is a1, bit 1 is b1, .. bit 63 is h8. */
+typedef struct szg_board {
+    uint64_t white;
+    uint64_t black;
+    uint64_t kings;
+    uint64_t queens;
+    uint64_t rooks;
+    uint64_t bishops;
+    uint64_t knights;
+    uint64_t pawns;
+} szg_board;
+
+/* The men of a board, for the other calls. `men` is a list of SZG_MAX_MEN items, and *count their number. SZG_MAN: a square has a
+ * color without a kind, or a kind without a color. SZG_SAME_SQUARE: it has two. SZG_MEN: there are more than SZG_MAX_MEN men. Then the
+ * list and *count stay. */
+uint32_t szg_board_men(const szg_board *board, szg_man *men, size_t *count);
+
 /* The placement of an index of a part's side: the inverse of szg_index. Writes the men to the beginning of `men`, a list of
  * `capacity` items, their number to *count, and the side to move (enum szg_color) to *mover. The name's first side is
  * White; the side to move is the subtable's, in a DTZ table the stored one, and White if both sides have the same men. A

@@ -247,6 +247,32 @@ static void folders(const char *samples) {
     szg_close_folders(tables);
 }
 
+static void board_is(const szg_board *board, uint32_t due) {
+    szg_man men[SZG_MAX_MEN] = {{9, 9, 9}};
+    size_t count = 99;
+    want("board", szg_board_men(board, men, &count), due);
+    want("count", (int64_t)count, due == SZG_DONE ? 6 : 99);
+    if (due != SZG_DONE) want("men", men->square, 9);
+}
+
+static void boards(void) {
+    szg_board board = {.pawns = 1 << 8, .knights = 1 << 1, .bishops = 1 << 2, .rooks = 1 << 3, .queens = 1ull << 63, .kings = 1 << 5, .white = 0x12e, .black = 1ull << 63};
+    szg_man men[SZG_MAX_MEN];
+    size_t count = 0;
+    board_is(&board, SZG_DONE);
+    szg_board_men(&board, men, &count);
+    for (size_t i = 0; i < count; i++) {
+        static const uint8_t squares[] = {0, 8, 1, 2, 3, 63, 5};
+        want("square", men[i].square, squares[men[i].kind]);
+        want("color", men[i].color, men[i].kind == SZG_QUEEN ? SZG_BLACK : SZG_WHITE);
+    }
+    board.white ^= 2, board_is(&board, SZG_MAN);
+    board.white ^= 2, board.rooks ^= 16, board_is(&board, SZG_MAN);
+    board.white ^= 16, board_is(&board, SZG_MEN);
+    board.white ^= 16, board.rooks ^= 16 | 2, board_is(&board, SZG_SAME_SQUARE);
+    board.rooks ^= 2, board.black ^= 8, board_is(&board, SZG_SAME_SQUARE);
+}
+
 int main(int count, char **words) {
     if (count != 4) return fprintf(stderr, "enumerators DATA DAMAGED SAMPLES\n"), 2;
     all_texts();
@@ -257,6 +283,7 @@ int main(int count, char **words) {
     other_statuses(words[1]);
     tablebases(words[1]);
     folders(words[3]);
+    boards();
     szg_close(&table);
     return ended();
 }

@@ -1,8 +1,10 @@
 /* Four threads probe random positions of three men by the tables of a folder, each with a handle of its own, and all open the
- * files: folders FOLDER. They must find the same; a class must be that of its distance, and the first move must give it. A folder
- * that is missing, one that is a file, and no table are refused. The status is 0 if all is so. */
+ * files: folders FOLDER [POSITIONS]. They must find the same; a class must be that of its distance, the first move must give it, and
+ * Fathom's interface must return it. A folder that is missing, one that is a file, and no table are refused. The status is 0 if all
+ * is so. */
 #define _GNU_SOURCE
 #include "szg.h"
+#include "tbprobe.h"
 #include <errno.h>
 #include <inttypes.h>
 #include <pthread.h>
@@ -11,13 +13,21 @@
 #include <string.h>
 #include <unistd.h>
 
-enum { POSITIONS = 20000, THREADS = 4 };
+enum { THREADS = 4 };
+static int positions = 20000;
 static szg_folders *folders;
 static uint64_t found[THREADS];
 static int failed;
 
 static void want(const char *what, int64_t got, int64_t wanted) {
     if (got != wanted) printf("folders: %s: %" PRId64 ", not %" PRId64 "\n", what, got, wanted), failed = 1;
+}
+
+/* The class by Fathom's interface. */
+static int class_by_fathom(const szg_man *men, uint8_t mover) {
+    uint64_t colors[2] = {0}, kinds[7] = {0};
+    for (int i = 0; i < 3; i++) colors[men[i].color] |= 1ull << men[i].square, kinds[men[i].kind] |= 1ull << men[i].square;
+    return (int)tb_probe_wdl(colors[0], colors[1], kinds[SZG_KING], kinds[SZG_QUEEN], kinds[SZG_ROOK], kinds[SZG_BISHOP], kinds[SZG_KNIGHT], kinds[SZG_PAWN], 0, 0, 0, mover == SZG_WHITE) - 2;
 }
 
 static const char *probe(szg_folders *mine, unsigned *seed, uint64_t *sum) {
@@ -32,6 +42,7 @@ static const char *probe(szg_folders *mine, unsigned *seed, uint64_t *sum) {
     uint32_t status = szg_folders_wdl(mine, men, 3, mover, SZG_NO_SQUARE, &class, &missing);
     if (status == SZG_IN_CHECK || status == SZG_SAME_SQUARE || status == SZG_PAWN_RANK) return NULL;
     if (status != SZG_DONE) return "class";
+    if (class_by_fathom(men, mover) != class) return "class by Fathom's interface";
     if (szg_folders_dtz(mine, men, 3, mover, SZG_NO_SQUARE, 0, &distance, &missing) != SZG_DONE) return "distance";
     if (distance.class_of_position != class) return "class of the distance";
     if (szg_folders_moves(mine, men, 3, mover, SZG_NO_SQUARE, 0, moves, SZG_MAX_MOVES, &count, &missing) != SZG_DONE) return "moves";
@@ -44,7 +55,7 @@ static void *run(void *number) {
     unsigned seed = 7;
     szg_folders *mine;
     const char *why = szg_share_folders(folders, &mine) == SZG_DONE ? NULL : "share";
-    for (int i = 0; i < POSITIONS && why == NULL; i++) why = probe(mine, &seed, (uint64_t *)number);
+    for (int i = 0; i < positions && why == NULL; i++) why = probe(mine, &seed, (uint64_t *)number);
     szg_close_folders(mine);
     return (void *)(uintptr_t)why;
 }
@@ -67,9 +78,11 @@ static void refused(const char *paths, uint32_t due, int due_errno) {
 int main(int count, char **words) {
     pthread_t threads[THREADS];
     char paths[4096];
-    if (count != 2) return fprintf(stderr, "folders FOLDER\n"), 2;
+    if (count != 2 && count != 3) return fprintf(stderr, "folders FOLDER [POSITIONS]\n"), 2;
+    if (count == 3) positions = atoi(words[2]);
     snprintf(paths, sizeof paths, "/nowhere:%s", words[1]);
     want("open", szg_open_folders(paths, &folders), SZG_DONE);
+    want("by Fathom's interface", tb_init(paths) && TB_LARGEST == 3, true);
     for (int i = 0; i < THREADS; i++) pthread_create(&threads[i], NULL, run, &found[i]);
     for (int i = 0; i < THREADS; i++) {
         void *why;
@@ -78,6 +91,7 @@ int main(int count, char **words) {
         want("the same", found[i] == found[0], 1);
     }
     szg_close_folders(folders);
+    tb_free();
     refused("/nowhere", SZG_MISSING, ENOENT);
     snprintf(paths, sizeof paths, "%s/KQvK.rtbw", words[1]);
     refused(paths, SZG_MISSING, ENOTDIR);
