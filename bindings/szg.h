@@ -158,8 +158,8 @@ uint32_t szg_get(szg_table *table, uint8_t part, uint8_t side, uint64_t index, u
 /* The number of positions of a part's side. With another status than SZG_DONE *size stays. */
 uint32_t szg_positions(szg_table *table, uint8_t part, uint8_t side, uint64_t *size);
 
-/* All stored values of a part's side (see szg_get). `count` is its number of positions. With another status than SZG_DONE the
- * list stays. */
+/* All stored values of a part's side (see szg_get), written straight to the list: no memory is taken. `count` is its number of
+ * positions. With another status than SZG_DONE the list stays. */
 uint32_t szg_all(szg_table *table, uint8_t part, uint8_t side, uint16_t *values, size_t count);
 
 /* The number of plies of a stored DTZ value in a class (2 win, 1 cursed win, -1 blessed loss, -2 loss): see szg_probe for what

@@ -91,11 +91,10 @@ static uint32_t open(void) { return szg_open(OF_FILE, &second, &lent.answer); }
 static uint32_t open_front(void) { return szg_open_front(OF_FILE, &second_front, &lent.answer); }
 static uint32_t share(void) { return szg_share(&table, &second); }
 static uint32_t share_front(void) { return szg_share_front(&front, &second_front); }
-static uint32_t list_held(void) { return szg_all(&table, 0, 0, lent.values, size); }
 
 static const struct { const char *name; uint32_t (*call)(void); } growing[] = {
     {"check", check}, {"size", find_size}, {"values", list}, {"values_at", list_some}, {"open", open}, {"open_front", open_front},
-    {"share", share}, {"share_front", share_front}, {"all", list_held},
+    {"share", share}, {"share_front", share_front},
 };
 
 /* Makes a call with each of its growths refused, until none is. Returns how many there are. */
@@ -119,10 +118,11 @@ static long refuse_in_turn(const char *what, uint32_t (*call)(void)) {
     return 0;
 }
 
-/* Look-ups and texts take no memory. */
+/* Look-ups, lists of a table in memory and texts take no memory. */
 static void take_none(void) {
     long before = allowed = 1 << 20;
     look_up_by_each_call(&table, &front, 7);
+    want("all", szg_all(&table, 0, 0, lent.values, size), SZG_DONE);
     want("growths of look-ups", before - allowed, 0);
     allowed = -1;
 }

@@ -73,6 +73,21 @@ def test_values_are_a_buffer_of_their_own() -> None:
     assert listed.tolist() == values.tolist()
 
 
+def test_all_values_take_one_list() -> None:
+    """35 MB of values, where a second list of them has no room."""
+    data = bytes.fromhex("71e8235d01" + "00" + "665555 55ee 00" + "8002 8002")
+    limits = resource.getrlimit(resource.RLIMIT_AS)
+    with szg.Table("KQQQvK", "wdl", data.ljust(64, b"\0") + bytes(16)) as table:
+        size = 2 * table.size()
+        taken = int(Path("/proc/self/statm").read_text().split()[0]) * resource.getpagesize()
+        resource.setrlimit(resource.RLIMIT_AS, (taken + size * 3 // 2, limits[1]))
+        try:
+            values = table.values()
+        finally:
+            resource.setrlimit(resource.RLIMIT_AS, limits)
+    assert values.nbytes == size > 30 << 20 and set(values[::997]) == {2}
+
+
 def test_any_bytes_like_object_is_taken(tmp_path) -> None:
     path = tmp_path / "file"
     path.write_bytes(PAIRED.data)

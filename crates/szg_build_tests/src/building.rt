@@ -3,7 +3,7 @@
 use crate::files::{check_written, made};
 use std::alloc::{AllocError, Global};
 use std::process::Abort;
-use szg_build::{BuildFault, Plan, build};
+use szg_build::{BuildFault, Choice, Packing, Plan, Watcher, build, build_as};
 use szg_file::{Map, PartBytes, file_len, write};
 use szg_fixtures::Fixture;
 use szg_io::Std;
@@ -156,6 +156,71 @@ fn outcomes_with_pairs(rt: HostRuntime) {
         let lists = [(&[2, 4][..], 15666), (&[2][..], 31332)];
         check_outcomes(&rt, &file, QUEEN, (5, 10, rounds), &lists);
     }
+}
+
+/// The last call of each kind, and whether each call came in its turn.
+#[derive(Drop)]
+struct Seen {
+    subtable: (usize, usize, usize),
+    round: (u32, u32),
+    attempts: u32,
+    ends: u32,
+    is_in_order: bool,
+}
+
+impl Seen {
+    /// Notes a call, none of which may follow the end.
+    fn note(&mut self, is_next: bool) {
+        self.is_in_order = self.is_in_order && is_next && self.ends == 0;
+    }
+}
+
+impl Watcher for Seen {
+    fn subtable(&mut self, number: usize, count: usize, values: usize) {
+        self.note(number == self.subtable.0.wrapping_add(1));
+        self.subtable = (number, count, values);
+    }
+
+    fn round(&mut self, done: u32, rounds: u32) {
+        let is_next = done == self.round.0 || done == self.round.0.wrapping_add(1);
+        self.note(is_next && self.subtable.0 == 1);
+        self.round = (done, rounds);
+    }
+
+    fn attempt(&mut self, _done: u64, _bytes: Option<u64>) {
+        self.attempts = self.attempts.wrapping_add(1);
+    }
+
+    fn end(&mut self) {
+        self.note(true);
+        self.ends = self.ends.wrapping_add(1);
+    }
+}
+
+/// As in `outcomes_with_pairs`, eight of 200 rounds are made, all in the first of two subtables.
+#[test]
+fn a_watcher_sees_a_build(rt: HostRuntime) {
+    let material = made(&rt, Material::parse("KQvK"));
+    let plan = made(&rt, outcomes(rt.alloc(), material, &QUEEN, (5, 10), 200));
+    let packing = Packing {
+        block_bits: plan.block_bits,
+        span_bits: plan.span_bits,
+        rounds: plan.rounds,
+    };
+    let lists = [(&[2, 4][..], 15666), (&[2][..], 31332)];
+    let values = made(&rt, values(rt.alloc(), &lists));
+    let lists = made(&rt, lists_of(rt.alloc(), &values, THREE_MEN));
+    let mut seen = Seen {
+        subtable: (0, 0, 0),
+        round: (0, 0),
+        attempts: 0,
+        ends: 0,
+        is_in_order: true,
+    };
+    let choice = Choice::Fixed(packing);
+    assert!(rt; build_as(rt.alloc(), &plan, choice, &lists, &mut seen).is_ok());
+    assert!(rt; seen.is_in_order && seen.subtable == (2, 2, THREE_MEN));
+    assert!(rt; seen.round == (8, 200) && seen.attempts == 0 && seen.ends == 1);
 }
 
 /// Eight lists, each with a single value.

@@ -9,7 +9,6 @@ pub mod HeldValues
 pub mod FrontBlocks
 pub mod SoundMen
 pub mod TooManyMen
-pub mod Sizes
 pub mod Values
 pub mod TableProbes
 mod Printing

@@ -14,7 +14,6 @@ use crate::shared::Shared;
 use crate::status::{CLOSED, DONE, MEMORY, RANGE};
 use std::alloc::Global;
 use szg_file::Table;
-use szg_file::typed::table_fits;
 
 /// Opens the table of this name and kind that the bytes begin with. The handle's previous table is closed.
 #[unsafe(no_mangle)]
@@ -153,32 +152,27 @@ pub extern "C" fn szg_positions(
 }
 
 /// Decodes all values of a part's side, if the length of `values` is their number.
-pub fn values_in(alloc: Global, table: &Table, part: u8, side: u8, values: &mut [u16]) -> u32
+pub fn values_in(table: &Table, part: u8, side: u8, values: &mut [u16]) -> u32
     ensures done { (result ≡ 0) → IsSomeAnd (subtable_at table.now.contents part side) (λ found. values.new ≡ values_of table.now.contents.kind found) }
-    ensures there { IfSome (subtable_at table.now.contents part side) (λ found. length values.old ≡ found.0.size → (result ≡ 0) ⊎ (result ≡ 3)) }
+    ensures there { IfSome (subtable_at table.now.contents part side) (λ found. length values.old ≡ found.0.size → result ≡ 0) }
     ensures missing { IsNone (subtable_at table.now.contents part side) → result ≡ 4 }
     ensures other_length { IfSome (subtable_at table.now.contents part side) (λ found. length values.old ≢ found.0.size → result ≡ 4) }
     ensures stays { (result ≡ 0 → ⊥) → values.new ≡ values.old }
 {
-    // for proofs alone: in an accepted table the number of values is the number of positions
-    table_fits(table);
     let Some(size) = table.size(part, side) else {
         return RANGE;
     };
     if values.len() as u64 != size {
         return RANGE;
     }
-    let Ok(list) = table.values(alloc, part, side) else {
-        return MEMORY;
-    };
-    values.copy_from_slice(&list);
+    table.write_values(part, side, values);
     DONE
 }
 
 /// Decodes all values of a part's side into a list of that length.
 ///
 /// `CLOSED` if the handle has no table, `RANGE` if the table has no such part or side or the list has another
-/// length, `MEMORY` if an allocation was refused. Then `values` is unchanged.
+/// length. Then `values` is unchanged.
 #[unsafe(no_mangle)]
 pub extern "C" fn szg_all(
     alloc: Global,
@@ -190,7 +184,7 @@ pub extern "C" fn szg_all(
     ensures kept { table.new.value ≡ table.old.value }
     ensures closed { table.old.value ≡ None → result ≡ 5 }
     ensures done { IfSome table.old.value (λ t. (result ≡ 0) → IsSomeAnd (subtable_at t.contents part side) (λ found. values.new ≡ values_of t.contents.kind found)) }
-    ensures there { IfSome table.old.value (λ t. IfSome (subtable_at t.contents part side) (λ found. length values.old ≡ found.0.size → (result ≡ 0) ⊎ (result ≡ 3))) }
+    ensures there { IfSome table.old.value (λ t. IfSome (subtable_at t.contents part side) (λ found. length values.old ≡ found.0.size → result ≡ 0)) }
     ensures missing { IfSome table.old.value (λ t. IsNone (subtable_at t.contents part side) → result ≡ 4) }
     ensures other_length { IfSome table.old.value (λ t. IfSome (subtable_at t.contents part side) (λ found. length values.old ≢ found.0.size → result ≡ 4)) }
     ensures stays { (result ≡ 0 → ⊥) → values.new ≡ values.old }
@@ -198,7 +192,7 @@ pub extern "C" fn szg_all(
     let Some(held) = take(table, alloc) else {
         return CLOSED;
     };
-    let status = values_in(alloc, held.value(), part, side, values);
+    let status = values_in(held.value(), part, side, values);
     put(table, held);
     status
 }

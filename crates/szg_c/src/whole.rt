@@ -91,7 +91,7 @@ pub extern "C" fn szg_values(
     ensures answer_stays { (result ≡ 2 → ⊥) → answer.new ≡ answer.old }
 {
     match open(alloc, name, dtz, bytes, answer) {
-        Ok(table) => values_in(alloc, &table, part, side, values),
+        Ok(table) => values_in(&table, part, side, values),
         Err(status) => status,
     }
 }

@@ -1,26 +1,17 @@
-//! Tests of tables and of what they are made of, through public items alone: examples of the format, texts, refused memory, and
-//! devices that are interrupted or fail. What a contract says is not tested again.
+//! Tests of files and of placements, through public items alone: examples of the format, texts, refused memory, and
+//! sources that fail. What a contract says is not tested again.
 //!
-//! Tests of the builder are in `szg_build_tests`, those of chess, probing and verification in `szg_probe_tests`, those of the
-//! program's commands in `szg_program_tests`: the four crates are proved side by side.
+//! Tests of the layers below are in `szg_block_tests`, those of the builder in `szg_build_tests`, those of chess, probing and
+//! verification in `szg_probe_tests`, those of the program's commands in `szg_program_tests`: the five crates are proved side
+//! by side.
 #![tactic(auto)]
 
 #[cfg(test)]
-mod block;
-#[cfg(test)]
-mod code;
-#[cfg(test)]
 mod costs;
-#[cfg(test)]
-mod count;
 #[cfg(test)]
 mod file;
 #[cfg(test)]
 mod files;
-#[cfg(test)]
-mod io;
-#[cfg(test)]
-mod pairs;
 #[cfg(test)]
 mod place;
 #[cfg(test)]
@@ -29,5 +20,3 @@ mod readme;
 mod standing;
 #[cfg(test)]
 mod texts;
-#[cfg(test)]
-mod values;

@@ -96,8 +96,8 @@ class Table:
         """All stored values of a part's side (see `get`), in the order of their indexes. All of the table is checked for it.
 
         The memoryview has one dimension, `size(part, side)` items and the format H (16 bits, unsigned);
-        `numpy.asarray` takes it without a copy. It stays valid after `close`. While it is made it takes twice its bytes, and
-        the file's.
+        `numpy.asarray` takes it without a copy. It stays valid after `close`. While it is made it takes the file's
+        bytes too.
 
         Errors: IndexError if the table has no such part or side; Refused; MemoryError."""
         return self._opened.values(_byte(part, "part"), _byte(side, "side"))

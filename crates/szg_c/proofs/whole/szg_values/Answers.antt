@@ -7,26 +7,24 @@ use Rattle.szg_file.specs.Values.{subtable_at}
 use Rattle.szg_c.specs.Reported.{IsTable, Reports}
 use Rattle.szg_c.proofs.whole.szg_values.Goals as goal
 
--- a list of the right length is filled, or an allocation is refused; any other is refused like one for a subtable
--- that does not exist
-outcomes : (o : Option (Slot × Subtable)) (count result : ℕ) → IfSome o (λ found. count ≡ found.0.size → (result ≡ 0) ⊎ (result ≡ 3)) → (IsNone o → result ≡ 4) →
-    IfSome o (λ found. count ≢ found.0.size → result ≡ 4) → (result ≡ 0) ⊎ ((result ≡ 3) ⊎ (result ≡ 4))
-outcomes None count result there missing other = inr (inr (missing refl))
+-- a list of the right length is filled; any other is refused like one for a subtable that does not exist
+outcomes : (o : Option (Slot × Subtable)) (count result : ℕ) → IfSome o (λ found. count ≡ found.0.size → result ≡ 0) → (IsNone o → result ≡ 4) →
+    IfSome o (λ found. count ≢ found.0.size → result ≡ 4) → (result ≡ 0) ⊎ (result ≡ 4)
+outcomes None count result there missing other = inr (missing refl)
 outcomes (Some found) count result there missing other = elim (cases_Bool (count == found.0.size)) [
-  | inl t ↦ elim (there (eqb-true count found.0.size t)) [ inl e ↦ inl e | inr e ↦ inr (inl e) ]
-  | inr f ↦ inr (inr (other (λ e. let t = eq-eqb count found.0.size e in let no : true ≡ false = sym t ∙ f in cc)))
+  | inl t ↦ inl (there (eqb-true count found.0.size t))
+  | inr f ↦ inr (other (λ e. let t = eq-eqb count found.0.size e in let no : true ≡ false = sym t ∙ f in cc))
 ]
 
 -- a list that is refused has another length
-outside : (o : Option (Slot × Subtable)) (count result : ℕ) → IfSome o (λ found. count ≡ found.0.size → (result ≡ 0) ⊎ (result ≡ 3)) → result ≡ 4 → IfSome o (λ found. count ≢ found.0.size)
+outside : (o : Option (Slot × Subtable)) (count result : ℕ) → IfSome o (λ found. count ≡ found.0.size → result ≡ 0) → result ≡ 4 → IfSome o (λ found. count ≢ found.0.size)
 outside None count result there e = tt
-outside (Some found) count result there e = λ same. elim (there same) [ inl a ↦ let no : 0 ≡ 4 = sym a ∙ e in cc | inr a ↦ let no : 3 ≡ 4 = sym a ∙ e in cc ]
+outside (Some found) count result there e = λ same. let a : result ≡ 0 = there same in let no : 0 ≡ 4 = sym a ∙ e in cc
 
 says : (name : List ℕ) (dtz : Bool) (bytes : List ℕ) (done out : Shown → Type 0) (t : Shown) (result place reason : ℕ) → IsTable name dtz bytes t → (result ≡ 0 → done t) → (result ≡ 4 → out t) →
-    (result ≡ 0) ⊎ ((result ≡ 3) ⊎ (result ≡ 4)) → Reports name dtz bytes done out result place reason
+    (result ≡ 0) ⊎ (result ≡ 4) → Reports name dtz bytes done out result place reason
 says name dtz bytes done out t result place reason is a b (inl e) = subst (λ (k : ℕ). Reports name dtz bytes done out k place reason) (sym e) (t, is, a e)
-says name dtz bytes done out t result place reason is a b (inr (inl e)) = subst (λ (k : ℕ). Reports name dtz bytes done out k place reason) (sym e) (is.0, is.1)
-says name dtz bytes done out t result place reason is a b (inr (inr e)) = subst (λ (k : ℕ). Reports name dtz bytes done out k place reason) (sym e) (t, is, b e)
+says name dtz bytes done out t result place reason is a b (inr e) = subst (λ (k : ℕ). Reports name dtz bytes done out k place reason) (sym e) (t, is, b e)
 
 pub returns-in-Ok-clause-says : goal.returns-in-Ok-clause-says
 returns-in-Ok-clause-says c =

@@ -1,7 +1,7 @@
 //! Dictionaries: the examples of the format, and dictionaries of full size.
 ghost use Rattle.std.specs.Prelude.{◌<◌};
 
-use crate::files::made;
+use crate::helpers::made;
 use std::alloc::{AllocError, Global};
 use std::process::Abort;
 use std::time::{Duration, Instant};

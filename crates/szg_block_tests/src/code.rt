@@ -1,5 +1,5 @@
 //! Codes: words, refusals, reading and writing with small codes.
-use crate::files::made;
+use crate::helpers::made;
 use std::alloc::Global;
 use std::process::Abort;
 use szg_code::{BitBuf, Bits, Code, CodeFault, PutFault, next, put, word};
@@ -59,6 +59,26 @@ fn refused_codes(rt: HostRuntime) {
     check_refused(&rt, (1, 3), &[2, 2, 0], 4, CodeFault::TooFull(0));
     check_refused(&rt, (1, 4), &[3, 2, 2, 0], 4, CodeFault::TooFull(1));
     check_refused(&rt, (1, 2), &[65535, 0], 65535, CodeFault::TooFull(0));
+}
+
+/// Two words at a step are read if at least 192 of 256 bytes begin with two whole words. A code of words of two lengths is
+/// read word by word if they aren't, and any code in which seven of eight windows begin with a word of the least length.
+#[test]
+fn ways_of_reading(rt: HostRuntime) {
+    let codes = [
+        (code(&rt, 1, 2, &[2, 0], 3), true, false),
+        // 14 words of 4 bits, so 14 * 14 bytes
+        (code(&rt, 4, 5, &[4, 0], 18), true, true),
+        // 13 words of 4 bits, so 13 * 13 bytes
+        (code(&rt, 4, 5, &[6, 0], 19), false, true),
+        // 28 and 24 words of 5 bits: 7 and 6 of 8 windows
+        (code(&rt, 5, 7, &[12, 8, 0], 40), false, true),
+        (code(&rt, 5, 7, &[24, 16, 0], 48), false, false),
+    ];
+    for (code, two_words, word_by_word) in codes.iter() {
+        let found = (code.has_two_words(), code.is_read_word_by_word());
+        assert!(rt; found == (*two_words, *word_by_word), "{}", code.symbols());
+    }
 }
 
 fn check_symbols(rt: &impl Abort, code: &Code, bytes: &[u8], symbols: &[u16], place: u64) {

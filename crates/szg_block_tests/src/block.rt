@@ -4,7 +4,7 @@ ghost use Rattle.std.specs.Prelude.{◌≡◌, IsSomeAnd, length};
 ghost use Rattle.szg_block.specs.Subtable.{layout_of, packed_of, IsShaped, IsSoundOver};
 ghost use Rattle.szg_block.specs.BlocksTrait.{bytes_at};
 
-use crate::files::made;
+use crate::helpers::made;
 use std::alloc::{AllocError, Global};
 use std::process::Abort;
 use szg_block::{

@@ -1,6 +1,6 @@
 //! Names, men, squares and placements: examples of the format, and each public call once in its normal case.
 
-use crate::files::made;
+use crate::helpers::made;
 use std::process::Abort;
 use szg_values::{
     Color, Kind, MAX_MEN, Man, Material, NameFault, Placement, PlacementFault, Square,

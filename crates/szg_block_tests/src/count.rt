@@ -1,6 +1,6 @@
 //! Binomial coefficients, groups, sizes and sets: the examples of the format, as tables, and the order of sets.
 
-use crate::files::made;
+use crate::helpers::made;
 use arrayvec::ArrayVec;
 use std::process::Abort;
 use szg_count::{Groups, Order, OrderFault, choose, lead_ways, rank_subset, unrank_subset};
