@@ -231,7 +231,7 @@ fn file_example(name: &str) -> &'static str {
         "index" =>
             "Example: szg index KQvK.rtbw w Ke1 Qd1 kc8{n}Standard input: szg index KQvK wdl w Ke1 Qd1 kc8 < KQvK.rtbw",
         "probe" =>
-            "Example: szg probe KQvK.rtbz w Ke1 Qd1 kc8 --class win{n}Result of a position: szg probe FOLDER FEN{n}Standard input: szg probe KQvK wdl w Ke1 Qd1 kc8 < KQvK.rtbw",
+            "Example: szg probe KQvK.rtbz w Ke1 Qd1 kc8 --class win{n}Result of a position: szg probe [--format json] FOLDER FEN{n}Standard input: szg probe KQvK wdl w Ke1 Qd1 kc8 < KQvK.rtbw",
         "verify" => "Example: szg verify tables KQvKR",
         _ =>
             "Example: szg placement KQvK.rtbw 11711{n}Standard input: szg placement KQvK wdl 11711 < KQvK.rtbw",

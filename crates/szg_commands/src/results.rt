@@ -1,4 +1,4 @@
-//! Results of positions over folders of tables: `szg probe FOLDER.. FEN`.
+//! Results of positions over folders of tables: `szg probe [--format json] FOLDER.. FEN`.
 
 use crate::outcome::Outcome;
 use crate::statuses::status_of;
@@ -6,12 +6,22 @@ use std::alloc::Global;
 use std::io::{self, BufRead, BufReader, BufWriter, Read, Write};
 use std::process::ExitCode;
 use std::rt::Files;
-use szg_files::Disk;
+use szg_files::{Disk, FileSystem};
 use szg_results::{Folders, ResultStop, board_of, stop_text};
+
+/// The form of an answer.
+#[derive(Clone, Copy)]
+enum Form {
+    /// Lines for a position that is asked for alone, else one line.
+    Text,
+    /// A JSON object on one line.
+    Json,
+}
 
 /// What a command line asks of folders.
 #[derive(Clone, Copy)]
 pub struct Asked<'a> {
+    form: Form,
     /// The folders, or tables' files.
     folders: &'a [&'a str],
     /// The position's text, or `-`: then each line of the input is one.
@@ -19,19 +29,38 @@ pub struct Asked<'a> {
 }
 
 /// Returns what a command line asks of folders: its command is `probe`, and its last word has a space, or is `-`.
+/// `--format json` may stand before the folders, or after that word.
 pub(crate) fn asked_of<'a>(words: &'a [&'a str]) -> Option<Asked<'a>> {
-    let count = words.len();
-    if count < 4 || words[1] != "probe" {
+    let (form, rest) = form_in(words.get(1..)?.strip_prefix(&["probe"])?);
+    let (fen, folders) = rest.split_last()?;
+    if folders.is_empty() || !is_fen(fen) {
         return None;
     }
-    let fen = words[count - 1];
-    if fen != "-" && !fen.contains(' ') {
-        return None;
+    Some(Asked { form, folders, fen })
+}
+
+/// Returns whether a word is a position's text, or asks for the lines of the input.
+pub(crate) fn is_fen(word: &str) -> bool {
+    word == "-" || word.contains(' ')
+}
+
+/// Returns the form that words ask for, and the other words.
+fn form_in<'a>(words: &'a [&'a str]) -> (Form, &'a [&'a str]) {
+    let option: [&str; 2] = ["--format", "json"];
+    let joined: [&str; 1] = ["--format=json"];
+    if let Some(rest) = words.strip_prefix(&option) {
+        return (Form::Json, rest);
     }
-    Some(Asked {
-        folders: &words[2..count - 1],
-        fen,
-    })
+    if let Some(rest) = words.strip_prefix(&joined) {
+        return (Form::Json, rest);
+    }
+    if let Some(rest) = words.strip_suffix(&option) {
+        return (Form::Json, rest);
+    }
+    match words.strip_suffix(&joined) {
+        Some(rest) => (Form::Json, rest),
+        None => (Form::Text, words),
+    }
 }
 
 /// Writes the results that a command line asks for, one position's on a terminal below its board. The status is 1 if a
@@ -67,56 +96,75 @@ fn write_results(
     input: impl Read + Drop,
     output: impl Write + Drop,
 ) -> io::Result<bool> {
+    let Asked { form, folders, fen } = asked;
     let mut writer = BufWriter::new(alloc, output)?;
     let mut disk = Disk::new(alloc, machine);
-    let mut folders = Folders::new(alloc, asked.folders);
-    let mut is_good = true;
-    if asked.fen == "-" {
-        let mut reader = BufReader::new(alloc, input)?;
-        let mut line = String::new(alloc);
-        for _ in 0..u64::MAX {
-            line.clear();
-            if reader.read_line(&mut line)? == 0 {
-                break;
-            }
-            let fen = line.trim_end_matches('\n');
-            let found = folders.line(alloc, &mut disk, fen);
-            is_good = write_line(alloc, &mut writer, fen, found)? && is_good;
-        }
+    let mut folders = Folders::new(alloc, folders);
+    let is_good = if fen == "-" {
+        write_lines(alloc, &mut folders, &mut disk, form, input, &mut writer)?
     } else {
-        if is_terminal {
-            let board = board_of(alloc, asked.fen)?;
+        let found = match form {
+            Form::Text => folders.text(alloc, &mut disk, fen),
+            Form::Json => folders.object(alloc, &mut disk, fen),
+        };
+        if is_terminal && matches!(form, Form::Text) {
+            let board = board_of(alloc, fen)?;
             writer.write_all(board.as_bytes())?;
         }
-        match folders.text(alloc, &mut disk, asked.fen) {
-            Ok(text) => writer.write_all(text.as_bytes())?,
-            Err(stop) => {
-                let text = stop_text(alloc, &stop)?;
-                writeln!(writer, "{text}")?;
-                is_good = false;
-            }
-        }
-    }
+        write_found(alloc, &mut writer, form, "", found)?
+    };
     writer.flush()?;
     Ok(is_good)
 }
 
-/// Writes a line, or the text that was asked for and why it is refused; returns whether it is not.
-fn write_line(
+/// Writes a line for each line of the input; returns whether none is refused.
+fn write_lines(
+    alloc: Global,
+    folders: &mut Folders<'_>,
+    system: &mut impl FileSystem,
+    form: Form,
+    input: impl Read + Drop,
+    writer: &mut impl Write,
+) -> io::Result<bool> {
+    let mut reader = BufReader::new(alloc, input)?;
+    let mut line = String::new(alloc);
+    let mut is_good = true;
+    for _ in 0..u64::MAX {
+        line.clear();
+        if reader.read_line(&mut line)? == 0 {
+            break;
+        }
+        let fen = line.trim_end_matches('\n');
+        let found = match form {
+            Form::Text => folders.line(alloc, system, fen),
+            Form::Json => folders.object(alloc, system, fen),
+        };
+        let before = format!(in alloc; "{fen}\t")?;
+        is_good = write_found(alloc, writer, form, before.as_str(), found)? && is_good;
+    }
+    Ok(is_good)
+}
+
+/// Writes what was found, or why the position is refused, after `before`; in JSON an object with the field `error`.
+/// Returns whether it is not refused.
+fn write_found(
     alloc: Global,
     writer: &mut impl Write,
-    fen: &str,
+    form: Form,
+    before: &str,
     found: Result<String, ResultStop>,
 ) -> io::Result<bool> {
-    match found {
-        Ok(line) => {
-            writer.write_all(line.as_bytes())?;
-            Ok(true)
+    let stop = match found {
+        Ok(text) => {
+            writer.write_all(text.as_bytes())?;
+            return Ok(true);
         }
-        Err(stop) => {
-            let text = stop_text(alloc, &stop)?;
-            writeln!(writer, "{fen}\t{text}")?;
-            Ok(false)
-        }
+        Err(stop) => stop,
+    };
+    let text = stop_text(alloc, &stop)?;
+    match form {
+        Form::Text => writeln!(writer, "{before}{text}")?,
+        Form::Json => writeln!(writer, "{{\"error\":\"{text}\"}}")?,
     }
+    Ok(false)
 }

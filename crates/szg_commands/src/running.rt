@@ -5,7 +5,7 @@ use crate::finding::Clap;
 use crate::meant::meant_name;
 use crate::on_files::{Ending, run_words};
 use crate::outcome::Outcome;
-use crate::results::{asked_of, run_results};
+use crate::results::{asked_of, is_fen, run_results};
 use crate::statuses::{ending_status, status_of};
 use crate::verification::{run_verify, verification_of};
 use std::alloc::{AllocError, Global};
@@ -64,12 +64,12 @@ fn print_meant(rt: &(impl Eprint + AllocGlobal), texts: &[&str]) {
     }
 }
 
-/// Whether the words ask a DTZ table for a placement's number, and give no class.
+/// Whether the words ask a DTZ table for a placement's number, and give no class and no position's text.
 fn assumes_win(words: &[String]) -> bool {
     let mut is_dtz = false;
     'words: for word in words {
         let word = word.as_str();
-        if word.starts_with("--class") || word == "wdl" || word == "--kind=wdl" {
+        if word.starts_with("--class") || word == "wdl" || word == "--kind=wdl" || is_fen(word) {
             return false;
         }
         is_dtz = is_dtz || word == "dtz" || word == "--kind=dtz" || word.ends_with(".rtbz");

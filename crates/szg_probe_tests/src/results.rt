@@ -14,6 +14,7 @@ use szg_results::{Folders, board_of, stop_text};
 enum Form {
     Lines,
     Line,
+    Object,
 }
 
 /// The text of an answer, or of a refusal.
@@ -29,6 +30,7 @@ fn found(
     let answer = match form {
         Form::Lines => folders.text(rt.alloc(), &mut system, fen),
         Form::Line => folders.line(rt.alloc(), &mut system, fen),
+        Form::Object => folders.object(rt.alloc(), &mut system, fen),
     };
     match answer {
         Ok(text) => text,
@@ -66,7 +68,7 @@ fn at<'a>(path: &'a str, file: &'a Fixture) -> MemoryFile<'a> {
 }
 
 /// What a folder with both tables of king and queen against king answers.
-const OF_A_FOLDER: [Case<'static>; 10] = [
+const OF_A_FOLDER: [Case<'static>; 13] = [
     (
         MATE_IN_ONE,
         Form::Line,
@@ -120,6 +122,25 @@ const OF_A_FOLDER: [Case<'static>; 10] = [
         "8/8/8/8/8/8/8/K1k5 w - -",
         Form::Lines,
         "result draw\ndtz 0\na1a2\tKa2\tdraw\t0\n",
+    ),
+    // the capture is the only move, and two kings are left
+    (
+        "kQ6/8/8/8/8/8/8/7K b - - 0 1",
+        Form::Object,
+        "{\"category\":\"draw\",\"dtz\":0,\"checkmate\":false,\"stalemate\":false,\"insufficient_material\":false,\"moves\":[\
+        {\"uci\":\"a8b8\",\"san\":\"Kxb8\",\"zeroing\":true,\"category\":\"draw\",\"dtz\":0,\"checkmate\":false,\"stalemate\":false,\"insufficient_material\":true}]}\n",
+    ),
+    (
+        "7k/6Q1/5K2/8/8/8/8/8 b - -",
+        Form::Object,
+        "{\"category\":\"loss\",\"dtz\":-1,\"checkmate\":true,\"stalemate\":false,\"insufficient_material\":false,\"moves\":[]}\n",
+    ),
+    // no DTZ table of KNvKP is there: it is needed before the move, and not after it
+    (
+        "8/8/8/8/4Pp2/5N2/8/5K1k b - e3 0 1",
+        Form::Object,
+        "{\"category\":\"loss\",\"dtz\":-1,\"checkmate\":false,\"stalemate\":false,\"insufficient_material\":false,\"moves\":[\
+        {\"uci\":\"f4e3\",\"san\":\"fxe3\",\"zeroing\":true,\"category\":\"win\",\"dtz\":null,\"checkmate\":false,\"stalemate\":false,\"insufficient_material\":false}]}\n",
     ),
 ];
 

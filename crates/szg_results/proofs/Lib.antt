@@ -1,2 +1,4 @@
 pub mod Absent
+pub mod After
 pub mod Answered
+pub mod ObjectTexts

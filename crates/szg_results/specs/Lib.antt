@@ -1,3 +1,4 @@
 pub mod Results
 pub mod Folders
 pub mod Lines
+pub mod Objects

@@ -1,11 +1,14 @@
 //! Tables of folders: each is read when it is first needed, and stays.
 
-ghost use Rattle.std.specs.Prelude.{◌≡◌, false, [], IfNone, IfOk, IfSome, map, option_map, string_bytes};
+ghost use Rattle.std.specs.Prelude.{◌≡◌, false, [], All, Contains, IfNone, IfOk, IfSome, map, option_map, string_bytes};
 ghost use Rattle.szg_results.specs.Folders.{IsAbsent, IsAbsentAt, IsAnswerIn, LacksDistances, ending_of, may_do_without, path_of, words_of};
+ghost use Rattle.szg_chess.specs.Moves.{legal_moves};
 ghost use Rattle.szg_results.specs.Results.{IsAnswerOf};
 ghost use Rattle.szg_results.specs.Lines.{IsLineOf, IsTextOf};
+ghost use Rattle.szg_results.specs.Objects.{AreAfter, IfFound, IsDtz, IsObjectOf};
 
 use crate::classes_alone::ClassesAlone;
+use crate::objects::{MoveAfter, OrTable, object_of};
 use crate::{Answer, line_of, probe_position, text_of};
 use std::alloc::{AllocError, Global};
 use std::io::ErrorKind;
@@ -14,7 +17,7 @@ use szg_file::{ReadFault, Reason, Table, read};
 use szg_files::{FileFault, FileSystem, Reasons};
 use szg_io::Input;
 use szg_named::{fault_text, named_by, reason_word};
-use szg_probe::DistanceFault;
+use szg_probe::{DistanceFault, RankedMove, probe_dtz};
 use szg_tables::{Missing, MissingReason, TableSet};
 use szg_values::{Kind, Material};
 
@@ -74,6 +77,8 @@ impl<'a> Folders<'a> {
         // the answer is that of the tables that have been read
         ensures answer { IfOk result (λ a. IsAnswerOf self.new.tables.items fen.now a) }
         ensures distances { IfOk result (λ a. a.has_distances ≡ false → LacksDistances (S.content system.old) (words_of self.old) fen.now.position) }
+        ensures words { words_of self.new ≡ words_of self.old }
+        ensures content { IfOk result (λ a. S.content system.new ≡ S.content system.old) }
     {
         let words = self.words;
         'tables: for _ in 0..MOST_TABLES {
@@ -102,9 +107,11 @@ impl<'a> Folders<'a> {
         system: &mut S,
         fen: &FenRecord,
     ) -> Result<Answer, ResultStop>
-        ensures { IfOk result (λ a. IsAnswerOf self.new.tables.items fen.now a) }
+        ensures answer { IfOk result (λ a. IsAnswerOf self.new.tables.items fen.now a) }
+        ensures words { words_of self.new ≡ words_of self.old }
+        ensures content { IfOk result (λ a. S.content system.new ≡ S.content system.old) }
     {
-        for _ in 0..MOST_TABLES {
+        'tables: for _ in 0..MOST_TABLES {
             let missing = match self.answer_now(fen, false) {
                 Ok(answer) => return Ok(answer),
                 Err(DistanceFault::Contradiction) => return Err(ResultStop::Contradiction),
@@ -167,6 +174,91 @@ impl<'a> Folders<'a> {
         match line_of(alloc, fen, &answer) {
             Ok(line) => Ok(line),
             Err(_) => Err(ResultStop::Memory),
+        }
+    }
+
+    /// Returns the result of a position's text, as a JSON object on one line.
+    ///
+    /// Errors: the first that is met.
+    pub fn object<S: FileSystem>(
+        &mut self,
+        alloc: Global,
+        system: &mut S,
+        fen: &str,
+    ) -> Result<String, ResultStop>
+        ensures { IfOk result (λ text. IsObjectOf (S.content system.old) (words_of self.old) self.new.tables.items fen.now (string_bytes text)) }
+    {
+        let record = match Position::parse_fen(fen) {
+            Ok(record) => record,
+            Err(fault) => return Err(ResultStop::Fen(fault)),
+        };
+        'tables: for _ in 0..MOST_TABLES {
+            let answer = match self.answer(alloc, system, &record) {
+                Ok(answer) => answer,
+                Err(stop) => return Err(stop),
+            };
+            let position = &record.position;
+            match self.moves_after(alloc, system, position, answer.moves.as_slice())? {
+                OrTable::Found(moves) => {
+                    return Ok(object_of(alloc, position, &answer, moves.as_slice())?);
+                }
+                OrTable::Read(table) => {
+                    if self.tables.push(table).is_err() {
+                        return Err(ResultStop::Memory);
+                    }
+                }
+            }
+        }
+        Err(ResultStop::Contradiction)
+    }
+
+    /// Returns legal moves, each with the DTZ of the position after it.
+    fn moves_after<S: FileSystem>(
+        &self,
+        alloc: Global,
+        system: &mut S,
+        position: &Position,
+        moves: &[RankedMove],
+    ) -> Result<OrTable<Vec<MoveAfter>>, ResultStop>
+        requires { All (λ r. Contains (legal_moves position.now) r.m) moves.now }
+        ensures content { IfOk result (λ found. S.content system.new ≡ S.content system.old) }
+        ensures legal { IfOk result (λ found. IfFound found (λ moves_after. All (λ s. Contains (legal_moves position.now) s.ranked.m) moves_after.items)) }
+        ensures after { IfOk result (λ found. IfFound found (λ moves_after. AreAfter (S.content system.old) (words_of self.now) self.now.tables.items position.now moves.now moves_after.items)) }
+    {
+        let mut found = Vec::new(alloc);
+        'moves: for ranked in moves {
+            match self.dtz(alloc, system, &position.after(ranked.m))? {
+                OrTable::Found(dtz) => {
+                    let ranked = *ranked;
+                    if found.push(MoveAfter { ranked, dtz }).is_err() {
+                        return Err(ResultStop::Memory);
+                    }
+                }
+                OrTable::Read(table) => return Ok(OrTable::Read(table)),
+            }
+        }
+        Ok(OrTable::Found(found))
+    }
+
+    /// Returns the DTZ of a position with its sign. None if it takes a DTZ table that is in none of the folders.
+    fn dtz<S: FileSystem>(
+        &self,
+        alloc: Global,
+        system: &mut S,
+        position: &Position,
+    ) -> Result<OrTable<Option<i64>>, ResultStop>
+        ensures content { IfOk result (λ found. S.content system.new ≡ S.content system.old) }
+        ensures dtz { IfOk result (λ found. IfFound found (λ dtz. IsDtz (S.content system.old) (words_of self.now) self.now.tables.items position.now dtz)) }
+    {
+        let mut set = TableSet::new(&self.tables);
+        let missing = match probe_dtz(&mut set, position) {
+            Ok(distance) => return Ok(OrTable::Found(Some(distance.signed()))),
+            Err(DistanceFault::Contradiction) => return Err(ResultStop::Contradiction),
+            Err(DistanceFault::Tables(missing)) => missing,
+        };
+        match read_or_lack(alloc, system, self.words, position, &missing)? {
+            Some(table) => Ok(OrTable::Read(table)),
+            None => Ok(OrTable::Found(None)),
         }
     }
 

@@ -4,6 +4,7 @@
 mod classes_alone;
 mod folders;
 mod lines;
+mod objects;
 mod results;
 
 pub use folders::{Folders, ResultStop, read_missing, stop_text};

@@ -241,7 +241,7 @@ static COMMANDS: [Command<'_>; 11] = [
             usage: "[OPTIONS] <FILE> <MOVER> <MAN>...",
             arguments: &[TABLE, MOVER, MEN],
             options: &[CLASS, VERIFY, NAMED, KINDED, HELP],
-            end: "Example: szg probe KQvK.rtbz w Ke1 Qd1 kc8 --class win Result of a position: szg probe FOLDER FEN Standard input: szg probe KQvK wdl w Ke1 Qd1 kc8 < KQvK.rtbw",
+            end: "Example: szg probe KQvK.rtbz w Ke1 Qd1 kc8 --class win Result of a position: szg probe [--format json] FOLDER FEN Standard input: szg probe KQvK wdl w Ke1 Qd1 kc8 < KQvK.rtbw",
         },
     },
     Command {
