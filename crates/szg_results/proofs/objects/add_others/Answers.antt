@@ -1,4 +1,4 @@
-use Rattle.std.proofs.Common.{◌++◌, ◌≡◌, ℕ, List, string_bytes, sym, subst, ap, ◌∙◌}
+use Rattle.std.proofs.Common.{◌++◌, string_bytes, sym, subst, ap, ◌∙◌}
 use Rattle.std.specs.Prelude.{Contains, codes}
 use Rattle.szg_chess.specs.Moves.{legal_moves}
 use Rattle.szg_results.specs.Objects.{move_object}

@@ -1,0 +1,32 @@
+use Rattle.std.proofs.Common.{List, Vec, Global, All, Contains, string_bytes, sym, subst}
+use Rattle.szg_chess.specs.Moves.{legal_moves}
+use Rattle.szg_chess.specs.Position.{Position}
+use Rattle.szg_probe.specs.declared.assessments.RankedMove.{RankedMove}
+use Rattle.szg_results.specs.Folders.{words_of}
+use Rattle.szg_results.specs.Objects.{AreAfter, IfFound}
+use Rattle.szg_results.specs.declared.objects.MoveAfter.{MoveAfter}
+use Rattle.szg_results.specs.declared.objects.OrTable.{OrTable}
+use Rattle.szg_results.proofs.After.{object_is}
+use Rattle.szg_results.proofs.folders.Folders.object.Goals as goal
+
+pub object_of-requires : goal.object_of-requires
+object_of-requires g c =
+    let Legal = λ (s : MoveAfter). Contains (legal_moves c.in-Ok.record.position) s.ranked.m in
+    subst (All Legal) (sym c.as_slice-in-Found.ensures.value)
+    (subst (λ (f : OrTable (Vec MoveAfter Global)). IfFound f (λ (ss : Vec MoveAfter Global). All Legal ss.items)) c.in-Found.is c.in_ok-moves.ensures.legal)
+
+pub returns-in-Found : goal.returns-in-Found
+returns-in-Found g c =
+    let p : Position = c.in-Ok.record.position in
+    let files = g.S.FileSystem.content c.answer.new.system in
+    let words = words_of c.answer.new.self in
+    let tables = c.answer.new.self.tables.items in
+    let moves : List MoveAfter = c.as_slice-in-Found.result.now in
+    let found = subst (λ (f : OrTable (Vec MoveAfter Global)). IfFound f (λ (ss : Vec MoveAfter Global). AreAfter files words tables p c.as_slice.result.now ss.items)) c.in-Found.is c.in_ok-moves.ensures.after in
+    let after : AreAfter files words tables p c.in-Ok-answer.answer.moves.items moves =
+    subst (λ (rs : List RankedMove). AreAfter files words tables p rs moves) c.as_slice.ensures.value
+    (subst (λ (ss : List MoveAfter). AreAfter files words tables p c.as_slice.result.now ss) (sym c.as_slice-in-Found.ensures.value) found) in
+    object_is (g.S.FileSystem.content c.args.system.now) (g.S.FileSystem.content c.tables.system) files (words_of c.args.self.now) (words_of c.tables.self) words tables
+    c.args.fen.now (string_bytes c.in_ok-object_of-in-Found.field-0) c.parse_fen.result c.in-Ok.record c.in-Ok-answer.answer moves
+    c.parse_fen.ensures.accepted c.parse_fen.ensures.refused c.in-Ok.is c.tables.invariant.content c.tables.invariant.words c.in-Ok-answer.ensures.content c.answer.ensures.words
+    c.in-Ok-answer.ensures.answer c.in-Ok-answer.ensures.distances after c.in_ok-object_of-in-Found.ensures
