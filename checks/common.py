@@ -1,6 +1,7 @@
 """What the Python scripts of this repository share: its folder and program, builds and compilers, lies of checks/lies/, and the
 count of what was compared. With --help a script prints the text that it begins with."""
 import os
+import shutil
 import stat
 import subprocess
 import sys
@@ -14,6 +15,7 @@ BUILT = ROOT / "crates/szg_tool/out/szg_tool"
 # PROGRAM is the program that is tried, by default the one that is built here.
 PROGRAM = Path(os.environ.get("PROGRAM") or BUILT)
 CC = os.environ.get("CC", "cc")
+STOCKFISH = os.environ.get("STOCKFISH") or shutil.which("stockfish") or "/usr/games/stockfish"
 COMMANDS = ["check", "show", "get", "values", "copy", "dump", "build", "index", "probe", "verify", "placement"]
 # The sample tables: material, kind, file in data/, and a placement of its men.
 SAMPLES = [
@@ -49,6 +51,13 @@ def need(*targets: str) -> None:
         sys.exit(f"{', '.join(targets)}: not built")
 
 
+def bench_libraries() -> List[Path]:
+    """The static libraries for a program that calls szg_bench, which is built. KIT is the folder of the Rattle kit."""
+    need("szg_bench")
+    kit = os.environ.get("KIT") or Path(subprocess.check_output(["rt", "doc"], text=True).strip()).parent
+    return [ROOT / "crates/szg_bench/out/libszg_bench.a", Path(kit) / "c/liblibc_c.a"]
+
+
 def run(data: bytes, *words: Word) -> "tuple[int, bytes]":
     """The program's status and standard output for words and an input."""
     ran = subprocess.run([PROGRAM, *words], input=data, capture_output=True)
@@ -76,6 +85,26 @@ def compile_c(program: Path, *words: Word) -> Path:
     found = [ROOT / word if isinstance(word, str) and word.endswith(".c") else word for word in words]
     subprocess.run([CC, "-O2", "-Wall", "-Wextra", f"-I{ROOT / 'bindings'}", "-o", program, *found], check=True)
     return program
+
+
+class Stockfish:
+    """A running Stockfish."""
+
+    def __init__(self, program: Word = STOCKFISH) -> None:
+        self.ran = subprocess.Popen([program], stdin=subprocess.PIPE, stdout=subprocess.PIPE, text=True)
+
+    def say(self, *lines: str) -> None:
+        self.ran.stdin.write("".join(f"{line}\n" for line in lines))
+        self.ran.stdin.flush()
+
+    def until(self, word: str) -> List[str]:
+        """The lines that it prints, up to one that begins with a word."""
+        lines = []
+        for line in self.ran.stdout:
+            lines.append(line.strip())
+            if line.startswith(word):
+                return lines
+        sys.exit("Stockfish ended")
 
 
 class Checks:
