@@ -1,5 +1,6 @@
 """What the Python scripts of this repository share: its folder and program, builds and compilers, lies of checks/lies/, and the
 count of what was compared. With --help a script prints the text that it begins with."""
+import argparse
 import os
 import shutil
 import stat
@@ -31,6 +32,23 @@ Word = Union[str, bytes, Path]
 if sys.argv[1:2] in (["-h"], ["--help"]) and ROOT in Path(sys.argv[0]).resolve().parents:
     print(__main__.__doc__)
     sys.exit()
+
+
+def arguments(places: Dict[str, Any] = {}, **options: Any) -> argparse.Namespace:
+    """The words of the command line: by their places, then options. Each has a default, and is of its type. What has a type in
+    place of a default must be given, a list takes all words that are left, and an option whose default is False is a flag."""
+    parser = argparse.ArgumentParser(add_help=False)
+    for name, default in places.items():
+        if isinstance(default, type):
+            parser.add_argument(name, type=default)
+        elif isinstance(default, list):
+            parser.add_argument(name, nargs="*")
+        else:
+            parser.add_argument(name, nargs="?", type=type(default), default=default)
+    for name, default in options.items():
+        kind: Dict[str, Any] = {"action": "store_true"} if default is False else {"type": type(default), "default": default}
+        parser.add_argument(f"--{name.replace('_', '-')}", **kind)
+    return parser.parse_args()
 
 
 def sample(file: str) -> bytes:
