@@ -28,13 +28,9 @@ struct move {
 /* by kind, Black's pawn first */
 static uint64_t reach[7][64], between[64][64];
 
-static int apart(int a, int b)
-{
-    return abs(a - b);
-}
+static int apart(int a, int b) { return abs(a - b); }
 
-static void make_tables(void)
-{
+static void make_tables(void) {
     for (int a = 0; a < 64; a++)
         for (int b = 0; b < 64; b++) {
             int files = apart(a % 8, b % 8), ranks = apart(a / 8, b / 8), up = b / 8 - a / 8;
@@ -52,27 +48,23 @@ static void make_tables(void)
         }
 }
 
-static bool attacks(uint64_t occupied, struct man man, int to)
-{
+static bool attacks(uint64_t occupied, struct man man, int to) {
     int row = man.kind == PAWN && man.color == BLACK ? 0 : man.kind;
     return reach[row][man.square] >> to & 1 && !(between[man.square][to] & occupied);
 }
 
-static bool is_pawn_on(const struct position *p, int square)
-{
+static bool is_pawn_on(const struct position *p, int square) {
     for (int i = 0; i < p->count; i++)
         if (p->men[i].square == square) return p->men[i].kind == PAWN && p->men[i].color == p->mover;
     return false;
 }
 
-static int captured_square(const struct position *p, struct move m)
-{
+static int captured_square(const struct position *p, struct move m) {
     if (m.to == p->passed && apart(m.from % 8, m.to % 8) == 1 && is_pawn_on(p, m.from)) return m.from / 8 * 8 + m.to % 8;
     return m.to;
 }
 
-static bool is_legal(const struct position *p, struct move m)
-{
+static bool is_legal(const struct position *p, struct move m) {
     int captured = captured_square(p, m), king = NONE;
     uint64_t occupied = (p->occupied & ~(UINT64_C(1) << captured) & ~(UINT64_C(1) << m.from)) | UINT64_C(1) << m.to;
     for (int i = 0; i < p->count; i++)
@@ -82,8 +74,7 @@ static bool is_legal(const struct position *p, struct move m)
     return true;
 }
 
-static int push(const struct position *p, struct move *moves, int count, struct man man, int to)
-{
+static int push(const struct position *p, struct move *moves, int count, struct man man, int to) {
     struct move m = {man.square, (uint8_t)to, 0};
     if (!is_legal(p, m)) return count;
     if (man.kind == PAWN && (to < 8 || to >= 56)) {
@@ -97,8 +88,7 @@ static int push(const struct position *p, struct move *moves, int count, struct 
     return count;
 }
 
-static int captures(const struct position *p, struct move *moves)
-{
+static int captures(const struct position *p, struct move *moves) {
     int count = 0;
     for (int i = 0; i < p->count; i++) {
         struct man man = p->men[i];
@@ -110,8 +100,7 @@ static int captures(const struct position *p, struct move *moves)
     return count;
 }
 
-static bool may_enter(const struct position *p, struct man man, int to)
-{
+static bool may_enter(const struct position *p, struct man man, int to) {
     if (p->occupied >> to & 1) return false;
     if (man.kind != PAWN) return attacks(p->occupied, man, to);
     int up = man.color == WHITE ? 8 : -8, home = man.color == WHITE ? 1 : 6;
@@ -119,8 +108,7 @@ static bool may_enter(const struct position *p, struct man man, int to)
     return to == man.square + 2 * up && man.square / 8 == home && !(p->occupied >> (man.square + up) & 1);
 }
 
-static int legal_moves(const struct position *p, struct move *moves)
-{
+static int legal_moves(const struct position *p, struct move *moves) {
     int count = captures(p, moves);
     for (int i = 0; i < p->count; i++)
         if (p->men[i].color == p->mover)
@@ -129,8 +117,7 @@ static int legal_moves(const struct position *p, struct move *moves)
     return count;
 }
 
-static inline __attribute__((always_inline)) struct position after(const struct position *p, struct move m)
-{
+static inline __attribute__((always_inline)) struct position after(const struct position *p, struct move m) {
     int captured = captured_square(p, m);
     struct position q = {.count = 0, .mover = !p->mover, .passed = NONE};
     q.occupied = (p->occupied & ~(UINT64_C(1) << captured) & ~(UINT64_C(1) << m.from)) | UINT64_C(1) << m.to;
@@ -147,8 +134,7 @@ static inline __attribute__((always_inline)) struct position after(const struct 
     return q;
 }
 
-static struct position parse(const char *fen)
-{
+static struct position parse(const char *fen) {
     struct position p = {.count = 0, .passed = NONE};
     int rank = 7, file = 0;
     for (; *fen != ' '; fen++) {
@@ -163,15 +149,11 @@ static struct position parse(const char *fen)
     return p;
 }
 
-static uint64_t mixed(struct move m)
-{
-    return 64u * m.from + m.to + 4096u * m.promotion;
-}
+static uint64_t mixed(struct move m) { return 64u * m.from + m.to + 4096u * m.promotion; }
 
 /* A function that lists moves by LIST, and sums them. */
 #define SUM_OF(name, list) \
-    static __attribute__((noinline)) uint64_t name(const struct position *p, uint32_t rounds) \
-    { \
+    static __attribute__((noinline)) uint64_t name(const struct position *p, uint32_t rounds) { \
         uint64_t sum = 0; \
         struct move moves[128]; \
         for (uint32_t r = 0; r < rounds; r++) { \
@@ -184,47 +166,35 @@ static uint64_t mixed(struct move m)
 SUM_OF(c_captures, captures)
 SUM_OF(c_legal, legal_moves)
 
-static __attribute__((noinline)) uint64_t weight(const struct position *p)
-{
+static __attribute__((noinline)) uint64_t weight(const struct position *p) {
     uint64_t sum = (uint64_t)p->passed;
     for (int i = 0; i < p->count; i++) sum += p->men[i].square;
     return sum;
 }
 
-static __attribute__((noinline)) uint64_t c_after(const struct position *p, uint32_t rounds)
-{
+/* With `copies` as Rattle's compiler returns a struct: it is built in one place, and copied to another. */
+static inline __attribute__((always_inline)) uint64_t sum_after(const struct position *p, uint32_t rounds, bool copies) {
     uint64_t sum = 0;
     struct move moves[128];
     int count = legal_moves(p, moves);
     for (uint32_t r = 0; r < rounds; r++)
         for (int i = 0; i < count; i++) {
             __asm__ volatile("" : : "r"(p) : "memory");
-            struct position q = after(p, moves[i]);
-            sum += weight(&q);
+            struct position built = after(p, moves[i]), copied;
+            if (copies) {
+                __asm__ volatile("" : "+m"(built));
+                copied = built;
+            }
+            sum += weight(copies ? &copied : &built);
         }
     return sum;
 }
 
-/* As Rattle's compiler returns a struct: it is built in one place, and copied to another. */
-static __attribute__((noinline)) uint64_t c_after_and_copy(const struct position *p, uint32_t rounds)
-{
-    uint64_t sum = 0;
-    struct move moves[128];
-    int count = legal_moves(p, moves);
-    for (uint32_t r = 0; r < rounds; r++)
-        for (int i = 0; i < count; i++) {
-            __asm__ volatile("" : : "r"(p) : "memory");
-            struct position built = after(p, moves[i]);
-            __asm__ volatile("" : "+m"(built));
-            struct position q = built;
-            sum += weight(&q);
-        }
-    return sum;
-}
+static __attribute__((noinline)) uint64_t c_after(const struct position *p, uint32_t rounds) { return sum_after(p, rounds, false); }
+static __attribute__((noinline)) uint64_t c_after_and_copy(const struct position *p, uint32_t rounds) { return sum_after(p, rounds, true); }
 
 /* the least time of several turns of each, one after the other */
-static bool compare(const char *call, const char *named, uint64_t (*rattle)(const uint8_t *, size_t, uint32_t), uint64_t (*c)(const struct position *, uint32_t), double calls)
-{
+static bool compare(const char *call, const char *named, uint64_t (*rattle)(const uint8_t *, size_t, uint32_t), uint64_t (*c)(const struct position *, uint32_t), double calls) {
     const char *fen = strchr(named, '=') + 1;
     struct position p = parse(fen);
     double best[2] = {0};
@@ -241,8 +211,7 @@ static bool compare(const char *call, const char *named, uint64_t (*rattle)(cons
     return sums[0] == sums[1];
 }
 
-int main(int argc, char **argv)
-{
+int main(int argc, char **argv) {
     bool same = true;
     make_tables();
     for (int i = 1; i < argc; i++) {

@@ -327,7 +327,7 @@ int main(int argc, char **argv) {
     static reader_table read;
     reader_material material;
     reader_parse("KQRvK", 5, &material);
-    reader_read(&read, &material, false, file, length);
+    reader_read(&read, &material, false, file, length, false);
     if (read.reason) fail("the table is refused");
     take_table(&t, &read.subtables[0]);
     open_by_library(argv[2]);

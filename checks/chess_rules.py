@@ -1,12 +1,11 @@
 """The rules of chess a second time, for positions without castling: a board of 8 x 8 cells, moves by making them on a copy,
 texts in Forsyth-Edwards Notation, moves as text. Written from the rules alone. Also loads the library szg_bench."""
 import ctypes
-import os
 import subprocess
 from pathlib import Path
 
-ROOT = Path(__file__).resolve().parent.parent
-CC = os.environ.get("CC", "cc")
+from common import CC, bench_libraries
+
 STRAIGHT = [(1, 0), (-1, 0), (0, 1), (0, -1)]
 DIAGONAL = [(1, 1), (1, -1), (-1, 1), (-1, -1)]
 JUMPS = [(1, 2), (2, 1), (-1, 2), (-2, 1), (1, -2), (2, -1), (-1, -2), (-2, -1)]
@@ -208,11 +207,8 @@ class Library:
     """The calls of crates/szg_bench, linked into a shared object in a folder."""
 
     def __init__(self, folder):
-        subprocess.run([ROOT / "tools/build", "szg_bench"], check=True, stdout=subprocess.DEVNULL)
-        kit = Path(subprocess.run(["rt", "doc"], check=True, capture_output=True, text=True).stdout.strip()).parent
         path = Path(folder) / "libszg_bench.so"
-        archives = [ROOT / "crates/szg_bench/out/libszg_bench.a", kit / "c/liblibc_c.a"]
-        subprocess.run([CC, "-shared", "-o", path, "-Wl,--whole-archive", *archives, "-Wl,--no-whole-archive"], check=True)
+        subprocess.run([CC, "-shared", "-o", path, "-Wl,--whole-archive", *bench_libraries(), "-Wl,--no-whole-archive"], check=True)
         self.calls = ctypes.CDLL(str(path))
         pair = [ctypes.c_char_p, ctypes.c_size_t]
         self.calls.szg_bench_fen.argtypes = [*pair, ctypes.POINTER(ctypes.c_uint32), ctypes.c_size_t, ctypes.c_char_p, ctypes.c_size_t]

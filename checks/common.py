@@ -1,6 +1,8 @@
 """What the Python scripts of this repository share: its folder and program, builds and compilers, lies of checks/lies/, and the
 count of what was compared. With --help a script prints the text that it begins with."""
+import argparse
 import os
+import shutil
 import stat
 import subprocess
 import sys
@@ -14,6 +16,7 @@ BUILT = ROOT / "crates/szg_tool/out/szg_tool"
 # PROGRAM is the program that is tried, by default the one that is built here.
 PROGRAM = Path(os.environ.get("PROGRAM") or BUILT)
 CC = os.environ.get("CC", "cc")
+STOCKFISH = os.environ.get("STOCKFISH") or shutil.which("stockfish") or "/usr/games/stockfish"
 COMMANDS = ["check", "show", "get", "values", "copy", "dump", "build", "index", "probe", "verify", "placement"]
 # The sample tables: material, kind, file in data/, and a placement of its men.
 SAMPLES = [
@@ -29,6 +32,23 @@ Word = Union[str, bytes, Path]
 if sys.argv[1:2] in (["-h"], ["--help"]) and ROOT in Path(sys.argv[0]).resolve().parents:
     print(__main__.__doc__)
     sys.exit()
+
+
+def arguments(places: Dict[str, Any] = {}, **options: Any) -> argparse.Namespace:
+    """The words of the command line: by their places, then options. Each has a default, and is of its type. What has a type in
+    place of a default must be given, a list takes all words that are left, and an option whose default is False is a flag."""
+    parser = argparse.ArgumentParser(add_help=False)
+    for name, default in places.items():
+        if isinstance(default, type):
+            parser.add_argument(name, type=default)
+        elif isinstance(default, list):
+            parser.add_argument(name, nargs="*")
+        else:
+            parser.add_argument(name, nargs="?", type=type(default), default=default)
+    for name, default in options.items():
+        kind: Dict[str, Any] = {"action": "store_true"} if default is False else {"type": type(default), "default": default}
+        parser.add_argument(f"--{name.replace('_', '-')}", **kind)
+    return parser.parse_args()
 
 
 def sample(file: str) -> bytes:
@@ -47,6 +67,13 @@ def need(*targets: str) -> None:
     """Builds targets of tools/build. Ends the script if one can't be built."""
     if subprocess.run([ROOT / "tools/build", *targets]).returncode:
         sys.exit(f"{', '.join(targets)}: not built")
+
+
+def bench_libraries() -> List[Path]:
+    """The static libraries for a program that calls szg_bench, which is built. KIT is the folder of the Rattle kit."""
+    need("szg_bench")
+    kit = os.environ.get("KIT") or Path(subprocess.check_output(["rt", "doc"], text=True).strip()).parent
+    return [ROOT / "crates/szg_bench/out/libszg_bench.a", Path(kit) / "c/liblibc_c.a"]
 
 
 def run(data: bytes, *words: Word) -> "tuple[int, bytes]":
@@ -76,6 +103,26 @@ def compile_c(program: Path, *words: Word) -> Path:
     found = [ROOT / word if isinstance(word, str) and word.endswith(".c") else word for word in words]
     subprocess.run([CC, "-O2", "-Wall", "-Wextra", f"-I{ROOT / 'bindings'}", "-o", program, *found], check=True)
     return program
+
+
+class Stockfish:
+    """A running Stockfish."""
+
+    def __init__(self, program: Word = STOCKFISH) -> None:
+        self.ran = subprocess.Popen([program], stdin=subprocess.PIPE, stdout=subprocess.PIPE, text=True)
+
+    def say(self, *lines: str) -> None:
+        self.ran.stdin.write("".join(f"{line}\n" for line in lines))
+        self.ran.stdin.flush()
+
+    def until(self, word: str) -> List[str]:
+        """The lines that it prints, up to one that begins with a word."""
+        lines = []
+        for line in self.ran.stdout:
+            lines.append(line.strip())
+            if line.startswith(word):
+                return lines
+        sys.exit("Stockfish ended")
 
 
 class Checks:

@@ -11,16 +11,26 @@
 #include <stdlib.h>
 #include <sys/types.h>
 
-static unsigned long asked = 0, moves = 0, interrupted = 0;
+static unsigned long asked, moves, interrupted, refused, most = -1ul, interruptions, fails_at;
+static int fails_on;
 
-static unsigned long number_of(const char *name) {
+static unsigned long number_of(const char *name, unsigned long otherwise) {
     const char *text = getenv(name);
-    return text ? strtoul(text, NULL, 10) : 0;
+    return text ? strtoul(text, NULL, 10) : otherwise;
+}
+
+/* Reads the environment once, at the first call. */
+static void read_settings(void) {
+    static int are_read;
+    if (are_read) return;
+    are_read = 1;
+    refused = number_of("REFUSE", 0), most = number_of("MOST", -1ul), interruptions = number_of("INTERRUPTED", 0);
+    fails_at = number_of("FAIL", 0), fails_on = number_of("FAIL_ON", 0) != 0;
 }
 
 static int is_refused(void) {
-    asked += 1;
-    return number_of("REFUSE") == asked;
+    read_settings();
+    return ++asked == refused;
 }
 
 void *malloc(size_t size) {
@@ -33,58 +43,33 @@ void *realloc(void *old, size_t size) {
     return is_refused() ? NULL : next(old, size);
 }
 
-/* What a call answers in place of being done, or 0. */
-static int fault_of_call(void) {
-    static unsigned long before = 0, fails_at = 0;
-    static int known = 0, stays = 0;
-    if (!known) {
-        before = number_of("INTERRUPTED");
-        fails_at = number_of("FAIL");
-        stays = number_of("FAIL_ON") != 0;
-        known = 1;
-    }
-    if (interrupted < before) {
-        interrupted += 1;
-        return EINTR;
-    }
+/* Whether a read or write is done; else errno says why. */
+static int is_done(void) {
+    read_settings();
+    if (interrupted < interruptions) return interrupted++, errno = EINTR, 0;
     interrupted = 0;
     moves += 1;
-    return fails_at && (moves == fails_at || (stays && moves > fails_at)) ? EIO : 0;
+    if (!fails_at || moves < fails_at || (moves > fails_at && !fails_on)) return 1;
+    return errno = EIO, 0;
 }
 
-static size_t at_most(size_t size) {
-    static unsigned long most = 0;
-    if (!most) {
-        most = number_of("MOST");
-        if (!most) most = -1ul;
-    }
-    return size < most ? size : most;
+static size_t at_most(size_t size) { return size < most ? size : most; }
+
+ssize_t read(int file, void *chunk, size_t size) {
+    ssize_t (*next)(int, void *, size_t) = (ssize_t (*)(int, void *, size_t))dlsym(RTLD_NEXT, "read");
+    if (file != 0) return next(file, chunk, size);
+    return is_done() ? next(file, chunk, at_most(size)) : -1;
 }
 
-ssize_t read(int file, void *piece, size_t size) {
-    static ssize_t (*next)(int, void *, size_t) = NULL;
-    int fault = file == 0 ? fault_of_call() : 0;
-    if (!next) next = (ssize_t (*)(int, void *, size_t))dlsym(RTLD_NEXT, "read");
-    if (!fault) return next(file, piece, file == 0 ? at_most(size) : size);
-    errno = fault;
-    return -1;
-}
-
-ssize_t write(int file, const void *piece, size_t size) {
-    static ssize_t (*next)(int, const void *, size_t) = NULL;
-    int fault = file == 1 ? fault_of_call() : 0;
-    if (!next) next = (ssize_t (*)(int, const void *, size_t))dlsym(RTLD_NEXT, "write");
-    if (!fault) return next(file, piece, file == 1 ? at_most(size) : size);
-    errno = fault;
-    return -1;
+ssize_t write(int file, const void *chunk, size_t size) {
+    ssize_t (*next)(int, const void *, size_t) = (ssize_t (*)(int, const void *, size_t))dlsym(RTLD_NEXT, "write");
+    if (file != 1) return next(file, chunk, size);
+    return is_done() ? next(file, chunk, at_most(size)) : -1;
 }
 
 __attribute__((destructor)) static void tell(void) {
     const char *name = getenv("ASKED");
     unsigned long all = asked, done = moves;
     FILE *file = name ? fopen(name, "w") : NULL;
-    if (file) {
-        fprintf(file, "%lu %lu\n", all, done);
-        fclose(file);
-    }
+    if (file) fprintf(file, "%lu %lu\n", all, done), fclose(file);
 }

@@ -174,7 +174,11 @@ static void compare_lists(const reader_subtable *sub) {
     if (random_one_in(4)) {
         for (int i = 0; i < 3; i++) indexes[i] = any_index(sub);
         same("szg_values_at", szg_values_at(TABLE_WORDS, part, side, indexes, 3, values, 3, &answer), SZG_DONE);
-        for (int i = 0; i < 3; i++) same("value of a list", values[i], reader_value(sub, indexes[i]));
+        for (int i = 0; i < 3; i++) {
+            uint32_t block;
+            reader_fetch(sub, indexes[i], due, &block);
+            same("value of a list", values[i], *due);
+        }
     }
     if (sub->size > (sub->constant ? 40000 : LISTED_MOST) || !random_one_in(sub->constant ? 16 : 2)) return;
     reader_values(sub, due);
@@ -332,7 +336,7 @@ static void compare_front(const reader_material *material) {
     if (now.length > sizeof bytes) return;
     is_front = true;
     memcpy(bytes, now.bytes, now.length);
-    reader_read_front(&t, material, now.dtz, bytes, now.length);
+    reader_read(&t, material, now.dtz, bytes, now.length, true);
     same_answer("szg_open_front", &t, szg_open_front(now.name, strlen(now.name), now.dtz, bytes, now.length, &front, &answer), &answer);
     if (t.reason) {
         same("szg_front_size of no front", szg_front_size(&front, 0, 0, &size), SZG_CLOSED);
@@ -358,7 +362,7 @@ bool compare(const char *name, bool dtz, const uint8_t *bytes, size_t length) {
         fprintf(stderr, "%s is no material\n", name);
         exit(2);
     }
-    reader_read(&t, &material, dtz, bytes, length);
+    reader_read(&t, &material, dtz, bytes, length, false);
     counts.ended[t.reason]++;
     compare_verdict(&t);
     if (t.reason)

@@ -8,7 +8,7 @@ int main(int count, char **words) {
     if (count != 4) return 2;
     const char *call = words[2];
     uint64_t times = strtoull(words[3], NULL, 10), sum = 0;
-    szg_table table = SZG_NO_TABLE, other = SZG_NO_TABLE;
+    szg_table other = SZG_NO_TABLE;
     load_sample(words[1], strcmp(call, "get_long") == 0 ? PAIRED : UNPAIRED);
     want("open", szg_open(OF_FILE, &table, &answer), SZG_DONE);
     for (uint64_t i = 0; i < times; i++) {

@@ -4,8 +4,6 @@
 #include "trying.h"
 #include "refusing.h"
 
-static szg_table table = SZG_NO_TABLE;
-
 static const struct { uint32_t number; const char *name; } statuses[] = {
     {SZG_DONE, "Done"}, {SZG_NAME, "Name"}, {SZG_REFUSED, "Refused"}, {SZG_MEMORY, "Memory"}, {SZG_RANGE, "Range"},
     {SZG_CLOSED, "Closed"}, {SZG_MAN, "Man"}, {SZG_MEN, "Men"}, {SZG_SAME_SQUARE, "SameSquare"},
@@ -90,8 +88,6 @@ static szg_man man(uint8_t kind, uint8_t color, uint8_t square) {
     return (szg_man){.kind = kind, .color = color, .square = square};
 }
 
-static uint32_t hold(void) { return szg_open(OF_FILE, &table, &answer); }
-
 /* The status of szg_index for White's king on e1, a second man of White and Black's king, White to move. */
 static uint32_t index_of(uint8_t kind, uint8_t square, uint8_t black_king, szg_spot *spot) {
     const szg_man men[] = {man(SZG_KING, SZG_WHITE, 4), man(kind, SZG_WHITE, square), man(SZG_KING, SZG_BLACK, black_king)};
@@ -108,7 +104,7 @@ static void kinds(const char *data) {
     for (int i = 0; i < 4; i++) {
         bytes[7] = tables[i].code;
         take(tables[i].name, tables[i].name, false, length);
-        want("open", hold(), SZG_DONE);
+        hold();
         for (int k = 0; k < 4; k++)
             want("kind", index_of(tables[k].kind, 20, 60, &spot), i == k ? SZG_DONE : SZG_OTHER_MATERIAL);
         want("pawn", index_of(SZG_PAWN, 20, 60, &spot), SZG_OTHER_MATERIAL);
@@ -122,7 +118,7 @@ static void pawns(const char *data) {
     int64_t outcome;
     uint32_t number;
     load_sample(data, MAPPED);
-    want("open", hold(), SZG_DONE);
+    hold();
     want("e2", index_of(SZG_PAWN, 12, 60, &spot), SZG_DONE);
     want("part", spot.part, 3);
     want("side", spot.side, 0);
@@ -148,7 +144,7 @@ static void refused_men(const char *data) {
     int64_t outcome;
     load_sample(data, CONSTANT);
     bytes[11] = bytes[13] = 5;
-    want("open", hold(), SZG_DONE);
+    hold();
     const szg_man men[] = {man(SZG_KING, SZG_WHITE, 4), man(SZG_KNIGHT, SZG_WHITE, 20), man(SZG_KING, SZG_BLACK, 60)};
     want("class", szg_probe(&table, men, 3, SZG_WHITE, 0, &outcome), SZG_NO_CLASS);
     want("kind", index_of(0, 20, 60, &spot), SZG_MAN);
@@ -158,7 +154,7 @@ static void refused_men(const char *data) {
     want("same square", index_of(SZG_KNIGHT, 60, 60, &spot), SZG_SAME_SQUARE);
     for (int irregular = 0; irregular < 2; irregular++) {
         make_bishops(irregular);
-        want("open", hold(), SZG_DONE);
+        hold();
         const szg_man four[] = {man(SZG_KING, SZG_WHITE, 0), man(SZG_BISHOP, SZG_WHITE, 18), man(SZG_BISHOP, SZG_WHITE, 36),
                                 man(SZG_KING, SZG_BLACK, 1)};
         want("bishops", szg_index(&table, four, 4, SZG_WHITE, &spot), irregular ? SZG_IRREGULAR : SZG_KINGS_TOUCH);
@@ -170,19 +166,17 @@ static void other_statuses(const char *data) {
     uint16_t value;
     uint64_t size;
     szg_byte_range range = {7, 7};
-    szg_front front = SZG_NO_FRONT;
     szg_bad_block bad = {7, 7};
     load_sample(data, PAIRED);
     want("name", szg_open("KvKQ", 4, false, bytes, length, &table, &answer), SZG_NAME);
     allowed = 0;
-    want("memory", hold(), SZG_MEMORY);
+    want("memory", szg_open(OF_FILE, &table, &answer), SZG_MEMORY);
     want("closed", szg_get(&table, 0, 0, 0, &value), SZG_CLOSED);
-    want("done", hold(), SZG_DONE);
+    hold();
     want("part", szg_positions(&table, 1, 0, &size), SZG_RANGE);
     want("index", szg_get(&table, 0, 0, 31332, &value), SZG_RANGE);
     want("check", szg_check(OF_FILE, &answer), SZG_DONE);
     want("bytes of the table", (int64_t)answer.place, (int64_t)length);
-    want("front", szg_open_front(OF_FILE, &front, &answer), SZG_DONE);
     want("find", szg_front_find(&front, 0, 0, 31331, &range), SZG_DONE);
     want("second block", (int64_t)range.offset, 288);
     want("bytes of a block", (int64_t)range.count, 32);
@@ -192,8 +186,7 @@ static void other_statuses(const char *data) {
     want("its number", bad.block, 0);
     want("its offset", (int64_t)bad.offset, 256);
     want("second block", szg_front_get(&front, bytes, length, 0, 0, 31331, &value, &bad), SZG_DONE);
-    szg_close_front(&front);
-    szg_close(&table);
+    let_go();
 }
 
 /* A tablebase without the table, with it, and with its blocks damaged. */
@@ -284,6 +277,6 @@ int main(int count, char **words) {
     tablebases(words[1]);
     folders(words[3]);
     boards();
-    szg_close(&table);
+    let_go();
     return ended();
 }

@@ -187,45 +187,33 @@ static void try_huge_sizes(void) {
     }
 }
 
-static void resize(struct held *h, bool may_be_refused) {
+/* Frees a block, or makes or resizes it. */
+static void step(struct held *h, bool may_be_refused) {
+    bool is_new = h->block == NULL;
+    if (!is_new && draw() % 3 == 0) {
+        expect_bytes(h->block, h->size, h->size, h->seed);
+        rattle_dealloc(h->block);
+        h->block = NULL;
+        return;
+    }
     size_t size = draw_size(), kept = draw() % 4 ? h->size : h->size / 2;
     if (kept > size) kept = size;
-    until_refusal = may_be_refused ? draw() % 3 : INT64_MAX;
-    struct tried got = rattle_realloc(h->block, kept, size, 16);
+    until_refusal = may_be_refused ? draw() % (is_new ? 2 : 3) : INT64_MAX;
+    struct tried got = is_new ? rattle_alloc(size, 16) : rattle_realloc(h->block, kept, size, 16);
     until_refusal = INT64_MAX;
     expect_foreign();
     if (!got.ok) {
         expect(may_be_refused && got.block != NULL, "a refusal without a cause, or with NULL");
-        expect_bytes(h->block, h->size, h->size, h->seed);
+        if (!is_new) expect_bytes(h->block, h->size, h->size, h->seed);
         return;
     }
     expect_place(&got, size);
-    expect_bytes(got.block, kept, h->size, h->seed);
+    if (is_new)
+        expect(size < 4 * MB || (advised_at == got.block && advised == length_of(size)), "no huge pages are requested for a large block");
+    else
+        expect_bytes(got.block, kept, h->size, h->seed);
     *h = (struct held){got.block, size, draw()};
     fill(h->block, h->size, h->seed);
-}
-
-static void step(struct held *h, bool may_be_refused) {
-    if (h->block == NULL) {
-        size_t size = draw_size();
-        until_refusal = may_be_refused ? draw() % 2 : INT64_MAX;
-        struct tried got = rattle_alloc(size, 16);
-        until_refusal = INT64_MAX;
-        if (!got.ok) {
-            expect(may_be_refused && got.block != NULL, "a refusal without a cause, or with NULL");
-            return;
-        }
-        expect_place(&got, size);
-        expect(size < 4 * MB || (advised_at == got.block && advised == length_of(size)), "no huge pages are requested for a large block");
-        *h = (struct held){got.block, size, draw()};
-        fill(h->block, h->size, h->seed);
-    } else if (draw() % 3) {
-        resize(h, may_be_refused);
-    } else {
-        expect_bytes(h->block, h->size, h->size, h->seed);
-        rattle_dealloc(h->block);
-        h->block = NULL;
-    }
 }
 
 /* A block grows where the kernel refuses to move its pages: its bytes are copied; it is refused where another thread has mapped

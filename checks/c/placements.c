@@ -2,14 +2,7 @@
  * refused, and the placement of each index of the sample tables: placements FOLDER. The status is 0 if all is as expected. */
 #include "trying.h"
 
-static szg_table table = SZG_NO_TABLE;
-static szg_front front = SZG_NO_FRONT;
 struct got { szg_man men[SZG_MAX_MEN + 2]; size_t count; uint8_t mover; };
-
-static void hold(void) {
-    want("open", szg_open(OF_FILE, &table, &answer), SZG_DONE);
-    want("open front", szg_open_front(OF_FILE, &front, &answer), SZG_DONE);
-}
 
 static void hold_sample(const char *folder, enum sample i) {
     load_sample(folder, i);
@@ -261,6 +254,6 @@ int main(int count, char **words) {
         pawns(folder);
         bishops();
         other_side();
-        szg_close(&table), szg_close_front(&front);
+        let_go();
     }
 }

@@ -8,8 +8,8 @@
 enum { SIZE = 31332 };
 #define OF_NO_MATERIAL "KvKQ", 4, dtz, bytes, length
 
-static szg_table table = SZG_NO_TABLE, second = SZG_NO_TABLE;
-static szg_front front = SZG_NO_FRONT, second_front = SZG_NO_FRONT;
+static szg_table second = SZG_NO_TABLE;
+static szg_front second_front = SZG_NO_FRONT;
 
 /* ---- What stays: all of these, which a call may write */
 
@@ -129,14 +129,13 @@ static void take_none(void) {
 
 static void attempt(void) {
     memcpy(original, bytes, sizeof bytes);
-    want("open", szg_open(OF_FILE, &table, &answer), SZG_DONE);
-    want("open front", szg_open_front(OF_FILE, &front, &answer), SZG_DONE);
+    hold();
     want("size", szg_positions(&table, 0, 0, &size), SZG_DONE);
     take_none();
     printf("%s: growths refused in turn:", file);
     for (size_t i = 0; i < sizeof growing / sizeof *growing; i++) printf(" %s %ld", growing[i].name, refuse_in_turn(growing[i].name, growing[i].call));
     puts("");
-    szg_close(&table), szg_close_front(&front);
+    let_go();
     want("blocks kept", held, 0);
 }
 
@@ -148,7 +147,7 @@ int main(int count, char **words) {
     whole_stays();
     handles_stay(true);
     handles_stay(false);
-    szg_close(&table), szg_close_front(&front);
+    let_go();
     each_sample(folder, attempt);
     return ended();
 }

@@ -14,9 +14,6 @@
 
 enum { KB = 1024, STACK = 1 << 20, READING = 56 * KB, LISTING = 32 * KB, OTHERS = 8 * KB, STEP = 97 };
 
-static szg_table table;
-static szg_front front;
-
 static uint32_t open_table(szg_table *into) { return szg_open(OF_FILE, into, &answer); }
 static uint32_t open_front(szg_front *into) { return szg_open_front(OF_FILE, into, &answer); }
 
@@ -55,8 +52,7 @@ static void attempt_lengths(uint8_t part, uint8_t side, uint64_t index) {
 }
 
 static void attempt_changed(void) {
-    want("open", open_table(&table), SZG_DONE);
-    want("open front", open_front(&front), SZG_DONE);
+    hold();
     for (uint8_t slot = 0; slot < 8; slot++) {
         uint64_t size = 0;
         if (szg_front_size(&front, slot / 2, slot % 2, &size) != SZG_DONE) continue;
@@ -191,10 +187,9 @@ static void make_deep(void) {
 
 static void attempt_deep(void) {
     make_deep();
-    want("open", open_table(&table), SZG_DONE);
-    want("open front", open_front(&front), SZG_DONE);
+    hold();
     attempt_stacks();
-    szg_close(&table), szg_close_front(&front);
+    let_go();
 }
 
 /* ---- A map whose file is truncated */
@@ -243,7 +238,7 @@ static void attempt(void) {
     attempt_stacks();
     attempt_handles();
     attempt_truncated();
-    szg_close(&table), szg_close_front(&front);
+    let_go();
 }
 
 int main(int count, char **words) {

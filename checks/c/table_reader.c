@@ -333,6 +333,49 @@ static uint64_t needed_of(const reader_subtable *sub, uint32_t block) {
     return held < left ? held : left;
 }
 
+/* Section 5: the word that begins the bits at *at: its symbol, with *at moved past it, or -1. */
+static int32_t next_symbol(const reader_subtable *sub, const uint8_t *block, uint64_t *at) {
+    uint64_t bits = (uint64_t)8 << sub->block_bits, v = 0;
+    for (int length = 1; length <= sub->max && *at + (uint64_t)length <= bits; length++) {
+        uint64_t bit = *at + (uint64_t)length - 1;
+        v = 2 * v + (block[bit / 8] >> (7 - bit % 8) & 1);
+        if (length < sub->min || v < sub->base[length]) continue;
+        uint64_t symbol = lowest_of(sub, length) + v - sub->base[length];
+        if (symbol >= sub->symbols) return -1;
+        *at += (uint64_t)length;
+        return (int32_t)symbol;
+    }
+    return -1;
+}
+
+/* Value number `within` of a symbol's expansion. */
+static uint16_t value_of_symbol(const reader_subtable *sub, uint32_t s, uint64_t within) {
+    while (right_of(sub, s) != 4095) {
+        uint32_t left = left_of(sub, s);
+        if (within < sub->expanded[left])
+            s = left;
+        else {
+            within -= sub->expanded[left];
+            s = right_of(sub, s);
+        }
+    }
+    return (uint16_t)left_of(sub, s);
+}
+
+/* Value number `within` of a block. Returns false if the words spell fewer values. */
+static bool decode(const reader_subtable *sub, const uint8_t *block, uint64_t within, uint16_t *value) {
+    uint64_t at = 0;
+    for (;;) {
+        int32_t symbol = next_symbol(sub, block, &at);
+        if (symbol < 0) return false;
+        if (within < sub->expanded[symbol]) {
+            *value = value_of_symbol(sub, (uint32_t)symbol, within);
+            return true;
+        }
+        within -= sub->expanded[symbol];
+    }
+}
+
 static bool read_blocks(reader_table *t, reader_subtable *sub) {
     if (!align(t, 64)) return false;
     sub->packed = t->bytes + t->at;
@@ -343,7 +386,7 @@ static bool read_blocks(reader_table *t, reader_subtable *sub) {
         size_t offset = t->at;
         if (!take(t, (uint64_t)1 << sub->block_bits, &field)) return false;
         uint64_t needed = needed_of(sub, block);
-        if (needed && !reader_decode(sub, field, needed - 1, &last)) return refuse(t, SZG_WORD, offset);
+        if (needed && !decode(sub, field, needed - 1, &last)) return refuse(t, SZG_WORD, offset);
     }
     return true;
 }
@@ -376,25 +419,12 @@ static bool read_rest(reader_table *t) {
     return align(t, 64) && take(t, 16, NULL);
 }
 
-static void read_table(reader_table *t, const reader_material *material, bool dtz, const uint8_t *bytes, size_t length, bool is_front) {
-    memset(t, 0, sizeof *t);
-    t->is_front = is_front;
-    t->material = *material;
-    t->dtz = dtz;
-    t->bytes = bytes;
-    t->length = length;
+void reader_read(reader_table *t, const reader_material *material, bool dtz, const uint8_t *bytes, size_t length, bool is_front) {
+    *t = (reader_table){.material = *material, .dtz = dtz, .bytes = bytes, .length = length, .is_front = is_front};
     t->part_count = material->has_pawns ? 4 : 1;
     t->side_count = !dtz && !material->symmetric ? 2 : 1;
     t->orders = material->has_pawns && material->other_pawns ? 2 : 1;
     (void)(read_beginning(t) && read_heads(t) && read_rest(t));
-}
-
-void reader_read(reader_table *t, const reader_material *material, bool dtz, const uint8_t *bytes, size_t length) {
-    read_table(t, material, dtz, bytes, length, false);
-}
-
-void reader_read_front(reader_table *t, const reader_material *material, bool dtz, const uint8_t *bytes, size_t length) {
-    read_table(t, material, dtz, bytes, length, true);
 }
 
 void reader_free(reader_table *t) {
@@ -404,68 +434,18 @@ void reader_free(reader_table *t) {
     }
 }
 
-/* ---- Sections 5, 6 and 11: words, values and numbers */
+/* ---- Sections 6 and 11: values and numbers */
 
 const reader_subtable *reader_subtable_of(const reader_table *t, int part, int side) {
     return part < t->part_count && side < t->side_count ? &t->subtables[part * t->side_count + side] : NULL;
 }
 
-/* The word that begins the bits at *at: its symbol, with *at moved past it, or -1. */
-static int32_t next_symbol(const reader_subtable *sub, const uint8_t *block, uint64_t *at) {
-    uint64_t bits = (uint64_t)8 << sub->block_bits, v = 0;
-    for (int length = 1; length <= sub->max && *at + (uint64_t)length <= bits; length++) {
-        uint64_t bit = *at + (uint64_t)length - 1;
-        v = 2 * v + (block[bit / 8] >> (7 - bit % 8) & 1);
-        if (length < sub->min || v < sub->base[length]) continue;
-        uint64_t symbol = lowest_of(sub, length) + v - sub->base[length];
-        if (symbol >= sub->symbols) return -1;
-        *at += (uint64_t)length;
-        return (int32_t)symbol;
-    }
-    return -1;
-}
-
-/* Value number `within` of a symbol's expansion. */
-static uint16_t value_of_symbol(const reader_subtable *sub, uint32_t s, uint64_t within) {
-    while (right_of(sub, s) != 4095) {
-        uint32_t left = left_of(sub, s);
-        if (within < sub->expanded[left])
-            s = left;
-        else {
-            within -= sub->expanded[left];
-            s = right_of(sub, s);
-        }
-    }
-    return (uint16_t)left_of(sub, s);
-}
-
-bool reader_decode(const reader_subtable *sub, const uint8_t *block, uint64_t within, uint16_t *value) {
-    uint64_t at = 0;
-    for (;;) {
-        int32_t symbol = next_symbol(sub, block, &at);
-        if (symbol < 0) return false;
-        if (within < sub->expanded[symbol]) {
-            *value = value_of_symbol(sub, (uint32_t)symbol, within);
-            return true;
-        }
-        within -= sub->expanded[symbol];
-    }
-}
-
-uint32_t reader_block_of(const reader_subtable *sub, uint64_t index, uint64_t *within) {
+/* The block of a value in a subtable that isn't constant, and the value's number in this block. */
+static uint32_t block_of(const reader_subtable *sub, uint64_t index, uint64_t *within) {
     uint32_t block = 0;
     while (sub->start[block + 1] <= index) block++;
     *within = index - sub->start[block];
     return block;
-}
-
-uint16_t reader_value(const reader_subtable *sub, uint64_t index) {
-    uint16_t value = sub->value;
-    uint64_t within;
-    if (sub->constant) return value;
-    uint32_t block = reader_block_of(sub, index, &within);
-    reader_decode(sub, sub->packed + ((uint64_t)block << sub->block_bits), within, &value);
-    return value;
 }
 
 bool reader_fetch(const reader_subtable *sub, uint64_t index, uint16_t *value, uint32_t *block) {
@@ -475,9 +455,9 @@ bool reader_fetch(const reader_subtable *sub, uint64_t index, uint16_t *value, u
         *value = sub->value;
         return true;
     }
-    *block = reader_block_of(sub, index, &within);
+    *block = block_of(sub, index, &within);
     const uint8_t *bytes = sub->packed + ((uint64_t)*block << sub->block_bits);
-    return reader_decode(sub, bytes, needed_of(sub, *block) - 1, &last) && reader_decode(sub, bytes, within, value);
+    return decode(sub, bytes, needed_of(sub, *block) - 1, &last) && decode(sub, bytes, within, value);
 }
 
 /* Appends the values of a symbol, at most `room` of them; returns how many. */

@@ -59,25 +59,15 @@ typedef struct {
 /* Parses a name. Returns whether it is a material's. */
 bool reader_parse(const char *name, size_t length, reader_material *material);
 
-/* Reads a table; `bytes` must outlive it. reader_free releases what it holds, also after a refusal. */
-void reader_read(reader_table *table, const reader_material *material, bool dtz, const uint8_t *bytes, size_t length);
+/* Reads a table; `bytes` must outlive it. Of a front the blocks aren't read, but the bytes must be long enough for them and for
+ * what follows them. reader_free releases what a table holds, also after a refusal. */
+void reader_read(reader_table *table, const reader_material *material, bool dtz, const uint8_t *bytes, size_t length, bool is_front);
 void reader_free(reader_table *table);
-
-/* Reads all of a table but its blocks, and finds whether the bytes are long enough for these and what follows them. */
-void reader_read_front(reader_table *table, const reader_material *material, bool dtz, const uint8_t *bytes, size_t length);
 
 /* The subtable of a part's side, or NULL. */
 const reader_subtable *reader_subtable_of(const reader_table *table, int part, int side);
 
-/* The block of a value in a subtable that isn't constant, and the value's number in this block. */
-uint32_t reader_block_of(const reader_subtable *sub, uint64_t index, uint64_t *within);
-
-/* Value number `within` of a block. Returns false if the words spell fewer values. */
-bool reader_decode(const reader_subtable *sub, const uint8_t *block, uint64_t within, uint16_t *value);
-
-uint16_t reader_value(const reader_subtable *sub, uint64_t index);
-
-/* The value at an index, and its block, in bytes of which a front was read. Returns false if this block has too few values;
+/* The value at an index, and its block, which may be damaged if a front was read. Returns false if this block has too few values;
  * then the value stays. In a constant subtable the block stays. */
 bool reader_fetch(const reader_subtable *sub, uint64_t index, uint16_t *value, uint32_t *block);
 

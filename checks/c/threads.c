@@ -31,7 +31,7 @@ static uint32_t size_by(struct handle *handle) {
     return handle->is_front ? szg_front_size(&handle->front, 0, 0, &size) : szg_positions(&handle->table, 0, 0, &size);
 }
 
-static void let_go(struct handle *handle) {
+static void let_go_of(struct handle *handle) {
     szg_close(&handle->table);
     szg_close_front(&handle->front);
 }
@@ -45,9 +45,9 @@ static void *ask(void *given) {
             bool is_shared = i % 49 == 0 && share(own, &shared) == SZG_DONE;
             own->faults += i % 49 == 0 && !is_shared;
             if (get(is_shared ? &shared : own, i, &value) != SZG_DONE || value != values[i]) own->faults++;
-            let_go(&shared);
+            let_go_of(&shared);
         }
-    let_go(own);
+    let_go_of(own);
     return NULL;
 }
 
@@ -67,7 +67,7 @@ static void try_threads(bool is_front) {
         want("share", share(&first, &own[i]), SZG_DONE);
         want("thread", pthread_create(&own[i].thread, NULL, ask, &own[i]), 0);
     }
-    let_go(&first);
+    let_go_of(&first);
     for (int i = 0; i < THREADS; i++) {
         pthread_join(own[i].thread, NULL);
         want(is_front ? "faults of a thread by a front" : "faults of a thread", (int64_t)own[i].faults, 0);
@@ -75,13 +75,12 @@ static void try_threads(bool is_front) {
 }
 
 int main(int count, char **words) {
-    szg_table table = SZG_NO_TABLE;
     load_sample(folder_of(count, words), UNPAIRED);
-    want("open", szg_open(OF_FILE, &table, &answer), SZG_DONE);
+    hold();
     want("size", szg_positions(&table, 0, 0, &size), SZG_DONE);
     values = malloc(size * sizeof *values);
     want("values", szg_all(&table, 0, 0, values, size), SZG_DONE);
-    szg_close(&table);
+    let_go();
     if (!failed) try_threads(false), try_threads(true);
     free(values);
     return ended();

@@ -14,6 +14,9 @@ static size_t length;
 #define OF_FILE name, strlen(name), dtz, bytes, length
 static szg_answer answer;
 static int failed;
+/* A handle of its table, and one of its front. */
+static szg_table table = SZG_NO_TABLE;
+static szg_front front = SZG_NO_FRONT;
 
 enum sample { CONSTANT, UNPAIRED, PAIRED, MAPPED, SAMPLES };
 static const struct { const char *file, *name; bool dtz; } samples[SAMPLES] = {
@@ -28,6 +31,13 @@ static inline void want(const char *what, int64_t got, int64_t wanted) {
 static inline void take(const char *its_file, const char *its_name, bool is_dtz, size_t n) {
     file = its_file, name = its_name, dtz = is_dtz, length = n;
 }
+
+static inline void hold(void) {
+    want("open", szg_open(OF_FILE, &table, &answer), SZG_DONE);
+    want("open front", szg_open_front(OF_FILE, &front, &answer), SZG_DONE);
+}
+
+static inline void let_go(void) { szg_close(&table), szg_close_front(&front); }
 
 static inline void load(const char *folder, const char *its_file, const char *its_name, bool is_dtz) {
     char path[4096];
@@ -52,8 +62,8 @@ static inline void make_bishops(bool in_two_groups) {
     take("bishops", "KBBvK", false, 80);
 }
 
-/* Makes each look-up at an index of part a, side 0, by both handles, and writes each text. */
-static inline void look_up_by_each_call(szg_table *table, szg_front *front, uint64_t i) {
+/* Makes each look-up at an index of part a, side 0, by two handles, and writes each text. */
+static inline void look_up_by_each_call(szg_table *of, szg_front *to, uint64_t i) {
     char text[SZG_TEXT_SIZE];
     szg_man men[SZG_MAX_MEN];
     size_t count = 0;
@@ -65,18 +75,18 @@ static inline void look_up_by_each_call(szg_table *table, szg_front *front, uint
     szg_spot spot;
     szg_byte_range range = {0, 0};
     szg_bad_block bad;
-    want("get", szg_get(table, 0, 0, i, &value), SZG_DONE);
-    want("front get", szg_front_get(front, bytes, length, 0, 0, i, &value, &bad), SZG_DONE);
-    want("front find", szg_front_find(front, 0, 0, i, &range), SZG_DONE);
-    want("front value", szg_front_value(front, 0, 0, i, bytes + range.offset, range.count, &value, &bad), SZG_DONE);
-    want("placement", szg_placement(table, 0, 0, i, men, SZG_MAX_MEN, &count, &mover), SZG_DONE);
-    want("front placement", szg_front_placement(front, 0, 0, i, men, SZG_MAX_MEN, &count, &mover), SZG_DONE);
-    want("index", szg_index(table, men, count, mover, &spot), SZG_DONE);
-    want("front index", szg_front_index(front, men, count, mover, &spot), SZG_DONE);
-    want("size", szg_positions(table, 0, 0, &size), SZG_DONE);
-    want("front size", szg_front_size(front, 0, 0, &size), SZG_DONE);
-    szg_probe(table, men, count, mover, 2, &outcome), szg_front_probe(front, bytes, length, men, count, mover, 2, &outcome, &bad);
-    szg_number(table, 0, 2, value, &number), szg_front_number(front, 0, 2, value, &number);
+    want("get", szg_get(of, 0, 0, i, &value), SZG_DONE);
+    want("front get", szg_front_get(to, bytes, length, 0, 0, i, &value, &bad), SZG_DONE);
+    want("front find", szg_front_find(to, 0, 0, i, &range), SZG_DONE);
+    want("front value", szg_front_value(to, 0, 0, i, bytes + range.offset, range.count, &value, &bad), SZG_DONE);
+    want("placement", szg_placement(of, 0, 0, i, men, SZG_MAX_MEN, &count, &mover), SZG_DONE);
+    want("front placement", szg_front_placement(to, 0, 0, i, men, SZG_MAX_MEN, &count, &mover), SZG_DONE);
+    want("index", szg_index(of, men, count, mover, &spot), SZG_DONE);
+    want("front index", szg_front_index(to, men, count, mover, &spot), SZG_DONE);
+    want("size", szg_positions(of, 0, 0, &size), SZG_DONE);
+    want("front size", szg_front_size(to, 0, 0, &size), SZG_DONE);
+    szg_probe(of, men, count, mover, 2, &outcome), szg_front_probe(to, bytes, length, men, count, mover, 2, &outcome, &bad);
+    szg_number(of, 0, 2, value, &number), szg_front_number(to, 0, 2, value, &number);
     szg_version(text, sizeof text), szg_status_text(SZG_MEMORY, text, sizeof text), szg_reason_text(SZG_WORD, text, sizeof text);
 }
 

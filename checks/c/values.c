@@ -4,8 +4,7 @@
 
 enum { MOST = 1 << 17 };
 
-static szg_table table = SZG_NO_TABLE;
-static szg_front front = SZG_NO_FRONT, first = SZG_NO_FRONT;
+static szg_front first = SZG_NO_FRONT;
 static uint16_t values[MOST], listed[MOST];
 
 /* The checks of whole files: with more bytes after the table, cut, of another kind, and without a material. */
@@ -148,7 +147,7 @@ static void attempt(void) {
     want("closed front", szg_front_size(&first, 0, 0, &size), SZG_CLOSED);
     compare_sides();
     compare_numbers();
-    for (int twice = 0; twice < 2; twice++) szg_close(&table), szg_close_front(&front);
+    for (int twice = 0; twice < 2; twice++) let_go();
     want("closed", szg_positions(&table, 0, 0, &size), SZG_CLOSED);
     want("closed front", szg_front_size(&front, 0, 0, &size), SZG_CLOSED);
 }
