@@ -1,5 +1,5 @@
 -- Lists and their elements.
-use Rattle.std.proofs.Common.{◌≡◌, List, [], ◌∷◌, get_or, zero, suc, refl, sym, ap, ◌∙◌, Bool, true, false, arith, inl, inr, ◌⊎◌}
+use Rattle.std.proofs.Common.{◌≡◌, ℕ, List, [], ◌∷◌, get_or, zero, suc, refl, sym, ap, ◌∙◌, Bool, true, false, arith, inl, inr, ◌⊎◌}
 use Rattle.std.specs.Prelude.{filter, flat_map, map, not, ◌||◌, ◌==◌}
 use Rattle.std.specs.List.{list_any, list_all, All, Contains}
 use Rattle.std.proofs.lemmas.Bool.{cases_Bool, and_parts, or_parts, eq-eqb, both_ways, not-true}
@@ -29,6 +29,13 @@ some_of test xs e = let found = Any-from_list_any test xs e in (found.1, ((found
 pub none_of : {X : Type 0} (test : X → Bool) (xs : List X) → list_any test xs ≡ false → All (λ x. test x ≡ false) xs
 none_of {X} test [] e = All-nil (λ (x : X). test x ≡ false)
 none_of {X} test (x ∷ xs) e = let parts = or_parts (test x) (list_any test xs) e in All-cons (λ (y : X). test y ≡ false) x xs parts.0 (none_of test xs parts.1)
+
+-- if no man is on a square, all men are off it
+pub all_off : (square : ℕ) (men : List PlacedMan) → list_any (λ s. s.2 == square) men ≡ false → filter (λ s. not (s.2 == square)) men ≡ men
+all_off square [] e = refl
+all_off square (s ∷ men) e =
+    let parts = or_parts (s.2 == square) (list_any (λ u. u.2 == square) men) e in
+    rw parts.0 (ap (λ (us : List PlacedMan). s ∷ us) (all_off square men parts.1))
 
 pub all_of : {X : Type 0} (test : X → Bool) (xs : List X) → All (λ x. test x ≡ true) xs → list_all test xs ≡ true
 all_of test [] all = refl

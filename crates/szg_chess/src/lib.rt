@@ -4,7 +4,7 @@
 //! move. The code is proved to compute them.
 #![tactic(auto)]
 
-use arrayvec::ArrayVec;
+use crate::men::Few;
 use std::marker::Model;
 use szg_values::{Color, Man, Square};
 use thiserror::Error;
@@ -12,6 +12,7 @@ use thiserror::Error;
 mod attacks;
 mod fen;
 pub mod laws;
+mod men;
 mod moves;
 mod positions;
 mod san;
@@ -79,7 +80,7 @@ pub struct Move {
 /// Men on squares, the side to move, and the square that a pawn has just passed over by a double step.
 #[derive(Debug, Drop, PartialEq, Eq)]
 pub struct Position {
-    men: ArrayVec<(Man, Color, Square), 6>,
+    men: Few<(Man, Color, Square)>,
     /// The squares of the men, as bits.
     occupied: u64,
     mover: Color,
@@ -92,11 +93,11 @@ impl Model for Position {
 
     ghost Value = { Position };
 
-    ghost view = { λ p. record { placed_men = p.men.items; mover = p.mover; en_passant = p.en_passant } };
+    ghost view = { λ p. record { placed_men = p.men; mover = p.mover; en_passant = p.en_passant } };
 
-    ghost invariant = { λ p. IsStored (record { placed_men = p.men.items; mover = p.mover; en_passant = p.en_passant }) p.occupied };
+    ghost invariant = { λ p. IsStored (record { placed_men = p.men; mover = p.mover; en_passant = p.en_passant }) p.occupied };
 
-    ghost inverse = { λ p. record { men = record { items = p.placed_men }; occupied = squares_of p.placed_men; mover = p.mover; en_passant = p.en_passant } };
+    ghost inverse = { λ p. record { men = p.placed_men; occupied = squares_of p.placed_men; mover = p.mover; en_passant = p.en_passant } };
 }
 
 /// What a text in Forsyth-Edwards Notation says: a position and two counters.

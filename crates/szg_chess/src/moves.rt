@@ -1,6 +1,6 @@
 //! The moves of a position, and the position after a move.
 
-ghost use Rattle.std.specs.Prelude.{ℕ, true, ◌≡◌, ◌≢◌, ◌<◌, ◌≤◌, ◌+◌, ◌==◌, ◌&&◌, ◌||◌, ◌++◌, ◌∷◌, [], not, filter, flat_map, length, IsTrue, Some, None, unwrap_or, option_copied, if◌then◌else◌, Contains};
+ghost use Rattle.std.specs.Prelude.{ℕ, true, ◌≡◌, ◌≢◌, ◌<◌, ◌≤◌, ◌+◌, ◌==◌, ◌&&◌, ◌||◌, ◌++◌, ◌∷◌, [], not, filter, map, flat_map, length, IsTrue, Some, None, unwrap_or, option_copied, if◌then◌else◌, Contains};
 ghost use Rattle.std.specs.List.{All, find, list_any};
 ghost use Rattle.arrayvec.specs.ArrayVec.{array_vec_len};
 ghost use Rattle.szg_values.specs.Men.{is_man, is_color, other_color, file_of, rank_of, square_at};
@@ -12,6 +12,7 @@ ghost use Rattle.szg_chess.specs.Squares.{is_in, is_in_moved, squares_of, attack
 ghost use Rattle.szg_chess.specs.Moves.{men_of, promotes, moves_to, moves_if, may_pass, en_passant_moves, captures_by, captures_of, home_rank, double_rank, is_push, may_enter, quiet_moves_by, quiet_moves_of, moves_of, is_pawn_on, is_square, is_en_passant, captured_square, man_after, men_after, is_double_step, middle, after, is_legal, legal_moves, legal_captures, is_capture, is_zeroing, is_mate, is_stalemate, has_move_beside_en_passant};
 
 use crate::attacks::{attacks_past, files_apart, is_ahead, is_in, other_color, ranks_apart};
+use crate::men::{Few, moved};
 use crate::positions::is_on;
 use crate::{MAX_CAPTURES, MAX_MOVES, Move, Position};
 use arrayvec::ArrayVec;
@@ -42,6 +43,7 @@ impl Position {
     }
 
     /// Returns the position after a legal move.
+    #[inline(always)]
     #[tactic(auto, unfolding(crate::specs::Moves::after))]
     pub fn after(&self, m: Move) -> Position
         requires { Contains (legal_moves self.now) m }
@@ -302,14 +304,28 @@ impl Position {
     }
 
     /// Returns the men after a move.
+    #[inline(always)]
     #[tactic(auto, unfolding(crate::specs::Moves::men_after))]
-    fn men_after(&self, m: &Move, captured: u8) -> ArrayVec<(Man, Color, Square), 6>
-        requires { captured ≡ captured_square self.now m.now }
-        ensures men { result.items ≡ men_after self.now m.now }
+    fn men_after(&self, m: &Move, captured: u8) -> Few<(Man, Color, Square)>
+        requires captured { captured ≡ captured_square self.now m.now }
+        requires inside { captured < 64 }
+        ensures men { result ≡ men_after self.now m.now }
         // A fact that callers may use: the move is one of a position.
         ensures position { IsPosition self.now }
     {
-        let mut men = ArrayVec::new();
+        if self.is_occupied(captured) {
+            self.men_left(m, captured)
+        } else {
+            moved(&self.men, m)
+        }
+    }
+
+    /// Returns the men after a move, without the one on `captured`.
+    #[inline(always)]
+    fn men_left(&self, m: &Move, captured: u8) -> Few<(Man, Color, Square)>
+        ensures { result ≡ map (man_after m.now) (filter (λ s. not (s.2 == captured)) self.now.placed_men) }
+    {
+        let mut men = Few::new();
         for man in self.men() {
             if man.2.number() != captured {
                 men.push(man_after(m, man));
@@ -497,7 +513,8 @@ fn is_any_on(color: Color, men: &[(Man, Color, Square)], square: u8) -> bool
 }
 
 /// Returns a man after a move.
-fn man_after(m: &Move, man: &(Man, Color, Square)) -> (Man, Color, Square)
+#[inline(always)]
+pub(crate) fn man_after(m: &Move, man: &(Man, Color, Square)) -> (Man, Color, Square)
     ensures { result ≡ man_after m.now man.now }
 {
     if man.2.number() == m.from.number() {

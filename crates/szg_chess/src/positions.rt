@@ -11,8 +11,8 @@ ghost use Rattle.szg_chess.specs.Squares.{squares_of};
 ghost use Rattle.szg_chess.specs.Moves.{is_check};
 
 use crate::attacks::{is_in_check, other_color, squares_of};
+use crate::men::Few;
 use crate::{Position, PositionFault};
-use arrayvec::ArrayVec;
 use szg_values::{Color, Man, Placement, Square};
 
 impl Position {
@@ -53,7 +53,7 @@ impl Position {
             return Err(PositionFault::OpponentInCheck);
         }
         Ok(Position {
-            men: copy_men(men),
+            men: few_men(men),
             occupied,
             mover,
             en_passant,
@@ -89,7 +89,7 @@ impl Position {
         ensures { result ≡ self.now }
     {
         Position {
-            men: copy_men(self.men()),
+            men: self.men.copy(),
             occupied: self.occupied(),
             mover: self.mover(),
             en_passant: self.en_passant(),
@@ -101,7 +101,7 @@ impl Position {
         ensures { result ≡ without_en_passant self.now }
     {
         Position {
-            men: copy_men(self.men()),
+            men: self.men.copy(),
             occupied: self.occupied(),
             mover: self.mover(),
             en_passant: None,
@@ -294,11 +294,13 @@ fn was_passed(men: &[(Man, Color, Square)], mover: Color, square: u8) -> bool
     }
 }
 
-fn copy_men(men: &[(Man, Color, Square)]) -> ArrayVec<(Man, Color, Square), 6>
+fn few_men(men: &[(Man, Color, Square)]) -> Few<(Man, Color, Square)>
     requires { length men.now ≤ 6 }
-    ensures { result.items ≡ men.now }
+    ensures { result ≡ men.now }
 {
-    let mut copy = ArrayVec::new();
-    let _ = copy.try_extend_from_slice(men);
-    copy
+    let mut few = Few::new();
+    for man in men {
+        few.push(*man);
+    }
+    few
 }
