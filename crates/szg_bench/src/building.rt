@@ -17,7 +17,7 @@ const MEMORY: u32 = 2;
 /// How a C program asks for a table to be packed.
 #[repr(C)]
 #[derive(Clone, Copy)]
-pub struct Packing {
+pub struct PackingSizes {
     pub rounds: u32,
     pub block_bits: u8,
     pub span_bits: u8,
@@ -28,7 +28,7 @@ fn plan_of(
     alloc: Global,
     material: Material,
     men: &[u8],
-    packing: &Packing,
+    packing: &PackingSizes,
 ) -> Result<Plan, AllocError> {
     let mut parts = Vec::new(alloc);
     parts.push(PartBytes {
@@ -58,7 +58,7 @@ pub extern "C" fn szg_bench_build(
     name: &[u8],
     men: &[u8],
     values: &[u16],
-    packing: &Packing,
+    packing: &PackingSizes,
     length: &mut u64,
 ) -> u32 {
     let Ok(text) = str::from_utf8(name) else {

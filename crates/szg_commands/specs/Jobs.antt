@@ -1,5 +1,5 @@
 -- What a command line that names files asks for, by its command and by the values that were found for its arguments.
-use Rattle.std.specs.Prelude.{◌≡◌, ℕ, false, true, List, codes, map, Option, Some, option_map}
+use Rattle.std.specs.Prelude.{◌≡◌, ℕ, false, true, List, codes, map, Option, None, Some, option_map}
 use Rattle.std.specs.Str.{bytes_eq}
 use Rattle.clap.specs.Matches.{first_value}
 use Rattle.clap.specs.declared.parser.matches.Found.{Found}
@@ -26,6 +26,7 @@ pub record AreOptionsIn (found : Found) (options : CheckOptions) : Type 0 where
   pub trailing : options.allow_trailing ≡ is_word (first_value found (codes "allow-trailing")) (codes "true")
   pub format : options.format ≡ parsed_report_format (first_value found (codes "format"))
   pub quiet : options.quiet ≡ is_word (first_value found (codes "quiet")) (codes "true")
+  pub sums : options.sums ≡ None
 
 -- The request is that of the values that were found, on the table whose name and kind are given or in the file's name.
 pub record IsFileRequest (command : List ℕ) (found : Found) (request : Request) : Type 0 where
@@ -46,5 +47,6 @@ IsJobIn command found (LookUp request source) = (bytes_eq command (codes "build"
     × IsLookUp request.action × (is_word (first_value found (codes "verify")) (codes "true") ≡ false)
 IsJobIn command found (Run task source target) = IsFileTask command found task (option_map (λ path. path.now) source)
     × (option_map (λ path. path.now) target ≡ first_value found (codes "output"))
-IsJobIn command found (Check options paths) = (bytes_eq command (codes "check") ≡ true) × AreOptionsIn found options
+IsJobIn command found (Check options lists paths) = (bytes_eq command (codes "check") ≡ true) × AreOptionsIn found options
+    × (map (λ list. list.now) lists.items ≡ words_of found (codes "sums"))
     × (map (λ path. path.now) paths.items ≡ words_of found (codes "FILE"))

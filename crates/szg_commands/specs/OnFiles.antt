@@ -1,6 +1,6 @@
 -- What a command on files by their paths does.
 use Rattle.std.specs.Borrow.{Bor}
-use Rattle.std.specs.Prelude.{◌≡◌, ◌⊎◌, ℕ, List, map, Option, Some, None, IsSome, option_map, Ok, Err}
+use Rattle.std.specs.Prelude.{◌≡◌, ◌⊎◌, ℕ, List, [], ◌∷◌, map, Option, Some, None, IsSome, option_map, Ok, Err}
 use Rattle.szg_io.specs.declared.device.Input as input
 use Rattle.szg_io.specs.declared.device.Output as output
 use Rattle.szg_io.specs.Device.{HasFailed}
@@ -11,11 +11,12 @@ use Rattle.szg_build.specs.Dump as stated
 use Rattle.szg_files.specs.Draft.{published_target, published_text}
 use Rattle.szg_files.specs.FileSystem.{IsOpened}
 use Rattle.szg_files.specs.declared.draft.Published.{Published}
+use Rattle.szg_sums.specs.declared.lists.Sums.{Sums}
 use Rattle.szg_named.specs.Requested.{files_to_check}
 use Rattle.szg_named.specs.Verdicts.{IsFoundReport, plain_options}
 use Rattle.szg_named.specs.declared.many.CheckOptions.{CheckOptions}
-use Rattle.szg_named.specs.declared.stop.Stop.TheVariants as check_stops
-use Rattle.szg_named.specs.declared.stop.Tally.{Tally}
+use Rattle.szg_named.specs.declared.stop.CheckStop.TheVariants as check_stops
+use Rattle.szg_named.specs.declared.stop.CheckCounts.{CheckCounts}
 use Rattle.szg_commands.specs.Answers.{IsAnswer}
 use Rattle.szg_commands.specs.Builds.{IsBuiltIn, IsTextOf}
 use Rattle.szg_commands.specs.Chosen.{AsksFor, AsksForJob, AsksForNoJob, AsksForNone}
@@ -101,14 +102,23 @@ EndsTask (endings.Failed failure) Done Refused Failed Short = Failed
 EndsTask endings.Device Done Refused Failed Short = Failed
 EndsTask endings.Memory Done Refused Failed Short = Short
 EndsTask (endings.Checked stated) Done Refused Failed Short = ⊥
+EndsTask (endings.BadLine path line) Done Refused Failed Short = ⊥
 EndsTask (endings.Words outcome) Done Refused Failed Short = ⊥
 
 -- Files were checked: all of them, or the writer failed, or memory was refused.
-abbrev pub AreChecked : Ending → (Tally → Type 0) → Type 0 → Type 0
+abbrev pub AreChecked : Ending → (CheckCounts → Type 0) → Type 0 → Type 0
 AreChecked (endings.Checked (Ok tally)) Report Failed = Report tally
 AreChecked (endings.Checked (Err check_stops.Device)) Report Failed = Failed
 AreChecked (endings.Checked (Err check_stops.Memory)) Report Failed = Unit {0}
 AreChecked ending Report Failed = ⊥
+
+-- The same; or a list of sums can't be read, or memory was refused for it.
+abbrev pub EndsCheck : Ending → (CheckCounts → Type 0) → Type 0 → Type 0 → Type 0
+EndsCheck (endings.Checked stated) Report Failed Unread = AreChecked (endings.Checked stated) Report Failed
+EndsCheck (endings.Failed failure) Report Failed Unread = Unread
+EndsCheck (endings.BadLine path line) Report Failed Unread = Unread
+EndsCheck endings.Memory Report Failed Unread = Unread
+EndsCheck ending Report Failed Unread = ⊥
 
 -- What a run on a reader does: the clauses of `run`. The words may as well ask for no job on files.
 pub record HasRun {R W : Type 0} (finds : CommandForm → List (List ℕ) → ArgMatches → Type 0) (refuses : CommandForm → List (List ℕ) → Type 0) (reading : input.Ghosts R) (writing : output.Ghosts W)
@@ -156,13 +166,25 @@ IsShortOfMemory content failures filing reading writing task None system system'
 
 -- ---- what the words ask for
 
--- The words ask to check these files, with these options.
-abbrev pub IsCheckOf : FileJob → CheckOptions → List (List ℕ) → Type 0
-IsCheckOf (Check options found) options' paths = (options' ≡ options) × (paths ≡ map (λ path. path.now) found.items)
-IsCheckOf job options' paths = ⊥
+-- The words ask to check these files, with these options and lists of sums.
+abbrev pub IsCheckOf : FileJob → CheckOptions → List (Bor (List ℕ)) → List (List ℕ) → Type 0
+IsCheckOf (Check options lists found) options' lists' paths = (options' ≡ options) × (lists' ≡ lists.items) × (paths ≡ map (λ path. path.now) found.items)
+IsCheckOf job options' lists' paths = ⊥
 
-abbrev pub AsksToCheck : (CommandForm → List (List ℕ) → ArgMatches → Type 0) → List (List ℕ) → CheckOptions → List (List ℕ) → Type 0
-AsksToCheck finds words options paths = ((files_to_check words ≡ Some paths) × (options ≡ plain_options)) ⊎ ((job : FileJob) × AsksForJob finds words job × IsCheckOf job options paths)
+abbrev pub AsksToCheck : (CommandForm → List (List ℕ) → ArgMatches → Type 0) → List (List ℕ) → CheckOptions → List (Bor (List ℕ)) → List (List ℕ) → Type 0
+AsksToCheck finds words options lists paths =
+    ((files_to_check words ≡ Some paths) × (options ≡ plain_options) × (lists ≡ [])) ⊎ ((job : FileJob) × AsksForJob finds words job × IsCheckOf job options lists paths)
+
+-- The options of the words, and the sums of the lists, if there are lists.
+abbrev pub HasSums : CheckOptions → List (Bor (List ℕ)) → CheckOptions → Type 0
+HasSums options [] with_sums = with_sums ≡ options
+HasSums options (list ∷ lists) with_sums = (sums : Bor Sums)
+    × (with_sums ≡ record { naming = options.naming; allow_trailing = options.allow_trailing; format = options.format; quiet = options.quiet; sums = Some sums })
+
+-- These files were checked, and compared with the sums of the lists.
+abbrev pub IsSummedReport : {S F W : Type 0} → (S → List ℕ → Option (List ℕ)) → (S → ℕ) → input.Ghosts F → output.Ghosts W → CheckOptions → List (Bor (List ℕ)) → List (List ℕ) → S → S → W → W → CheckCounts → Type 0
+IsSummedReport content failures filing writing options lists paths system system' writer writer' tally =
+    (with_sums : CheckOptions) × HasSums options lists with_sums × IsFoundReport content failures filing writing with_sums paths system system' writer writer' tally
 
 -- The task that the words ask for was carried out; or the look-up was answered by a front, no file was written, and the
 -- reader stays.
@@ -200,8 +222,8 @@ HasShort finds content failures filing reading writing words system system' read
 -- What was done, by the ending.
 abbrev pub EndsWell : {S F R W : Type 0} → (CommandForm → List (List ℕ) → ArgMatches → Type 0) → (CommandForm → List (List ℕ) → Type 0) → (S → List ℕ → Option (List ℕ)) → (S → ℕ) → input.Ghosts F → input.Ghosts R → output.Ghosts W → List (List ℕ) → Ending → S → S → R → R → W → W → Type 0
 EndsWell finds refuses content failures filing reading writing words (endings.Checked stated) system system' reader reader' writer writer' =
-    (options : CheckOptions) × (paths : List (List ℕ)) × AsksToCheck finds words options paths × (reader' ≡ reader)
-    × AreChecked (endings.Checked stated) (IsFoundReport content failures filing writing options paths system system' writer writer')
+    (options : CheckOptions) × (lists : List (Bor (List ℕ))) × (paths : List (List ℕ)) × AsksToCheck finds words options lists paths × (reader' ≡ reader)
+    × AreChecked (endings.Checked stated) (IsSummedReport content failures filing writing options lists paths system system' writer writer')
     (HasFailed (writing.failures writer) (writing.failures writer') (writing.interrupted writer'))
 EndsWell finds refuses content failures filing reading writing words (endings.Done published) system system' reader reader' writer writer' =
     HasDone finds content failures filing reading writing words system system' reader reader' writer writer' published
@@ -210,6 +232,7 @@ EndsWell finds refuses content failures filing reading writing words endings.Ref
 EndsWell finds refuses content failures filing reading writing words (endings.Words outcome) system system' reader reader' writer writer' =
     (system' ≡ system) × HasRun finds refuses reading writing words outcome reader reader' writer writer'
 EndsWell finds refuses content failures filing reading writing words (endings.Failed failure) system system' reader reader' writer writer' = HasStopped finds writing words writer writer'
+EndsWell finds refuses content failures filing reading writing words (endings.BadLine path line) system system' reader reader' writer writer' = writer' ≡ writer
 EndsWell finds refuses content failures filing reading writing words endings.Device system system' reader reader' writer writer' = HasStopped finds writing words writer writer'
 EndsWell finds refuses content failures filing reading writing words endings.Memory system system' reader reader' writer writer' =
     HasShort finds content failures filing reading writing words system system' reader reader' writer writer'

@@ -1,17 +1,17 @@
 -- The program's status, by the ending of a run.
 use Rattle.std.specs.Prelude.{◌≡◌, ◌⊎◌, ℕ, nat_lt, Ok, Err, if◌then◌else◌}
-use Rattle.szg_named.specs.declared.stop.Stop.{Stop}
-use Rattle.szg_named.specs.declared.stop.Stop.TheVariants as check_stops
-use Rattle.szg_named.specs.declared.stop.Tally.{Tally}
+use Rattle.szg_named.specs.declared.stop.CheckStop.{CheckStop}
+use Rattle.szg_named.specs.declared.stop.CheckStop.TheVariants as check_stops
+use Rattle.szg_named.specs.declared.stop.CheckCounts.{CheckCounts}
 use Rattle.szg_commands.specs.Outcome.{OnDone, OnRefused, status_of}
 use Rattle.szg_commands.specs.declared.on_files.Ending.{Ending}
-use Rattle.szg_commands.specs.declared.on_files.Ending.TheVariants.{Checked, Done, Refused, Failed, Device, Memory, Words}
+use Rattle.szg_commands.specs.declared.on_files.Ending.TheVariants.{Checked, Done, Refused, Failed, BadLine, Device, Memory, Words}
 
 -- of files that were checked: 1 where one is refused, else 3 where one can't be read
-abbrev pub tally_status : Tally → ℕ
+abbrev pub tally_status : CheckCounts → ℕ
 tally_status tally = if nat_lt 0 tally.refused then 1 else if nat_lt 0 tally.unread then 3 else 0
 
-abbrev pub stop_status : Stop → ℕ
+abbrev pub stop_status : CheckStop → ℕ
 stop_status check_stops.Device = 3
 stop_status check_stops.Memory = 4
 
@@ -22,6 +22,7 @@ HasStatus (Checked (Err stop)) status = (status ≡ stop_status stop) ⊎ (statu
 HasStatus (Done published) status = status ≡ 0
 HasStatus Refused status = status ≡ 1
 HasStatus (Failed failure) status = (status ≡ 3) ⊎ (status ≡ 4)
+HasStatus (BadLine path line) status = status ≡ 3
 HasStatus Device status = status ≡ 3
 HasStatus Memory status = (status ≡ 4) ⊎ (status ≡ 3)
 HasStatus (Words outcome) status = ((status ≡ status_of outcome) ⊎ (status ≡ 3)) × OnDone outcome (status ≡ 0) × OnRefused outcome (status ≡ 1)

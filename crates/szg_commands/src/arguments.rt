@@ -6,7 +6,7 @@ use std::alloc::Global;
 
 /// The form of an argument on a command line.
 #[derive(Clone, Copy)]
-enum Form {
+enum ArgumentForm {
     /// A word that has to be there.
     Word,
     /// One or more words.
@@ -25,6 +25,10 @@ enum Form {
         value: &'static str,
         short: Option<char>,
     },
+    /// An option with a value, which may come several times.
+    Options {
+        value: &'static str,
+    },
     /// An option without a value.
     Flag,
 }
@@ -33,7 +37,7 @@ enum Form {
 #[derive(Clone, Copy)]
 pub struct Argument {
     id: &'static str,
-    form: Form,
+    form: ArgumentForm,
     values: ValueParser<'static>,
     /// Whether a negative number is a value, and no option.
     is_number: bool,
@@ -43,7 +47,7 @@ pub struct Argument {
 /// The table's name.
 pub const NAME: Argument = Argument {
     id: "NAME",
-    form: Form::Word,
+    form: ArgumentForm::Word,
     values: ValueParser::String,
     is_number: false,
     help: "Material of the table, such as KQvKR: 3 to 6 men, the side with more men first",
@@ -52,7 +56,7 @@ pub const NAME: Argument = Argument {
 /// A table's file.
 pub const FILE: Argument = Argument {
     id: "FILE",
-    form: Form::Word,
+    form: ArgumentForm::Word,
     values: ValueParser::String,
     is_number: false,
     help: "Table file; its name gives material and kind: KQvKR.rtbw is WDL, KQvKR.rtbz is DTZ",
@@ -61,7 +65,7 @@ pub const FILE: Argument = Argument {
 /// Tables' files, and folders of them.
 pub const FILES: Argument = Argument {
     id: "FILE",
-    form: Form::Words,
+    form: ArgumentForm::Words,
     values: ValueParser::String,
     is_number: false,
     help: "Table files, and folders: all table files below them; their names give material and{n}kind: KQvKR.rtbw is WDL, KQvKR.rtbz is DTZ",
@@ -70,7 +74,7 @@ pub const FILES: Argument = Argument {
 /// A folder of tables.
 pub const FOLDER: Argument = Argument {
     id: "FOLDER",
-    form: Form::Word,
+    form: ArgumentForm::Word,
     values: ValueParser::String,
     is_number: false,
     help: "Folder of table files",
@@ -79,7 +83,7 @@ pub const FOLDER: Argument = Argument {
 /// Materials of a folder.
 pub const NAMES: Argument = Argument {
     id: "NAME",
-    form: Form::OptionalWords,
+    form: ArgumentForm::OptionalWords,
     values: ValueParser::String,
     is_number: false,
     help: "Materials to verify, such as KQvKR, with those that captures and promotions lead to{n}[default: all of the folder]",
@@ -88,7 +92,7 @@ pub const NAMES: Argument = Argument {
 /// A dump's file.
 pub const DUMP: Argument = Argument {
     id: "DUMP",
-    form: Form::OptionalWord,
+    form: ArgumentForm::OptionalWord,
     values: ValueParser::String,
     is_number: false,
     help: "Dump file [default: standard input]",
@@ -97,7 +101,7 @@ pub const DUMP: Argument = Argument {
 /// The table's name, in place of the file name's.
 pub const NAME_GIVEN: Argument = Argument {
     id: "name",
-    form: Form::OptionalOption {
+    form: ArgumentForm::OptionalOption {
         value: "NAME",
         short: None,
     },
@@ -109,7 +113,7 @@ pub const NAME_GIVEN: Argument = Argument {
 /// The table's kind, in place of the file name's.
 pub const KIND_GIVEN: Argument = Argument {
     id: "kind",
-    form: Form::OptionalOption {
+    form: ArgumentForm::OptionalOption {
         value: "KIND",
         short: None,
     },
@@ -121,7 +125,7 @@ pub const KIND_GIVEN: Argument = Argument {
 /// The file to be written.
 pub const OUTPUT: Argument = Argument {
     id: "output",
-    form: Form::OptionalOption {
+    form: ArgumentForm::OptionalOption {
         value: "FILE",
         short: Some('o'),
     },
@@ -133,7 +137,7 @@ pub const OUTPUT: Argument = Argument {
 /// Whether bytes may follow a table.
 pub const ALLOW_TRAILING: Argument = Argument {
     id: "allow-trailing",
-    form: Form::Flag,
+    form: ArgumentForm::Flag,
     values: ValueParser::Bool,
     is_number: false,
     help: "Accept files with more bytes after the table",
@@ -142,16 +146,25 @@ pub const ALLOW_TRAILING: Argument = Argument {
 /// Whether a report has bad files alone.
 pub const QUIET: Argument = Argument {
     id: "quiet",
-    form: Form::Flag,
+    form: ArgumentForm::Flag,
     values: ValueParser::Bool,
     is_number: false,
     help: "Report only files that are refused or can't be read, and the summary",
 };
 
+/// Lists of the sums of files.
+pub const SUMS: Argument = Argument {
+    id: "sums",
+    form: ArgumentForm::Options { value: "LIST" },
+    values: ValueParser::NonEmptyString,
+    is_number: false,
+    help: "Compare each file with its sum in LIST, as md5sum, sha1sum, sha256sum or sha512sum{n}writes it; may be given several times",
+};
+
 /// The form of a report on files.
 pub const REPORT: Argument = Argument {
     id: "format",
-    form: Form::Option {
+    form: ArgumentForm::Option {
         value: "FORMAT",
         default: "text",
     },
@@ -163,7 +176,7 @@ pub const REPORT: Argument = Argument {
 /// The table's kind.
 pub const KIND: Argument = Argument {
     id: "KIND",
-    form: Form::Word,
+    form: ArgumentForm::Word,
     values: ValueParser::Names(&["wdl", "dtz"]),
     is_number: false,
     help: "Kind of the table: win, draw or loss (wdl), or distance to zeroing (dtz)",
@@ -172,7 +185,7 @@ pub const KIND: Argument = Argument {
 /// The index of a value or of a placement.
 pub const INDEX: Argument = Argument {
     id: "INDEX",
-    form: Form::Word,
+    form: ArgumentForm::Word,
     values: ValueParser::String,
     is_number: true,
     help: "Index in the part and side, from 0 to its number of values minus 1",
@@ -181,7 +194,7 @@ pub const INDEX: Argument = Argument {
 /// Who moves.
 pub const MOVER: Argument = Argument {
     id: "MOVER",
-    form: Form::Word,
+    form: ArgumentForm::Word,
     values: ValueParser::Names(&["w", "b"]),
     is_number: false,
     help: "Side to move: w for White, b for Black",
@@ -190,7 +203,7 @@ pub const MOVER: Argument = Argument {
 /// The men.
 pub const MEN: Argument = Argument {
     id: "MAN",
-    form: Form::Words,
+    form: ArgumentForm::Words,
     values: ValueParser::String,
     is_number: false,
     help: "3 to 6 men, each a letter (upper case for White) and a square, such as Ke1 kc8",
@@ -199,7 +212,7 @@ pub const MEN: Argument = Argument {
 /// The part of a table.
 pub const PART: Argument = Argument {
     id: "part",
-    form: Form::Option {
+    form: ArgumentForm::Option {
         value: "PART",
         default: "a",
     },
@@ -211,7 +224,7 @@ pub const PART: Argument = Argument {
 /// The side of a part.
 pub const SIDE: Argument = Argument {
     id: "side",
-    form: Form::Option {
+    form: ArgumentForm::Option {
         value: "SIDE",
         default: "0",
     },
@@ -223,7 +236,7 @@ pub const SIDE: Argument = Argument {
 /// The class in which a DTZ table is asked.
 pub const CLASS: Argument = Argument {
     id: "class",
-    form: Form::Option {
+    form: ArgumentForm::Option {
         value: "CLASS",
         default: "win",
     },
@@ -235,7 +248,7 @@ pub const CLASS: Argument = Argument {
 /// The form of a dump.
 pub const FORM: Argument = Argument {
     id: "form",
-    form: Form::Option {
+    form: ArgumentForm::Option {
         value: "FORM",
         default: "2",
     },
@@ -247,7 +260,7 @@ pub const FORM: Argument = Argument {
 /// The plan of a table.
 pub const PLAN: Argument = Argument {
     id: "plan",
-    form: Form::Option {
+    form: ArgumentForm::Option {
         value: "PLAN",
         default: "fixed",
     },
@@ -259,7 +272,7 @@ pub const PLAN: Argument = Argument {
 /// The bits of a block.
 pub const BLOCK: Argument = Argument {
     id: "block",
-    form: Form::Option {
+    form: ArgumentForm::Option {
         value: "BITS",
         default: "6",
     },
@@ -271,7 +284,7 @@ pub const BLOCK: Argument = Argument {
 /// The bits of a span.
 pub const SPAN: Argument = Argument {
     id: "span",
-    form: Form::Option {
+    form: ArgumentForm::Option {
         value: "BITS",
         default: "12",
     },
@@ -283,7 +296,7 @@ pub const SPAN: Argument = Argument {
 /// The rounds of pairing.
 pub const ROUNDS: Argument = Argument {
     id: "rounds",
-    form: Form::Option {
+    form: ArgumentForm::Option {
         value: "COUNT",
         default: "256",
     },
@@ -295,7 +308,7 @@ pub const ROUNDS: Argument = Argument {
 /// Whether the steps to a value are printed.
 pub const STEPS: Argument = Argument {
     id: "steps",
-    form: Form::Flag,
+    form: ArgumentForm::Flag,
     values: ValueParser::Bool,
     is_number: false,
     help: "Also print how many moves, words, descents and fetches the look-up takes",
@@ -304,7 +317,7 @@ pub const STEPS: Argument = Argument {
 /// Whether the whole file is checked before a look-up.
 pub const VERIFY: Argument = Argument {
     id: "verify",
-    form: Form::Flag,
+    form: ArgumentForm::Flag,
     values: ValueParser::Bool,
     is_number: false,
     help: "Check the whole file first, and not only what the look-up reads",
@@ -321,15 +334,16 @@ impl Argument {
 }
 
 /// An argument of a form.
-fn formed<'a>(alloc: Global, id: &'a str, form: Form) -> Arg<'a> {
+fn formed<'a>(alloc: Global, id: &'a str, form: ArgumentForm) -> Arg<'a> {
     match form {
-        Form::Word => word(alloc, id),
-        Form::Words => words(alloc, id).required(true),
-        Form::OptionalWords => words(alloc, id),
-        Form::Option { value, default } => option(alloc, id, value, default),
-        Form::OptionalWord => Arg::new(alloc, id).action(ArgAction::Set),
-        Form::OptionalOption { value, short } => optional(alloc, id, value, short),
-        Form::Flag => flag(alloc, id),
+        ArgumentForm::Word => word(alloc, id),
+        ArgumentForm::Words => words(alloc, id).required(true),
+        ArgumentForm::OptionalWords => words(alloc, id),
+        ArgumentForm::Option { value, default } => option(alloc, id, value, default),
+        ArgumentForm::OptionalWord => Arg::new(alloc, id).action(ArgAction::Set),
+        ArgumentForm::OptionalOption { value, short } => optional(alloc, id, value, short),
+        ArgumentForm::Options { value } => options(alloc, id, value),
+        ArgumentForm::Flag => flag(alloc, id),
     }
 }
 
@@ -364,6 +378,14 @@ fn optional<'a>(alloc: Global, id: &'a str, value: &'a str, short: Option<char>)
         Some(letter) => option.short(letter),
         None => option,
     }
+}
+
+/// An option with a value, which may come several times.
+fn options<'a>(alloc: Global, id: &'a str, value: &'a str) -> Arg<'a> {
+    Arg::new(alloc, id)
+        .long(id)
+        .value_name(value)
+        .action(ArgAction::Append)
 }
 
 /// An option without a value.

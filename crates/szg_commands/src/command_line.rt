@@ -3,7 +3,7 @@
 use crate::arguments::{
     ALLOW_TRAILING, Argument, BLOCK, CLASS, DUMP, FILE, FILES, FOLDER, FORM, INDEX, KIND,
     KIND_GIVEN, MEN, MOVER, NAME, NAME_GIVEN, NAMES, OUTPUT, PART, PLAN, QUIET, REPORT, ROUNDS,
-    SIDE, SPAN, STEPS, VERIFY,
+    SIDE, SPAN, STEPS, SUMS, VERIFY,
 };
 use clap::Command;
 use std::alloc::{AllocError, Global};
@@ -48,7 +48,15 @@ static OF_OUTCOME: [Argument; 5] = [NAME, KIND, MOVER, MEN, CLASS];
 static OF_BUILD: [Argument; 4] = [PLAN, BLOCK, SPAN, ROUNDS];
 
 /// Those of the check of files.
-static OF_FILES: [Argument; 6] = [FILES, QUIET, REPORT, ALLOW_TRAILING, NAME_GIVEN, KIND_GIVEN];
+static OF_FILES: [Argument; 7] = [
+    FILES,
+    QUIET,
+    SUMS,
+    REPORT,
+    ALLOW_TRAILING,
+    NAME_GIVEN,
+    KIND_GIVEN,
+];
 
 /// Those of the description of a file.
 static OF_FILE: [Argument; 3] = [FILE, NAME_GIVEN, KIND_GIVEN];

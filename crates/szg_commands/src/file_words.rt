@@ -4,7 +4,7 @@ ghost use Rattle.std.specs.Str.{bytes_eq};
 ghost use Rattle.clap.specs.Matches.{first_value, found_of};
 ghost use Rattle.clap.specs.Values.{kind_of as kind_of_error};
 ghost use Rattle.szg_named.specs.Named.{name_given, named_as};
-ghost use Rattle.szg_commands.specs.Requested.{parsed_report_format};
+ghost use Rattle.szg_commands.specs.Requested.{parsed_report_format, words_of};
 ghost use Rattle.szg_commands.specs.Chosen.{AsksForJob, AsksForNoJob, IsWordsFault};
 ghost use Rattle.szg_commands.specs.Jobs.{AreOptionsIn, IsJobIn, kind_given};
 ghost use Rattle.szg_commands.specs.Words.{word_of};
@@ -29,6 +29,8 @@ pub enum FileJob<'a> {
     /// The check of files and of what is below folders.
     Check {
         options: CheckOptions<'a>,
+        /// The lists of sums.
+        lists: Vec<&'a str>,
         paths: Vec<&'a str>,
     },
     /// A task on the file at `source`, else on standard input; its answer goes to the file at `target`, else to standard
@@ -80,6 +82,7 @@ fn is_file_option(word: &str) -> bool {
         || word.starts_with("--allow-trailing")
         || word.starts_with("--format")
         || word.starts_with("--quiet")
+        || word.starts_with("--sums")
 }
 
 /// Whether the option takes the next word as its value, in each form of `build`.
@@ -234,7 +237,25 @@ fn options_in<'a>(chosen: &ArgMatches<'a>) -> CheckOptions<'a>
         allow_trailing: is_given(chosen.get_str("allow-trailing"), "true"),
         format: report_format_of(chosen.get_str("format")),
         quiet: is_given(chosen.get_str("quiet"), "true"),
+        sums: None,
     }
+}
+
+/// The words of an argument that may have several.
+fn texts_in<'a>(
+    alloc: Global,
+    chosen: &ArgMatches<'a>,
+    id: &str,
+) -> Result<Vec<&'a str>, WordsFault<'a>>
+    ensures texts { IfOk result (λ texts. map (λ text. text.now) texts.items ≡ words_of (found_of chosen.now) id.now) }
+    ensures none { IfErr result (λ fault. fault ≡ WordsFault.Memory) }
+{
+    let found = chosen.get_strs(id).unwrap_or(&[]);
+    let mut texts = Vec::new(alloc);
+    if texts.extend_from_slice(found).is_err() {
+        return Err(WordsFault::Memory);
+    }
+    Ok(texts)
 }
 
 /// The files that are to be checked.
@@ -243,12 +264,13 @@ fn check_in<'a>(alloc: Global, chosen: &ArgMatches<'a>) -> Result<FileJob<'a>, W
     ensures none { IfErr result (λ fault. fault ≡ WordsFault.Memory) }
 {
     let options = options_in(chosen);
-    let found = chosen.get_strs("FILE").unwrap_or(&[]);
-    let mut paths = Vec::new(alloc);
-    if paths.extend_from_slice(found).is_err() {
-        return Err(WordsFault::Memory);
-    }
-    Ok(FileJob::Check { options, paths })
+    let lists = texts_in(alloc, chosen, "sums")?;
+    let paths = texts_in(alloc, chosen, "FILE")?;
+    Ok(FileJob::Check {
+        options,
+        lists,
+        paths,
+    })
 }
 
 /// The request on the table at a path.

@@ -6,7 +6,7 @@ ghost use Rattle.szg_io.specs.Moved.{Gives};
 ghost use Rattle.szg_named.specs.Requested.{files_to_check};
 ghost use Rattle.szg_named.specs.Verdicts.{IsReport, plain_options};
 ghost use Rattle.szg_commands.specs.Fronts.{IsLookUp};
-ghost use Rattle.szg_commands.specs.OnFiles.{AreChecked, EndsTask, EndsWell, HasDoneTask, HasLookedUp, HasRefusedLookUp, HasRefusedTask, IsCarriedFrom, IsCarriedTo, IsListing, IsPublishedBy, IsPublishedFrom, IsShortOfMemory, IsStarted, IsStartedFrom, IsUnwritten, MeetsFrom};
+ghost use Rattle.szg_commands.specs.OnFiles.{AreChecked, EndsCheck, EndsTask, EndsWell, HasDoneTask, HasLookedUp, HasRefusedLookUp, HasRefusedTask, IsCarriedFrom, IsCarriedTo, IsListing, IsPublishedBy, IsPublishedFrom, IsShortOfMemory, IsStarted, IsStartedFrom, IsSummedReport, IsUnwritten, MeetsFrom};
 ghost use Rattle.szg_commands.specs.RefusalLines.{refusal_line};
 ghost use Rattle.szg_commands.specs.Requests.{Meets, IsListed};
 ghost use Rattle.szg_commands.specs.declared.on_files.FileFailure.{FileFailure};
@@ -29,7 +29,10 @@ use szg_build::Watcher;
 use szg_file::Ahead;
 use szg_files::{Draft, FileFault, FileSystem, Published, Reasons};
 use szg_io::{Input, Output};
-use szg_named::{CheckOptions, Tally, check_files, check_found, files_to_check};
+use szg_named::{
+    CheckCounts, CheckOptions, ListFailure, ListFault, check_files, check_found, files_to_check,
+    sums_in,
+};
 
 /// A file that can't be opened, read or written, and why.
 #[derive(Clone, Copy)]
@@ -282,13 +285,15 @@ where
 #[derive(Drop)]
 pub enum Ending<'a> {
     /// Files were checked, up to a fault of the output or of memory.
-    Checked(Result<Tally, szg_named::Stop>),
+    Checked(Result<CheckCounts, szg_named::CheckStop>),
     /// A task was carried out that names files: the file that was written, if one was asked for.
     Done(Option<Published<'a>>),
     /// It was refused: the refusal's line was written.
     Refused,
     /// A file failed.
     Failed(FileFailure<'a>),
+    /// A list of sums has a line, of this number, that isn't a digest and a name.
+    BadLine { path: &'a str, line: u64 },
     /// Standard input or output failed.
     Device,
     /// A growth was refused.
@@ -421,6 +426,52 @@ fn run_look_up<'a, S: FileSystem, W: Output>(
     }
 }
 
+/// How a check ends where a list of sums isn't read.
+fn unread_list(failure: ListFailure<'_>) -> Ending<'_>
+    ensures { EndsCheck result (λ tally. ⊥) ⊥ (Unit {0}) }
+{
+    let ListFailure { path, fault } = failure;
+    match fault {
+        ListFault::Line(line) => Ending::BadLine { path, line },
+        ListFault::File(FileFault::Memory) => Ending::Memory,
+        ListFault::File(fault) => Ending::Failed(FileFailure { path, fault }),
+    }
+}
+
+/// Checks files, and compares them with lists of sums if there are any.
+#[tactic(auto, using(crate::proofs::Endings::summed, crate::proofs::Endings::no_lists, crate::proofs::Endings::some_lists))]
+fn run_check<'a, S: FileSystem, D: Files + Clock, W: Output>(
+    alloc: Global,
+    system: &mut S,
+    machine: &D,
+    options: CheckOptions<'_>,
+    lists: &[&'a str],
+    paths: &[&str],
+    writer: &mut W,
+) -> Ending<'a>
+where
+    S::File: Ahead,
+    ensures { EndsCheck result (IsSummedReport S.content S.failures S.File.Input W.Output options.entry lists.now (map (λ path. path.now) paths.now) system.old system.new writer.old writer.new)
+        (HasFailed (W.failures writer.old) (W.failures writer.new) (W.interrupted writer.new)) (writer.new ≡ writer.old) }
+{
+    if lists.is_empty() {
+        return Ending::Checked(check_found(alloc, system, machine, options, paths, writer));
+    }
+    match sums_in(alloc, machine, lists) {
+        Ok(sums) => {
+            let options = CheckOptions {
+                naming: options.naming,
+                allow_trailing: options.allow_trailing,
+                format: options.format,
+                quiet: options.quiet,
+                sums: Some(&sums),
+            };
+            Ending::Checked(check_found(alloc, system, machine, options, paths, writer))
+        }
+        Err(failure) => unread_list(failure),
+    }
+}
+
 /// Runs a command line: on the files of a system where it names these, else on the reader. Of the machine it writes files,
 /// and reads the clock. `watcher` sees a build.
 pub fn run_words<'a, P: Finder, R: Input, W: Output, S: FileSystem, D: Files + Clock, V: Watcher>(
@@ -450,9 +501,13 @@ where
         return Ending::Words(run_by(alloc, finder, words, reader, writer, watcher));
     }
     match parse_files(alloc, finder, words) {
-        Ok(FileJob::Check { options, paths }) => {
-            Ending::Checked(check_found(alloc, system, machine, options, &paths, writer))
-        }
+        Ok(
+            FileJob::Check {
+                options,
+                lists,
+                paths,
+            },
+        ) => run_check(alloc, system, machine, options, &lists, &paths, writer),
         Ok(
             FileJob::Run {
                 task,

@@ -33,7 +33,7 @@ impl Display for Subtable {
 
 /// A walk over a material's positions, when it was first seen.
 #[derive(Clone, Copy)]
-struct Walk {
+struct WalkSeen {
     began: Instant,
     done: u64,
     positions: u64,
@@ -48,7 +48,7 @@ struct Pace {
     left: u64,
 }
 
-impl Walk {
+impl WalkSeen {
     /// Returns the pace of a walk up to now: `rest` of the numbers that place positions are left.
     fn pace(&self, now: Instant, done: u64, positions: u64, rest: u64) -> Pace {
         let elapsed = now.duration_since(self.began);
@@ -91,7 +91,7 @@ pub struct ProgressLine<'a, E, C> {
     // None if no build's line is shown
     shown: Option<Subtable>,
     // None if no walk was seen
-    walk: Option<Walk>,
+    walk: Option<WalkSeen>,
     // when the line was written last. None before, and if the clock failed
     written: Option<Instant>,
 }
@@ -179,7 +179,7 @@ impl<'a, E: Eprint, C: Clock> WalkWatcher for ProgressLine<'a, E, C> {
             return;
         };
         let Some(walk) = self.walk else {
-            self.walk = Some(Walk {
+            self.walk = Some(WalkSeen {
                 began: now,
                 done,
                 positions,

@@ -11,7 +11,7 @@ use szg_results::{Folders, ResultStop, board_of, stop_text};
 
 /// The form of an answer.
 #[derive(Clone, Copy)]
-enum Form {
+enum AnswerForm {
     /// Lines for a position that is asked for alone, else one line.
     Text,
     /// A JSON object on one line.
@@ -21,7 +21,7 @@ enum Form {
 /// What a command line asks of folders.
 #[derive(Clone, Copy)]
 pub struct Asked<'a> {
-    form: Form,
+    form: AnswerForm,
     /// The folders, or tables' files.
     folders: &'a [&'a str],
     /// The position's text, or `-`: then each line of the input is one.
@@ -45,21 +45,21 @@ pub(crate) fn is_fen(word: &str) -> bool {
 }
 
 /// Returns the form that words ask for, and the other words.
-fn form_in<'a>(words: &'a [&'a str]) -> (Form, &'a [&'a str]) {
+fn form_in<'a>(words: &'a [&'a str]) -> (AnswerForm, &'a [&'a str]) {
     let option: [&str; 2] = ["--format", "json"];
     let joined: [&str; 1] = ["--format=json"];
     if let Some(rest) = words.strip_prefix(&option) {
-        return (Form::Json, rest);
+        return (AnswerForm::Json, rest);
     }
     if let Some(rest) = words.strip_prefix(&joined) {
-        return (Form::Json, rest);
+        return (AnswerForm::Json, rest);
     }
     if let Some(rest) = words.strip_suffix(&option) {
-        return (Form::Json, rest);
+        return (AnswerForm::Json, rest);
     }
     match words.strip_suffix(&joined) {
-        Some(rest) => (Form::Json, rest),
-        None => (Form::Text, words),
+        Some(rest) => (AnswerForm::Json, rest),
+        None => (AnswerForm::Text, words),
     }
 }
 
@@ -104,10 +104,10 @@ fn write_results(
         write_lines(alloc, &mut folders, &mut disk, form, input, &mut writer)?
     } else {
         let found = match form {
-            Form::Text => folders.text(alloc, &mut disk, fen),
-            Form::Json => folders.object(alloc, &mut disk, fen),
+            AnswerForm::Text => folders.text(alloc, &mut disk, fen),
+            AnswerForm::Json => folders.object(alloc, &mut disk, fen),
         };
-        if is_terminal && matches!(form, Form::Text) {
+        if is_terminal && matches!(form, AnswerForm::Text) {
             let board = board_of(alloc, fen)?;
             writer.write_all(board.as_bytes())?;
         }
@@ -122,7 +122,7 @@ fn write_lines(
     alloc: Global,
     folders: &mut Folders<'_>,
     system: &mut impl FileSystem,
-    form: Form,
+    form: AnswerForm,
     input: impl Read + Drop,
     writer: &mut impl Write,
 ) -> io::Result<bool> {
@@ -136,8 +136,8 @@ fn write_lines(
         }
         let fen = line.trim_end_matches('\n');
         let found = match form {
-            Form::Text => folders.line(alloc, system, fen),
-            Form::Json => folders.object(alloc, system, fen),
+            AnswerForm::Text => folders.line(alloc, system, fen),
+            AnswerForm::Json => folders.object(alloc, system, fen),
         };
         let before = format!(in alloc; "{fen}\t")?;
         is_good = write_found(alloc, writer, form, before.as_str(), found)? && is_good;
@@ -150,7 +150,7 @@ fn write_lines(
 fn write_found(
     alloc: Global,
     writer: &mut impl Write,
-    form: Form,
+    form: AnswerForm,
     before: &str,
     found: Result<String, ResultStop>,
 ) -> io::Result<bool> {
@@ -163,8 +163,8 @@ fn write_found(
     };
     let text = stop_text(alloc, &stop)?;
     match form {
-        Form::Text => writeln!(writer, "{before}{text}")?,
-        Form::Json => writeln!(writer, "{{\"error\":\"{text}\"}}")?,
+        AnswerForm::Text => writeln!(writer, "{before}{text}")?,
+        AnswerForm::Json => writeln!(writer, "{{\"error\":\"{text}\"}}")?,
     }
     Ok(false)
 }

@@ -8,7 +8,7 @@ use crate::on_files::{Ending, FileFailure};
 use crate::outcome::Outcome;
 use std::io;
 use std::process::ExitCode;
-use szg_named::{Stop, Tally, fault_text};
+use szg_named::{CheckCounts, CheckStop, fault_text};
 
 /// The status where the words of the command line can't be had: one is no text, or memory is short.
 pub fn no_words_status(rt: &impl Eprint, error: &io::Error) -> ExitCode
@@ -43,7 +43,7 @@ pub fn status_of(rt: &impl Eprint, outcome: &Outcome) -> ExitCode
 }
 
 /// The status of a check of files: 1 where one is refused, else 3 where one can't be read.
-fn files_status(rt: &impl Eprint, stated: Result<Tally, Stop>) -> ExitCode
+fn files_status(rt: &impl Eprint, stated: Result<CheckCounts, CheckStop>) -> ExitCode
     ensures checked { IfOk stated (λ tally. exit_status result ≡ tally_status tally) }
     ensures stopped { IfErr stated (λ stop. (exit_status result ≡ stop_status stop) ⊎ (exit_status result ≡ 3)) }
 {
@@ -51,8 +51,8 @@ fn files_status(rt: &impl Eprint, stated: Result<Tally, Stop>) -> ExitCode
         Ok(tally) if tally.refused > 0 => ExitCode::from(1),
         Ok(tally) if tally.unread > 0 => ExitCode::from(3),
         Ok(_) => ExitCode::from(0),
-        Err(Stop::Device) => status_of(rt, &Outcome::Device),
-        Err(Stop::Memory) => status_of(rt, &Outcome::Memory),
+        Err(CheckStop::Device) => status_of(rt, &Outcome::Device),
+        Err(CheckStop::Memory) => status_of(rt, &Outcome::Memory),
     }
 }
 
@@ -65,6 +65,14 @@ fn failure_status(rt: &(impl Eprint + AllocGlobal), failure: FileFailure<'_>) ->
         return status_of(rt, &Outcome::Memory);
     };
     let _ = eprintln!(rt; "{path}: {reason}");
+    ExitCode::from(Outcome::Device.status())
+}
+
+/// The status where a line of a list of sums isn't one: it is printed on standard error.
+fn line_status(rt: &impl Eprint, path: &str, line: u64) -> ExitCode
+    ensures { exit_status result ≡ 3 }
+{
+    let _ = eprintln!(rt; "{path}: line {line} isn't a digest and a name");
     ExitCode::from(Outcome::Device.status())
 }
 
@@ -86,6 +94,7 @@ pub(crate) fn ending_status(
         Ending::Done(_) => status_of(rt, &Outcome::Done),
         Ending::Refused => status_of(rt, &Outcome::Refused),
         Ending::Failed(failure) => failure_status(rt, failure),
+        Ending::BadLine { path, line } => line_status(rt, path, line),
         Ending::Device => status_of(rt, &Outcome::Device),
         Ending::Memory => status_of(rt, &Outcome::Memory),
     }

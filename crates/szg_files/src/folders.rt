@@ -34,14 +34,14 @@ pub struct Below {
 
 /// Which folder it is, whatever its path: its device, and its number there.
 #[derive(Clone, Copy, PartialEq, Eq)]
-struct Node {
+struct FolderId {
     device: u64,
     number: u64,
 }
 
-impl Node {
-    fn of(metadata: &Metadata) -> Node {
-        Node {
+impl FolderId {
+    fn of(metadata: &Metadata) -> FolderId {
+        FolderId {
             device: metadata.dev(),
             number: metadata.ino(),
         }
@@ -52,19 +52,19 @@ impl Node {
 #[derive(Drop)]
 struct Folder {
     path: String,
-    node: Node,
+    node: FolderId,
     /// The number of the folder in which it was found. None of the first one.
     parent: Option<usize>,
 }
 
 /// A walk through folders.
 #[derive(Drop)]
-struct Walk<'a, R: Files> {
+struct FolderWalk<'a, R: Files> {
     alloc: Global,
     files: &'a R,
     folders: Vec<Folder>,
     /// The folders that links led to.
-    followed: Vec<Node>,
+    followed: Vec<FolderId>,
     found: Vec<Below>,
 }
 
@@ -93,7 +93,7 @@ pub fn files_below<R: Files>(
     files: &R,
     folder: &str,
 ) -> Result<Vec<Below>, AllocError> {
-    let mut walk = Walk {
+    let mut walk = FolderWalk {
         alloc,
         files,
         folders: Vec::new(alloc),
@@ -112,7 +112,7 @@ pub fn files_below<R: Files>(
     Ok(found)
 }
 
-impl<'a, R: Files> Walk<'a, R> {
+impl<'a, R: Files> FolderWalk<'a, R> {
     /// Begins with a folder.
     fn begin(&mut self, folder: &str) -> Result<(), AllocError> {
         let path = String::from_str(self.alloc, folder.trim_end_matches('/'))?;
@@ -120,7 +120,7 @@ impl<'a, R: Files> Walk<'a, R> {
             Ok(metadata) => Ok(
                 self.folders.push(Folder {
                     path,
-                    node: Node::of(&metadata),
+                    node: FolderId::of(&metadata),
                     parent: None,
                 })?,
             ),
@@ -171,20 +171,20 @@ impl<'a, R: Files> Walk<'a, R> {
             Err(error) => return self.add(path, Finding::Unread(FileFault::System(error))),
         };
         if itself.is_dir() {
-            return self.enter(parent, path, Node::of(&itself));
+            return self.enter(parent, path, FolderId::of(&itself));
         }
         if !itself.is_symlink() {
             return self.add(path, Finding::File);
         }
         match self.files.metadata(path.as_str()) {
-            Ok(target) if target.is_dir() => self.follow(parent, path, Node::of(&target)),
+            Ok(target) if target.is_dir() => self.follow(parent, path, FolderId::of(&target)),
             Ok(_) => self.add(path, Finding::File),
             Err(error) => self.add(path, Finding::Unread(FileFault::System(error))),
         }
     }
 
     /// Follows a link to a folder that no other link led to.
-    fn follow(&mut self, parent: usize, path: String, node: Node) -> Result<(), AllocError> {
+    fn follow(&mut self, parent: usize, path: String, node: FolderId) -> Result<(), AllocError> {
         if self.is_within(parent, node) {
             return self.add(path, Finding::Loop);
         }
@@ -196,7 +196,7 @@ impl<'a, R: Files> Walk<'a, R> {
     }
 
     /// Takes a folder that is to be read, unless it is within itself.
-    fn enter(&mut self, parent: usize, path: String, node: Node) -> Result<(), AllocError> {
+    fn enter(&mut self, parent: usize, path: String, node: FolderId) -> Result<(), AllocError> {
         if self.is_within(parent, node) {
             return self.add(path, Finding::Loop);
         }
@@ -210,7 +210,7 @@ impl<'a, R: Files> Walk<'a, R> {
     }
 
     /// Whether a folder is this node, or was found below it.
-    fn is_within(&self, number: usize, node: Node) -> bool {
+    fn is_within(&self, number: usize, node: FolderId) -> bool {
         let mut next = Some(number);
         'parents: for _ in 0..self.folders.len() {
             let Some(number) = next else {

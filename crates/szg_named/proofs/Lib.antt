@@ -1,3 +1,4 @@
-mod Reporting
+pub mod Reporting
 pub mod Listing
 pub mod Asking
+pub mod Hashing

@@ -1,8 +1,11 @@
 -- Lists of entries, extended.
-use Rattle.std.proofs.Common.{◌≡◌, ℕ, ◌+◌, ◌<◌, length, get_or, map, take, Bor, List, [], ◌∷◌, ◌++◌, refl, sym, ap, subst, ◌∙◌, append_assoc, append-nil}
+use Rattle.std.proofs.Common.{◌≡◌, ℕ, ◌+◌, ◌<◌, length, get_or, map, take, Bor, Option, Some, None, List, [], ◌∷◌, ◌++◌, refl, sym, ap, subst, ◌∙◌, append_assoc, append-nil}
 use Rattle.std.proofs.lemmas.List.{map-append, take_more}
-use Rattle.szg_named.specs.Verdicts.{AreListed, IsListedAt, Listed, file_at, listed_of}
-use Rattle.szg_named.specs.declared.entries.Entry.{Entry}
+use Rattle.szg_named.specs.Verdicts.{AllMissing, AreListed, AreMissing, IsListedAt, Listed, file_at, listed_of}
+use Rattle.szg_sums.specs.declared.lists.Sums.{Sums}
+use Rattle.szg_named.specs.declared.file_verdict.FileVerdict.TheVariants.{Sum}
+use Rattle.szg_named.specs.declared.file_verdict.SumFault.TheVariants.{Missing}
+use Rattle.szg_named.specs.declared.entries.PathToCheck.{PathToCheck}
 
 abbrev texts : List (Bor (List ℕ)) → List (List ℕ)
 texts paths = map (λ path. path.now) paths
@@ -12,11 +15,11 @@ texts_more : (paths : List (Bor (List ℕ))) (i : ℕ) (d : Bor (List ℕ)) → 
 texts_more paths i d below = ap texts (take_more paths i d below) ∙ map-append (λ (path : Bor (List ℕ)). path.now) (take i paths) (get_or paths i d ∷ [])
 
 -- one entry more
-pub entries_more : (entries : List Entry) (entry : Entry) (path : List ℕ) → listed_of entry ≡ file_at path → map listed_of (entries ++ entry ∷ []) ≡ map listed_of entries ++ map file_at (path ∷ [])
+pub entries_more : (entries : List PathToCheck) (entry : PathToCheck) (path : List ℕ) → listed_of entry ≡ file_at path → map listed_of (entries ++ entry ∷ []) ≡ map listed_of entries ++ map file_at (path ∷ [])
 entries_more entries entry path is = map-append listed_of entries (entry ∷ []) ∙ ap (λ (one : Listed). map listed_of entries ++ one ∷ []) is
 
 -- the files at the first paths, extended by the next
-pub files_more : (paths : List (Bor (List ℕ))) (i : ℕ) (d : Bor (List ℕ)) (old new : List Entry) → i < length paths → map listed_of old ≡ map file_at (texts (take i paths)) →
+pub files_more : (paths : List (Bor (List ℕ))) (i : ℕ) (d : Bor (List ℕ)) (old new : List PathToCheck) → i < length paths → map listed_of old ≡ map file_at (texts (take i paths)) →
     map listed_of new ≡ map listed_of old ++ map file_at ((get_or paths i d).now ∷ []) → map listed_of new ≡ map file_at (texts (take (i + 1) paths))
 files_more paths i d old new below h one =
     one ∙ ap (λ (z : List Listed). z ++ map file_at ((get_or paths i d).now ∷ [])) h
@@ -28,12 +31,25 @@ listed_more [] listed path here h one = (here, [], one, ap (λ (z : List Listed)
 listed_more (p ∷ ps) listed path here h one =
     (h.0, h.1 ++ here, h.2, ap (λ (z : List Listed). z ++ here) h.3 ∙ append_assoc h.0 h.1 here, listed_more ps h.1 path here h.4 one)
 
-pub listed_next : (paths : List (Bor (List ℕ))) (i : ℕ) (d : Bor (List ℕ)) (old here : List Entry) → i < length paths → AreListed (texts (take i paths)) (map listed_of old) →
+pub listed_next : (paths : List (Bor (List ℕ))) (i : ℕ) (d : Bor (List ℕ)) (old here : List PathToCheck) → i < length paths → AreListed (texts (take i paths)) (map listed_of old) →
     IsListedAt (get_or paths i d).now (map listed_of here) → AreListed (texts (take (i + 1) paths)) (map listed_of (old ++ here))
 listed_next paths i d old here below h one =
     subst (λ (z : List (List ℕ)). AreListed z (map listed_of (old ++ here))) (sym (texts_more paths i d below))
     (subst (λ (z : List Listed). AreListed (texts (take i paths) ++ (get_or paths i d).now ∷ []) z) (sym (map-append listed_of old here))
     (listed_more (texts (take i paths)) (map listed_of old) (get_or paths i d).now (map listed_of here) h one))
+
+all_missing_more : (listed : List Listed) (one : Listed) → AllMissing listed → one.1 ≡ Some (Sum Missing) → AllMissing (listed ++ one ∷ [])
+all_missing_more [] one all is = (is, tt)
+all_missing_more (l ∷ ls) one all is = (all.0, all_missing_more ls one all.1 is)
+
+-- one missing entry more
+pub one_more_missing : (entries : List PathToCheck) (entry : PathToCheck) → AllMissing (map listed_of entries) → entry.note ≡ Some (Sum Missing) → AllMissing (map listed_of (entries ++ entry ∷ []))
+one_more_missing entries entry all is = subst AllMissing (sym (map-append listed_of entries (entry ∷ []))) (all_missing_more (map listed_of entries) (listed_of entry) all is)
+
+-- nothing is missing
+pub none_missing : (sums : Option (Bor Sums)) → AreMissing sums []
+none_missing None = refl
+none_missing (Some sums) = tt
 
 -- the files at paths are what is listed for them
 pub files_are_listed : (paths : List (List ℕ)) → AreListed paths (map file_at paths)

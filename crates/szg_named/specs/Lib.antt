@@ -3,3 +3,4 @@ pub mod Verdicts
 pub mod Lines
 pub mod Requested
 pub mod Records
+pub mod Hashing

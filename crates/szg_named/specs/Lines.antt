@@ -5,10 +5,12 @@ use Rattle.szg_values.specs.declared.NameFault.TheVariants as names
 use Rattle.szg_file.specs.declared.fault.Reason.{Reason}
 use Rattle.szg_file.specs.declared.fault.Reason.TheVariants as reasons
 use Rattle.szg_named.specs.declared.file_verdict.FileVerdict.{FileVerdict}
-use Rattle.szg_named.specs.declared.file_verdict.FileVerdict.TheVariants.{Whole, Ending, Name, At, Trailing, Unopened, Unread, NoText, Empty, Skipped}
+use Rattle.szg_named.specs.declared.file_verdict.FileVerdict.TheVariants.{Whole, Ending, Name, At, Trailing, Unopened, Unread, NoText, Empty, Skipped, Sum}
 use Rattle.szg_named.specs.declared.file_verdict.Skip.{Skip}
 use Rattle.szg_named.specs.declared.file_verdict.Skip.TheVariants as skips
-use Rattle.szg_named.specs.declared.stop.Tally.{Tally}
+use Rattle.szg_named.specs.declared.file_verdict.SumFault.{SumFault}
+use Rattle.szg_named.specs.declared.file_verdict.SumFault.TheVariants as sum_faults
+use Rattle.szg_named.specs.declared.stop.CheckCounts.{CheckCounts}
 
 abbrev pub name_word : NameFault → List ℕ
 name_word names.Letter = codes "Letter"
@@ -85,6 +87,12 @@ skip_reason skips.Ending = codes "it looks like a table, and ends in neither .rt
 skip_reason skips.Loop = codes "it leads to a folder that it is in"
 skip_reason skips.Again = codes "another link led to this folder"
 
+-- what lists of sums say against a file
+abbrev pub sum_word : SumFault → List ℕ
+sum_word sum_faults.Differs = codes "Differs"
+sum_word sum_faults.Unlisted = codes "Unlisted"
+sum_word sum_faults.Missing = codes "Missing"
+
 -- a reason of the system
 abbrev pub IsReasonText : List ℕ → Type 0
 IsReasonText text = (reason : List ℕ) × (text ≡ reason_text reason)
@@ -102,6 +110,7 @@ IsVerdictText allow_trailing (Unread error) text = IsReasonText text
 IsVerdictText allow_trailing NoText text = text ≡ reason_text no_text
 IsVerdictText allow_trailing Empty text = text ≡ reason_text empty
 IsVerdictText allow_trailing (Skipped skip) text = text ≡ codes ": skipped: " ++ (skip_reason skip ++ 10 ∷ [])
+IsVerdictText allow_trailing (Sum fault) text = text ≡ codes ": refused sum: " ++ (sum_word fault ++ 10 ∷ [])
 
 -- The line of a path and its verdict.
 abbrev pub IsLine : Bool → List ℕ → FileVerdict → List ℕ → Type 0
@@ -112,6 +121,6 @@ abbrev pub skipped_text : ℕ → List ℕ
 skipped_text skipped = if skipped == 0 then [] else codes ", skipped " ++ decimal skipped
 
 -- the last line: the number of files, and how many of them are good, refused and unread
-abbrev pub summary_text : Tally → List ℕ
+abbrev pub summary_text : CheckCounts → List ℕ
 summary_text tally = codes "files " ++ (decimal (tally.good + tally.refused + tally.unread) ++ (codes ": ok " ++ (decimal tally.good ++ (codes ", refused "
     ++ (decimal tally.refused ++ (codes ", unread " ++ (decimal tally.unread ++ (skipped_text tally.skipped ++ 10 ∷ []))))))))

@@ -1,12 +1,12 @@
 -- The records of a report for programs.
 use Rattle.std.specs.Prelude.{◌≡◌, ℕ, ◌/◌, ◌%◌, ◌==◌, ◌||◌, nat_lt, Bool, true, false, if◌then◌else◌, List, [], ◌∷◌, ◌++◌, flat_map, codes, decimal, Option, Some, None, IsSome}
 use Rattle.std.specs.List.{concat}
-use Rattle.szg_named.specs.Lines.{IsLine, empty, escaped_byte, hex_digit, name_word, no_text, path_text, reason_word, skip_reason, summary_text}
+use Rattle.szg_named.specs.Lines.{IsLine, empty, escaped_byte, hex_digit, name_word, no_text, path_text, reason_word, skip_reason, sum_word, summary_text}
 use Rattle.szg_named.specs.declared.file_verdict.FileVerdict.{FileVerdict}
-use Rattle.szg_named.specs.declared.file_verdict.FileVerdict.TheVariants.{Whole, Ending, Name, At, Trailing, Unopened, Unread, NoText, Empty, Skipped}
+use Rattle.szg_named.specs.declared.file_verdict.FileVerdict.TheVariants.{Whole, Ending, Name, At, Trailing, Unopened, Unread, NoText, Empty, Skipped, Sum}
 use Rattle.szg_named.specs.declared.report_format.ReportFormat.{ReportFormat}
 use Rattle.szg_named.specs.declared.report_format.ReportFormat.TheVariants.{Text, Tsv, Json}
-use Rattle.szg_named.specs.declared.stop.Tally.{Tally}
+use Rattle.szg_named.specs.declared.stop.CheckCounts.{CheckCounts}
 
 -- ---- fields
 
@@ -45,6 +45,7 @@ IsReasonField (Unread error) field = IsSome field
 IsReasonField NoText field = field ≡ Some no_text
 IsReasonField Empty field = field ≡ Some empty
 IsReasonField (Skipped skip) field = field ≡ Some (skip_reason skip)
+IsReasonField (Sum fault) field = field ≡ Some (sum_word fault)
 
 abbrev pub number_or : List ℕ → Option ℕ → List ℕ
 number_or absent None = absent
@@ -145,7 +146,7 @@ IsShownLine false format allow_trailing path verdict line = IsReportLine format 
 IsShownLine true format allow_trailing path verdict line = IsBadLine (is_bad allow_trailing verdict) format allow_trailing path verdict line
 
 -- What follows the last file: a summary for a reader, nothing for a program.
-abbrev pub report_end : ReportFormat → Tally → List ℕ
+abbrev pub report_end : ReportFormat → CheckCounts → List ℕ
 report_end Text tally = summary_text tally
 report_end Tsv tally = []
 report_end Json tally = []

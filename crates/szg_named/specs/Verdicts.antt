@@ -1,5 +1,7 @@
 -- The verdict on a file by its path, and the effect of the check on the system.
-use Rattle.std.specs.Prelude.{◌≡◌, ℕ, Bool, true, false, List, [], ◌∷◌, ◌++◌, map, string_bytes, is_some, Option, None, Some, Result, Ok, Err, length}
+use Rattle.std.specs.Prelude.{◌≡◌, ◌⊎◌, ℕ, ◌^◌, ◌≤◌, Bool, true, false, List, [], ◌∷◌, ◌++◌, map, string_bytes, is_some, Option, None, Some, Result, Ok, Err, length, if◌then◌else◌}
+use Rattle.std.specs.Borrow.{Bor}
+use Rattle.std.specs.declared.io.Error.{Error}
 use Rattle.std.specs.List.{sum_by}
 use Rattle.std.specs.Io.KnownBytes.{IsAtEnd}
 use Rattle.szg_io.specs.Device.{HasFailed, raised}
@@ -16,12 +18,19 @@ use Rattle.szg_files.specs.FileSystem.{IsOpened}
 use Rattle.szg_named.specs.Records.{IsShownLine, report_end}
 use Rattle.szg_named.specs.Named.{name_given, named_as, named_by}
 use Rattle.szg_named.specs.declared.file_verdict.FileVerdict.{FileVerdict}
-use Rattle.szg_named.specs.declared.file_verdict.FileVerdict.TheVariants.{Whole, Ending, Name, At, Trailing, Unopened, Unread, NoText, Empty, Skipped}
-use Rattle.szg_named.specs.declared.entries.Entry.{Entry}
+use Rattle.szg_named.specs.declared.file_verdict.FileVerdict.TheVariants.{Whole, Ending, Name, At, Trailing, Unopened, Unread, NoText, Empty, Skipped, Sum}
+use Rattle.szg_named.specs.declared.due.Due.{Due}
+use Rattle.szg_named.specs.declared.due.Due.TheVariants as dues
+use Rattle.szg_named.specs.declared.entries.PathToCheck.{PathToCheck}
+use Rattle.szg_named.specs.declared.file_verdict.SumFault.TheVariants.{Differs, Missing, Unlisted}
+use Rattle.szg_sums.specs.Digests.{has_sum}
+use Rattle.szg_sums.specs.Names.{names_of, sum_for}
+use Rattle.szg_sums.specs.declared.lists.Sums.{Sums}
+use Rattle.szg_sums.specs.declared.sum.Sum.{Sum as Digest}
 use Rattle.szg_named.specs.declared.many.CheckOptions.{CheckOptions}
 use Rattle.szg_named.specs.declared.named.Naming.{Naming}
 use Rattle.szg_named.specs.declared.report_format.ReportFormat.TheVariants as report_formats
-use Rattle.szg_named.specs.declared.stop.Tally.{Tally}
+use Rattle.szg_named.specs.declared.stop.CheckCounts.{CheckCounts}
 
 -- The verdict on an opened file. After a table there is the end of the file, or one more byte, which was read, too.
 abbrev pub IsVerdictOn : {F : Type 0} → input.Ghosts F → Sides → Kind → F → F → FileVerdict → Type 0
@@ -33,34 +42,65 @@ IsVerdictOn device material kind file file' (At offset reason) = IsFileRead devi
 IsVerdictOn device material kind file file' (Unread error) = HasFailed (device.failures file) (device.failures file') (device.interrupted file')
 IsVerdictOn device material kind file file' verdict = ⊥
 
+-- it begins with a table
+abbrev pub is_table : FileVerdict → Bool
+is_table (Whole size) = true
+is_table (Trailing size) = true
+is_table verdict = false
+
+-- A file that was checked up to here was read on to its end, and it keeps its verdict if all its bytes have the digest that is
+-- due; or the device failed before (or there were more bytes than 64 bits count).
+abbrev pub IsCompared : {F : Type 0} → input.Ghosts F → (List ℕ → Bool) → F → F → FileVerdict → FileVerdict → Type 0
+IsCompared device has checked read found verdict =
+    (IsAtEnd (device.coming read) × ((rest : List ℕ) × (device.moved read ≡ device.moved checked ++ rest)) × (verdict ≡ (if has (device.moved read) then found else Sum Differs)))
+    ⊎ ((error : Option Error) × (verdict ≡ Unread error) × (HasFailed (device.failures checked) (device.failures read) (device.interrupted read) ⊎ (2 ^ 64 ≤ length (device.moved read))))
+
+-- What begins with a table is compared, and what doesn't keeps its verdict.
+abbrev pub IsComparedTable : {F : Type 0} → Bool → input.Ghosts F → (List ℕ → Bool) → F → F → FileVerdict → FileVerdict → Type 0
+IsComparedTable true device has checked read found verdict = IsCompared device has checked read found verdict
+IsComparedTable false device has checked read found verdict = verdict ≡ found
+
+-- The verdict on an opened file, of which no byte was read, and its digest, by what has it.
+abbrev pub IsHashedVerdictOn : {F : Type 0} → input.Ghosts F → (List ℕ → Bool) → Sides → Kind → F → F → FileVerdict → Type 0
+IsHashedVerdictOn {F = F} device has material kind file read verdict =
+    (checked : F) × (found : FileVerdict) × IsVerdictOn device material kind file checked found
+    × IsComparedTable (is_table found) device has checked read found verdict
+
+-- The same, by what the digest has to be.
+abbrev pub IsDueVerdictOn : {F : Type 0} → input.Ghosts F → Due → Sides → Kind → F → F → FileVerdict → Type 0
+IsDueVerdictOn device dues.Any material kind file read verdict = IsVerdictOn device material kind file read verdict
+IsDueVerdictOn device dues.Unlisted material kind file read verdict =
+    (found : FileVerdict) × IsVerdictOn device material kind file read found × (verdict ≡ (if is_table found then Sum Unlisted else found))
+IsDueVerdictOn device (dues.Sum sum) material kind file read verdict = IsHashedVerdictOn device (λ m. has_sum sum m) material kind file read verdict
+
 -- The system opened the path, and this is the verdict on that file.
-abbrev pub IsRead : {S F : Type 0} → (S → List ℕ → Option (List ℕ)) → (S → ℕ) → input.Ghosts F → List ℕ → Sides → Kind → S → S → FileVerdict → Type 0
-IsRead {F = F} content failures device path material kind system system' verdict =
-    (file : F) × (file' : F) × IsOpened content failures device system system' path file × IsVerdictOn device material kind file file' verdict
+abbrev pub IsRead : {S F : Type 0} → (S → List ℕ → Option (List ℕ)) → (S → ℕ) → input.Ghosts F → Due → List ℕ → Sides → Kind → S → S → FileVerdict → Type 0
+IsRead {F = F} content failures device due path material kind system system' verdict =
+    (file : F) × (file' : F) × IsOpened content failures device system system' path file × IsDueVerdictOn device due material kind file file' verdict
 
 -- The verdict by a kind and a parsed name. If the name is not a material's, the system is unchanged; otherwise the
 -- file was opened, or could not be.
-abbrev pub IsNamedVerdict : {S F : Type 0} → (S → List ℕ → Option (List ℕ)) → (S → ℕ) → input.Ghosts F → List ℕ → Kind → Result Sides NameFault → S → S → FileVerdict → Type 0
-IsNamedVerdict content failures device path kind (Err fault) system system' (Name found) = (found ≡ fault) × (system' ≡ system)
-IsNamedVerdict content failures device path kind (Err fault) system system' verdict = ⊥
-IsNamedVerdict content failures device path kind (Ok material) system system' (Unopened fault) = failures system' ≡ raised (failures system)
-IsNamedVerdict content failures device path kind (Ok material) system system' verdict = IsRead content failures device path material kind system system' verdict
+abbrev pub IsNamedVerdict : {S F : Type 0} → (S → List ℕ → Option (List ℕ)) → (S → ℕ) → input.Ghosts F → Due → List ℕ → Kind → Result Sides NameFault → S → S → FileVerdict → Type 0
+IsNamedVerdict content failures device due path kind (Err fault) system system' (Name found) = (found ≡ fault) × (system' ≡ system)
+IsNamedVerdict content failures device due path kind (Err fault) system system' verdict = ⊥
+IsNamedVerdict content failures device due path kind (Ok material) system system' (Unopened fault) = failures system' ≡ raised (failures system)
+IsNamedVerdict content failures device due path kind (Ok material) system system' verdict = IsRead content failures device due path material kind system system' verdict
 
-abbrev pub IsVerdictBy : {S F : Type 0} → (S → List ℕ → Option (List ℕ)) → (S → ℕ) → input.Ghosts F → List ℕ → Option (List ℕ × Kind) → S → S → FileVerdict → Type 0
-IsVerdictBy content failures device path None system system' Ending = system' ≡ system
-IsVerdictBy content failures device path None system system' verdict = ⊥
-IsVerdictBy content failures device path (Some named) system system' verdict = IsNamedVerdict content failures device path named.1 (parsed named.0) system system' verdict
+abbrev pub IsVerdictBy : {S F : Type 0} → (S → List ℕ → Option (List ℕ)) → (S → ℕ) → input.Ghosts F → Due → List ℕ → Option (List ℕ × Kind) → S → S → FileVerdict → Type 0
+IsVerdictBy content failures device due path None system system' Ending = system' ≡ system
+IsVerdictBy content failures device due path None system system' verdict = ⊥
+IsVerdictBy content failures device due path (Some named) system system' verdict = IsNamedVerdict content failures device due path named.1 (parsed named.0) system system' verdict
 
--- The verdict on the file at a path, with this name and kind given.
-abbrev pub IsFileVerdict : {S F : Type 0} → (S → List ℕ → Option (List ℕ)) → (S → ℕ) → input.Ghosts F → Naming → List ℕ → S → S → FileVerdict → Type 0
-IsFileVerdict content failures device naming path system system' verdict =
-    IsVerdictBy content failures device path (named_as (name_given naming) naming.kind path) system system' verdict
+-- The verdict on the file at a path, with this name and kind given, and on its digest.
+abbrev pub IsFileVerdict : {S F : Type 0} → (S → List ℕ → Option (List ℕ)) → (S → ℕ) → input.Ghosts F → Naming → Due → List ℕ → S → S → FileVerdict → Type 0
+IsFileVerdict content failures device naming due path system system' verdict =
+    IsVerdictBy content failures device due path (named_as (name_given naming) naming.kind path) system system' verdict
 
 -- ---- many files
 
--- each file by its own name, no trailing bytes, and a report for a reader
+-- each file by its own name, no trailing bytes, a report for a reader, and no lists of sums
 abbrev pub plain_options : CheckOptions
-plain_options = record { naming = record { name = None; kind = None }; allow_trailing = false; format = report_formats.Text; quiet = false }
+plain_options = record { naming = record { name = None; kind = None }; allow_trailing = false; format = report_formats.Text; quiet = false; sums = None }
 
 -- a path that a report is of, and its verdict if it is known without opening a file
 abbrev pub Listed : Type 0
@@ -69,7 +109,7 @@ Listed = List ℕ × Option FileVerdict
 abbrev pub file_at : List ℕ → Listed
 file_at path = (path, None)
 
-abbrev pub listed_of : Entry → Listed
+abbrev pub listed_of : PathToCheck → Listed
 listed_of entry = (string_bytes entry.path, entry.note)
 
 -- What is listed for a path: if it ends as a table's file does, the file. Of what is found below folders nothing is stated.
@@ -82,10 +122,29 @@ AreListed [] listed = listed ≡ []
 AreListed (path ∷ paths) listed =
     (here : List Listed) × (rest : List Listed) × IsListedAt path here × (listed ≡ here ++ rest) × AreListed paths rest
 
--- The verdict on a listed path: the known one, or that on the file.
-abbrev pub IsVerdictAt : {S F : Type 0} → (S → List ℕ → Option (List ℕ)) → (S → ℕ) → input.Ghosts F → Naming → List ℕ → Option FileVerdict → S → S → FileVerdict → Type 0
-IsVerdictAt content failures device naming path (Some known) system system' verdict = (verdict ≡ known) × (system' ≡ system)
-IsVerdictAt content failures device naming path None system system' verdict = IsFileVerdict content failures device naming path system system' verdict
+-- They are listed as missing.
+abbrev pub AllMissing : List Listed → Type 0
+AllMissing [] = Unit {0}
+AllMissing (one ∷ more) = (one.1 ≡ Some (Sum Missing)) × AllMissing more
+
+-- What is listed after the files: with lists of sums, missing files; without, nothing.
+abbrev pub AreMissing : Option (Bor Sums) → List Listed → Type 0
+AreMissing None listed = listed ≡ []
+AreMissing (Some sums) listed = AllMissing listed
+
+-- What the digest of the file at a path has to be: without lists anything, else what the lists have for the path.
+abbrev pub due_for : Option Digest → Due
+due_for None = dues.Unlisted
+due_for (Some sum) = dues.Sum sum
+
+abbrev pub due_in : Option (Bor Sums) → List ℕ → Due
+due_in None path = dues.Any
+due_in (Some sums) path = due_for (sum_for (names_of sums.now) path)
+
+-- The verdict on a listed path: the known one, or that on the file and its digest.
+abbrev pub IsVerdictAt : {S F : Type 0} → (S → List ℕ → Option (List ℕ)) → (S → ℕ) → input.Ghosts F → Naming → Option (Bor Sums) → List ℕ → Option FileVerdict → S → S → FileVerdict → Type 0
+IsVerdictAt content failures device naming sums path (Some known) system system' verdict = (verdict ≡ known) × (system' ≡ system)
+IsVerdictAt content failures device naming sums path None system system' verdict = IsFileVerdict content failures device naming (due_in sums path) path system system' verdict
 
 -- Each listed path has its verdict and its line or record, in its order.
 abbrev pub Reports : {S F : Type 0} → (S → List ℕ → Option (List ℕ)) → (S → ℕ) → input.Ghosts F → CheckOptions → List Listed → List FileVerdict → S → S → List ℕ → Type 0
@@ -93,7 +152,7 @@ Reports content failures device options [] [] system system' text = (system' ≡
 Reports content failures device options [] (verdict ∷ verdicts) system system' text = ⊥
 Reports content failures device options (listed ∷ more) [] system system' text = ⊥
 Reports {S = S} content failures device options (listed ∷ more) (verdict ∷ verdicts) system system' text =
-    (next : S) × IsVerdictAt content failures device options.naming listed.0 listed.1 system next verdict
+    (next : S) × IsVerdictAt content failures device options.naming options.sums listed.0 listed.1 system next verdict
     × (line : List ℕ) × IsShownLine options.quiet options.format options.allow_trailing listed.0 verdict line
     × (rest : List ℕ) × (text ≡ line ++ rest) × Reports content failures device options more verdicts next system' rest
 
@@ -120,10 +179,11 @@ refused_of allow_trailing Ending = 1
 refused_of allow_trailing (Name fault) = 1
 refused_of allow_trailing (At offset reason) = 1
 refused_of false (Trailing size) = 1
+refused_of allow_trailing (Sum fault) = 1
 refused_of allow_trailing verdict = 0
 
 -- the numbers of good, refused, unread and skipped verdicts
-pub record Counts (allow_trailing : Bool) (verdicts : List FileVerdict) (tally : Tally) : Type 0 where
+pub record Counts (allow_trailing : Bool) (verdicts : List FileVerdict) (tally : CheckCounts) : Type 0 where
   pub good : tally.good ≡ sum_by (good_of allow_trailing) verdicts
   pub refused : tally.refused ≡ sum_by (refused_of allow_trailing) verdicts
   pub unread : tally.unread ≡ sum_by unread_of verdicts
@@ -131,7 +191,7 @@ pub record Counts (allow_trailing : Bool) (verdicts : List FileVerdict) (tally :
 
 -- All listed paths have their verdicts, in their order, and just their lines or records and what ends the report were written.
 pub record IsReportOn {S F W : Type 0} (content : S → List ℕ → Option (List ℕ)) (failures : S → ℕ) (device : input.Ghosts F) (writing : output.Ghosts W)
-    (options : CheckOptions) (listed : List Listed) (system system' : S) (writer writer' : W) (tally : Tally) : Type 0 where
+    (options : CheckOptions) (listed : List Listed) (system system' : S) (writer writer' : W) (tally : CheckCounts) : Type 0 where
   pub verdicts : List FileVerdict
   pub text : List ℕ
   pub reports : Reports content failures device options listed verdicts system system' text
@@ -139,11 +199,12 @@ pub record IsReportOn {S F W : Type 0} (content : S → List ℕ → Option (Lis
   pub given : Gives writing writer writer' (text ++ report_end options.format tally) 0
 
 -- The same of the files at these paths.
-abbrev pub IsReport : {S F W : Type 0} → (S → List ℕ → Option (List ℕ)) → (S → ℕ) → input.Ghosts F → output.Ghosts W → CheckOptions → List (List ℕ) → S → S → W → W → Tally → Type 0
+abbrev pub IsReport : {S F W : Type 0} → (S → List ℕ → Option (List ℕ)) → (S → ℕ) → input.Ghosts F → output.Ghosts W → CheckOptions → List (List ℕ) → S → S → W → W → CheckCounts → Type 0
 IsReport content failures device writing options paths system system' writer writer' tally =
     IsReportOn content failures device writing options (map file_at paths) system system' writer writer' tally
 
--- The same of the files at these paths, and of what was found below folders.
-abbrev pub IsFoundReport : {S F W : Type 0} → (S → List ℕ → Option (List ℕ)) → (S → ℕ) → input.Ghosts F → output.Ghosts W → CheckOptions → List (List ℕ) → S → S → W → W → Tally → Type 0
+-- The same of the files at these paths, of what was found below folders, and, with lists of sums, of what is missing.
+abbrev pub IsFoundReport : {S F W : Type 0} → (S → List ℕ → Option (List ℕ)) → (S → ℕ) → input.Ghosts F → output.Ghosts W → CheckOptions → List (List ℕ) → S → S → W → W → CheckCounts → Type 0
 IsFoundReport content failures device writing options paths system system' writer writer' tally =
-    (listed : List Listed) × AreListed paths listed × IsReportOn content failures device writing options listed system system' writer writer' tally
+    (listed : List Listed) × (missing : List Listed) × AreListed paths listed × AreMissing options.sums missing
+    × IsReportOn content failures device writing options (listed ++ missing) system system' writer writer' tally

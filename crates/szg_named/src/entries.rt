@@ -1,13 +1,14 @@
 //! What a check reports on: files at paths, and what is below folders.
 ghost use Rattle.std.specs.Prelude.{◌≡◌, ◌++◌, ◌∷◌, [], IfOk, OnOk, map};
-ghost use Rattle.szg_named.specs.Verdicts.{AreListed, IsListedAt, file_at, listed_of};
+ghost use Rattle.szg_named.specs.Verdicts.{AllMissing, AreListed, AreMissing, IsListedAt, file_at, listed_of};
 
-use crate::file_verdict::{FileVerdict, Skip};
+use crate::file_verdict::{FileVerdict, Skip, SumFault};
 use crate::named::named_by;
 use std::alloc::{AllocError, Global};
 use std::path::Path;
 use std::rt::Files;
 use szg_files::{Below, Finding, files_below, first_bytes, is_folder};
+use szg_sums::{Sums, normal};
 use szg_values::Material;
 
 /// The first four bytes of a WDL table and of a DTZ table.
@@ -15,23 +16,23 @@ const MAGICS: [[u8; 4]; 2] = [[0x71, 0xe8, 0x23, 0x5d], [0xd7, 0x66, 0x0c, 0xa5]
 
 /// A path, and its verdict if it is known without opening a file.
 #[derive(Drop)]
-pub struct Entry {
+pub struct PathToCheck {
     pub path: String,
     pub note: Option<FileVerdict>,
 }
 
 /// Appends the file at a path.
 #[tactic(auto, using(crate::proofs::Listing::entries_more))]
-fn add_file(alloc: Global, path: &str, entries: &mut Vec<Entry>) -> Result<(), AllocError>
+fn add_file(alloc: Global, path: &str, entries: &mut Vec<PathToCheck>) -> Result<(), AllocError>
     ensures { OnOk result (map listed_of entries.new.items ≡ map listed_of entries.old.items ++ map file_at (path.now ∷ [])) }
 {
     let path = String::from_str(alloc, path)?;
-    Ok(entries.push(Entry { path, note: None })?)
+    Ok(entries.push(PathToCheck { path, note: None })?)
 }
 
 /// Returns the files at these paths.
 #[tactic(auto, using(crate::proofs::Listing::files_more))]
-pub(crate) fn files_at(alloc: Global, paths: &[&str]) -> Result<Vec<Entry>, AllocError>
+pub(crate) fn files_at(alloc: Global, paths: &[&str]) -> Result<Vec<PathToCheck>, AllocError>
     ensures { IfOk result (λ entries. map listed_of entries.items ≡ map file_at (map (λ path. path.now) paths.now)) }
 {
     let mut entries = Vec::new(alloc);
@@ -73,7 +74,7 @@ fn looks_like_table<R: Files>(files: &R, path: &str) -> bool {
 }
 
 /// Returns what a report has of a path below a folder. None if it isn't a table's file, and doesn't look like one.
-fn entry_of<R: Files>(files: &R, below: Below) -> Option<Entry> {
+fn entry_of<R: Files>(files: &R, below: Below) -> Option<PathToCheck> {
     let Below { path, finding } = below;
     let note = match finding {
         Finding::File if named_by(path.as_str()).is_some() => None,
@@ -86,7 +87,7 @@ fn entry_of<R: Files>(files: &R, below: Below) -> Option<Entry> {
         Finding::Loop => Some(FileVerdict::Skipped(Skip::Loop)),
         Finding::Again => Some(FileVerdict::Skipped(Skip::Again)),
     };
-    Some(Entry { path, note })
+    Some(PathToCheck { path, note })
 }
 
 /// Returns the table files below a folder, in the byte order of their paths, and what else a report has to have of it.
@@ -94,7 +95,7 @@ fn entries_below<R: Files>(
     alloc: Global,
     files: &R,
     folder: &str,
-) -> Result<Vec<Entry>, AllocError> {
+) -> Result<Vec<PathToCheck>, AllocError> {
     let mut entries = Vec::new(alloc);
     let mut is_empty = true;
     'found: for below in files_below(alloc, files, folder)? {
@@ -111,17 +112,21 @@ fn entries_below<R: Files>(
 }
 
 /// Returns a path alone, with its verdict.
-fn noted(alloc: Global, path: &str, verdict: FileVerdict) -> Result<Vec<Entry>, AllocError> {
+fn noted(alloc: Global, path: &str, verdict: FileVerdict) -> Result<Vec<PathToCheck>, AllocError> {
     let mut entries = Vec::new(alloc);
     let path = String::from_str(alloc, path)?;
     let note = Some(verdict);
-    entries.push(Entry { path, note })?;
+    entries.push(PathToCheck { path, note })?;
     Ok(entries)
 }
 
 /// Returns what a report has of a path: the file there, or what is below a folder. A path that ends as a table's file does
 /// isn't looked at here.
-fn entries_at_path<R: Files>(alloc: Global, files: &R, path: &str) -> Result<Vec<Entry>, AllocError>
+fn entries_at_path<R: Files>(
+    alloc: Global,
+    files: &R,
+    path: &str,
+) -> Result<Vec<PathToCheck>, AllocError>
     ensures { IfOk result (λ entries. IsListedAt path.now (map listed_of entries.items)) }
 {
     if named_by(path).is_some() {
@@ -140,7 +145,7 @@ pub fn entries_at<R: Files>(
     alloc: Global,
     files: &R,
     paths: &[&str],
-) -> Result<Vec<Entry>, AllocError>
+) -> Result<Vec<PathToCheck>, AllocError>
     ensures { IfOk result (λ entries. AreListed (map (λ path. path.now) paths.now) (map listed_of entries.items)) }
 {
     let mut entries = Vec::new(alloc);
@@ -149,4 +154,52 @@ pub fn entries_at<R: Files>(
         entries.append(&mut here)?;
     }
     Ok(entries)
+}
+
+/// Returns the paths of entries without detours.
+fn normal_paths(alloc: Global, entries: &[PathToCheck]) -> Result<Vec<Vec<u8>>, AllocError> {
+    let mut paths = Vec::new(alloc);
+    'paths: for entry in entries {
+        paths.push(normal(alloc, entry.path.as_bytes())?)?;
+    }
+    Ok(paths)
+}
+
+/// Returns a name as a text. None if it isn't UTF-8, as that of a file that is unread, or isn't that of a table's file.
+fn table_name(name: &[u8]) -> Option<&str> {
+    let name = std::str::from_utf8(name).ok()?;
+    named_by(name)?;
+    Some(name)
+}
+
+/// Returns those of these names that are tables' files, as missing.
+#[tactic(auto, using(crate::proofs::Listing::one_more_missing))]
+fn missing_tables(alloc: Global, names: &[&[u8]]) -> Result<Vec<PathToCheck>, AllocError>
+    ensures { IfOk result (λ found. AllMissing (map listed_of found.items)) }
+{
+    let mut found = Vec::new(alloc);
+    'names: for name in names {
+        if let Some(name) = table_name(name) {
+            let path = String::from_str(alloc, name)?;
+            let note = Some(FileVerdict::Sum(SumFault::Missing));
+            found.push(PathToCheck { path, note })?;
+        }
+    }
+    Ok(found)
+}
+
+/// Returns the tables that lists of sums name, and that none of the entries is.
+pub(crate) fn missing(
+    alloc: Global,
+    sums: Option<&Sums>,
+    entries: &[PathToCheck],
+) -> Result<Vec<PathToCheck>, AllocError>
+    ensures { IfOk result (λ found. AreMissing sums.entry (map listed_of found.items)) }
+{
+    let Some(sums) = sums else {
+        return Ok(Vec::new(alloc));
+    };
+    let paths = normal_paths(alloc, entries)?;
+    let names = sums.unused(alloc, &paths)?;
+    missing_tables(alloc, &names)
 }

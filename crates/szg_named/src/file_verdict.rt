@@ -27,6 +27,19 @@ pub enum FileVerdict {
     Empty,
     /// It is not checked.
     Skipped(Skip),
+    /// It is a table, and not the listed one.
+    Sum(SumFault),
+}
+
+/// What lists of sums say against a file.
+#[derive(Clone, Copy)]
+pub enum SumFault {
+    /// It has another digest.
+    Differs,
+    /// No list names it.
+    Unlisted,
+    /// A list names it, and it isn't there.
+    Missing,
 }
 
 /// Why a path below a folder is not checked.

@@ -2,9 +2,12 @@
 #![tactic(auto)]
 
 mod check_paths;
+mod due;
 mod entries;
 mod file_verdict;
+mod hashed;
 mod lines;
+mod lists;
 mod many;
 mod named;
 mod one;
@@ -13,12 +16,16 @@ mod report_format;
 mod stop;
 
 pub use check_paths::files_to_check;
-pub use entries::{Entry, entries_at};
-pub use file_verdict::{FileVerdict, Skip};
-pub use lines::{error_text, fault_text, name_word, reason_word, summary_line, verdict_line};
+pub use due::Due;
+pub use entries::{PathToCheck, entries_at};
+pub use file_verdict::{FileVerdict, Skip, SumFault};
+pub use lines::{
+    error_text, fault_text, name_word, reason_word, sum_word, summary_line, verdict_line,
+};
+pub use lists::{ListFailure, ListFault, sums_in};
 pub use many::{CheckOptions, check_entries, check_files, check_found};
 pub use named::{Naming, named_as, named_by};
 pub use one::check_path;
 pub use records::{json_record, tsv_record};
 pub use report_format::ReportFormat;
-pub use stop::{Stop, Tally};
+pub use stop::{CheckCounts, CheckStop};

@@ -1,11 +1,11 @@
 //! The lines of a report.
 ghost use Rattle.std.specs.Prelude.{◌≡◌, ◌++◌, ◌∷◌, [], ◌+◌, ◌/◌, ◌%◌, ◌^◌, ◌<◌, IfOk, OnOk, string_bytes};
 ghost use Rattle.szg_named.specs.Records.{escaped_byte_in, escaped_in, json_byte};
-ghost use Rattle.szg_named.specs.Lines.{IsLine, IsVerdictText, empty, escaped, escaped_byte, hex_digit, is_escaped, name_text, name_word, no_text, path_text, reason_text, reason_word, refused_text, skip_reason, skipped_text, summary_text};
+ghost use Rattle.szg_named.specs.Lines.{IsLine, IsVerdictText, empty, escaped, escaped_byte, hex_digit, is_escaped, name_text, name_word, no_text, path_text, reason_text, reason_word, refused_text, skip_reason, skipped_text, sum_word, summary_text};
 
-use crate::file_verdict::{FileVerdict, Skip};
+use crate::file_verdict::{FileVerdict, Skip, SumFault};
 use crate::report_format::ReportFormat;
-use crate::stop::Tally;
+use crate::stop::CheckCounts;
 use std::alloc::{AllocError, Global};
 use std::io::Error;
 use szg_file::Reason;
@@ -151,6 +151,10 @@ fn verdict_text(
             let reason = skip_reason(*skip);
             format!(in alloc; ": skipped: {reason}\n")
         }
+        FileVerdict::Sum(fault) => {
+            let word = sum_word(*fault);
+            format!(in alloc; ": refused sum: {word}\n")
+        }
     }
 }
 
@@ -179,6 +183,17 @@ pub(crate) fn skip_reason(skip: Skip) -> &'static str
     }
 }
 
+/// Returns the word for what lists of sums say against a file: the name of its variant.
+pub fn sum_word(fault: SumFault) -> &'static str
+    ensures { result.now ≡ sum_word fault }
+{
+    match fault {
+        SumFault::Differs => "Differs",
+        SumFault::Unlisted => "Unlisted",
+        SumFault::Missing => "Missing",
+    }
+}
+
 /// Returns the text of a reason.
 fn reason_text(alloc: Global, reason: &str) -> Result<String, AllocError>
     ensures { IfOk result (λ text. string_bytes text ≡ reason_text reason.now) }
@@ -202,11 +217,11 @@ fn refused_text(alloc: Global, offset: u64, word: &str) -> Result<String, AllocE
 
 /// Returns the summary: the number of files, and how many of them are good, refused and unread; and the number of paths that
 /// were skipped, if there are any.
-pub fn summary_line(alloc: Global, tally: &Tally) -> Result<String, AllocError>
+pub fn summary_line(alloc: Global, tally: &CheckCounts) -> Result<String, AllocError>
     requires { tally.now.good + tally.now.refused + tally.now.unread < 2 ^ 64 }
     ensures { IfOk result (λ line. string_bytes line ≡ summary_text tally.now) }
 {
-    let Tally {
+    let CheckCounts {
         good,
         refused,
         unread,

@@ -2,22 +2,24 @@
 ghost use Rattle.std.specs.Prelude.{◌≡◌, ◌+◌, ◌<◌, ◌^◌, IfOk, IsErrOf, map, string_bytes};
 ghost use Rattle.szg_io.specs.Device.{HasFailed};
 ghost use Rattle.szg_named.specs.Records.{IsReportLine, IsShownLine, is_bad, report_end};
-ghost use Rattle.szg_named.specs.Verdicts.{IsFoundReport, IsReport, IsReportOn, IsVerdictAt, listed_of};
+ghost use Rattle.szg_named.specs.Verdicts.{IsFileVerdict, IsFoundReport, IsReport, IsReportOn, IsVerdictAt, due_in, listed_of};
 
-use crate::entries::{Entry, entries_at, files_at};
+use crate::due::due_of;
+use crate::entries::{PathToCheck, entries_at, files_at, missing};
 use crate::file_verdict::FileVerdict;
 use crate::lines::{summary_line, verdict_line};
 use crate::named::Naming;
 use crate::one::check_path;
 use crate::records::{json_record, tsv_record};
 use crate::report_format::ReportFormat;
-use crate::stop::{Stop, Tally};
+use crate::stop::{CheckCounts, CheckStop};
 use std::alloc::{AllocError, Global};
 use std::rt::Files;
 use std::time::{Clock, Duration, Instant};
 use szg_file::Ahead;
 use szg_files::FileSystem;
 use szg_io::{Output, give_whole};
+use szg_sums::Sums;
 
 /// How files are checked.
 #[derive(Clone, Copy)]
@@ -30,13 +32,15 @@ pub struct CheckOptions<'a> {
     pub format: ReportFormat,
     /// Whether the report has only files that are refused or unread.
     pub quiet: bool,
+    /// The lists of sums that the files are compared with, if there are any.
+    pub sums: Option<&'a Sums>,
 }
 
 impl CheckOptions<'_> {
     ghost use Rattle.std.specs.Prelude.{◌≡◌};
     ghost use Rattle.szg_named.specs.Verdicts.{plain_options};
 
-    /// Each file by its own name, no trailing bytes, and a report for a reader.
+    /// Each file by its own name, no trailing bytes, a report for a reader, and no lists of sums.
     pub fn plain() -> CheckOptions<'static>
         ensures { result ≡ plain_options }
     {
@@ -48,6 +52,7 @@ impl CheckOptions<'_> {
             allow_trailing: false,
             format: ReportFormat::Text,
             quiet: false,
+            sums: None,
         }
     }
 }
@@ -100,7 +105,8 @@ fn is_bad(verdict: &FileVerdict, allow_trailing: bool) -> bool
         | FileVerdict::Unopened(_)
         | FileVerdict::Unread(_)
         | FileVerdict::NoText
-        | FileVerdict::Empty => true,
+        | FileVerdict::Empty
+        | FileVerdict::Sum(_) => true,
     }
 }
 
@@ -130,21 +136,38 @@ struct Reported {
     line: Vec<u8>,
 }
 
+/// Returns the verdict on the file at a path, and on its digest if there are lists of sums. Errors: `Memory`.
+#[tactic(auto, using(crate::proofs::Reporting::due_is))]
+fn verdict_on_file<S: FileSystem>(
+    alloc: Global,
+    system: &mut S,
+    options: CheckOptions<'_>,
+    path: &str,
+) -> Result<FileVerdict, CheckStop>
+where
+    S::File: Ahead,
+    ensures verdict { IfOk result (λ verdict. IsFileVerdict S.content S.failures S.File.Input options.entry.naming (due_in options.entry.sums path.now) path.now system.old system.new verdict) }
+    ensures only { IsErrOf result CheckStop.Device → ⊥ }
+{
+    let due = due_of(alloc, options.sums, path)?;
+    check_path(alloc, system, options.naming, path, due)
+}
+
 /// Returns the verdict of an entry: the one that is known, else that on its file. Errors: `Memory`.
 fn verdict_of<S: FileSystem>(
     alloc: Global,
     system: &mut S,
-    naming: Naming<'_>,
-    entry: &Entry,
-) -> Result<FileVerdict, Stop>
+    options: CheckOptions<'_>,
+    entry: &PathToCheck,
+) -> Result<FileVerdict, CheckStop>
 where
     S::File: Ahead,
-    ensures verdict { IfOk result (λ verdict. IsVerdictAt S.content S.failures S.File.Input naming.entry (string_bytes entry.now.path) entry.now.note system.old system.new verdict) }
-    ensures only { IsErrOf result Stop.Device → ⊥ }
+    ensures verdict { IfOk result (λ verdict. IsVerdictAt S.content S.failures S.File.Input options.entry.naming options.entry.sums (string_bytes entry.now.path) entry.now.note system.old system.new verdict) }
+    ensures only { IsErrOf result CheckStop.Device → ⊥ }
 {
     match entry.note {
         Some(verdict) => Ok(verdict),
-        None => check_path(alloc, system, naming, entry.path.as_str()),
+        None => verdict_on_file(alloc, system, options, entry.path.as_str()),
     }
 }
 
@@ -154,23 +177,27 @@ fn report_entry<S: FileSystem, C: Clock>(
     system: &mut S,
     clock: &C,
     options: CheckOptions<'_>,
-    entry: &Entry,
-) -> Result<Reported, Stop>
+    entry: &PathToCheck,
+) -> Result<Reported, CheckStop>
 where
     S::File: Ahead,
-    ensures verdict { IfOk result (λ reported. IsVerdictAt S.content S.failures S.File.Input options.entry.naming (string_bytes entry.now.path) entry.now.note system.old system.new reported.verdict) }
+    ensures verdict { IfOk result (λ reported. IsVerdictAt S.content S.failures S.File.Input options.entry.naming options.entry.sums (string_bytes entry.now.path) entry.now.note system.old system.new reported.verdict) }
     ensures line { IfOk result (λ reported. IsShownLine options.entry.quiet options.entry.format options.entry.allow_trailing (string_bytes entry.now.path) reported.verdict reported.line.items) }
-    ensures only { IsErrOf result Stop.Device → ⊥ }
+    ensures only { IsErrOf result CheckStop.Device → ⊥ }
 {
     let started = time_now(clock, options.format);
-    let verdict = verdict_of(alloc, system, options.naming, entry)?;
+    let verdict = verdict_of(alloc, system, options, entry)?;
     let elapsed = between(started, time_now(clock, options.format));
     let line = shown_line(alloc, options, entry.path.as_str(), &verdict, elapsed)?;
     Ok(Reported { verdict, line })
 }
 
 /// What follows the last file.
-fn report_end(alloc: Global, format: ReportFormat, tally: &Tally) -> Result<String, AllocError>
+fn report_end(
+    alloc: Global,
+    format: ReportFormat,
+    tally: &CheckCounts,
+) -> Result<String, AllocError>
     requires { tally.now.good + tally.now.refused + tally.now.unread < 2 ^ 64 }
     ensures { IfOk result (λ text. string_bytes text ≡ report_end format tally.now) }
 {
@@ -181,7 +208,7 @@ fn report_end(alloc: Global, format: ReportFormat, tally: &Tally) -> Result<Stri
 }
 
 /// Checks the files at these paths in their order, as `check_entries`.
-#[tactic(auto, using(crate::proofs::Listing::files_are_listed))]
+#[tactic(auto, using(crate::proofs::Reporting::files_report))]
 pub fn check_files<S: FileSystem, C: Clock, W: Output>(
     alloc: Global,
     system: &mut S,
@@ -189,19 +216,21 @@ pub fn check_files<S: FileSystem, C: Clock, W: Output>(
     options: CheckOptions<'_>,
     paths: &[&str],
     writer: &mut W,
-) -> Result<Tally, Stop>
+) -> Result<CheckCounts, CheckStop>
 where
     S::File: Ahead,
     ensures report { IfOk result (λ tally. IsReport S.content S.failures S.File.Input W.Output options.entry (map (λ path. path.now) paths.now) system.old system.new writer.old writer.new tally) }
     ensures found { IfOk result (λ tally. IsFoundReport S.content S.failures S.File.Input W.Output options.entry (map (λ path. path.now) paths.now) system.old system.new writer.old writer.new tally) }
-    ensures device { IsErrOf result Stop.Device → HasFailed (W.failures writer.old) (W.failures writer.new) (W.interrupted writer.new) }
+    ensures device { IsErrOf result CheckStop.Device → HasFailed (W.failures writer.old) (W.failures writer.new) (W.interrupted writer.new) }
 {
     let entries = files_at(alloc, paths)?;
     check_entries(alloc, system, clock, options, &entries, writer)
 }
 
 /// Checks the files at these paths and the table files below folders, in their order, as `check_entries`. What is below a
-/// folder comes in the byte order of the paths. A path that ends as a table's file does isn't taken for a folder.
+/// folder comes in the byte order of the paths. A path that ends as a table's file does isn't taken for a folder. Tables that
+/// lists of sums name and that aren't there come last.
+#[tactic(auto, using(crate::proofs::Reporting::found_report))]
 pub fn check_found<S: FileSystem, D: Files + Clock, W: Output>(
     alloc: Global,
     system: &mut S,
@@ -209,13 +238,15 @@ pub fn check_found<S: FileSystem, D: Files + Clock, W: Output>(
     options: CheckOptions<'_>,
     paths: &[&str],
     writer: &mut W,
-) -> Result<Tally, Stop>
+) -> Result<CheckCounts, CheckStop>
 where
     S::File: Ahead,
     ensures found { IfOk result (λ tally. IsFoundReport S.content S.failures S.File.Input W.Output options.entry (map (λ path. path.now) paths.now) system.old system.new writer.old writer.new tally) }
-    ensures device { IsErrOf result Stop.Device → HasFailed (W.failures writer.old) (W.failures writer.new) (W.interrupted writer.new) }
+    ensures device { IsErrOf result CheckStop.Device → HasFailed (W.failures writer.old) (W.failures writer.new) (W.interrupted writer.new) }
 {
-    let entries = entries_at(alloc, machine, paths)?;
+    let mut entries = entries_at(alloc, machine, paths)?;
+    let mut more = missing(alloc, options.sums, &entries)?;
+    entries.append(&mut more)?;
     check_entries(alloc, system, machine, options, &entries, writer)
 }
 
@@ -228,15 +259,15 @@ pub fn check_entries<S: FileSystem, C: Clock, W: Output>(
     system: &mut S,
     clock: &C,
     options: CheckOptions<'_>,
-    entries: &[Entry],
+    entries: &[PathToCheck],
     writer: &mut W,
-) -> Result<Tally, Stop>
+) -> Result<CheckCounts, CheckStop>
 where
     S::File: Ahead,
     ensures report { IfOk result (λ tally. IsReportOn S.content S.failures S.File.Input W.Output options.entry (map listed_of entries.now) system.old system.new writer.old writer.new tally) }
-    ensures device { IsErrOf result Stop.Device → HasFailed (W.failures writer.old) (W.failures writer.new) (W.interrupted writer.new) }
+    ensures device { IsErrOf result CheckStop.Device → HasFailed (W.failures writer.old) (W.failures writer.new) (W.interrupted writer.new) }
 {
-    let mut tally = Tally {
+    let mut tally = CheckCounts {
         good: 0,
         refused: 0,
         unread: 0,
@@ -245,13 +276,13 @@ where
     'entries: for entry in entries {
         let reported = report_entry(alloc, system, clock, options, entry)?;
         if give_whole(writer, &reported.line).is_err() {
-            return Err(Stop::Device);
+            return Err(CheckStop::Device);
         }
         tally = tally.with(&reported.verdict, options.allow_trailing);
     }
     let end = report_end(alloc, options.format, &tally)?;
     if give_whole(writer, end.as_bytes()).is_err() {
-        return Err(Stop::Device);
+        return Err(CheckStop::Device);
     }
     Ok(tally)
 }

@@ -6,7 +6,7 @@ ghost use Rattle.szg_named.specs.Records.{IsJsonRecord, IsReasonField, IsTsvReco
 use crate::file_verdict::FileVerdict;
 use crate::lines::{
     empty, error_text, escaped_in, fault_text, name_word, no_text, path_text, reason_word,
-    skip_reason,
+    skip_reason, sum_word,
 };
 use crate::report_format::ReportFormat;
 use std::alloc::{AllocError, Global};
@@ -27,7 +27,8 @@ fn verdict_word(verdict: &FileVerdict, allow_trailing: bool) -> &'static str
         FileVerdict::Ending
         | FileVerdict::Name(_)
         | FileVerdict::At(..)
-        | FileVerdict::Trailing(_) => "refused",
+        | FileVerdict::Trailing(_)
+        | FileVerdict::Sum(_) => "refused",
     }
 }
 
@@ -67,6 +68,7 @@ fn reason_field(alloc: Global, verdict: &FileVerdict) -> Result<Option<String>, 
         FileVerdict::NoText => no_text(),
         FileVerdict::Empty => empty(),
         FileVerdict::Skipped(skip) => skip_reason(*skip),
+        FileVerdict::Sum(fault) => sum_word(*fault),
     };
     Ok(Some(String::from_str(alloc, word)?))
 }
@@ -140,7 +142,7 @@ fn json_reason(alloc: Global, reason: &Option<String>) -> Result<Vec<u8>, AllocE
 
 /// A record's fields after the path.
 #[derive(Drop)]
-struct Fields {
+struct RecordTexts {
     word: &'static str,
     bytes: Option<u64>,
     reason: Option<String>,
@@ -149,7 +151,7 @@ struct Fields {
 }
 
 /// The fields of a TSV record in a line, separated by tabs.
-fn tsv_text(alloc: Global, path: Vec<u8>, fields: &Fields) -> Result<Vec<u8>, AllocError>
+fn tsv_text(alloc: Global, path: Vec<u8>, fields: &RecordTexts) -> Result<Vec<u8>, AllocError>
     ensures { IfOk result (λ line. line.items ≡ tsv_text path.items fields.now.word.now fields.now.bytes (option_map (λ text. string_bytes text) fields.now.reason) fields.now.offset (option_map (λ d. as_nanos d) fields.now.elapsed)) }
 {
     let tab = "\t".as_bytes();
@@ -177,7 +179,7 @@ fn tsv_text(alloc: Global, path: Vec<u8>, fields: &Fields) -> Result<Vec<u8>, Al
 }
 
 /// The fields of a record as a JSON object in a line.
-fn json_text(alloc: Global, path: &str, fields: &Fields) -> Result<Vec<u8>, AllocError>
+fn json_text(alloc: Global, path: &str, fields: &RecordTexts) -> Result<Vec<u8>, AllocError>
     ensures { IfOk result (λ line. line.items ≡ json_text path.now fields.now.word.now fields.now.bytes (option_map (λ text. string_bytes text) fields.now.reason) fields.now.offset (option_map (λ d. as_nanos d) fields.now.elapsed)) }
 {
     let path = quoted(alloc, path)?;
@@ -211,13 +213,13 @@ fn fields_of(
     verdict: &FileVerdict,
     allow_trailing: bool,
     elapsed: Option<Duration>,
-) -> Result<Fields, AllocError>
+) -> Result<RecordTexts, AllocError>
     ensures word { IfOk result (λ fields. fields.word.now ≡ verdict_word allow_trailing verdict.now) }
     ensures bytes { IfOk result (λ fields. fields.bytes ≡ bytes_field verdict.now) }
     ensures reason { IfOk result (λ fields. IsReasonField verdict.now (option_map (λ text. string_bytes text) fields.reason)) }
     ensures offset { IfOk result (λ fields. fields.offset ≡ offset_field verdict.now) }
 {
-    Ok(Fields {
+    Ok(RecordTexts {
         word: verdict_word(verdict, allow_trailing),
         bytes: bytes_field(verdict),
         reason: reason_field(alloc, verdict)?,

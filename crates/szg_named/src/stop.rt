@@ -4,7 +4,7 @@ use std::alloc::{AllocError, AllocFailed};
 
 /// Why a command ends before its last file.
 #[derive(Clone, Copy)]
-pub enum Stop {
+pub enum CheckStop {
     /// The output failed.
     Device,
     /// An allocation was refused.
@@ -13,19 +13,19 @@ pub enum Stop {
 
 /// The numbers of files that were good, refused, or not read, and of paths that were skipped.
 #[derive(Clone, Copy)]
-pub struct Tally {
+pub struct CheckCounts {
     pub good: u64,
     pub refused: u64,
     pub unread: u64,
     pub skipped: u64,
 }
 
-impl Tally {
+impl CheckCounts {
     ghost use Rattle.std.specs.Prelude.{◌≡◌, ◌+◌, ◌^◌, ◌<◌};
     ghost use Rattle.szg_named.specs.Verdicts.{good_of, refused_of, skipped_of, unread_of};
 
     /// Returns the tally with one more file.
-    pub fn with(self, verdict: &FileVerdict, allow_trailing: bool) -> Tally
+    pub fn with(self, verdict: &FileVerdict, allow_trailing: bool) -> CheckCounts
         requires good { self.good < 2 ^ 63 }
         requires refused { self.refused < 2 ^ 63 }
         requires unread { self.unread < 2 ^ 63 }
@@ -47,30 +47,31 @@ impl Tally {
             FileVerdict::Ending
             | FileVerdict::Name(_)
             | FileVerdict::At(..)
-            | FileVerdict::Trailing(_) => tally.refused += 1,
+            | FileVerdict::Trailing(_)
+            | FileVerdict::Sum(_) => tally.refused += 1,
         }
         tally
     }
 }
 
-impl From<AllocError> for Stop {
+impl From<AllocError> for CheckStop {
     ghost use Rattle.std.specs.Prelude.{◌≡◌};
-    ghost use Rattle.szg_named.specs.declared.stop.Stop.TheVariants.{Memory};
+    ghost use Rattle.szg_named.specs.declared.stop.CheckStop.TheVariants.{Memory};
 
     ghost from_gives = { λ _ stop. stop ≡ Memory };
 
-    fn from(_failed: AllocError) -> Stop {
-        Stop::Memory
+    fn from(_failed: AllocError) -> CheckStop {
+        CheckStop::Memory
     }
 }
 
-impl<T: Drop> From<AllocFailed<T>> for Stop {
+impl<T: Drop> From<AllocFailed<T>> for CheckStop {
     ghost use Rattle.std.specs.Prelude.{◌≡◌};
-    ghost use Rattle.szg_named.specs.declared.stop.Stop.TheVariants.{Memory};
+    ghost use Rattle.szg_named.specs.declared.stop.CheckStop.TheVariants.{Memory};
 
     ghost from_gives = { λ _ stop. stop ≡ Memory };
 
-    fn from(_failed: AllocFailed<T>) -> Stop {
-        Stop::Memory
+    fn from(_failed: AllocFailed<T>) -> CheckStop {
+        CheckStop::Memory
     }
 }

@@ -1,6 +1,6 @@
 //! The lines of a verification.
 
-use crate::verifying::{Cause, Tally};
+use crate::verifying::{Cause, VerifiedCounts};
 use std::alloc::{AllocError, Global};
 use szg_results::{ResultStop, stop_text};
 use szg_tables::Missing;
@@ -43,8 +43,12 @@ pub fn material_line(
 }
 
 /// Returns the summary.
-pub fn summary_line(alloc: Global, is_all: bool, tally: &Tally) -> Result<String, AllocError> {
-    let Tally {
+pub fn summary_line(
+    alloc: Global,
+    is_all: bool,
+    tally: &VerifiedCounts,
+) -> Result<String, AllocError> {
+    let VerifiedCounts {
         materials,
         verified,
         positions,

@@ -59,7 +59,7 @@ pub struct Outcome {
 
 /// What a verification came to.
 #[derive(Clone, Copy)]
-pub struct Tally {
+pub struct VerifiedCounts {
     /// The number of materials.
     pub materials: usize,
     /// The number of those that are verified.
@@ -87,7 +87,7 @@ pub fn verify_materials<W: Write, P: Progress>(
     verified_is_true();
     let mut unverified = Vec::new(alloc);
     let mut cells = new_cells(alloc)?;
-    let mut tally = Tally {
+    let mut tally = VerifiedCounts {
         materials: materials.len(),
         verified: 0,
         positions: 0,

@@ -25,7 +25,7 @@ entries-preserved g c =
       quiet = search rules;
       verdicts = h.verdicts ++ c.in_ok-reported.reported.verdict ∷ [];
       text = h.text ++ line;
-      reports = reports_next _ _ _ _ c.args.entries.now c.entries.entry-index c.entry-item.result h.verdicts c.in_ok-reported.reported.verdict _ c.entries.system _ h.text line below c.entry-item.is h.reports c.in_ok-reported.ensures.verdict c.in_ok-reported.ensures.line;
+      reports = reports_next g.S.FileSystem.content g.S.FileSystem.failures g.S.File.Input c.args.options c.args.entries.now c.entries.entry-index c.entry-item.result h.verdicts c.in_ok-reported.reported.verdict c.args.system.now c.entries.system c.report_entry.new.system h.text line below c.entry-item.is h.reports c.in_ok-reported.ensures.verdict c.in_ok-reported.ensures.line;
       given = Gives-on h.text line 0 h.given gave;
       counts = counts_more _ h.verdicts c.in_ok-reported.reported.verdict c.entries.tally c.with-tally.result h.counts c.with-tally.ensures.good c.with-tally.ensures.refused c.with-tally.ensures.unread c.with-tally.ensures.skipped;
       all = let once = counts_once c.args.options.allow_trailing c.in_ok-reported.reported.verdict in omega (arith, once, h.all, c.with-tally.ensures.good, c.with-tally.ensures.refused, c.with-tally.ensures.unread, c.with-tally.ensures.skipped);

@@ -1,0 +1,28 @@
+use Rattle.std.proofs.Common.{◌≡◌, true, refl, rules, inl, inr, sym, ◌∙◌}
+use Rattle.std.specs.Str.{bytes_eq}
+use Rattle.szg_named.specs.Verdicts.{is_table}
+use Rattle.szg_named.proofs.Hashing.{compared, on_err, on_ok}
+use Rattle.szg_named.proofs.one.check_hashed.Goals as goal
+
+pub returns-then-is_err-clause-says : goal.returns-then-is_err-clause-says
+returns-then-is_err-clause-says g c =
+    let table : is_table c.in_ok-found.found ≡ true = search rules in
+    let failed = on_err c.read_on.result (sym c.is_err.ensures.value ∙ c.if-is_err.true) c.read_on.ensures.failed in
+    compared g.F.Input (λ m. bytes_eq (g.H.Hasher.sum_of m) c.args.due.now) c.args.material.now c.args.kind c.args.file c.new-hashed.result c.check_opened.new.file c.read_on.new.input c.in_ok-found.found _ c.new-hashed.ensures c.in_ok-found.ensures.says table
+    (inr (c.reason.result, refl, failed))
+
+pub returns-then-is_met-clause-says : goal.returns-then-is_met-clause-says
+returns-then-is_met-clause-says g c =
+    let table : is_table c.in_ok-found.found ≡ true = search rules in
+    let end = on_ok c.read_on.result (sym c.is_err.ensures.value ∙ c.if-is_err.false) c.read_on.ensures.end in
+    let met = sym c.is_met.ensures ∙ c.if-is_met.true in
+    compared g.F.Input (λ m. bytes_eq (g.H.Hasher.sum_of m) c.args.due.now) c.args.material.now c.args.kind c.args.file c.new-hashed.result c.check_opened.new.file c.read_on.new.input c.in_ok-found.found _ c.new-hashed.ensures c.in_ok-found.ensures.says table
+    (inl (end, (c.read_on.ensures.rest.0, c.read_on.ensures.rest.1), rw met refl))
+
+pub returns-else-is_met-clause-says : goal.returns-else-is_met-clause-says
+returns-else-is_met-clause-says g c =
+    let table : is_table c.in_ok-found.found ≡ true = search rules in
+    let end = on_ok c.read_on.result (sym c.is_err.ensures.value ∙ c.if-is_err.false) c.read_on.ensures.end in
+    let other = sym c.is_met.ensures ∙ c.if-is_met.false in
+    compared g.F.Input (λ m. bytes_eq (g.H.Hasher.sum_of m) c.args.due.now) c.args.material.now c.args.kind c.args.file c.new-hashed.result c.check_opened.new.file c.read_on.new.input c.in_ok-found.found _ c.new-hashed.ensures c.in_ok-found.ensures.says table
+    (inl (end, (c.read_on.ensures.rest.0, c.read_on.ensures.rest.1), rw other refl))
