@@ -75,6 +75,16 @@ compile_with_library() {
   "$CC" -O2 -march=x86-64-v2 -Wall -Wextra -Werror -I"$root/bindings" -o "$work/$(basename "$1" .c)" "$root/$1" "$library/libszg.a" "${@:2}"
 }
 
+# Builds the Python package's wheel in a folder, without a download; the same input gives the same bytes: build_wheel FOLDER
+# The library in it is SZG_LIBRARY, or what tools/link_library links. Sets python.
+build_wheel() {
+  local package=$root/bindings/python log
+  find_python setuptools, pip, wheel
+  rm -rf "$package/build" "$package"/src/*.egg-info
+  log=$(umask 022 && SOURCE_DATE_EPOCH=315532800 "$python" -m pip wheel -q --no-build-isolation --no-deps --no-index -w "$1" "$package" 2>&1) || fail "the wheel is not built: $log"
+  rm -rf "$package/build" "$package"/src/*.egg-info
+}
+
 # Sets python to PYTHON, or to the first python3 with these modules: find_python MODULE, MODULE..
 find_python() {
   for python in ${PYTHON:-python3 /usr/bin/python3}; do
