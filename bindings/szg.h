@@ -34,10 +34,10 @@ extern "C" {
 #endif
 
 /* The version of this header. A library with the same major number serves a program compiled with it. */
-#define SZG_VERSION_MAJOR 1
-#define SZG_VERSION_MINOR 2
-#define SZG_VERSION_PATCH 4
-#define SZG_VERSION "1.2.4"
+#define SZG_VERSION_MAJOR 2
+#define SZG_VERSION_MINOR 0
+#define SZG_VERSION_PATCH 0
+#define SZG_VERSION "2.0.0"
 
 enum szg_status {
     SZG_DONE = 0,    /* the call was carried out */

@@ -10,7 +10,7 @@ printed text (first ∷ rest) = take (min (length text) (length rest)) text ++ 0
 
 -- the version of the library and of its header
 abbrev pub version_text : List ℕ
-version_text = codes "1.2.4"
+version_text = codes "2.0.0"
 
 -- the name of a status; a number that is no status has the empty name
 unfoldable pub status_text : ℕ → List ℕ

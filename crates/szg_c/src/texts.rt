@@ -17,7 +17,7 @@ pub extern "C" fn szg_version(text: &mut [u8]) -> usize
     ensures length { result ≡ length version_text }
     ensures text { text.new ≡ printed version_text text.old }
 {
-    print("1.2.4", text)
+    print("2.0.0", text)
 }
 
 /// Writes the name of a status, as `szg_version` writes; returns its length. A number that is no status has the empty

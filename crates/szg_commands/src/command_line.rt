@@ -113,7 +113,7 @@ pub fn program<'a>(alloc: Global, form: CommandForm) -> Result<Command<'a>, Allo
 /// The program before its commands.
 fn described<'a>(alloc: Global) -> Result<Command<'a>, AllocError> {
     Command::new(alloc, "szg")
-        .version("1.2.4")
+        .version("2.0.0")
         .about(
             "Check, show, copy, dump and build Syzygy table files, and look up values and placements in them.{n}Reads the table file (for build: the dump) from standard input, or by its path.",
         )

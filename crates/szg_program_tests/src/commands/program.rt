@@ -144,8 +144,8 @@ fn streams_and_statuses(rt: HostRuntime) -> Result<(), Fail> {
                 "refused name: Sides\n",
                 "KvKP: the side with more men comes first: KPvK\n",
             ),
-            ("szg --version", 2, "", "szg 1.2.4\n"),
-            ("szg -V", 2, "", "szg 1.2.4\n"),
+            ("szg --version", 2, "", "szg 2.0.0\n"),
+            ("szg -V", 2, "", "szg 2.0.0\n"),
             (
                 "szg frob",
                 2,
@@ -220,7 +220,7 @@ fn full_output(rt: HostRuntime) -> Result<(), Fail> {
         ("szg check KPvK wdl", 3, "device fault\n"),
         ("szg check KPvK dtz", 3, "device fault\n"),
         ("szg values KPvK wdl", 3, "device fault\n"),
-        ("szg --version", 2, "szg 1.2.4\n"),
+        ("szg --version", 2, "szg 2.0.0\n"),
     ] {
         let mut none = [0u8; 0];
         let (ended, stated) = run_line(&rt, line, &file, none.as_mut_slice())?;
