@@ -172,26 +172,18 @@ static __attribute__((noinline)) uint64_t weight(const struct position *p) {
     return sum;
 }
 
-/* With `copies` as Rattle's compiler returns a struct: it is built in one place, and copied to another. */
-static inline __attribute__((always_inline)) uint64_t sum_after(const struct position *p, uint32_t rounds, bool copies) {
+static __attribute__((noinline)) uint64_t c_after(const struct position *p, uint32_t rounds) {
     uint64_t sum = 0;
     struct move moves[128];
     int count = legal_moves(p, moves);
     for (uint32_t r = 0; r < rounds; r++)
         for (int i = 0; i < count; i++) {
             __asm__ volatile("" : : "r"(p) : "memory");
-            struct position built = after(p, moves[i]), copied;
-            if (copies) {
-                __asm__ volatile("" : "+m"(built));
-                copied = built;
-            }
-            sum += weight(copies ? &copied : &built);
+            struct position q = after(p, moves[i]);
+            sum += weight(&q);
         }
     return sum;
 }
-
-static __attribute__((noinline)) uint64_t c_after(const struct position *p, uint32_t rounds) { return sum_after(p, rounds, false); }
-static __attribute__((noinline)) uint64_t c_after_and_copy(const struct position *p, uint32_t rounds) { return sum_after(p, rounds, true); }
 
 /* the least time of several turns of each, one after the other */
 static bool compare(const char *call, const char *named, uint64_t (*rattle)(const uint8_t *, size_t, uint32_t), uint64_t (*c)(const struct position *, uint32_t), double calls) {
@@ -220,9 +212,7 @@ int main(int argc, char **argv) {
         int count = legal_moves(&p, moves);
         same &= compare("captures", argv[i], szg_bench_captures, c_captures, 1);
         same &= compare("legal", argv[i], szg_bench_legal, c_legal, 1);
-        if (!count) continue;
-        same &= compare("after", argv[i], szg_bench_after, c_after, count);
-        same &= compare("after and a copy", argv[i], szg_bench_after, c_after_and_copy, count);
+        if (count) same &= compare("after", argv[i], szg_bench_after, c_after, count);
     }
     return same ? 0 : 1;
 }

@@ -1,5 +1,6 @@
--- Which squares a man attacks. A man is a piece or a pawn, by its kind, its colour and its square. Squares are numbered from
--- a1 = 0 to h8 = 63, files and ranks from 0: rank 1 has the number 0, and rank 8 the number 7.
+-- Which squares a man attacks. A man s is a piece or a pawn: s.0 is its kind, s.1 its colour, s.2 its square. Squares are
+-- numbered from a1 = 0, b1 = 1 to h8 = 63; files and ranks from 0: file a and rank 1 have the number 0, file h and rank 8 the
+-- number 7.
 use Rattle.std.specs.Prelude.{ℕ, ◌+◌, ◌-◌, Bool, not, ◌&&◌, ◌||◌, ◌==◌, nat_lt, nat_le, List}
 use Rattle.std.specs.List.{list_any}
 use Rattle.szg_values.specs.Men.{is_man, is_color, other_color, file_of, rank_of}

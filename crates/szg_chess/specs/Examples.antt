@@ -64,7 +64,7 @@ pub record Examples : Type 0 where
   pub unpassed : position_fault (position_of (codes "k7/8/8/8/8/8/8/7K w - d6")) ≡ Some fault.EnPassant
   pub castling : fen_fault (codes "r3k3/8/8/8/8/8/8/4K3 b q -") ≡ Some fault.Castling
   pub short_rank : fen_fault (codes "8/8/8/8/8/8/k6/7K w - -") ≡ Some fault.Rank
-  -- two kings and a pawn on e2 with five ranks to go, and a sixth
+  -- three men, and six ranks that the pawn on e2 has to go
   pub to_go : zeroing_left (position_of (codes "4k3/8/8/8/8/8/4P3/4K3 w - -")).placed_men ≡ 9
   -- a knight in the middle attacks 8 squares, a bishop 13, a rook 14, a queen 27, a king 8; a king in the corner 3
   pub knight_d4 : length (attacked_by [] (Knight, White, 27)) ≡ 8
@@ -79,14 +79,14 @@ pub record Examples : Type 0 where
   pub smothered : is_mate (position_of (codes "6rk/5Npp/8/8/8/8/8/K7 b - -")) ≡ true
   -- no mate, since the queen can be captured by the king or by the rook
   pub captured_queen : texts (legal_moves (position_of (codes "k7/1Q6/8/8/8/8/7K/1r6 b - -"))) ≡ codes "a8b7" ∷ codes "b1b7" ∷ []
-  -- a king before its pawn is stalemated; with the move on the other side it is not
+  -- a king before an enemy pawn is stalemated if the enemy king is right behind the pawn, and not if it is a file beside
   pub pawn_stalemate : is_stalemate (position_of (codes "8/8/8/8/8/5k2/5p2/5K2 w - -")) ≡ true
   pub no_stalemate : is_stalemate (position_of (codes "8/8/8/8/8/4k3/5p2/5K2 w - -")) ≡ false
   -- in double check only the king moves
   pub double_check : texts (legal_moves (position_of (codes "4r2k/8/8/8/8/3n4/8/R3K3 w - -"))) ≡ codes "e1d1" ∷ codes "e1f1" ∷ codes "e1d2" ∷ []
-  -- two pawns may capture one en passant
+  -- each of two pawns may capture a third en passant
   pub two_pawns : texts (legal_captures (position_of (codes "4k3/8/8/2PpP3/8/8/8/4K3 w - d6"))) ≡ codes "c5d6" ∷ codes "e5d6" ∷ []
-  -- a pawn that is pinned on its file may not
+  -- a pawn that is pinned on its file may not capture en passant
   pub pinned_pawn : texts (legal_captures (position_of (codes "4r1k1/8/8/3pP3/8/8/8/4K3 w - d6"))) ≡ []
   -- en passant may take the pawn that gives check
   pub checking_pawn : texts (legal_captures (position_of (codes "7k/8/8/3pP3/2K5/8/8/8 w - d6"))) ≡ codes "e5d6" ∷ codes "c4d5" ∷ []
@@ -110,7 +110,7 @@ pub record Examples : Type 0 where
   pub opposition_in_corner : texts (legal_moves (position_of (codes "8/8/8/8/8/k7/8/K7 w - -"))) ≡ codes "a1b1" ∷ []
   -- a knight pinned on a file does not move
   pub pinned_knight : texts (legal_moves (position_of (codes "4k3/4r3/8/8/8/4N3/8/4K3 w - -"))) ≡ codes "e1d1" ∷ codes "e1f1" ∷ codes "e1d2" ∷ codes "e1e2" ∷ codes "e1f2" ∷ []
-  -- a pinned bishop neither, with Black to move
+  -- nor does a bishop pinned by a rook, here Black's
   pub black_pinned_bishop : texts (legal_moves (position_of (codes "4k3/4b3/8/8/8/8/4R3/4K3 b - -"))) ≡ codes "e8d7" ∷ codes "e8f7" ∷ codes "e8d8" ∷ codes "e8f8" ∷ []
   -- a pinned rook moves along the file of the pin, and captures the rook that pins it
   pub black_pinned_rook : texts (legal_moves (position_of (codes "4k3/4r3/8/8/8/4R3/8/4K3 b - -"))) ≡ codes "e7e3" ∷ codes "e8d7" ∷ codes "e8f7" ∷ codes "e8d8" ∷ codes "e8f8" ∷ codes "e7e4" ∷ codes "e7e5" ∷ codes "e7e6" ∷ []
@@ -125,11 +125,11 @@ pub record Examples : Type 0 where
   pub checker_captured_by_rook : texts (legal_captures (position_of (codes "4k3/8/5N2/8/8/8/5r2/6K1 b - -"))) ≡ codes "f2f6" ∷ []
   -- a king in check does not go on along the line of the check
   pub along_the_line : texts (legal_moves (position_of (codes "k3r3/8/8/8/4K3/8/8/8 w - -"))) ≡ codes "e4d3" ∷ codes "e4f3" ∷ codes "e4d4" ∷ codes "e4f4" ∷ codes "e4d5" ∷ codes "e4f5" ∷ []
-  -- in double check Black's king moves too
+  -- in double check only the king moves: Black's
   pub black_double_check : texts (legal_moves (position_of (codes "r3k3/8/3N4/8/8/8/8/4R2K b - -"))) ≡ codes "e8d7" ∷ codes "e8d8" ∷ codes "e8f8" ∷ []
   -- pawns before each other are blocked
   pub blocked_pawns : texts (legal_moves (position_of (codes "4k3/8/8/3p4/3P4/8/8/4K3 w - -"))) ≡ codes "e1d1" ∷ codes "e1f1" ∷ codes "e1d2" ∷ codes "e1e2" ∷ codes "e1f2" ∷ []
-  -- a double step over an attacked square
+  -- a double step may pass over an attacked square
   pub over_attacked : texts (legal_moves (position_of (codes "4k3/8/8/8/8/7r/P7/4K3 w - -"))) ≡ codes "a2a3" ∷ codes "a2a4" ∷ codes "e1d1" ∷ codes "e1f1" ∷ codes "e1d2" ∷ codes "e1e2" ∷ codes "e1f2" ∷ []
   -- a pawn captures on both sides, and neither straight ahead nor behind it
   pub pawn_captures : texts (legal_captures (position_of (codes "4k3/8/8/3p1p2/4P3/8/8/4K3 w - -"))) ≡ codes "e4d5" ∷ codes "e4f5" ∷ []
@@ -146,9 +146,9 @@ pub record Examples : Type 0 where
   pub black_two_pawns : texts (legal_captures (position_of (codes "4k3/8/8/8/3pPp2/8/8/4K3 b - e3"))) ≡ codes "d4e3" ∷ codes "f4e3" ∷ []
   -- en passant opens the diagonal of a bishop to the king: not legal
   pub diagonal_opened : texts (legal_captures (position_of (codes "6b1/8/8/3pP3/8/8/K7/7k w - d6"))) ≡ []
-  -- with a knight between the king and the rook both pawns may vanish from their rank
+  -- with a knight between the king and the pawns the rook gives no check when both pawns leave the rank
   pub rank_kept_closed : texts (legal_captures (position_of (codes "7k/8/8/KN1pP2r/8/8/8/8 w - d6"))) ≡ codes "e5d6" ∷ []
-  -- a check by another man remains
+  -- a check that en passant doesn't end: not legal
   pub other_check : texts (legal_captures (position_of (codes "4r1k1/8/8/1Pp5/8/8/8/4K3 w - c6"))) ≡ []
   -- mates by two bishops, by a bishop and a knight, and by a queen from afar
   pub two_bishops : is_mate (position_of (codes "k7/8/1K6/3BB3/8/8/8/8 b - -")) ≡ true

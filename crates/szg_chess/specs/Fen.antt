@@ -1,6 +1,7 @@
 -- The text of a position, in Forsyth-Edwards Notation (FEN). It has six fields with one space between them: the board, the
 -- side to move, the castling rights (`-`: there are none), the en passant square or `-`, the plies since the last capture or
--- pawn's move, and the number of the full move. The last two may be left out together.
+-- pawn's move, and the number of the full move. The last two may be left out together. A text is a list of ASCII codes: 45 is
+-- `-`, 47 `/`, 48 `0`, 65 `A`, 97 `a`.
 use Rattle.std.specs.Prelude.{ℕ, zero, suc, ◌+◌, ◌-◌, ◌*◌, Bool, true, not, ◌&&◌, ◌||◌, ◌==◌, nat_le, List, [], ◌∷◌, ◌++◌, length, slice_index, count_by, Option, Some, None, is_some, if◌then◌else◌}
 use Rattle.std.specs.List.{list_all, before_first, after_first}
 use Rattle.std.specs.Str.Parse.{digits_value}

@@ -9,8 +9,9 @@ use Rattle.szg_chess.specs.declared.Move.{Move}
 use Rattle.szg_chess.specs.Position.{Position, IsPosition}
 use Rattle.szg_chess.specs.Moves.{after, is_capture, is_check, is_en_passant, is_zeroing, legal_moves}
 
--- A symmetry of the rules without castling. `FlipDiagonal` exchanges files and ranks; `ExchangeColors` exchanges the
--- colours and the side to move, and flips the ranks, so that pawns still advance.
+-- A symmetry of the rules without castling. `FlipFiles` takes file a to file h, and `FlipRanks` rank 1 to rank 8;
+-- `FlipDiagonal` exchanges files and ranks, so that b1 goes to a2; `ExchangeColors` exchanges the colours and the side to move,
+-- and flips the ranks, so that pawns still advance.
 pub data Symmetry : Type 0 where
   Same : Symmetry
   FlipFiles : Symmetry

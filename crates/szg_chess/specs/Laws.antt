@@ -25,7 +25,7 @@ is_enemy_on p square = list_any (λ s. is_color (other_color p.mover) s.1 && s.2
 abbrev pub may_go : Position → PlacedMan → ℕ → Bool
 may_go p s to = (is_enemy_on p to && attacks p.placed_men s to) || ((is_square p.en_passant to && may_pass p.placed_men s to) || (nat_lt to 64 && may_enter p.placed_men s to))
 
--- what a pawn may be promoted to
+-- a knight, a bishop, a rook or a queen: what a pawn may be promoted to
 abbrev pub is_promotion : Option Man → Bool
 is_promotion None = false
 is_promotion (Some Pawn) = false
@@ -117,5 +117,6 @@ pub record IsReadBack (p : Position) (text : List ℕ) : Type 0 where
   pub halfmove : (record_of text).halfmove ≡ 0
   pub fullmove : (record_of text).fullmove ≡ 1
 
+-- each position's text is read back so
 abbrev pub LawReadBack : Type 0
 LawReadBack = (p : Position) → IsPosition p → IsReadBack p (fen_text p)

@@ -101,7 +101,7 @@ abbrev pub is_square : Option ℕ → ℕ → Bool
 is_square None square = false
 is_square (Some other) square = other == square
 
--- a pawn goes to the square that an enemy pawn has just passed over, from a file beside
+-- a capture en passant: a pawn goes to the square that an enemy pawn has just passed over, from a neighbouring file
 unfoldable pub is_en_passant : Position → Move → Bool
 is_en_passant p m = is_square p.en_passant m.to && files_apart m.from m.to == 1 && is_pawn_on p m.from
 

@@ -18,7 +18,7 @@ pub record Position : Type 0 where
   pub placed_men : List PlacedMan
   -- the side to move
   pub mover : Color
-  -- the square that a pawn of the other side passed over by a double step in the move before, if the position says so
+  -- the square that a pawn of the other side has just passed over by a double step, if one is given
   pub en_passant : Option ℕ
 
 -- a man of this kind and colour is on the square
@@ -49,7 +49,7 @@ abbrev pub has_sound_en_passant : List PlacedMan → Color → Option ℕ → Bo
 has_sound_en_passant men mover None = true
 has_sound_en_passant men mover (Some square) = was_passed men mover square
 
--- the first fault in a list of answers, each of which is a fault or none
+-- the first fault of several tests, each of which found a fault or none
 abbrev pub first_of : List (Option PositionFault) → Option PositionFault
 first_of [] = None
 first_of (None ∷ faults) = first_of faults

@@ -27,7 +27,7 @@ squares_between from to = set_below (is_between from to) 64
 abbrev pub reach_of : PlacedMan → ℕ
 reach_of s = set_below (attacks [] s) 64
 
--- a man attacks the square, if the men are on these squares
+-- a man attacks the square `to`, if men are on the squares of the set `occupied`, and on no others
 unfoldable pub attacks_past : ℕ → PlacedMan → ℕ → Bool
 attacks_past occupied s to = is_in (reach_of s) to && bit_and (squares_between s.2 to) occupied == 0
 
@@ -37,7 +37,7 @@ abbrev pub is_in_moved : (ℕ → Bool) → ℕ → ℕ → ℕ → ℕ → Bool
 is_in_moved occupied captured from to square =
     (occupied from && not (captured == from) && square == to) || (occupied square && not (square == captured) && not (square == from))
 
--- what is stored of a position: beside its men the set of their squares
+-- a position is stored together with the set of its men's squares
 pub record IsStored (p : Position) (occupied : ℕ) : Type 0 where
   pub position : IsPosition p
   pub squares : occupied ≡ squares_of p.placed_men
