@@ -79,24 +79,30 @@ crossed false false true false = refl
 crossed false false false true = refl
 crossed false false false false = refl
 
-listed_crossed : (materials : List Sides) (a b : List Man) → is_listed materials (pair a b) ≡ is_listed materials (pair b a)
+-- which side is first does not matter
+pub same_crossed : (a b : List Man) (m : Sides) → is_same_material (pair a b) m ≡ is_same_material (pair b a) m
+same_crossed a b m = crossed (is_same_men a m.first) (is_same_men b m.second) (is_same_men a m.second) (is_same_men b m.first)
+
+pub listed_crossed : (materials : List Sides) (a b : List Man) → is_listed materials (pair a b) ≡ is_listed materials (pair b a)
 listed_crossed materials a b = each (kings_alone ∷ materials)
   where
-    one : (m : Sides) → is_same_material (pair a b) m ≡ is_same_material (pair b a) m
-    one m = crossed (is_same_men a m.first) (is_same_men b m.second) (is_same_men a m.second) (is_same_men b m.first)
-
     each : (ms : List Sides) → list_any (is_same_material (pair a b)) ms ≡ list_any (is_same_material (pair b a)) ms
     each [] = refl
-    each (m ∷ ms) = ap (λ (t : Bool). t || list_any (is_same_material (pair a b)) ms) (one m) ∙ ap (λ (t : Bool). is_same_material (pair b a) m || t) (each ms)
+    each (m ∷ ms) = ap (λ (t : Bool). t || list_any (is_same_material (pair a b)) ms) (same_crossed a b m) ∙ ap (λ (t : Bool). is_same_material (pair b a) m || t) (each ms)
 
-pub changes_are : (materials : List Sides) (sides : Sides) →
-    (list_all (λ changed. is_listed materials (pair changed sides.second)) (changed_from sides.first) && list_all (λ changed. is_listed materials (pair changed sides.first)) (changed_from sides.second)) ≡ list_all (is_listed materials) (changes sides)
-changes_are materials sides = sym (
-    all_both (is_listed materials) (map (λ (side : List Man). pair side sides.second) (changed_from sides.first)) (map (λ (side : List Man). pair sides.first side) (changed_from sides.second))
-    ∙ ap (λ (b : Bool). b && list_all (is_listed materials) (map (λ (side : List Man). pair sides.first side) (changed_from sides.second))) (all_map (is_listed materials) (λ (side : List Man). pair side sides.second) (changed_from sides.first))
-    ∙ ap (λ (b : Bool). list_all (λ (changed : List Man). is_listed materials (pair changed sides.second)) (changed_from sides.first) && b)
-    (all_map (is_listed materials) (λ (side : List Man). pair sides.first side) (changed_from sides.second)
-    ∙ all_same (λ (side : List Man). is_listed materials (pair sides.first side)) (λ (side : List Man). is_listed materials (pair side sides.first)) (λ side. listed_crossed materials sides.first side) (changed_from sides.second)))
+pub changes_are : (t : Sides → Bool) → ((a b : List Man) → t (pair a b) ≡ t (pair b a)) → (sides : Sides) →
+    (list_all (λ changed. t (pair changed sides.second)) (changed_from sides.first) && list_all (λ changed. t (pair changed sides.first)) (changed_from sides.second)) ≡ list_all t (changes sides)
+changes_are t exchanged sides = sym (
+    all_both t (map (λ (side : List Man). pair side sides.second) (changed_from sides.first)) (map (λ (side : List Man). pair sides.first side) (changed_from sides.second))
+    ∙ ap (λ (b : Bool). b && list_all t (map (λ (side : List Man). pair sides.first side) (changed_from sides.second))) (all_map t (λ (side : List Man). pair side sides.second) (changed_from sides.first))
+    ∙ ap (λ (b : Bool). list_all (λ (changed : List Man). t (pair changed sides.second)) (changed_from sides.first) && b)
+    (all_map t (λ (side : List Man). pair sides.first side) (changed_from sides.second)
+    ∙ all_same (λ (side : List Man). t (pair sides.first side)) (λ (side : List Man). t (pair side sides.first)) (λ side. exchanged sides.first side) (changed_from sides.second)))
+
+-- not all are not: some is
+pub not_all : {A : Type 0} (t : A → Bool) (xs : List A) → not (list_all (λ x. not (t x)) xs) ≡ list_any t xs
+not_all t [] = refl
+not_all t (x ∷ xs) = elim (cases_Bool (t x)) [ inl e ↦ rw e refl | inr e ↦ rw e (not_all t xs) ]
 
 -- ---- the sides of a material
 

@@ -1,11 +1,12 @@
 -- The walk over the positions of a material leaves out none but images.
-use Rattle.std.proofs.Common.{◌≡◌, ℕ, ◌+◌, ◌*◌, ◌/◌, ◌%◌, ◌^◌, ◌<◌, ◌≤◌, ◌⊎◌, List, [], ◌∷◌, ◌++◌, length, length-append, map, refl, sym, ap, ◌∙◌, subst, Bool, true, false, arith, inl, inr, get_or, take, Contains, Option, Some, None}
+use Rattle.std.proofs.Common.{◌≡◌, ℕ, zero, suc, ◌+◌, ◌*◌, ◌/◌, ◌%◌, ◌^◌, ◌<◌, ◌≤◌, ◌⊎◌, List, [], ◌∷◌, ◌++◌, length, length-append, map, refl, sym, ap, ◌∙◌, subst, Bool, true, false, arith, inl, inr, get_or, take, Contains, Option, Some, None}
 use Rattle.std.specs.Prelude.{filter, not, ◌&&◌, ◌||◌, ◌==◌, nat_le, nat_lt, option_map, count_by}
 use Rattle.std.specs.List.{list_any}
 use Rattle.std.proofs.lemmas.Bool.{cases_Bool, and_parts, and_from, and_right, or_cases, or_left, or_right, eqb-true, leb-true, leb-false, le-leb, ltb-true, ltb-false, not-true, or_parts, both_ways, false_from_ne_true, not_from_false}
 use Rattle.std.proofs.lemmas.List.Elements.{All-head, All-tail, filter-append}
 use Rattle.std.proofs.lemmas.List.Sums.{length-filter}
 use native.Mathlib.Nat.{pow-suc, pow-le-pow_right, zero-lt-suc}
+use Rattle.std.proofs.Math.Nat.{mul-div_cancel, zero-div, mul-zero}
 use Rattle.std.proofs.lemmas.List.{length-map, map-append, take_more}
 use Rattle.szg_values.specs.Men.{code_of, is_man, is_color, other_color, file_of, rank_of}
 use Rattle.szg_values.specs.Material.{Sides, man_codes}
@@ -29,7 +30,7 @@ use Rattle.szg_probe.specs.Probing.{StoredClasses, probed}
 use Rattle.szg_verify.specs.Entries.{StoredDistances, StoredTables, tables_of}
 use Rattle.szg_verify.specs.Verified.{is_checked, AreSymmetric, has_equal_sides, IsImageBy, HasCheckedImage}
 use Rattle.szg_verify.specs.Materials.{has_sides, is_of, kings_alone, are_closed, covers}
-use Rattle.szg_verify.specs.Walk.{colored_men, placed_by, position_by, number_count, has_lone_pawns, has_pawn, is_walked, is_king_walked, colored_man, IsRangeChecked, IsMaterialChecked}
+use Rattle.szg_verify.specs.Walk.{colored_men, placed_by, position_by, number_count, has_lone_pawns, has_pawn, is_walked, is_king_walked, colored_man, IsRangeChecked, IsMaterialChecked, shard_start, ShardsAreWhole}
 use Rattle.szg_verify.proofs.Materials.{closed_by_materials, count, one_if, filter_cons, count_cons, AreCounted, numbers, from_sides, each_kind}
 use Rattle.szg_verify.proofs.TwoKings.{kings_checked}
 use Rattle.szg_verify.proofs.Checked.{checked_true}
@@ -359,6 +360,28 @@ ranges_join tables sides from middle to first second number mover above below wa
   | inl t ↦ first number mover above (ltb-true number middle t) walked position
   | inr e ↦ second number mover (ltb-false number middle e) below walked position
 ]
+
+pub shards_are_whole : ShardsAreWhole
+shards_are_whole tables sides shards some each = walk_is_whole tables sides (subst (IsRangeChecked tables sides 0) last (first_ones shards (omega arith)))
+  where
+    count : ℕ
+    count = number_count (colored_men sides)
+
+    start : ℕ → ℕ
+    start before = shard_start count shards before
+
+    none : start 0 ≡ 0
+    none = ap (λ (n : ℕ). n / shards) (mul-zero count) ∙ zero-div shards
+
+    last : start shards ≡ count
+    last = mul-div_cancel count some
+
+    first_ones : (before : ℕ) → before ≤ shards → IsRangeChecked tables sides 0 (start before)
+    first_ones zero within = λ number mover above below walked position. absurd (omega (arith, none, below))
+    first_ones (suc before) within =
+        let next : before + 1 ≡ suc before = omega arith in
+        subst (λ (n : ℕ). IsRangeChecked tables sides 0 (start n)) next
+        (ranges_join tables sides 0 (start before) (start (before + 1)) (first_ones before (omega (arith, within))) (each before (omega (arith, within))))
 
 -- ---- each probe of a closed set of materials
 

@@ -48,6 +48,10 @@ is_listed materials sides = list_any (is_same_material sides) (kings_alone ∷ m
 abbrev pub are_closed : List Sides → Bool
 are_closed materials = list_all (λ sides. list_all (is_listed materials) (changes sides)) materials
 
+-- a capture or a promotion leads from the first material to the second
+abbrev pub leads_to : Sides → Sides → Bool
+leads_to sides other = list_any (λ changed. is_same_material changed other) (changes sides)
+
 -- White has the men of one side, and Black those of the other
 abbrev pub has_sides : List PlacedMan → List Man → List Man → Bool
 has_sides men white black = list_all (λ man. number_of man White men == count_by (is_man man) white && number_of man Black men == count_by (is_man man) black) name_order

@@ -1,5 +1,5 @@
 -- The walk over the positions of a material. It leaves out images.
-use Rattle.std.specs.Prelude.{ℕ, ◌≡◌, ◌≤◌, ◌<◌, ◌%◌, ◌/◌, ◌^◌, nat_lt, nat_le, ◌==◌, Bool, not, count_by, ◌&&◌, ◌||◌, List, [], ◌∷◌, ◌++◌, map, length, Some, None, IsTrue, Contains, if◌then◌else◌, IsFalse}
+use Rattle.std.specs.Prelude.{ℕ, ◌≡◌, ◌+◌, ◌*◌, ◌≤◌, ◌<◌, ◌%◌, ◌/◌, ◌^◌, nat_lt, nat_le, ◌==◌, Bool, not, count_by, ◌&&◌, ◌||◌, List, [], ◌∷◌, ◌++◌, map, length, Some, None, IsTrue, Contains, if◌then◌else◌, IsFalse}
 use Rattle.std.specs.List.{list_any}
 use Rattle.szg_values.specs.Men.{is_man, is_color, file_of, rank_of}
 use Rattle.szg_values.specs.Material.{Sides}
@@ -100,6 +100,21 @@ IsMaterialChecked tables sides = (p : Position) → IsPosition p → p.en_passan
 -- The walk leaves out no position of the material.
 abbrev pub WalkIsWhole : Type 0
 WalkIsWhole = (tables : StoredTables) (sides : Sides) → IsRangeChecked tables sides 0 (number_count (colored_men sides)) → IsMaterialChecked tables sides
+
+-- A walk in shards: where the one after `before` others begins, of `shards` shards that have as many numbers each, but for one.
+abbrev pub shard_start : ℕ → ℕ → ℕ → ℕ
+shard_start count shards before = count * before / shards
+
+-- the positions of this shard of the material were checked: of `shards` shards, the one after `before` others
+abbrev pub IsShardChecked : StoredTables → Sides → ℕ → ℕ → Type 0
+IsShardChecked tables sides shards before =
+    let count = number_count (colored_men sides) in
+    IsRangeChecked tables sides (shard_start count shards before) (shard_start count shards (before + 1))
+
+-- If each shard was checked, the material was.
+abbrev pub ShardsAreWhole : Type 0
+ShardsAreWhole = (tables : StoredTables) (sides : Sides) (shards : ℕ) → 0 < shards →
+    ((before : ℕ) → before < shards → IsShardChecked tables sides shards before) → IsMaterialChecked tables sides
 
 -- two ranges make one
 abbrev pub RangesJoin : Type 0

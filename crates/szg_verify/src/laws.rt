@@ -1,7 +1,7 @@
 //! Laws over the definitions. The contract of each function is a law, and its body is empty.
 
 ghost use Rattle.szg_verify.specs.Materials.{ClosedByMaterials, MaterialExamples};
-ghost use Rattle.szg_verify.specs.Walk.{RangesJoin, VerifiedIsTrue, WalkIsWhole};
+ghost use Rattle.szg_verify.specs.Walk.{RangesJoin, ShardsAreWhole, VerifiedIsTrue, WalkIsWhole};
 ghost use Rattle.szg_verify.specs.Laws.{CheckedByImages, CheckedIsTrue, CheckedIsVerified, ClosedByCount, EntriesAreTrue, KingsAreChecked, ProbedIsTrue, StoredAreTrue};
 
 /// If tables pass, each position that they cover has the class of its entry, with an en passant square or without.
@@ -64,6 +64,11 @@ pub fn walk_is_whole()
 /// Two ranges that were checked, one after the other, make one.
 pub fn ranges_join()
     ensures { RangesJoin }
+{}
+
+/// If each shard of a material was checked over the same tables, the walk over the material was.
+pub fn shards_are_whole()
+    ensures { ShardsAreWhole }
 {}
 
 /// If each material of a closed set was checked, and the tables store the same for images, each probe of a position of

@@ -17,12 +17,12 @@ mod verifying;
 mod walk;
 
 pub use checking::check_position;
-pub use closed::are_closed;
+pub use closed::{are_closed, leads_to};
 pub use conditions::{Condition, broken_by};
 pub use memory::Cell;
 pub use tables::{DtzTables, has_equal_sides};
 pub use verifying::verify;
-pub use walk::{Refusal, Walked, Watcher, number_count, verify_range};
+pub use walk::{Refusal, Shard, Walked, Watcher, number_count, shard_start, verify_range};
 
 /// A number that a DTZ table stores: the plies after the first one, up to mate or to the zeroing move.
 #[derive(Clone, Copy, Debug, PartialEq, Eq)]

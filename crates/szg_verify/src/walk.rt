@@ -1,13 +1,13 @@
 //! The walk over the positions of a material.
 
-ghost use Rattle.std.specs.Prelude.{◌≡◌, ◌≤◌, ◌%◌, ◌^◌, ◌&&◌, count_by, length, IfOk, IfSome, IsFalse, IsTrue, IsNone, None};
+ghost use Rattle.std.specs.Prelude.{◌≡◌, ◌<◌, ◌≤◌, ◌%◌, ◌^◌, ◌&&◌, count_by, length, IfOk, IfSome, IsFalse, IsTrue, IsNone, None};
 ghost use Rattle.szg_values.specs.Men.{is_man, is_color};
 ghost use Rattle.szg_values.specs.declared.Color.{Color};
 ghost use Rattle.szg_chess.specs.Position.{IsPosition};
 ghost use Rattle.szg_verify.specs.Entries.{tables_of};
 ghost use Rattle.szg_verify.specs.Memory.{AreRight};
 ghost use Rattle.szg_verify.specs.Verified.{is_checked};
-ghost use Rattle.szg_verify.specs.Walk.{IsFirstRefused, IsRangeChecked, IsRefused, colored_man, colored_men, has_lone_pawns, has_pawn, is_walked, kind_of, number_count, placed_by, position_by};
+ghost use Rattle.szg_verify.specs.Walk.{IsFirstRefused, IsRangeChecked, IsRefused, colored_man, colored_men, has_lone_pawns, has_pawn, is_walked, kind_of, number_count, placed_by, position_by, shard_start};
 
 use crate::memory::clear;
 use crate::{Cell, Condition, DtzTables, check_position};
@@ -52,6 +52,23 @@ pub fn number_count(material: &Material) -> u64
 {
     let men = colored_men(material);
     64_u64.pow(men.len() as u32)
+}
+
+/// One of the ranges of numbers into which the walk over a material is split: all have as many numbers, or one more.
+#[derive(Clone, Copy)]
+pub struct Shard {
+    /// The number of shards before it.
+    pub before: u16,
+    /// The number of all shards.
+    pub shards: u16,
+}
+
+/// Returns the number with which the shard begins that comes after `before` others, and with which the one before it ends.
+pub fn shard_start(material: &Material, shards: u16, before: u16) -> u64
+    requires { 0 < shards }
+    ensures { result ≡ shard_start (number_count (colored_men material.now)) shards before }
+{
+    number_count(material) * u64::from(before) / u64::from(shards)
 }
 
 /// Checks the positions of a material that the numbers from `from` to `to` place, `to` left out, up to the first that
