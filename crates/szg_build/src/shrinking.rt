@@ -5,7 +5,8 @@
 //! pairs that save the fewest bits are dropped and the values are spelled again, with a bound that rises at each try.
 //! If neither the list nor the dictionary is too long (`FEW_VALUES`, `FEW_SYMBOLS`), pairs are then added to the best
 //! text and dropped again, several times, and after that single pairs are dropped. At the end the values are spelled
-//! again with the code of the best text.
+//! again with the code of the best text. A spelling of a long list that visits too many tree nodes (`LIMIT`) is given
+//! up, and the best text so far stays.
 //!
 //! Only the safety of this code is proved: its result is a proposal, and proposals are tested.
 
@@ -25,12 +26,19 @@ use crate::shrinking::trimming::{polish, trim};
 use crate::watching::{Unwatched, Watcher};
 use std::alloc::{AllocError, Global};
 
-/// The number of tree nodes visited after which no more pairs are added, and none dropped by a rising bound. Single
-/// pairs may still be dropped then (`TRIM_BUDGET`), and the best text is still spelled again.
+/// The number of tree nodes on the paths searched after which no more pairs are added, and none dropped by a rising
+/// bound. Single pairs may still be dropped then (`TRIM_BUDGET`), and the best text is still spelled again.
 const BUDGET: u64 = 1 << 29;
 
-/// The number of tree nodes visited after which no more single pairs are dropped.
+/// The number of tree nodes on the paths searched after which no more single pairs are dropped.
 const TRIM_BUDGET: u64 = 1 << 28;
+
+/// The number of tree nodes that are visited at most, without those for the symbols (`SYMBOL_NODES`). A list of at most
+/// three million values never needs more: it has two spellings after `BUDGET` is used up, of at most 256 nodes a value.
+const LIMIT: u64 = 1 << 31;
+
+/// The number of tree nodes that may be visited besides for each symbol of the text with all pairs.
+const SYMBOL_NODES: u64 = 4096;
 
 /// The greatest number of values of a list that is spelled many times; longer lists are spelled a few times only.
 const FEW_VALUES: usize = 1 << 17;
@@ -86,7 +94,9 @@ fn drop_pairs<V: Watcher>(
         }
         watcher.attempt(best.tries, Some(best.bytes()));
         let rest = without_poor(alloc, &paired, least)?;
-        let next = best.spelled(alloc, rest, blend)?;
+        let Some(next) = best.spelled(alloc, rest, blend)? else {
+            break;
+        };
         best.offer(alloc, &next)?;
         paired = next;
         least = least.saturating_add(bounds.step.max(1));
@@ -94,7 +104,8 @@ fn drop_pairs<V: Watcher>(
     Ok(())
 }
 
-/// Tries the texts without pairs, with 256 pairs and with all pairs. Returns the best of them, and the last one.
+/// Tries the texts without pairs, with 256 pairs and with all pairs. Returns the best of them, and the last one. The
+/// text without pairs is tried only if it would be the best with words of one bit.
 fn begin_tries<V: Watcher>(
     alloc: Global,
     begun: Paired,
@@ -102,18 +113,29 @@ fn begin_tries<V: Watcher>(
     watcher: &mut V,
 ) -> Result<(Best, Paired), AllocError> {
     let values = begun.symbols.len() as u64;
+    let few = with_pairs(alloc, copy_of(alloc, &begun)?, FEW_PAIRS, &mut Unwatched)?;
     let mut best = Best {
         leaves: begun.symbols.to_vec(alloc)?,
-        paired: copy_of(alloc, &begun)?,
-        cost: choose_sizes(alloc, values, &begun, other_bytes)?.cost,
+        cost: choose_sizes(alloc, values, &few, other_bytes)?.cost,
+        paired: few,
         other_bytes,
         budget: BUDGET,
-        tries: 1,
+        limit: LIMIT,
+        tries: 2,
     };
-    let few = with_pairs(alloc, copy_of(alloc, &begun)?, FEW_PAIRS, &mut Unwatched)?;
-    best.offer(alloc, &few)?;
+    if values / 8 <= best.bytes() {
+        let cost = best.cost_of(alloc, &begun)?;
+        if cost <= best.cost {
+            best.paired = copy_of(alloc, &begun)?;
+            best.cost = cost;
+        }
+    }
     let all = with_pairs(alloc, begun, MAX_SYMBOLS as u32, watcher)?;
     best.offer(alloc, &all)?;
+    let symbols = all.symbols.len() as u64;
+    best.limit = best
+        .limit
+        .saturating_add(symbols.saturating_mul(SYMBOL_NODES));
     Ok((best, all))
 }
 

@@ -4,8 +4,8 @@ use crate::files::{answer, check_written, made};
 use std::alloc::Global;
 use std::process::Abort;
 use szg_build::{
-    BuildFault, Choice, Dump, DumpFault, DumpReadFault, Packing, Plan, Unwatched, build_as,
-    read_dump, read_packed, write_dump,
+    BuildFault, Choice, Dump, DumpFault, DumpReadFault, Packing, Plan, Unwatched, Watcher,
+    build_as, read_dump, read_packed, write_dump,
 };
 use szg_file::{ReadFault, Table, write};
 use szg_fixtures::{Counted, Fixture};
@@ -239,6 +239,50 @@ fn small_subtables_are_packed_while_a_dump_is_read(rt: HostRuntime) {
         let text = two_sides(&rt, b"2", b"00", first, second);
         assert!(rt; check_alike(&rt, &text, Choice::Small).is_none());
     }
+}
+
+/// Counts the searches for the pairs of the subtables of a small table.
+#[derive(Drop)]
+struct Searches {
+    begun: u32,
+}
+
+impl Watcher for Searches {
+    fn subtable(&mut self, _number: usize, _count: usize, _values: usize) {}
+
+    fn round(&mut self, _done: u32, _rounds: u32) {}
+
+    fn attempt(&mut self, _done: u64, bytes: Option<u64>) {
+        if bytes.is_none() {
+            self.begun = self.begun.wrapping_add(1);
+        }
+    }
+
+    fn end(&mut self) {}
+}
+
+/// `read` searches are begun while the dump of a small table is read, and `built` until the table is built.
+fn check_searches(rt: &(impl Abort + Alloc<A = Global>), text: &[u8], read: u32, built: u32) {
+    let mut searches = Searches { begun: 0 };
+    let mut input = Bytes::new(text);
+    let reading = read_packed(rt.alloc(), Choice::Small, &mut input, &mut searches);
+    let packed = made(rt, reading);
+    assert!(rt; searches.begun == read);
+    assert!(rt; packed.build(rt.alloc(), &mut searches).is_ok());
+    assert!(rt; searches.begun == built);
+}
+
+/// A search is begun as soon as a subtable is read, and once more if it is the only one with blocks; the only subtable
+/// of a table is searched at the end.
+#[test]
+fn small_subtables_are_searched_no_more_than_needed(rt: HostRuntime) {
+    let blocks: &[u8] = b"31332\n31000 2\n332 4\n";
+    let constant: &[u8] = b"31332\n31332 4\n";
+    check_searches(&rt, &two_sides(&rt, b"2", b"00", blocks, blocks), 2, 2);
+    check_searches(&rt, &two_sides(&rt, b"2", b"00", blocks, constant), 1, 2);
+    let alone: &[u8] =
+        b"szg-dump 2\nname KQvK\nkind dtz\nend 000102030405060708090a0b0c0d0e0f\npart a order 00 men 06050e\nsub a 0\nflags 0\nvalues 31332\n31000 0\n332 4\n";
+    check_searches(&rt, alone, 0, 1);
 }
 
 #[test]

@@ -15,7 +15,10 @@ const NO_NODE: u32 = u32::MAX;
 /// The cost of a node at which no symbol ends.
 const NO_COST: u64 = u64::MAX;
 
-/// The number of costs kept at a time; it is above the greatest number of values of a symbol.
+/// The greatest number of values of a symbol. Costs in a stretch of equal leaves are compared at this distance.
+const PERIOD: usize = 256;
+
+/// The number of costs kept at a time.
 const KEPT: usize = 512;
 
 /// A node of a prefix tree of expansions. The leaf symbols on the path from the root to this node, its own `leaf`
@@ -149,7 +152,7 @@ impl Tree {
     }
 }
 
-/// The cheapest spelling from an index on: its first symbol, its cost, and how many nodes were visited to find it.
+/// The cheapest spelling from an index on: its first symbol, its cost, and how many nodes are on the path searched.
 #[derive(Clone, Copy)]
 struct Cheapest {
     symbol: u16,
@@ -157,17 +160,20 @@ struct Cheapest {
     steps: u64,
 }
 
+/// What is known before a spelling is found.
+const NOTHING_FOUND: Cheapest = Cheapest {
+    symbol: 0,
+    cost: NO_COST,
+    steps: 0,
+};
+
 /// Returns the cheapest spelling of the leaves from index `place` on. `kept` has the costs of the cheapest spellings
 /// from later indexes on: for index n at `n % KEPT`.
 fn cheapest_from(tree: &Tree, leaves: &[u16], place: usize, kept: &[u64]) -> Cheapest
     requires place { place < length leaves.now }
     requires kept { length kept.now ≡ 512 }
 {
-    let mut best = Cheapest {
-        symbol: 0,
-        cost: NO_COST,
-        steps: 0,
-    };
+    let mut best = NOTHING_FOUND;
     let mut next = usize::from(leaves[place]);
     for end in place.saturating_add(1)..leaves.len().saturating_add(1) {
         if next >= tree.nodes.len() {
@@ -190,36 +196,129 @@ fn cheapest_from(tree: &Tree, leaves: &[u16], place: usize, kept: &[u64]) -> Che
     best
 }
 
-/// A text that spells a list of leaves, and how many nodes were visited to find it.
+/// A text that spells a list of leaves, and how many nodes are on the paths that are searched for it.
 #[derive(Drop)]
 pub(crate) struct Spelling {
     pub symbols: Vec<u16>,
     pub steps: u64,
+    /// The number of these nodes that were visited: those in the middle of a stretch of equal leaves are only counted.
+    pub visited: u64,
+}
+
+/// The best first symbol from each index on, and how many nodes are on the paths searched, and were visited.
+#[derive(Drop)]
+struct Choices {
+    symbols: Vec<u16>,
+    steps: u64,
+    visited: u64,
+}
+
+/// How costs repeat in a stretch of equal leaves, seen from an index on.
+#[derive(Clone, Copy)]
+struct Stretch {
+    /// How many leaves from the index on are equal.
+    equal: usize,
+    /// By how much the cost from the index on exceeds the cost from `PERIOD` indexes later on, modulo 2^64.
+    rise: u64,
+    /// For how many indexes in succession the rise is the same.
+    same: usize,
+}
+
+/// What is known before the last leaf.
+const NO_STRETCH: Stretch = Stretch {
+    equal: 0,
+    rise: 0,
+    same: 0,
+};
+
+impl Stretch {
+    /// Returns whether the best symbol from the index on is the one from `PERIOD` indexes later on, and the cost is
+    /// greater by `rise`. So it is if the leaves that both depend on are equal, and if the costs from the next `PERIOD`
+    /// indexes on all exceed the costs from `PERIOD` indexes later on by `rise`.
+    fn repeats(self) -> bool {
+        self.equal >= KEPT && self.same >= PERIOD
+    }
+
+    /// Adds the rise from the index on.
+    fn with_rise(self, rise: u64) -> Stretch {
+        let same = if rise == self.rise { self.same } else { 0 };
+        Stretch {
+            equal: self.equal,
+            rise,
+            same: same.saturating_add(1),
+        }
+    }
+}
+
+/// Chooses the best symbol at each index of the leaves, from the last to the first. In the middle of a long stretch of
+/// equal leaves, the symbols are those of `PERIOD` indexes later. None if more than `limit` nodes are visited.
+fn choose(
+    alloc: Global,
+    tree: &Tree,
+    leaves: &[u16],
+    limit: u64,
+) -> Result<Option<Choices>, AllocError> {
+    let mut kept_costs = vec![in alloc; 0u64; KEPT]?;
+    let kept = kept_costs.as_mut_slice();
+    let mut symbols = vec![in alloc; 0u16; leaves.len()]?;
+    let (mut steps, mut visited) = (0u64, 0u64);
+    let mut stretch = NO_STRETCH;
+    let mut found = NOTHING_FOUND;
+    let mut next = None;
+    for later in 0..leaves.len() {
+        let place = leaves.len() - 1 - later;
+        let leaf = leaves[place];
+        let equal = if next == Some(leaf) { stretch.equal } else { 0 };
+        stretch.equal = equal.saturating_add(1);
+        next = Some(leaf);
+        let after = place.saturating_add(PERIOD);
+        let cost_after = kept[after % KEPT];
+        if stretch.repeats() && after < symbols.len() {
+            found.symbol = symbols[after];
+            found.cost = cost_after.saturating_add(stretch.rise);
+        } else {
+            found = cheapest_from(tree, leaves, place, kept);
+            visited = visited.saturating_add(found.steps);
+        }
+        if visited > limit {
+            return Ok(None);
+        }
+        steps = steps.saturating_add(found.steps);
+        stretch = stretch.with_rise(found.cost.wrapping_sub(cost_after));
+        kept[place % KEPT] = found.cost;
+        if place < symbols.len() {
+            symbols[place] = found.symbol;
+        }
+    }
+    Ok(Some(Choices {
+        symbols,
+        steps,
+        visited,
+    }))
 }
 
 /// Spells leaves with the least total cost, where symbol s costs `costs[s]` and has `lens[s]` values. First the best
-/// symbol is chosen at each index, from the last to the first; then the symbols of the text are collected.
+/// symbol is chosen at each index, from the last to the first; then the symbols of the text are collected. None if more
+/// than `limit` nodes are visited.
 pub(crate) fn spell(
     alloc: Global,
     leaves: &[u16],
     entries: &[[u8; 3]],
     lens: &[u16],
     costs: &[u64],
-) -> Result<Spelling, AllocError> {
+    limit: u64,
+) -> Result<Option<Spelling>, AllocError> {
     let tree = Tree::new(alloc, entries, costs)?;
-    let mut kept_costs = vec![in alloc; 0u64; KEPT]?;
-    let kept = kept_costs.as_mut_slice();
-    let mut choices = vec![in alloc; 0u16; leaves.len()]?;
-    let mut steps = 0u64;
-    for later in 0..leaves.len() {
-        let place = leaves.len() - 1 - later;
-        let found = cheapest_from(&tree, leaves, place, kept);
-        steps = steps.saturating_add(found.steps);
-        kept[place % KEPT] = found.cost;
-        if place < choices.len() {
-            choices[place] = found.symbol;
-        }
-    }
+    let Some(
+        Choices {
+            symbols: choices,
+            steps,
+            visited,
+        },
+    ) = choose(alloc, &tree, leaves, limit)?
+    else {
+        return Ok(None);
+    };
     let mut symbols = Vec::new(alloc);
     let mut place = 0usize;
     for _ in 0..choices.len() {
@@ -230,5 +329,9 @@ pub(crate) fn spell(
         symbols.push(symbol)?;
         place = place.saturating_add(usize::from(at(lens, symbol).max(1)));
     }
-    Ok(Spelling { symbols, steps })
+    Ok(Some(Spelling {
+        symbols,
+        steps,
+        visited,
+    }))
 }

@@ -5,7 +5,7 @@ use crate::building::sizing::{choose_sizes, words_for};
 use crate::pairing::leaves::Paired;
 use crate::shrinking::costs::{BIT, log2};
 use crate::shrinking::dropping::{Kept, without_unused};
-use crate::shrinking::spelling::spell;
+use crate::shrinking::spelling::{Spelling, spell};
 use std::alloc::{AllocError, Global};
 
 /// How the cost of a symbol is computed: `quarters` quarters of its estimated bits, and the other quarters from the
@@ -24,8 +24,10 @@ pub(crate) struct Best {
     pub cost: u64,
     /// As in `choose_sizes`.
     pub other_bytes: Option<u64>,
-    /// How many more nodes of the trees of `spell` may be visited.
+    /// How many more nodes may be on the paths that `spell` searches, until no more tries are begun.
     pub budget: u64,
+    /// How many more nodes `spell` may visit. A spelling that would visit more is given up.
+    pub limit: u64,
     /// The number of tries so far.
     pub tries: u64,
 }
@@ -69,13 +71,14 @@ impl Best {
 
     /// Spells the leaves with a dictionary, and drops the pairs that the new text does not need. A symbol's cost is
     /// `4 - quarters` quarters of the length of its word in the code chosen by the dictionary's counts, and `quarters`
-    /// quarters of the bits estimated from its count.
+    /// quarters of the bits estimated from its count. None if more nodes would be visited than `limit` allows; then no
+    /// later call spells them either.
     pub(crate) fn spelled(
         &mut self,
         alloc: Global,
         dictionary: Kept,
         blend: Blend,
-    ) -> Result<Paired, AllocError> {
+    ) -> Result<Option<Paired>, AllocError> {
         let Kept {
             entries,
             lens,
@@ -97,13 +100,24 @@ impl Best {
                 .saturating_add(estimated.saturating_mul(blend.quarters));
             costs.push(blended)?;
         }
-        let spelling = spell(alloc, &self.leaves, &entries, &lens, &costs)?;
-        self.budget = self.budget.saturating_sub(spelling.steps);
+        let Some(
+            Spelling {
+                symbols,
+                steps,
+                visited,
+            },
+        ) = spell(alloc, &self.leaves, &entries, &lens, &costs, self.limit)?
+        else {
+            (self.budget, self.limit) = (0, 0);
+            return Ok(None);
+        };
+        self.budget = self.budget.saturating_sub(steps);
+        self.limit = self.limit.saturating_sub(visited);
         let spelled = Paired {
             entries,
             lens,
-            symbols: spelling.symbols,
+            symbols,
         };
-        without_unused(alloc, spelled)
+        Ok(Some(without_unused(alloc, spelled)?))
     }
 }

@@ -32,7 +32,9 @@ pub(crate) fn trim<V: Watcher>(
             watcher.attempt(best.tries, Some(best.bytes()));
             let symbol = (count - 1 - later).min(MAX_SYMBOLS) as u16;
             if let Some(rest) = without_one(alloc, &best.paired, symbol)? {
-                let tried = best.spelled(alloc, rest, Blend { quarters })?;
+                let Some(tried) = best.spelled(alloc, rest, Blend { quarters })? else {
+                    return Ok(());
+                };
                 let is_kept = best.offer(alloc, &tried)?;
                 is_less = is_less || is_kept;
             }
@@ -45,11 +47,13 @@ pub(crate) fn trim<V: Watcher>(
 }
 
 /// Spells the leaves again with the code of the best text, at most `tries` times. Keeps each result in `best`, but
-/// stops at the first that costs more.
+/// stops at the first that costs more, or that is given up.
 pub(crate) fn polish(alloc: Global, tries: u64, best: &mut Best) -> Result<(), AllocError> {
     for _ in 0..tries {
         let dictionary = without_poor(alloc, &best.paired, 0)?;
-        let tried = best.spelled(alloc, dictionary, Blend { quarters: 0 })?;
+        let Some(tried) = best.spelled(alloc, dictionary, Blend { quarters: 0 })? else {
+            break;
+        };
         let cost = best.cost_of(alloc, &tried)?;
         if cost > best.cost {
             break;
