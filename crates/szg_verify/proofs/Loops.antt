@@ -118,13 +118,7 @@ pub none_yet : (entry : Move → Option Entry) (p : Position) (steps : List (Ste
 unfolding steps_to
 none_yet entry p steps e = ap (λ (ns : List (Step Entry)). Some ns) (sym e)
 
--- an entry of the same tables and position
-pub entry_carried : (entry : StoredTables → Position → Option Entry) (a classes : StoredClasses) (b distances : StoredDistances) (q p : Position) (o : Option Entry) → a ≡ classes → b ≡ distances → q ≡ p →
-    o ≡ entry (tables_of a b) q → entry (tables_of classes distances) p ≡ o
-entry_carried entry a classes b distances q p o same_a same_b same is =
-    sym (is ∙ ap (λ (c : StoredClasses). entry (tables_of c b) q) same_a ∙ ap (λ (d : StoredDistances). entry (tables_of classes d) q) same_b ∙ ap (entry (tables_of classes distances)) same)
-
--- the same of the moves of a position
+-- an entry after a move, of the same tables
 pub entry_carried_at : (entry : StoredTables → Position → Move → Option Entry) (a classes : StoredClasses) (b distances : StoredDistances) (p : Position) (m : Move) (o : Option Entry) → a ≡ classes → b ≡ distances →
     o ≡ entry (tables_of a b) p m → entry (tables_of classes distances) p m ≡ o
 entry_carried_at entry a classes b distances p m o same_a same_b is =

@@ -1,6 +1,7 @@
 //! The check of a position.
 
 ghost use Rattle.std.specs.Prelude.{◌≡◌, IfOk, IfSome, IsTrue, option_map, Contains, is_none};
+ghost use Rattle.szg_chess.specs.Laws.{kinds_of};
 ghost use Rattle.szg_chess.specs.Moves.{after, is_zeroing, legal_moves};
 ghost use Rattle.szg_verify.specs.Conditions.{breaks};
 ghost use Rattle.szg_verify.specs.Entries.{steps_to, tables_of, plain_entry};
@@ -29,10 +30,10 @@ pub fn check_position<T: Tables, D: DtzTables<Fault = T::Fault>>(
     cells: &mut [Cell],
     position: &Position,
 ) -> Result<Option<Condition>, T::Fault>
-    requires right { AreRight (tables_of (T.stored classes.old) (D.distances distances.old)) cells.old }
+    requires right { AreRight (kinds_of position.now.placed_men) (tables_of (T.stored classes.old) (D.distances distances.old)) cells.old }
     ensures same_classes { T.stored classes.new ≡ T.stored classes.old }
     ensures same_distances { D.distances distances.new ≡ D.distances distances.old }
-    ensures right { AreRight (tables_of (T.stored classes.old) (D.distances distances.old)) cells.new }
+    ensures right { AreRight (kinds_of position.now.placed_men) (tables_of (T.stored classes.old) (D.distances distances.old)) cells.new }
     ensures checked { IfOk result (λ o. is_none o ≡ is_checked (tables_of (T.stored classes.old) (D.distances distances.old)) position.now) }
     ensures broken { IfOk result (λ o. IfSome o (λ c. IsTrue (breaks (tables_of (T.stored classes.old) (D.distances distances.old)) position.now c))) }
 {
@@ -55,10 +56,10 @@ fn all_steps<T: Tables, D: DtzTables<Fault = T::Fault>>(
     cells: &mut [Cell],
     position: &Position,
 ) -> Result<Option<Steps>, T::Fault>
-    requires right { AreRight (tables_of (T.stored classes.old) (D.distances distances.old)) cells.old }
+    requires right { AreRight (kinds_of position.now.placed_men) (tables_of (T.stored classes.old) (D.distances distances.old)) cells.old }
     ensures same_classes { T.stored classes.new ≡ T.stored classes.old }
     ensures same_distances { D.distances distances.new ≡ D.distances distances.old }
-    ensures right { AreRight (tables_of (T.stored classes.old) (D.distances distances.old)) cells.new }
+    ensures right { AreRight (kinds_of position.now.placed_men) (tables_of (T.stored classes.old) (D.distances distances.old)) cells.new }
     ensures steps { IfOk result (λ o. option_map (λ s. s.items) o ≡ steps_to (entry_after (tables_of (T.stored classes.old) (D.distances distances.old)) position.now) position.now (legal_moves position.now)) }
 {
     let moves = position.legal_moves();
@@ -83,12 +84,14 @@ fn entry_after<T: Tables, D: DtzTables<Fault = T::Fault>>(
     m: Move,
 ) -> Result<Option<Entry>, T::Fault>
     requires legal { Contains (legal_moves position.now) m }
-    requires right { AreRight (tables_of (T.stored classes.old) (D.distances distances.old)) cells.old }
+    requires right { AreRight (kinds_of position.now.placed_men) (tables_of (T.stored classes.old) (D.distances distances.old)) cells.old }
     ensures same_classes { T.stored classes.new ≡ T.stored classes.old }
     ensures same_distances { D.distances distances.new ≡ D.distances distances.old }
-    ensures right { AreRight (tables_of (T.stored classes.old) (D.distances distances.old)) cells.new }
+    ensures right { AreRight (kinds_of position.now.placed_men) (tables_of (T.stored classes.old) (D.distances distances.old)) cells.new }
     ensures entry { IfOk result (λ e. e ≡ entry_after (tables_of (T.stored classes.old) (D.distances distances.old)) position.now m) }
 {
+    // A fact that the proof uses: the men are those of a position.
+    let _ = position.men();
     let next = position.after(m);
     if !position.is_zeroing(&m) {
         return plain_entry(classes, distances, cells, &next);

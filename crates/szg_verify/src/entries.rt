@@ -1,7 +1,8 @@
 //! Entries: what tables say of a position.
 
-ghost use Rattle.std.specs.Prelude.{◌≡◌, ◌+◌, ◌||◌, IfOk, Some, ◌≤◌, option_map};
+ghost use Rattle.std.specs.Prelude.{◌≡◌, ◌+◌, ◌||◌, Contains, IfOk, IsFalse, Some, ◌≤◌, option_map};
 ghost use Rattle.std.specs.List.{list_any, list_all};
+ghost use Rattle.szg_chess.specs.Laws.{kinds_of};
 ghost use Rattle.szg_chess.specs.Moves.{has_no_move, is_zeroing, legal_moves};
 ghost use Rattle.szg_verify.specs.Memory.{AreRight};
 ghost use Rattle.szg_verify.specs.Entries.{is_drawn, keeps, least_plies, most_plies, plies_before, entry_by_distance, wins_at_once, is_one_ply, farthest, greatest, least, entry_before, near_entry, near_after, far_as, quiet_moves, steps_to, plain_entry, tables_of, StepList};
@@ -170,10 +171,10 @@ fn known_near<T: Tables, D: DtzTables<Fault = T::Fault>>(
     cells: &mut [Cell],
     position: &Position,
 ) -> Result<Option<Entry>, T::Fault>
-    requires right { AreRight (tables_of (T.stored classes.old) (D.distances distances.old)) cells.old }
+    requires right { AreRight (kinds_of position.now.placed_men) (tables_of (T.stored classes.old) (D.distances distances.old)) cells.old }
     ensures same_classes { T.stored classes.new ≡ T.stored classes.old }
     ensures same_distances { D.distances distances.new ≡ D.distances distances.old }
-    ensures right { AreRight (tables_of (T.stored classes.old) (D.distances distances.old)) cells.new }
+    ensures right { AreRight (kinds_of position.now.placed_men) (tables_of (T.stored classes.old) (D.distances distances.old)) cells.new }
     ensures entry { IfOk result (λ e. e ≡ near_entry (tables_of (T.stored classes.old) (D.distances distances.old)) position.now) }
 {
     if let Some(entry) = recall(cells, true, position) {
@@ -189,6 +190,27 @@ fn known_near<T: Tables, D: DtzTables<Fault = T::Fault>>(
     }
 }
 
+/// Returns `near_entry` after a legal move that is not zeroing.
+fn near_after<T: Tables, D: DtzTables<Fault = T::Fault>>(
+    classes: &mut T,
+    distances: &mut D,
+    cells: &mut [Cell],
+    position: &Position,
+    m: Move,
+) -> Result<Option<Entry>, T::Fault>
+    requires legal { Contains (legal_moves position.now) m }
+    requires quiet { IsFalse (is_zeroing position.now m) }
+    requires right { AreRight (kinds_of position.now.placed_men) (tables_of (T.stored classes.old) (D.distances distances.old)) cells.old }
+    ensures same_classes { T.stored classes.new ≡ T.stored classes.old }
+    ensures same_distances { D.distances distances.new ≡ D.distances distances.old }
+    ensures right { AreRight (kinds_of position.now.placed_men) (tables_of (T.stored classes.old) (D.distances distances.old)) cells.new }
+    ensures entry { IfOk result (λ e. e ≡ near_after (tables_of (T.stored classes.old) (D.distances distances.old)) position.now m) }
+{
+    // A fact that the proof uses: the men are those of a position.
+    let _ = position.men();
+    known_near(classes, distances, cells, &position.after(m))
+}
+
 /// Returns the entries after the moves that are not zeroing. None if there is no number for one of them.
 fn quiet_steps<T: Tables, D: DtzTables<Fault = T::Fault>>(
     classes: &mut T,
@@ -196,17 +218,17 @@ fn quiet_steps<T: Tables, D: DtzTables<Fault = T::Fault>>(
     cells: &mut [Cell],
     position: &Position,
 ) -> Result<Option<Steps>, T::Fault>
-    requires right { AreRight (tables_of (T.stored classes.old) (D.distances distances.old)) cells.old }
+    requires right { AreRight (kinds_of position.now.placed_men) (tables_of (T.stored classes.old) (D.distances distances.old)) cells.old }
     ensures same_classes { T.stored classes.new ≡ T.stored classes.old }
     ensures same_distances { D.distances distances.new ≡ D.distances distances.old }
-    ensures right { AreRight (tables_of (T.stored classes.old) (D.distances distances.old)) cells.new }
+    ensures right { AreRight (kinds_of position.now.placed_men) (tables_of (T.stored classes.old) (D.distances distances.old)) cells.new }
     ensures steps { IfOk result (λ o. option_map (λ s. s.items) o ≡ steps_to (near_after (tables_of (T.stored classes.old) (D.distances distances.old)) position.now) position.now (quiet_moves position.now)) }
 {
     let moves = position.legal_moves();
     let mut steps = Steps::new();
     for m in moves.as_slice() {
         if !position.is_zeroing(m) {
-            match known_near(classes, distances, cells, &position.after(*m)) {
+            match near_after(classes, distances, cells, position, *m) {
                 Ok(Some(entry)) => steps.push(entry, false),
                 Ok(None) => return Ok(None),
                 Err(fault) => return Err(fault),
@@ -278,10 +300,10 @@ fn far_entry<T: Tables, D: DtzTables<Fault = T::Fault>>(
     position: &Position,
     class: Class,
 ) -> Result<Option<Entry>, T::Fault>
-    requires right { AreRight (tables_of (T.stored classes.old) (D.distances distances.old)) cells.old }
+    requires right { AreRight (kinds_of position.now.placed_men) (tables_of (T.stored classes.old) (D.distances distances.old)) cells.old }
     ensures same_classes { T.stored classes.new ≡ T.stored classes.old }
     ensures same_distances { D.distances distances.new ≡ D.distances distances.old }
-    ensures right { AreRight (tables_of (T.stored classes.old) (D.distances distances.old)) cells.new }
+    ensures right { AreRight (kinds_of position.now.placed_men) (tables_of (T.stored classes.old) (D.distances distances.old)) cells.new }
     ensures entry { IfOk result (λ e. e ≡ far_as (tables_of (T.stored classes.old) (D.distances distances.old)) position.now class) }
 {
     match quiet_steps(classes, distances, cells, position) {
@@ -299,10 +321,10 @@ fn find_entry<T: Tables, D: DtzTables<Fault = T::Fault>>(
     cells: &mut [Cell],
     position: &Position,
 ) -> Result<Option<Entry>, T::Fault>
-    requires right { AreRight (tables_of (T.stored classes.old) (D.distances distances.old)) cells.old }
+    requires right { AreRight (kinds_of position.now.placed_men) (tables_of (T.stored classes.old) (D.distances distances.old)) cells.old }
     ensures same_classes { T.stored classes.new ≡ T.stored classes.old }
     ensures same_distances { D.distances distances.new ≡ D.distances distances.old }
-    ensures right { AreRight (tables_of (T.stored classes.old) (D.distances distances.old)) cells.new }
+    ensures right { AreRight (kinds_of position.now.placed_men) (tables_of (T.stored classes.old) (D.distances distances.old)) cells.new }
     ensures entry { IfOk result (λ e. e ≡ plain_entry (tables_of (T.stored classes.old) (D.distances distances.old)) position.now) }
 {
     match known_near(classes, distances, cells, position) {
@@ -322,10 +344,10 @@ pub(crate) fn plain_entry<T: Tables, D: DtzTables<Fault = T::Fault>>(
     cells: &mut [Cell],
     position: &Position,
 ) -> Result<Option<Entry>, T::Fault>
-    requires right { AreRight (tables_of (T.stored classes.old) (D.distances distances.old)) cells.old }
+    requires right { AreRight (kinds_of position.now.placed_men) (tables_of (T.stored classes.old) (D.distances distances.old)) cells.old }
     ensures same_classes { T.stored classes.new ≡ T.stored classes.old }
     ensures same_distances { D.distances distances.new ≡ D.distances distances.old }
-    ensures right { AreRight (tables_of (T.stored classes.old) (D.distances distances.old)) cells.new }
+    ensures right { AreRight (kinds_of position.now.placed_men) (tables_of (T.stored classes.old) (D.distances distances.old)) cells.new }
     ensures entry { IfOk result (λ e. e ≡ plain_entry (tables_of (T.stored classes.old) (D.distances distances.old)) position.now) }
 {
     if let Some(entry) = recall(cells, false, position) {

@@ -1,122 +1,240 @@
 //! Room for entries that were found, so that each is found once mostly.
 
-ghost use Rattle.std.specs.Prelude.{◌≡◌, ◌<◌, ◌≤◌, ◌^◌, All, None, IfSome, IsTrue, Some, length};
+ghost use Rattle.std.specs.Prelude.{◌≡◌, ◌&&◌, not, ◌<◌, ◌≤◌, ◌+◌, ◌-◌, ◌*◌, ◌^◌, List, Some, IfSome, IsTrue, length, nat_lt, if◌then◌else◌};
 ghost use Rattle.szg_values.specs.Placement.{AreOnBoard};
+ghost use Rattle.szg_values.specs.declared.Man.{Man};
+ghost use Rattle.szg_values.specs.declared.Color.{Color};
 ghost use Rattle.szg_game.specs.declared.Entry.{Entry};
+ghost use Rattle.szg_chess.specs.Laws.{kinds_of};
 ghost use Rattle.szg_chess.specs.Position.{IsPosition};
 ghost use Rattle.szg_verify.specs.Entries.{StoredTables};
-ghost use Rattle.szg_verify.specs.Memory.{AreRight, digit_of, digits_of, found_by, key_of, number_of_color};
+ghost use Rattle.szg_verify.specs.Memory.{AreRight, IsSpotOf, class_by, class_code, code_of, digits_of, found_by, holds_pawn, is_near, is_wide, packed};
 
 use szg_chess::Position;
-use szg_game::Entry;
+use szg_game::{Class, Entry};
 use szg_values::{Color, Man, Square};
 
-/// Room for the entry of a position.
+/// Room for the entry of a position: four bytes.
 #[derive(Clone, Copy, Debug, Default, PartialEq, Eq)]
 pub struct Cell {
-    key: u64,
-    entry: Option<Entry>,
+    tag: u16,
+    lower: u8,
+    code: u8,
+}
+
+/// Where the entry of a position is kept.
+#[derive(Clone, Copy)]
+struct Spot {
+    tag: u16,
+    place: usize,
 }
 
 /// Empties all cells.
 pub(crate) fn clear(cells: &mut [Cell])
-    ensures { (tables : StoredTables) → AreRight tables cells.new }
+    ensures { (kinds : List (Man × Color)) (tables : StoredTables) → AreRight kinds tables cells.new }
 {
     for place in 0..cells.len() {
         cells[place] = Cell {
-            key: 0,
-            entry: None,
+            tag: 0,
+            lower: 0,
+            code: 0,
         };
     }
 }
 
 /// Returns the entry of a position that was kept, if it still is there: the one by the stored number alone, or the whole.
-pub(crate) fn recall(cells: &[Cell], is_near: bool, position: &Position) -> Option<Entry>
-    ensures { IfSome result (λ e. (tables : StoredTables) → AreRight tables cells.now → found_by is_near tables position.now ≡ Some e) }
+pub(crate) fn recall(cells: &[Cell], needs_near: bool, position: &Position) -> Option<Entry>
+    ensures { IfSome result (λ e. (tables : StoredTables) → AreRight (kinds_of position.now.placed_men) tables cells.now → found_by needs_near tables position.now ≡ Some e) }
 {
-    if !has_room(cells, position) {
+    let Some(spot) = spot_of(cells.len(), position) else {
+        return None;
+    };
+    let cell = cells[spot.place];
+    if cell.tag != spot.tag {
         return None;
     }
-    let key = key_of(is_near, position);
-    let cell = cells[place_of(key, cells.len())];
-    if cell.key != key {
+    if lacks_near(needs_near, cell.code) {
         return None;
     }
-    match cell.entry {
-        Some(entry) => Some(entry),
+    match class_by(cell.code % 8) {
+        Some(class) => Some(entry_in(&cell, class)),
         None => None,
     }
 }
 
-/// Keeps the entry of a position in place of another one.
-pub(crate) fn keep(cells: &mut [Cell], is_near: bool, position: &Position, entry: Entry)
-    ensures { (tables : StoredTables) → AreRight tables cells.old → found_by is_near tables position.now ≡ Some entry → AreRight tables cells.new }
+/// Returns whether the entry by the stored number alone is needed, and a code says another one.
+fn lacks_near(needs_near: bool, code: u8) -> bool
+    ensures { result ≡ (needs_near && not (is_near code)) }
 {
-    if !has_room(cells, position) {
+    needs_near && !is_near(code)
+}
+
+/// Returns the entry of a cell with this class.
+fn entry_in(cell: &Cell, class: Class) -> Entry
+    ensures { result ≡ record { class = class; lower = cell.now.lower; upper = cell.now.lower + (if is_wide cell.now.code then 1 else 0) } }
+{
+    let lower = u32::from(cell.lower);
+    let upper = if is_wide(cell.code) { lower + 1 } else { lower };
+    Entry {
+        class,
+        lower,
+        upper,
+    }
+}
+
+/// Keeps the entry of a position in place of another one, if there is room for it. The one by the stored number alone is
+/// the whole one too, and stays.
+pub(crate) fn keep(cells: &mut [Cell], near: bool, position: &Position, entry: Entry)
+    ensures { (tables : StoredTables) → AreRight (kinds_of position.now.placed_men) tables cells.old → found_by near tables position.now ≡ Some entry → AreRight (kinds_of position.now.placed_men) tables cells.new }
+{
+    let Some(spot) = spot_of(cells.len(), position) else {
+        return;
+    };
+    if !near && recall(cells, true, position).is_some() {
         return;
     }
-    let key = key_of(is_near, position);
-    let place = place_of(key, cells.len());
-    cells[place] = Cell {
-        key,
-        entry: Some(entry),
+    if 255 < entry.lower || !is_narrow(&entry) {
+        return;
+    }
+    cells[spot.place] = Cell {
+        tag: spot.tag,
+        lower: entry.lower as u8,
+        code: code_of(entry.class, entry.lower < entry.upper, near),
     };
 }
 
-/// Returns whether there is a cell, and no en passant square.
-fn has_room(cells: &[Cell], position: &Position) -> bool
-    ensures some { IsTrue result → 0 < length cells.now }
-    ensures plain { IsTrue result → position.now.en_passant ≡ None }
+/// Returns whether the bounds are equal, or the upper one is one more.
+fn is_narrow(entry: &Entry) -> bool
+    requires { entry.now.lower < 2 ^ 31 }
+    ensures { IsTrue result → entry.now.upper ≡ entry.now.lower + (if nat_lt entry.now.lower entry.now.upper then 1 else 0) }
 {
-    !cells.is_empty() && position.en_passant().is_none()
+    entry.upper == entry.lower || entry.upper == entry.lower + 1
 }
 
-/// Returns where the entry of a key is kept.
-fn place_of(key: u64, len: usize) -> usize
-    requires { 0 < len }
-    ensures { result < len }
+/// Returns a class, whether the upper bound is one above the lower one, and whether the entry is by the stored number
+/// alone, as one number.
+fn code_of(class: Class, wide: bool, near: bool) -> u8
+    ensures { result ≡ code_of class wide near }
 {
-    (key.wrapping_mul(0x9E37_79B9_7F4A_7C15) >> 32) as usize % len
+    class_code(class) + if wide { 8 } else { 0 } + if near { 16 } else { 0 }
 }
 
-/// Returns the number that stands for a position without an en passant square and for one of its two entries.
-fn key_of(is_near: bool, position: &Position) -> u64
-    ensures key { result ≡ key_of is_near position.now.placed_men position.now.mover }
+fn class_code(class: Class) -> u8
+    ensures code { result ≡ class_code class }
+    ensures few { result ≤ 5 }
+{
+    match class {
+        Class::Loss => 1,
+        Class::BlessedLoss => 2,
+        Class::Draw => 3,
+        Class::CursedWin => 4,
+        Class::Win => 5,
+    }
+}
+
+/// Returns the class of a code. None: the cell is empty.
+fn class_by(code: u8) -> Option<Class>
+    ensures { result ≡ class_by code }
+{
+    match code {
+        1 => Some(Class::Loss),
+        2 => Some(Class::BlessedLoss),
+        3 => Some(Class::Draw),
+        4 => Some(Class::CursedWin),
+        5 => Some(Class::Win),
+        _ => None,
+    }
+}
+
+fn is_wide(code: u8) -> bool
+    ensures { result ≡ is_wide code }
+{
+    code / 8 % 2 == 1
+}
+
+fn is_near(code: u8) -> bool
+    ensures { result ≡ is_near code }
+{
+    code / 16 == 1
+}
+
+/// Returns where the entry of a position is kept, of so many cells.
+fn spot_of(len: usize, position: &Position) -> Option<Spot>
+    ensures spot { IfSome result (λ s. IsSpotOf len position.now s.tag s.place) }
+    ensures inside { IfSome result (λ s. s.place < len) }
     // A fact that the proof uses: the men are those of a position.
     ensures position { IsPosition position.now }
 {
-    let digits = digits_of(position.men());
-    let near = if is_near { 1 } else { 0 };
-    near + 2 * (number_of_color(position.mover()) + 2 * digits)
+    let men = position.men();
+    if position.en_passant().is_some() {
+        return None;
+    }
+    let number = match packed(holds_pawn(men), digits_of(men)) {
+        Some(number) => number,
+        None => return None,
+    };
+    match position.mover() {
+        Color::White => spot_in(0, len - len / 16, number),
+        Color::Black => spot_in(len - len / 16, len / 16, number),
+    }
 }
 
-/// Returns men on squares as one number.
+/// Returns where a number is kept, of `size` cells from `start` on.
+fn spot_in(start: usize, size: usize, number: u64) -> Option<Spot>
+    requires { start + size < 2 ^ 64 }
+    ensures from { IfSome result (λ s. start ≤ s.place) }
+    ensures to { IfSome result (λ s. s.place < start + size) }
+    ensures number { IfSome result (λ s. number ≡ s.tag * size + (s.place - start)) }
+{
+    let cells = size as u64;
+    if number < cells {
+        return Some(Spot {
+            tag: 0,
+            place: start + number as usize,
+        });
+    }
+    if size == 0 || 65_535 < number / cells {
+        return None;
+    }
+    Some(Spot {
+        tag: (number / cells) as u16,
+        place: start + (number % cells) as usize,
+    })
+}
+
+/// Returns the number by which an entry is kept, from the squares of the men: without pawns the first man, White's king,
+/// is met on the ranks 1 to 5 of the files a to e alone.
+fn packed(pawn: bool, digits: u64) -> Option<u64>
+    ensures { IfSome result (λ n. packed pawn digits ≡ Some n) }
+{
+    if pawn {
+        return Some(digits);
+    }
+    let file = digits % 8;
+    let rank = digits / 8 % 8;
+    if file < 5 && rank < 5 {
+        Some(file + (5 * rank + 25 * (digits / 64)))
+    } else {
+        None
+    }
+}
+
+fn holds_pawn(men: &[(Man, Color, Square)]) -> bool
+    ensures { result ≡ holds_pawn men.now }
+{
+    men.iter().any(|man| man.0 == Man::Pawn)
+}
+
+/// Returns the squares of men as one number, the first man's the last digit in base 64.
 fn digits_of(men: &[(Man, Color, Square)]) -> u64
     requires count { length men.now ≤ 6 }
     requires on_board { AreOnBoard men.now }
     ensures digits { result ≡ digits_of men.now }
-    ensures few { result < 2 ^ 60 }
+    ensures few { result < 2 ^ 36 }
 {
     let mut digits = 0;
     for step in 0..men.len() {
-        digits = digit_of(&men[men.len() - 1 - step]) + 1024 * digits;
+        digits = u64::from(men[men.len() - 1 - step].2.number()) + 64 * digits;
     }
     digits
-}
-
-fn digit_of(man: &(Man, Color, Square)) -> u64
-    ensures digit { result ≡ digit_of man.now }
-    ensures few { result < 1024 }
-{
-    u64::from(man.2.number()) + 64 * (u64::from(man.0.code()) + 8 * number_of_color(man.1))
-}
-
-fn number_of_color(color: Color) -> u64
-    ensures number { result ≡ number_of_color color }
-    ensures few { result ≤ 1 }
-{
-    match color {
-        Color::White => 0,
-        Color::Black => 1,
-    }
 }

@@ -3,6 +3,7 @@
 ghost use Rattle.std.specs.Prelude.{◌≡◌, ◌<◌, ◌≤◌, ◌%◌, ◌^◌, ◌&&◌, count_by, length, IfOk, IfSome, IsFalse, IsTrue, IsNone, None};
 ghost use Rattle.szg_values.specs.Men.{is_man, is_color};
 ghost use Rattle.szg_values.specs.declared.Color.{Color};
+ghost use Rattle.szg_chess.specs.Laws.{kinds_of};
 ghost use Rattle.szg_chess.specs.Position.{IsPosition};
 ghost use Rattle.szg_verify.specs.Entries.{tables_of};
 ghost use Rattle.szg_verify.specs.Memory.{AreRight};
@@ -75,7 +76,8 @@ pub fn shard_start(material: &Material, shards: u16, before: u16) -> u64
 /// does not pass. Both sides move; White has the men of the first side. One position of each set of images by flips of
 /// the board is enough: White's king is on the files a to d, unless a side has two pawns, and without pawns on the ranks
 /// 1 to 4. The watcher sees each 65,536 numbers, and the end of a range that passes. The cells are room for what was found:
-/// the more there are, the faster it is, up to some four for each placement; none is right too.
+/// the more there are, the faster it is, up to 27 (with pawns 69) for each way to put the men but White's king on squares; none
+/// is right too.
 ///
 /// Errors: those of the tables.
 pub fn verify_range<T: Tables, D: DtzTables<Fault = T::Fault>, W: Watcher>(
@@ -93,16 +95,17 @@ pub fn verify_range<T: Tables, D: DtzTables<Fault = T::Fault>, W: Watcher>(
     ensures refused { IfOk result (λ w. IfSome w.refused (λ r. IsFirstRefused (tables_of (T.stored classes.old) (D.distances distances.old)) material.now from to r.number r.position r.condition)) }
 {
     clear(cells);
-    let men = colored_men(material);
-    let lone = has_lone_pawns(men.as_slice());
-    let none = !has_pawn(men.as_slice());
+    let colored = colored_men(material);
+    let men = colored.as_slice();
+    let lone = has_lone_pawns(men);
+    let none = !has_pawn(men);
     let mut positions: u64 = 0;
     for number in from..to {
         if number % CHUNK == 0 {
             watcher.see_progress(material, number, to, positions);
         }
         if is_walked(lone, none, (number % 64) as u8) {
-            match check_number(classes, distances, cells, men.as_slice(), number) {
+            match check_number(classes, distances, cells, men, number) {
                 Ok(walked) => {
                     positions = positions.saturating_add(walked.positions);
                     if walked.refused.is_some() {
@@ -168,10 +171,10 @@ fn check_number<T: Tables, D: DtzTables<Fault = T::Fault>>(
     number: u64,
 ) -> Result<Walked, T::Fault>
     requires few { length men.now ≤ 6 }
-    requires right { AreRight (tables_of (T.stored classes.old) (D.distances distances.old)) cells.old }
+    requires right { AreRight men.now (tables_of (T.stored classes.old) (D.distances distances.old)) cells.old }
     ensures same_classes { T.stored classes.new ≡ T.stored classes.old }
     ensures same_distances { D.distances distances.new ≡ D.distances distances.old }
-    ensures right { AreRight (tables_of (T.stored classes.old) (D.distances distances.old)) cells.new }
+    ensures right { AreRight men.now (tables_of (T.stored classes.old) (D.distances distances.old)) cells.new }
     ensures checked { IfOk result (λ w. IsNone w.refused → (mover : Color) → IsPosition (position_by number men.now mover) → IsTrue (is_checked (tables_of (T.stored classes.old) (D.distances distances.old)) (position_by number men.now mover))) }
     ensures refused { IfOk result (λ w. IfSome w.refused (λ r. (r.number ≡ number) × IsRefused (tables_of (T.stored classes.old) (D.distances distances.old)) (placed_by number men.now) r.position r.condition)) }
 {
@@ -215,10 +218,10 @@ fn check_placed<T: Tables, D: DtzTables<Fault = T::Fault>>(
     placed: &[(Man, Color, Square)],
     mover: Color,
 ) -> Result<Walked, T::Fault>
-    requires right { AreRight (tables_of (T.stored classes.old) (D.distances distances.old)) cells.old }
+    requires right { AreRight (kinds_of placed.now) (tables_of (T.stored classes.old) (D.distances distances.old)) cells.old }
     ensures same_classes { T.stored classes.new ≡ T.stored classes.old }
     ensures same_distances { D.distances distances.new ≡ D.distances distances.old }
-    ensures right { AreRight (tables_of (T.stored classes.old) (D.distances distances.old)) cells.new }
+    ensures right { AreRight (kinds_of placed.now) (tables_of (T.stored classes.old) (D.distances distances.old)) cells.new }
     ensures checked { IfOk result (λ w. IsNone w.refused → IsPosition (record { placed_men = placed.now; mover = mover; en_passant = None }) → IsTrue (is_checked (tables_of (T.stored classes.old) (D.distances distances.old)) (record { placed_men = placed.now; mover = mover; en_passant = None }))) }
     ensures refused { IfOk result (λ w. IfSome w.refused (λ r. (r.number ≡ number) × IsRefused (tables_of (T.stored classes.old) (D.distances distances.old)) placed.now r.position r.condition)) }
 {
@@ -254,7 +257,8 @@ fn check_placed<T: Tables, D: DtzTables<Fault = T::Fault>>(
 /// Returns the men on the squares that a number says.
 fn place(number: u64, men: &[(Man, Color)]) -> ArrayVec<(Man, Color, Square), 6>
     requires { length men.now ≤ 6 }
-    ensures { result.items ≡ placed_by number men.now }
+    ensures placed { result.items ≡ placed_by number men.now }
+    ensures kinds { kinds_of result.items ≡ men.now }
 {
     let mut placed = ArrayVec::new();
     let mut rest = number;

@@ -1,4 +1,5 @@
 use Rattle.std.proofs.Common.{refl, sym, ap, ◌∙◌, arith, length, length-append, [], ◌∷◌, ◌++◌, Bool}
+use Rattle.szg_chess.specs.Laws.{kinds_of}
 use Rattle.szg_chess.specs.Moves.{is_zeroing}
 use Rattle.szg_verify.specs.Memory.{AreRight}
 use Rattle.szg_verify.proofs.Kept.{carried}
@@ -37,7 +38,7 @@ loop-m-preserved g c =
     record {
       same_classes = c.entry_after.ensures.same_classes ∙ before.same_classes;
       same_distances = c.entry_after.ensures.same_distances ∙ before.same_distances;
-      right = carried (λ (t : StoredTables). AreRight t c.entry_after.new.cells) (g.T.Tables.stored c.loop-m.classes) classes (g.D.DtzTables.distances c.loop-m.distances) distances before.same_classes before.same_distances c.entry_after.ensures.right;
+      right = carried (λ (t : StoredTables). AreRight (kinds_of p.placed_men) t c.entry_after.new.cells) (g.T.Tables.stored c.loop-m.classes) classes (g.D.DtzTables.distances c.loop-m.distances) distances before.same_classes before.same_distances c.entry_after.ensures.right;
       few = let few = before.few in let size = ap length items ∙ length-append c.loop-m.steps.items ((c.in-Ok-Some.entry, is_zeroing p c.m-item.result) ∷ []) in omega (arith, few, size);
       so_far = all_pushed (entry_after (tables_of classes distances) p) p c.as_slice-m-items.result.now c.loop-m.m-index c.m-item.result c.loop-m-test.true c.m-item.is c.loop-m.steps.items c.push.new.self.items c.in-Ok-Some.entry
           before.so_far (some ∙ c.in-Ok-Some.field-0-is) items;

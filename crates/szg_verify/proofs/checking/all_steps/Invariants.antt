@@ -1,4 +1,5 @@
 use Rattle.std.proofs.Common.{◌≡◌, ◌≤◌, Some, take, length}
+use Rattle.szg_chess.specs.Laws.{kinds_of}
 use Rattle.szg_verify.specs.Memory.{AreRight}
 use Rattle.szg_verify.specs.Entries.{steps_to, tables_of}
 use Rattle.szg_verify.specs.Verified.{entry_after}
@@ -10,5 +11,5 @@ invariant-loop-m g l = record {
   same_distances : g.D.DtzTables.distances l.distances ≡ g.D.DtzTables.distances l.fn.distances;
   few : length l.steps.items ≤ l.m-index;
   so_far : steps_to (entry_after (tables_of (g.T.Tables.stored l.fn.classes) (g.D.DtzTables.distances l.fn.distances)) l.position) l.position (take l.m-index l.m-items) ≡ Some l.steps.items;
-  right : AreRight (tables_of (g.T.Tables.stored l.fn.classes) (g.D.DtzTables.distances l.fn.distances)) l.cells;
+  right : AreRight (kinds_of l.position.placed_men) (tables_of (g.T.Tables.stored l.fn.classes) (g.D.DtzTables.distances l.fn.distances)) l.cells;
 }

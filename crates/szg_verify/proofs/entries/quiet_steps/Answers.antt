@@ -2,11 +2,11 @@ use Rattle.std.proofs.Common.{subst, refl, sym, ap, ◌∙◌, arith, length, le
 use Rattle.szg_game.specs.Game.{Move as Step}
 use Rattle.szg_game.specs.declared.Entry.{Entry}
 use Rattle.szg_chess.specs.declared.Move.{Move}
-use Rattle.szg_chess.specs.Moves.{after}
+use Rattle.szg_chess.specs.Laws.{kinds_of}
 use Rattle.szg_verify.specs.Memory.{AreRight}
 use Rattle.szg_verify.proofs.Kept.{carried}
-use Rattle.szg_verify.specs.Entries.{StoredTables, StepList, near_entry, near_after, steps_to, tables_of}
-use Rattle.szg_verify.proofs.Loops.{quiet, none_yet, quiet_pushed, quiet_passed, quiet_stopped, entry_carried}
+use Rattle.szg_verify.specs.Entries.{StoredTables, StepList, near_after, steps_to, tables_of}
+use Rattle.szg_verify.proofs.Loops.{quiet, none_yet, quiet_pushed, quiet_passed, quiet_stopped, entry_carried_at}
 use Rattle.szg_verify.proofs.entries.quiet_steps.Goals as goal
 use Rattle.szg_verify.proofs.entries.quiet_steps.Goals.{then-not-is_zeroing+in-Ok-Some, else-not-is_zeroing}
 
@@ -25,7 +25,7 @@ returns-in-Ok-None-clause-steps g c =
     let classes = g.T.Tables.stored c.args.classes.now in
     let distances = g.D.DtzTables.distances c.args.distances.now in
     let before = c.loop-m.invariant in
-    let none = entry_carried near_entry (g.T.Tables.stored c.loop-m.classes) classes (g.D.DtzTables.distances c.loop-m.distances) distances c.after.result (after p c.m-item.result) c.in-Ok-None.field-0 before.same_classes before.same_distances c.after.ensures c.in-Ok-None.ensures.entry in
+    let none = entry_carried_at near_after (g.T.Tables.stored c.loop-m.classes) classes (g.D.DtzTables.distances c.loop-m.distances) distances p c.m-item.result c.in-Ok-None.field-0 before.same_classes before.same_distances c.in-Ok-None.ensures.entry in
     sym (ap (λ (ms : List Move). steps_to (near_after (tables_of classes distances) p) p (quiet p ms)) (sym (c.as_slice-m-items.ensures.value ∙ c.legal_moves-moves.ensures))
     ∙ quiet_stopped (near_after (tables_of classes distances) p) p c.as_slice-m-items.result.now c.loop-m.m-index c.m-item.result c.loop-m-test.true c.m-item.is (sym c.is_zeroing.ensures ∙ c.if-not-is_zeroing.true) (none ∙ c.in-Ok-None.field-0-is))
 
@@ -38,12 +38,12 @@ loop-m-preserved g c =
     let entry = near_after (tables_of classes distances) p in
     elim c.if-not-is_zeroing.branch [
       | then-not-is_zeroing+in-Ok-Some w ↦ (
-          let some = entry_carried near_entry (g.T.Tables.stored c.loop-m.classes) classes (g.D.DtzTables.distances c.loop-m.distances) distances w.after.result (after p c.m-item.result) w.in-Ok-Some.field-0 before.same_classes before.same_distances w.after.ensures w.in-Ok-Some.ensures.entry in
+          let some = entry_carried_at near_after (g.T.Tables.stored c.loop-m.classes) classes (g.D.DtzTables.distances c.loop-m.distances) distances p c.m-item.result w.in-Ok-Some.field-0 before.same_classes before.same_distances w.in-Ok-Some.ensures.entry in
           let items = ap (λ (s : StepList). s.items) w.steps-is ∙ w.push.ensures in
           record {
-            same_classes = ap g.T.Tables.stored w.classes-is ∙ (w.known_near.ensures.same_classes ∙ before.same_classes);
-            same_distances = ap g.D.DtzTables.distances w.distances-is ∙ (w.known_near.ensures.same_distances ∙ before.same_distances);
-            right = subst (AreRight (tables_of classes distances)) (sym w.cells-is) (carried (λ (t : StoredTables). AreRight t w.known_near.new.cells) (g.T.Tables.stored c.loop-m.classes) classes (g.D.DtzTables.distances c.loop-m.distances) distances before.same_classes before.same_distances w.known_near.ensures.right);
+            same_classes = ap g.T.Tables.stored w.classes-is ∙ (w.near_after.ensures.same_classes ∙ before.same_classes);
+            same_distances = ap g.D.DtzTables.distances w.distances-is ∙ (w.near_after.ensures.same_distances ∙ before.same_distances);
+            right = subst (AreRight (kinds_of p.placed_men) (tables_of classes distances)) (sym w.cells-is) (carried (λ (t : StoredTables). AreRight (kinds_of p.placed_men) t w.near_after.new.cells) (g.T.Tables.stored c.loop-m.classes) classes (g.D.DtzTables.distances c.loop-m.distances) distances before.same_classes before.same_distances w.near_after.ensures.right);
             few = let few = before.few in let size = ap length items ∙ length-append c.loop-m.steps.items ((w.in-Ok-Some.entry, false) ∷ []) in omega (arith, few, size);
             so_far = quiet_pushed entry p c.as_slice-m-items.result.now c.loop-m.m-index c.m-item.result c.loop-m-test.true c.m-item.is c.loop-m.steps.items c.if-not-is_zeroing.steps.items w.in-Ok-Some.entry
                 (sym c.is_zeroing.ensures ∙ w.if-not-is_zeroing.true) before.so_far (some ∙ w.in-Ok-Some.field-0-is) items;
@@ -53,7 +53,7 @@ loop-m-preserved g c =
           record {
             same_classes = ap g.T.Tables.stored w.classes-is ∙ before.same_classes;
             same_distances = ap g.D.DtzTables.distances w.distances-is ∙ before.same_distances;
-            right = subst (AreRight (tables_of classes distances)) (sym w.cells-is) before.right;
+            right = subst (AreRight (kinds_of p.placed_men) (tables_of classes distances)) (sym w.cells-is) before.right;
             few = let few = before.few in let size = ap length items in omega (arith, few, size);
             so_far = quiet_passed entry p c.as_slice-m-items.result.now c.loop-m.m-index c.m-item.result c.loop-m-test.true c.m-item.is c.loop-m.steps.items
                 (sym c.is_zeroing.ensures ∙ w.if-not-is_zeroing.false) before.so_far ∙ ap (λ (ns : List (Step Entry)). Some ns) (sym items);

@@ -6,21 +6,20 @@ use Rattle.szg_verify.proofs.memory.digits_of.Goals as goal
 pub overflow_mul-digits : goal.overflow_mul-digits
 overflow_mul-digits c =
     let men = c.args.men.now in
-    let few : digits_of (drop (length men - c.loop-step.step) men) < 1125899906842624 = digits_within 5 (length men - c.loop-step.step) men c.requires.on_board (omega arith) in
+    let few : digits_of (drop (length men - c.loop-step.step) men) < 1073741824 = digits_within 5 (length men - c.loop-step.step) men c.requires.on_board (omega arith) in
     let e = c.loop-step.invariant in
     omega (arith, few, e)
 
 pub overflow_add-digits : goal.overflow_add-digits
 overflow_add-digits c =
     let men = c.args.men.now in
-    let few : digits_of (drop (length men - c.loop-step.step) men) < 1125899906842624 = digits_within 5 (length men - c.loop-step.step) men c.requires.on_board (omega arith) in
+    let few : digits_of (drop (length men - c.loop-step.step) men) < 1073741824 = digits_within 5 (length men - c.loop-step.step) men c.requires.on_board (omega arith) in
     let e = c.loop-step.invariant in
-    let d = c.digit_of.ensures.few in
-    omega (arith, few, e, d)
+    omega (arith, few, e)
 
 pub returns-clause-few : goal.returns-clause-few
 returns-clause-few c =
     let men = c.args.men.now in
-    let few : digits_of (drop (length men - c.loop-step.step) men) < 1152921504606846976 = digits_within 6 (length men - c.loop-step.step) men c.requires.on_board (omega arith) in
+    let few : digits_of (drop (length men - c.loop-step.step) men) < 68719476736 = digits_within 6 (length men - c.loop-step.step) men c.requires.on_board (omega arith) in
     let e = c.loop-step.invariant in
     omega (arith, few, e)

@@ -9,5 +9,5 @@ invariant-loop-number g l = record {
   same_classes : g.T.Tables.stored l.classes ≡ g.T.Tables.stored l.fn.classes;
   same_distances : g.D.DtzTables.distances l.distances ≡ g.D.DtzTables.distances l.fn.distances;
   checked : IsRangeChecked (tables_of (g.T.Tables.stored l.fn.classes) (g.D.DtzTables.distances l.fn.distances)) l.material l.from l.number;
-  right : AreRight (tables_of (g.T.Tables.stored l.fn.classes) (g.D.DtzTables.distances l.fn.distances)) l.cells;
+  right : AreRight l.men (tables_of (g.T.Tables.stored l.fn.classes) (g.D.DtzTables.distances l.fn.distances)) l.cells;
 }
