@@ -19,8 +19,9 @@ use szg_values::Material;
 use szg_verify::laws::{verified_is_true, walk_is_whole};
 use szg_verify::{Cell, Refusal, Walked, Watcher, are_closed, number_count, verify_range};
 
-/// The number of cells in which a walk keeps the entries that it found: they take 24 MB.
-const CELLS: usize = 1 << 20;
+/// The number of cells in which a walk keeps the entries that it found: they take 28 MB. Of four men without pawns they hold
+/// each position with White to move.
+const CELLS: usize = 7_000_000;
 
 /// Sees how the walk over a material's positions goes, and its end.
 pub trait Progress: Watcher {
