@@ -29,11 +29,11 @@ pub struct Asked<'a> {
 }
 
 /// Returns what a command line asks of folders: its command is `probe`, and its last word has a space, or is `-`.
-/// `--format json` may stand before the folders, or after that word.
+/// `--format json` may stand before the folders, or after that word. None if there is another option.
 pub(crate) fn asked_of<'a>(words: &'a [&'a str]) -> Option<Asked<'a>> {
     let (form, rest) = form_in(words.get(1..)?.strip_prefix(&["probe"])?);
     let (fen, folders) = rest.split_last()?;
-    if folders.is_empty() || !is_fen(fen) {
+    if folders.is_empty() || !is_fen(fen) || folders.iter().any(|word| word.starts_with("--")) {
         return None;
     }
     Some(Asked { form, folders, fen })
