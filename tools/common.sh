@@ -40,8 +40,8 @@ find_program() {
   if [ -n "${PROGRAM:-}" ]; then
     [ -x "$PROGRAM" ] || fail "PROGRAM is $PROGRAM, which can't be run" 2
     echo "$PROGRAM"
-  elif [ ! -x "$built" ] && is_released; then
-    echo "$root/release/szg"
+  elif [ ! -x "$built" ] && is_released && released_program; then
+    return
   else
     "$root/tools/build" szg_tool >&2
     echo "$built"
