@@ -68,6 +68,9 @@ const TRAILING: &str = "--allow-trailing Accept files with more bytes after the 
 
 const QUIET: &str = "--quiet Report only files that are refused or can't be read, and the summary";
 
+const SUMS: &str =
+    "--sums <LIST> Compare each file with its sum in LIST, as md5sum, sha1sum, sha256sum or sha512sum writes it; may be given several times";
+
 const REPORT: &str =
     "--format <FORMAT> Format of the report: text is one line per file and a summary; tsv and json are one record per file: path, verdict, bytes, reason, offset (bytes), time (seconds) [default: text] [possible values: text, tsv, json]";
 
@@ -112,7 +115,7 @@ static COMMANDS: [Command<'_>; 11] = [
         files: Text {
             usage: "[OPTIONS] <FILE>...",
             arguments: &[TABLES],
-            options: &[QUIET, REPORT, TRAILING, NAMED, KINDED, HELP],
+            options: &[QUIET, SUMS, REPORT, TRAILING, NAMED, KINDED, HELP],
             end: "Example: szg check *.rtbw *.rtbz Standard input: szg check KQvK wdl < KQvK.rtbw",
         },
     },
