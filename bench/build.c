@@ -1,15 +1,11 @@
 /* Builds tables of lists of values by szg_build. The kinds of lists are skewed with runs, as distances are; uniform; and
  * nearly constant.
  *
- * build KIND                   a small table of the kind 0, 1 or 2, for runs in which memory is refused: status 4 for
- *                              want of it
  * build list KIND SIZE         writes a list of SIZE values of the kind, each in two bytes
  * build LIST ROUNDS            builds a table of the list in the file LIST; prints the seconds, the peak of memory in
  *                              MB, and the bytes of the table's file */
 #include "bench.h"
 #include <sys/resource.h>
-
-enum { BUILT = 0, WANT_OF_MEMORY = 2 };
 
 struct packing {
     uint32_t rounds;
@@ -59,10 +55,10 @@ static void fill_nearly_constant(uint16_t *values, size_t size) {
     for (size_t i = 0; i < size; i++) values[i] = below(100) == 0 ? below(20) : 5;
 }
 
-static const struct kind {
-    const char *name;
-    void (*fill)(uint16_t *values, size_t size);
-} KINDS[] = {{"skewed with runs", fill_skewed}, {"uniform", fill_uniform}, {"nearly constant", fill_nearly_constant}};
+typedef void fill(uint16_t *values, size_t size);
+
+/* skewed with runs; uniform; nearly constant */
+static fill *const KINDS[] = {fill_skewed, fill_uniform, fill_nearly_constant};
 
 /* builds one table; stops the program where it isn't built */
 static uint64_t build(const struct form *form, const uint16_t *values, uint32_t rounds) {
@@ -70,8 +66,7 @@ static uint64_t build(const struct form *form, const uint16_t *values, uint32_t 
     uint64_t length = 0;
     uint32_t status = szg_bench_build((const uint8_t *)form->name, strlen(form->name), form->men, form->count, values,
                                       form->size, &packing, &length);
-    if (status == WANT_OF_MEMORY) exit((fprintf(stderr, "out of memory\n"), 4));
-    if (status != BUILT) fail("the table isn't built");
+    if (status) fail("the table isn't built");
     return length;
 }
 
@@ -94,22 +89,15 @@ static void time_build(const char *list, uint32_t rounds) {
     printf("%.3f %ld %" PRIu64 "\n", seconds, usage.ru_maxrss / 1024, length);
 }
 
-static void write_list(const struct kind *kind, size_t size) {
+static void write_list(fill *kind, size_t size) {
     uint16_t *values = malloc(size * sizeof *values);
     if (!values) exit(4);
-    kind->fill(values, size);
+    kind(values, size);
     fwrite(values, sizeof *values, size, stdout);
 }
 
-static void build_small(const struct kind *kind) {
-    static uint16_t values[31332];
-    kind->fill(values, FORMS[0].size);
-    printf("%s: %" PRIu64 " bytes\n", kind->name, build(&FORMS[0], values, 16));
-}
-
 int main(int argc, char **argv) {
-    if (argc == 2) build_small(&KINDS[(size_t)atoi(argv[1]) % 3]);
-    if (argc == 4 && !strcmp(argv[1], "list")) write_list(&KINDS[(size_t)atoi(argv[2]) % 3], strtoull(argv[3], NULL, 10));
+    if (argc == 4 && !strcmp(argv[1], "list")) write_list(KINDS[(size_t)atoi(argv[2]) % 3], strtoull(argv[3], NULL, 10));
     if (argc == 3) time_build(argv[1], (uint32_t)strtoul(argv[2], NULL, 10));
     return 0;
 }

@@ -24,8 +24,8 @@ struct mapping {
 };
 
 struct opened {
+    _Atomic size_t handles;   /* the number of handles */
     pthread_mutex_t lock;     /* for all below but `paths` */
-    size_t handles;           /* the number of handles */
     unsigned long count;      /* the number of tables that were added */
     szg_tablebase tablebase;  /* all of them */
     struct mapping *mappings;
@@ -39,22 +39,29 @@ struct szg_folders {
     struct opened *opened;
 };
 
-/* The length of an open file, if it is a regular one. Else the file is closed, and it is -1 with errno. */
-static off_t length_of(int file)
+/* Maps a file. False with errno if the system refuses it, or ENOENT if it is no regular file: a pipe isn't waited for. */
+static bool map_file(const char *path, struct mapping *mapping)
 {
     struct stat state;
-    bool is_known = fstat(file, &state) == 0;
-    if (is_known && S_ISREG(state.st_mode))
-        return state.st_size;
-    int why = is_known ? ENOENT : errno;
+    int file = open(path, O_RDONLY | O_CLOEXEC | O_NONBLOCK);
+    if (file < 0)
+        return false;
+    mapping->bytes = MAP_FAILED;
+    if (fstat(file, &state) == 0) {
+        errno = ENOENT;
+        mapping->length = (size_t)state.st_size;
+        /* an empty file can't be mapped, and is refused by its first check */
+        if (S_ISREG(state.st_mode))
+            mapping->bytes = mapping->length == 0 ? NULL : mmap(NULL, mapping->length, PROT_READ, MAP_SHARED, file, 0);
+    }
+    int why = errno;
     close(file);
     errno = why;
-    return -1;
+    return mapping->bytes != MAP_FAILED;
 }
 
-/* Opens the file of a table in the first folder that has it, and finds its length. -1 with errno ENOENT if none has. What is no
- * regular file doesn't count, and a pipe isn't waited for. */
-static int open_file(struct opened *opened, const szg_missing *missing, size_t *size)
+/* Maps the file of a table in the first folder that has it. False with errno, ENOENT if none has. */
+static bool find_file(struct opened *opened, const szg_missing *missing, struct mapping *mapping)
 {
     for (const char *folder = opened->paths;; folder++) {
         size_t length = strcspn(folder, ":");
@@ -62,25 +69,12 @@ static int open_file(struct opened *opened, const szg_missing *missing, size_t *
         opened->path[length] = '/';
         strcpy(opened->path + length + 1, missing->name);
         strcat(opened->path, missing->dtz ? ".rtbz" : ".rtbw");
-        int file = open(opened->path, O_RDONLY | O_CLOEXEC | O_NONBLOCK);
-        off_t found = file < 0 ? -1 : length_of(file);
+        if (map_file(opened->path, mapping))
+            return true;
         folder += length;
-        if (found >= 0)
-            return *size = (size_t)found, file;
         if (errno != ENOENT || *folder == '\0')
-            return -1;
+            return false;
     }
-}
-
-/* Maps a file, and closes it. False with errno if the system refuses. */
-static bool map_file(int file, struct mapping *mapping)
-{
-    /* an empty file can't be mapped, and is refused by its first check */
-    mapping->bytes = mapping->length == 0 ? NULL : mmap(NULL, mapping->length, PROT_READ, MAP_SHARED, file, 0);
-    int why = errno;
-    close(file);
-    errno = why;
-    return mapping->bytes != MAP_FAILED;
 }
 
 static void unmap_file(struct mapping *mapping)
@@ -97,8 +91,7 @@ static uint32_t add_table(struct opened *opened, szg_missing *missing)
     struct mapping *mapping = malloc(sizeof *mapping);
     if (mapping == NULL)
         return SZG_MEMORY;
-    int file = open_file(opened, missing, &mapping->length);
-    if (file < 0 || !map_file(file, mapping)) {
+    if (!find_file(opened, missing, mapping)) {
         int why = errno;
         free(mapping);
         errno = why;
@@ -165,9 +158,7 @@ uint32_t szg_share_folders(szg_folders *folders, szg_folders **second)
     szg_folders *handle = new_handle(folders->opened);
     if (handle == NULL)
         return SZG_MEMORY;
-    pthread_mutex_lock(&folders->opened->lock);
     folders->opened->handles++;
-    pthread_mutex_unlock(&folders->opened->lock);
     *second = handle;
     return SZG_DONE;
 }
@@ -205,10 +196,7 @@ void szg_close_folders(szg_folders *folders)
     struct opened *opened = folders->opened;
     szg_close_tablebase(&folders->tablebase);
     free(folders);
-    pthread_mutex_lock(&opened->lock);
-    bool last = --opened->handles == 0;
-    pthread_mutex_unlock(&opened->lock);
-    if (!last)
+    if (--opened->handles > 0)
         return;
     szg_close_tablebase(&opened->tablebase);
     for (struct mapping *mapping = opened->mappings, *next; mapping != NULL; mapping = next) {
@@ -240,4 +228,22 @@ uint32_t szg_board_men(const szg_board *board, szg_man *men, size_t *count)
             men[(*count)++] = (szg_man){(uint8_t)(SZG_PAWN + i), (board->black >> square & 1) != 0, square};
         }
     return SZG_DONE;
+}
+
+uint32_t szg_tablebase_wdl_of_fens(szg_tablebase *tablebase, const char *fens, size_t length, int8_t *classes, size_t count)
+{
+    uint32_t first = SZG_DONE;
+    szg_position p;
+    szg_missing missing;
+    for (size_t i = 0, next; i < count; i++, fens += next, length -= next) {
+        const char *end = memchr(fens, '\n', length);
+        next = end == NULL ? length : (size_t)(end - fens) + 1;
+        classes[i] = SZG_NO_RESULT;
+        uint32_t status = szg_read_fen(fens, next - (end != NULL), &p);
+        if (status == SZG_DONE)
+            status = szg_tablebase_wdl(tablebase, p.men, p.count, p.mover, p.en_passant, &classes[i], &missing);
+        if (first == SZG_DONE)
+            first = status;
+    }
+    return first;
 }

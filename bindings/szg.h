@@ -19,8 +19,8 @@
  * are mappings of its own, with huge pages if the kernel has some.
  *
  * Stack: szg_check, szg_size, szg_values, szg_values_at, szg_open, szg_open_front, szg_tablebase_add, szg_tablebase_moves and
- * all calls on szg_folders use less than 56 KB, szg_all less than 32 KB, szg_tablebase_wdl and szg_tablebase_dtz less than 24
- * KB, the other calls less than 8 KB. Whether it is there is not checked.
+ * all calls on szg_folders use less than 56 KB, szg_all less than 32 KB, szg_tablebase_wdl, szg_tablebase_wdl_of_fens and
+ * szg_tablebase_dtz less than 24 KB, the other calls less than 8 KB. Whether it is there is not checked.
  *
  * Mapped files: a file that is truncated must not be read by its map any more. A call that does is ended by the system with
  * SIGBUS, and so is the program. If others may truncate the file, read its bytes: szg_front_find says which. */
@@ -363,12 +363,38 @@ uint32_t szg_share_tablebase(szg_tablebase *tablebase, szg_tablebase *second);
 /* No square: an en passant square of 64 or more is none. */
 #define SZG_NO_SQUARE 64
 
+/* A position and its fifty-move counter, for the calls below: 32 bytes. */
+typedef struct szg_position {
+    szg_man men[SZG_MAX_MEN]; /* the first `count` of these */
+    uint8_t mover;            /* enum szg_color */
+    uint8_t en_passant;       /* the square that a pawn has just passed over by a double step, or SZG_NO_SQUARE */
+    uint32_t counter;         /* plies since the last capture or pawn move, below 10^9 */
+    size_t count;             /* 2 to 6 */
+} szg_position;
+
+/* Reads a text in Forsyth-Edwards Notation (FEN), as `szg probe` does: the board, w or b, - for castling, the en passant square or
+ * -, and two counters, of which the first is the fifty-move counter. One space is between two fields. Both counters may be left out;
+ * then it is 0. SZG_MAN: the text has another form, or castling rights. SZG_MEN, SZG_SAME_SQUARE, SZG_PAWN_RANK, SZG_EN_PASSANT and
+ * SZG_IN_CHECK: it is no position, as in szg_tablebase_wdl; SZG_EN_PASSANT also for another field than - or a square on rank 3 or
+ * 6. With SZG_DONE the calls below take what is written as the text's position, and men[count] and those after it stay. With another
+ * status than SZG_DONE *position stays. */
+uint32_t szg_read_fen(const char *text, size_t length, szg_position *position);
+
 /* The class of a position for the side to move (2 win, 1 cursed win, 0 draw, -1 blessed loss, -2 loss), at a fifty-move counter
  * of 0. `en_passant` is the square that a pawn has just passed over by a double step, or SZG_NO_SQUARE. The statuses SZG_MAN to
  * SZG_PAWN_RANK, SZG_EN_PASSANT and SZG_IN_CHECK say why it is no position (SZG_MEN: not two to six men, or a colour without
  * exactly one king). With another status than SZG_DONE *class_of_position stays. */
 uint32_t szg_tablebase_wdl(szg_tablebase *tablebase, const szg_man *men, size_t count, uint8_t mover, uint8_t en_passant,
                            int8_t *class_of_position, szg_missing *missing);
+
+/* In a list of classes: there is none. */
+#define SZG_NO_RESULT 127
+
+/* The classes of the positions of many FENs, in one call: `fens` has one in each line, with a line feed between two lines. Writes
+ * to `classes`, for each of the first `count` lines, the class by szg_read_fen and szg_tablebase_wdl, or SZG_NO_RESULT if one of
+ * them has another status than SZG_DONE. Lines that aren't there are empty. Returns the first such status, or SZG_DONE. This call
+ * is C over the two, and is tested, not proved. */
+uint32_t szg_tablebase_wdl_of_fens(szg_tablebase *tablebase, const char *fens, size_t length, int8_t *classes, size_t count);
 
 /* The class of a position, and its DTZ in plies: to the next capture or pawn move that keeps the class, or to mate; 100 more for
  * a cursed win or a blessed loss, negative for a loss, 0 for a draw. What a table counts in moves is doubled, and may be one ply

@@ -9,7 +9,7 @@ from common import CC, bench_libraries
 STRAIGHT = [(1, 0), (-1, 0), (0, 1), (0, -1)]
 DIAGONAL = [(1, 1), (1, -1), (-1, 1), (-1, -1)]
 JUMPS = [(1, 2), (2, 1), (-1, 2), (-2, 1), (1, -2), (2, -1), (-1, -2), (-2, -1)]
-LINES = {"r": STRAIGHT, "b": DIAGONAL, "q": STRAIGHT + DIAGONAL}
+STEPS = {"n": JUMPS, "k": STRAIGHT + DIAGONAL, "r": STRAIGHT, "b": DIAGONAL, "q": STRAIGHT + DIAGONAL}
 FAULTS = ["none", "letter", "rank", "men", "kings", "same square", "pawn rank", "side to move", "castling", "en passant", "opponent in check", "counters"]
 
 
@@ -19,6 +19,11 @@ def is_inside(square):
 
 def is_white(letter):
     return letter.isupper()
+
+
+def up_of(letter):
+    """The ranks that a pawn goes up by a step."""
+    return 1 if is_white(letter) else -1
 
 
 def name_of(square):
@@ -44,55 +49,39 @@ class Board:
         return False
 
     def attacks(self, start, letter, square):
-        across, up, kind = square[0] - start[0], square[1] - start[1], letter.lower()
-        if kind == "p":
-            return abs(across) == 1 and up == (1 if is_white(letter) else -1)
-        if kind == "n":
-            return (across, up) in JUMPS
-        if kind == "k":
-            return max(abs(across), abs(up)) == 1
-        for step in LINES[kind]:
-            cell = (start[0] + step[0], start[1] + step[1])
-            while is_inside(cell):
-                if cell == square:
-                    return True
-                if cell in self.men:
-                    break
-                cell = (cell[0] + step[0], cell[1] + step[1])
-        return False
+        if letter.lower() == "p":
+            return abs(square[0] - start[0]) == 1 and square[1] - start[1] == up_of(letter)
+        return square in self.targets(start, letter)
 
     def is_check(self):
         return self.is_attacked(self.king(self.mover), "b" if self.mover == "w" else "w")
 
     def targets(self, start, letter):
-        """The squares that a piece may go to, or that a pawn may go to with whether it captures."""
-        kind = letter.lower()
-        if kind == "p":
-            up = 1 if is_white(letter) else -1
-            ahead = (start[0], start[1] + up)
-            if ahead not in self.men:
-                yield ahead
-                twice = (start[0], start[1] + 2 * up)
-                if start[1] == (1 if up == 1 else 6) and twice not in self.men:
-                    yield twice
-            for side in (-1, 1):
-                cell = (start[0] + side, start[1] + up)
-                if is_inside(cell) and (cell == self.passed or cell in self.men and not self.is_own(self.men[cell])):
+        """The squares that a man may go to, if it doesn't leave its king in check."""
+        if letter.lower() == "p":
+            yield from self.pawn_targets(start, letter)
+            return
+        for step in STEPS[letter.lower()]:
+            cell = (start[0] + step[0], start[1] + step[1])
+            while is_inside(cell):
+                man = self.men.get(cell)
+                if man is None or is_white(man) != is_white(letter):
                     yield cell
-        elif kind in "nk":
-            for step in JUMPS if kind == "n" else STRAIGHT + DIAGONAL:
-                cell = (start[0] + step[0], start[1] + step[1])
-                if is_inside(cell) and (cell not in self.men or not self.is_own(self.men[cell])):
-                    yield cell
-        else:
-            for step in LINES[kind]:
-                cell = (start[0] + step[0], start[1] + step[1])
-                while is_inside(cell):
-                    if cell not in self.men or not self.is_own(self.men[cell]):
-                        yield cell
-                    if cell in self.men:
-                        break
-                    cell = (cell[0] + step[0], cell[1] + step[1])
+                if man is not None or letter in "NnKk":
+                    break
+                cell = (cell[0] + step[0], cell[1] + step[1])
+
+    def pawn_targets(self, start, letter):
+        up = up_of(letter)
+        ahead, twice = (start[0], start[1] + up), (start[0], start[1] + 2 * up)
+        if ahead not in self.men:
+            yield ahead
+            if start[1] == (1 if up == 1 else 6) and twice not in self.men:
+                yield twice
+        for side in (-1, 1):
+            cell = (start[0] + side, start[1] + up)
+            if is_inside(cell) and (cell == self.passed or cell in self.men and is_white(self.men[cell]) != is_white(letter)):
+                yield cell
 
     def made(self, move):
         start, target, promoted = move

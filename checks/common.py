@@ -105,26 +105,6 @@ def compile_c(program: Path, *words: Word) -> Path:
     return program
 
 
-class Stockfish:
-    """A running Stockfish."""
-
-    def __init__(self, program: Word = STOCKFISH) -> None:
-        self.ran = subprocess.Popen([program], stdin=subprocess.PIPE, stdout=subprocess.PIPE, text=True)
-
-    def say(self, *lines: str) -> None:
-        self.ran.stdin.write("".join(f"{line}\n" for line in lines))
-        self.ran.stdin.flush()
-
-    def until(self, word: str) -> List[str]:
-        """The lines that it prints, up to one that begins with a word."""
-        lines = []
-        for line in self.ran.stdout:
-            lines.append(line.strip())
-            if line.startswith(word):
-                return lines
-        sys.exit("Stockfish ended")
-
-
 class Checks:
     """Counts what is compared, and prints each difference; with `only_first` the script ends at the first one."""
 

@@ -104,7 +104,7 @@ class Dump:
         count = self.number(self.due("values", None)[0], COUNT_MOST)
         if self.form == 2 and count != self.sizes[len(self.lists)]:
             raise Refused("refused build: Length")
-        self.lists.append(self.values(count) if self.form == 1 else self.runs(count))
+        self.lists.append(self.numbers(count, 65535) if self.form == 1 else self.runs(count))
 
     def map_of(self, flags):
         if not flags & 2:
@@ -120,9 +120,6 @@ class Dump:
         while len(numbers) < count:
             numbers.append(self.number(self.due(None)[0], most))
         return numbers
-
-    def values(self, count):
-        return self.numbers(count, 65535)
 
     def runs(self, count):
         values = []

@@ -1,9 +1,9 @@
 #!/usr/bin/env python3
 """Exchanges neighbours in szg.h, one pair at a time; checks/c/enumerators.c must fail for each:
-header_faults.py HEADER LIBRARY DATA DAMAGED
+header_faults.py LIBRARY
 
-Exchanged are the names of neighbouring enumerators, and neighbouring fields of structs. LIBRARY is libszg.a; DATA and
-DAMAGED are as for enumerators.c. CC is the C compiler. The status is 0 if each is caught.
+Exchanged are the names of neighbouring enumerators, and neighbouring fields of structs. LIBRARY is libszg.a. CC is the C
+compiler. The status is 0 if each is caught.
 """
 import re
 import subprocess
@@ -14,8 +14,6 @@ from pathlib import Path
 from typing import Iterator, Tuple
 
 from common import CC, ROOT
-
-WRAPPED = "-Wl,--wrap=malloc,--wrap=realloc,--wrap=free"
 
 
 def swapped(text: str, first: str, second: str) -> str:
@@ -40,26 +38,25 @@ def exchange_fields(body: str, first: str, second: str) -> str:
     return body.replace(first, "?").replace(second, first).replace("?", second)
 
 
-def passes(header: str, library: str, data: str, damaged: str) -> bool:
+def passes(header: str, library: str) -> bool:
     """Whether the program finds all as expected with this header."""
     with tempfile.TemporaryDirectory() as folder:
         (Path(folder) / "szg.h").write_text(header)
         program = f"{folder}/enumerators"
-        words = [CC, "-O1", f"-I{folder}", "-o", program, str(ROOT / "checks/c/enumerators.c"), library, WRAPPED]
+        words = [CC, "-O1", f"-I{folder}", "-o", program, str(ROOT / "checks/c/enumerators.c"), library]
         built = subprocess.run(words, capture_output=True, text=True)
         if built.returncode:
             sys.exit(f"enumerators.c is not compiled with an exchange:\n{built.stderr}")
-        return subprocess.run([program, data, damaged, str(ROOT / "samples")], stdout=subprocess.DEVNULL).returncode == 0
+        return subprocess.run([program, ROOT / "data", ROOT / "samples"], stdout=subprocess.DEVNULL).returncode == 0
 
 
 def main() -> None:
-    path, library, data, damaged = sys.argv[1:]
-    header = re.sub(r"/\*.*?\*/", "", Path(path).read_text(encoding="utf-8"), flags=re.S)
-    if not passes(header, library, data, damaged):
+    header = re.sub(r"/\*.*?\*/", "", (ROOT / "bindings/szg.h").read_text(encoding="utf-8"), flags=re.S)
+    if not passes(header, sys.argv[1]):
         sys.exit("enumerators.c fails without an exchange")
     cases = list(exchanges(header))
     with ThreadPoolExecutor(4) as pool:
-        missed = [what for (what, _), missed in zip(cases, pool.map(lambda case: passes(case[1], library, data, damaged), cases)) if missed]
+        missed = [what for (what, _), missed in zip(cases, pool.map(lambda case: passes(case[1], sys.argv[1]), cases)) if missed]
     for what in missed:
         print(f"not caught: {what}")
     print(f"{len(cases) - len(missed)} of {len(cases)} exchanges in szg.h are caught")

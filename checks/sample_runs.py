@@ -4,7 +4,7 @@ import os
 import subprocess
 import sys
 
-from common import PROGRAM, SAMPLES, compile_c, sample
+from common import PROGRAM, SAMPLES, compile_c, run, sample
 
 COMMANDS_OF_TABLES = [["check"], ["show"], ["get", "0"], ["get", "0", "--steps"], ["values"], ["copy"], ["placement", "0"]]
 COMMANDS_OF_MEN = ["index", "probe"]
@@ -31,14 +31,6 @@ class Preloaded:
         return tuple(map(int, self.told.read_text().split()))
 
 
-def run_plain(words, data):
-    """The output of a run without the library, which must be carried out."""
-    ran = subprocess.run(words, input=data, capture_output=True)
-    if ran.returncode:
-        sys.exit(f"{words}: status {ran.returncode}")
-    return ran.stdout
-
-
 def runs_of_samples():
     """For each command on each sample a label, the words and the input; `build` on the sample's dump in both forms."""
     for name, kind, file, men in SAMPLES:
@@ -47,5 +39,7 @@ def runs_of_samples():
         for command, *more in commands:
             yield f"{' '.join([command, *more])} {file}", [PROGRAM, command, name, kind, *more], table
         for form in FORMS:
-            dump = run_plain([PROGRAM, "dump", name, kind, "--form", form], table)
+            status, dump = run(table, "dump", name, kind, "--form", form)
+            if status:
+                sys.exit(f"dump of {file}: status {status}")
             yield f"build, from form {form}, {file}", [PROGRAM, "build"], dump

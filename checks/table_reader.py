@@ -156,22 +156,15 @@ class Reader:
     def fill_to(self, multiple):
         self.take(-self.at % multiple)
 
-    def read(self):
+    def read(self, is_front=False):
+        """Reads the table. Of a front the blocks aren't read, but the file must have room for them."""
         for sub in self.sections():
             self.fill_to(64)
             sub.place = self.at
-            self.blocks(sub)
-        return self.ended()
-
-    def read_front(self):
-        """Reads all but the blocks; the file must have room for them."""
-        for sub in self.sections():
-            self.fill_to(64)
-            sub.place = self.at
-            self.take(sub.block_count << sub.block_bits)
-        return self.ended()
-
-    def ended(self):
+            if is_front:
+                self.take(sub.block_count << sub.block_bits)
+            else:
+                self.blocks(sub)
         self.fill_to(64)
         self.last = self.take(16)
         return self

@@ -42,3 +42,32 @@ def file_of(start: str, subtables: Sequence[Union[Subtable, bytes]]) -> bytes:
     for sub in with_blocks:
         out += bytes(-len(out) % 64) + sub.blocks
     return bytes(out + bytes(-len(out) % 64) + bytes(range(16)))
+
+
+def in_long_words(size: int, entries: Sequence[Tuple[int, int]], span_bits: int, extra: Sequence[int] = ()) -> Subtable:
+    """Values of symbol 0, which has 256, in words of one bit and blocks of 32 bytes."""
+    held = 65536
+    lengths = [min(held, size - start) - 1 for start in range(0, size, held)]
+    starts = [held * block for block in range(len(lengths))]
+    ends = [size]
+    for length in extra:
+        ends.append(ends[-1] + length + 1)
+    sparse = []
+    for middle in middles(size, span_bits):
+        block = min(middle // held, len(lengths) - 1)
+        if middle - starts[block] < held:
+            sparse.append((block, middle - starts[block]))
+        else:
+            number = max(i for i, end in enumerate(ends) if end <= middle)
+            sparse.append((len(lengths) + number, middle - ends[number]))
+    return Subtable(entries, 1, [0], 5, span_bits, sparse, [*lengths, *extra], len(extra), bytes(32 * len(lengths)))
+
+
+def chains(count: int) -> List[Tuple[int, int]]:
+    """Chains of 256 symbols, each a pair of the next and a leaf, from the end of the list to its beginning; those that
+    no pair can name are pairs of a chain and a leaf."""
+    entries = []
+    for s in range(min(count, 4096 - 256)):
+        leaf = s % 256 == 255 or s == min(count, 4096 - 256) - 1
+        entries.append((2, LEAF) if leaf else (s + 1, 255))
+    return entries + [(1 + s % 14 * 256, 255) for s in range(count - len(entries))]

@@ -2,40 +2,18 @@
  * Prints a line for each: the FEN, the class with the fifty-move counter (2 win to -2 loss), the DTZ and the best move, with
  * tabs between; or the FEN and why there is no result. The status is 1 if that was so for any. */
 #include "szg.h"
-#include <ctype.h>
 #include <stdio.h>
 #include <string.h>
 
-struct position { szg_man men[SZG_MAX_MEN]; size_t count; uint8_t mover, en_passant; unsigned counter; };
-static const char letters[] = "pnbrqk";
-static uint8_t square_of(const char *text) { return (uint8_t)(text[0] - 'a' + 8 * (text[1] - '1')); }
-
-/* Whether a text has the form of a FEN without castling. Whether it is a position the library says. */
-static bool read_fen(const char *fen, struct position *p) {
-    char board[80], mover, rights[5], passed[3];
-    *p = (struct position){.en_passant = SZG_NO_SQUARE};
-    if (sscanf(fen, "%79s %c %4s %2s %u", board, &mover, rights, passed, &p->counter) < 4 || strcmp(rights, "-") != 0) return false;
-    int square = 56;
-    for (const char *c = board; *c != '\0'; c++) {
-        const char *kind = strchr(letters, tolower((unsigned char)*c));
-        if (*c == '/') square -= 16;
-        else if ('1' <= *c && *c <= '8') square += *c - '0';
-        else if (kind == NULL || p->count == SZG_MAX_MEN) return false;
-        else p->men[p->count++] = (szg_man){(uint8_t)(kind - letters + SZG_PAWN), islower((unsigned char)*c) ? SZG_BLACK : SZG_WHITE, (uint8_t)square++};
-    }
-    p->mover = mover == 'w' ? SZG_WHITE : SZG_BLACK;
-    if (passed[0] != '-') p->en_passant = square_of(passed);
-    return true;
-}
-
 static bool answer(szg_folders *folders, const char *fen) {
-    struct position p;
+    szg_position p;
     szg_distance distance;
     szg_missing missing = {"", false, 0, 0};
     szg_move moves[SZG_MAX_MOVES];
     size_t count = 0;
-    if (!read_fen(fen, &p)) return printf("%s\tno FEN\n", fen), false;
-    uint32_t status = szg_folders_dtz(folders, p.men, p.count, p.mover, p.en_passant, p.counter, &distance, &missing);
+    uint32_t status = szg_read_fen(fen, strlen(fen), &p);
+    if (status == SZG_DONE)
+        status = szg_folders_dtz(folders, p.men, p.count, p.mover, p.en_passant, p.counter, &distance, &missing);
     if (status == SZG_DONE)
         status = szg_folders_moves(folders, p.men, p.count, p.mover, p.en_passant, p.counter, moves, SZG_MAX_MOVES, &count, &missing);
     if (status != SZG_DONE) {

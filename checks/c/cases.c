@@ -1,13 +1,10 @@
 /* Compares the library with the reader of table_reader.h on made and changed tables: cases COUNT SEED FOLDER
- * or on one file: cases --file NAME wdl|dtz FILE
- *
  * Prints the counts; a file with a difference is written into FOLDER. The status is 1 if there is any. */
 #include "compare.h"
 #include "made_tables.h"
 #include <signal.h>
 #include <stdio.h>
 #include <stdlib.h>
-#include <string.h>
 #include <unistd.h>
 
 enum { CHANGED = 60, KEPT = 16, DIFFERENCES_MOST = 20 };
@@ -42,28 +39,10 @@ static void run_cases(uint64_t count, uint64_t seed) {
     free(changed);
 }
 
-static int compare_file(char **words) {
-    static made_table made;
-    FILE *file = fopen(words[2], "rb");
-    if (!file) {
-        perror(words[2]);
-        return 2;
-    }
-    made.length = fread(made.bytes, 1, MADE_MOST, file);
-    fclose(file);
-    random_seed(1);
-    for (int i = 0; i < 100; i++) compare(words[0], strcmp(words[1], "dtz") == 0, made.bytes, made.length);
-    return compare_report(false);
-}
-
 int main(int count, char **words) {
-    if (count == 5 && strcmp(words[1], "--file") == 0) return compare_file(words + 2);
-    if (count != 4) {
-        fprintf(stderr, "cases COUNT SEED FOLDER, or cases --file NAME wdl|dtz FILE\n");
-        return 2;
-    }
+    if (count != 4) return fprintf(stderr, "cases COUNT SEED FOLDER\n"), 2;
     compare_begin(words[3], strtoull(words[2], NULL, 10));
     for (int i = 0; i < 4; i++) signal(((const int[]){SIGSEGV, SIGBUS, SIGFPE, SIGABRT})[i], stopped);
     run_cases(strtoull(words[1], NULL, 10), strtoull(words[2], NULL, 10));
-    return compare_report(true);
+    return compare_report();
 }

@@ -7,12 +7,8 @@
 
 enum { REASONS = 19, LISTED_MOST = 300000 };
 
-static const char *const REASON_NAMES[REASONS] = {
-    "good", "Truncated", "Magic", "SplitBit", "PawnBit", "Pieces", "PawnsFirst", "OrderPlace", "BlockBits", "SpanBits",
-    "CodeLengths", "LowestOrder", "TooFull", "Child", "Cycle", "LongSymbol", "ShortTotal", "SparseEntry", "Word"};
-
 static struct {
-    uint64_t cases, ended[REASONS], differences, values, blocks, fetched, bad, placements, indexes, numbers;
+    uint64_t cases, ended[REASONS], differences, values, blocks, fetched, bad, placements, indexes, inverses, numbers;
 } counts;
 
 /* The case that is compared now. */
@@ -113,22 +109,31 @@ static uint64_t any_index(const reader_subtable *sub) {
 }
 
 static void compare_sizes(const reader_table *t) {
+    szg_answer answer = NO_ANSWER;
     for (int part = 0; part < 5; part++)
         for (int side = 0; side < 3; side++) {
             const reader_subtable *sub = reader_subtable_of(t, part, side);
             uint64_t size = 7;
             same("status of a size", size_by((uint8_t)part, (uint8_t)side, &size), sub ? SZG_DONE : SZG_RANGE);
             same("positions", (int64_t)size, sub ? (int64_t)sub->size : 7);
+            if (is_front) continue;
+            size = 7;
+            same("szg_size", szg_size(TABLE_WORDS, (uint8_t)part, (uint8_t)side, &size, &answer), sub ? SZG_DONE : SZG_RANGE);
+            same("size", (int64_t)size, sub ? (int64_t)sub->size : 7);
         }
+}
+
+/* The offset of a block in the file. */
+static uint64_t offset_of(const reader_table *t, const reader_subtable *sub, uint32_t block) {
+    return sub->constant ? 0 : (uint64_t)(sub->packed - t->bytes) + ((uint64_t)block << sub->block_bits);
 }
 
 /* What a look-up has to say: its status, and its value or its bad block; the other stays. */
 static void same_value(const reader_table *t, const reader_subtable *sub, bool decodes, uint32_t block, uint32_t status, uint16_t value, uint16_t due) {
-    uint64_t offset = sub->constant ? 0 : (uint64_t)(sub->packed - t->bytes) + ((uint64_t)block << sub->block_bits);
     same("status of a look-up", status, decodes ? SZG_DONE : SZG_BAD_BLOCK);
     same("value", value, decodes ? due : 4321);
     same("bad block", bad.block, decodes ? 88 : block);
-    same("offset of a bad block", (int64_t)bad.offset, decodes ? 888 : (int64_t)offset);
+    same("offset of a bad block", (int64_t)bad.offset, decodes ? 888 : (int64_t)offset_of(t, sub, block));
     counts.values++;
     counts.bad += !decodes;
 }
@@ -136,9 +141,16 @@ static void same_value(const reader_table *t, const reader_subtable *sub, bool d
 static void compare_value(const reader_table *t, const reader_subtable *sub, uint64_t index) {
     uint16_t value = 4321, due = 4321;
     uint32_t block = 99;
+    uint8_t part = (uint8_t)sub->part, side = (uint8_t)sub->side;
     bool decodes = reader_fetch(sub, index, &due, &block);
     bad = NO_BLOCK;
-    uint32_t status = get_by(t, (uint8_t)sub->part, (uint8_t)sub->side, index, &value);
+    if (is_front && !sub->constant) { /* the bytes up to the block's end are enough */
+        uint64_t end = offset_of(t, sub, block + 1);
+        same("szg_front_get with a byte too few", szg_front_get(&front, t->bytes, end - 1, part, side, index, &value, &bad), SZG_CHANGED);
+        same("szg_front_get with enough bytes", szg_front_get(&front, t->bytes, end, part, side, index, &value, &bad), decodes ? SZG_DONE : SZG_BAD_BLOCK);
+        value = 4321, bad = NO_BLOCK;
+    }
+    uint32_t status = get_by(t, part, side, index, &value);
     same_value(t, sub, decodes, block, status, value, due);
     counts.fetched += is_front;
 }
@@ -152,7 +164,7 @@ static void compare_block(const reader_table *t, const reader_subtable *sub, uin
     same("szg_front_find", szg_front_find(&front, part, side, index, &range), SZG_DONE);
     counts.blocks++;
     bool decodes = reader_fetch(sub, index, &due, &block);
-    uint64_t offset = sub->constant ? 0 : (uint64_t)(sub->packed - t->bytes) + ((uint64_t)block << sub->block_bits);
+    uint64_t offset = offset_of(t, sub, block);
     same("offset of a value", (int64_t)range.offset, (int64_t)offset);
     same("bytes of a value", (int64_t)range.count, sub->constant ? 0 : (int64_t)1 << sub->block_bits);
     bad = NO_BLOCK;
@@ -160,7 +172,8 @@ static void compare_block(const reader_table *t, const reader_subtable *sub, uin
         uint64_t others = random_one_in(2) || offset + range.count == t->length ? range.count - 1 : range.count + 1;
         same("szg_front_value of another length", szg_front_value(&front, part, side, index, t->bytes + offset, others, &value, &bad), SZG_CHANGED);
         same("what stays then", value + bad.block + (int64_t)bad.offset, 4321 + 88 + 888);
-    }
+    } else
+        same("szg_front_value of a constant", szg_front_value(&front, part, side, index, t->bytes, random_below(t->length), &value, &bad), SZG_DONE);
     uint32_t status = szg_front_value(&front, part, side, index, t->bytes + offset, range.count, &value, &bad);
     same_value(t, sub, decodes, block, status, value, due);
 }
@@ -182,7 +195,9 @@ static void compare_lists(const reader_subtable *sub) {
     }
     if (sub->size > (sub->constant ? 40000 : LISTED_MOST) || !random_one_in(sub->constant ? 16 : 2)) return;
     reader_values(sub, due);
-    same("szg_all", szg_all(&table, part, side, found, sub->size), SZG_DONE);
+    bool is_of_file = random_one_in(4);
+    same("all values", is_of_file ? szg_values(TABLE_WORDS, part, side, found, sub->size, &answer) : szg_all(&table, part, side, found, sub->size), SZG_DONE);
+    same("too short a list", is_of_file ? szg_values(TABLE_WORDS, part, side, found, sub->size - 1, &answer) : szg_all(&table, part, side, found, sub->size - 1), SZG_RANGE);
     counts.values += sub->size;
     if (memcmp(found, due, sub->size * sizeof *due) == 0) return;
     for (uint64_t i = 0; i < sub->size; i++)
@@ -264,31 +279,68 @@ static uint32_t reader_probe(const reader_table *t, const szg_spot *spot, int cl
 }
 
 static void compare_placement(const reader_table *t) {
-    szg_man men[MEN_MOST];
+    szg_man men[MEN_MOST + 2];
     szg_spot found = {7, 7, 7777}, due = found;
     int64_t outcome = 33333, due_outcome = outcome;
     uint32_t block = 88;
+    for (uint8_t i = 0; i < MEN_MOST + 2; i++) men[i] = (szg_man){SZG_KNIGHT, SZG_BLACK, i};
     any_men(&t->material, men);
-    size_t count = random_one_in(40) ? random_below(7) : (size_t)t->material.count;
-    if (count > (size_t)t->material.count) count = (size_t)t->material.count;
+    size_t count = random_one_in(40) ? random_below(MEN_MOST + 3) : (size_t)t->material.count;
     uint8_t mover = (uint8_t)random_below(random_one_in(30) ? 3 : 2);
-    int8_t class_of_position = (int8_t)((int)random_below(5) - 2);
+    int8_t class_of_position = (int8_t)((int)random_below(7) - 3);
     uint32_t status = reader_index(t, men, count, mover, &due);
     same("status of an index", is_front ? szg_front_index(&front, men, count, mover, &found) : szg_index(&table, men, count, mover, &found), status);
     same("part", found.part, due.part);
     same("side", found.side, due.side);
     same("index", (int64_t)found.index, (int64_t)due.index);
     counts.placements++;
-    if (status == SZG_DONE) {
+    bool is_indexed = status == SZG_DONE, has_class = !t->dtz || abs(class_of_position) <= 2;
+    const reader_subtable *sub = is_indexed ? reader_subtable_of(t, due.part, due.side) : NULL;
+    if (is_indexed) {
         counts.indexes++;
-        same("index below the size", due.index < reader_subtable_of(t, due.part, due.side)->size, true);
+        same("index below the size", due.index < sub->size, true);
         status = reader_probe(t, &due, class_of_position, &due_outcome, &block);
     }
+    /* what is no placement is refused before a class that isn't one */
+    if (!has_class && (status < SZG_MAN || status > SZG_PAWN_RANK)) status = SZG_RANGE, due_outcome = outcome;
+    if (is_front && is_indexed && has_class && !sub->constant)
+        same("szg_front_probe with a byte too few", szg_front_probe(&front, t->bytes, offset_of(t, sub, block + 1) - 1, men, count, mover, class_of_position, &outcome, &bad), SZG_CHANGED);
     bad = NO_BLOCK;
     same("status of a probe", is_front ? szg_front_probe(&front, t->bytes, t->length, men, count, mover, class_of_position, &outcome, &bad)
                                        : szg_probe(&table, men, count, mover, class_of_position, &outcome), status);
     same("outcome", outcome, due_outcome);
     same("bad block of a probe", bad.block, status == SZG_BAD_BLOCK ? block : 88);
+}
+
+/* The placement of an index: the reader finds this index for it. Nothing is written where it is refused. */
+static void compare_inverse(const reader_table *t, const reader_subtable *sub, uint64_t index) {
+    struct { szg_man men[MEN_MOST + 1]; size_t count; uint8_t mover; } found, kept;
+    const reader_material *m = &t->material;
+    uint8_t part = (uint8_t)sub->part, side = (uint8_t)sub->side;
+    szg_spot spot = {7, 7, 7777};
+    memset(&found, 0x5a, sizeof found), memset(&kept, 0x5a, sizeof kept);
+    /* the stored side has no name of its own where both sides have the same men */
+    bool is_black = t->dtz && m->symmetric && m->has_pawns && sub->flags & 1;
+    size_t capacity = random_one_in(4) ? random_below((uint64_t)m->count) : (size_t)m->count + random_below(2);
+    if (random_one_in(8)) index = random_one_in(2) ? sub->size : UINT64_MAX - random_below(2);
+    uint32_t due = index >= sub->size           ? SZG_RANGE
+                   : is_irregular(t, sub) ? SZG_IRREGULAR
+                   : is_black                    ? SZG_WRONG_SIDE
+                   : capacity < (size_t)m->count ? SZG_RANGE
+                                                 : SZG_DONE;
+    same("status of a placement", is_front ? szg_front_placement(&front, part, side, index, found.men, capacity, &found.count, &found.mover)
+                                           : szg_placement(&table, part, side, index, found.men, capacity, &found.count, &found.mover), due);
+    if (due == SZG_DONE) {
+        same("men of a placement", (int64_t)found.count, m->count);
+        same("status of its index", reader_index(t, found.men, found.count, found.mover, &spot), SZG_DONE);
+        same("part of its index", spot.part, part);
+        same("side of its index", spot.side, side);
+        same("its index", (int64_t)spot.index, (int64_t)index);
+        counts.inverses++;
+        memcpy(&found, &kept, sizeof(szg_man) * found.count);
+        found.count = kept.count, found.mover = kept.mover;
+    }
+    same("what stays of a placement", memcmp(&found, &kept, sizeof kept), 0);
 }
 
 /* ---- Accepted tables and fronts */
@@ -301,7 +353,7 @@ static void compare_accepted(const reader_table *t) {
     if (random_one_in(4)) compare_sizes(t);
     for (int i = 0; i < t->subtable_count; i++) {
         const reader_subtable *sub = &t->subtables[i];
-        for (int turn = 0; turn < 4; turn++) compare_value(t, sub, any_index(sub));
+        for (int turn = 0; turn < 4; turn++) compare_value(t, sub, any_index(sub)), compare_inverse(t, sub, any_index(sub));
         compare_outside(t, (uint8_t)sub->part, (uint8_t)sub->side);
         compare_lists(sub);
     }
@@ -318,6 +370,7 @@ static void compare_front_look_ups(const reader_table *t, uint8_t *bytes) {
             for (int look = 0; look < 3; look++) {
                 compare_value(t, sub, any_index(sub));
                 compare_block(t, sub, any_index(sub));
+                compare_inverse(t, sub, any_index(sub));
             }
             if (sub->constant) continue;
             uint64_t length = (uint64_t)sub->blocks << sub->block_bits;
@@ -382,17 +435,19 @@ void compare_begin(const char *folder, uint64_t seed) {
 uint64_t compared_cases(void) { return counts.cases; }
 uint64_t compared_differences(void) { return counts.differences; }
 
-int compare_report(bool all_reasons) {
+int compare_report(void) {
     int missing = 0;
-    for (int reason = 0; reason < REASONS; reason++) {
-        printf("%s %llu\n", REASON_NAMES[reason], (unsigned long long)counts.ended[reason]);
+    for (uint32_t reason = 0; reason < REASONS; reason++) {
+        char name[SZG_TEXT_SIZE] = "good";
+        if (reason) szg_reason_text(reason, name, sizeof name);
+        printf("%s %llu\n", name, (unsigned long long)counts.ended[reason]);
         missing += counts.ended[reason] == 0;
     }
     printf("fetched %llu\nbad %llu\n", (unsigned long long)counts.fetched, (unsigned long long)counts.bad);
-    printf("values %llu\nblocks %llu\nnumbers %llu\nplacements %llu\nindexes %llu\n", (unsigned long long)counts.values,
+    printf("values %llu\nblocks %llu\nnumbers %llu\nplacements %llu\nindexes %llu\ninverses %llu\n", (unsigned long long)counts.values,
            (unsigned long long)counts.blocks, (unsigned long long)counts.numbers, (unsigned long long)counts.placements,
-           (unsigned long long)counts.indexes);
+           (unsigned long long)counts.indexes, (unsigned long long)counts.inverses);
     printf("cases %llu\ndifferences %llu\n", (unsigned long long)counts.cases, (unsigned long long)counts.differences);
     missing += counts.bad == 0;
-    return counts.differences || (all_reasons && missing);
+    return counts.differences || missing;
 }

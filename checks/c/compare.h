@@ -1,5 +1,5 @@
 /* The comparison of the library with the reader of table_reader.h: a case is a file. Compared are its verdict, reason and
- * offset, and if it is accepted its sizes, values, byte ranges, numbers and indexes. Of half of the cases the front is
+ * offset, and if it is accepted its sizes, values, byte ranges, numbers, indexes and placements. Of half of the cases the front is
  * opened too, and its look-ups are compared with blocks as they are and with changed bytes: the value, or the bad block. */
 #ifndef COMPARE_H
 #define COMPARE_H
@@ -19,6 +19,6 @@ void keep_case(void);
 uint64_t compared_cases(void);
 uint64_t compared_differences(void);
 
-/* Prints the counts. Returns 1 if there is a difference, or if all reasons should have come and one didn't; else 0. */
-int compare_report(bool all_reasons);
+/* Prints the counts. Returns 1 if there is a difference, or if a reason never came; else 0. */
+int compare_report(void);
 #endif

@@ -1,8 +1,6 @@
-/* Holds each enumerator, each field and each text of szg.h against what the library returns for it: enumerators DATA DAMAGED SAMPLES
- * DATA has the sample tables, DAMAGED what checks/damaged_files.py writes, SAMPLES all tables of three men. Linked with malloc, realloc and free wrapped. The
- * status is 0 if all is as expected. */
+/* Holds each enumerator, each field and each text of szg.h against what the library returns for it: enumerators DATA SAMPLES
+ * DATA has the sample tables, SAMPLES all tables of three men. The status is 0 if all is as expected. */
 #include "trying.h"
-#include "refusing.h"
 
 static const struct { uint32_t number; const char *name; } statuses[] = {
     {SZG_DONE, "Done"}, {SZG_NAME, "Name"}, {SZG_REFUSED, "Refused"}, {SZG_MEMORY, "Memory"}, {SZG_RANGE, "Range"},
@@ -54,34 +52,6 @@ static void all_texts(void) {
     text_is(szg_reason_text, SZG_WORD + 1, "");
 }
 
-/* ---- Reasons */
-
-/* Opens a damaged file by each call that makes every check: the reason and the byte are the list's. */
-static void refused(const char *reason, uint64_t place) {
-    for (int call = 0; call < 2; call++) {
-        answer = (szg_answer){7777, 7777};
-        want("status", call == 0 ? szg_check(OF_FILE, &answer) : szg_open(OF_FILE, &table, &answer), SZG_REFUSED);
-        want("offset", (int64_t)answer.place, (int64_t)place);
-        for (int i = 0; i < REASONS; i++)
-            if (!strcmp(reasons[i].name, reason)) want("reason", answer.reason, reasons[i].number);
-    }
-}
-
-static void all_reasons(const char *folder) {
-    char path[4096], its_file[32], its_name[32], kind[8], reason[32];
-    unsigned long long place;
-    int count = 0;
-    snprintf(path, sizeof path, "%s/list", folder);
-    FILE *list = fopen(path, "r");
-    if (!list) { perror(path); exit(2); }
-    for (; fscanf(list, "%31s %31s %7s %31s %llu", its_file, its_name, kind, reason, &place) == 5; count++) {
-        load(folder, its_file, its_name, !strcmp(kind, "dtz"));
-        refused(reason, place);
-    }
-    fclose(list);
-    want("reasons", count, REASONS);
-}
-
 /* ---- Other enumerators and fields */
 
 static szg_man man(uint8_t kind, uint8_t color, uint8_t square) {
@@ -112,81 +82,75 @@ static void kinds(const char *data) {
     }
 }
 
-/* A pawn has a part, a colour and a direction: e2, kings e1 and e8, is index 21564 of part d. */
-static void pawns(const char *data) {
+/* The fields of a spot, an answer, a byte range and a bad block. A pawn on e2, kings e1 and e8, is index 21564 of part d. */
+static void fields(const char *data) {
     szg_spot spot = {9, 9, 9};
-    int64_t outcome;
-    uint32_t number;
+    szg_byte_range range = {7, 7};
+    szg_bad_block bad = {7, 7};
+    uint16_t value;
     load_sample(data, MAPPED);
     hold();
     want("e2", index_of(SZG_PAWN, 12, 60, &spot), SZG_DONE);
     want("part", spot.part, 3);
     want("side", spot.side, 0);
     want("index", (int64_t)spot.index, 21564);
-    want("rank", index_of(SZG_PAWN, 60, 59, &spot), SZG_PAWN_RANK);
-    const szg_man men[] = {man(SZG_PAWN, SZG_WHITE, 8), man(SZG_KING, SZG_WHITE, 4), man(SZG_KING, SZG_BLACK, 60)};
-    const szg_man flipped[] = {man(SZG_PAWN, SZG_BLACK, 48), man(SZG_KING, SZG_BLACK, 60), man(SZG_KING, SZG_WHITE, 4)};
-    want("win", szg_probe(&table, men, 3, SZG_WHITE, 2, &outcome), SZG_DONE);
-    want("plies", outcome, 14);
-    want("other side", szg_probe(&table, men, 3, SZG_BLACK, 2, &outcome), SZG_WRONG_SIDE);
-    want("Black's win", szg_probe(&table, flipped, 3, SZG_BLACK, 2, &outcome), SZG_DONE);
-    want("plies", outcome, 14);
-    want("draw", szg_probe(&table, men, 3, SZG_WHITE, 0, &outcome), SZG_DRAW);
-    want("map", szg_probe(&table, men, 3, SZG_WHITE, -1, &outcome), SZG_OUTSIDE_MAP);
-    want("class", szg_probe(&table, men, 3, SZG_WHITE, 3, &outcome), SZG_RANGE);
-    want("draw", szg_number(&table, 0, 0, 0, &number), SZG_DRAW);
-    want("map", szg_number(&table, 0, 2, 1, &number), SZG_OUTSIDE_MAP);
-}
-
-/* The men are no placement, or have no index, or the value has no class. */
-static void refused_men(const char *data) {
-    szg_spot spot;
-    int64_t outcome;
-    load_sample(data, CONSTANT);
-    bytes[11] = bytes[13] = 5;
-    hold();
-    const szg_man men[] = {man(SZG_KING, SZG_WHITE, 4), man(SZG_KNIGHT, SZG_WHITE, 20), man(SZG_KING, SZG_BLACK, 60)};
-    want("class", szg_probe(&table, men, 3, SZG_WHITE, 0, &outcome), SZG_NO_CLASS);
-    want("kind", index_of(0, 20, 60, &spot), SZG_MAN);
-    want("square", index_of(SZG_KNIGHT, 64, 60, &spot), SZG_MAN);
-    want("mover", szg_index(&table, men, 3, 2, &spot), SZG_MAN);
-    want("two men", szg_index(&table, men, 2, SZG_WHITE, &spot), SZG_MEN);
-    want("same square", index_of(SZG_KNIGHT, 60, 60, &spot), SZG_SAME_SQUARE);
-    for (int irregular = 0; irregular < 2; irregular++) {
-        make_bishops(irregular);
-        hold();
-        const szg_man four[] = {man(SZG_KING, SZG_WHITE, 0), man(SZG_BISHOP, SZG_WHITE, 18), man(SZG_BISHOP, SZG_WHITE, 36),
-                                man(SZG_KING, SZG_BLACK, 1)};
-        want("bishops", szg_index(&table, four, 4, SZG_WHITE, &spot), irregular ? SZG_IRREGULAR : SZG_KINGS_TOUCH);
-    }
-}
-
-/* What is no matter of men: a name, memory, a closed handle, a number out of range, other bytes. */
-static void other_statuses(const char *data) {
-    uint16_t value;
-    uint64_t size;
-    szg_byte_range range = {7, 7};
-    szg_bad_block bad = {7, 7};
+    length--;
+    want("cut", szg_check(OF_FILE, &answer), SZG_REFUSED);
+    want("place", (int64_t)answer.place, (int64_t)length);
+    want("reason", answer.reason, SZG_TRUNCATED);
     load_sample(data, PAIRED);
-    want("name", szg_open("KvKQ", 4, false, bytes, length, &table, &answer), SZG_NAME);
-    allowed = 0;
-    want("memory", szg_open(OF_FILE, &table, &answer), SZG_MEMORY);
-    want("closed", szg_get(&table, 0, 0, 0, &value), SZG_CLOSED);
     hold();
-    want("part", szg_positions(&table, 1, 0, &size), SZG_RANGE);
-    want("index", szg_get(&table, 0, 0, 31332, &value), SZG_RANGE);
-    want("check", szg_check(OF_FILE, &answer), SZG_DONE);
-    want("bytes of the table", (int64_t)answer.place, (int64_t)length);
     want("find", szg_front_find(&front, 0, 0, 31331, &range), SZG_DONE);
     want("second block", (int64_t)range.offset, 288);
     want("bytes of a block", (int64_t)range.count, 32);
-    want("changed", szg_front_value(&front, 0, 0, 31331, bytes, 31, &value, &bad), SZG_CHANGED);
     memset(bytes + 256, 0, 32);
     want("bad block", szg_front_get(&front, bytes, length, 0, 0, 0, &value, &bad), SZG_BAD_BLOCK);
     want("its number", bad.block, 0);
     want("its offset", (int64_t)bad.offset, 256);
-    want("second block", szg_front_get(&front, bytes, length, 0, 0, 31331, &value, &bad), SZG_DONE);
     let_go();
+}
+
+/* Each field of a position by its text. A text that is refused changes none. */
+static void fens(void) {
+    static const char fen[] = "4k3/8/8/8/1pP5/8/8/4K3 b - c3 37 80", bare[] = "8/8/8/8/8/7k/8/K7 w - -";
+    static const szg_man men[] = {{SZG_KING, SZG_BLACK, 60}, {SZG_PAWN, SZG_BLACK, 25}, {SZG_PAWN, SZG_WHITE, 26}, {SZG_KING, SZG_WHITE, 4}, {9, 9, 9}, {9, 9, 9}};
+    static const struct { const char *text; uint32_t due; } refused[] = {
+        {"", SZG_MAN}, {"4X3/8/8/8/8/8/8/4K2k w - -", SZG_MAN}, {"8/8/8/8/8/8/4K2k w - -", SZG_MAN}, {"9/8/8/8/8/8/8/4K2k w - -", SZG_MAN},
+        {"8/8/8/8/8/8/8/4K2k W - -", SZG_MAN}, {"8/8/8/8/8/8/8/4K2R w K -", SZG_MEN}, {"7k/8/8/8/8/8/8/4K2R b K -", SZG_MAN},
+        {"8/8/8/8/8/8/8/4K2k w - e4", SZG_EN_PASSANT}, {"8/8/8/8/8/8/8/4K2k w - e6", SZG_EN_PASSANT}, {"8/8/8/8/8/8/8/4K2k w - - 1", SZG_MAN},
+        {"8/8/8/8/8/8/8/4K2k w - - 1 x", SZG_MAN}, {"8/8/8/8/8/8/8/4K2k w - - 1234567890 1", SZG_MAN}, {"8/8/8/8/8/8/8/4K2k  w - -", SZG_MAN},
+        {"8/8/8/8/8/8/8/4K2k\xff w - -", SZG_MAN}, {"8/8/8/8/8/8/8/4K2k w - - \xff", SZG_MAN}, {"8/8/8/8/8/8/NNNNN3/4K2k w - -", SZG_MEN},
+        {"8/8/8/8/8/8/8/4K1kk w - -", SZG_MEN}, {"8/8/8/8/8/8/8/P3K2k w - -", SZG_PAWN_RANK}, {"8/8/8/8/8/8/8/4K1Rk w - -", SZG_IN_CHECK},
+    };
+    szg_position p;
+    memset(&p, 9, sizeof p);
+    want("fen", szg_read_fen(fen, sizeof fen - 1, &p), SZG_DONE);
+    want("men", memcmp(p.men, men, sizeof men), 0);
+    want("count", (int64_t)p.count, 4);
+    want("mover", p.mover, SZG_BLACK);
+    want("passed", p.en_passant, 18);
+    want("counter", p.counter, 37);
+    szg_position before = p;
+    for (size_t i = 0; i < sizeof refused / sizeof *refused; i++) {
+        want(refused[i].text, szg_read_fen(refused[i].text, strlen(refused[i].text), &p), refused[i].due);
+        want("unchanged", memcmp(&p, &before, sizeof p), 0);
+    }
+    want("without counters", szg_read_fen(bare, sizeof bare - 1, &p), SZG_DONE);
+    want("count, mover, passed, counter", p.count == 2 && p.mover == SZG_WHITE && p.en_passant == SZG_NO_SQUARE && p.counter == 0, 1);
+    want("cut", szg_read_fen(bare, sizeof bare - 2, &p), SZG_EN_PASSANT);
+}
+
+/* The classes of lines of FENs: no table or another text is no result, lines that are not there too, and a list ends where it ends. */
+static void lines(szg_tablebase *tablebase, int8_t class, uint32_t first) {
+    static const char texts[] = "4k3/8/8/8/8/3Q4/8/4K3 w - - 0 1\n4k3/8/8/8/8/8/8/4K3 b - - 99 1\n\nx\n4k3/8/8/8/8/8/8/4K3 w - -";
+    const int8_t due[] = {class, 0, SZG_NO_RESULT, SZG_NO_RESULT, 0, SZG_NO_RESULT, 9};
+    int8_t classes[] = {9, 9, 9, 9, 9, 9, 9};
+    want("two lines", szg_tablebase_wdl_of_fens(tablebase, texts, sizeof texts - 1, classes, 2), first);
+    want("third line", classes[2], 9);
+    want("all lines", szg_tablebase_wdl_of_fens(tablebase, texts, sizeof texts - 1, classes, 6), first == SZG_DONE ? SZG_MAN : first);
+    want("classes", memcmp(classes, due, sizeof due), 0);
+    want("no line", szg_tablebase_wdl_of_fens(tablebase, texts, 0, classes + 6, 0), SZG_DONE);
+    want("after the list", classes[6], 9);
 }
 
 /* A tablebase without the table, with it, and with its blocks damaged. */
@@ -201,8 +165,11 @@ static void tablebases(const char *data) {
     want("missing", szg_tablebase_wdl(&tablebase, men, 3, SZG_WHITE, SZG_NO_SQUARE, &class, &missing), SZG_MISSING);
     want("its name", strcmp(missing.name, "KQvK") == 0, 1);
     want("its kind", missing.dtz, 0);
+    lines(&tablebase, SZG_NO_RESULT, SZG_MISSING);
     load_sample(data, PAIRED);
     want("add", szg_tablebase_add(&tablebase, OF_FILE, &answer), SZG_DONE);
+    want("class", szg_tablebase_wdl(&tablebase, men, 3, SZG_WHITE, SZG_NO_SQUARE, &class, &missing), SZG_DONE);
+    lines(&tablebase, class, SZG_DONE);
     memset(bytes + 256, 0, 64);
     want("bad block", szg_tablebase_wdl(&tablebase, men, 3, SZG_WHITE, SZG_NO_SQUARE, &class, &missing), SZG_BAD_BLOCK);
     want("its number", missing.block < 2, 1);
@@ -267,15 +234,13 @@ static void boards(void) {
 }
 
 int main(int count, char **words) {
-    if (count != 4) return fprintf(stderr, "enumerators DATA DAMAGED SAMPLES\n"), 2;
+    if (count != 3) return fprintf(stderr, "enumerators DATA SAMPLES\n"), 2;
     all_texts();
-    all_reasons(words[2]);
     kinds(words[1]);
-    pawns(words[1]);
-    refused_men(words[1]);
-    other_statuses(words[1]);
+    fields(words[1]);
+    fens();
     tablebases(words[1]);
-    folders(words[3]);
+    folders(words[2]);
     boards();
     let_go();
     return ended();

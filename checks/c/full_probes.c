@@ -6,14 +6,13 @@
  * draw: each position is turned or flipped at random (ALL 0), or in all mirror images with both colors (ALL 1), and has a
  * fifty-move counter, which is 0 for half of them.
  * compare: OUTPUT has szg's lines, STOCKFISH a line "class dtz" for each. Fathom, which is linked, probes the tables in the
- * folder TABLES: class, DTZ, and each move's class and DTZ with the counter. szg's best move has to be one of Fathom's best.
- * Further fields of szg's lines, "uci class dtz", are compared move by move. The solver's DTZ may be one ply off where tables
- * count moves. Prints each difference up to twenty, and a line of counts. Status 0 without differences, 1 with some, 2 if
- * something is missing. */
+ * folder TABLES: class, DTZ, and each move's class and DTZ with the counter. szg's best move has to be one of Fathom's best. The
+ * solver's DTZ may be one ply off where tables count moves. Prints each difference up to twenty, and a line of counts. Status 0
+ * without differences, 1 with some, 2 if something is missing. */
 #include "questions.h"
 
 enum { LINE = 1 << 14 };
-static long passing, passing_only, passing_wins, moves_compared;
+static long passing, passing_only, passing_wins;
 
 /* ---- drawing */
 static int draw(int seed, int is_all) {
@@ -36,21 +35,6 @@ static void differ(const char *fen, const char *who, long class, long dtz, long 
     if (differences++ < SHOWN) printf("%s: %s: class %ld, dtz %ld; szg: class %ld, dtz %ld\n", fen, who, class, dtz, due_class, due_dtz);
 }
 
-static struct question read_fen(const char *fen) {
-    struct question q = {.passed = NO_SQUARE};
-    int rank = 7, file = 0;
-    for (; *fen != ' '; fen++) {
-        if (*fen == '/') { rank--, file = 0; continue; }
-        if (isdigit((unsigned char)*fen)) { file += *fen - '0'; continue; }
-        q.letter[q.count] = *fen, q.square[q.count++] = rank * 8 + file++;
-    }
-    q.mover = fen[1] == 'b';
-    const char *passed = fen + 5;
-    if (*passed != '-') q.passed = passed[0] - 'a' + 8 * (passed[1] - '1');
-    q.counter = atoi(strchr(passed, ' ') + 1);
-    return q;
-}
-
 static int class_at(int counter, int dtz) { return dtz > 0 ? (dtz + counter <= 100 ? 2 : 1) : dtz < 0 ? (-dtz + counter <= 100 ? -2 : -1) : 0; }
 
 static void uci_of(unsigned result, char *out) {
@@ -65,36 +49,22 @@ static int dtz_of(unsigned result) { int class = (int)TB_GET_WDL(result) - 2, dt
 /* Wins by the least DTZ first, then draws, then losses by the greatest. */
 static long rank_of(int dtz) { return dtz > 0 ? dtz : dtz == 0 ? 10000 : 40000 + dtz; }
 
-static void compare_moves(const char *fen, const unsigned *results, char *best, char *more) {
+static void compare_best(const char *fen, const unsigned *results, const char *best) {
     long least = 1 << 30, own = -1;
     char uci[8];
-    int count = 0, szg_count = 0;
-    for (const unsigned *r = results; *r != TB_RESULT_FAILED; r++, count++) {
+    if (*results == TB_RESULT_FAILED) {
+        if (strcmp(best, "-")) differ(fen, "Fathom has no move", 0, 0, 0, 0);
+        return;
+    }
+    for (const unsigned *r = results; *r != TB_RESULT_FAILED; r++) {
         uci_of(*r, uci);
         if (rank_of(dtz_of(*r)) < least) least = rank_of(dtz_of(*r));
         if (!strcmp(uci, best)) own = rank_of(dtz_of(*r));
     }
-    if (count == 0 ? strcmp(best, "-") : own != least) differ(fen, "best move of Fathom", least, own, 0, 0);
-    for (char *field = more ? strtok(more, "\t") : NULL; field; field = strtok(NULL, "\t"), szg_count++) {
-        int class, dtz, found = 0;
-        char move[8];
-        if (sscanf(field, "%7s %d %d", move, &class, &dtz) != 3) { differ(fen, field, 0, 0, 0, 0); continue; }
-        for (const unsigned *r = results; *r != TB_RESULT_FAILED; r++) {
-            uci_of(*r, uci);
-            if (strcmp(uci, move)) continue;
-            found = 1, moves_compared++;
-            if (class != (int)TB_GET_WDL(*r) - 2 || dtz != dtz_of(*r)) {
-                char text[64];
-                sprintf(text, "Fathom's move %s", uci);
-                differ(fen, text, (long)TB_GET_WDL(*r) - 2, dtz_of(*r), class, dtz);
-            }
-        }
-        if (!found) differ(fen, move, 0, 0, class, dtz);
-    }
-    if (more && szg_count != count) differ(fen, "number of moves", count, 0, szg_count, 0);
+    if (own != least) differ(fen, "best move of Fathom", least, own, 0, 0);
 }
 
-static void ask_fathom(const char *fen, int class, int dtz, char *best, char *more) {
+static void ask_fathom(const char *fen, int class, int dtz, const char *best) {
     struct question q = read_fen(fen);
     struct found found = fathom_of(&q);
     unsigned root = found.root, *results = found.results;
@@ -109,7 +79,7 @@ static void ask_fathom(const char *fen, int class, int dtz, char *best, char *mo
     int due = (int)TB_GET_DTZ(root), root_class = (int)TB_GET_WDL(root) - 2;
     if (root_class < 0) due = -due;
     if (root_class != class || due != dtz || class_at(q.counter, due) != class) differ(fen, "Fathom at the root", root_class, due, class, dtz);
-    compare_moves(fen, results, best, more);
+    compare_best(fen, results, best);
     if (q.passed != NO_SQUARE) {
         int by_passing = 0, others = 0, wins = 0;
         for (unsigned *r = results; *r != TB_RESULT_FAILED; r++)
@@ -133,17 +103,15 @@ static int compare(char **words) {
         size_t length = strlen(fen);
         if (strncmp(expected, fen, length) || expected[length] != '\t') return fprintf(stderr, "full_probes: other FEN: %s\n", fen), 2;
         if (sscanf(tab, "%d\t%d\t%7[^\t]", &class, &dtz, best) != 3) { differ(fen, tab, 0, 0, 0, 0); continue; }
-        char *more = tab;
-        for (int i = 0; i < 3 && more; i++) if ((more = strchr(more, '\t'))) more++;
         if (sscanf(expected + length, "\t%d\t%d", &solver_class, &solver_dtz) != 2) return 2;
         int counter = read_fen(fen).counter, is_late = solver_class == 1 || solver_class == -1;
         if (abs(dtz - solver_dtz) > is_late || (counter == 0 && class != solver_class)) differ(fen, "the solver", solver_class, solver_dtz, class, dtz);
         if (sscanf(stockfish, "%d %d", &other_class, &other_dtz) != 2 || other_dtz != dtz || (counter == 0 && other_class != class))
             differ(fen, "Stockfish", other_class, other_dtz, class, dtz);
-        ask_fathom(fen, class, dtz, best, more);
+        ask_fathom(fen, class, dtz, best);
     }
-    printf("%ld positions (%ld with a capture en passant, %ld without another move, %ld won by it; %ld mates, %ld stalemates), %ld moves: %ld differences\n",
-           asked, passing, passing_only, passing_wins, mates, stalemates, moves_compared, differences);
+    printf("%ld positions (%ld with a capture en passant, %ld without another move, %ld won by it; %ld mates, %ld stalemates): %ld differences\n",
+           asked, passing, passing_only, passing_wins, mates, stalemates, differences);
     return differences ? 1 : 0;
 }
 

@@ -1,4 +1,4 @@
-/* What peers.c and full_probes.c share: the positions that samples/solve writes, their images, and Fathom's probes of them. */
+/* What full_probes.c and fathom.c share: positions, as samples/solve writes them and as FENs, their images, and Fathom's probes. */
 #ifndef QUESTIONS_H
 #define QUESTIONS_H
 #include <ctype.h>
@@ -23,6 +23,21 @@ static inline int read_question(struct question *q) {
     for (const char *word = line + read; q->count < MEN && sscanf(word, " %c%d%n", &q->letter[q->count], &q->square[q->count], &read) == 2; word += read)
         q->has_pawns |= toupper((unsigned char)q->letter[q->count++]) == 'P';
     return 1;
+}
+
+static inline struct question read_fen(const char *fen) {
+    struct question q = {.passed = NO_SQUARE};
+    int rank = 7, file = 0;
+    for (; *fen != ' '; fen++) {
+        if (*fen == '/') { rank--, file = 0; continue; }
+        if (isdigit((unsigned char)*fen)) { file += *fen - '0'; continue; }
+        q.letter[q.count] = *fen, q.square[q.count++] = rank * 8 + file++;
+    }
+    q.mover = fen[1] == 'b';
+    const char *passed = fen + 5;
+    if (*passed != '-') q.passed = passed[0] - 'a' + 8 * (passed[1] - '1');
+    q.counter = atoi(strchr(passed, ' ') + 1);
+    return q;
 }
 
 static inline void write_fen(const struct question *q, char *out) {

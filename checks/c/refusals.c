@@ -13,7 +13,7 @@ static szg_front second_front = SZG_NO_FRONT;
 
 /* ---- What stays: all of these, which a call may write */
 
-static struct { szg_answer answer; uint16_t values[SIZE]; szg_spot spot; uint64_t size; uint16_t value; uint32_t number; int64_t outcome; szg_bad_block bad; szg_byte_range range; } lent, filled;
+static struct { szg_answer answer; uint16_t values[SIZE]; szg_spot spot; uint64_t size; uint16_t value; uint32_t number; int64_t outcome; szg_bad_block bad; szg_byte_range range; szg_man men[SZG_MAX_MEN]; size_t count; uint8_t mover; } lent, filled;
 static uint8_t original[sizeof bytes];
 static const szg_man rook_men[] = {{SZG_KING, SZG_WHITE, 4}, {SZG_ROOK, SZG_WHITE, 0}, {SZG_KING, SZG_BLACK, 60}};
 
@@ -50,6 +50,11 @@ static void whole_stays(void) {
     want("values at", szg_values_at(OF_FILE, 0, 0, indexes, 2, lent.values, 2, &lent.answer), SZG_DONE);
     lent.values[0] = lent.values[1] = filled.values[0];
     want("values after those at indexes", memcmp(&lent, &filled, sizeof lent), 0);
+    /* a handle lets its table go where another one is refused */
+    szg_table older = SZG_NO_TABLE;
+    want("open", szg_open(OF_FILE, &older, &answer), SZG_DONE);
+    STAYS(SZG_NAME, szg_open(OF_NO_MATERIAL, &older, &lent.answer));
+    STAYS(SZG_CLOSED, szg_positions(&older, 0, 0, &lent.size));
 }
 
 /* Each call on a handle with what it refuses, and without a table. */
@@ -63,6 +68,8 @@ static void handles_stay(bool is_open) {
     STAYS(range, szg_all(of, 0, 0, lent.values, SIZE - 1));
     STAYS(range, szg_all(of, 1, 0, lent.values, SIZE));
     STAYS(range, szg_number(of, 0, 2, 0, &lent.number));
+    STAYS(range, szg_placement(of, 0, 0, 0, lent.men, 2, &lent.count, &lent.mover));
+    STAYS(range, szg_placement(of, 1, 0, 0, lent.men, SZG_MAX_MEN, &lent.count, &lent.mover));
     STAYS(other, szg_index(of, rook_men, 3, SZG_WHITE, &lent.spot));
     STAYS(other, szg_probe(of, rook_men, 3, SZG_WHITE, 0, &lent.outcome));
     STAYS(range, szg_front_size(to, 0, 2, &lent.size));
@@ -75,6 +82,8 @@ static void handles_stay(bool is_open) {
     STAYS(range, szg_front_value(to, 1, 0, 0, bytes, 1, &lent.value, &lent.bad));
     STAYS(changed, szg_front_value(to, 0, 0, 0, bytes, 1, &lent.value, &lent.bad));
     STAYS(range, szg_front_number(to, 0, 2, 0, &lent.number));
+    STAYS(range, szg_front_placement(to, 0, 0, 0, lent.men, 2, &lent.count, &lent.mover));
+    STAYS(range, szg_front_placement(to, 0, 2, 0, lent.men, SZG_MAX_MEN, &lent.count, &lent.mover));
     STAYS(other, szg_front_index(to, rook_men, 3, SZG_WHITE, &lent.spot));
     STAYS(other, szg_front_probe(to, bytes, length, rook_men, 3, SZG_WHITE, 0, &lent.outcome, &lent.bad));
 }

@@ -1,5 +1,5 @@
-/* What szg.h says of uses at the edge: when SZG_CHANGED comes, a share of a handle with itself, moved and assigned handles, the
- * stack that calls use, a map whose file is truncated: stated FOLDER. The status is 0 if all is as stated. */
+/* What szg.h says of uses at the edge: a share of a handle with itself, moved and assigned handles, the stack that calls use, a map
+ * whose file is truncated: stated FOLDER. The status is 0 if all is as stated. */
 #define _GNU_SOURCE
 #include "trying.h"
 #include <malloc.h>
@@ -16,49 +16,6 @@ enum { KB = 1024, STACK = 1 << 20, READING = 56 * KB, LISTING = 32 * KB, OTHERS 
 
 static uint32_t open_table(szg_table *into) { return szg_open(OF_FILE, into, &answer); }
 static uint32_t open_front(szg_front *into) { return szg_open_front(OF_FILE, into, &answer); }
-
-/* ---- SZG_CHANGED */
-
-/* `count` bytes have no byte to spare for the value: with one less it is SZG_CHANGED, unless none is needed. */
-static void attempt_lengths(uint8_t part, uint8_t side, uint64_t index) {
-    szg_byte_range range = {7, 7};
-    szg_bad_block bad = {7, 7};
-    uint16_t value = 0, due = 0;
-    want("a value of the table", szg_get(&table, part, side, index, &due), SZG_DONE);
-    want("a range", szg_front_find(&front, part, side, index, &range), SZG_DONE);
-    size_t end = range.offset + range.count;
-    want("with enough bytes", szg_front_get(&front, bytes, end, part, side, index, &value, &bad), SZG_DONE);
-    want("a value", value, due);
-    szg_man men[SZG_MAX_MEN];
-    size_t count;
-    uint8_t mover;
-    want("a placement", szg_front_placement(&front, part, side, index, men, SZG_MAX_MEN, &count, &mover), SZG_DONE);
-    int64_t outcome = 0, outcome_due = 0;
-    uint32_t probed = szg_probe(&table, men, count, mover, 2, &outcome_due);
-    want("a probe with enough bytes", szg_front_probe(&front, bytes, end, men, count, mover, 2, &outcome, &bad), probed);
-    want("an outcome", outcome, outcome_due);
-    if (range.count == 0) {
-        want("a constant value of no bytes", szg_front_value(&front, part, side, index, bytes, 0, &value, &bad), SZG_DONE);
-        want("a constant value of many bytes", szg_front_value(&front, part, side, index, bytes, length, &value, &bad), SZG_DONE);
-        return;
-    }
-    value = 7, outcome = 7;
-    want("with a byte too few", szg_front_get(&front, bytes, end - 1, part, side, index, &value, &bad), SZG_CHANGED);
-    want("a probe with a byte too few", szg_front_probe(&front, bytes, end - 1, men, count, mover, 2, &outcome, &bad), SZG_CHANGED);
-    want("a value after a refusal", value, 7);
-    want("an outcome after a refusal", outcome, 7);
-    for (int more = -1; more <= 1; more += 2)
-        want("a block of another length", szg_front_value(&front, part, side, index, bytes + range.offset, range.count + (size_t)more, &value, &bad), SZG_CHANGED);
-}
-
-static void attempt_changed(void) {
-    hold();
-    for (uint8_t slot = 0; slot < 8; slot++) {
-        uint64_t size = 0;
-        if (szg_front_size(&front, slot / 2, slot % 2, &size) != SZG_DONE) continue;
-        for (uint64_t index = 0; index < size; index += STEP) attempt_lengths(slot / 2, slot % 2, index);
-    }
-}
 
 /* ---- Handles */
 
@@ -234,7 +191,7 @@ static void attempt_truncated(void) {
 }
 
 static void attempt(void) {
-    attempt_changed();
+    hold();
     attempt_stacks();
     attempt_handles();
     attempt_truncated();

@@ -80,6 +80,9 @@ uint32_t reader_number(const reader_table *table, int part, int class_of_positio
 /* Where the table has a placement, or the status that refuses it, from SZG_MAN on. */
 uint32_t reader_index(const reader_table *table, const szg_man *men, size_t count, uint8_t mover, szg_spot *spot);
 
+/* Whether a subtable has no indexes: a lead man that is no pawn has a twin, or equal men are in several groups. */
+bool is_irregular(const reader_table *table, const reader_subtable *sub);
+
 /* The number of ways to choose k of n, for k up to 6. */
 uint64_t reader_choose(uint64_t n, int k);
 

@@ -54,14 +54,6 @@ static inline void each_sample(const char *folder, void (*attempt)(void)) {
     for (int i = 0; i < SAMPLES; i++) load_sample(folder, i), attempt();
 }
 
-/* A table of king and two bishops against king that has one value; where the bishops are in two groups, it has no indexes. */
-static inline void make_bishops(bool in_two_groups) {
-    memset(bytes, 0, 80);
-    memcpy(bytes, "\x71\xe8\x23\x5d\x01", 6);
-    memcpy(bytes + 6, in_two_groups ? "\x33\x66\xee\x33\x80\x02\x80\x02" : "\x66\xee\x33\x33\x80\x02\x80\x02", 8);
-    take("bishops", "KBBvK", false, 80);
-}
-
 /* Makes each look-up at an index of part a, side 0, by two handles, and writes each text. */
 static inline void look_up_by_each_call(szg_table *of, szg_front *to, uint64_t i) {
     char text[SZG_TEXT_SIZE];

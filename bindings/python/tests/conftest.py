@@ -9,6 +9,8 @@ import szg
 
 ROOT = Path(__file__).resolve().parents[3]
 sys.path.insert(0, str(ROOT / "checks"))
+import common  # noqa: E402
+from common import sample  # noqa: E402
 from damaged_files import Damaged, damaged  # noqa: E402
 from table_reader import Reader  # noqa: E402
 
@@ -26,17 +28,11 @@ class Sample(NamedTuple):
         return f"{self.name}.{'rtbw' if self.kind == 'wdl' else 'rtbz'}"
 
 
-def sample(file: str, name: str, kind: str) -> Sample:
-    data = (ROOT / "data" / file).read_bytes()
-    return Sample(name, kind, data, Reader(name, kind, data).read())
+def read_sample(name: str, kind: str, file: str) -> Sample:
+    return Sample(name, kind, sample(file), Reader(name, kind, sample(file)).read())
 
 
-SAMPLES = [
-    sample("knvk_wdl_constant.rtbw", "KNvK", "wdl"),
-    sample("kqvk_wdl_unpaired.rtbw", "KQvK", "wdl"),
-    sample("kqvk_wdl_paired.rtbw", "KQvK", "wdl"),
-    sample("kpvk_dtz_mapped.rtbz", "KPvK", "dtz"),
-]
+SAMPLES = [read_sample(name, kind, file) for name, kind, file, _ in common.SAMPLES]
 KNIGHT, UNPAIRED, PAIRED, PAWN = SAMPLES
 DAMAGED = list(damaged())
 

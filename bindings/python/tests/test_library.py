@@ -1,5 +1,4 @@
 """The package's face, and what becomes of each status of the library."""
-import ctypes
 import gc
 import inspect
 import os
@@ -79,8 +78,8 @@ def test_statuses_and_reasons_are_the_headers() -> None:
     for name in ("DONE", "NAME", "REFUSED", "MEMORY", "RANGE", "CLOSED", "MAN", "MEN", "OTHER_MATERIAL", "WRONG_SIDE", "NO_CLASS", "OUTSIDE_MAP",
                  "CHANGED", "BAD_BLOCK", "EN_PASSANT", "IN_CHECK", "MISSING", "CONTRADICTION"):
         assert getattr(_library, name) == statuses[name]
-    sizes = {name: int(size) for name, size in re.findall(r"#define SZG_(TEXT_SIZE|MAX_MEN|MAX_MOVES|NO_SQUARE) (\d+)", HEADER)}
-    assert sizes == {"TEXT_SIZE": _library.TEXT_SIZE, "MAX_MEN": _library.MAX_MEN, "MAX_MOVES": _library.MAX_MOVES, "NO_SQUARE": _placement.NO_SQUARE}
+    sizes = {name: int(size) for name, size in re.findall(r"#define SZG_(TEXT_SIZE|MAX_MEN|MAX_MOVES|NO_SQUARE|NO_RESULT) (\d+)", HEADER)}
+    assert sizes.pop("NO_SQUARE") == _placement.NO_SQUARE and sizes == {name: getattr(_library, name) for name in sizes} and len(sizes) == 4
     assert [_library.reason_text(number) for number in (0, 19, 1 << 31)] == [_library.status_text(number) for number in (23, 256, 1 << 31)] == [""] * 3
 
 
@@ -116,21 +115,18 @@ def test_a_library_that_lacks_a_call_is_an_import_error(monkeypatch: pytest.Monk
         _library._load()
 
 
-@pytest.mark.parametrize("status, fault, said", [
-    (1, RuntimeError, "the library returned the status 1"), (2, RuntimeError, "the library returned the status 2"),
-    (3, MemoryError, "no memory for the table"), (4, IndexError, "the table has no such part, side or index"),
-    (5, ValueError, "the table is closed"), (6, szg.Untold, "the table has no entry: Man"),
-    (7, szg.Untold, "the table has no entry: Men"), (8, szg.Untold, "the table has no entry: SameSquare"),
-    (9, szg.Untold, "the table has no entry: PawnRank"), (10, szg.Untold, "the table has no entry: OtherMaterial"),
-    (11, szg.Untold, "the table has no entry: Irregular"), (12, szg.Untold, "the table has no entry: KingsTouch"),
-    (13, szg.Untold, "the table has no entry: WrongSide"), (14, szg.Untold, "the table has no entry: NoClass"),
-    (15, szg.Untold, "the table has no entry: Draw"), (16, szg.Untold, "the table has no entry: OutsideMap"),
-    (17, szg.Changed, "the table's file was changed"), (18, szg.BadBlock, "block 0 at 0 does not decode"),
-    (19, szg.Untold, "the table has no entry: EnPassant"), (20, szg.Untold, "the table has no entry: InCheck"),
-    (21, RuntimeError, "the library returned the status 21"), (22, szg.Untold, "the table has no entry: Contradiction"),
-    (23, RuntimeError, "the library returned the status 23"),
-])
-def test_each_status_of_a_call_is_an_exception(status: int, fault: type, said: str) -> None:
+UNTOLD = ("Man Men SameSquare PawnRank OtherMaterial Irregular KingsTouch WrongSide NoClass Draw OutsideMap EnPassant InCheck "
+          "Contradiction").split()
+FAULTS = {
+    "Memory": (MemoryError, "no memory for the table"), "Range": (IndexError, "the table has no such part, side or index"),
+    "Closed": (ValueError, "the table is closed"), "Changed": (szg.Changed, "the table's file was changed"),
+    "BadBlock": (szg.BadBlock, "block 0 at 0 does not decode"), **{name: (szg.Untold, f"the table has no entry: {name}") for name in UNTOLD},
+}
+
+
+@pytest.mark.parametrize("status", range(1, 24))
+def test_each_status_of_a_call_is_an_exception(status: int) -> None:
+    fault, said = FAULTS.get(_library.status_text(status), (RuntimeError, f"the library returned the status {status}"))
     with szg.Table("KQvK", "wdl", UNPAIRED.data) as table:
         front = table._opened._front
         for call in (front, front.fetch) if status != _library.BAD_BLOCK else (front.fetch,):
@@ -141,14 +137,17 @@ def test_each_status_of_a_call_is_an_exception(status: int, fault: type, said: s
         assert table.get(11711) == 4
 
 
-@pytest.mark.parametrize("call", ["szg_open_front", "szg_share_front", "szg_check", "szg_values", "szg_front_size", "szg_front_get",
-                                  "szg_front_probe", "szg_front_index", "szg_front_placement"])
+@pytest.mark.parametrize("call", ["szg_open_front", "szg_share_front", "szg_check", "szg_values", "szg_front_size", "szg_front_get", "szg_front_probe",
+                                  "szg_front_index", "szg_front_placement", "szg_tablebase_add", "szg_share_tablebase", "szg_tablebase_wdl",
+                                  "szg_tablebase_dtz", "szg_tablebase_moves"])
 def test_no_call_loses_want_of_memory(call: str, queen_file: Path, monkeypatch: pytest.MonkeyPatch) -> None:
+    fen = "7k/8/5K2/8/8/8/8/6Q1 w"
+
     def use() -> None:
-        with szg.Table.open(queen_file) as mapped, szg.Table("KQvK", "wdl", UNPAIRED.data) as table:
+        with szg.Table.open(queen_file) as mapped, szg.Table("KQvK", "wdl", UNPAIRED.data) as table, szg.open_tablebase(ROOT / "samples") as tables:
             for one in (mapped, table):
-                one.get(0), one.size(), one.values(), one.verify()
-                one.index("4K3/8/8/8/8/8/8/Q6k w"), one.probe_wdl("4K3/8/8/8/8/8/8/Q6k w"), one.placement(0, 0, 0)
+                one.get(0), one.size(), one.values(), one.verify(), one.index(fen), one.probe_wdl(fen), one.placement(0, 0, 0)
+            tables.probe_wdl(fen), tables.probe_dtz(fen), tables.rank_moves(fen)
 
     use()
     monkeypatch.setattr(_library.library, call, lambda *_: 3)
@@ -202,27 +201,6 @@ def test_closing_lets_the_librarys_handles_go(queen_file: Path, monkeypatch: pyt
             assert not open_handles, way
     finally:
         gc.enable()
-
-
-def test_nothing_of_a_closed_table_stays_in_memory() -> None:
-    """By the C library's own count, over the sample with most symbols."""
-    class Info(ctypes.Structure):
-        _fields_ = [(name, ctypes.c_size_t) for name in "arena ordblks smblks hblks hblkhd usmblks fsmblks uordblks fordblks keepcost".split()]
-    system = ctypes.CDLL(None)
-    if not hasattr(system, "mallinfo2"):
-        pytest.skip("it needs glibc 2.33")
-    system.mallinfo2.restype = Info
-
-    def use(count: int) -> int:
-        for number in range(count):
-            table = szg.Table("KQvK", "wdl", UNPAIRED.data)
-            table.get(number), table.size()
-            if number % 2:
-                table.close()
-        del table
-        return system.mallinfo2().uordblks
-    before = use(100)
-    assert use(1000) - before < 500_000
 
 
 def test_the_library_is_found(tmp_path: Path) -> None:

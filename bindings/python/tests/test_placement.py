@@ -19,7 +19,7 @@ def test_every_form_of_a_placement_is_the_same(table: szg.Table) -> None:
     for turn, letter in ((WHITE, "w"), (BLACK, "b")):
         wanted = table.index(MEN, turn)
         assert wanted == (0, 0 if turn else 1, 11711)
-        for board in (Board.of(MEN, turn), FEN + f" {letter}", FEN + f" {letter} - - 0 1", f" {FEN}  {letter} -"):
+        for board in (Board.of(MEN, turn), FEN + f" {letter}", FEN + f" {letter} - - 0 1", f" {FEN}  {letter} -", FEN.replace("8", "44") + f" {letter}"):
             assert table.index(board) == wanted
         for board in (FEN, iter(MEN), tuple(reversed(MEN)), [list(man) for man in MEN], Board.of(MEN, not turn), FEN + " w - - 0 1"):
             assert table.index(board, turn) == wanted
@@ -35,7 +35,7 @@ def test_all_letters_of_a_fen() -> None:
 
 
 @pytest.mark.parametrize("text", [
-    "", " ", "4K3/8/8/8/8/8/8", "4K3/8/8/8/8/8/8/Q6k/8", "4K4/8/8/8/8/8/8/Q6k", "4K2/8/8/8/8/8/8/Q6k", "44/8/8/8/8/8/8/Q5kK",
+    "", " ", "4K3/8/8/8/8/8/8", "4K3/8/8/8/8/8/8/Q6k/8", "4K4/8/8/8/8/8/8/Q6k", "4K2/8/8/8/8/8/8/Q6k", "45/8/8/8/8/8/8/Q5kK",
     "4X3/8/8/8/8/8/8/Q6k", "9/8/8/8/8/8/8/Q6k", "0K7/8/8/8/8/8/8/Q6k", "4K3/8/8/8/8/8/8/Q6k W", "4K3/8/8/8/8/8/8/Q6k white",
     "4K3/8/8/8/8/8/8/Q~6k", "4K\u00b33/8/8/8/8/8/8/Q6k", FEN + " w x", FEN + " w - e4", FEN + " w - E3", FEN + " w - - x", FEN + " w - - -1",
     FEN + " w - - \u00b3", FEN + " w - - 1234567890",

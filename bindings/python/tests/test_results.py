@@ -8,9 +8,10 @@ from typing import Iterator, Optional
 import pytest
 import stand_in
 import szg
-from conftest import PAIRED, ROOT, is_closed, untold
+from conftest import ROOT, is_closed, untold
 from stand_in import Board
 from szg import _library
+from table_writer import file_of
 
 # three men each; the tables of the second folder store anything where a capture or a pawn move decides
 FOLDERS = [ROOT / "samples", ROOT / "samples/any"]
@@ -64,11 +65,28 @@ def boards(name: str, count: int) -> Iterator[Board]:
 
 
 @pytest.mark.parametrize("name", ["KQvK", "KRvK", "KPvK", "KBvK", "KNvK"])
-def test_results_are_those_of_python_chess(tables: szg.Tablebase, name: str) -> None:
-    prober, found = stand_in.Prober(tables), list(boards(name, 100))
-    for board in found:
-        assert tables.probe_wdl(board) == prober.probe_wdl(board) and tables.probe_dtz(board) == prober.probe_dtz(board)
-    assert tables.probe_many(found) == tables.probe_many(iter(found)) == [prober.probe_wdl(board) for board in found]
+def test_results_are_what_true_tables_store(tables: szg.Tablebase, name: str) -> None:
+    found = list(boards(name, 100))
+    with szg.open_tablebase(FOLDERS[0]) as true:
+        wanted = [true.probe_wdl_table(board) for board in found]
+        assert [tables.probe_wdl(board) for board in found] == tables.probe_many(found) == tables.probe_many(iter(found)) == wanted
+        assert [tables.probe_dtz(board) for board in found] == [stand_in.distance(true, board) for board in found]
+
+
+def test_fens_of_many_are_as_one_by_one(tables: szg.Tablebase) -> None:
+    """The library reads whole FENs, once their table is open; others come between them, each in its own place."""
+    fens = [board.fen() for name in ("KQvK", "KRvK", "KPvK") for board in boards(name, 40)]
+    others = [QUEEN_FEN, Board(MATE_FEN), MATE_FEN[:-4], MATE_FEN[:-2], f"\t{MATE_FEN}\n7", MATE_FEN.replace(" w", "\nw"), MATE_FEN.replace("5", "23"),
+              "4K2R/8/8/8/8/8/8/7k w K - 0 1", "rnbqkbnr/pppppppp/8/8/8/8/PPPPPPPP/RNBQKBNR w - - 0 1", "4k3/8/8/8/8/8/8/4K3 w - - 0 1"]
+    mixed = [board for fen in fens for board in (fen, *others)]
+    wanted = [tables.get_wdl(board) for board in mixed]
+    assert wanted[1:11] == [2, 2, 2, 2, 2, 2, 2, None, None, 0] and tables.probe_many(iter(mixed)) == wanted
+    for count in (0, 1, 255, 256, 257):
+        assert tables.probe_many((fens * 3)[:count]) == [tables.probe_wdl(fen) for fen in (fens * 3)[:count]]
+    for wrong in ("", "\n", MATE_FEN.replace("Q", "X"), MATE_FEN.replace("0", "x"), MATE_FEN.replace("w", "\ud800")):
+        with pytest.raises(ValueError, match="is no FEN: "):
+            tables.probe_many([MATE_FEN, wrong])
+    pytest.raises(TypeError, tables.probe_many, [MATE_FEN, b"7k/8/5K2/8/8/8/8/6Q1 w - - 0 1"])
 
 
 @pytest.mark.parametrize("name", ["KQvK", "KRvK", "KPvK"])
@@ -103,18 +121,11 @@ def test_the_fifty_move_counter_counts_for_moves_alone(tables: szg.Tablebase, co
         assert tables.probe_wdl(position) == 2 and tables.probe_dtz(position) == 3
 
 
-def constant(magic: str, flag: int, value: int) -> bytes:
-    """A table of KPvKP that has this value everywhere."""
-    front = bytes.fromhex(magic) + b"\x02" + bytes.fromhex("00111199 66ee".replace(" ", "")) * 4
-    front += bytes(len(front) % 2) + bytes([flag, value]) * 4
-    return front + bytes(-len(front) % 64) + bytes(16)
-
-
 @pytest.fixture(params=range(5), ids=["loss", "blessed loss", "draw", "cursed win", "win"])
 def passing(request: pytest.FixtureRequest, tmp_path: Path) -> szg.Tablebase:
     """True tables of three men, and such of KPvKP."""
-    (tmp_path / "KPvKP.rtbw").write_bytes(constant("71e8235d", 0x80, request.param))
-    (tmp_path / "KPvKP.rtbz").write_bytes(constant("d7660ca5", 0x80, 0))
+    for ending, magic, value in ("rtbw", "71e8235d", request.param), ("rtbz", "d7660ca5", 0):
+        (tmp_path / f"KPvKP.{ending}").write_bytes(file_of(f"{magic} 02" + "0011119966ee" * 4, [bytes([128, value])] * 4))
     tables = szg.open_tablebase(ROOT / "samples")
     assert tables.add_directory(tmp_path) == 2
     assert tables.probe_wdl_table("4k3/8/8/8/1pP5/8/8/4K3 b") == request.param - 2
@@ -140,27 +151,23 @@ def passed_boards(count: int) -> Iterator[Board]:
 
 
 def test_en_passant_counts(passing: szg.Tablebase) -> None:
-    prober, forced = stand_in.Prober(passing), 0
     stored = passing.probe_wdl_table("4k3/8/8/8/1pP5/8/8/4K3 b")
     for board in passed_boards(150):
-        forced += not board.legal_moves()
-        if board.legal_moves() or stored == 0:
-            assert passing.probe_wdl(board) == prober.probe_wdl(board)
-        best = max(prober.after(board, move, passing.probe_wdl) for move in board.generate_legal_ep())
-        others = [prober.after(board, move, passing.probe_wdl) for move in board.legal_moves() if board.is_capture(move)]
-        assert passing.probe_wdl(board) == (max(stored, best, *others) if board.legal_moves() else best)
-        assert passing.probe_many([board, board]) == [passing.probe_wdl(board)] * 2
+        moves = board.generate_legal_ep()
+        best = max(board.after(move, passing.probe_wdl) for move in moves)
+        others = [board.after(move, passing.probe_wdl) for move in board.legal_moves() if board.is_capture(move)]
+        wdl, dtz = passing.probe_wdl(board), passing.probe_dtz(board)
+        assert wdl == (max(stored, best, *others) if board.legal_moves() else best)
+        assert passing.probe_many([board, board.fen()]) == [wdl] * 2
         # without the right there is no such move
-        assert any(move.uci in map(board.uci, board.generate_legal_ep()) for move in passing.rank_moves(board))
+        assert any(move.uci in map(board.uci, moves) for move in passing.rank_moves(board))
+        is_only = not board.legal_moves()
         board.now.passed = None
-        assert passing.probe_wdl(board) == prober.probe_wdl(board)
-
-
-def test_distances_with_en_passant(passing: szg.Tablebase) -> None:
-    prober = stand_in.Prober(passing)
-    for board in passed_boards(100):
-        if board.legal_moves():
-            assert passing.probe_dtz(board) == prober.probe_dtz(board), (board.now.men, board.now.mover, board.now.passed)
+        assert passing.probe_wdl(board) == max(stored, *others, -2)
+        if is_only or best == wdl and (wdl > 0 or wdl > passing.probe_wdl(board)):
+            assert dtz == stand_in.dtz_before_zeroing(wdl)
+        else:
+            assert dtz == passing.probe_dtz(board)
 
 
 def test_the_square_that_was_passed(passing: szg.Tablebase) -> None:
@@ -249,48 +256,6 @@ def test_what_is_no_position(tables: szg.Tablebase, position: object, reason: st
         assert untold(tables.probe_many, [MATE_FEN, position]) == reason
 
 
-def test_errors_name_the_file(folder: Path) -> None:
-    (folder / "KRvK.rtbw").rmdir()
-    for data in (b"", PAIRED.data[:200]):
-        (folder / "KRvK.rtbw").write_bytes(data)
-        with szg.open_tablebase(folder) as tables:
-            for call in (tables.probe_wdl, tables.get_wdl, tables.probe_dtz, tables.rank_moves):
-                assert pytest.raises(szg.Refused, call, ROOK_FEN).value.path == str(folder / "KRvK.rtbw")
-            assert tables.probe_wdl(KNIGHT_FEN) == 0
-    (folder / "KRvK.rtbw").unlink()
-    with szg.open_tablebase(folder) as tables:
-        (folder / "KQvK.rtbw").unlink()
-        assert pytest.raises(FileNotFoundError, tables.get_wdl, QUEEN_FEN).value.filename == str(folder / "KQvK.rtbw")
-    # a constant table of a class that isn't one
-    (folder / "KNvK.rtbw").write_bytes((folder / "KNvK.rtbw").read_bytes()[:11] + b"\x07" + (folder / "KNvK.rtbw").read_bytes()[12:])
-    with szg.open_tablebase(folder) as tables:
-        caught = pytest.raises(szg.Untold, tables.get_wdl, KNIGHT_FEN).value
-        assert (caught.reason, caught.path) == ("NoClass", str(folder / "KNvK.rtbw"))
-        assert str(caught) == f"{folder / 'KNvK.rtbw'}: the table has no entry: NoClass"
-
-
-def test_a_bad_block_spoils_no_other_result(folder: Path) -> None:
-    sub, data = PAIRED.read.subs[0], bytearray(PAIRED.data)
-    index = szg.Table("KQvK", "wdl", PAIRED.data).index(QUEEN_FEN).index
-    block = max(number for number in range(sub.block_count) if sub.starts[number] <= index)
-    at = sub.place + (block << sub.block_bits)
-    data[at:at + (1 << sub.block_bits)] = bytes(1 << sub.block_bits)
-    (folder / "KQvK.rtbw").write_bytes(data)
-    with szg.open_tablebase(folder) as tables:
-        for call in (tables.probe_wdl, tables.get_wdl):
-            caught = pytest.raises(szg.BadBlock, call, QUEEN_FEN).value
-            assert (caught.block, caught.offset, caught.path) == (block, at, str(folder / "KQvK.rtbw"))
-        assert tables.probe_wdl(QUEEN_FEN, False) == szg.Table("KQvK", "wdl", PAIRED.data).probe_wdl(QUEEN_FEN, False)
-        assert tables.probe_wdl(KNIGHT_FEN) == 0
-
-
-def test_the_folder_that_was_added_last_serves(folder: Path, other: Path) -> None:
-    with szg.open_tablebase(folder) as tables:
-        assert tables.probe_wdl(KNIGHT_FEN) == 0
-        tables.add_directory(other)
-        assert tables.probe_wdl(KNIGHT_FEN) == 2
-
-
 def test_files_are_mapped_without_a_descriptor_and_given_back(folder: Path) -> None:
     def maps() -> set:
         return {line.split("/")[-1] for line in Path("/proc/self/maps").read_text().splitlines() if f"{folder}/" in line}
@@ -344,17 +309,6 @@ def test_handles_are_closed(monkeypatch: pytest.MonkeyPatch) -> None:
     assert made[0] > 4 and len(held) == 1
     tables.close()
     assert not held
-
-
-@pytest.mark.parametrize("call", ["szg_tablebase_add", "szg_share_tablebase", "szg_tablebase_wdl", "szg_tablebase_dtz", "szg_tablebase_moves"])
-def test_no_call_loses_want_of_memory(call: str, monkeypatch: pytest.MonkeyPatch) -> None:
-    def use() -> None:
-        with szg.open_tablebase(FOLDERS[0]) as tables:
-            tables.probe_wdl(MATE_FEN), tables.probe_dtz(MATE_FEN), tables.rank_moves(MATE_FEN)
-
-    use()
-    monkeypatch.setattr(_library.library, call, lambda *_: 3)
-    pytest.raises(MemoryError, use)
 
 
 def test_a_library_that_adds_nothing_is_not_asked_for_ever(monkeypatch: pytest.MonkeyPatch) -> None:

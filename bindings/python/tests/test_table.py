@@ -12,11 +12,11 @@ from pathlib import Path
 
 import pytest
 import szg
-from conftest import DAMAGED, KNIGHT, PAIRED, PAWN, UNPAIRED, Sample, is_closed, refused, untold
+import table_reader
+from conftest import DAMAGED, PAIRED, PAWN, UNPAIRED, Sample, is_closed, refused, untold
 from damaged_files import Damaged
 from stand_in import Board
-from szg import BISHOP, BLACK, KING, QUEEN, ROOK, WHITE, _library, _mapped
-from table_reader import decoded
+from szg import BLACK, KING, QUEEN, WHITE, _library, _mapped
 
 QUEEN_MEN = [(KING, WHITE, 60), (QUEEN, WHITE, 0), (KING, BLACK, 7)]
 PAWN_MEN = [(KING, WHITE, 4), (szg.PAWN, WHITE, 12), (KING, BLACK, 60)]
@@ -53,13 +53,6 @@ def test_values_are_the_second_readers(each_sample: Sample, tmp_path, way: str) 
                 pytest.raises(IndexError, call, part, side)
         assert table.verify() == len(each_sample.data)
     assert repr(table) == f"<szg.Table {each_sample.name} {each_sample.kind}{path}, closed>"
-
-
-def test_what_follows_the_table_is_not_looked_at(each_sample: Sample, tmp_path) -> None:
-    path = tmp_path / each_sample.file_name
-    path.write_bytes(each_sample.data + b"more")
-    with szg.Table.open(path) as mapped, szg.Table(each_sample.name, each_sample.kind, path.read_bytes()) as table:
-        assert mapped.verify() == table.verify() == len(each_sample.data)
 
 
 def test_values_are_a_buffer_of_their_own() -> None:
@@ -191,35 +184,6 @@ def test_opening_looks_at_no_block(tmp_path) -> None:
             assert refused(call) == (sub.place, "Word")
 
 
-def test_each_changed_byte_of_a_block_is_a_value_or_a_fault(each_sample: Sample) -> None:
-    """A look-up returns what the second reader spells in the block as it is, or BadBlock; other blocks are as before."""
-    data = bytearray(each_sample.data)
-    faults = 0
-    with szg.Table(each_sample.name, each_sample.kind, data) as table:
-        for sub in each_sample.read.subs:
-            for number in range(sub.block_count if sub.constant is None else 0):
-                first, last = sub.starts[number], min(sub.starts[number + 1], sub.size) - 1
-                at = sub.place + (number << sub.block_bits)
-                end = at + (1 << sub.block_bits)
-                others = [index for index in (first - 1, last + 1) if 0 <= index < sub.size]
-                for byte in range(at, end):
-                    data[byte] ^= 1 + byte % 255
-                    values, _ = decoded(sub, number, bytes(data[at:end]))
-                    for index in {first, (first + last) // 2, last}:
-                        if values is not None:
-                            assert table.get(index, sub.part, sub.side) == values[index - first]
-                            continue
-                        with pytest.raises(szg.BadBlock) as caught:
-                            table.get(index, sub.part, sub.side)
-                        assert (caught.value.block, caught.value.offset) == (number, at)
-                        faults += 1
-                    for index in others:
-                        assert table.get(index, sub.part, sub.side) == sub.value(index)
-                    data[byte] ^= 1 + byte % 255
-    # in the unpaired sample all bits are words
-    assert (faults > 0) == (each_sample is PAIRED)
-
-
 def test_a_bad_block_is_one_sentence() -> None:
     error = szg.BadBlock(3, 320)
     assert (error.block, error.offset, error.path, str(error)) == (3, 320, None, "block 3 at 320 does not decode")
@@ -228,7 +192,11 @@ def test_a_bad_block_is_one_sentence() -> None:
 
 
 def test_all_reasons_are_tried() -> None:
+    """The second reader refuses the files alike."""
     assert len({case.reason for case in DAMAGED}) == 18
+    for case in DAMAGED:
+        caught = pytest.raises(table_reader.Refused, table_reader.Reader(case.name, case.kind, case.data).read).value
+        assert (caught.place, caught.reason) == (case.place, case.reason)
 
 
 def test_verify_sees_the_bytes_as_they_are(tmp_path) -> None:
@@ -356,15 +324,6 @@ def test_probe_wdl(tmp_path, way: str) -> None:
             table.number(0, wdl=2)
 
 
-def test_all_classes() -> None:
-    for value, stored in enumerate((-2, -1, 0, 1, 2)):
-        data = KNIGHT.data[:11] + bytes([value]) + KNIGHT.data[12:]
-        with szg.Table("KNvK", "wdl", data) as table:
-            assert table.probe_wdl("4k3/8/8/8/8/8/8/N3K3 w") == stored
-    with szg.Table("KNvK", "wdl", KNIGHT.data[:11] + b"\x05" + KNIGHT.data[12:]) as table:
-        assert untold(table.probe_wdl, "4k3/8/8/8/8/8/8/N3K3 w") == "NoClass"
-
-
 @pytest.mark.parametrize("way", ["bytes", "path"])
 def test_probe_dtz(tmp_path, way: str) -> None:
     with opened(PAWN, tmp_path, way) as table:
@@ -375,8 +334,10 @@ def test_probe_dtz(tmp_path, way: str) -> None:
             for board in (Board.of(pawn_on(square), WHITE), pawn_on(square)):
                 assert table.probe_dtz(board, WHITE, wdl=2) == distance
             assert table.index(pawn_on(square), WHITE).part == square - 8
-        # White's pawn on e2, kings on e1 and e8
+        # White's pawn on e2, kings on e1 and e8: the leading pawn of a placement is on the files a to d
         assert table.index(PAWN_MEN, WHITE) == (3, 0, 21564)
+        men, turn = table.placement(3, 0, 21564)
+        assert sorted(men) == [(szg.PAWN, WHITE, 11), (KING, BLACK, 59), (KING, WHITE, 3)] and turn is WHITE
         flipped = [(kind, not color, square ^ 56) for kind, color, square in PAWN_MEN]
         assert table.index(flipped, BLACK) == (3, 0, 21564)
         for wdl, turn, reason in ((-1, WHITE, "OutsideMap"), (0, WHITE, "Draw"), (2, BLACK, "WrongSide")):
@@ -414,36 +375,18 @@ def test_wrong_types_of_numbers() -> None:
         assert table.get(numpy.uint32(11711)) == 4
 
 
-def four_bishops(order: bytes) -> bytes:
-    """A table of KBBvK with one value, with these man bytes."""
-    return (bytes.fromhex("71e8235d0100") + order + b"\x80\x02\x80\x02").ljust(80, b"\0")
-
-
 @pytest.mark.parametrize("reason, men", [
-    ("Man", [(KING, WHITE, 60), (7, WHITE, 0), (KING, BLACK, 7)]),
-    ("Man", [(KING, WHITE, 60), (0, WHITE, 0), (KING, BLACK, 7)]),
     ("Man", [(KING, WHITE, 60), (QUEEN + 256, WHITE, 0), (KING, BLACK, 7)]),
     ("Man", [(KING, WHITE, 60), (QUEEN, WHITE, -1), (KING, BLACK, 7)]),
     ("Man", [(KING, WHITE, 60), (QUEEN, WHITE, 64), (KING, BLACK, 7)]),
     ("Men", []),
     ("Men", QUEEN_MEN + [(szg.KNIGHT, BLACK, square) for square in range(20, 24)]),
-    ("Men", [(KING, WHITE, 60), (KING, WHITE, 0), (KING, BLACK, 7)]),
-    ("SameSquare", [(KING, WHITE, 60), (QUEEN, WHITE, 60), (KING, BLACK, 7)]),
-    ("PawnRank", [(KING, WHITE, 60), (szg.PAWN, WHITE, 0), (KING, BLACK, 7)]),
     ("OtherMaterial", [(KING, WHITE, 60), (szg.KNIGHT, WHITE, 0), (KING, BLACK, 7)]),
-    ("OtherMaterial", [(KING, WHITE, 60), (ROOK, WHITE, 0), (KING, BLACK, 7)]),
 ])
 def test_men_that_have_no_index(reason: str, men: list) -> None:
     with szg.Table("KQvK", "wdl", UNPAIRED.data) as table:
         for call in (table.probe_wdl, table.index):
             assert untold(call, men, WHITE) == reason
-
-
-def test_groups_that_cannot_be_numbered() -> None:
-    men = [(KING, WHITE, 0), (BISHOP, WHITE, 18), (BISHOP, WHITE, 36), (KING, BLACK, 1)]
-    for order, reason in ((b"\x33\x66\xee\x33", "Irregular"), (b"\x66\xee\x33\x33", "KingsTouch")):
-        with szg.Table("KBBvK", "wdl", four_bishops(order)) as table:
-            assert untold(table.index, men, WHITE) == reason
 
 
 def test_an_index_has_a_placement_that_has_the_index(each_sample: Sample) -> None:
@@ -464,22 +407,3 @@ def test_an_index_has_a_placement_that_has_the_index(each_sample: Sample) -> Non
         with pytest.raises(TypeError, match="^index must be an integer, not str$"):
             table.placement(0, 0, "0")  # type: ignore[arg-type]
     assert is_closed(table.placement, 0, 0, 0)
-
-
-def test_worked_placements() -> None:
-    """The first index of a table without pawns: the kings on b1 and c1, the other man on a1."""
-    with szg.Table("KNvK", "wdl", KNIGHT.data) as table:
-        men = ((KING, WHITE, 1), (szg.KNIGHT, WHITE, 0), (KING, BLACK, 2))
-        assert table.placement(0, 0, 0) == (men, WHITE)
-        assert table.placement(0, 1, 0) == (men, BLACK)
-    with szg.Table("KPvK", "dtz", PAWN.data) as table:
-        # e2 with the kings on e1 and e8, mirrored: the leading pawn of a placement is on the files a to d
-        men, turn = table.placement(3, 0, 21564)
-        assert sorted(men) == [(szg.PAWN, WHITE, 11), (KING, BLACK, 59), (KING, WHITE, 3)] and turn is WHITE
-        assert table.index(pawn_on(12), WHITE) == (3, 0, 21564)
-
-
-def test_a_side_without_placements() -> None:
-    """A table of one value in which equal bishops are in two groups."""
-    with szg.Table("KBBvK", "wdl", four_bishops(b"\x33\x66\xee\x33")) as table:
-        assert untold(table.placement, 0, 0, 0) == "Irregular"

@@ -12,7 +12,9 @@ from szg import BLACK, KING, QUEEN, WHITE
 
 QUEEN_MEN = [(KING, WHITE, 60), (QUEEN, WHITE, 0), (KING, BLACK, 7)]
 QUEEN_FEN, ROOK_FEN = "4K3/8/8/8/8/8/8/Q6k w", "4K3/8/8/8/8/8/8/R6k w"
-PAWN_FEN = "4k3/8/8/8/8/8/1P6/4K3 w"
+# where no king is in check, for results
+QUEEN_POSITION, ROOK_POSITION = "4K3/8/8/8/8/8/7k/Q7 w", "4K3/8/8/8/8/8/7k/R7 w"
+PAWN_FEN, KNIGHT_FEN = "4k3/8/8/8/8/8/1P6/4K3 w", "4k3/8/8/8/8/8/8/N3K3 w"
 
 
 def test_a_folder_of_tables(folder: Path) -> None:
@@ -67,40 +69,47 @@ def test_what_is_loaded(folder: Path, tmp_path: Path) -> None:
 
 
 def test_the_folder_that_was_added_last_serves(folder: Path, other: Path) -> None:
-    fen = "4k3/8/8/8/8/8/8/N3K3 w"
     with szg.open_tablebase(folder) as tables:
-        assert tables.probe_wdl_table(fen) == 0
-        tables.add_directory(other)
-        assert tables.probe_wdl_table(fen) == 2 and tables.probe_wdl_table(QUEEN_FEN) == 2
+        for value in 0, 2:
+            assert tables.probe_wdl_table(KNIGHT_FEN) == tables.probe_wdl(KNIGHT_FEN) == value and tables.probe_wdl_table(QUEEN_FEN) == 2
+            tables.add_directory(other)
 
 
-def test_a_file_that_is_no_table_is_refused_when_it_is_probed(folder: Path) -> None:
+def test_errors_name_the_file(folder: Path) -> None:
     (folder / "KRvK.rtbw").rmdir()
-    for data, place in ((b"", 0), (PAIRED.data[:200], 200)):
+    for data, place in ((b"", 0), (PAIRED.data[:200], 6)):
         (folder / "KRvK.rtbw").write_bytes(data)
         with szg.open_tablebase(folder) as tables:
-            for call in (tables.probe_wdl_table, tables.probe_wdl_table):
-                caught = pytest.raises(szg.Refused, call, ROOK_FEN).value
-                assert caught.reason in ("Truncated", "Pieces") and caught.place == (place if not data else 6)
+            for call in (tables.probe_wdl_table, tables.probe_wdl_table, tables.probe_wdl, tables.get_wdl, tables.probe_dtz, tables.rank_moves):
+                caught = pytest.raises(szg.Refused, call, ROOK_POSITION).value
+                assert caught.reason in ("Truncated", "Pieces") and (caught.place, caught.path) == (place, str(folder / "KRvK.rtbw"))
                 assert str(caught).startswith(f"{folder / 'KRvK.rtbw'}: refused at ")
-            assert tables.probe_wdl_table(QUEEN_FEN) == 2
+            assert tables.probe_wdl_table(QUEEN_FEN) == 2 and tables.probe_wdl(KNIGHT_FEN) == 0
     (folder / "KRvK.rtbw").unlink()
     with szg.open_tablebase(folder) as tables:
         (folder / "KQvK.rtbw").unlink()
-        pytest.raises(FileNotFoundError, tables.probe_wdl_table, QUEEN_FEN)
+        pytest.raises(FileNotFoundError, tables.probe_wdl_table, QUEEN_POSITION)
+        assert pytest.raises(FileNotFoundError, tables.get_wdl, QUEEN_POSITION).value.filename == str(folder / "KQvK.rtbw")
+    # a constant table of a class that isn't one
+    (folder / "KNvK.rtbw").write_bytes((folder / "KNvK.rtbw").read_bytes()[:11] + b"\x07" + (folder / "KNvK.rtbw").read_bytes()[12:])
+    with szg.open_tablebase(folder) as tables:
+        caught = pytest.raises(szg.Untold, tables.get_wdl, KNIGHT_FEN).value
+        assert (caught.reason, caught.path) == ("NoClass", str(folder / "KNvK.rtbw"))
+        assert str(caught) == f"{folder / 'KNvK.rtbw'}: the table has no entry: NoClass"
 
 
 def test_a_bad_block_spoils_no_other_probe(folder: Path) -> None:
-    sub, data = PAIRED.read.subs[0], bytearray(PAIRED.data)
-    block = max(number for number in range(sub.block_count) if sub.starts[number] <= 11711)
+    sub, data, paired = PAIRED.read.subs[0], bytearray(PAIRED.data), szg.Table("KQvK", "wdl", PAIRED.data)
+    block = max(number for number in range(sub.block_count) if sub.starts[number] <= paired.index(QUEEN_POSITION).index)
     at = sub.place + (block << sub.block_bits)
     data[at:at + (1 << sub.block_bits)] = bytes(1 << sub.block_bits)
     (folder / "KQvK.rtbw").write_bytes(data)
     with szg.open_tablebase(folder) as tables:
-        caught = pytest.raises(szg.BadBlock, tables.probe_wdl_table, QUEEN_FEN).value
-        assert (caught.block, caught.offset, caught.path) == (block, at, str(folder / "KQvK.rtbw"))
-        assert tables.probe_wdl_table("4K3/8/8/8/8/8/8/Q6k b") == 0
-        assert tables.probe_dtz_table(PAWN_FEN, 2) == (600, 1)
+        for call in (tables.probe_wdl_table, tables.probe_wdl, tables.get_wdl):
+            caught = pytest.raises(szg.BadBlock, call, QUEEN_POSITION).value
+            assert (caught.block, caught.offset, caught.path) == (block, at, str(folder / "KQvK.rtbw"))
+        assert tables.probe_wdl_table(QUEEN_POSITION, False) == tables.probe_wdl(QUEEN_POSITION, False) == paired.probe_wdl(QUEEN_POSITION, False)
+        assert tables.probe_dtz_table(PAWN_FEN, 2) == (600, 1) and tables.probe_wdl(KNIGHT_FEN) == 0
 
 
 def test_a_link_serves_by_its_own_name(folder: Path, tmp_path: Path) -> None:
@@ -137,7 +146,7 @@ def test_a_bound_on_open_tables(folder: Path) -> None:
 
 def test_what_goes_wrong_between_calls(folder: Path, other: Path, monkeypatch: pytest.MonkeyPatch) -> None:
     """A call that comes in the middle of another one: it closes, it adds a folder, it opens the same table."""
-    fen, opening = "4k3/8/8/8/8/8/8/N3K3 w", szg.Table.open
+    fen, opening = KNIGHT_FEN, szg.Table.open
     for bound in (None, 1):
         for what in ("close", "add", "probe"):
             tables, comes = szg.open_tablebase(folder, max_tables=bound), [True]
@@ -181,7 +190,7 @@ def test_a_copy_has_the_same_folders(folder: Path, other: Path, again, monkeypat
     monkeypatch.chdir("/")
     second = again(tables)
     tables.close()
-    assert second.probe_wdl_table("4k3/8/8/8/8/8/8/N3K3 w") == second.probe_wdl_table(QUEEN_FEN) == 2
+    assert second.probe_wdl_table(KNIGHT_FEN) == second.probe_wdl_table(QUEEN_FEN) == 2
     pytest.raises(szg.MissingTableError, second.probe_dtz_table, PAWN_FEN, 2)
     assert repr(second) == "<szg.Tablebase with 2 tables>" and list(second._current.tables) == [("KQvK", "wdl")]
     assert is_closed(again, tables)

@@ -56,33 +56,37 @@ def test_threads_use_one_table(queen_file: Path, is_mapped: bool) -> None:
         in_threads(8, ask)
 
 
+def close_in_use(opened, use: Callable[[int], object]) -> None:
+    """Four threads use what a fifth closes once each has used it; then each finds it closed."""
+    asked, closed = [0] * 4, [0] * 4
+
+    def ask(number: int) -> None:
+        if number == 4:
+            while min(asked) < 3:
+                pass
+            opened.close()
+            return
+        while not closed[number]:
+            try:
+                use(number + 977 * asked[number])
+                asked[number] += 1
+            except ValueError as error:
+                assert str(error) in ("the table is closed", "the tablebase is closed")
+                closed[number] += 1
+
+    in_threads(5, ask)
+
+
 @pytest.mark.parametrize("is_mapped", [False, True])
 def test_a_table_is_closed_while_threads_use_it(queen_file: Path, is_mapped: bool) -> None:
     values = UNPAIRED.read.subs[0].all_values()
     for _ in range(30):
         table = szg.Table.open(queen_file) if is_mapped else szg.Table("KQvK", "wdl", bytearray(UNPAIRED.data))
-        asked, closed = [0] * 4, [0] * 4
 
-        def ask(number: int) -> None:
-            if number == 4:
-                while min(asked) < 3:
-                    pass
-                table.close()
-                return
-            index = number
-            while True:
-                try:
-                    assert table.get(index) == values[index]
-                    assert table.probe_wdl(QUEEN_FEN) == 2
-                    asked[number] += 1
-                except ValueError as error:
-                    assert str(error) == "the table is closed"
-                    closed[number] += 1
-                    return
-                index = (index + 977) % len(values)
+        def use(number: int) -> None:
+            assert table.get(number % len(values)) == values[number % len(values)] and table.probe_wdl(QUEEN_FEN) == 2
 
-        in_threads(5, ask)
-        assert closed == [1] * 4
+        close_in_use(table, use)
 
 
 def test_threads_use_one_tablebase(folder: Path) -> None:
@@ -114,25 +118,12 @@ def test_threads_open_tables_for_results() -> None:
 
 def test_a_tablebase_is_closed_while_threads_use_it(folder: Path) -> None:
     for _ in range(20):
-        tables, asked, closed = szg.open_tablebase(folder), [0] * 4, [0] * 4
+        tables = szg.open_tablebase(folder)
 
-        def ask(number: int) -> None:
-            if number == 4:
-                while min(asked) < 3:
-                    pass
-                tables.close()
-                return
-            while True:
-                try:
-                    assert tables.probe_wdl_table(QUEEN_FEN) == 2 and tables.probe_wdl(KNIGHT_FEN) == 0
-                    asked[number] += 1
-                except ValueError as error:
-                    assert "closed" in str(error)
-                    closed[number] += 1
-                    return
+        def use(_: int) -> None:
+            assert tables.probe_wdl_table(QUEEN_FEN) == 2 and tables.probe_wdl(KNIGHT_FEN) == 0
 
-        in_threads(5, ask)
-        assert closed == [1] * 4
+        close_in_use(tables, use)
 
 
 def test_a_handle_serves_one_call_at_a_time() -> None:

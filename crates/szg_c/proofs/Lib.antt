@@ -12,3 +12,4 @@ pub mod TooManyMen
 pub mod Values
 pub mod TableProbes
 mod Printing
+mod ReadPositions

@@ -8,6 +8,7 @@ pub mod Fronts
 pub mod FrontBlocks
 pub mod Texts
 pub mod Tablebases
+pub mod Fens
 pub use Rattle.szg_file.specs.Held
 pub use Rattle.szg_file.specs.Values
 pub use Rattle.szg_file.specs.Opened

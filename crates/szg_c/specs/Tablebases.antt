@@ -77,6 +77,7 @@ abbrev pub missing_status : MissingReason → ℕ
 missing_status reason.Table = MISSING
 missing_status (reason.Place why) = place_status why
 missing_status reason.Value = NO_CLASS
+missing_status (reason.Unread spot) = NO_CLASS
 missing_status (reason.Block number offset) = BAD_BLOCK
 
 -- the number and offset of a block that does not decode; else they stay
@@ -85,6 +86,7 @@ IsBlockWritten (reason.Block number offset) before after = (after.block ≡ numb
 IsBlockWritten reason.Table before after = (after.block ≡ before.block) × (after.offset ≡ before.offset)
 IsBlockWritten (reason.Place why) before after = (after.block ≡ before.block) × (after.offset ≡ before.offset)
 IsBlockWritten reason.Value before after = (after.block ≡ before.block) × (after.offset ≡ before.offset)
+IsBlockWritten (reason.Unread spot) before after = (after.block ≡ before.block) × (after.offset ≡ before.offset)
 
 -- the status says what is missing, and the table is named
 pub record IsMissingReported (missing : Missing) (status : ℕ) (before after : RawMissing) : Type 0 where

@@ -200,7 +200,7 @@ pub fn write_placement(
 }
 
 /// Returns men as numbers.
-fn coded_men(placed: &[(Man, Color, Square)]) -> ArrayVec<CodedMan, MAX_MEN>
+pub fn coded_men(placed: &[(Man, Color, Square)]) -> ArrayVec<CodedMan, MAX_MEN>
     requires { length placed.now ≤ 6 }
     ensures { result.items ≡ map coded_man placed.now }
 {
@@ -215,7 +215,7 @@ fn coded_men(placed: &[(Man, Color, Square)]) -> ArrayVec<CodedMan, MAX_MEN>
     coded
 }
 
-fn color_code(color: Color) -> u8
+pub fn color_code(color: Color) -> u8
     ensures { result ≡ color_number color }
 {
     match color {

@@ -206,8 +206,8 @@ fn position_of(men: &[CodedMan], mover: u8, en_passant: u8) -> Result<Position, 
     }
 }
 
-/// Returns the status for a fault of a position.
-fn position_status(fault: PositionFault) -> u32
+/// Returns the status for a fault of a position or of a text that names one.
+pub(crate) fn position_status(fault: PositionFault) -> u32
     ensures { result ≡ position_status fault }
 {
     match fault {
@@ -236,7 +236,7 @@ fn report_missing(missing: Missing, lack: &mut RawMissing) -> u32
     match missing.reason {
         MissingReason::Table => MISSING,
         MissingReason::Place(fault) => place_status(fault),
-        MissingReason::Value => NO_CLASS,
+        MissingReason::Value | MissingReason::Unread(_) => NO_CLASS,
         MissingReason::Block { number, offset } => {
             lack.block = number;
             lack.offset = offset;

@@ -1,22 +1,23 @@
 -- Facts under an ending.
 use Rattle.std.specs.Borrow.{Bor}
-use Rattle.std.proofs.Common.{◌≡◌, ◌⊎◌, ◌==◌, ℕ, Bool, true, false, List, [], ◌∷◌, length, Option, Some, Result, Ok, Err, IfOk, IsErrOf, inl, inr, refl, arith}
+use Rattle.std.proofs.Common.{◌≡◌, ◌⊎◌, ◌==◌, ℕ, Bool, true, false, List, [], ◌∷◌, length, Option, None, Some, Result, Ok, Err, IfOk, IsErrOf, inl, inr, refl, arith}
 use Rattle.std.proofs.lemmas.Bool.{eqb-true}
 use Rattle.clap.specs.declared.parser.matches.ArgMatches.{ArgMatches}
+use Rattle.szg_files.specs.Draft.{published_target, published_text}
 use Rattle.szg_files.specs.declared.draft.Published.{Published}
+use Rattle.szg_files.specs.declared.file_system.FileFault.{FileFault}
 use Rattle.szg_io.specs.Device.{HasFailed}
 use Rattle.szg_io.specs.declared.device.Input as input
 use Rattle.szg_io.specs.declared.device.Output as output
-use Rattle.szg_sums.specs.declared.lists.Sums.{Sums}
 use Rattle.szg_named.specs.Verdicts.{IsFoundReport}
 use Rattle.szg_named.specs.declared.many.CheckOptions.{CheckOptions}
 use Rattle.szg_named.specs.declared.stop.CheckStop.{CheckStop}
 use Rattle.szg_named.specs.declared.stop.CheckStop.TheVariants as check_stops
-use Rattle.szg_named.specs.declared.stop.CheckCounts.{CheckCounts}
-use Rattle.szg_commands.specs.OnFiles.{AreChecked, AsksToCheck, EndsCheck, EndsTask, EndsWell, HasDone, HasRefused, HasShort, HasStopped, HasSums, IsSummedReport}
+use Rattle.szg_named.specs.declared.many.CheckReport.{CheckReport}
+use Rattle.szg_commands.specs.OnFiles.{AreChecked, Asked, AsksToCheck, EndsCheck, EndsTask, EndsWell, HasDone, HasRefused, HasShort, HasStopped, IsAskedReport, IsComplete, IsManifest, IsTargetOf}
 use Rattle.szg_commands.specs.declared.command_line.CommandForm.{CommandForm}
 use Rattle.szg_commands.specs.declared.on_files.Ending.{Ending}
-use Rattle.szg_commands.specs.declared.on_files.Ending.TheVariants.{Checked, Done, Refused, Failed, BadLine, Device, Memory, Words}
+use Rattle.szg_commands.specs.declared.on_files.Ending.TheVariants.{Checked, Listed, Done, Refused, Failed, BadLine, Device, Memory, Words}
 
 -- what follows from the facts of a task's ending holds where they do
 pub EndsTask-then : {P Q : Option Published → Type 0} {R T F G M N : Type 0} (ending : Ending) → ((published : Option Published) → P published → Q published) → (R → T) → (F → G) → (M → N) →
@@ -26,7 +27,8 @@ EndsTask-then Refused done refused failed short h = refused h
 EndsTask-then (Failed failure) done refused failed short h = failed h
 EndsTask-then Device done refused failed short h = failed h
 EndsTask-then Memory done refused failed short h = short h
-EndsTask-then (BadLine path line) done refused failed short h = h
+EndsTask-then (Listed report target written) done refused failed short h = h
+EndsTask-then (BadLine path line due) done refused failed short h = h
 EndsTask-then (Checked stated) done refused failed short h = h
 EndsTask-then (Words outcome) done refused failed short h = h
 
@@ -35,26 +37,53 @@ pub listed_or : {L K P Q : Type 0} → (L → K) → (P → Q) → L ⊎ P → K
 listed_or f g (inl l) = inl (f l)
 listed_or f g (inr p) = inr (g p)
 
--- without lists the options are those of the words
-pub no_lists : (options : CheckOptions) (lists : List (Bor (List ℕ))) → (length lists == 0) ≡ true → HasSums options lists options
-no_lists options [] none = refl
-no_lists options (list ∷ lists) none = absurd (omega (arith, eqb-true (length (list ∷ lists)) 0 none))
+-- what follows from a fact of a result holds of it
+pub if_ok_then : {A E : Type 0} {P Q : A → Type 0} (result : Result A E) → ((a : A) → P a → Q a) → IfOk result P → IfOk result Q
+if_ok_then (Ok a) f p = f a p
+if_ok_then (Err e) f p = p
 
--- with lists they have sums
-pub some_lists : (options with_sums : CheckOptions) (lists : List (Bor (List ℕ))) (sums : Bor Sums) → (length lists == 0) ≡ false →
-    with_sums ≡ record { naming = options.naming; allow_trailing = options.allow_trailing; format = options.format; quiet = options.quiet; sums = Some sums } → HasSums options lists with_sums
-some_lists options with_sums [] sums some is = absurd (cc some)
-some_lists options with_sums (list ∷ lists) sums some is = (sums, is)
+-- the ending of files that were checked, or not up to their end
+pub checked_so : (P : CheckReport → Type 0) {F : Type 0} (result : Result CheckReport CheckStop) → IfOk result P → (IsErrOf result check_stops.Device → F) → AreChecked (Checked result) P F
+checked_so P (Ok report) found failed = found
+checked_so P (Err check_stops.Device) found failed = failed refl
+checked_so P (Err check_stops.Memory) found failed = tt
 
--- what was checked with the sums of the lists
-module _ {S F W : Type 0} (content : S → List ℕ → Option (List ℕ)) (failures : S → ℕ) (filing : input.Ghosts F) (writing : output.Ghosts W) (system system' : S) (writer writer' : W) where
-  pub summed : (options with_sums : CheckOptions) (lists : List (Bor (List ℕ))) (paths : List (List ℕ)) (result : Result CheckCounts CheckStop) → HasSums options lists with_sums →
-      IfOk result (λ tally. IsFoundReport content failures filing writing with_sums paths system system' writer writer' tally) →
-      (IsErrOf result check_stops.Device → HasFailed (writing.failures writer) (writing.failures writer') (writing.interrupted writer')) →
-      AreChecked (Checked result) (IsSummedReport content failures filing writing options lists paths system system' writer writer') (HasFailed (writing.failures writer) (writing.failures writer') (writing.interrupted writer'))
-  summed options with_sums lists paths (Ok tally) has found device = (with_sums, has, found)
-  summed options with_sums lists paths (Err check_stops.Device) has found device = device refl
-  summed options with_sums lists paths (Err check_stops.Memory) has found device = tt
+-- the same, where no manifest was asked for
+pub checked_without : (P : CheckReport → Type 0) (T : Option (List ℕ) → Type 0) {F : Type 0} (result : Result CheckReport CheckStop) → IfOk result P → T None → (IsErrOf result check_stops.Device → F) →
+    AreChecked (Checked result) (λ report. P report × T None) F
+checked_without P T result found none failed = checked_so _ result (if_ok_then result (λ report p. (p, none)) found) failed
+
+-- the manifest that was written, or could not be
+pub manifest_is : (T : Option (List ℕ) → Type 0) (report : CheckReport) (written : Result Published FileFault) → IfOk written (λ published. published_text published ≡ report.manifest.items) → IfOk written (λ published. T (Some (published_target published))) →
+    IsManifest T report written
+manifest_is T report (Ok published) text target = (target, text)
+manifest_is T report (Err fault) text target = tt
+
+-- what follows from the facts of a check's ending holds where they do
+pub EndsCheck-then : {P Q : CheckReport → Type 0} {T U : Option (List ℕ) → Type 0} {F G M N : Type 0} (ending : Ending) → ((report : CheckReport) → P report → Q report) → ((given : Option (List ℕ)) → T given → U given) → (F → G) → (M → N) →
+    EndsCheck ending P T F M → EndsCheck ending Q U G N
+EndsCheck-then (Checked (Ok report)) has is failed unread h = (has report h.0, is None h.1)
+EndsCheck-then (Checked (Err check_stops.Device)) has is failed unread h = failed h
+EndsCheck-then (Checked (Err check_stops.Memory)) has is failed unread h = h
+EndsCheck-then (Listed report target (Ok published)) has is failed unread h = (has report h.0, (is _ h.1.0, h.1.1))
+EndsCheck-then (Listed report target (Err fault)) has is failed unread h = (has report h.0, h.1)
+EndsCheck-then (Failed failure) has is failed unread h = unread h
+EndsCheck-then (BadLine path line due) has is failed unread h = unread h
+EndsCheck-then Memory has is failed unread h = unread h
+EndsCheck-then (Done published) has is failed unread h = h
+EndsCheck-then Refused has is failed unread h = h
+EndsCheck-then Device has is failed unread h = h
+EndsCheck-then (Words outcome) has is failed unread h = h
+
+-- a check that ended before its first file
+pub unread_ending : (P : CheckReport → Type 0) (T : Option (List ℕ) → Type 0) (F : Type 0) {M : Type 0} (ending : Ending) → M → EndsCheck ending (λ report. ⊥) (λ given. ⊥) ⊥ (Unit {0}) → EndsCheck ending P T F M
+unread_ending P T F ending stays h = EndsCheck-then ending (λ report x. absurd x) (λ given x. absurd x) (λ x. absurd x) (λ u. stays) h
+
+-- what was checked by complete options was checked as it is asked for
+pub asked_ending : {S F W : Type 0} (content : S → List ℕ → Option (List ℕ)) (failures : S → ℕ) (filing : input.Ghosts F) (writing : output.Ghosts W) (system system' : S) (writer writer' : W) (G M : Type 0) (asked : Asked) (complete : CheckOptions) →
+    IsComplete asked complete → (ending : Ending) → EndsCheck ending (λ report. IsFoundReport content failures filing writing complete asked.paths system system' writer writer' report) (IsTargetOf asked) G M →
+    EndsCheck ending (λ report. IsAskedReport content failures filing writing asked system system' writer writer' report) (IsTargetOf asked) G M
+asked_ending content failures filing writing system system' writer writer' G M asked complete has ending h = EndsCheck-then ending (λ report found. (complete, has, found)) (λ given same. same) (λ f. f) (λ m. m) h
 
 -- a task's ending is one of a command line
 module _ {S F R W : Type 0} (finds : CommandForm → List (List ℕ) → ArgMatches → Type 0) (refuses : CommandForm → List (List ℕ) → Type 0) (content : S → List ℕ → Option (List ℕ)) (failures : S → ℕ)
@@ -69,20 +98,22 @@ module _ {S F R W : Type 0} (finds : CommandForm → List (List ℕ) → ArgMatc
   ends_well (Failed failure) h = h
   ends_well Device h = h
   ends_well Memory h = h
-  ends_well (BadLine path line) h = absurd h
+  ends_well (Listed report target written) h = absurd h
+  ends_well (BadLine path line due) h = absurd h
   ends_well (Checked stated) h = absurd h
   ends_well (Words outcome) h = absurd h
 
   -- the ending of a check is one of a command line
-  pub check_ends_well : (ending : Ending) (options : CheckOptions) (lists : List (Bor (List ℕ))) (paths : List (List ℕ)) → AsksToCheck finds words options lists paths → reader' ≡ reader →
-      EndsCheck ending (IsSummedReport content failures filing writing options lists paths system system' writer writer')
+  pub check_ends_well : (ending : Ending) (asked : Asked) → AsksToCheck finds words asked → reader' ≡ reader →
+      EndsCheck ending (IsAskedReport content failures filing writing asked system system' writer writer') (IsTargetOf asked)
       (HasFailed (writing.failures writer) (writing.failures writer') (writing.interrupted writer')) (writer' ≡ writer) →
       EndsWell finds refuses content failures filing reading writing words ending system system' reader reader' writer writer'
-  check_ends_well (Checked stated) options lists paths asks same h = (options, lists, paths, asks, same, h)
-  check_ends_well (Failed failure) options lists paths asks same h = inr (inl h)
-  check_ends_well (BadLine path line) options lists paths asks same h = h
-  check_ends_well Memory options lists paths asks same h = inr (inl h)
-  check_ends_well (Done published) options lists paths asks same h = absurd h
-  check_ends_well Refused options lists paths asks same h = absurd h
-  check_ends_well Device options lists paths asks same h = absurd h
-  check_ends_well (Words outcome) options lists paths asks same h = absurd h
+  check_ends_well (Checked stated) asked asks same h = (asked, asks, same, h)
+  check_ends_well (Listed report target written) asked asks same h = (asked, asks, same, h.0, h.1)
+  check_ends_well (Failed failure) asked asks same h = inr (inl h)
+  check_ends_well (BadLine path line due) asked asks same h = h
+  check_ends_well Memory asked asks same h = inr (inl h)
+  check_ends_well (Done published) asked asks same h = absurd h
+  check_ends_well Refused asked asks same h = absurd h
+  check_ends_well Device asked asks same h = absurd h
+  check_ends_well (Words outcome) asked asks same h = absurd h

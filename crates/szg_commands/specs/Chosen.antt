@@ -17,7 +17,7 @@ use Rattle.szg_commands.specs.declared.command_line.CommandForm.{CommandForm}
 use Rattle.szg_commands.specs.declared.command_line.CommandForm.TheVariants.{Streams, Files}
 use Rattle.szg_commands.specs.declared.file_words.FileJob.{FileJob}
 use Rattle.szg_commands.specs.declared.file_words.WordsFault.{WordsFault}
-use Rattle.szg_commands.specs.declared.file_words.WordsFault.TheVariants.{Kind, Memory, Number}
+use Rattle.szg_commands.specs.declared.file_words.WordsFault.TheVariants.{Kind, Memory, Number, Shard}
 use Rattle.szg_commands.specs.declared.request.Task.{Task}
 
 -- ---- what is assumed of clap
@@ -110,13 +110,15 @@ has_kind found = is_some (named_as (first_value found (codes "name")) (kind_give
 abbrev pub IsWordsFault : List ℕ → Found → WordsFault → Type 0
 IsWordsFault command found (Number fault) = has_numbers command found ≡ false
 IsWordsFault command found Kind = has_kind found ≡ false
+IsWordsFault command found (Shard word) = is_some (first_value found (codes "shard")) ≡ true
 IsWordsFault command found Memory = Unit {0}
 
--- What is found names no command, or it has a number that is none or that the plan doesn't take, or a file of no kind.
+-- What is found names no command, or it has a number that is none or that the plan doesn't take, a file of no kind, or a
+-- word for a shard.
 abbrev pub NamesNoJob : ArgMatches → Type 0
 NamesNoJob matches = (has_subcommand matches ≡ false)
     ⊎ ((command : List ℕ) × (values : Found) × IsChosen matches command values
-    × ((has_unused values ≡ true) ⊎ (has_numbers command values ≡ false) ⊎ (has_kind values ≡ false)))
+    × ((has_unused values ≡ true) ⊎ (has_numbers command values ≡ false) ⊎ (has_kind values ≡ false) ⊎ (is_some (first_value values (codes "shard")) ≡ true)))
 
 -- The words ask for no job: no values are found in them, or these make none.
 abbrev pub AsksForNoJob : (CommandForm → List (List ℕ) → ArgMatches → Type 0) → (CommandForm → List (List ℕ) → Type 0) → List (List ℕ) → Type 0

@@ -1,5 +1,5 @@
 -- What a command line that names files asks for, by its command and by the values that were found for its arguments.
-use Rattle.std.specs.Prelude.{◌≡◌, ℕ, false, true, List, codes, map, Option, None, Some, option_map}
+use Rattle.std.specs.Prelude.{◌≡◌, ◌≤◌, ◌++◌, ℕ, false, true, List, codes, decimal, is_some, map, Option, None, Some, option_map}
 use Rattle.std.specs.Str.{bytes_eq}
 use Rattle.clap.specs.Matches.{first_value}
 use Rattle.clap.specs.declared.parser.matches.Found.{Found}
@@ -11,6 +11,7 @@ use Rattle.szg_commands.specs.Fronts.{IsLookUp}
 use Rattle.szg_commands.specs.Words.{is_word, parsed_kind, word_of}
 use Rattle.szg_commands.specs.declared.file_words.FileJob.{FileJob}
 use Rattle.szg_commands.specs.declared.file_words.FileJob.TheVariants.{Check, LookUp, Run}
+use Rattle.szg_named.specs.declared.shard.Shard.{Shard}
 use Rattle.szg_commands.specs.declared.request.Request.{Request}
 use Rattle.szg_commands.specs.declared.request.Task.{Task}
 use Rattle.szg_commands.specs.declared.request.Task.TheVariants.{OnTable, Build}
@@ -18,6 +19,14 @@ use Rattle.szg_commands.specs.declared.request.Task.TheVariants.{OnTable, Build}
 -- the kind that is given in place of the file name's
 abbrev pub kind_given : Found → Option Kind
 kind_given found = option_map (λ word. parsed_kind (Some word)) (first_value found (codes "kind"))
+
+-- The word is the shard's number, from 1 on, a slash, and how many there are.
+abbrev pub IsShardWord : List ℕ → Shard → Type 0
+IsShardWord word shard = (word ≡ decimal shard.number ++ (codes "/" ++ decimal shard.count)) × (1 ≤ shard.number) × (shard.number ≤ shard.count)
+
+abbrev pub IsShardIn : Option (List ℕ) → Option Shard → Type 0
+IsShardIn None shard = shard ≡ None
+IsShardIn (Some word) shard = (one : Shard) × (shard ≡ Some one) × IsShardWord word one
 
 -- The options are those of the values that were found.
 pub record AreOptionsIn (found : Found) (options : CheckOptions) : Type 0 where
@@ -27,6 +36,9 @@ pub record AreOptionsIn (found : Found) (options : CheckOptions) : Type 0 where
   pub format : options.format ≡ parsed_report_format (first_value found (codes "format"))
   pub quiet : options.quiet ≡ is_word (first_value found (codes "quiet")) (codes "true")
   pub sums : options.sums ≡ None
+  pub shard : IsShardIn (first_value found (codes "shard")) options.shard
+  pub log : options.log ≡ None
+  pub manifest : options.has_manifest ≡ is_some (first_value found (codes "manifest"))
 
 -- The request is that of the values that were found, on the table whose name and kind are given or in the file's name.
 pub record IsFileRequest (command : List ℕ) (found : Found) (request : Request) : Type 0 where
@@ -47,6 +59,8 @@ IsJobIn command found (LookUp request source) = (bytes_eq command (codes "build"
     × IsLookUp request.action × (is_word (first_value found (codes "verify")) (codes "true") ≡ false)
 IsJobIn command found (Run task source target) = IsFileTask command found task (option_map (λ path. path.now) source)
     × (option_map (λ path. path.now) target ≡ first_value found (codes "output"))
-IsJobIn command found (Check options lists paths) = (bytes_eq command (codes "check") ≡ true) × AreOptionsIn found options
-    × (map (λ list. list.now) lists.items ≡ words_of found (codes "sums"))
-    × (map (λ path. path.now) paths.items ≡ words_of found (codes "FILE"))
+IsJobIn command found (Check job) = (bytes_eq command (codes "check") ≡ true) × AreOptionsIn found job.options
+    × (map (λ list. list.now) job.lists.items ≡ words_of found (codes "sums"))
+    × (map (λ log. log.now) job.logs.items ≡ words_of found (codes "resume"))
+    × (option_map (λ path. path.now) job.manifest ≡ first_value found (codes "manifest"))
+    × (map (λ path. path.now) job.paths.items ≡ words_of found (codes "FILE"))

@@ -1,6 +1,6 @@
 -- What a command on files by their paths does.
 use Rattle.std.specs.Borrow.{Bor}
-use Rattle.std.specs.Prelude.{◌≡◌, ◌⊎◌, ℕ, List, [], ◌∷◌, map, Option, Some, None, IsSome, option_map, Ok, Err}
+use Rattle.std.specs.Prelude.{◌≡◌, ◌⊎◌, ℕ, List, [], ◌∷◌, map, Option, Some, None, IsSome, option_map, Result, Ok, Err}
 use Rattle.szg_io.specs.declared.device.Input as input
 use Rattle.szg_io.specs.declared.device.Output as output
 use Rattle.szg_io.specs.Device.{HasFailed}
@@ -11,12 +11,14 @@ use Rattle.szg_build.specs.Dump as stated
 use Rattle.szg_files.specs.Draft.{published_target, published_text}
 use Rattle.szg_files.specs.FileSystem.{IsOpened}
 use Rattle.szg_files.specs.declared.draft.Published.{Published}
+use Rattle.szg_files.specs.declared.file_system.FileFault.{FileFault}
 use Rattle.szg_sums.specs.declared.lists.Sums.{Sums}
 use Rattle.szg_named.specs.Requested.{files_to_check}
-use Rattle.szg_named.specs.Verdicts.{IsFoundReport, plain_options}
+use Rattle.szg_named.specs.Verdicts.{IsFoundReport, options_with, plain_options}
+use Rattle.szg_named.specs.declared.log.Log.{Log}
+use Rattle.szg_named.specs.declared.many.CheckReport.{CheckReport}
 use Rattle.szg_named.specs.declared.many.CheckOptions.{CheckOptions}
 use Rattle.szg_named.specs.declared.stop.CheckStop.TheVariants as check_stops
-use Rattle.szg_named.specs.declared.stop.CheckCounts.{CheckCounts}
 use Rattle.szg_commands.specs.Answers.{IsAnswer}
 use Rattle.szg_commands.specs.Builds.{IsBuiltIn, IsTextOf}
 use Rattle.szg_commands.specs.Chosen.{AsksFor, AsksForJob, AsksForNoJob, AsksForNone}
@@ -26,7 +28,7 @@ use Rattle.szg_commands.specs.RefusalLines.{refusal_line}
 use Rattle.szg_commands.specs.Requests.{IsBegunBy, IsCarriedOut, IsListed, IsRefusedWith, IsTableOf, Meets}
 use Rattle.clap.specs.declared.parser.matches.ArgMatches.{ArgMatches}
 use Rattle.szg_commands.specs.declared.command_line.CommandForm.{CommandForm}
-use Rattle.szg_commands.specs.declared.file_words.FileJob.{FileJob}
+use Rattle.szg_commands.specs.declared.file_words.CheckJob.{CheckJob}
 use Rattle.szg_commands.specs.declared.file_words.FileJob.TheVariants.{Check, LookUp, Run}
 use Rattle.szg_commands.specs.declared.refusal.Refusal.{Refusal}
 use Rattle.szg_commands.specs.declared.on_files.Ending.{Ending}
@@ -102,23 +104,31 @@ EndsTask (endings.Failed failure) Done Refused Failed Short = Failed
 EndsTask endings.Device Done Refused Failed Short = Failed
 EndsTask endings.Memory Done Refused Failed Short = Short
 EndsTask (endings.Checked stated) Done Refused Failed Short = ⊥
-EndsTask (endings.BadLine path line) Done Refused Failed Short = ⊥
+EndsTask (endings.Listed report target written) Done Refused Failed Short = ⊥
+EndsTask (endings.BadLine path line due) Done Refused Failed Short = ⊥
 EndsTask (endings.Words outcome) Done Refused Failed Short = ⊥
 
 -- Files were checked: all of them, or the writer failed, or memory was refused.
-abbrev pub AreChecked : Ending → (CheckCounts → Type 0) → Type 0 → Type 0
-AreChecked (endings.Checked (Ok tally)) Report Failed = Report tally
+abbrev pub AreChecked : Ending → (CheckReport → Type 0) → Type 0 → Type 0
+AreChecked (endings.Checked (Ok report)) Report Failed = Report report
 AreChecked (endings.Checked (Err check_stops.Device)) Report Failed = Failed
 AreChecked (endings.Checked (Err check_stops.Memory)) Report Failed = Unit {0}
 AreChecked ending Report Failed = ⊥
 
--- The same; or a list of sums can't be read, or memory was refused for it.
-abbrev pub EndsCheck : Ending → (CheckCounts → Type 0) → Type 0 → Type 0 → Type 0
-EndsCheck (endings.Checked stated) Report Failed Unread = AreChecked (endings.Checked stated) Report Failed
-EndsCheck (endings.Failed failure) Report Failed Unread = Unread
-EndsCheck (endings.BadLine path line) Report Failed Unread = Unread
-EndsCheck endings.Memory Report Failed Unread = Unread
-EndsCheck ending Report Failed Unread = ⊥
+-- The manifest of what was checked is in the file that was asked for, or that could not be written.
+abbrev pub IsManifest : (Option (List ℕ) → Type 0) → CheckReport → Result Published FileFault → Type 0
+IsManifest IsTarget report (Ok published) = IsTarget (Some (published_target published)) × (published_text published ≡ report.manifest.items)
+IsManifest IsTarget report (Err fault) = Unit {0}
+
+-- Files were checked so, and a manifest was written if one was asked for; or a list of sums or a log can't be read, a manifest can't be
+-- begun, or memory was refused for them.
+abbrev pub EndsCheck : Ending → (CheckReport → Type 0) → (Option (List ℕ) → Type 0) → Type 0 → Type 0 → Type 0
+EndsCheck (endings.Checked stated) Report IsTarget Failed Unread = AreChecked (endings.Checked stated) (λ report. Report report × IsTarget None) Failed
+EndsCheck (endings.Listed report target written) Report IsTarget Failed Unread = Report report × IsManifest IsTarget report written
+EndsCheck (endings.Failed failure) Report IsTarget Failed Unread = Unread
+EndsCheck (endings.BadLine path line due) Report IsTarget Failed Unread = Unread
+EndsCheck endings.Memory Report IsTarget Failed Unread = Unread
+EndsCheck ending Report IsTarget Failed Unread = ⊥
 
 -- What a run on a reader does: the clauses of `run`. The words may as well ask for no job on files.
 pub record HasRun {R W : Type 0} (finds : CommandForm → List (List ℕ) → ArgMatches → Type 0) (refuses : CommandForm → List (List ℕ) → Type 0) (reading : input.Ghosts R) (writing : output.Ghosts W)
@@ -166,25 +176,49 @@ IsShortOfMemory content failures filing reading writing task None system system'
 
 -- ---- what the words ask for
 
--- The words ask to check these files, with these options and lists of sums.
-abbrev pub IsCheckOf : FileJob → CheckOptions → List (Bor (List ℕ)) → List (List ℕ) → Type 0
-IsCheckOf (Check options lists found) options' lists' paths = (options' ≡ options) × (lists' ≡ lists.items) × (paths ≡ map (λ path. path.now) found.items)
-IsCheckOf job options' lists' paths = ⊥
+-- A check that is asked for: its options, the files of lists of sums and of logs, the file for a manifest, and the paths.
+pub record Asked : Type 0 where
+  pub options : CheckOptions
+  pub lists : List (Bor (List ℕ))
+  pub logs : List (Bor (List ℕ))
+  pub target : Option (List ℕ)
+  pub paths : List (List ℕ)
 
-abbrev pub AsksToCheck : (CommandForm → List (List ℕ) → ArgMatches → Type 0) → List (List ℕ) → CheckOptions → List (Bor (List ℕ)) → List (List ℕ) → Type 0
-AsksToCheck finds words options lists paths =
-    ((files_to_check words ≡ Some paths) × (options ≡ plain_options) × (lists ≡ [])) ⊎ ((job : FileJob) × AsksForJob finds words job × IsCheckOf job options lists paths)
+abbrev pub asked_of : CheckJob → Asked
+asked_of job = record {
+  options = job.options;
+  lists = job.lists.items;
+  logs = job.logs.items;
+  target = option_map (λ path. path.now) job.manifest;
+  paths = map (λ path. path.now) job.paths.items;
+}
 
--- The options of the words, and the sums of the lists, if there are lists.
-abbrev pub HasSums : CheckOptions → List (Bor (List ℕ)) → CheckOptions → Type 0
-HasSums options [] with_sums = with_sums ≡ options
-HasSums options (list ∷ lists) with_sums = (sums : Bor Sums)
-    × (with_sums ≡ record { naming = options.naming; allow_trailing = options.allow_trailing; format = options.format; quiet = options.quiet; sums = Some sums })
+-- the check of these files without options
+abbrev pub plain_check : List (List ℕ) → Asked
+plain_check paths = record { options = plain_options; lists = []; logs = []; target = None; paths = paths }
 
--- These files were checked, and compared with the sums of the lists.
-abbrev pub IsSummedReport : {S F W : Type 0} → (S → List ℕ → Option (List ℕ)) → (S → ℕ) → input.Ghosts F → output.Ghosts W → CheckOptions → List (Bor (List ℕ)) → List (List ℕ) → S → S → W → W → CheckCounts → Type 0
-IsSummedReport content failures filing writing options lists paths system system' writer writer' tally =
-    (with_sums : CheckOptions) × HasSums options lists with_sums × IsFoundReport content failures filing writing with_sums paths system system' writer writer' tally
+-- The words ask for this check.
+abbrev pub AsksToCheck : (CommandForm → List (List ℕ) → ArgMatches → Type 0) → List (List ℕ) → Asked → Type 0
+AsksToCheck finds words asked =
+    ((paths : List (List ℕ)) × (files_to_check words ≡ Some paths) × (asked ≡ plain_check paths)) ⊎ ((job : CheckJob) × AsksForJob finds words (Check job) × (asked ≡ asked_of job))
+
+-- What was read from files, if any are named.
+abbrev pub IsGiven : {X Y : Type 0} → List X → Option Y → Type 0
+IsGiven [] given = given ≡ None
+IsGiven (file ∷ files) given = IsSome given
+
+-- The options that are asked for, with the sums of the lists and the records of the logs.
+abbrev pub IsComplete : Asked → CheckOptions → Type 0
+IsComplete asked complete = (sums : Option (Bor Sums)) × (log : Option (Bor Log)) × IsGiven asked.lists sums × IsGiven asked.logs log × (complete ≡ options_with asked.options sums log)
+
+-- The files were checked as it is asked for.
+abbrev pub IsAskedReport : {S F W : Type 0} → (S → List ℕ → Option (List ℕ)) → (S → ℕ) → input.Ghosts F → output.Ghosts W → Asked → S → S → W → W → CheckReport → Type 0
+IsAskedReport content failures filing writing asked system system' writer writer' report =
+    (complete : CheckOptions) × IsComplete asked complete × IsFoundReport content failures filing writing complete asked.paths system system' writer writer' report
+
+-- A file for a manifest is the one that is asked for, or there is none.
+abbrev pub IsTargetOf : Asked → Option (List ℕ) → Type 0
+IsTargetOf asked target = target ≡ asked.target
 
 -- The task that the words ask for was carried out; or the look-up was answered by a front, no file was written, and the
 -- reader stays.
@@ -222,9 +256,12 @@ HasShort finds content failures filing reading writing words system system' read
 -- What was done, by the ending.
 abbrev pub EndsWell : {S F R W : Type 0} → (CommandForm → List (List ℕ) → ArgMatches → Type 0) → (CommandForm → List (List ℕ) → Type 0) → (S → List ℕ → Option (List ℕ)) → (S → ℕ) → input.Ghosts F → input.Ghosts R → output.Ghosts W → List (List ℕ) → Ending → S → S → R → R → W → W → Type 0
 EndsWell finds refuses content failures filing reading writing words (endings.Checked stated) system system' reader reader' writer writer' =
-    (options : CheckOptions) × (lists : List (Bor (List ℕ))) × (paths : List (List ℕ)) × AsksToCheck finds words options lists paths × (reader' ≡ reader)
-    × AreChecked (endings.Checked stated) (IsSummedReport content failures filing writing options lists paths system system' writer writer')
+    (asked : Asked) × AsksToCheck finds words asked × (reader' ≡ reader)
+    × AreChecked (endings.Checked stated) (λ report. IsAskedReport content failures filing writing asked system system' writer writer' report × IsTargetOf asked None)
     (HasFailed (writing.failures writer) (writing.failures writer') (writing.interrupted writer'))
+EndsWell finds refuses content failures filing reading writing words (endings.Listed report target written) system system' reader reader' writer writer' =
+    (asked : Asked) × AsksToCheck finds words asked × (reader' ≡ reader)
+    × IsAskedReport content failures filing writing asked system system' writer writer' report × IsManifest (IsTargetOf asked) report written
 EndsWell finds refuses content failures filing reading writing words (endings.Done published) system system' reader reader' writer writer' =
     HasDone finds content failures filing reading writing words system system' reader reader' writer writer' published
 EndsWell finds refuses content failures filing reading writing words endings.Refused system system' reader reader' writer writer' =
@@ -232,7 +269,7 @@ EndsWell finds refuses content failures filing reading writing words endings.Ref
 EndsWell finds refuses content failures filing reading writing words (endings.Words outcome) system system' reader reader' writer writer' =
     (system' ≡ system) × HasRun finds refuses reading writing words outcome reader reader' writer writer'
 EndsWell finds refuses content failures filing reading writing words (endings.Failed failure) system system' reader reader' writer writer' = HasStopped finds writing words writer writer'
-EndsWell finds refuses content failures filing reading writing words (endings.BadLine path line) system system' reader reader' writer writer' = writer' ≡ writer
+EndsWell finds refuses content failures filing reading writing words (endings.BadLine path line due) system system' reader reader' writer writer' = writer' ≡ writer
 EndsWell finds refuses content failures filing reading writing words endings.Device system system' reader reader' writer writer' = HasStopped finds writing words writer writer'
 EndsWell finds refuses content failures filing reading writing words endings.Memory system system' reader reader' writer writer' =
     HasShort finds content failures filing reading writing words system system' reader reader' writer writer'

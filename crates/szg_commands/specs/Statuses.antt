@@ -5,7 +5,7 @@ use Rattle.szg_named.specs.declared.stop.CheckStop.TheVariants as check_stops
 use Rattle.szg_named.specs.declared.stop.CheckCounts.{CheckCounts}
 use Rattle.szg_commands.specs.Outcome.{OnDone, OnRefused, status_of}
 use Rattle.szg_commands.specs.declared.on_files.Ending.{Ending}
-use Rattle.szg_commands.specs.declared.on_files.Ending.TheVariants.{Checked, Done, Refused, Failed, BadLine, Device, Memory, Words}
+use Rattle.szg_commands.specs.declared.on_files.Ending.TheVariants.{Checked, Listed, Done, Refused, Failed, BadLine, Device, Memory, Words}
 
 -- of files that were checked: 1 where one is refused, else 3 where one can't be read
 abbrev pub tally_status : CheckCounts → ℕ
@@ -17,12 +17,14 @@ stop_status check_stops.Memory = 4
 
 -- An ending has a status: where a text is printed on standard error that fails, 3.
 abbrev pub HasStatus : Ending → ℕ → Type 0
-HasStatus (Checked (Ok tally)) status = status ≡ tally_status tally
+HasStatus (Checked (Ok report)) status = status ≡ tally_status report.counts
 HasStatus (Checked (Err stop)) status = (status ≡ stop_status stop) ⊎ (status ≡ 3)
 HasStatus (Done published) status = status ≡ 0
 HasStatus Refused status = status ≡ 1
 HasStatus (Failed failure) status = (status ≡ 3) ⊎ (status ≡ 4)
-HasStatus (BadLine path line) status = status ≡ 3
+HasStatus (Listed report target (Ok published)) status = status ≡ tally_status report.counts
+HasStatus (Listed report target (Err fault)) status = (status ≡ 3) ⊎ (status ≡ 4)
+HasStatus (BadLine path line due) status = status ≡ 3
 HasStatus Device status = status ≡ 3
 HasStatus Memory status = (status ≡ 4) ⊎ (status ≡ 3)
 HasStatus (Words outcome) status = ((status ≡ status_of outcome) ⊎ (status ≡ 3)) × OnDone outcome (status ≡ 0) × OnRefused outcome (status ≡ 1)

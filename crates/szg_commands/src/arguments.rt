@@ -89,6 +89,30 @@ pub const NAMES: Argument = Argument {
     help: "Materials to verify, such as KQvKR, with those that captures and promotions lead to{n}[default: all of the folder]",
 };
 
+/// What earlier verifications wrote.
+pub const LOG: Argument = Argument {
+    id: "resume",
+    form: ArgumentForm::OptionalOption {
+        value: "LOG",
+        short: None,
+    },
+    values: ValueParser::NonEmptyString,
+    is_number: false,
+    help: "Pass over materials that LOG, the output of earlier runs, has as verified with{n}the same tables",
+};
+
+/// A shard of a material's positions.
+pub const POSITIONS_SHARD: Argument = Argument {
+    id: "shard",
+    form: ArgumentForm::OptionalOption {
+        value: "K/N",
+        short: None,
+    },
+    values: ValueParser::NonEmptyString,
+    is_number: false,
+    help: "Check only the K-th of N parts of the positions of NAME",
+};
+
 /// A dump's file.
 pub const DUMP: Argument = Argument {
     id: "DUMP",
@@ -161,6 +185,39 @@ pub const SUMS: Argument = Argument {
     help: "Compare each file with its sum in LIST, as md5sum, sha1sum, sha256sum or sha512sum{n}writes it; may be given several times",
 };
 
+/// Logs of earlier checks.
+pub const LOGS: Argument = Argument {
+    id: "resume",
+    form: ArgumentForm::Options { value: "LOG" },
+    values: ValueParser::NonEmptyString,
+    is_number: false,
+    help: "Leave out files that are good by their last record in LOG (a report in tsv or json), and have{n}not changed since, unless --sums or --manifest is given; may be given several times",
+};
+
+/// The list of sums to be written.
+pub const MANIFEST: Argument = Argument {
+    id: "manifest",
+    form: ArgumentForm::OptionalOption {
+        value: "FILE",
+        short: None,
+    },
+    values: ValueParser::NonEmptyString,
+    is_number: false,
+    help: "Write the SHA-256 sums of the files that pass to FILE, as sha256sum does, at the end of the run",
+};
+
+/// A shard of the files.
+pub const FILES_SHARD: Argument = Argument {
+    id: "shard",
+    form: ArgumentForm::OptionalOption {
+        value: "K/N",
+        short: None,
+    },
+    values: ValueParser::NonEmptyString,
+    is_number: false,
+    help: "Check only every N-th file, from the K-th on: runs with K from 1 to N share the files out",
+};
+
 /// The form of a report on files.
 pub const REPORT: Argument = Argument {
     id: "format",
@@ -170,7 +227,7 @@ pub const REPORT: Argument = Argument {
     },
     values: ValueParser::Names(&["text", "tsv", "json"]),
     is_number: false,
-    help: "Format of the report: text is one line per file and a summary; tsv and json are one{n}record per file: path, verdict, bytes, reason, offset (bytes), time (seconds)",
+    help: "Format of the report: text is one line per file; tsv and json are one record per file:{n}path, verdict, bytes, reason, offset (bytes), time (seconds), last change{n}(nanoseconds from 1970); a summary follows",
 };
 
 /// The table's kind.

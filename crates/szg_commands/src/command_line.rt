@@ -1,9 +1,9 @@
 //! The command line: the program's commands with their texts of help.
 
 use crate::arguments::{
-    ALLOW_TRAILING, Argument, BLOCK, CLASS, DUMP, FILE, FILES, FOLDER, FORM, INDEX, KIND,
-    KIND_GIVEN, MEN, MOVER, NAME, NAME_GIVEN, NAMES, OUTPUT, PART, PLAN, QUIET, REPORT, ROUNDS,
-    SIDE, SPAN, STEPS, SUMS, VERIFY,
+    ALLOW_TRAILING, Argument, BLOCK, CLASS, DUMP, FILE, FILES, FILES_SHARD, FOLDER, FORM, INDEX,
+    KIND, KIND_GIVEN, LOG, LOGS, MANIFEST, MEN, MOVER, NAME, NAME_GIVEN, NAMES, OUTPUT, PART, PLAN,
+    POSITIONS_SHARD, QUIET, REPORT, ROUNDS, SIDE, SPAN, STEPS, SUMS, VERIFY,
 };
 use clap::Command;
 use std::alloc::{AllocError, Global};
@@ -48,10 +48,13 @@ static OF_OUTCOME: [Argument; 5] = [NAME, KIND, MOVER, MEN, CLASS];
 static OF_BUILD: [Argument; 4] = [PLAN, BLOCK, SPAN, ROUNDS];
 
 /// Those of the check of files.
-static OF_FILES: [Argument; 7] = [
+static OF_FILES: [Argument; 10] = [
     FILES,
     QUIET,
     SUMS,
+    MANIFEST,
+    LOGS,
+    FILES_SHARD,
     REPORT,
     ALLOW_TRAILING,
     NAME_GIVEN,
@@ -88,7 +91,7 @@ static OF_FILE_OUTCOME: [Argument; 7] = [FILE, MOVER, MEN, CLASS, VERIFY, NAME_G
 static OF_FILE_BUILD: [Argument; 6] = [DUMP, PLAN, BLOCK, SPAN, ROUNDS, OUTPUT];
 
 /// Those of the verification of a folder.
-static OF_FOLDER: [Argument; 2] = [FOLDER, NAMES];
+static OF_FOLDER: [Argument; 4] = [FOLDER, NAMES, LOG, POSITIONS_SHARD];
 
 /// Whether a command line names files, or works on the standard streams alone.
 #[derive(Clone, Copy)]

@@ -1,18 +1,18 @@
 //! Command lines that name files.
-ghost use Rattle.std.specs.Prelude.{◌≡◌, ◌⊎◌, true, false, IfErr, IfOk, codes, map, option_map};
+ghost use Rattle.std.specs.Prelude.{◌≡◌, ◌⊎◌, true, false, IfErr, IfOk, IfSome, codes, map, option_map};
 ghost use Rattle.std.specs.Str.{bytes_eq};
 ghost use Rattle.clap.specs.Matches.{first_value, found_of};
 ghost use Rattle.clap.specs.Values.{kind_of as kind_of_error};
 ghost use Rattle.szg_named.specs.Named.{name_given, named_as};
 ghost use Rattle.szg_commands.specs.Requested.{parsed_report_format, words_of};
 ghost use Rattle.szg_commands.specs.Chosen.{AsksForJob, AsksForNoJob, IsWordsFault};
-ghost use Rattle.szg_commands.specs.Jobs.{AreOptionsIn, IsJobIn, kind_given};
+ghost use Rattle.szg_commands.specs.Jobs.{AreOptionsIn, IsJobIn, IsShardIn, IsShardWord, kind_given};
 ghost use Rattle.szg_commands.specs.Words.{word_of};
 
 use crate::command_line::CommandForm;
 use crate::finding::Finder;
 use crate::fronts::is_look_up;
-use crate::numbers::NumberFault;
+use crate::numbers::{NumberFault, number};
 use crate::request::{
     Request, Task, conflict_error, is_given, kind_of, missing_command, number_error, packing_in,
     request_on, unused_by_plan, usage_error,
@@ -20,19 +20,27 @@ use crate::request::{
 use clap::error::ErrorKind;
 use clap::{ArgMatches, Error};
 use std::alloc::{AllocError, Global};
-use szg_named::{CheckOptions, Naming, ReportFormat, named_as, named_by};
+use szg_named::{CheckOptions, Naming, ReportFormat, Shard, named_as, named_by};
 use szg_values::Material;
+
+/// The check of files and of what is below folders.
+#[derive(Drop)]
+pub struct CheckJob<'a> {
+    pub options: CheckOptions<'a>,
+    /// The lists of sums.
+    pub lists: Vec<&'a str>,
+    /// The logs of earlier runs.
+    pub logs: Vec<&'a str>,
+    /// The file for the digests of files that pass.
+    pub manifest: Option<&'a str>,
+    pub paths: Vec<&'a str>,
+}
 
 /// What a command line that names files asks for.
 #[derive(Drop)]
 pub enum FileJob<'a> {
-    /// The check of files and of what is below folders.
-    Check {
-        options: CheckOptions<'a>,
-        /// The lists of sums.
-        lists: Vec<&'a str>,
-        paths: Vec<&'a str>,
-    },
+    /// The check of files.
+    Check(CheckJob<'a>),
     /// A task on the file at `source`, else on standard input; its answer goes to the file at `target`, else to standard
     /// output.
     Run {
@@ -54,6 +62,8 @@ enum WordsFault<'a> {
     Number(NumberFault<'a>),
     /// The file's ending names no kind, and none is given.
     Kind,
+    /// A word is no shard.
+    Shard(&'a str),
     /// A growth was refused.
     Memory,
 }
@@ -83,6 +93,9 @@ fn is_file_option(word: &str) -> bool {
         || word.starts_with("--format")
         || word.starts_with("--quiet")
         || word.starts_with("--sums")
+        || word.starts_with("--manifest")
+        || word.starts_with("--resume")
+        || word.starts_with("--shard")
 }
 
 /// Whether the option takes the next word as its value, in each form of `build`.
@@ -178,8 +191,23 @@ pub fn parse_files<'a, F: Finder>(
             ErrorKind::MissingRequiredArgument,
             KIND_MISSING,
         )?),
+        Err(WordsFault::Shard(word)) => Err(shard_error(alloc, word)?),
         Err(WordsFault::Memory) => Err(Error::from(AllocError)),
     }
+}
+
+/// Creates the error of a word that is no shard.
+fn shard_error(alloc: Global, word: &str) -> Result<Error, AllocError> {
+    let message = format!(in alloc;
+        "invalid value '{word}' for '--shard <K/N>': not a number K from 1 to N, a slash and N"
+    )?;
+    usage_error(
+        alloc,
+        "check",
+        CommandForm::Files,
+        ErrorKind::ValueValidation,
+        message.as_str(),
+    )
 }
 
 /// The name and the kind that are given.
@@ -228,8 +256,42 @@ fn job_in<'a>(
     }
 }
 
+/// Parses a shard: its number, from 1 on, a slash, and how many there are. None if the word isn't one.
+fn parsed_shard(alloc: Global, word: &str) -> Result<Option<Shard>, AllocError>
+    ensures { IfOk result (λ shard. IfSome shard (λ one. IsShardWord word.now one)) }
+{
+    let Some((first, last)) = word.split_once('/') else {
+        return Ok(None);
+    };
+    let (Some(number), Some(count)) = (number(first), number(last)) else {
+        return Ok(None);
+    };
+    let text = format!(in alloc; "{number}/{count}")?;
+    if text.as_str() == word && 1 <= number && number <= count {
+        Ok(Some(Shard { number, count }))
+    } else {
+        Ok(None)
+    }
+}
+
+/// The shard that is given. None if there is none.
+fn shard_in<'a>(alloc: Global, chosen: &ArgMatches<'a>) -> Result<Option<Shard>, WordsFault<'a>>
+    ensures shard { IfOk result (IsShardIn (first_value (found_of chosen.now) (codes "shard"))) }
+    ensures none { IfErr result (IsWordsFault (codes "check") (found_of chosen.now)) }
+{
+    let Some(word) = chosen.get_str("shard") else {
+        return Ok(None);
+    };
+    match parsed_shard(alloc, word) {
+        Ok(Some(shard)) => Ok(Some(shard)),
+        Ok(None) => Err(WordsFault::Shard(word)),
+        Err(_) => Err(WordsFault::Memory),
+    }
+}
+
 /// How files are to be checked.
-fn options_in<'a>(chosen: &ArgMatches<'a>) -> CheckOptions<'a>
+fn options_in<'a>(chosen: &ArgMatches<'a>, shard: Option<Shard>) -> CheckOptions<'a>
+    requires { IsShardIn (first_value (found_of chosen.now) (codes "shard")) shard }
     ensures { AreOptionsIn (found_of chosen.now) result }
 {
     CheckOptions {
@@ -238,6 +300,9 @@ fn options_in<'a>(chosen: &ArgMatches<'a>) -> CheckOptions<'a>
         format: report_format_of(chosen.get_str("format")),
         quiet: is_given(chosen.get_str("quiet"), "true"),
         sums: None,
+        shard,
+        log: None,
+        has_manifest: chosen.get_str("manifest").is_some(),
     }
 }
 
@@ -261,16 +326,16 @@ fn texts_in<'a>(
 /// The files that are to be checked.
 fn check_in<'a>(alloc: Global, chosen: &ArgMatches<'a>) -> Result<FileJob<'a>, WordsFault<'a>>
     ensures job { IfOk result (IsJobIn (codes "check") (found_of chosen.now)) }
-    ensures none { IfErr result (λ fault. fault ≡ WordsFault.Memory) }
+    ensures none { IfErr result (IsWordsFault (codes "check") (found_of chosen.now)) }
 {
-    let options = options_in(chosen);
-    let lists = texts_in(alloc, chosen, "sums")?;
-    let paths = texts_in(alloc, chosen, "FILE")?;
-    Ok(FileJob::Check {
-        options,
-        lists,
-        paths,
-    })
+    let shard = shard_in(alloc, chosen)?;
+    Ok(FileJob::Check(CheckJob {
+        options: options_in(chosen, shard),
+        lists: texts_in(alloc, chosen, "sums")?,
+        logs: texts_in(alloc, chosen, "resume")?,
+        manifest: chosen.get_str("manifest"),
+        paths: texts_in(alloc, chosen, "FILE")?,
+    }))
 }
 
 /// The request on the table at a path.

@@ -88,7 +88,7 @@ pub fn number_of<'a>(
 }
 
 /// Parses decimal digits (leading zeros allowed). None if any byte is no digit or the number is 2^64 or more.
-fn number(text: &str) -> Option<u64>
+pub(crate) fn number(text: &str) -> Option<u64>
     ensures { result ≡ parsed_number text.now }
 {
     if text.is_empty() {

@@ -1,12 +1,12 @@
 //! Commands on files by their paths.
-ghost use Rattle.std.specs.Prelude.{◌≡◌, ◌⊎◌, None, Some, IfErr, IfOk, IsErrOf, IfSome, map, option_map};
+ghost use Rattle.std.specs.Prelude.{◌≡◌, ◌⊎◌, [], None, Some, IfErr, IfOk, IsErrOf, IfSome, map, option_map};
 ghost use Rattle.szg_files.specs.Draft.{draft_target, published_target, published_text, text_of};
 ghost use Rattle.szg_io.specs.Device.{HasFailed};
 ghost use Rattle.szg_io.specs.Moved.{Gives};
 ghost use Rattle.szg_named.specs.Requested.{files_to_check};
-ghost use Rattle.szg_named.specs.Verdicts.{IsReport, plain_options};
+ghost use Rattle.szg_named.specs.Verdicts.{IsFoundReport, IsReport, plain_options};
 ghost use Rattle.szg_commands.specs.Fronts.{IsLookUp};
-ghost use Rattle.szg_commands.specs.OnFiles.{AreChecked, EndsCheck, EndsTask, EndsWell, HasDoneTask, HasLookedUp, HasRefusedLookUp, HasRefusedTask, IsCarriedFrom, IsCarriedTo, IsListing, IsPublishedBy, IsPublishedFrom, IsShortOfMemory, IsStarted, IsStartedFrom, IsSummedReport, IsUnwritten, MeetsFrom};
+ghost use Rattle.szg_commands.specs.OnFiles.{AreChecked, EndsCheck, IsAskedReport, IsGiven, EndsTask, EndsWell, HasDoneTask, HasLookedUp, HasRefusedLookUp, HasRefusedTask, IsCarriedFrom, IsCarriedTo, IsListing, IsPublishedBy, IsPublishedFrom, IsShortOfMemory, IsStarted, IsStartedFrom, IsTargetOf, IsUnwritten, MeetsFrom, asked_of};
 ghost use Rattle.szg_commands.specs.RefusalLines.{refusal_line};
 ghost use Rattle.szg_commands.specs.Requests.{Meets, IsListed};
 ghost use Rattle.szg_commands.specs.declared.on_files.FileFailure.{FileFailure};
@@ -14,7 +14,7 @@ ghost use Rattle.szg_commands.specs.declared.on_files.FileStop.{FileStop};
 ghost use Rattle.szg_commands.specs.declared.refusal.Refusal.{Refusal};
 
 use crate::commands::{carry_out, refuse, run_by, words_outcome};
-use crate::file_words::{FileJob, names_files, parse_files};
+use crate::file_words::{CheckJob, FileJob, names_files, parse_files};
 use crate::finding::Finder;
 use crate::fronts::{LookUpStop, answer_in};
 use crate::outcome::Outcome;
@@ -23,16 +23,18 @@ use crate::request::{Request, Task};
 use crate::saying::say;
 use crate::streaming::{is_listed, stream_from};
 use std::alloc::Global;
+use std::io::ErrorKind;
 use std::rt::Files;
 use std::time::Clock;
 use szg_build::Watcher;
 use szg_file::Ahead;
 use szg_files::{Draft, FileFault, FileSystem, Published, Reasons};
-use szg_io::{Input, Output};
+use szg_io::{Input, Output, give_whole};
 use szg_named::{
-    CheckCounts, CheckOptions, ListFailure, ListFault, check_files, check_found, files_to_check,
-    sums_in,
+    CheckOptions, CheckReport, ListFailure, ListFault, Log, check_files, check_found,
+    files_to_check, read_lists,
 };
+use szg_sums::Sums;
 
 /// A file that can't be opened, read or written, and why.
 #[derive(Clone, Copy)]
@@ -281,19 +283,38 @@ where
     carry_out_from(alloc, task, source, target, system, files, writer, watcher)
 }
 
+/// What each line of a file has to be.
+#[derive(Clone, Copy)]
+pub enum LineKind {
+    /// A digest and a name.
+    Sum,
+    /// A record of a check.
+    Record,
+}
+
 /// How a command line ended.
 #[derive(Drop)]
 pub enum Ending<'a> {
     /// Files were checked, up to a fault of the output or of memory.
-    Checked(Result<CheckCounts, szg_named::CheckStop>),
+    Checked(Result<CheckReport, szg_named::CheckStop>),
+    /// Files were checked, and the list of the digests of those that passed was written, or could not be.
+    Listed {
+        report: CheckReport,
+        target: &'a str,
+        written: Result<Published<'a>, FileFault>,
+    },
     /// A task was carried out that names files: the file that was written, if one was asked for.
     Done(Option<Published<'a>>),
     /// It was refused: the refusal's line was written.
     Refused,
     /// A file failed.
     Failed(FileFailure<'a>),
-    /// A list of sums has a line, of this number, that isn't a digest and a name.
-    BadLine { path: &'a str, line: u64 },
+    /// A list of sums, or a log, has a line of this number that isn't what its lines have to be.
+    BadLine {
+        path: &'a str,
+        line: u64,
+        due: LineKind,
+    },
     /// Standard input or output failed.
     Device,
     /// A growth was refused.
@@ -426,50 +447,141 @@ fn run_look_up<'a, S: FileSystem, W: Output>(
     }
 }
 
-/// How a check ends where a list of sums isn't read.
-fn unread_list(failure: ListFailure<'_>) -> Ending<'_>
-    ensures { EndsCheck result (λ tally. ⊥) ⊥ (Unit {0}) }
+/// How a check ends before its first file where another file fails.
+fn unchecked(path: &str, fault: FileFault) -> Ending<'_>
+    ensures { EndsCheck result (λ report. ⊥) (λ given. ⊥) ⊥ (Unit {0}) }
 {
-    let ListFailure { path, fault } = failure;
     match fault {
-        ListFault::Line(line) => Ending::BadLine { path, line },
-        ListFault::File(FileFault::Memory) => Ending::Memory,
-        ListFault::File(fault) => Ending::Failed(FileFailure { path, fault }),
+        FileFault::Memory => Ending::Memory,
+        fault => Ending::Failed(FileFailure { path, fault }),
     }
 }
 
-/// Checks files, and compares them with lists of sums if there are any.
-#[tactic(auto, using(crate::proofs::Endings::summed, crate::proofs::Endings::no_lists, crate::proofs::Endings::some_lists))]
-fn run_check<'a, S: FileSystem, D: Files + Clock, W: Output>(
+/// How a check ends where a list of sums, or a log, isn't read; `due` is what its lines have to be.
+fn unread_list<'a>(failure: ListFailure<'a>, due: LineKind) -> Ending<'a>
+    ensures { EndsCheck result (λ report. ⊥) (λ given. ⊥) ⊥ (Unit {0}) }
+{
+    let ListFailure { path, fault } = failure;
+    match fault {
+        ListFault::Line(line) => Ending::BadLine { path, line, due },
+        ListFault::File(fault) => unchecked(path, fault),
+    }
+}
+
+/// What was read from files, if any are named.
+fn given<'s, T>(files: &[&str], read: &'s T) -> Option<&'s T>
+    ensures { IsGiven files.now result }
+{
+    if files.is_empty() {
+        return None;
+    }
+    Some(read)
+}
+
+/// Writes a list of digests to a draft, flushes it to the disk, and renames it over its target.
+fn list_into<'a, R: Files>(mut draft: Draft<'a, R>, text: &[u8]) -> Result<Published<'a>, FileFault>
+    requires { text_of draft.file ≡ [] }
+    ensures text { IfOk result (λ published. published_text published ≡ text.now) }
+    ensures target { IfOk result (λ published. published_target published ≡ draft_target draft.entry) }
+{
+    if give_whole(&mut draft.file, text).is_err() {
+        return Err(match draft.abandon() {
+            Some(fault) => fault,
+            None => FileFault::System(ErrorKind::Other.into()),
+        });
+    }
+    draft.seal()?.publish()
+}
+
+/// Checks files, and writes the list of the digests of those that pass to the file at `target`: at the end, and whole.
+#[tactic(auto, using(crate::proofs::Endings::checked_without, crate::proofs::Endings::manifest_is, crate::proofs::Endings::unread_ending))]
+fn check_into<'a, S: FileSystem, D: Files + Clock, W: Output>(
     alloc: Global,
     system: &mut S,
-    machine: &D,
+    machine: &'a D,
     options: CheckOptions<'_>,
-    lists: &[&'a str],
+    target: &'a str,
     paths: &[&str],
     writer: &mut W,
 ) -> Ending<'a>
 where
     S::File: Ahead,
-    ensures { EndsCheck result (IsSummedReport S.content S.failures S.File.Input W.Output options.entry lists.now (map (λ path. path.now) paths.now) system.old system.new writer.old writer.new)
-        (HasFailed (W.failures writer.old) (W.failures writer.new) (W.interrupted writer.new)) (writer.new ≡ writer.old) }
+    ensures { EndsCheck result (λ report. IsFoundReport S.content S.failures S.File.Input W.Output options.entry (map (λ path. path.now) paths.now) system.old system.new writer.old writer.new report)
+        (λ given. given ≡ Some target.now) (HasFailed (W.failures writer.old) (W.failures writer.new) (W.interrupted writer.new)) (writer.new ≡ writer.old) }
 {
-    if lists.is_empty() {
-        return Ending::Checked(check_found(alloc, system, machine, options, paths, writer));
-    }
-    match sums_in(alloc, machine, lists) {
-        Ok(sums) => {
-            let options = CheckOptions {
-                naming: options.naming,
-                allow_trailing: options.allow_trailing,
-                format: options.format,
-                quiet: options.quiet,
-                sums: Some(&sums),
-            };
-            Ending::Checked(check_found(alloc, system, machine, options, paths, writer))
+    let draft = match Draft::create(alloc, machine, target) {
+        Ok(draft) => draft,
+        Err(fault) => return unchecked(target, fault),
+    };
+    match check_found(alloc, system, machine, options, paths, writer) {
+        Ok(report) => {
+            let written = list_into(draft, &report.manifest);
+            Ending::Listed {
+                report,
+                target,
+                written,
+            }
         }
-        Err(failure) => unread_list(failure),
+        Err(stop) => {
+            draft.discard();
+            Ending::Checked(Err(stop))
+        }
     }
+}
+
+/// Checks files by these options, sums and records.
+#[tactic(auto, using(crate::proofs::Endings::checked_without))]
+fn check_by<'a, S: FileSystem, D: Files + Clock, W: Output>(
+    alloc: Global,
+    system: &mut S,
+    machine: &'a D,
+    options: CheckOptions<'_>,
+    target: Option<&'a str>,
+    paths: &[&str],
+    writer: &mut W,
+) -> Ending<'a>
+where
+    S::File: Ahead,
+    ensures { EndsCheck result (λ report. IsFoundReport S.content S.failures S.File.Input W.Output options.entry (map (λ path. path.now) paths.now) system.old system.new writer.old writer.new report)
+        (λ given. given ≡ option_map (λ path. path.now) target.entry) (HasFailed (W.failures writer.old) (W.failures writer.new) (W.interrupted writer.new)) (writer.new ≡ writer.old) }
+{
+    match target {
+        Some(target) => check_into(alloc, system, machine, options, target, paths, writer),
+        None => Ending::Checked(check_found(alloc, system, machine, options, paths, writer)),
+    }
+}
+
+/// Checks files, compares them with lists of sums if there are any, and leaves out those that logs have as good.
+#[tactic(auto, using(crate::proofs::Endings::unread_ending, crate::proofs::Endings::asked_ending))]
+fn run_check<'a, S: FileSystem, D: Files + Clock, W: Output>(
+    alloc: Global,
+    system: &mut S,
+    machine: &'a D,
+    job: CheckJob<'a>,
+    writer: &mut W,
+) -> Ending<'a>
+where
+    S::File: Ahead,
+    ensures { EndsCheck result (IsAskedReport S.content S.failures S.File.Input W.Output (asked_of job.entry) system.old system.new writer.old writer.new)
+        (IsTargetOf (asked_of job.entry)) (HasFailed (W.failures writer.old) (W.failures writer.new) (W.interrupted writer.new)) (writer.new ≡ writer.old) }
+{
+    let CheckJob {
+        options,
+        lists,
+        logs,
+        manifest,
+        paths,
+    } = job;
+    let mut sums = Sums::new(alloc);
+    if let Err(failure) = read_lists(alloc, machine, &lists, &mut sums) {
+        return unread_list(failure, LineKind::Sum);
+    }
+    let mut log = Log::new(alloc);
+    if let Err(failure) = read_lists(alloc, machine, &logs, &mut log) {
+        return unread_list(failure, LineKind::Record);
+    }
+    let complete = options.with(given(&lists, &sums), given(&logs, &log));
+    check_by(alloc, system, machine, complete, manifest, &paths, writer)
 }
 
 /// Runs a command line: on the files of a system where it names these, else on the reader. Of the machine it writes files,
@@ -494,20 +606,13 @@ where
     ensures ending { EndsWell P.finds P.refuses S.content S.failures S.File.Input R.Input W.Output (map (λ word. word.now) words.now) result system.old system.new reader.old reader.new writer.old writer.new }
 {
     if let Some(paths) = files_to_check(words) {
-        let options = CheckOptions::plain();
-        return Ending::Checked(check_files(alloc, system, machine, options, paths, writer));
+        return Ending::Checked(check_files(alloc, system, machine, paths, writer));
     }
     if !names_files(words) {
         return Ending::Words(run_by(alloc, finder, words, reader, writer, watcher));
     }
     match parse_files(alloc, finder, words) {
-        Ok(
-            FileJob::Check {
-                options,
-                lists,
-                paths,
-            },
-        ) => run_check(alloc, system, machine, options, &lists, &paths, writer),
+        Ok(FileJob::Check(job)) => run_check(alloc, system, machine, job, writer),
         Ok(
             FileJob::Run {
                 task,

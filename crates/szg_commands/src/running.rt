@@ -50,7 +50,7 @@ fn finish<'a>(ending: Ending<'a>, flushed: io::Result<()>) -> Ending<'a>
 fn is_refused(ending: &Ending<'_>) -> bool {
     match ending {
         Ending::Words(Outcome::Refused) | Ending::Refused => true,
-        Ending::Checked(Ok(tally)) => tally.refused > 0,
+        Ending::Checked(Ok(report)) | Ending::Listed { report, .. } => report.counts.refused > 0,
         _ => false,
     }
 }
@@ -101,8 +101,10 @@ pub fn run_given(
     if let Some(asked) = asked_of(texts.as_slice()) {
         return run_results(rt, machine, asked, is_terminal, input, output);
     }
-    if let Some(asked) = verification_of(texts.as_slice()) {
-        return run_verify(rt, machine, asked, output, watcher);
+    match verification_of(rt.alloc(), texts.as_slice()) {
+        Ok(Some(asked)) => return run_verify(rt, machine, &asked, output, watcher),
+        Ok(None) => {}
+        Err(_) => return status_of(rt, &Outcome::Memory),
     }
     let (ending, is_closed) = run_on_streams(
         rt.alloc(),
@@ -118,6 +120,16 @@ pub fn run_given(
     ending_status(rt, ending, is_closed)
 }
 
+/// The number of bytes of the output that are written at once. Each line of a check is written when its file was checked, so that
+/// a run that is cut off leaves whole lines.
+fn buffer_for(texts: &[&str]) -> usize {
+    if texts.get(1) == Some(&"check") {
+        0
+    } else {
+        1 << 13
+    }
+}
+
 /// Runs the words on a machine's files, on an input and an output; also whether the reader of the output closed it.
 /// Nothing that follows a table or a dump is taken from the input, so it isn't read ahead.
 fn run_on_streams<'a, D: Files + Clock>(
@@ -128,7 +140,8 @@ fn run_on_streams<'a, D: Files + Clock>(
     output: impl Write + Drop,
     watcher: &mut impl Watcher,
 ) -> (Ending<'a>, bool) {
-    let Ok(mut writer) = BufWriter::new(alloc, Monitored::new(output)) else {
+    let Ok(mut writer) = BufWriter::with_capacity(alloc, buffer_for(texts), Monitored::new(output))
+    else {
         return (Ending::Memory, false);
     };
     let mut disk = Disk::new(alloc, machine);

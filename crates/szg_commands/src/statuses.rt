@@ -1,14 +1,16 @@
 //! The statuses with which the program ends, and the lines on standard error that come with them.
-ghost use Rattle.std.specs.Prelude.{◌≡◌, ◌⊎◌, false, true, IfErr, IfOk};
+ghost use Rattle.std.specs.Prelude.{◌≡◌, ◌⊎◌, false, true, IfErr, IfOk, OnErr, OnOk};
 ghost use Rattle.std.specs.Process.{exit_status};
 ghost use Rattle.szg_commands.specs.Outcome.{OnDone, OnRefused, status_of};
 ghost use Rattle.szg_commands.specs.Statuses.{HasStatus, stop_status, tally_status};
 
-use crate::on_files::{Ending, FileFailure};
+use crate::on_files::{Ending, FileFailure, LineKind};
 use crate::outcome::Outcome;
+use std::alloc::{AllocError, Global};
 use std::io;
 use std::process::ExitCode;
-use szg_named::{CheckCounts, CheckStop, fault_text};
+use szg_files::{FileFault, Published};
+use szg_named::{CheckCounts, CheckReport, CheckStop, escaped_path, fault_text};
 
 /// The status where the words of the command line can't be had: one is no text, or memory is short.
 pub fn no_words_status(rt: &impl Eprint, error: &io::Error) -> ExitCode
@@ -43,14 +45,25 @@ pub fn status_of(rt: &impl Eprint, outcome: &Outcome) -> ExitCode
 }
 
 /// The status of a check of files: 1 where one is refused, else 3 where one can't be read.
-fn files_status(rt: &impl Eprint, stated: Result<CheckCounts, CheckStop>) -> ExitCode
-    ensures checked { IfOk stated (λ tally. exit_status result ≡ tally_status tally) }
+fn tally_status(tally: &CheckCounts) -> ExitCode
+    ensures { exit_status result ≡ tally_status tally.now }
+{
+    if tally.refused > 0 {
+        return ExitCode::from(1);
+    }
+    if tally.unread > 0 {
+        return ExitCode::from(3);
+    }
+    ExitCode::from(0)
+}
+
+/// The status of a check of files that may have ended early.
+fn files_status(rt: &impl Eprint, stated: Result<CheckReport, CheckStop>) -> ExitCode
+    ensures checked { IfOk stated (λ report. exit_status result ≡ tally_status report.counts) }
     ensures stopped { IfErr stated (λ stop. (exit_status result ≡ stop_status stop) ⊎ (exit_status result ≡ 3)) }
 {
     match stated {
-        Ok(tally) if tally.refused > 0 => ExitCode::from(1),
-        Ok(tally) if tally.unread > 0 => ExitCode::from(3),
-        Ok(_) => ExitCode::from(0),
+        Ok(report) => tally_status(&report.counts),
         Err(CheckStop::Device) => status_of(rt, &Outcome::Device),
         Err(CheckStop::Memory) => status_of(rt, &Outcome::Memory),
     }
@@ -64,16 +77,56 @@ fn failure_status(rt: &(impl Eprint + AllocGlobal), failure: FileFailure<'_>) ->
     let Ok(reason) = fault_text(rt.alloc(), &fault) else {
         return status_of(rt, &Outcome::Memory);
     };
-    let _ = eprintln!(rt; "{path}: {reason}");
+    print_fault(rt, path, Ok(reason));
     ExitCode::from(Outcome::Device.status())
 }
 
-/// The status where a line of a list of sums isn't one: it is printed on standard error.
-fn line_status(rt: &impl Eprint, path: &str, line: u64) -> ExitCode
+/// The status where a line of a list of sums, or of a log, isn't one: it is printed on standard error.
+fn line_status(rt: &(impl Eprint + AllocGlobal), path: &str, line: u64, due: LineKind) -> ExitCode
     ensures { exit_status result ≡ 3 }
 {
-    let _ = eprintln!(rt; "{path}: line {line} isn't a digest and a name");
+    print_fault(rt, path, line_text(rt.alloc(), line, due));
     ExitCode::from(Outcome::Device.status())
+}
+
+/// What is printed of a line that isn't one.
+fn line_text(alloc: Global, line: u64, due: LineKind) -> Result<String, AllocError> {
+    match due {
+        LineKind::Sum => format!(in alloc; "line {line} isn't a digest and a name"),
+        LineKind::Record => {
+            format!(in alloc; "line {line} isn't a record of szg check --format tsv or json")
+        }
+    }
+}
+
+/// Prints a path and what is wrong with its file on standard error. In the path control characters and backslashes are `\xNN`,
+/// as in records.
+fn print_fault(rt: &(impl Eprint + AllocGlobal), path: &str, reason: Result<String, AllocError>) {
+    if let (Ok(path), Ok(reason)) = (escaped_path(rt.alloc(), path), reason) {
+        let _ = eprintln!(rt; "{path}: {reason}");
+    }
+}
+
+/// The status of a check whose list of digests was to be written.
+fn listed_status(
+    rt: &(impl Eprint + AllocGlobal),
+    report: CheckReport,
+    target: &str,
+    written: Result<Published<'_>, FileFault>,
+) -> ExitCode
+    ensures listed { OnOk written.entry (exit_status result ≡ tally_status report.counts) }
+    ensures unlisted { OnErr written.entry ((exit_status result ≡ 3) ⊎ (exit_status result ≡ 4)) }
+{
+    match written {
+        Ok(_) => tally_status(&report.counts),
+        Err(fault) => failure_status(
+            rt,
+            FileFailure {
+                path: target,
+                fault,
+            },
+        ),
+    }
 }
 
 /// The status of a run. Nothing is printed if the reader of the output closed it.
@@ -94,7 +147,12 @@ pub(crate) fn ending_status(
         Ending::Done(_) => status_of(rt, &Outcome::Done),
         Ending::Refused => status_of(rt, &Outcome::Refused),
         Ending::Failed(failure) => failure_status(rt, failure),
-        Ending::BadLine { path, line } => line_status(rt, path, line),
+        Ending::Listed {
+            report,
+            target,
+            written,
+        } => listed_status(rt, report, target, written),
+        Ending::BadLine { path, line, due } => line_status(rt, path, line, due),
         Ending::Device => status_of(rt, &Outcome::Device),
         Ending::Memory => status_of(rt, &Outcome::Memory),
     }

@@ -1,6 +1,10 @@
 -- What holds of a hashed input holds of the input that it wraps.
 use Rattle.std.proofs.Common.{◌≡◌, ℕ, Bool, List, [], ◌∷◌, true, false, refl, sym, ap, subst, Result, Ok, Err, OnErr, OnOk, IfOk, if◌then◌else◌}
+use Rattle.std.specs.Prelude.{Some, None}
 use Rattle.std.specs.Result.{is_err}
+use Rattle.sha2.specs.Sha256.{sha256}
+use Rattle.szg_named.specs.declared.one.Checked.{Checked}
+use Rattle.szg_named.specs.declared.one.Found.{Found}
 use Rattle.std.proofs.Math.Logic.{∥∥₁_prop}
 use Rattle.szg_io.specs.Moved.{Takes}
 use Rattle.szg_io.specs.declared.device.Input as input
@@ -13,13 +17,13 @@ use Rattle.szg_sums.specs.Digests.{has_sum}
 use Rattle.szg_sums.specs.declared.hasher.Hasher as hasher
 use Rattle.szg_sums.specs.declared.sum.Sum.{Sum as Digest}
 use Rattle.szg_named.specs.declared.hashed.Hashed.{Hashed}
-use Rattle.szg_named.specs.Verdicts.{IsCompared, IsDueVerdictOn, IsHashedVerdictOn, IsVerdictOn, is_table}
+use Rattle.szg_named.specs.Verdicts.{IsComparedTable, IsDigestedOn, IsDueVerdictOn, IsFoundOn, IsHashedVerdictOn, IsReadOn, IsVerdictOn, found_as, is_table}
 use Rattle.szg_named.specs.declared.due.Due.{Due}
 use Rattle.szg_named.specs.declared.due.Due.TheVariants as dues
-use Rattle.szg_named.specs.declared.file_verdict.SumFault.TheVariants.{Unlisted}
+use Rattle.szg_named.specs.declared.file_verdict.SumFault.TheVariants.{Differs}
 use Rattle.szg_named.specs.declared.stop.CheckStop.{CheckStop}
 use Rattle.szg_named.specs.declared.file_verdict.FileVerdict.{FileVerdict}
-use Rattle.szg_named.specs.declared.file_verdict.FileVerdict.TheVariants.{Whole, Ending, Name, At, Trailing, Unopened, Unread, NoText, Empty, Skipped, Sum}
+use Rattle.szg_named.specs.declared.file_verdict.FileVerdict.TheVariants.{Whole, Ending, Name, At, Trailing, Unopened, Unread, NoText, Empty, Skipped, Kept, Sum}
 
 -- what holds if reading on failed, or didn't
 pub on_err : {A E P : Type 0} (r : Result A E) → is_err r ≡ true → OnErr r P → P
@@ -64,37 +68,63 @@ module _ {F H : Type 0} {hashing : hasher.Ghosts H} (device : input.Ghosts F) wh
   verdict_on material kind old new (Unopened fault) h = absurd h
   verdict_on material kind old new NoText h = absurd h
   verdict_on material kind old new Empty h = absurd h
+  verdict_on material kind old new (Kept size) h = absurd h
   verdict_on material kind old new (Skipped skip) h = absurd h
   verdict_on material kind old new (Sum fault) h = absurd h
 
+  compared_on : (table : Bool) (has : List ℕ → Bool) (checked read : Hashed F H device hashing) (found verdict : FileVerdict) → IsComparedTable table over has checked read found verdict →
+      IsComparedTable table device has checked.input read.input found verdict
+  compared_on true has checked read found verdict h = h
+  compared_on false has checked read found verdict h = h
+
+  due_on : (due : Due) (material : Sides) (kind : Kind) (old new : Hashed F H device hashing) (verdict : FileVerdict) → IsDueVerdictOn over due material kind old new verdict → IsDueVerdictOn device due material kind old.input new.input verdict
+  due_on dues.Any material kind old new verdict h = verdict_on material kind old new verdict h
+  due_on dues.Unlisted material kind old new verdict h = (h.0, verdict_on material kind old new h.0 h.1, h.2)
+  due_on (dues.Sum sum) material kind old new verdict h = (h.0.input, h.1, verdict_on material kind old h.0 h.1 h.2, compared_on (is_table h.1) (λ m. has_sum sum m) h.0 new h.1 verdict h.3)
+
   -- what is no table keeps its verdict
-  pub no_table : (has : List ℕ → Bool) (material : Sides) (kind : Kind) (file : F) (old new : Hashed F H device hashing) (found : FileVerdict) → old.input ≡ file → IsVerdictOn over material kind old new found → is_table found ≡ false →
-      (read : F) × IsHashedVerdictOn device has material kind file read found
-  no_table has material kind file old new found is h none =
-      subst (λ (f : F). (read : F) × IsHashedVerdictOn device has material kind f read found) is
-      (new.input, (new.input, found, verdict_on material kind old new found h, rw none refl))
+  pub no_table : (has : List ℕ → Bool) (material : Sides) (kind : Kind) (file input : F) (old new : Hashed F H device hashing) (found : FileVerdict) → old.input ≡ file → input ≡ new.input → IsVerdictOn over material kind old new found → is_table found ≡ false →
+      IsHashedVerdictOn device has material kind file input found
+  no_table has material kind file input old new found is same h none =
+      subst (λ (f : F). IsHashedVerdictOn device has material kind f input found) is
+      (subst (λ (i : F). IsHashedVerdictOn device has material kind old.input i found) (sym same)
+      (new.input, found, verdict_on material kind old new found h, rw none refl))
 
   -- a table is compared with the digest that is due
-  pub compared : (has : List ℕ → Bool) (material : Sides) (kind : Kind) (file : F) (old new read : Hashed F H device hashing) (found after : FileVerdict) → old.input ≡ file → IsVerdictOn over material kind old new found → is_table found ≡ true →
-      IsCompared device has new.input read.input found after → (read : F) × IsHashedVerdictOn device has material kind file read after
-  compared has material kind file old new read found after is h table c =
-      subst (λ (f : F). (read : F) × IsHashedVerdictOn device has material kind f read after) is
-      (read.input, (new.input, found, verdict_on material kind old new found h, rw table c))
+  pub compared : (has : List ℕ → Bool) (material : Sides) (kind : Kind) (file input : F) (old new read : Hashed F H device hashing) (found after : FileVerdict) → old.input ≡ file → input ≡ read.input → IsVerdictOn over material kind old new found → is_table found ≡ true →
+      IsReadOn device new.input read.input (λ m. if has m then found else Sum Differs) (λ error. Unread error) after → IsHashedVerdictOn device has material kind file input after
+  compared has material kind file input old new read found after is same h table c =
+      subst (λ (f : F). IsHashedVerdictOn device has material kind f input after) is
+      (subst (λ (i : F). IsHashedVerdictOn device has material kind old.input i after) (sym same)
+      (new.input, found, verdict_on material kind old new found h, rw table c))
+
+  -- what is no table gets no digest
+  pub undigested : (due : Due) (material : Sides) (kind : Kind) (file : F) (old checked : Hashed F H device hashing) (verdict : FileVerdict) → old.input ≡ file → IsDueVerdictOn over due material kind old checked verdict → is_table verdict ≡ false →
+      (read : F) × IsDigestedOn device due material kind file read (found_as verdict None)
+  undigested due material kind file old checked verdict is h none =
+      subst (λ (f : F). (read : F) × IsDigestedOn device due material kind f read (found_as verdict None)) is
+      (checked.input, (checked.input, verdict, due_on due material kind old checked verdict h, rw none refl))
+
+  -- a table gets the digest of its bytes
+  pub digested : (due : Due) (material : Sides) (kind : Kind) (file : F) (old checked read : Hashed F H device hashing) (verdict : FileVerdict) (found : Found) → old.input ≡ file → IsDueVerdictOn over due material kind old checked verdict → is_table verdict ≡ true →
+      IsReadOn device checked.input read.input (λ m. found_as verdict (Some (sha256 m))) (λ error. found_as (Unread error) None) found → (input : F) × IsDigestedOn device due material kind file input found
+  digested due material kind file old checked read verdict found is h table c =
+      subst (λ (f : F). (input : F) × IsDigestedOn device due material kind f input found) is
+      (read.input, (checked.input, verdict, due_on due material kind old checked verdict h, rw table c))
 
 -- the verdict where a digest is due, whose algorithm is known
-pub summed : {F : Type 0} (device : input.Ghosts F) (sum form : Digest) (material : Sides) (kind : Kind) (file : F) (result : Result FileVerdict CheckStop) → sum ≡ form →
-    IfOk result (λ verdict. (read : F) × IsHashedVerdictOn device (λ m. has_sum form m) material kind file read verdict) →
-    IfOk result (λ verdict. (read : F) × IsHashedVerdictOn device (λ m. has_sum sum m) material kind file read verdict)
-summed {F = F} device sum form material kind file result is h =
-    subst (λ (s : Digest). IfOk result (λ verdict. (read : F) × IsHashedVerdictOn device (λ m. has_sum s m) material kind file read verdict)) (sym is) h
+pub summed : {F : Type 0} (device : input.Ghosts F) (sum form : Digest) (material : Sides) (kind : Kind) (file : F) (result : Result (Checked F) CheckStop) → sum ≡ form →
+    IfOk result (λ checked. IsHashedVerdictOn device (λ m. has_sum form m) material kind file checked.input checked.verdict) →
+    IfOk result (λ checked. IsHashedVerdictOn device (λ m. has_sum sum m) material kind file checked.input checked.verdict)
+summed device sum form material kind file result is h =
+    subst (λ (s : Digest). IfOk result (λ checked. IsHashedVerdictOn device (λ m. has_sum s m) material kind file checked.input checked.verdict)) (sym is) h
 
--- the verdict where anything is due, and where nothing is
-module _ {F : Type 0} (device : input.Ghosts F) (due : Due) (material : Sides) (kind : Kind) (file new : F) where
-  pub any_due : (result : Result FileVerdict CheckStop) → due ≡ dues.Any → IfOk result (λ found. IsVerdictOn device material kind file new found) →
-      IfOk result (λ found. (read : F) × IsDueVerdictOn device due material kind file read found)
-  any_due (Ok found) is h = (new, rw is h)
-  any_due (Err stop) is h = tt
+-- what was found where a digest is asked for, and where none is
+module _ {F : Type 0} (device : input.Ghosts F) (has : Bool) (due : Due) (material : Sides) (kind : Kind) (file : F) where
+  pub found_digested : (result : Result Found CheckStop) → has ≡ true → IfOk result (λ found. (read : F) × IsDigestedOn device due material kind file read found) →
+      IfOk result (λ found. (read : F) × IsFoundOn has device due material kind file read found)
+  found_digested (Ok found) is h = (h.0, rw is h.1)
+  found_digested (Err stop) is h = tt
 
-  pub unlisted_due : (found after : FileVerdict) → due ≡ dues.Unlisted → IsVerdictOn device material kind file new found → after ≡ (if is_table found then Sum Unlisted else found) →
-      (read : F) × IsDueVerdictOn device due material kind file read after
-  unlisted_due found after is h so = (new, rw is (found, h, so))
+  pub found_alone : (read : F) (verdict : FileVerdict) → has ≡ false → IsDueVerdictOn device due material kind file read verdict → (input : F) × IsFoundOn has device due material kind file input (found_as verdict None)
+  found_alone read verdict is h = (read, rw is (h, refl))

@@ -4,3 +4,5 @@ pub mod Lines
 pub mod Requested
 pub mod Records
 pub mod Hashing
+pub mod Logs
+pub mod Shards

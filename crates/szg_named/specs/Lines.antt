@@ -5,7 +5,7 @@ use Rattle.szg_values.specs.declared.NameFault.TheVariants as names
 use Rattle.szg_file.specs.declared.fault.Reason.{Reason}
 use Rattle.szg_file.specs.declared.fault.Reason.TheVariants as reasons
 use Rattle.szg_named.specs.declared.file_verdict.FileVerdict.{FileVerdict}
-use Rattle.szg_named.specs.declared.file_verdict.FileVerdict.TheVariants.{Whole, Ending, Name, At, Trailing, Unopened, Unread, NoText, Empty, Skipped, Sum}
+use Rattle.szg_named.specs.declared.file_verdict.FileVerdict.TheVariants.{Whole, Ending, Name, At, Trailing, Unopened, Unread, NoText, Empty, Skipped, Kept, Sum}
 use Rattle.szg_named.specs.declared.file_verdict.Skip.{Skip}
 use Rattle.szg_named.specs.declared.file_verdict.Skip.TheVariants as skips
 use Rattle.szg_named.specs.declared.file_verdict.SumFault.{SumFault}
@@ -100,6 +100,7 @@ IsReasonText text = (reason : List ℕ) × (text ≡ reason_text reason)
 -- The text of a verdict, up to the end of its line.
 abbrev pub IsVerdictText : Bool → FileVerdict → List ℕ → Type 0
 IsVerdictText allow_trailing (Whole size) text = text ≡ codes ": ok " ++ (decimal size ++ 10 ∷ [])
+IsVerdictText allow_trailing (Kept size) text = text ≡ codes ": kept " ++ (decimal size ++ 10 ∷ [])
 IsVerdictText allow_trailing Ending text = text ≡ name_text (codes "Ending")
 IsVerdictText allow_trailing (Name fault) text = text ≡ name_text (name_word fault)
 IsVerdictText allow_trailing (At offset reason) text = text ≡ refused_text offset (reason_word reason)
@@ -116,11 +117,11 @@ IsVerdictText allow_trailing (Sum fault) text = text ≡ codes ": refused sum: "
 abbrev pub IsLine : Bool → List ℕ → FileVerdict → List ℕ → Type 0
 IsLine allow_trailing path verdict line = (text : List ℕ) × IsVerdictText allow_trailing verdict text × (line ≡ path_text verdict path ++ text)
 
--- the number of paths that were skipped, if there are any
-abbrev pub skipped_text : ℕ → List ℕ
-skipped_text skipped = if skipped == 0 then [] else codes ", skipped " ++ decimal skipped
+-- the number of those that there may be none of, if there are any
+abbrev pub more_text : List ℕ → ℕ → List ℕ
+more_text word count = if count == 0 then [] else codes ", " ++ (word ++ (codes " " ++ decimal count))
 
--- the last line: the number of files, and how many of them are good, refused and unread
+-- the last line: the number of files, and how many of them are good, refused, unread and left out; and that of skipped paths
 abbrev pub summary_text : CheckCounts → List ℕ
-summary_text tally = codes "files " ++ (decimal (tally.good + tally.refused + tally.unread) ++ (codes ": ok " ++ (decimal tally.good ++ (codes ", refused "
-    ++ (decimal tally.refused ++ (codes ", unread " ++ (decimal tally.unread ++ (skipped_text tally.skipped ++ 10 ∷ []))))))))
+summary_text tally = codes "files " ++ (decimal (tally.good + tally.refused + tally.unread + tally.kept) ++ (codes ": ok " ++ (decimal tally.good ++ (codes ", refused "
+    ++ (decimal tally.refused ++ (codes ", unread " ++ (decimal tally.unread ++ (more_text (codes "kept") tally.kept ++ (more_text (codes "skipped") tally.skipped ++ 10 ∷ [])))))))))

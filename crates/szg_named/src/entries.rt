@@ -1,9 +1,11 @@
 //! What a check reports on: files at paths, and what is below folders.
 ghost use Rattle.std.specs.Prelude.{◌≡◌, ◌++◌, ◌∷◌, [], IfOk, OnOk, map};
+ghost use Rattle.szg_named.specs.Shards.{shard_after, shard_of, taken_of};
 ghost use Rattle.szg_named.specs.Verdicts.{AllMissing, AreListed, AreMissing, IsListedAt, file_at, listed_of};
 
 use crate::file_verdict::{FileVerdict, Skip, SumFault};
 use crate::named::named_by;
+use crate::shard::Shard;
 use std::alloc::{AllocError, Global};
 use std::path::Path;
 use std::rt::Files;
@@ -19,6 +21,21 @@ const MAGICS: [[u8; 4]; 2] = [[0x71, 0xe8, 0x23, 0x5d], [0xd7, 0x66, 0x0c, 0xa5]
 pub struct PathToCheck {
     pub path: String,
     pub note: Option<FileVerdict>,
+}
+
+impl PathToCheck {
+    ghost use Rattle.std.specs.Prelude.{◌≡◌, IfOk};
+    ghost use Rattle.szg_named.specs.Verdicts.{listed_of};
+
+    /// Returns the same path and verdict.
+    fn copied(&self) -> Result<PathToCheck, AllocError>
+        ensures { IfOk result (λ entry. listed_of entry ≡ listed_of self.now) }
+    {
+        Ok(PathToCheck {
+            path: self.path.clone()?,
+            note: self.note,
+        })
+    }
 }
 
 /// Appends the file at a path.
@@ -202,4 +219,50 @@ pub(crate) fn missing(
     let paths = normal_paths(alloc, entries)?;
     let names = sums.unused(alloc, &paths)?;
     missing_tables(alloc, &names)
+}
+
+/// Appends an entry, which has so many before it, if it is a shard's.
+#[tactic(auto, using(crate::proofs::Listing::entry_taken, crate::proofs::Listing::entry_passed))]
+fn add_in(
+    shard: &Shard,
+    before: u64,
+    entry: &PathToCheck,
+    chosen: &mut Vec<PathToCheck>,
+) -> Result<(), AllocError>
+    ensures { OnOk result (map listed_of chosen.new.items ≡ map listed_of chosen.old.items ++ taken_of shard.now before (listed_of entry.now)) }
+{
+    if !shard.has(before) {
+        return Ok(());
+    }
+    let entry = entry.copied()?;
+    Ok(chosen.push(entry)?)
+}
+
+/// Returns those entries that are a shard's.
+fn entries_in(
+    alloc: Global,
+    shard: &Shard,
+    entries: &[PathToCheck],
+) -> Result<Vec<PathToCheck>, AllocError>
+    ensures { IfOk result (λ chosen. map listed_of chosen.items ≡ shard_after shard.now 0 (map listed_of entries.now)) }
+{
+    let mut chosen = Vec::new(alloc);
+    'entries: for (number, entry) in entries.iter().enumerate() {
+        add_in(shard, number as u64, entry, &mut chosen)?;
+    }
+    Ok(chosen)
+}
+
+/// Returns the entries of a shard, or all if none is given.
+pub(crate) fn in_shard(
+    alloc: Global,
+    shard: Option<Shard>,
+    entries: Vec<PathToCheck>,
+) -> Result<Vec<PathToCheck>, AllocError>
+    ensures { IfOk result (λ chosen. map listed_of chosen.items ≡ shard_of shard (map listed_of entries.items)) }
+{
+    match shard {
+        Some(shard) => entries_in(alloc, &shard, &entries),
+        None => Ok(entries),
+    }
 }

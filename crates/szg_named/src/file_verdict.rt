@@ -27,6 +27,8 @@ pub enum FileVerdict {
     Empty,
     /// It is not checked.
     Skipped(Skip),
+    /// It was good in an earlier run, and has its length and time still. Carries that length in bytes.
+    Kept(u64),
     /// It is a table, and not the listed one.
     Sum(SumFault),
 }

@@ -4,7 +4,7 @@ use std::io::Error;
 use szg_file::Ahead;
 use szg_files::Reasons;
 use szg_io::{Input, IoFault};
-use szg_sums::Hasher;
+use szg_sums::{Hasher, Sha256, sha256_of};
 
 /// An input, and the state of the digest of the bytes that were read from it.
 #[derive(Drop)]
@@ -30,13 +30,33 @@ impl<F: Input, H: Hasher> Hashed<F, H> {
         }
     }
 
-    /// Returns whether the bytes that were read have the digest `due`.
-    pub(crate) fn is_met(self, due: &[u8]) -> bool
-    where
-        F: Drop,
-        ensures { result ≡ bytes_eq (H.sum_of (F.moved (input_of self))) due.now }
+    /// Returns the input.
+    pub(crate) fn into_input(self) -> F
+        ensures { result ≡ input_of self }
     {
-        self.hasher.is_met(due)
+        self.input
+    }
+
+    /// Returns the input, and whether the bytes that were read have the digest `due`.
+    pub(crate) fn compared(self, due: &[u8]) -> (F, bool)
+        ensures input { result.0 ≡ input_of self }
+        ensures met { result.1 ≡ bytes_eq (H.sum_of (F.moved (input_of self))) due.now }
+    {
+        let is_met = self.hasher.is_met(due);
+        (self.input, is_met)
+    }
+}
+
+impl<F: Input + Drop> Hashed<F, Sha256> {
+    ghost use Rattle.std.specs.Prelude.{◌≡◌};
+    ghost use Rattle.sha2.specs.Sha256.{sha256};
+    ghost use Rattle.szg_named.specs.Hashing.{input_of};
+
+    /// Returns the digest of the bytes that were read.
+    pub(crate) fn digest(self) -> [u8; 32]
+        ensures { result ≡ sha256 (F.moved (input_of self)) }
+    {
+        sha256_of(self.hasher)
     }
 }
 

@@ -8,11 +8,13 @@ mod file_verdict;
 mod hashed;
 mod lines;
 mod lists;
+mod log;
 mod many;
 mod named;
 mod one;
 mod records;
 mod report_format;
+mod shard;
 mod stop;
 
 pub use check_paths::files_to_check;
@@ -20,12 +22,15 @@ pub use due::Due;
 pub use entries::{PathToCheck, entries_at};
 pub use file_verdict::{FileVerdict, Skip, SumFault};
 pub use lines::{
-    error_text, fault_text, name_word, reason_word, sum_word, summary_line, verdict_line,
+    error_text, escaped_path, fault_text, name_word, reason_word, sum_word, summary_line,
+    verdict_line,
 };
-pub use lists::{ListFailure, ListFault, sums_in};
-pub use many::{CheckOptions, check_entries, check_files, check_found};
+pub use lists::{FromLines, ListFailure, ListFault, read_lists};
+pub use log::{FileState, Log};
+pub use many::{CheckOptions, CheckReport, check_entries, check_files, check_found};
 pub use named::{Naming, named_as, named_by};
-pub use one::check_path;
+pub use one::{Found, check_path};
 pub use records::{json_record, tsv_record};
 pub use report_format::ReportFormat;
+pub use shard::Shard;
 pub use stop::{CheckCounts, CheckStop};

@@ -1,7 +1,7 @@
 //! The lines of a report.
 ghost use Rattle.std.specs.Prelude.{◌≡◌, ◌++◌, ◌∷◌, [], ◌+◌, ◌/◌, ◌%◌, ◌^◌, ◌<◌, IfOk, OnOk, string_bytes};
 ghost use Rattle.szg_named.specs.Records.{escaped_byte_in, escaped_in, json_byte};
-ghost use Rattle.szg_named.specs.Lines.{IsLine, IsVerdictText, empty, escaped, escaped_byte, hex_digit, is_escaped, name_text, name_word, no_text, path_text, reason_text, reason_word, refused_text, skip_reason, skipped_text, sum_word, summary_text};
+ghost use Rattle.szg_named.specs.Lines.{IsLine, IsVerdictText, empty, escaped, escaped_byte, hex_digit, is_escaped, name_text, name_word, no_text, path_text, reason_text, reason_word, refused_text, skip_reason, more_text, sum_word, summary_text};
 
 use crate::file_verdict::{FileVerdict, Skip, SumFault};
 use crate::report_format::ReportFormat;
@@ -105,6 +105,15 @@ pub(crate) fn path_text(
     }
 }
 
+/// Returns a path as a line has it: each control character and each backslash is `\xNN`.
+pub fn escaped_path(alloc: Global, path: &str) -> Result<String, AllocError> {
+    let escaped = escaped_in(alloc, ReportFormat::Text, path)?;
+    match String::from_utf8(escaped) {
+        Ok(text) => Ok(text),
+        Err(_) => String::from_str(alloc, path),
+    }
+}
+
 /// Returns the line of a file: its path and its verdict.
 pub fn verdict_line(
     alloc: Global,
@@ -133,6 +142,7 @@ fn verdict_text(
         FileVerdict::Trailing(size) if allow_trailing => {
             format!(in alloc; ": ok {size}, more bytes follow\n")
         }
+        FileVerdict::Kept(size) => format!(in alloc; ": kept {size}\n"),
         FileVerdict::Ending => name_text(alloc, "Ending"),
         FileVerdict::Name(fault) => name_text(alloc, name_word(*fault)),
         FileVerdict::At(offset, reason) => refused_text(alloc, *offset, reason_word(*reason)),
@@ -215,31 +225,33 @@ fn refused_text(alloc: Global, offset: u64, word: &str) -> Result<String, AllocE
     format!(in alloc; ": refused at {offset}: {word}\n")
 }
 
-/// Returns the summary: the number of files, and how many of them are good, refused and unread; and the number of paths that
-/// were skipped, if there are any.
+/// Returns the summary: the number of files, and how many of them are good, refused, unread and, if there are any, left out;
+/// and the number of paths that were skipped, if there are any.
 pub fn summary_line(alloc: Global, tally: &CheckCounts) -> Result<String, AllocError>
-    requires { tally.now.good + tally.now.refused + tally.now.unread < 2 ^ 64 }
+    requires { tally.now.good + tally.now.refused + tally.now.unread + tally.now.kept < 2 ^ 64 }
     ensures { IfOk result (λ line. string_bytes line ≡ summary_text tally.now) }
 {
     let CheckCounts {
         good,
         refused,
         unread,
+        kept,
         skipped,
     } = *tally;
-    let count = good + refused + unread;
-    let more = skipped_text(alloc, skipped)?;
-    format!(in alloc; "files {count}: ok {good}, refused {refused}, unread {unread}{more}\n")
+    let count = good + refused + unread + kept;
+    let left = more_text(alloc, "kept", kept)?;
+    let more = more_text(alloc, "skipped", skipped)?;
+    format!(in alloc; "files {count}: ok {good}, refused {refused}, unread {unread}{left}{more}\n")
 }
 
-/// Returns the part of a summary about paths that were skipped: nothing if there are none.
-fn skipped_text(alloc: Global, skipped: u64) -> Result<String, AllocError>
-    ensures { IfOk result (λ text. string_bytes text ≡ skipped_text skipped) }
+/// Returns the part of a summary about what there may be none of: nothing if there is none.
+fn more_text(alloc: Global, word: &str, count: u64) -> Result<String, AllocError>
+    ensures { IfOk result (λ text. string_bytes text ≡ more_text word.now count) }
 {
-    if skipped == 0 {
+    if count == 0 {
         return Ok(String::new(alloc));
     }
-    format!(in alloc; ", skipped {skipped}")
+    format!(in alloc; ", {word} {count}")
 }
 
 /// Returns the reason why a file is not opened.

@@ -1,5 +1,6 @@
-//! Lists of sums in files.
+//! Lists of sums, and logs, in files.
 
+use crate::log::Log;
 use std::alloc::Global;
 use std::fs;
 use std::io::Read;
@@ -7,16 +8,16 @@ use std::rt::Files;
 use szg_files::FileFault;
 use szg_sums::{Sums, SumsFault};
 
-/// Why a list of sums is not read.
+/// Why a list of sums, or a log, is not read.
 #[derive(Clone, Copy)]
 pub enum ListFault {
     /// Its file can't be read.
     File(FileFault),
-    /// The line of this number, from 1 on, isn't a digest and a name.
+    /// The line of this number, from 1 on, isn't one of a list, or of a log.
     Line(u64),
 }
 
-/// A list of sums that is not read, and why.
+/// A list of sums, or a log, that is not read, and why.
 #[derive(Clone, Copy)]
 pub struct ListFailure<'a> {
     pub path: &'a str,
@@ -32,34 +33,52 @@ impl From<SumsFault> for ListFault {
     }
 }
 
-/// Reads lists of sums.
+/// What is read from lines.
+pub trait FromLines {
+    /// Adds the lines of a text. Errors: the first line that is none of its lines; an allocation was refused.
+    fn add_lines(&mut self, alloc: Global, text: &[u8]) -> Result<(), SumsFault>;
+}
+
+impl FromLines for Sums {
+    fn add_lines(&mut self, alloc: Global, text: &[u8]) -> Result<(), SumsFault> {
+        self.add(alloc, text)
+    }
+}
+
+impl FromLines for Log {
+    fn add_lines(&mut self, alloc: Global, text: &[u8]) -> Result<(), SumsFault> {
+        self.add(alloc, text)
+    }
+}
+
+/// Reads lists of sums, or logs.
 ///
-/// Errors: the first list that can't be read, or that has a line that isn't a digest and a name.
-pub fn sums_in<'a, R: Files>(
+/// Errors: the first file that can't be read, or that has a line that isn't one of a list, or of a log.
+pub fn read_lists<'a, R: Files, L: FromLines>(
     alloc: Global,
     files: &R,
     lists: &[&'a str],
-) -> Result<Sums, ListFailure<'a>> {
-    let mut sums = Sums::new(alloc);
+    read: &mut L,
+) -> Result<(), ListFailure<'a>> {
     'lists: for list in lists {
         let path: &'a str = list;
-        match add_list(alloc, files, path, &mut sums) {
+        match add_list(alloc, files, path, read) {
             Ok(()) => {}
             Err(fault) => return Err(ListFailure { path, fault }),
         }
     }
-    Ok(sums)
+    Ok(())
 }
 
-/// Adds the lines of the list at a path.
-fn add_list<R: Files>(
+/// Adds the lines of the file at a path.
+fn add_list<R: Files, L: FromLines>(
     alloc: Global,
     files: &R,
     path: &str,
-    sums: &mut Sums,
+    read: &mut L,
 ) -> Result<(), ListFault> {
     match text_at(alloc, files, path) {
-        Ok(text) => Ok(sums.add(alloc, &text)?),
+        Ok(text) => Ok(read.add_lines(alloc, &text)?),
         Err(fault) => Err(ListFault::File(fault)),
     }
 }

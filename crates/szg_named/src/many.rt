@@ -1,19 +1,22 @@
 //! The check of many files.
-ghost use Rattle.std.specs.Prelude.{◌≡◌, ◌+◌, ◌<◌, ◌^◌, IfOk, IsErrOf, map, string_bytes};
+ghost use Rattle.std.specs.Prelude.{◌≡◌, ◌+◌, ◌<◌, ◌^◌, IfOk, IfSome, IsErrOf, map, string_bytes};
 ghost use Rattle.szg_io.specs.Device.{HasFailed};
-ghost use Rattle.szg_named.specs.Records.{IsReportLine, IsShownLine, is_bad, report_end};
-ghost use Rattle.szg_named.specs.Verdicts.{IsFileVerdict, IsFoundReport, IsReport, IsReportOn, IsVerdictAt, due_in, listed_of};
+ghost use Rattle.szg_named.specs.Records.{IsReportLine, IsShownLine, is_bad, manifest_line, report_end};
+ghost use Rattle.szg_named.specs.Verdicts.{IsFoundReport, IsLeftOut, IsPathVerdict, IsReport, IsReportOn, IsVerdictAt, listed_of, plain_options, reads_all};
 
 use crate::due::due_of;
-use crate::entries::{PathToCheck, entries_at, files_at, missing};
+use crate::entries::{PathToCheck, entries_at, files_at, in_shard, missing};
 use crate::file_verdict::FileVerdict;
 use crate::lines::{summary_line, verdict_line};
+use crate::log::{FileState, Log};
 use crate::named::Naming;
-use crate::one::check_path;
-use crate::records::{json_record, tsv_record};
+use crate::one::{Found, check_path};
+use crate::records::{json_record, json_summary, sum_line, tsv_record};
 use crate::report_format::ReportFormat;
+use crate::shard::Shard;
 use crate::stop::{CheckCounts, CheckStop};
 use std::alloc::{AllocError, Global};
+use std::os::unix::fs::MetadataExt;
 use std::rt::Files;
 use std::time::{Clock, Duration, Instant};
 use szg_file::Ahead;
@@ -34,13 +37,26 @@ pub struct CheckOptions<'a> {
     pub quiet: bool,
     /// The lists of sums that the files are compared with, if there are any.
     pub sums: Option<&'a Sums>,
+    /// Which files are checked, if not all.
+    pub shard: Option<Shard>,
+    /// The records of earlier runs, if there are any: files that were good and didn't change are left out.
+    pub log: Option<&'a Log>,
+    /// Whether the digests of files that pass are listed.
+    pub has_manifest: bool,
 }
 
-impl CheckOptions<'_> {
-    ghost use Rattle.std.specs.Prelude.{◌≡◌};
-    ghost use Rattle.szg_named.specs.Verdicts.{plain_options};
+/// What a check has found: the numbers of files, and, if it is asked for, a list of the SHA-256 digests of those that passed.
+#[derive(Drop)]
+pub struct CheckReport {
+    pub counts: CheckCounts,
+    pub manifest: Vec<u8>,
+}
 
-    /// Each file by its own name, no trailing bytes, a report for a reader, and no lists of sums.
+impl<'a> CheckOptions<'a> {
+    ghost use Rattle.std.specs.Prelude.{◌≡◌};
+    ghost use Rattle.szg_named.specs.Verdicts.{options_with, plain_options};
+
+    /// Each file by its own name, no trailing bytes, a report for a reader, no lists of sums, all files, no log, no manifest.
     pub fn plain() -> CheckOptions<'static>
         ensures { result ≡ plain_options }
     {
@@ -53,6 +69,25 @@ impl CheckOptions<'_> {
             format: ReportFormat::Text,
             quiet: false,
             sums: None,
+            shard: None,
+            log: None,
+            has_manifest: false,
+        }
+    }
+
+    /// Returns the options with these sums and records.
+    pub fn with(self, sums: Option<&'a Sums>, log: Option<&'a Log>) -> CheckOptions<'a>
+        ensures { result ≡ options_with self.entry sums.entry log.entry }
+    {
+        CheckOptions {
+            naming: self.naming,
+            allow_trailing: self.allow_trailing,
+            format: self.format,
+            quiet: self.quiet,
+            sums,
+            shard: self.shard,
+            log,
+            has_manifest: self.has_manifest,
         }
     }
 }
@@ -73,21 +108,41 @@ fn between(started: Option<Instant>, ended: Option<Instant>) -> Option<Duration>
     }
 }
 
-/// What the report has of a file: its line, or its record with the seconds that the check took.
+/// The state of the file at a path. None if it isn't known, or it changed before 1970.
+fn state_at<R: Files>(files: &R, path: &str) -> Option<FileState> {
+    let metadata = files.metadata(path).ok()?;
+    let seconds = u64::try_from(metadata.mtime()).ok()?;
+    let nanos = u64::try_from(metadata.mtime_nsec()).ok()?;
+    Some(FileState {
+        length: metadata.len(),
+        modified: seconds.checked_mul(1_000_000_000)?.checked_add(nanos)?,
+    })
+}
+
+/// When and how long a file was checked.
+#[derive(Clone, Copy)]
+struct Timing {
+    elapsed: Option<Duration>,
+    /// The nanoseconds from 1970 to the file's last change.
+    modified: Option<u64>,
+}
+
+/// What the report has of a file: its line, or its record.
 fn report_line(
     alloc: Global,
     options: CheckOptions<'_>,
     path: &str,
     verdict: &FileVerdict,
-    elapsed: Option<Duration>,
+    timing: Timing,
 ) -> Result<Vec<u8>, AllocError>
     ensures { IfOk result (λ line. IsReportLine options.entry.format options.entry.allow_trailing path.now verdict.now line.items) }
 {
     let allow_trailing = options.allow_trailing;
+    let Timing { elapsed, modified } = timing;
     match options.format {
         ReportFormat::Text => verdict_line(alloc, path, verdict, allow_trailing),
-        ReportFormat::Tsv => tsv_record(alloc, path, verdict, allow_trailing, elapsed),
-        ReportFormat::Json => json_record(alloc, path, verdict, allow_trailing, elapsed),
+        ReportFormat::Tsv => tsv_record(alloc, path, verdict, allow_trailing, elapsed, modified),
+        ReportFormat::Json => json_record(alloc, path, verdict, allow_trailing, elapsed, modified),
     }
 }
 
@@ -96,7 +151,7 @@ fn is_bad(verdict: &FileVerdict, allow_trailing: bool) -> bool
     ensures { result ≡ is_bad allow_trailing verdict.now }
 {
     match verdict {
-        FileVerdict::Whole(_) | FileVerdict::Skipped(_) => false,
+        FileVerdict::Whole(_) | FileVerdict::Kept(_) | FileVerdict::Skipped(_) => false,
         FileVerdict::Trailing(_) if allow_trailing => false,
         FileVerdict::Ending
         | FileVerdict::Name(_)
@@ -116,80 +171,172 @@ fn shown_line(
     options: CheckOptions<'_>,
     path: &str,
     verdict: &FileVerdict,
-    elapsed: Option<Duration>,
+    timing: Timing,
 ) -> Result<Vec<u8>, AllocError>
     ensures { IfOk result (λ line. IsShownLine options.entry.quiet options.entry.format options.entry.allow_trailing path.now verdict.now line.items) }
 {
     if !options.quiet {
-        return report_line(alloc, options, path, verdict, elapsed);
+        return report_line(alloc, options, path, verdict, timing);
     }
     if is_bad(verdict, options.allow_trailing) {
-        return report_line(alloc, options, path, verdict, elapsed);
+        return report_line(alloc, options, path, verdict, timing);
     }
     Ok(Vec::new(alloc))
 }
 
-/// The verdict on an entry, and what the report has of it.
+/// What a list of digests has of a file: its line if it passed, and a digest was asked for.
+fn manifest_line(
+    alloc: Global,
+    allow_trailing: bool,
+    path: &str,
+    found: Found,
+) -> Result<Vec<u8>, AllocError>
+    ensures { IfOk result (λ line. line.items ≡ manifest_line allow_trailing path.now found.verdict found.digest) }
+{
+    let Some(digest) = found.digest else {
+        return Ok(Vec::new(alloc));
+    };
+    if is_bad(&found.verdict, allow_trailing) {
+        return Ok(Vec::new(alloc));
+    }
+    sum_line(alloc, &digest, path)
+}
+
+/// The verdict on an entry, what the report has of it, and what the list of digests has.
 #[derive(Drop)]
 struct Reported {
-    verdict: FileVerdict,
+    found: Found,
     line: Vec<u8>,
+    listed: Vec<u8>,
+}
+
+/// Whether each file has to be read, since its digest is compared or listed.
+fn reads_all(options: CheckOptions<'_>) -> bool
+    ensures { result ≡ reads_all options.entry }
+{
+    options.sums.is_some() || options.has_manifest
+}
+
+/// Returns the length of the file at a path, if it is in the state in which its last record says that it was good, and no digest
+/// of it is asked for.
+#[tactic(auto, using(crate::proofs::Logging::left_out))]
+fn kept_length<R: Files>(
+    alloc: Global,
+    files: &R,
+    options: CheckOptions<'_>,
+    path: &str,
+) -> Result<Option<u64>, AllocError>
+    ensures { IfOk result (λ kept. IfSome kept (λ length. IsLeftOut options.entry path.now length)) }
+{
+    if reads_all(options) {
+        return Ok(None);
+    }
+    let Some(log) = options.log else {
+        return Ok(None);
+    };
+    let Some(good) = log.last_state(alloc, path)? else {
+        return Ok(None);
+    };
+    let Some(state) = state_at(files, path) else {
+        return Ok(None);
+    };
+    if state.length == good.length && state.modified == good.modified {
+        Ok(Some(good.length))
+    } else {
+        Ok(None)
+    }
 }
 
 /// Returns the verdict on the file at a path, and on its digest if there are lists of sums. Errors: `Memory`.
 #[tactic(auto, using(crate::proofs::Reporting::due_is))]
-fn verdict_on_file<S: FileSystem>(
+fn verdict_on_file<S: FileSystem, R: Files>(
     alloc: Global,
     system: &mut S,
+    files: &R,
     options: CheckOptions<'_>,
     path: &str,
-) -> Result<FileVerdict, CheckStop>
+) -> Result<Found, CheckStop>
 where
     S::File: Ahead,
-    ensures verdict { IfOk result (λ verdict. IsFileVerdict S.content S.failures S.File.Input options.entry.naming (due_in options.entry.sums path.now) path.now system.old system.new verdict) }
+    ensures verdict { IfOk result (λ found. IsPathVerdict S.content S.failures S.File.Input options.entry path.now system.old system.new found) }
     ensures only { IsErrOf result CheckStop.Device → ⊥ }
 {
+    if let Some(length) = kept_length(alloc, files, options, path)? {
+        return Ok(Found {
+            verdict: FileVerdict::Kept(length),
+            digest: None,
+        });
+    }
     let due = due_of(alloc, options.sums, path)?;
-    check_path(alloc, system, options.naming, path, due)
+    check_path(
+        alloc,
+        system,
+        options.naming,
+        path,
+        due,
+        options.has_manifest,
+    )
 }
 
 /// Returns the verdict of an entry: the one that is known, else that on its file. Errors: `Memory`.
-fn verdict_of<S: FileSystem>(
+fn verdict_of<S: FileSystem, R: Files>(
     alloc: Global,
     system: &mut S,
+    files: &R,
     options: CheckOptions<'_>,
     entry: &PathToCheck,
-) -> Result<FileVerdict, CheckStop>
+) -> Result<Found, CheckStop>
 where
     S::File: Ahead,
-    ensures verdict { IfOk result (λ verdict. IsVerdictAt S.content S.failures S.File.Input options.entry.naming options.entry.sums (string_bytes entry.now.path) entry.now.note system.old system.new verdict) }
+    ensures verdict { IfOk result (λ found. IsVerdictAt S.content S.failures S.File.Input options.entry (string_bytes entry.now.path) entry.now.note system.old system.new found) }
     ensures only { IsErrOf result CheckStop.Device → ⊥ }
 {
     match entry.note {
-        Some(verdict) => Ok(verdict),
-        None => verdict_on_file(alloc, system, options, entry.path.as_str()),
+        Some(verdict) => Ok(Found {
+            verdict,
+            digest: None,
+        }),
+        None => verdict_on_file(alloc, system, files, options, entry.path.as_str()),
     }
 }
 
+/// When the file of an entry changed, where a record has that. It is asked before the file is read: what changes while it is
+/// read has another time then.
+fn modified_at<R: Files>(files: &R, format: ReportFormat, entry: &PathToCheck) -> Option<u64> {
+    if entry.note.is_some() || matches!(format, ReportFormat::Text) {
+        return None;
+    }
+    Some(state_at(files, entry.path.as_str())?.modified)
+}
+
 /// Finds the verdict of an entry, and times that where a record has the seconds. Errors: `Memory`.
-fn report_entry<S: FileSystem, C: Clock>(
+fn report_entry<S: FileSystem, D: Files + Clock>(
     alloc: Global,
     system: &mut S,
-    clock: &C,
+    machine: &D,
     options: CheckOptions<'_>,
     entry: &PathToCheck,
 ) -> Result<Reported, CheckStop>
 where
     S::File: Ahead,
-    ensures verdict { IfOk result (λ reported. IsVerdictAt S.content S.failures S.File.Input options.entry.naming options.entry.sums (string_bytes entry.now.path) entry.now.note system.old system.new reported.verdict) }
-    ensures line { IfOk result (λ reported. IsShownLine options.entry.quiet options.entry.format options.entry.allow_trailing (string_bytes entry.now.path) reported.verdict reported.line.items) }
+    ensures verdict { IfOk result (λ reported. IsVerdictAt S.content S.failures S.File.Input options.entry (string_bytes entry.now.path) entry.now.note system.old system.new reported.found) }
+    ensures line { IfOk result (λ reported. IsShownLine options.entry.quiet options.entry.format options.entry.allow_trailing (string_bytes entry.now.path) reported.found.verdict reported.line.items) }
+    ensures listed { IfOk result (λ reported. reported.listed.items ≡ manifest_line options.entry.allow_trailing (string_bytes entry.now.path) reported.found.verdict reported.found.digest) }
     ensures only { IsErrOf result CheckStop.Device → ⊥ }
 {
-    let started = time_now(clock, options.format);
-    let verdict = verdict_of(alloc, system, options, entry)?;
-    let elapsed = between(started, time_now(clock, options.format));
-    let line = shown_line(alloc, options, entry.path.as_str(), &verdict, elapsed)?;
-    Ok(Reported { verdict, line })
+    let modified = modified_at(machine, options.format, entry);
+    let started = time_now(machine, options.format);
+    let found = verdict_of(alloc, system, machine, options, entry)?;
+    let elapsed = between(started, time_now(machine, options.format));
+    let path = entry.path.as_str();
+    let timing = Timing { elapsed, modified };
+    let line = shown_line(alloc, options, path, &found.verdict, timing)?;
+    let listed = manifest_line(alloc, options.allow_trailing, path, found)?;
+    Ok(Reported {
+        found,
+        line,
+        listed,
+    })
 }
 
 /// What follows the last file.
@@ -198,38 +345,44 @@ fn report_end(
     format: ReportFormat,
     tally: &CheckCounts,
 ) -> Result<String, AllocError>
-    requires { tally.now.good + tally.now.refused + tally.now.unread < 2 ^ 64 }
+    requires { tally.now.good + tally.now.refused + tally.now.unread + tally.now.kept < 2 ^ 64 }
     ensures { IfOk result (λ text. string_bytes text ≡ report_end format tally.now) }
 {
     match format {
-        ReportFormat::Text => summary_line(alloc, tally),
-        ReportFormat::Tsv | ReportFormat::Json => Ok(String::new(alloc)),
+        ReportFormat::Text | ReportFormat::Tsv => summary_line(alloc, tally),
+        ReportFormat::Json => json_summary(alloc, tally),
     }
 }
 
-/// Checks the files at these paths in their order, as `check_entries`.
+/// Checks the files at these paths in their order, as `check_entries` with no options.
 #[tactic(auto, using(crate::proofs::Reporting::files_report))]
-pub fn check_files<S: FileSystem, C: Clock, W: Output>(
+pub fn check_files<S: FileSystem, D: Files + Clock, W: Output>(
     alloc: Global,
     system: &mut S,
-    clock: &C,
-    options: CheckOptions<'_>,
+    machine: &D,
     paths: &[&str],
     writer: &mut W,
-) -> Result<CheckCounts, CheckStop>
+) -> Result<CheckReport, CheckStop>
 where
     S::File: Ahead,
-    ensures report { IfOk result (λ tally. IsReport S.content S.failures S.File.Input W.Output options.entry (map (λ path. path.now) paths.now) system.old system.new writer.old writer.new tally) }
-    ensures found { IfOk result (λ tally. IsFoundReport S.content S.failures S.File.Input W.Output options.entry (map (λ path. path.now) paths.now) system.old system.new writer.old writer.new tally) }
+    ensures report { IfOk result (λ report. IsReport S.content S.failures S.File.Input W.Output plain_options (map (λ path. path.now) paths.now) system.old system.new writer.old writer.new report) }
+    ensures found { IfOk result (λ report. IsFoundReport S.content S.failures S.File.Input W.Output plain_options (map (λ path. path.now) paths.now) system.old system.new writer.old writer.new report) }
     ensures device { IsErrOf result CheckStop.Device → HasFailed (W.failures writer.old) (W.failures writer.new) (W.interrupted writer.new) }
 {
     let entries = files_at(alloc, paths)?;
-    check_entries(alloc, system, clock, options, &entries, writer)
+    check_entries(
+        alloc,
+        system,
+        machine,
+        CheckOptions::plain(),
+        &entries,
+        writer,
+    )
 }
 
 /// Checks the files at these paths and the table files below folders, in their order, as `check_entries`. What is below a
 /// folder comes in the byte order of the paths. A path that ends as a table's file does isn't taken for a folder. Tables that
-/// lists of sums name and that aren't there come last.
+/// lists of sums name and that aren't there come last. Of all these a shard has its own.
 #[tactic(auto, using(crate::proofs::Reporting::found_report))]
 pub fn check_found<S: FileSystem, D: Files + Clock, W: Output>(
     alloc: Global,
@@ -238,51 +391,58 @@ pub fn check_found<S: FileSystem, D: Files + Clock, W: Output>(
     options: CheckOptions<'_>,
     paths: &[&str],
     writer: &mut W,
-) -> Result<CheckCounts, CheckStop>
+) -> Result<CheckReport, CheckStop>
 where
     S::File: Ahead,
-    ensures found { IfOk result (λ tally. IsFoundReport S.content S.failures S.File.Input W.Output options.entry (map (λ path. path.now) paths.now) system.old system.new writer.old writer.new tally) }
+    ensures found { IfOk result (λ report. IsFoundReport S.content S.failures S.File.Input W.Output options.entry (map (λ path. path.now) paths.now) system.old system.new writer.old writer.new report) }
     ensures device { IsErrOf result CheckStop.Device → HasFailed (W.failures writer.old) (W.failures writer.new) (W.interrupted writer.new) }
 {
     let mut entries = entries_at(alloc, machine, paths)?;
     let mut more = missing(alloc, options.sums, &entries)?;
     entries.append(&mut more)?;
-    check_entries(alloc, system, machine, options, &entries, writer)
+    let chosen = in_shard(alloc, options.shard, entries)?;
+    check_entries(alloc, system, machine, options, &chosen, writer)
 }
 
-/// Checks the files of these entries in their order; writes a line or a record of each, and, for a reader, a summary. The
-/// clock is read for records alone.
+/// Checks the files of these entries in their order; writes a line or a record of each, and a summary. The clock and the
+/// files' times are read for records alone, or where there is a log.
 ///
 /// Errors: `Device` only if the writer failed, `Memory` if an allocation was refused.
-pub fn check_entries<S: FileSystem, C: Clock, W: Output>(
+pub fn check_entries<S: FileSystem, D: Files + Clock, W: Output>(
     alloc: Global,
     system: &mut S,
-    clock: &C,
+    machine: &D,
     options: CheckOptions<'_>,
     entries: &[PathToCheck],
     writer: &mut W,
-) -> Result<CheckCounts, CheckStop>
+) -> Result<CheckReport, CheckStop>
 where
     S::File: Ahead,
-    ensures report { IfOk result (λ tally. IsReportOn S.content S.failures S.File.Input W.Output options.entry (map listed_of entries.now) system.old system.new writer.old writer.new tally) }
+    ensures report { IfOk result (λ report. IsReportOn S.content S.failures S.File.Input W.Output options.entry (map listed_of entries.now) system.old system.new writer.old writer.new report.counts report.manifest.items) }
     ensures device { IsErrOf result CheckStop.Device → HasFailed (W.failures writer.old) (W.failures writer.new) (W.interrupted writer.new) }
 {
     let mut tally = CheckCounts {
         good: 0,
         refused: 0,
         unread: 0,
+        kept: 0,
         skipped: 0,
     };
+    let mut manifest = Vec::new(alloc);
     'entries: for entry in entries {
-        let reported = report_entry(alloc, system, clock, options, entry)?;
+        let reported = report_entry(alloc, system, machine, options, entry)?;
         if give_whole(writer, &reported.line).is_err() {
             return Err(CheckStop::Device);
         }
-        tally = tally.with(&reported.verdict, options.allow_trailing);
+        manifest.extend_from_slice(&reported.listed)?;
+        tally = tally.with(&reported.found.verdict, options.allow_trailing);
     }
     let end = report_end(alloc, options.format, &tally)?;
     if give_whole(writer, end.as_bytes()).is_err() {
         return Err(CheckStop::Device);
     }
-    Ok(tally)
+    Ok(CheckReport {
+        counts: tally,
+        manifest,
+    })
 }

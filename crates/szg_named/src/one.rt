@@ -1,10 +1,10 @@
 //! The check of one file.
-ghost use Rattle.std.specs.Prelude.{◌≡◌, ◌⊎◌, ◌^◌, ◌≤◌, ◌++◌, ℕ, List, length, IfOk, IsErrOf, OnErr, OnOk, []};
+ghost use Rattle.std.specs.Prelude.{◌≡◌, ◌⊎◌, ◌^◌, ◌≤◌, ◌++◌, ℕ, List, length, IfOk, IsErrOf, OnErr, OnOk, [], if◌then◌else◌};
 ghost use Rattle.std.specs.Io.KnownBytes.{IsAtEnd};
 ghost use Rattle.szg_io.specs.Device.{HasFailed};
 ghost use Rattle.std.specs.Str.{bytes_eq};
 ghost use Rattle.szg_sums.specs.Digests.{has_sum};
-ghost use Rattle.szg_named.specs.Verdicts.{IsDueVerdictOn, IsFileVerdict, IsHashedVerdictOn, IsVerdictOn, is_table};
+ghost use Rattle.szg_named.specs.Verdicts.{IsDigestedOn, IsDueVerdictOn, IsFileVerdict, IsFoundOn, IsHashedVerdictOn, IsVerdictOn, is_table};
 
 use crate::due::Due;
 use crate::file_verdict::{FileVerdict, SumFault};
@@ -67,6 +67,42 @@ fn read_on<F: Input>(input: &mut F) -> Result<(), DeviceFault>
     Err(DeviceFault)
 }
 
+/// An input that was read for a check, and the verdict on it.
+#[derive(Drop)]
+struct Checked<F> {
+    input: F,
+    verdict: FileVerdict,
+}
+
+/// The verdict on a file, and, where they are asked for and it is a table, the SHA-256 digest of its bytes.
+#[derive(Clone, Copy)]
+pub struct Found {
+    pub verdict: FileVerdict,
+    pub digest: Option<[u8; 32]>,
+}
+
+/// The verdict on a file whose digest was compared.
+fn judged(found: FileVerdict, is_met: bool) -> FileVerdict
+    ensures { result ≡ (if is_met then found else FileVerdict.Sum SumFault.Differs) }
+{
+    if is_met {
+        found
+    } else {
+        FileVerdict::Sum(SumFault::Differs)
+    }
+}
+
+/// The verdict on a file that no list names.
+fn unlisted(found: FileVerdict) -> FileVerdict
+    ensures { result ≡ (if is_table found then FileVerdict.Sum SumFault.Unlisted else found) }
+{
+    if is_table(&found) {
+        FileVerdict::Sum(SumFault::Unlisted)
+    } else {
+        found
+    }
+}
+
 /// Checks an opened file, and compares `due` with the digest of the same bytes, and of those that follow a table. Errors:
 /// `Memory`.
 #[tactic(auto, using(crate::proofs::Hashing::no_table))]
@@ -76,24 +112,29 @@ fn check_hashed<F: Input + Ahead + Reasons + Drop, H: Hasher>(
     kind: Kind,
     file: F,
     due: &[u8],
-) -> Result<FileVerdict, CheckStop>
+) -> Result<Checked<F>, CheckStop>
     requires { F.moved file ≡ [] }
-    ensures says { IfOk result (λ verdict. (read : F) × IsHashedVerdictOn F.Input (λ m. bytes_eq (H.sum_of m) due.now) material.now kind file read verdict) }
+    ensures says { IfOk result (λ checked. IsHashedVerdictOn F.Input (λ m. bytes_eq (H.sum_of m) due.now) material.now kind file checked.input checked.verdict) }
     ensures only { IsErrOf result CheckStop.Device → ⊥ }
 {
     let mut hashed: Hashed<F, H> = Hashed::new(file);
     let found = check_opened(alloc, material, kind, &mut hashed)?;
     if !is_table(&found) {
-        return Ok(found);
+        return Ok(Checked {
+            input: hashed.into_input(),
+            verdict: found,
+        });
     }
     if read_on(&mut hashed).is_err() {
-        return Ok(FileVerdict::Unread(hashed.reason()));
+        let verdict = FileVerdict::Unread(hashed.reason());
+        return Ok(Checked {
+            input: hashed.into_input(),
+            verdict,
+        });
     }
-    if hashed.is_met(due) {
-        Ok(found)
-    } else {
-        Ok(FileVerdict::Sum(SumFault::Differs))
-    }
+    let (input, is_met) = hashed.compared(due);
+    let verdict = judged(found, is_met);
+    Ok(Checked { input, verdict })
 }
 
 /// Checks an opened file, and compares its digest. Errors: `Memory`.
@@ -103,9 +144,9 @@ fn check_summed<F: Input + Ahead + Reasons + Drop>(
     kind: Kind,
     file: F,
     sum: Sum,
-) -> Result<FileVerdict, CheckStop>
+) -> Result<Checked<F>, CheckStop>
     requires { F.moved file ≡ [] }
-    ensures says { IfOk result (λ verdict. (read : F) × IsHashedVerdictOn F.Input (λ m. has_sum sum m) material.now kind file read verdict) }
+    ensures says { IfOk result (λ checked. IsHashedVerdictOn F.Input (λ m. has_sum sum m) material.now kind file checked.input checked.verdict) }
     ensures only { IsErrOf result CheckStop.Device → ⊥ }
 {
     match sum {
@@ -123,48 +164,125 @@ fn check_due<F: Input + Ahead + Reasons + Drop>(
     kind: Kind,
     mut file: F,
     due: Due,
-) -> Result<FileVerdict, CheckStop>
+) -> Result<Checked<F>, CheckStop>
     requires { F.moved file ≡ [] }
-    ensures says { IfOk result (λ verdict. (read : F) × IsDueVerdictOn F.Input due material.now kind file read verdict) }
+    ensures says { IfOk result (λ checked. IsDueVerdictOn F.Input due material.now kind file checked.input checked.verdict) }
     ensures only { IsErrOf result CheckStop.Device → ⊥ }
 {
     match due {
-        Due::Any => check_opened(alloc, material, kind, &mut file),
+        Due::Any => {
+            let verdict = check_opened(alloc, material, kind, &mut file)?;
+            Ok(Checked {
+                input: file,
+                verdict,
+            })
+        }
         Due::Unlisted => {
             let found = check_opened(alloc, material, kind, &mut file)?;
-            if is_table(&found) {
-                Ok(FileVerdict::Sum(SumFault::Unlisted))
-            } else {
-                Ok(found)
-            }
+            Ok(Checked {
+                input: file,
+                verdict: unlisted(found),
+            })
         }
         Due::Sum(sum) => check_summed(alloc, material, kind, file, sum),
     }
 }
 
-/// Checks the file at a path, as a table of the name and kind that are given or in the path, and its digest. Errors: `Memory`.
+/// Checks an opened file, and what its digest has to be; of a table it computes the SHA-256 digest of the bytes that were
+/// checked, and of those that follow it. Errors: `Memory`.
+fn check_digested<F: Input + Ahead + Reasons + Drop>(
+    alloc: Global,
+    material: &Material,
+    kind: Kind,
+    file: F,
+    due: Due,
+) -> Result<Found, CheckStop>
+    requires { F.moved file ≡ [] }
+    ensures says { IfOk result (λ found. (read : F) × IsDigestedOn F.Input due material.now kind file read found) }
+    ensures only { IsErrOf result CheckStop.Device → ⊥ }
+{
+    let fresh: Hashed<F, Sha256> = Hashed::new(file);
+    let Checked {
+        input: mut hashed,
+        verdict,
+    } = check_due(alloc, material, kind, fresh, due)?;
+    if !is_table(&verdict) {
+        return Ok(Found {
+            verdict,
+            digest: None,
+        });
+    }
+    if read_on(&mut hashed).is_err() {
+        return Ok(Found {
+            verdict: FileVerdict::Unread(hashed.reason()),
+            digest: None,
+        });
+    }
+    Ok(Found {
+        verdict,
+        digest: Some(hashed.digest()),
+    })
+}
+
+/// Checks an opened file, what its digest has to be, and computes its SHA-256 digest if that is asked for. Errors: `Memory`.
+#[tactic(auto, using(crate::proofs::Hashing::found_digested))]
+fn check_file<F: Input + Ahead + Reasons + Drop>(
+    alloc: Global,
+    material: &Material,
+    kind: Kind,
+    file: F,
+    due: Due,
+    has_digest: bool,
+) -> Result<Found, CheckStop>
+    requires { F.moved file ≡ [] }
+    ensures says { IfOk result (λ found. (read : F) × IsFoundOn has_digest F.Input due material.now kind file read found) }
+    ensures only { IsErrOf result CheckStop.Device → ⊥ }
+{
+    if has_digest {
+        return check_digested(alloc, material, kind, file, due);
+    }
+    let Checked { verdict, .. } = check_due(alloc, material, kind, file, due)?;
+    Ok(Found {
+        verdict,
+        digest: None,
+    })
+}
+
+/// Returns a verdict without a digest.
+fn undigested(verdict: FileVerdict) -> Found
+    ensures { result.verdict ≡ verdict }
+{
+    Found {
+        verdict,
+        digest: None,
+    }
+}
+
+/// Checks the file at a path, as a table of the name and kind that are given or in the path, and its digest; computes that by
+/// SHA-256 if it is asked for. Errors: `Memory`.
 pub fn check_path<S: FileSystem>(
     alloc: Global,
     system: &mut S,
     naming: Naming<'_>,
     path: &str,
     due: Due,
-) -> Result<FileVerdict, CheckStop>
+    has_digest: bool,
+) -> Result<Found, CheckStop>
 where
     S::File: Ahead,
-    ensures verdict { IfOk result (λ verdict. IsFileVerdict S.content S.failures S.File.Input naming.entry due path.now system.old system.new verdict) }
+    ensures verdict { IfOk result (λ found. IsFileVerdict S.content S.failures S.File.Input naming.entry due has_digest path.now system.old system.new found) }
     ensures only { IsErrOf result CheckStop.Device → ⊥ }
 {
     let Some((name, kind)) = named_as(naming, path) else {
-        return Ok(FileVerdict::Ending);
+        return Ok(undigested(FileVerdict::Ending));
     };
     let material = match Material::parse(name) {
         Ok(material) => material,
-        Err(fault) => return Ok(FileVerdict::Name(fault)),
+        Err(fault) => return Ok(undigested(FileVerdict::Name(fault))),
     };
     match system.open(path) {
-        Ok(file) => check_due(alloc, &material, kind, file, due),
+        Ok(file) => check_file(alloc, &material, kind, file, due, has_digest),
         Err(FileFault::Memory) => Err(CheckStop::Memory),
-        Err(fault) => Ok(FileVerdict::Unopened(fault)),
+        Err(fault) => Ok(undigested(FileVerdict::Unopened(fault))),
     }
 }

@@ -1,7 +1,7 @@
 //! The records of a report for programs.
-ghost use Rattle.std.specs.Prelude.{◌≡◌, IfOk, flat_map, option_map, string_bytes};
+ghost use Rattle.std.specs.Prelude.{◌≡◌, ◌+◌, ◌++◌, ◌^◌, ◌<◌, IfOk, OnOk, flat_map, option_map, string_bytes};
 ghost use Rattle.std.specs.Duration.{as_nanos};
-ghost use Rattle.szg_named.specs.Records.{IsJsonRecord, IsReasonField, IsTsvRecord, bytes_field, json_reason, json_text, number_or, offset_field, quoted, seconds_or, tsv_reason, tsv_text, verdict_word};
+ghost use Rattle.szg_named.specs.Records.{IsJsonRecord, IsReasonField, IsTsvRecord, bytes_field, json_others, json_reason, json_summary, json_text, json_times, listed_byte, listed_name, number_or, offset_field, quoted, seconds_or, sum_line, sum_mark, tsv_reason, tsv_text, verdict_word};
 
 use crate::file_verdict::FileVerdict;
 use crate::lines::{
@@ -9,10 +9,11 @@ use crate::lines::{
     skip_reason, sum_word,
 };
 use crate::report_format::ReportFormat;
+use crate::stop::CheckCounts;
 use std::alloc::{AllocError, Global};
 use std::time::Duration;
 
-/// The word for what a file's check says: `ok`, `refused`, `unread` or `skipped`.
+/// The word for what a file's check says: `ok`, `refused`, `unread`, `kept` or `skipped`.
 fn verdict_word(verdict: &FileVerdict, allow_trailing: bool) -> &'static str
     ensures { result.now ≡ verdict_word allow_trailing verdict.now }
 {
@@ -23,6 +24,7 @@ fn verdict_word(verdict: &FileVerdict, allow_trailing: bool) -> &'static str
         | FileVerdict::Unread(_)
         | FileVerdict::NoText
         | FileVerdict::Empty => "unread",
+        FileVerdict::Kept(_) => "kept",
         FileVerdict::Skipped(_) => "skipped",
         FileVerdict::Ending
         | FileVerdict::Name(_)
@@ -37,7 +39,9 @@ fn bytes_field(verdict: &FileVerdict) -> Option<u64>
     ensures { result ≡ bytes_field verdict.now }
 {
     match verdict {
-        FileVerdict::Whole(size) | FileVerdict::Trailing(size) => Some(*size),
+        FileVerdict::Whole(size) | FileVerdict::Trailing(size) | FileVerdict::Kept(size) => {
+            Some(*size)
+        }
         _ => None,
     }
 }
@@ -58,7 +62,7 @@ fn reason_field(alloc: Global, verdict: &FileVerdict) -> Result<Option<String>, 
     ensures { IfOk result (λ reason. IsReasonField verdict.now (option_map (λ text. string_bytes text) reason)) }
 {
     let word = match verdict {
-        FileVerdict::Whole(_) => return Ok(None),
+        FileVerdict::Whole(_) | FileVerdict::Kept(_) => return Ok(None),
         FileVerdict::Unopened(fault) => return Ok(Some(fault_text(alloc, fault)?)),
         FileVerdict::Unread(error) => return Ok(Some(error_text(alloc, error)?)),
         FileVerdict::Ending => "Ending",
@@ -148,17 +152,19 @@ struct RecordTexts {
     reason: Option<String>,
     offset: Option<u64>,
     elapsed: Option<Duration>,
+    modified: Option<u64>,
 }
 
 /// The fields of a TSV record in a line, separated by tabs.
 fn tsv_text(alloc: Global, path: Vec<u8>, fields: &RecordTexts) -> Result<Vec<u8>, AllocError>
-    ensures { IfOk result (λ line. line.items ≡ tsv_text path.items fields.now.word.now fields.now.bytes (option_map (λ text. string_bytes text) fields.now.reason) fields.now.offset (option_map (λ d. as_nanos d) fields.now.elapsed)) }
+    ensures { IfOk result (λ line. line.items ≡ tsv_text path.items fields.now.word.now fields.now.bytes (option_map (λ text. string_bytes text) fields.now.reason) fields.now.offset (option_map (λ d. as_nanos d) fields.now.elapsed) fields.now.modified) }
 {
     let tab = "\t".as_bytes();
     let bytes = number_or(alloc, fields.bytes, "")?;
     let reason = tsv_reason(alloc, &fields.reason)?;
     let offset = number_or(alloc, fields.offset, "")?;
     let seconds = seconds_or(alloc, &fields.elapsed, "")?;
+    let modified = number_or(alloc, fields.modified, "")?;
     joined(
         alloc,
         &[
@@ -173,20 +179,40 @@ fn tsv_text(alloc: Global, path: Vec<u8>, fields: &RecordTexts) -> Result<Vec<u8
             offset.as_bytes(),
             tab,
             seconds.as_bytes(),
+            tab,
+            modified.as_bytes(),
             "\n".as_bytes(),
+        ],
+    )
+}
+
+/// The times in a JSON object, and its end.
+fn json_times(alloc: Global, fields: &RecordTexts) -> Result<Vec<u8>, AllocError>
+    ensures { IfOk result (λ text. text.items ≡ json_times (option_map (λ d. as_nanos d) fields.now.elapsed) fields.now.modified) }
+{
+    let seconds = seconds_or(alloc, &fields.elapsed, "null")?;
+    let modified = number_or(alloc, fields.modified, "null")?;
+    joined(
+        alloc,
+        &[
+            ",\"seconds\":".as_bytes(),
+            seconds.as_bytes(),
+            ",\"modified\":".as_bytes(),
+            modified.as_bytes(),
+            "}\n".as_bytes(),
         ],
     )
 }
 
 /// The fields of a record as a JSON object in a line.
 fn json_text(alloc: Global, path: &str, fields: &RecordTexts) -> Result<Vec<u8>, AllocError>
-    ensures { IfOk result (λ line. line.items ≡ json_text path.now fields.now.word.now fields.now.bytes (option_map (λ text. string_bytes text) fields.now.reason) fields.now.offset (option_map (λ d. as_nanos d) fields.now.elapsed)) }
+    ensures { IfOk result (λ line. line.items ≡ json_text path.now fields.now.word.now fields.now.bytes (option_map (λ text. string_bytes text) fields.now.reason) fields.now.offset (option_map (λ d. as_nanos d) fields.now.elapsed) fields.now.modified) }
 {
     let path = quoted(alloc, path)?;
     let bytes = number_or(alloc, fields.bytes, "null")?;
     let reason = json_reason(alloc, &fields.reason)?;
     let offset = number_or(alloc, fields.offset, "null")?;
-    let seconds = seconds_or(alloc, &fields.elapsed, "null")?;
+    let times = json_times(alloc, fields)?;
     joined(
         alloc,
         &[
@@ -200,19 +226,18 @@ fn json_text(alloc: Global, path: &str, fields: &RecordTexts) -> Result<Vec<u8>,
             &reason,
             ",\"offset\":".as_bytes(),
             offset.as_bytes(),
-            ",\"seconds\":".as_bytes(),
-            seconds.as_bytes(),
-            "}\n".as_bytes(),
+            &times,
         ],
     )
 }
 
-/// The fields of a file: what its check says, and the time that the check took.
+/// The fields of a file: what its check says, the time that the check took, and when the file changed.
 fn fields_of(
     alloc: Global,
     verdict: &FileVerdict,
     allow_trailing: bool,
     elapsed: Option<Duration>,
+    modified: Option<u64>,
 ) -> Result<RecordTexts, AllocError>
     ensures word { IfOk result (λ fields. fields.word.now ≡ verdict_word allow_trailing verdict.now) }
     ensures bytes { IfOk result (λ fields. fields.bytes ≡ bytes_field verdict.now) }
@@ -225,20 +250,23 @@ fn fields_of(
         reason: reason_field(alloc, verdict)?,
         offset: offset_field(verdict),
         elapsed,
+        modified,
     })
 }
 
-/// The TSV record of a file: its path, what its check says, and the seconds that the check took.
+/// The TSV record of a file: its path, what its check says, the seconds that the check took, and the nanoseconds from 1970 to
+/// the file's last change.
 pub fn tsv_record(
     alloc: Global,
     path: &str,
     verdict: &FileVerdict,
     allow_trailing: bool,
     elapsed: Option<Duration>,
+    modified: Option<u64>,
 ) -> Result<Vec<u8>, AllocError>
     ensures { IfOk result (λ line. IsTsvRecord allow_trailing path.now verdict.now line.items) }
 {
-    let fields = fields_of(alloc, verdict, allow_trailing, elapsed)?;
+    let fields = fields_of(alloc, verdict, allow_trailing, elapsed, modified)?;
     let path = path_text(alloc, verdict, path)?;
     tsv_text(alloc, path, &fields)
 }
@@ -250,9 +278,91 @@ pub fn json_record(
     verdict: &FileVerdict,
     allow_trailing: bool,
     elapsed: Option<Duration>,
+    modified: Option<u64>,
 ) -> Result<Vec<u8>, AllocError>
     ensures { IfOk result (λ line. IsJsonRecord allow_trailing path.now verdict.now line.items) }
 {
-    let fields = fields_of(alloc, verdict, allow_trailing, elapsed)?;
+    let fields = fields_of(alloc, verdict, allow_trailing, elapsed, modified)?;
     json_text(alloc, path, &fields)
+}
+
+/// The end of the summary: the numbers of files that weren't read or were left out, and that of skipped paths.
+fn json_others(alloc: Global, tally: &CheckCounts) -> Result<String, AllocError>
+    ensures { IfOk result (λ text. string_bytes text ≡ json_others tally.now) }
+{
+    let CheckCounts {
+        unread,
+        kept,
+        skipped,
+        ..
+    } = *tally;
+    format!(in alloc; ",\"unread\":{unread},\"kept\":{kept},\"skipped\":{skipped}}}\n")
+}
+
+/// The summary as a JSON object in a line.
+pub(crate) fn json_summary(alloc: Global, tally: &CheckCounts) -> Result<String, AllocError>
+    requires { tally.now.good + tally.now.refused + tally.now.unread + tally.now.kept < 2 ^ 64 }
+    ensures { IfOk result (λ line. string_bytes line ≡ json_summary tally.now) }
+{
+    let CheckCounts {
+        good,
+        refused,
+        unread,
+        kept,
+        ..
+    } = *tally;
+    let count = good + refused + unread + kept;
+    let others = json_others(alloc, tally)?;
+    format!(in alloc; "{{\"files\":{count},\"ok\":{good},\"refused\":{refused}{others}")
+}
+
+// ---- lines of sums
+
+/// Appends a byte of a name, escaped if it ends a line or begins an escape.
+fn push_listed_byte(text: &mut Vec<u8>, byte: u8) -> Result<(), AllocError>
+    ensures { OnOk result (text.new.items ≡ text.old.items ++ listed_byte byte) }
+{
+    match byte {
+        b'\n' => Ok(text.extend_from_slice(b"\\n")?),
+        b'\r' => Ok(text.extend_from_slice(b"\\r")?),
+        b'\\' => Ok(text.extend_from_slice(b"\\\\")?),
+        _ => Ok(text.push(byte)?),
+    }
+}
+
+/// Returns a name with its escapes.
+fn listed_name(alloc: Global, name: &str) -> Result<Vec<u8>, AllocError>
+    ensures { IfOk result (λ text. text.items ≡ listed_name name.now) }
+{
+    let mut text = Vec::new(alloc);
+    'bytes: for byte in name.as_bytes() {
+        push_listed_byte(&mut text, *byte)?;
+    }
+    Ok(text)
+}
+
+/// What a line begins with: a backslash if its name has escapes.
+fn sum_mark(name: &str, text: &[u8]) -> &'static str
+    ensures { result.now ≡ sum_mark name.now text.now }
+{
+    if text == name.as_bytes() { "" } else { "\\" }
+}
+
+/// Returns the line of a file in a list of sums, as `sha256sum` writes it.
+pub(crate) fn sum_line(alloc: Global, digest: &[u8], name: &str) -> Result<Vec<u8>, AllocError>
+    ensures { IfOk result (λ line. line.items ≡ sum_line digest.now name.now) }
+{
+    let text = listed_name(alloc, name)?;
+    let mark = sum_mark(name, &text);
+    let digits = hex::encode(alloc, digest)?;
+    joined(
+        alloc,
+        &[
+            mark.as_bytes(),
+            digits.as_bytes(),
+            "  ".as_bytes(),
+            &text,
+            "\n".as_bytes(),
+        ],
+    )
 }

@@ -1,13 +1,19 @@
 //! Results of positions over folders of tables in memory.
 
-use crate::helpers::made;
-use std::alloc::Global;
+use crate::helpers::{made, position};
+use std::alloc::{AllocError, Global};
 use std::process::Abort;
+use szg_chess::Position;
+use szg_file::{Table, read_bytes};
 use szg_files::{MemoryFile, MemoryFiles};
 use szg_fixtures::{
     Fixture, kbvk_wdl_constant, knvkp_wdl_constant, kqvk_dtz_packed, kqvk_wdl_true_but_for_ends,
+    kqvk_wdl_unpaired,
 };
-use szg_results::{Folders, board_of, stop_text};
+use szg_place::index_of;
+use szg_results::{Folders, board_of, probe_position, stop_text};
+use szg_tables::TableSet;
+use szg_values::Material;
 
 /// How an answer is asked for.
 #[derive(Clone, Copy)]
@@ -198,4 +204,109 @@ fn boards(rt: HostRuntime) {
     assert!(rt; board.as_str() == due);
     let none = made(&rt, board_of(rt.alloc(), "9/8/8/8/8/8/8/8 w - -"));
     assert!(rt; none.as_str() == "");
+}
+
+/// King and queen against king, WDL: White to move wins, Black to move draws. The bit 0 is the word of White's values, and
+/// the bit 1 is no word's. A block of 32 bytes has 256 values; the first is at offset 320.
+fn lone_word(alloc: Global) -> Result<Fixture, AllocError> {
+    let mut file = kqvk_wdl_unpaired(alloc)?.changed(alloc, &[(20, 1)])?;
+    for (at, byte) in file.bytes.iter_mut().enumerate() {
+        if 320 <= at && at < 4256 {
+            *byte = 0;
+        }
+    }
+    Ok(file)
+}
+
+/// The table of a file.
+fn table_in(rt: &(impl Abort + Alloc<A = Global>), file: &Fixture) -> Table {
+    let material = made(rt, Material::parse(file.name));
+    made(rt, read_bytes(rt.alloc(), material, file.kind, &file.bytes))
+}
+
+/// The block that has the position's value is damaged, or the next one, which isn't needed.
+#[test]
+fn a_damaged_block(rt: HostRuntime) {
+    let file = made(&rt, lone_word(rt.alloc()));
+    let table = table_in(&rt, &file);
+    let Some(placement) = position(&rt, MATE_IN_ONE).placement() else {
+        panic!(rt; "no placement")
+    };
+    let block = made(&rt, index_of(&table, &placement)).index / 256;
+    for number in [block, block.saturating_add(1)] {
+        let offset = number.saturating_mul(32).saturating_add(320);
+        let damaged = made(&rt, file.changed(rt.alloc(), &[(offset as usize, 0x80)]));
+        let files = [at("t/KQvK.rtbw", &damaged)];
+        let text = found(&rt, &files, &["t"], Form::Line, MATE_IN_ONE);
+        if number == block {
+            let due = made(
+                &rt,
+                format!(in rt.alloc(); "refused block {number} of KQvK wdl at {offset}"),
+            );
+            assert_eq!(rt; text.as_str(), due.as_str());
+        } else {
+            assert!(rt; text.starts_with(MATE_IN_ONE));
+        }
+    }
+}
+
+/// A file that ends within its front, or before its blocks do.
+#[test]
+fn a_file_that_ends_early(rt: HostRuntime) {
+    for (count, due) in [
+        (10, "refused table KQvK wdl at 10: Truncated"),
+        (4303, "refused table KQvK wdl at 4303: Truncated"),
+    ] {
+        let mut file = made(&rt, lone_word(rt.alloc()));
+        file.bytes.truncate(count);
+        check_cases(
+            &rt,
+            &[at("t/KQvK.rtbw", &file)],
+            &[(MATE_IN_ONE, Form::Line, due)],
+        );
+    }
+}
+
+/// Positions of which no capture and no mate decides.
+const UNDECIDED: [&str; 4] = [
+    MATE_IN_ONE,
+    "8/8/8/3k4/8/8/1Q6/K7 w - - 0 1",
+    "8/8/8/3k4/8/8/1Q6/K7 b - - 0 1",
+    "4k3/8/8/8/8/2Q5/8/3K4 b - - 0 1",
+];
+
+/// The answers of the folder `t` are those of whole tables in memory.
+fn check_answers(
+    rt: &(impl Abort + Alloc<A = Global>),
+    files: &[MemoryFile<'_>],
+    tables: &[Table],
+) {
+    let mut system = MemoryFiles { files, failures: 0 };
+    let mut folders = Folders::new(rt.alloc(), &["t"]);
+    for fen in UNDECIDED {
+        let record = made(rt, Position::parse_fen(fen));
+        let due = made(
+            rt,
+            probe_position(&mut TableSet::new(tables), &record.position, 0, true),
+        );
+        let Ok(answer) = folders.answer(rt.alloc(), &mut system, &record) else {
+            panic!(rt; "{fen}")
+        };
+        assert!(rt;
+            answer.has_distances && answer.distance == due.distance,
+            "{fen}"
+        );
+        assert!(rt; answer.moves.as_slice() == due.moves.as_slice(), "{fen}");
+    }
+}
+
+#[test]
+fn answers_of_whole_tables(rt: HostRuntime) {
+    let wdl = made(&rt, kqvk_wdl_true_but_for_ends(rt.alloc()));
+    let dtz = made(&rt, kqvk_dtz_packed(rt.alloc()));
+    let mut tables = Vec::new(rt.alloc());
+    made(&rt, tables.push(table_in(&rt, &wdl)));
+    made(&rt, tables.push(table_in(&rt, &dtz)));
+    let files = [at("t/KQvK.rtbw", &wdl), at("t/KQvK.rtbz", &dtz)];
+    check_answers(&rt, &files, &tables);
 }

@@ -27,5 +27,6 @@ pub lacking : (files : List ℕ → Option (List ℕ)) (words : List (List ℕ))
 lacking files words material Wdl p may absent = absurd (cc may)
 lacking files words material Dtz p may absent = (material, leb-true (length (man_codes material)) (length p.placed_men) may, absent)
 
-pub same_lacking : (files files' : List ℕ → Option (List ℕ)) (words : List (List ℕ)) (p : Position) → files' ≡ files → LacksDistances files' words p → LacksDistances files words p
-same_lacking files files' words p same lacks = subst (λ (these : List ℕ → Option (List ℕ)). LacksDistances these words p) same lacks
+pub same_lacking : (files files' : List ℕ → Option (List ℕ)) (words words' : List (List ℕ)) (p : Position) → files' ≡ files → words' ≡ words → LacksDistances files' words' p → LacksDistances files words p
+same_lacking files files' words words' p same same-words lacks =
+    subst (λ (ws : List (List ℕ)). LacksDistances files ws p) same-words (subst (λ (these : List ℕ → Option (List ℕ)). LacksDistances these words' p) same lacks)

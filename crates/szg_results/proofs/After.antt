@@ -1,17 +1,23 @@
 -- Moves, each with the DTZ of the position after it.
-use Rattle.std.proofs.Common.{◌≡◌, ℕ, ℤ, ◌+◌, ◌<◌, length, get_or, map, take, List, [], ◌∷◌, ◌++◌, false, Option, Some, None, refl, sym, ap, subst, ◌∙◌}
+use Rattle.std.proofs.Common.{◌≡◌, ℕ, ℤ, ◌+◌, ◌<◌, length, get_or, map, take, List, [], ◌∷◌, ◌++◌, false, Option, Some, None, option_map, refl, sym, ap, subst, ◌∙◌}
 use Rattle.std.specs.Prelude.{Result, Ok, Err, IfSome, IsNone}
 use Rattle.std.proofs.lemmas.List.{map-append, take_more}
-use Rattle.szg_file.specs.Held.{Shown}
 use Rattle.szg_chess.specs.Position.{Position}
 use Rattle.szg_chess.specs.Fen.{fen_fault, record_of}
 use Rattle.szg_chess.specs.declared.FenRecord.{FenRecord}
 use Rattle.szg_chess.specs.declared.PositionFault.{PositionFault}
+use Rattle.szg_game.specs.declared.Class.{Class}
+use Rattle.szg_probe.specs.Distances.{probed_distance, signed_distance}
 use Rattle.szg_probe.specs.declared.assessments.RankedMove.{RankedMove}
-use Rattle.szg_results.specs.Folders.{LacksDistances}
+use Rattle.szg_tables.specs.Fetched.{fetched_classes, fetched_numbers}
+use Rattle.szg_tables.specs.declared.fetched.FetchedTable.{FetchedTable}
+use Rattle.szg_results.specs.Folders.{IsAnswerIn, IsPieceOf, LacksDistances}
 use Rattle.szg_results.specs.Results.{IsAnswerOf}
-use Rattle.szg_results.specs.Objects.{AreAfter, IsDtz, IsObjectOf, object_text}
+use Rattle.szg_results.specs.Objects.{AreAfter, IfRead, IsDtz, IsObjectOf, object_text}
 use Rattle.szg_results.specs.declared.objects.MoveAfter.{MoveAfter}
+use Rattle.szg_results.specs.declared.objects.OrPiece.{OrPiece}
+use Rattle.szg_results.specs.declared.objects.OrPiece.TheVariants.{Read}
+use Rattle.szg_results.specs.declared.pieces.Piece.{Piece}
 use Rattle.szg_results.specs.declared.results.Answer.{Answer}
 
 abbrev ranked_of : MoveAfter → RankedMove
@@ -23,7 +29,7 @@ pub more_moves : (rs : List RankedMove) (i : ℕ) (d : RankedMove) (ss : List Mo
 more_moves rs i d ss s below first next =
     map-append ranked_of ss (s ∷ []) ∙ ap (λ (us : List RankedMove). us ++ s.ranked ∷ []) first ∙ ap (λ (r : RankedMove). take i rs ++ r ∷ []) next ∙ sym (take_more rs i d below)
 
-pub same_dtz : (files files' : List ℕ → Option (List ℕ)) (words : List (List ℕ)) (tables : List Shown) (p : Position) (dtz : Option ℤ) → files' ≡ files → IsDtz files' words tables p dtz → IsDtz files words tables p dtz
+pub same_dtz : (files files' : List ℕ → Option (List ℕ)) (words : List (List ℕ)) (tables : List FetchedTable) (p : Position) (dtz : Option ℤ) → files' ≡ files → IsDtz files' words tables p dtz → IsDtz files words tables p dtz
 same_dtz files files' words tables p dtz same is = subst (λ (these : List ℕ → Option (List ℕ)). IsDtz these words tables p dtz) same is
 
 -- a text that is parsed as a record
@@ -32,10 +38,20 @@ parsed_by : (o : Option PositionFault) (parsed : Result FenRecord PositionFault)
 parsed_by None parsed r r' accepted refused is = (refl, cc (sym is ∙ accepted refl))
 parsed_by (Some fault) parsed r r' accepted refused is = absurd (cc (sym is ∙ refused))
 
+-- the answer for a text that is parsed
+pub answer_is : (files : List ℕ → Option (List ℕ)) (words words' : List (List ℕ)) (tables : List FetchedTable) (fen : List ℕ) (parsed : Result FenRecord PositionFault) (r : FenRecord) (a : Answer) →
+    (IsNone (fen_fault fen) → parsed ≡ Ok (record_of fen)) → IfSome (fen_fault fen) (λ fault. parsed ≡ Err fault) → parsed ≡ Ok r → words' ≡ words → IsAnswerOf (fetched_classes tables) (fetched_numbers tables) r a →
+    (a.has_distances ≡ false → LacksDistances files words' r.position) → IsNone (fen_fault fen) × (r ≡ record_of fen) × IsAnswerIn files words tables (record_of fen) a
+answer_is files words words' tables fen parsed r a accepted refused is words-is answer lacks =
+    let both = parsed_by (fen_fault fen) parsed r (record_of fen) accepted refused is in
+    let so : r ≡ record_of fen = both.1 in
+    let there : IsAnswerIn files words tables r a = (answer, λ none. subst (λ (ws : List (List ℕ)). LacksDistances files ws r.position) words-is (lacks none)) in
+    (both.0, so, subst (λ (q : FenRecord). IsAnswerIn files words tables q a) so there)
+
 -- the object of a text that is parsed, once all tables are read
-pub object_is : (files files' files'' : List ℕ → Option (List ℕ)) (words words' words'' : List (List ℕ)) (tables : List Shown) (fen text : List ℕ) (parsed : Result FenRecord PositionFault) (r : FenRecord)
+pub object_is : (files files' files'' : List ℕ → Option (List ℕ)) (words words' words'' : List (List ℕ)) (tables : List FetchedTable) (fen text : List ℕ) (parsed : Result FenRecord PositionFault) (r : FenRecord)
     (a : Answer) (ss : List MoveAfter) → (IsNone (fen_fault fen) → parsed ≡ Ok (record_of fen)) → IfSome (fen_fault fen) (λ fault. parsed ≡ Err fault) → parsed ≡ Ok r →
-    files' ≡ files → words' ≡ words → files'' ≡ files' → words'' ≡ words' → IsAnswerOf tables r a → (a.has_distances ≡ false → LacksDistances files' words' r.position) →
+    files' ≡ files → words' ≡ words → files'' ≡ files' → words'' ≡ words' → IsAnswerOf (fetched_classes tables) (fetched_numbers tables) r a → (a.has_distances ≡ false → LacksDistances files' words' r.position) →
     AreAfter files'' words'' tables r.position a.moves.items ss → text ≡ object_text r.position a ss → IsObjectOf files words tables fen text
 object_is files files' files'' words words' words'' tables fen text parsed r a ss accepted refused is files-is words-is files-are words-are answer lacks after object =
     let both = parsed_by (fen_fault fen) parsed r (record_of fen) accepted refused is in
@@ -47,4 +63,16 @@ object_is files files' files'' words words' words'' tables fen text parsed r a s
     let after-there : AreAfter files words tables p a.moves.items ss =
     subst (λ (q : FenRecord). AreAfter files words tables q.position a.moves.items ss) so (subst (λ (ws : List (List ℕ)). AreAfter files ws tables r.position a.moves.items ss) (words-are ∙ words-is)
     (subst (λ (these : List ℕ → Option (List ℕ)). AreAfter these words'' tables r.position a.moves.items ss) (files-are ∙ files-is) after)) in
-    (both.0, a, (subst (λ (q : FenRecord). IsAnswerOf tables q a) so answer, lacks-there), ss, after-there, object ∙ ap (λ (q : FenRecord). object_text q.position a ss) so)
+    (both.0, a, (subst (λ (q : FenRecord). IsAnswerOf (fetched_classes tables) (fetched_numbers tables) q a) so answer, lacks-there), ss, after-there, object ∙ ap (λ (q : FenRecord). object_text q.position a ss) so)
+
+-- a piece that was read on the way
+pub piece_is : {A : Type 0} (files files' : List ℕ → Option (List ℕ)) (tables : List FetchedTable) (found : OrPiece A) (piece : Piece) → files' ≡ files → found ≡ Read piece → IfRead found (IsPieceOf files' tables) → IsPieceOf files tables piece
+piece_is {A} files files' tables found piece same is read =
+    subst (λ (these : List ℕ → Option (List ℕ)). IsPieceOf these tables piece) same (subst (λ (f : OrPiece A). IfRead f (IsPieceOf files' tables)) is read)
+
+-- the DTZ that a probe found
+pub dtz_is : (files : List ℕ → Option (List ℕ)) (words : List (List ℕ)) (tables' tables : List FetchedTable) (p : Position) (k : Class) (d : ℕ) (n : ℤ) → tables' ≡ tables →
+    probed_distance (fetched_classes tables') (fetched_numbers tables') p ≡ Some (k, d) → n ≡ signed_distance k d → IsDtz files words tables p (Some n)
+dtz_is files words tables' tables p k d n same is signed =
+    subst (λ (ts : List FetchedTable). IsDtz files words ts p (Some n)) same
+    (ap (option_map (λ (found : Class × ℕ). signed_distance found.0 found.1)) is ∙ ap (λ (m : ℤ). Some m) (sym signed))

@@ -1,16 +1,21 @@
--- Where the files of tables are looked for, and when an answer has no distances.
-use Rattle.std.specs.Prelude.{ℕ, ◌≡◌, ◌≤◌, ◌&&◌, Bool, false, nat_le, List, ◌++◌, length, map, codes, All, Option, Some, None, IfSome, if◌then◌else◌}
+-- Where the files of tables are looked for, what was read of them, and when an answer has no distances.
+use Rattle.std.specs.Prelude.{ℕ, ◌≡◌, ◌≤◌, ◌&&◌, Bool, false, nat_le, List, ◌++◌, length, map, codes, slice_get, string_bytes, All, Option, Some, None, IfSome, if◌then◌else◌}
 use Rattle.std.specs.Str.{bytes_eq}
 use Rattle.szg_values.specs.Material.{Sides, man_codes, name_of}
 use Rattle.szg_values.specs.declared.Kind.{Kind}
 use Rattle.szg_values.specs.declared.Kind.TheVariants.{Wdl, Dtz}
-use Rattle.szg_file.specs.Held.{Shown}
+use Rattle.szg_file.specs.FrontTable.{IsFrontOf}
 use Rattle.szg_place.specs.Layout.{is_dtz}
 use Rattle.szg_chess.specs.Position.{Position}
 use Rattle.szg_chess.specs.declared.FenRecord.{FenRecord}
 use Rattle.szg_named.specs.Named.{named_by}
+use Rattle.szg_tables.specs.Fetched.{IsOfFile, IsValueIn, fetched_classes, fetched_numbers}
+use Rattle.szg_tables.specs.declared.fetched.FetchedTable.{FetchedTable}
+use Rattle.szg_tables.specs.declared.fetched.FetchedValue.{FetchedValue}
 use Rattle.szg_results.specs.Results.{IsAnswerOf}
 use Rattle.szg_results.specs.declared.folders.Folders.{Folders}
+use Rattle.szg_results.specs.declared.pieces.Piece.{Piece}
+use Rattle.szg_results.specs.declared.pieces.Piece.TheVariants.{Front, Value}
 use Rattle.szg_results.specs.declared.results.Answer.{Answer}
 
 abbrev pub words_of : Folders → List (List ℕ)
@@ -48,6 +53,25 @@ may_do_without kind material p = is_dtz kind && nat_le (length (man_codes materi
 abbrev pub LacksDistances : (List ℕ → Option (List ℕ)) → List (List ℕ) → Position → Type 0
 LacksDistances files words p = (material : Sides) × (length (man_codes material) ≤ length p.placed_men) × IsAbsent files words material Dtz
 
--- The answer over the tables that were read. It has distances, unless a DTZ table that it may take is absent.
-abbrev pub IsAnswerIn : (List ℕ → Option (List ℕ)) → List (List ℕ) → List Shown → FenRecord → Answer → Type 0
-IsAnswerIn files words tables fen a = IsAnswerOf tables fen a × (a.has_distances ≡ false → LacksDistances files words fen.position)
+-- The answer over what was fetched of tables. It has distances, unless a DTZ table that it may take is absent.
+abbrev pub IsAnswerIn : (List ℕ → Option (List ℕ)) → List (List ℕ) → List FetchedTable → FenRecord → Answer → Type 0
+IsAnswerIn files words tables fen a =
+    IsAnswerOf (fetched_classes tables) (fetched_numbers tables) fen a × (a.has_distances ≡ false → LacksDistances files words fen.position)
+
+-- ---- what was read
+
+-- Where the bytes of the table's file are among these files, by path, the front and each value that was fetched are theirs.
+abbrev pub IsFetched : (List ℕ → Option (List ℕ)) → FetchedTable → Type 0
+IsFetched files t = IfSome (files (string_bytes t.path)) (IsOfFile t)
+
+abbrev pub AreFetched : (List ℕ → Option (List ℕ)) → List FetchedTable → Type 0
+AreFetched files tables = All (IsFetched files) tables
+
+-- the value is the file's, where the front is
+abbrev pub IsValueOf : (List ℕ → Option (List ℕ)) → FetchedValue → FetchedTable → Type 0
+IsValueOf files v t = IfSome (files (string_bytes t.path)) (λ content. IsFrontOf t.front content → IsValueIn t.front content v)
+
+-- a table that was opened, or a value of the table with this number
+abbrev pub IsPieceOf : (List ℕ → Option (List ℕ)) → List FetchedTable → Piece → Type 0
+IsPieceOf files tables (Front t) = IsFetched files t
+IsPieceOf files tables (Value number v) = IfSome (slice_get tables number) (IsValueOf files v)

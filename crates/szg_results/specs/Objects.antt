@@ -6,7 +6,6 @@ use Rattle.std.specs.List.{list_all, list_any}
 use Rattle.szg_values.specs.Men.{is_man, file_of, rank_of}
 use Rattle.szg_values.specs.Placement.{PlacedMan}
 use Rattle.szg_values.specs.declared.Man.TheVariants.{King, Knight, Bishop}
-use Rattle.szg_file.specs.Held.{Shown}
 use Rattle.szg_game.specs.Classes.{negate}
 use Rattle.szg_game.specs.declared.Class.{Class}
 use Rattle.szg_game.specs.declared.Class.TheVariants.{Loss, BlessedLoss, Draw, CursedWin, Win}
@@ -17,11 +16,13 @@ use Rattle.szg_chess.specs.Uci.{uci_text}
 use Rattle.szg_chess.specs.San.{san_text}
 use Rattle.szg_probe.specs.Distances.{probed_distance, signed_distance}
 use Rattle.szg_probe.specs.declared.assessments.RankedMove.{RankedMove}
-use Rattle.szg_tables.specs.Stored.{stored_classes, stored_numbers}
+use Rattle.szg_tables.specs.Fetched.{fetched_classes, fetched_numbers}
+use Rattle.szg_tables.specs.declared.fetched.FetchedTable.{FetchedTable}
 use Rattle.szg_results.specs.Folders.{IsAnswerIn, LacksDistances}
 use Rattle.szg_results.specs.declared.objects.MoveAfter.{MoveAfter}
-use Rattle.szg_results.specs.declared.objects.OrTable.{OrTable}
-use Rattle.szg_results.specs.declared.objects.OrTable.TheVariants.{Found, Read}
+use Rattle.szg_results.specs.declared.objects.OrPiece.{OrPiece}
+use Rattle.szg_results.specs.declared.objects.OrPiece.TheVariants.{Found, Read}
+use Rattle.szg_results.specs.declared.pieces.Piece.{Piece}
 use Rattle.szg_results.specs.declared.results.Answer.{Answer}
 
 -- ---- what the fields say
@@ -86,24 +87,29 @@ object_text p a ss = (head_text p a ++ moves_text p ss) ++ codes "]}\n"
 
 -- ---- what it says
 
--- The DTZ is that of the position over the tables that were read. It is unknown only if a DTZ table that it may take is
+-- The DTZ is that of the position over what was fetched of tables. It is unknown only if a DTZ table that it may take is
 -- absent.
-abbrev pub IsDtz : (List ℕ → Option (List ℕ)) → List (List ℕ) → List Shown → Position → Option ℤ → Type 0
-IsDtz files words tables p (Some n) = option_map (λ found. signed_distance found.0 found.1) (probed_distance (stored_classes tables) (stored_numbers tables) p) ≡ Some n
+abbrev pub IsDtz : (List ℕ → Option (List ℕ)) → List (List ℕ) → List FetchedTable → Position → Option ℤ → Type 0
+IsDtz files words tables p (Some n) = option_map (λ found. signed_distance found.0 found.1) (probed_distance (fetched_classes tables) (fetched_numbers tables) p) ≡ Some n
 IsDtz files words tables p None = LacksDistances files words p
 
 -- these ranked moves, each with the DTZ of the position after it
-abbrev pub AreAfter : (List ℕ → Option (List ℕ)) → List (List ℕ) → List Shown → Position → List RankedMove → List MoveAfter → Type 0
+abbrev pub AreAfter : (List ℕ → Option (List ℕ)) → List (List ℕ) → List FetchedTable → Position → List RankedMove → List MoveAfter → Type 0
 AreAfter files words tables p rs ss = (map (λ s. s.ranked) ss ≡ rs) × All (λ s. IsDtz files words tables (after p s.ranked.m) s.dtz) ss
 
 -- the text is the object of the answer for a position's text
-abbrev pub IsObjectOf : (List ℕ → Option (List ℕ)) → List (List ℕ) → List Shown → List ℕ → List ℕ → Type 0
+abbrev pub IsObjectOf : (List ℕ → Option (List ℕ)) → List (List ℕ) → List FetchedTable → List ℕ → List ℕ → Type 0
 IsObjectOf files words tables fen text = IsNone (fen_fault fen) × (a : Answer) × IsAnswerIn files words tables (record_of fen) a
     × (ss : List MoveAfter) × AreAfter files words tables (record_of fen).position a.moves.items ss × (text ≡ object_text (record_of fen).position a ss)
 
 -- ---- while tables are read
 
--- what was found over the tables that were read; nothing if one more was read
-abbrev pub IfFound : {A : Type 0} → OrTable A → (A → Type 0) → Type 0
+-- what was found over what was fetched; nothing if one more piece was read
+abbrev pub IfFound : {A : Type 0} → OrPiece A → (A → Type 0) → Type 0
 IfFound (Found a) P = P a
-IfFound (Read table) P = Unit {0}
+IfFound (Read piece) P = Unit {0}
+
+-- nothing if all was found
+abbrev pub IfRead : {A : Type 0} → OrPiece A → (Piece → Type 0) → Type 0
+IfRead (Found a) P = Unit {0}
+IfRead (Read piece) P = P piece

@@ -1,8 +1,8 @@
 -- The result of a position: what a set of tables says of a text in Forsyth-Edwards Notation.
 use Rattle.std.specs.Prelude.{ℕ, ◌≡◌, List, map, Some, All, Contains, IsPermutation, if◌then◌else◌}
 use Rattle.std.specs.List.Sorted.{IsNonDecreasingBy}
-use Rattle.szg_game.specs.declared.Class.{Class}
 use Rattle.szg_file.specs.Held.{Shown}
+use Rattle.szg_game.specs.declared.Class.{Class}
 use Rattle.szg_chess.specs.Position.{Position}
 use Rattle.szg_chess.specs.Moves.{is_mate, legal_moves}
 use Rattle.szg_chess.specs.declared.FenRecord.{FenRecord}
@@ -10,7 +10,9 @@ use Rattle.szg_probe.specs.Probing.{StoredClasses, all_known}
 use Rattle.szg_probe.specs.Distances.{StoredNumbers, probed_distance, at_counter, ranked, rank_of}
 use Rattle.szg_probe.specs.declared.distances.Distance.{Distance}
 use Rattle.szg_probe.specs.declared.assessments.RankedMove.{RankedMove}
+use Rattle.szg_tables.specs.Fetched.{IsOfTable, fetched_classes, fetched_numbers}
 use Rattle.szg_tables.specs.Stored.{stored_classes, stored_numbers}
+use Rattle.szg_tables.specs.declared.fetched.FetchedTable.{FetchedTable}
 use Rattle.szg_results.specs.declared.results.Answer.{Answer}
 
 -- The class and the distance with the fifty-move counter. A mate comes before the fifty-move rule.
@@ -33,8 +35,13 @@ pub record IsAnswer (classes : StoredClasses) (numbers : StoredNumbers) (p : Pos
 abbrev pub zero_numbers : StoredNumbers
 zero_numbers men mover k = Some (Some 0)
 
--- The answer for a position with its counters, over tables. Without distances the classes alone count: no DTZ table is
--- used, and no fifty-move counter.
-abbrev pub IsAnswerOf : List Shown → FenRecord → Answer → Type 0
-IsAnswerOf tables fen a =
-    IsAnswer (stored_classes tables) (if a.has_distances then stored_numbers tables else zero_numbers) fen.position (if a.has_distances then fen.halfmove else 0) a
+-- The answer for a position with its counters, over stored classes and numbers. Without distances the classes alone count: no
+-- DTZ table is used, and no fifty-move counter.
+abbrev pub IsAnswerOf : StoredClasses → StoredNumbers → FenRecord → Answer → Type 0
+IsAnswerOf classes numbers fen a =
+    IsAnswer classes (if a.has_distances then numbers else zero_numbers) fen.position (if a.has_distances then fen.halfmove else 0) a
+
+-- An answer over what was fetched of the files of tables is the answer over the tables.
+abbrev pub FetchedAnswers : Type 0
+FetchedAnswers = (parts : List FetchedTable) (tables : List Shown) (fen : FenRecord) (a : Answer) → All (IsOfTable tables) parts →
+    IsAnswerOf (fetched_classes parts) (fetched_numbers parts) fen a → IsAnswerOf (stored_classes tables) (stored_numbers tables) fen a

@@ -1,34 +1,49 @@
-//! Tables of folders: each is read when it is first needed, and stays.
+//! Tables of folders. A table is opened when it is first needed, by its front, and a value is read when it is first needed, by
+//! its block; both stay.
 
-ghost use Rattle.std.specs.Prelude.{◌≡◌, false, [], All, Contains, IfNone, IfOk, IfSome, map, option_map, string_bytes};
-ghost use Rattle.szg_results.specs.Folders.{IsAbsent, IsAbsentAt, IsAnswerIn, LacksDistances, ending_of, may_do_without, path_of, words_of};
+ghost use Rattle.std.specs.Prelude.{◌≡◌, ℕ, [], false, All, Contains, IfNone, IfOk, IfSome, List, Option, slice_get, string_bytes};
+ghost use Rattle.szg_tables.specs.Fetched.{fetched_classes, fetched_numbers};
+ghost use Rattle.szg_results.specs.Folders.{AreFetched, IsAbsent, IsAnswerIn, IsFetched, IsPieceOf, IsValueOf, LacksDistances, may_do_without, words_of};
 ghost use Rattle.szg_chess.specs.Moves.{legal_moves};
 ghost use Rattle.szg_results.specs.Results.{IsAnswerOf};
 ghost use Rattle.szg_results.specs.Lines.{IsLineOf, IsTextOf};
-ghost use Rattle.szg_results.specs.Objects.{AreAfter, IfFound, IsDtz, IsObjectOf};
+ghost use Rattle.szg_results.specs.Objects.{AreAfter, IfFound, IfRead, IsDtz, IsObjectOf};
 
 use crate::classes_alone::ClassesAlone;
-use crate::objects::{MoveAfter, OrTable, object_of};
+use crate::objects::{MoveAfter, OrPiece, object_of};
+use crate::pieces::{Piece, fetch, open_missing};
+use crate::wanted::wanted_values;
 use crate::{Answer, line_of, probe_position, text_of};
 use std::alloc::{AllocError, Global};
-use std::io::ErrorKind;
 use szg_chess::{FenRecord, Position, PositionFault};
-use szg_file::{ReadFault, Reason, Table, read};
-use szg_files::{FileFault, FileSystem, Reasons};
-use szg_io::Input;
-use szg_named::{fault_text, named_by, reason_word};
+use szg_file::Reason;
+use szg_files::{FileFault, FileSystem};
+use szg_named::{fault_text, reason_word};
 use szg_probe::{DistanceFault, RankedMove, probe_dtz};
-use szg_tables::{Missing, MissingReason, TableSet};
+use szg_tables::{FetchedSet, FetchedTable, FetchedValue, Missing, MissingReason};
 use szg_values::{Kind, Material};
 
-/// More than the number of tables that positions of six men lead to.
-const MOST_TABLES: u32 = 4096;
+/// More than the number of tables and values that a position of six men takes.
+const MOST_PIECES: u32 = 1 << 24;
 
-/// The tables of folders that were read so far.
+/// So often values are read ahead. Each time more of a probe's way is known.
+const MOST_PASSES: u32 = 64;
+
+/// As many bytes of fronts are kept for the next position.
+const MOST_BYTES: u64 = 1 << 28;
+
+/// As many values are kept for the next position. A look-up passes over those of its table.
+const MOST_VALUES: u64 = 1 << 13;
+
+/// The tables of folders, as far as they were read.
 #[derive(Drop)]
 pub struct Folders<'a> {
     words: &'a [&'a str],
-    tables: Vec<Table>,
+    tables: Vec<FetchedTable>,
+    /// The number of bytes of the fronts.
+    bytes: u64,
+    /// The number of values.
+    values: u64,
 }
 
 /// Why a position has no answer.
@@ -56,10 +71,43 @@ impl From<AllocError> for ResultStop {
 
 impl<'a> Folders<'a> {
     /// Creates the set of these words: each is a folder's path, or a table file's. Nothing is read.
-    pub fn new(alloc: Global, words: &'a [&'a str]) -> Folders<'a> {
+    pub fn new(alloc: Global, words: &'a [&'a str]) -> Folders<'a>
+        ensures { result.tables.items ≡ [] }
+    {
         Folders {
             words,
             tables: Vec::new(alloc),
+            bytes: 0,
+            values: 0,
+        }
+    }
+
+    /// Forgets the tables if much was read of them.
+    fn forget(&mut self)
+        ensures words { words_of self.new ≡ words_of self.old }
+        ensures fetched { (files : List ℕ → Option (List ℕ)) → AreFetched files self.old.tables.items → AreFetched files self.new.tables.items }
+    {
+        if self.bytes > MOST_BYTES || self.values > MOST_VALUES {
+            self.tables.clear();
+            self.bytes = 0;
+            self.values = 0;
+        }
+    }
+
+    /// Keeps what was read.
+    fn keep(&mut self, piece: Piece) -> Result<(), AllocError>
+        ensures words { words_of self.new ≡ words_of self.old }
+        ensures fetched { (files : List ℕ → Option (List ℕ)) → IsPieceOf files self.old.tables.items piece → AreFetched files self.old.tables.items → AreFetched files self.new.tables.items }
+    {
+        match piece {
+            Piece::Front(table) => {
+                self.bytes = self.bytes.saturating_add(table.read);
+                Ok(self.tables.push(table)?)
+            }
+            Piece::Value(number, value) => {
+                self.values = self.values.saturating_add(1);
+                keep_value(&mut self.tables, number, value)
+            }
         }
     }
 
@@ -74,28 +122,27 @@ impl<'a> Folders<'a> {
         system: &mut S,
         fen: &FenRecord,
     ) -> Result<Answer, ResultStop>
-        // the answer is that of the tables that have been read
-        ensures answer { IfOk result (λ a. IsAnswerOf self.new.tables.items fen.now a) }
+        // the answer is that of what was fetched of the tables
+        ensures answer { IfOk result (λ a. IsAnswerOf (fetched_classes self.new.tables.items) (fetched_numbers self.new.tables.items) fen.now a) }
         ensures distances { IfOk result (λ a. a.has_distances ≡ false → LacksDistances (S.content system.old) (words_of self.old) fen.now.position) }
         ensures words { words_of self.new ≡ words_of self.old }
-        ensures content { IfOk result (λ a. S.content system.new ≡ S.content system.old) }
+        ensures content { S.content system.new ≡ S.content system.old }
+        ensures fetched { AreFetched (S.content system.old) self.old.tables.items → AreFetched (S.content system.old) self.new.tables.items }
     {
-        let words = self.words;
-        'tables: for _ in 0..MOST_TABLES {
+        'pieces: for _ in 0..MOST_PIECES {
             let missing = match self.answer_now(fen, true) {
                 Ok(answer) => return Ok(answer),
                 Err(DistanceFault::Contradiction) => return Err(ResultStop::Contradiction),
                 Err(DistanceFault::Tables(missing)) => missing,
             };
-            let Some(table) = read_or_lack(alloc, system, words, &fen.position, &missing)? else {
+            let Some(piece) = self.read_or_lack(alloc, system, &fen.position, &missing)? else {
                 return match self.answer_by_classes(alloc, system, fen) {
                     Ok(answer) => Ok(answer),
                     Err(stop) => Err(stop),
                 };
             };
-            if self.tables.push(table).is_err() {
-                return Err(ResultStop::Memory);
-            }
+            self.keep(piece)?;
+            self.read_ahead(alloc, system, &fen.position, true);
         }
         Err(ResultStop::Contradiction)
     }
@@ -107,22 +154,22 @@ impl<'a> Folders<'a> {
         system: &mut S,
         fen: &FenRecord,
     ) -> Result<Answer, ResultStop>
-        ensures answer { IfOk result (λ a. IsAnswerOf self.new.tables.items fen.now a) }
+        ensures answer { IfOk result (λ a. IsAnswerOf (fetched_classes self.new.tables.items) (fetched_numbers self.new.tables.items) fen.now a) }
         ensures words { words_of self.new ≡ words_of self.old }
-        ensures content { IfOk result (λ a. S.content system.new ≡ S.content system.old) }
+        ensures content { S.content system.new ≡ S.content system.old }
+        ensures fetched { AreFetched (S.content system.old) self.old.tables.items → AreFetched (S.content system.old) self.new.tables.items }
     {
-        'tables: for _ in 0..MOST_TABLES {
+        'pieces: for _ in 0..MOST_PIECES {
             let missing = match self.answer_now(fen, false) {
                 Ok(answer) => return Ok(answer),
                 Err(DistanceFault::Contradiction) => return Err(ResultStop::Contradiction),
                 Err(DistanceFault::Tables(missing)) => missing,
             };
-            let Some(table) = read_missing(alloc, system, self.words, &missing)? else {
+            let Some(piece) = self.read_piece(alloc, system, &missing)? else {
                 return Err(ResultStop::Missing(missing));
             };
-            if self.tables.push(table).is_err() {
-                return Err(ResultStop::Memory);
-            }
+            self.keep(piece)?;
+            self.read_ahead(alloc, system, &fen.position, false);
         }
         Err(ResultStop::Contradiction)
     }
@@ -136,12 +183,16 @@ impl<'a> Folders<'a> {
         system: &mut S,
         fen: &str,
     ) -> Result<String, ResultStop>
-        ensures { IfOk result (λ text. IsTextOf (IsAnswerIn (S.content system.old) (words_of self.old) self.new.tables.items) fen.now (string_bytes text)) }
+        ensures text { IfOk result (λ text. IsTextOf (IsAnswerIn (S.content system.old) (words_of self.old) self.new.tables.items) fen.now (string_bytes text)) }
+        ensures words { words_of self.new ≡ words_of self.old }
+        ensures content { S.content system.new ≡ S.content system.old }
+        ensures fetched { AreFetched (S.content system.old) self.old.tables.items → AreFetched (S.content system.old) self.new.tables.items }
     {
         let record = match Position::parse_fen(fen) {
             Ok(record) => record,
             Err(fault) => return Err(ResultStop::Fen(fault)),
         };
+        self.forget();
         let answer = match self.answer(alloc, system, &record) {
             Ok(answer) => answer,
             Err(stop) => return Err(stop),
@@ -161,12 +212,16 @@ impl<'a> Folders<'a> {
         system: &mut S,
         fen: &str,
     ) -> Result<String, ResultStop>
-        ensures { IfOk result (λ line. IsLineOf (IsAnswerIn (S.content system.old) (words_of self.old) self.new.tables.items) fen.now (string_bytes line)) }
+        ensures line { IfOk result (λ line. IsLineOf (IsAnswerIn (S.content system.old) (words_of self.old) self.new.tables.items) fen.now (string_bytes line)) }
+        ensures words { words_of self.new ≡ words_of self.old }
+        ensures content { S.content system.new ≡ S.content system.old }
+        ensures fetched { AreFetched (S.content system.old) self.old.tables.items → AreFetched (S.content system.old) self.new.tables.items }
     {
         let record = match Position::parse_fen(fen) {
             Ok(record) => record,
             Err(fault) => return Err(ResultStop::Fen(fault)),
         };
+        self.forget();
         let answer = match self.answer(alloc, system, &record) {
             Ok(answer) => answer,
             Err(stop) => return Err(stop),
@@ -186,27 +241,27 @@ impl<'a> Folders<'a> {
         system: &mut S,
         fen: &str,
     ) -> Result<String, ResultStop>
-        ensures { IfOk result (λ text. IsObjectOf (S.content system.old) (words_of self.old) self.new.tables.items fen.now (string_bytes text)) }
+        ensures object { IfOk result (λ text. IsObjectOf (S.content system.old) (words_of self.old) self.new.tables.items fen.now (string_bytes text)) }
+        ensures words { words_of self.new ≡ words_of self.old }
+        ensures content { S.content system.new ≡ S.content system.old }
+        ensures fetched { AreFetched (S.content system.old) self.old.tables.items → AreFetched (S.content system.old) self.new.tables.items }
     {
         let record = match Position::parse_fen(fen) {
             Ok(record) => record,
             Err(fault) => return Err(ResultStop::Fen(fault)),
         };
-        'tables: for _ in 0..MOST_TABLES {
+        self.forget();
+        'pieces: for _ in 0..MOST_PIECES {
             let answer = match self.answer(alloc, system, &record) {
                 Ok(answer) => answer,
                 Err(stop) => return Err(stop),
             };
             let position = &record.position;
             match self.moves_after(alloc, system, position, answer.moves.as_slice())? {
-                OrTable::Found(moves) => {
+                OrPiece::Found(moves) => {
                     return Ok(object_of(alloc, position, &answer, moves.as_slice())?);
                 }
-                OrTable::Read(table) => {
-                    if self.tables.push(table).is_err() {
-                        return Err(ResultStop::Memory);
-                    }
-                }
+                OrPiece::Read(piece) => self.keep(piece)?,
             }
         }
         Err(ResultStop::Contradiction)
@@ -219,25 +274,26 @@ impl<'a> Folders<'a> {
         system: &mut S,
         position: &Position,
         moves: &[RankedMove],
-    ) -> Result<OrTable<Vec<MoveAfter>>, ResultStop>
+    ) -> Result<OrPiece<Vec<MoveAfter>>, ResultStop>
         requires { All (λ r. Contains (legal_moves position.now) r.m) moves.now }
-        ensures content { IfOk result (λ found. S.content system.new ≡ S.content system.old) }
+        ensures content { S.content system.new ≡ S.content system.old }
+        ensures read { IfOk result (λ found. IfRead found (IsPieceOf (S.content system.old) self.now.tables.items)) }
         ensures legal { IfOk result (λ found. IfFound found (λ moves_after. All (λ s. Contains (legal_moves position.now) s.ranked.m) moves_after.items)) }
         ensures after { IfOk result (λ found. IfFound found (λ moves_after. AreAfter (S.content system.old) (words_of self.now) self.now.tables.items position.now moves.now moves_after.items)) }
     {
         let mut found = Vec::new(alloc);
         'moves: for ranked in moves {
             match self.dtz(alloc, system, &position.after(ranked.m))? {
-                OrTable::Found(dtz) => {
+                OrPiece::Found(dtz) => {
                     let ranked = *ranked;
                     if found.push(MoveAfter { ranked, dtz }).is_err() {
                         return Err(ResultStop::Memory);
                     }
                 }
-                OrTable::Read(table) => return Ok(OrTable::Read(table)),
+                OrPiece::Read(piece) => return Ok(OrPiece::Read(piece)),
             }
         }
-        Ok(OrTable::Found(found))
+        Ok(OrPiece::Found(found))
     }
 
     /// Returns the DTZ of a position with its sign. None if it takes a DTZ table that is in none of the folders.
@@ -246,39 +302,163 @@ impl<'a> Folders<'a> {
         alloc: Global,
         system: &mut S,
         position: &Position,
-    ) -> Result<OrTable<Option<i64>>, ResultStop>
-        ensures content { IfOk result (λ found. S.content system.new ≡ S.content system.old) }
+    ) -> Result<OrPiece<Option<i64>>, ResultStop>
+        ensures content { S.content system.new ≡ S.content system.old }
+        ensures read { IfOk result (λ found. IfRead found (IsPieceOf (S.content system.old) self.now.tables.items)) }
         ensures dtz { IfOk result (λ found. IfFound found (λ dtz. IsDtz (S.content system.old) (words_of self.now) self.now.tables.items position.now dtz)) }
     {
-        let mut set = TableSet::new(&self.tables);
+        let mut set = FetchedSet::new(&self.tables);
         let missing = match probe_dtz(&mut set, position) {
-            Ok(distance) => return Ok(OrTable::Found(Some(distance.signed()))),
+            Ok(distance) => return Ok(OrPiece::Found(Some(distance.signed()))),
             Err(DistanceFault::Contradiction) => return Err(ResultStop::Contradiction),
             Err(DistanceFault::Tables(missing)) => missing,
         };
-        match read_or_lack(alloc, system, self.words, position, &missing)? {
-            Some(table) => Ok(OrTable::Read(table)),
-            None => Ok(OrTable::Found(None)),
+        match self.read_or_lack(alloc, system, position, &missing)? {
+            Some(piece) => Ok(OrPiece::Read(piece)),
+            None => Ok(OrPiece::Found(None)),
         }
     }
 
-    /// Probes a position over the tables that were read.
+    /// Reads a piece that is missing, as `read_piece`. None only if an answer without distances does without it.
+    #[tactic(auto, using(crate::proofs::Absent::lacking))]
+    fn read_or_lack<S: FileSystem>(
+        &self,
+        alloc: Global,
+        system: &mut S,
+        position: &Position,
+        missing: &Missing,
+    ) -> Result<Option<Piece>, ResultStop>
+        ensures content { S.content system.new ≡ S.content system.old }
+        ensures read { IfOk result (λ piece. IfSome piece (IsPieceOf (S.content system.old) self.now.tables.items)) }
+        ensures lacks { IfOk result (λ piece. IfNone piece (LacksDistances (S.content system.old) (words_of self.now) position.now)) }
+    {
+        match self.read_piece(alloc, system, missing)? {
+            Some(piece) => Ok(Some(piece)),
+            None if may_do_without(missing, position) => Ok(None),
+            None => Err(ResultStop::Missing(copy_of(missing))),
+        }
+    }
+
+    /// Reads what is missing: a table's front, or a value. None if the table is in none of the folders.
+    ///
+    /// Errors: the table has no class or number; the file is no table, a block doesn't decode, or the file failed; an
+    /// allocation was refused.
+    fn read_piece<S: FileSystem>(
+        &self,
+        alloc: Global,
+        system: &mut S,
+        missing: &Missing,
+    ) -> Result<Option<Piece>, ResultStop>
+        ensures content { S.content system.new ≡ S.content system.old }
+        ensures read { IfOk result (λ piece. IfSome piece (IsPieceOf (S.content system.old) self.now.tables.items)) }
+        ensures absent { IfOk result (λ piece. IfNone piece (IsAbsent (S.content system.old) (words_of self.now) missing.now.material missing.now.kind)) }
+    {
+        match missing.reason {
+            MissingReason::Table => match open_missing(alloc, system, self.words, missing)? {
+                Some(table) => Ok(Some(Piece::Front(table))),
+                None => Ok(None),
+            },
+            MissingReason::Unread(spot) => {
+                let Some(number) = number_of(&self.tables, missing) else {
+                    return Err(ResultStop::Contradiction);
+                };
+                match self.tables.get(number) {
+                    Some(table) => {
+                        let value = fetch(alloc, system, table, spot)?;
+                        Ok(Some(Piece::Value(number, value)))
+                    }
+                    None => Err(ResultStop::Contradiction),
+                }
+            }
+            _ => Err(ResultStop::Missing(copy_of(missing))),
+        }
+    }
+
+    /// Reads the values that a probe of a position seems to take, as far as they can be read.
+    fn read_ahead<S: FileSystem>(
+        &mut self,
+        alloc: Global,
+        system: &mut S,
+        position: &Position,
+        has_distances: bool,
+    )
+        ensures words { words_of self.new ≡ words_of self.old }
+        ensures content { S.content system.new ≡ S.content system.old }
+        ensures fetched { AreFetched (S.content system.old) self.old.tables.items → AreFetched (S.content system.old) self.new.tables.items }
+    {
+        'passes: for _ in 0..MOST_PASSES {
+            let wanted = wanted_values(alloc, &self.tables, position, has_distances);
+            if wanted.is_empty() {
+                return;
+            }
+            'wanted: for missing in &wanted {
+                match self.read_piece(alloc, system, missing) {
+                    Ok(Some(piece)) => {
+                        if self.keep(piece).is_err() {
+                            return;
+                        }
+                    }
+                    _ => return,
+                }
+            }
+        }
+    }
+
+    /// Probes a position over what was fetched of the tables.
     #[tactic(auto, using(crate::proofs::Answered::answered))]
     fn answer_now(
         &self,
         fen: &FenRecord,
         has_distances: bool,
     ) -> Result<Answer, DistanceFault<Missing>>
-        ensures answer { IfOk result (λ a. IsAnswerOf self.now.tables.items fen.now a) }
+        ensures answer { IfOk result (λ a. IsAnswerOf (fetched_classes self.now.tables.items) (fetched_numbers self.now.tables.items) fen.now a) }
         ensures has_distances { IfOk result (λ a. a.has_distances ≡ has_distances) }
     {
-        let mut set = TableSet::new(&self.tables);
+        let mut set = FetchedSet::new(&self.tables);
         if has_distances {
             return probe_position(&mut set, &fen.position, fen.halfmove, true);
         }
         let mut alone = ClassesAlone { tables: set };
         probe_position(&mut alone, &fen.position, 0, false)
     }
+}
+
+/// Adds a value to the table with a number. A table's values stay where no memory is left.
+fn keep_value(
+    tables: &mut [FetchedTable],
+    number: usize,
+    value: FetchedValue,
+) -> Result<(), AllocError>
+    ensures { (files : List ℕ → Option (List ℕ)) → IfSome (slice_get tables.old number) (IsValueOf files value) → AreFetched files tables.old → AreFetched files tables.new }
+{
+    if number < tables.len() {
+        add_value(&mut tables[number], value)
+    } else {
+        Ok(())
+    }
+}
+
+/// Adds a value that was fetched.
+fn add_value(table: &mut FetchedTable, value: FetchedValue) -> Result<(), AllocError>
+    ensures { (files : List ℕ → Option (List ℕ)) → IsValueOf files value table.old → IsFetched files table.old → IsFetched files table.new }
+{
+    Ok(table.values.push(value)?)
+}
+
+/// Returns the number of the table that lacks something.
+fn number_of(tables: &[FetchedTable], missing: &Missing) -> Option<usize> {
+    'tables: for (number, table) in tables.iter().enumerate() {
+        if is_lacking(table, missing) {
+            return Some(number);
+        }
+    }
+    None
+}
+
+/// Returns whether a table is the one that lacks something.
+fn is_lacking(table: &FetchedTable, missing: &Missing) -> bool {
+    let index = table.front.index();
+    index.kind() == missing.kind && missing.material.is_same(index.material())
 }
 
 /// Returns whether an answer without distances does without a table: a DTZ table, of as many men as the position or fewer.
@@ -288,137 +468,12 @@ fn may_do_without(missing: &Missing, position: &Position) -> bool
     matches!(missing.kind, Kind::Dtz) && missing.material.men().len() <= position.men().len()
 }
 
-/// Reads a table that is missing, as `read_missing`. None only if an answer without distances does without it.
-#[tactic(auto, using(crate::proofs::Absent::lacking))]
-fn read_or_lack<S: FileSystem>(
-    alloc: Global,
-    system: &mut S,
-    words: &[&str],
-    position: &Position,
-    missing: &Missing,
-) -> Result<Option<Table>, ResultStop>
-    ensures content { IfOk result (λ table. S.content system.new ≡ S.content system.old) }
-    ensures lacks { IfOk result (λ table. IfNone table (LacksDistances (S.content system.old) (map (λ word. word.now) words.now) position.now)) }
-{
-    match read_missing(alloc, system, words, missing)? {
-        Some(table) => Ok(Some(table)),
-        None if may_do_without(missing, position) => Ok(None),
-        None => Err(ResultStop::Missing(copy_of(missing))),
-    }
-}
-
-/// Reads a table that is missing from the first folder that has it. None if none has it.
-///
-/// Errors: the table was read, and has no class or number; the file is no table, or it failed; an allocation was
-/// refused.
-#[tactic(auto, using(crate::proofs::Absent::absent_next))]
-pub fn read_missing<S: FileSystem>(
-    alloc: Global,
-    system: &mut S,
-    words: &[&str],
-    missing: &Missing,
-) -> Result<Option<Table>, ResultStop>
-    ensures content { IfOk result (λ table. S.content system.new ≡ S.content system.old) }
-    ensures absent { IfOk result (λ table. IfNone table (IsAbsent (S.content system.old) (map (λ word. word.now) words.now) missing.now.material missing.now.kind)) }
-{
-    if !matches!(missing.reason, MissingReason::Table) {
-        return Err(ResultStop::Missing(copy_of(missing)));
-    }
-    'words: for word in words {
-        if let Some(file) = open_at(alloc, system, word, missing)? {
-            return Ok(Some(read_from(alloc, missing, file)?));
-        }
-    }
-    Ok(None)
-}
-
-/// Opens a table's file in a folder, or the file at a path. None if there is no such file.
-fn open_at<S: FileSystem>(
-    alloc: Global,
-    system: &mut S,
-    word: &str,
-    missing: &Missing,
-) -> Result<Option<S::File>, ResultStop>
-    ensures content { IfOk result (λ file. S.content system.new ≡ S.content system.old) }
-    ensures absent { IfOk result (λ file. IfNone file (IsAbsentAt (S.content system.old) missing.now.material missing.now.kind word.now)) }
-    ensures unread { IfOk result (λ file. IfSome file (λ opened. S.File.moved opened ≡ [])) }
-{
-    let Some(path) = path_of(alloc, word, missing)? else {
-        return Ok(None);
-    };
-    match system.open(path.as_str()) {
-        Ok(file) => Ok(Some(file)),
-        Err(fault) if is_absent(&fault) => Ok(None),
-        Err(fault) => Err(ResultStop::Failed(fault)),
-    }
-}
-
-/// Reads a table from its file.
-fn read_from<F: Input + Reasons + Drop>(
-    alloc: Global,
-    missing: &Missing,
-    mut file: F,
-) -> Result<Table, ResultStop>
-    requires { F.moved file ≡ [] }
-{
-    let Missing { material, kind, .. } = missing;
-    match read(alloc, material.copy(), *kind, &mut file) {
-        Ok(table) => Ok(table),
-        Err(ReadFault::Refused { place, reason }) => {
-            Err(ResultStop::Table(material.copy(), *kind, place, reason))
-        }
-        Err(ReadFault::Device) => Err(ResultStop::Failed(failure(&file))),
-        Err(ReadFault::Memory) => Err(ResultStop::Memory),
-    }
-}
-
-fn copy_of(missing: &Missing) -> Missing {
+/// Returns a copy.
+pub(crate) fn copy_of(missing: &Missing) -> Missing {
     Missing {
         material: missing.material.copy(),
         kind: missing.kind,
         reason: missing.reason,
-    }
-}
-
-/// Returns why a read of a file failed.
-fn failure(file: &impl Reasons) -> FileFault {
-    match file.reason() {
-        Some(error) => FileFault::System(error),
-        None => FileFault::System(ErrorKind::Other.into()),
-    }
-}
-
-/// Returns whether there is no such file.
-fn is_absent(fault: &FileFault) -> bool {
-    match fault {
-        FileFault::System(error) => error.kind() == ErrorKind::NotFound,
-        _ => false,
-    }
-}
-
-/// Returns the path of a table in a folder, or the word itself if it is the path of the table's file. None if it is the
-/// path of another table's file.
-fn path_of(alloc: Global, word: &str, missing: &Missing) -> Result<Option<String>, AllocError>
-    ensures { IfOk result (λ path. option_map (λ text. string_bytes text) path ≡ path_of missing.now.material missing.now.kind word.now) }
-{
-    let name = missing.material.name();
-    let name = name.as_str();
-    let ending = ending_of(missing.kind);
-    match named_by(word) {
-        Some((other, kind)) if other == name && ending_of(kind) == ending => {
-            Ok(Some(String::from_str(alloc, word)?))
-        }
-        Some(_) => Ok(None),
-        None => Ok(Some(format!(in alloc; "{word}/{name}.{ending}")?)),
-    }
-}
-
-fn ending_of(kind: Kind) -> &'static str
-    ensures { result.now ≡ ending_of kind }
-{
-    match kind {
-        Kind::Wdl => "rtbw",
-        Kind::Dtz => "rtbz",
     }
 }
 
@@ -435,7 +490,9 @@ pub fn stop_text(alloc: Global, stop: &ResultStop) -> Result<String, AllocError>
                 MissingReason::Place(fault) => {
                     format!(in alloc; "refused place in {name} {kind}: {fault}")
                 }
-                MissingReason::Value => format!(in alloc; "refused value in {name} {kind}"),
+                MissingReason::Value | MissingReason::Unread(_) => {
+                    format!(in alloc; "refused value in {name} {kind}")
+                }
                 MissingReason::Block { number, offset } => {
                     format!(in alloc; "refused block {number} of {name} {kind} at {offset}")
                 }

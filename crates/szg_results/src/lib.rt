@@ -3,10 +3,14 @@
 
 mod classes_alone;
 mod folders;
+pub mod laws;
 mod lines;
 mod objects;
+mod pieces;
 mod results;
+mod wanted;
 
-pub use folders::{Folders, ResultStop, read_missing, stop_text};
+pub use folders::{Folders, ResultStop, stop_text};
 pub use lines::{board_of, line_of, text_of};
+pub use pieces::read_missing;
 pub use results::{Answer, probe_position};

@@ -8,10 +8,10 @@ ghost use Rattle.szg_values.specs.Men.{is_man};
 ghost use Rattle.szg_results.specs.Objects.{category, dtz_of, head_text, is_insufficient, is_king_or_bishop_on, move_object, moves_text, number_or_null, object_text, others_text, state_text};
 
 use crate::Answer;
+use crate::pieces::Piece;
 use std::alloc::{AllocError, Global};
 use std::fmt::{self, Write};
 use szg_chess::Position;
-use szg_file::Table;
 use szg_game::Class;
 use szg_probe::RankedMove;
 use szg_values::{Color, Man, Square};
@@ -23,11 +23,11 @@ pub(crate) struct MoveAfter {
     pub(crate) dtz: Option<i64>,
 }
 
-/// What was found over the tables that were read, or one more table that was read, so that it is to be sought again.
+/// What was found over what was fetched of tables, or one more piece that was read, so that it is to be sought again.
 #[derive(Drop)]
-pub(crate) enum OrTable<T> {
+pub(crate) enum OrPiece<T> {
     Found(T),
-    Read(Table),
+    Read(Piece),
 }
 
 /// A number, or `null`.

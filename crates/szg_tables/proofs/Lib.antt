@@ -2,3 +2,6 @@ mod Stored
 mod Images
 mod ImageDistances
 mod MappedFiles
+mod OpenedSets
+pub mod Among
+mod FetchedTables

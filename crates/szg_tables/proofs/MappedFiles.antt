@@ -1,13 +1,10 @@
--- What files of tables store, by the file that is found and by what is fetched of it.
+-- The values of a table whose file is in memory, by what is fetched of it.
 use Rattle.std.proofs.Common.{◌≡◌, ◌<◌, ℕ, List, refl, sym, ap, ◌∙◌, subst, inl, inr, Option, Some, None, option_map}
 use Rattle.std.specs.Prelude.{IfSome, IsSome, IsSomeAnd, option_and_then}
 use Rattle.std.proofs.lemmas.Bool.{cases_Bool}
 use Rattle.std.specs.Prelude.{Err}
 use Rattle.szg_values.specs.Material.{Sides}
-use Rattle.szg_values.specs.Placement.{PlacedMan, Board}
-use Rattle.szg_values.specs.declared.Color.{Color}
 use Rattle.szg_values.specs.declared.Kind.{Kind}
-use Rattle.szg_values.specs.declared.Kind.TheVariants.{Wdl, Dtz}
 use Rattle.szg_block.specs.Block.{block_at}
 use Rattle.szg_block.specs.FirstFault.{spells_needed}
 use Rattle.szg_block.specs.Sound.{SpellsNeeded}
@@ -30,9 +27,7 @@ use Rattle.szg_file.proofs.Tables.SoundLaws.{accepted_code}
 use Rattle.szg_file.proofs.Tables.TableFinds.{side_lengths}
 use Rattle.szg_place.specs.Probes.{spot_at}
 use Rattle.szg_place.specs.declared.Spot.{Spot}
-use Rattle.szg_game.specs.declared.Class.{Class}
-use Rattle.szg_tables.specs.Mapped.{MappedFile, class_in, decoded, file_for, mapped_classes, mapped_numbers, number_in, value_at}
-use Rattle.szg_tables.specs.Stored.{board_of}
+use Rattle.szg_tables.specs.Mapped.{MappedFile, decoded, value_at}
 
 -- ---- one value
 
@@ -97,23 +92,6 @@ module _ (f : MappedFile) (h : IsFrontOf f.kept f.bytes) (spot : Spot) where
     of : (o : Option (Slot × Subtable)) → IsSome o → IfSome o (λ found. NamesBadBlock f.bytes found spot.index Source) → ⊥
     of None some bad = absurd (cc some)
     of (Some pair) some bad = bad
-
--- ---- what is stored
-
-module _ (files : List MappedFile) (men : List PlacedMan) (mover : Color) (board : Board) (is : board ≡ board_of men mover) where
-  pub class_by : (f : MappedFile) (x : Option Class) → file_for Wdl board files ≡ Some f → class_in board f ≡ x → mapped_classes files men mover ≡ x
-  class_by f x found there =
-      ap (option_and_then (class_in (board_of men mover))) (subst (λ (b : Board). file_for Wdl b files ≡ Some f) is found) ∙ subst (λ (b : Board). class_in b f ≡ x) is there
-
-  pub number_by_file : (k : Class) (f : MappedFile) (x : Option (Option ℕ)) → file_for Dtz board files ≡ Some f → number_in board k f ≡ x → mapped_numbers files men mover k ≡ x
-  number_by_file k f x found there =
-      ap (option_and_then (number_in (board_of men mover) k)) (subst (λ (b : Board). file_for Dtz b files ≡ Some f) is found) ∙ subst (λ (b : Board). number_in b k f ≡ x) is there
-
-  pub no_class : file_for Wdl board files ≡ None → mapped_classes files men mover ≡ None
-  no_class none = ap (option_and_then (class_in (board_of men mover))) (subst (λ (b : Board). file_for Wdl b files ≡ None) is none)
-
-  pub no_number : (k : Class) → file_for Dtz board files ≡ None → mapped_numbers files men mover k ≡ None
-  no_number k none = ap (option_and_then (number_in (board_of men mover) k)) (subst (λ (b : Board). file_for Dtz b files ≡ None) is none)
 
 -- ---- opening
 

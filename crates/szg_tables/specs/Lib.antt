@@ -1,4 +1,6 @@
 pub mod Stored
 pub mod Distances
 pub mod Images
+pub mod Opened
 pub mod Mapped
+pub mod Fetched

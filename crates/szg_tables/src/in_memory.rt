@@ -1,6 +1,6 @@
 //! A set of tables in memory.
 
-ghost use Rattle.std.specs.Prelude.{◌≡◌, ◌<◌, ◌^◌, ◌≤ℤ◌, pos, neg_ℤ, IfErr, IfOk, IfNone, IfSome, IsSome, Some, None, map, option_map, option_and_then, find};
+ghost use Rattle.std.specs.Prelude.{◌≡◌, ◌<◌, ◌^◌, ◌≤ℤ◌, pos, neg_ℤ, IfErr, IfOk, IfNone, IfSome, IsSome, Some, None, is_some, map, option_map, option_and_then, find};
 ghost use Rattle.std.specs.Option.{ForSome};
 ghost use Rattle.szg_values.specs.Material.{Sides};
 ghost use Rattle.szg_values.specs.Placement.{Board, material_of};
@@ -27,6 +27,13 @@ impl<'a> TableSet<'a> {
         ensures { result.tables.now ≡ tables.now }
     {
         TableSet { tables }
+    }
+
+    /// Returns whether there is a table of this kind and material.
+    pub fn has_table(&self, kind: Kind, material: &Material) -> bool
+        ensures { result ≡ is_some (find (is_for kind material.now) self.now.tables.now) }
+    {
+        first_for(self.tables, kind, material).is_some()
     }
 
     /// Returns the first table of a kind for the men of a placement.

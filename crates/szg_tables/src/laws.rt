@@ -4,6 +4,7 @@ ghost use Rattle.szg_probe.specs.Images.{AreSymmetric as HaveSymmetricClasses};
 ghost use Rattle.szg_verify.specs.Entries.{tables_of};
 ghost use Rattle.szg_verify.specs.Verified.{AreSymmetric};
 ghost use Rattle.szg_tables.specs.Distances.{stored_distances};
+ghost use Rattle.szg_tables.specs.Fetched.{FetchedIsStored};
 ghost use Rattle.szg_tables.specs.Images.{HaveSymmetricNumbers};
 ghost use Rattle.szg_tables.specs.Stored.{stored_classes, stored_numbers};
 
@@ -21,3 +22,8 @@ pub fn stored_at_images(tables: &[Table])
         table_numbering(table);
     }
 }
+
+/// What was fetched of the files of tables is what the tables store.
+pub fn fetched_is_stored()
+    ensures { FetchedIsStored }
+{}

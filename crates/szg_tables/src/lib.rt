@@ -1,18 +1,22 @@
 //! Sets of tables for probing.
 #![tactic(auto)]
 
-use szg_place::PlaceFault;
+use szg_place::{PlaceFault, Spot};
 use szg_values::{Kind, Material};
 use thiserror::Error;
 
 mod distances;
+mod fetched;
 mod in_memory;
 pub mod laws;
 mod mapped;
+mod opened;
 mod verifying;
 
+pub use fetched::{FetchedSet, FetchedTable, FetchedValue};
 pub use in_memory::{TableSet, number_of_class};
 pub use mapped::{MappedSet, MappedTable};
+pub use opened::{OpenTable, OpenedSet};
 pub use verifying::{VerifyFault, verify_tables};
 
 /// What a set of tables does not have for the men of a position.
@@ -38,4 +42,6 @@ pub enum MissingReason {
     Value,
     /// The block that has the value does not decode: its number in its subtable, and its offset in the file.
     Block { number: u32, offset: u64 },
+    /// The value at this spot was not fetched.
+    Unread(Spot),
 }

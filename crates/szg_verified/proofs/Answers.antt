@@ -1,19 +1,13 @@
 -- An answer of true tables is true.
-use Rattle.std.proofs.Common.{ℕ, ◌≡◌, List, Option, Some, None, ap, subst}
-use Rattle.std.specs.Prelude.{IsTrue, option_map}
-use Rattle.szg_values.specs.Material.{Sides}
-use Rattle.szg_file.specs.Held.{Shown}
+use Rattle.std.proofs.Common.{ℕ, ◌≡◌, Option, Some, None, ap, subst}
+use Rattle.std.specs.Prelude.{option_map}
 use Rattle.szg_game.specs.declared.Class.{Class}
-use Rattle.szg_chess.specs.Position.{Position, IsPosition}
-use Rattle.szg_chess.specs.declared.FenRecord.{FenRecord}
+use Rattle.szg_chess.specs.Position.{Position}
 use Rattle.szg_probe.specs.Chess.{ChessClass}
 use Rattle.szg_probe.specs.Probing.{StoredClasses, probed}
 use Rattle.szg_probe.specs.Distances.{StoredNumbers, probed_distance, distance_of}
-use Rattle.szg_verify.specs.Materials.{covers}
 use Rattle.szg_tables.specs.Stored.{stored_classes}
-use Rattle.szg_results.specs.Results.{IsAnswerOf}
-use Rattle.szg_results.specs.declared.results.Answer.{Answer}
-use Rattle.szg_verified.specs.Verified.{AreTrue, AnswersAreTrue}
+use Rattle.szg_verified.specs.Verified.{AnswersAreTrue}
 
 abbrev class_in : Class → Option (Class × ℕ) → Class
 class_in other None = other

@@ -1,25 +1,60 @@
 -- Lists of materials that are not verified.
-use Rattle.std.proofs.Common.{ℕ, ◌≡◌, ◌<◌, List, [], ◌∷◌, ◌++◌, length, refl, sym, ap, subst, Bool, true, false, get_or, All, Contains}
-use Rattle.std.specs.Prelude.{◌&&◌, not, IfErr, Result, Err}
-use Rattle.std.proofs.lemmas.List.Elements.{All-push}
+use Rattle.std.proofs.Common.{ℕ, ◌≡◌, ◌<◌, List, [], ◌∷◌, ◌++◌, length, refl, sym, ap, subst, Bool, true, false, get_or, All, Contains, Option, Some, None}
+use Rattle.std.specs.Prelude.{◌&&◌, not, IsNone, IsSome}
+use Rattle.std.proofs.lemmas.List.{map-append}
+use Rattle.std.proofs.lemmas.List.Elements.{All-push, Contains-append_left}
 use Rattle.szg_values.specs.Material.{Sides}
 use Rattle.szg_file.specs.Held.{Shown}
 use Rattle.szg_game.specs.Game.{is_empty}
+use Rattle.szg_chess.proofs.Images.Men.{contains_map}
+use Rattle.szg_verify.specs.Walk.{colored_men, number_count}
 use Rattle.szg_verified.specs.declared.verifying.Cause.{Cause}
+use Rattle.szg_verified.specs.declared.verifying.Cause.TheVariants.{Refused, NoTable, Missing, Unchecked}
+use Rattle.szg_verified.specs.declared.verifying.Finding.{Finding}
+use Rattle.szg_verified.specs.declared.verifying.Finding.TheVariants.{Verified, Logged, Failed}
 use Rattle.szg_verified.specs.declared.verifying.Unverified.{Unverified}
-use Rattle.szg_verified.specs.Verified.{IsCause, IsCaused}
+use Rattle.szg_verified.specs.Verified.{AreCheckedIn, AreTrue, IsCause, IsCauseOf, IsCaused, IsCheckedIn, IsFinding, materials_in}
 
-pub cause_of : (tables : List Shown) (sides : Sides) (found : Result ℕ Cause) (cause : Cause) → found ≡ Err cause → IfErr found (IsCause tables sides) → IsCause tables sides cause
-cause_of tables sides found cause e h = subst (λ (r : Result ℕ Cause). IfErr r (IsCause tables sides)) e h
+-- what is found of a material that is found to be verified, or not
+pub verified_as : (tables : List Shown) (us : List Unverified) {L : Type 0} (log : Option L) (sides : Sides) (found : Finding) (positions : ℕ) → found ≡ Verified positions → IsFinding tables us log sides found → IsCheckedIn tables sides
+verified_as tables us log sides found positions e h = subst (IsFinding tables us log sides) e h
+
+pub failed_as : (tables : List Shown) (us : List Unverified) {L : Type 0} (log : Option L) (sides : Sides) (found : Finding) (cause : Cause) → found ≡ Failed cause → IsFinding tables us log sides found → IsCauseOf tables us sides cause
+failed_as tables us log sides found cause e h = subst (IsFinding tables us log sides) e h
+
+-- without a log nothing is logged
+not_some : {P L : Type 0} (o : Option L) → IsNone o → IsSome o → P
+not_some None none some = absurd cc
+not_some (Some x) none some = absurd cc
+
+pub logged_by : {P : Type 0} (tables : List Shown) (us : List Unverified) {L : Type 0} (log : Option L) (sides : Sides) (found : Finding) (positions : ℕ) → found ≡ Logged positions → IsFinding tables us log sides found → IsNone log → P
+logged_by tables us log sides found positions e h none = not_some log none (subst (IsFinding tables us log sides) e h)
+
+-- a cause stays one when more is not verified
+later : (tables : List Shown) (us more : List Unverified) (sides : Sides) (from to : ℕ) (cause : Cause) → IsCause tables us sides from to cause → IsCause tables (us ++ more) sides from to cause
+later tables us more sides from to (Refused r) h = h
+later tables us more sides from to (NoTable kind material) h = h
+later tables us more sides from to (Missing missing) h = h
+later tables us more sides from to (Unchecked other) h =
+    (h.0, subst (λ (ms : List Sides). Contains ms other) (sym (map-append (λ (u : Unverified). u.material) us more)) (Contains-append_left (materials_in us) (materials_in more) other h.1))
+
+caused_later : (tables : List Shown) (materials : List Sides) (us more : List Unverified) (u : Unverified) → IsCaused tables materials us u → IsCaused tables materials (us ++ more) u
+caused_later tables materials us more u h = (h.0, later tables us more u.material 0 (number_count (colored_men u.material)) u.cause h.1)
 
 -- the cause of the material at an index
-pub caused_by : (tables : List Shown) (materials : List Sides) (i : ℕ) (m s : Sides) (cause : Cause) → i < length materials → m ≡ get_or materials i m → s ≡ m → IsCause tables m cause →
-    IsCaused tables materials (record { material = s; cause = cause })
-caused_by tables materials i m s cause less is same h = (subst (Contains materials) (sym same) (i, less, sym is), subst (λ (x : Sides). IsCause tables x cause) (sym same) h)
+pub caused_by : (tables : List Shown) (materials : List Sides) (us : List Unverified) (i : ℕ) (m s : Sides) (cause : Cause) → i < length materials → m ≡ get_or materials i m → s ≡ m → IsCauseOf tables us m cause →
+    IsCaused tables materials us (record { material = s; cause = cause })
+caused_by tables materials us i m s cause less is same h = (subst (Contains materials) (sym same) (i, less, sym is), subst (λ (x : Sides). IsCauseOf tables us x cause) (sym same) h)
 
-pub pushed : (tables : List Shown) (materials : List Sides) (us next : List Unverified) (u : Unverified) → next ≡ us ++ u ∷ [] → All (IsCaused tables materials) us → IsCaused tables materials u →
-    All (IsCaused tables materials) next
-pushed tables materials us next u e before here = subst (All (IsCaused tables materials)) (sym e) (All-push (IsCaused tables materials) us u before here)
+pub pushed : (tables : List Shown) (materials : List Sides) (us next : List Unverified) (u : Unverified) → next ≡ us ++ u ∷ [] → All (IsCaused tables materials us) us → IsCaused tables materials us u →
+    All (IsCaused tables materials next) next
+pushed tables materials us next u e before here =
+    let all = All-push (IsCaused tables materials us) us u before here in
+    subst (λ (vs : List Unverified). All (IsCaused tables materials vs) vs) (sym e) (λ i v less. caused_later tables materials us (u ∷ []) _ (all i v less))
+
+-- the material of one that is not verified
+pub material_in : (us : List Unverified) (i : ℕ) (u : Unverified) (s : Sides) → i < length us → u ≡ get_or us i u → s ≡ u.material → Contains (materials_in us) s
+material_in us i u s less is same = subst (Contains (materials_in us)) (sym same) (contains_map (λ (v : Unverified). v.material) us u (i, less, sym is))
 
 one_is_not_empty : (us : List Unverified) (u : Unverified) → is_empty (us ++ u ∷ []) ≡ false
 one_is_not_empty [] u = refl
@@ -38,7 +73,15 @@ whole_parts true true false e = absurd cc
 whole_parts true false true e = absurd cc
 whole_parts true false false e = absurd cc
 
+pub same_caused : (tables : List Shown) (materials : List Sides) (us next : List Unverified) → next ≡ us → All (IsCaused tables materials us) us → All (IsCaused tables materials next) next
+same_caused tables materials us next e h = subst (λ (vs : List Unverified). All (IsCaused tables materials vs) vs) (sym e) h
+
 -- causes over the same tables and materials
-pub caused_by_same : (tables others : List Shown) (materials more : List Sides) (us : List Unverified) → tables ≡ others → materials ≡ more → All (IsCaused tables materials) us → All (IsCaused others more) us
+pub caused_by_same : (tables others : List Shown) (materials more : List Sides) (us : List Unverified) → tables ≡ others → materials ≡ more → All (IsCaused tables materials us) us → All (IsCaused others more us) us
 caused_by_same tables others materials more us a b h =
-    subst (λ (ts : List Shown). All (IsCaused ts more) us) a (subst (λ (ms : List Sides). All (IsCaused tables ms) us) b h)
+    subst (λ (ts : List Shown). All (IsCaused ts more us) us) a (subst (λ (ms : List Sides). All (IsCaused tables ms us) us) b h)
+
+-- truth over the same tables and materials
+pub true_by_same : (tables others : List Shown) (materials more logged : List Sides) → tables ≡ others → materials ≡ more → (AreCheckedIn tables logged → AreTrue tables materials) → AreCheckedIn others logged → AreTrue others more
+true_by_same tables others materials more logged a b h checked =
+    subst (λ (ts : List Shown). AreTrue ts more) a (subst (AreTrue tables) b (h (subst (λ (ts : List Shown). AreCheckedIn ts logged) (sym a) checked)))

@@ -1,6 +1,7 @@
 -- What a verification that finds no fault says of tables.
-use Rattle.std.specs.Prelude.{ℕ, ◌≡◌, ◌&&◌, not, Bool, Contains, List, Some, IsTrue, ⊤, if◌then◌else◌}
+use Rattle.std.specs.Prelude.{ℕ, ◌≡◌, ◌&&◌, not, map, All, Bool, Contains, List, Option, Some, IsSome, IsFalse, IsTrue, is_some, find, if◌then◌else◌}
 use Rattle.szg_values.specs.Material.{Sides}
+use Rattle.szg_values.specs.declared.Kind.{Kind}
 use Rattle.szg_file.specs.Held.{Shown}
 use Rattle.szg_game.specs.Game.{is_empty}
 use Rattle.szg_game.specs.declared.Class.{Class}
@@ -9,12 +10,16 @@ use Rattle.szg_chess.specs.declared.FenRecord.{FenRecord}
 use Rattle.szg_probe.specs.Chess.{ChessClass}
 use Rattle.szg_probe.specs.Probing.{probed}
 use Rattle.szg_verify.specs.Entries.{tables_of}
-use Rattle.szg_verify.specs.Materials.{are_closed, covers}
-use Rattle.szg_verify.specs.Walk.{IsFirstRefused, colored_men, number_count}
+use Rattle.szg_verify.specs.Materials.{are_closed, covers, leads_to}
+use Rattle.szg_verify.specs.Walk.{IsFirstRefused, IsMaterialChecked, colored_men, number_count}
 use Rattle.szg_tables.specs.Distances.{stored_distances}
-use Rattle.szg_tables.specs.Stored.{stored_classes}
+use Rattle.szg_tables.specs.Fetched.{IsOfTable, fetched_classes, fetched_numbers}
+use Rattle.szg_tables.specs.Stored.{is_for, stored_classes, stored_numbers}
+use Rattle.szg_tables.specs.declared.fetched.FetchedTable.{FetchedTable}
 use Rattle.szg_verified.specs.declared.verifying.Cause.{Cause}
-use Rattle.szg_verified.specs.declared.verifying.Cause.TheVariants.{Refused, Missing, Unchecked}
+use Rattle.szg_verified.specs.declared.verifying.Cause.TheVariants.{Refused, NoTable, Missing, Unchecked}
+use Rattle.szg_verified.specs.declared.verifying.Finding.{Finding}
+use Rattle.szg_verified.specs.declared.verifying.Finding.TheVariants.{Verified, Logged, Failed}
 use Rattle.szg_verified.specs.declared.verifying.Unverified.{Unverified}
 use Rattle.szg_results.specs.Results.{IsAnswerOf, counted}
 use Rattle.szg_results.specs.declared.results.Answer.{Answer}
@@ -25,24 +30,59 @@ abbrev pub AreTrue : List Shown → List Sides → Type 0
 AreTrue tables materials = (p : Position) → IsPosition p → IsTrue (covers materials p.placed_men) →
     (k : Class) × (probed (stored_classes tables) p ≡ Some k) × ChessClass p k
 
--- A refusal names a legal position of the material, the first that is not accepted, and a condition that it breaks over these
--- tables. Of what the tables lack, and of a material that was not looked at, no more is said.
-abbrev pub IsCause : List Shown → Sides → Cause → Type 0
-IsCause tables sides (Refused r) = IsFirstRefused (tables_of (stored_classes tables) (stored_distances tables)) sides 0 (number_count (colored_men sides)) r.number r.position r.condition
-IsCause tables sides (Missing missing) = ⊤
-IsCause tables sides (Unchecked other) = ⊤
+-- each position of the material was checked over these tables, but for images
+abbrev pub IsCheckedIn : List Shown → Sides → Type 0
+IsCheckedIn tables sides = IsMaterialChecked (tables_of (stored_classes tables) (stored_distances tables)) sides
 
--- it is one of the materials, and has its cause
-abbrev pub IsCaused : List Shown → List Sides → Unverified → Type 0
-IsCaused tables materials u = Contains materials u.material × IsCause tables u.material u.cause
+abbrev pub AreCheckedIn : List Shown → List Sides → Type 0
+AreCheckedIn tables materials = (sides : Sides) → Contains materials sides → IsCheckedIn tables sides
+
+-- the materials of a list of those that are not verified
+abbrev pub materials_in : List Unverified → List Sides
+materials_in unverified = map (λ u. u.material) unverified
+
+abbrev pub has_table : List Shown → Kind → Sides → Bool
+has_table tables kind material = is_some (find (is_for kind material) tables)
+
+-- Why the walk over these numbers of the material did not pass. A refusal names a legal position of the material, the first
+-- that is not accepted, and a condition that it breaks over these tables. A table that is not there is not among them; if one
+-- lacks something, it is there. A material that was not looked at leads to another one that is not verified.
+abbrev pub IsCause : List Shown → List Unverified → Sides → ℕ → ℕ → Cause → Type 0
+IsCause tables unverified sides from to (Refused r) = IsFirstRefused (tables_of (stored_classes tables) (stored_distances tables)) sides from to r.number r.position r.condition
+IsCause tables unverified sides from to (NoTable kind material) = IsFalse (has_table tables kind material)
+IsCause tables unverified sides from to (Missing missing) = IsTrue (has_table tables missing.kind missing.material)
+IsCause tables unverified sides from to (Unchecked other) = IsTrue (leads_to sides other) × Contains (materials_in unverified) other
+
+abbrev pub IsCauseOf : List Shown → List Unverified → Sides → Cause → Type 0
+IsCauseOf tables unverified sides cause = IsCause tables unverified sides 0 (number_count (colored_men sides)) cause
+
+-- what was found of a material, after those that are not verified; a log was given if it has the material
+abbrev pub IsFinding : {L : Type 0} → List Shown → List Unverified → Option L → Sides → Finding → Type 0
+IsFinding tables unverified log sides (Verified positions) = IsCheckedIn tables sides
+IsFinding tables unverified log sides (Logged positions) = IsSome log
+IsFinding tables unverified log sides (Failed cause) = IsCauseOf tables unverified sides cause
+
+-- it is one of the materials, and has its cause, given all that are not verified
+abbrev pub IsCaused : List Shown → List Sides → List Unverified → Unverified → Type 0
+IsCaused tables materials unverified u = Contains materials u.material × IsCauseOf tables unverified u.material u.cause
 
 -- there are materials, captures and promotions do not leave them, and none is not verified
 abbrev pub is_whole : List Sides → List Unverified → Bool
 is_whole materials unverified = not (is_empty materials) && are_closed materials && is_empty unverified
 
--- The answer that true tables give for a position with its counters is its class in chess and a number of plies, with
--- the halfmove counter. Without DTZ tables the counter does not count.
+-- The answer for a position with its counters is its class in chess, and a number of plies, with the halfmove counter. Without
+-- DTZ tables the counter does not count.
+abbrev pub IsTrueAnswer : FenRecord → Answer → Type 0
+IsTrueAnswer fen a =
+    (k : Class) × (plies : ℕ) × ChessClass fen.position k × (a.distance ≡ counted fen.position (if a.has_distances then fen.halfmove else 0) k plies)
+
+-- The answer over true tables for a position of their materials is true.
 abbrev pub AnswersAreTrue : Type 0
 AnswersAreTrue = (tables : List Shown) (materials : List Sides) (fen : FenRecord) (a : Answer) → AreTrue tables materials →
-    IsPosition fen.position → IsTrue (covers materials fen.position.placed_men) → IsAnswerOf tables fen a →
-    (k : Class) × (plies : ℕ) × ChessClass fen.position k × (a.distance ≡ counted fen.position (if a.has_distances then fen.halfmove else 0) k plies)
+    IsPosition fen.position → IsTrue (covers materials fen.position.placed_men) → IsAnswerOf (stored_classes tables) (stored_numbers tables) fen a → IsTrueAnswer fen a
+
+-- So is the answer over what was fetched of the files of true tables.
+abbrev pub ProbesAreTrue : Type 0
+ProbesAreTrue = (tables : List Shown) (materials : List Sides) (parts : List FetchedTable) (fen : FenRecord) (a : Answer) → AreTrue tables materials →
+    All (IsOfTable tables) parts → IsPosition fen.position → IsTrue (covers materials fen.position.placed_men) →
+    IsAnswerOf (fetched_classes parts) (fetched_numbers parts) fen a → IsTrueAnswer fen a

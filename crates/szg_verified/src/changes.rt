@@ -116,6 +116,14 @@ pub fn add_needed(alloc: Global, materials: &mut Vec<Material>) -> Result<(), Al
     materials.sort_by(in_order)
 }
 
+/// Returns a material and all that captures and promotions lead to from it, each after what it leads to.
+pub fn needed_by(alloc: Global, material: &Material) -> Result<Vec<Material>, AllocError> {
+    let mut materials = Vec::new(alloc);
+    materials.push(material.copy())?;
+    add_needed(alloc, &mut materials)?;
+    Ok(materials)
+}
+
 /// Adds those of some materials that are not there.
 fn add_new(found: Vec<Material>, materials: &mut Vec<Material>) -> Result<(), AllocError>
     ensures { OnOk result ((m : Sides) → Contains materials.old.items m → Contains materials.new.items m) }

@@ -1,20 +1,25 @@
 //! The verification of a folder.
 
-ghost use Rattle.std.specs.Prelude.{◌≡◌, All, Contains, IfOk, IsTrue};
+ghost use Rattle.std.specs.Prelude.{◌≡◌, ◌<◌, [], All, Contains, IfOk, IsNone, IsTrue};
 ghost use Rattle.szg_values.specs.Material.{Sides};
-ghost use Rattle.szg_verified.specs.Verified.{AreTrue, IsCaused, is_whole};
+ghost use Rattle.szg_verify.specs.Entries.{tables_of};
+ghost use Rattle.szg_verify.specs.Walk.{IsShardChecked};
+ghost use Rattle.szg_tables.specs.Distances.{stored_distances};
+ghost use Rattle.szg_tables.specs.Stored.{stored_classes};
+ghost use Rattle.szg_verified.specs.Verified.{AreCheckedIn, AreTrue, IsCaused, is_whole};
 
-use crate::changes::add_needed;
-use crate::verifying::{Progress, Unverified, verify_materials};
+use crate::changes::{add_needed, needed_by};
+use crate::verifying::{Progress, Unverified, verify_materials, verify_shard};
 use std::alloc::{AllocError, Global};
 use std::io::{self, Write};
 use std::rt::Files;
 use szg_file::Table;
-use szg_files::{FileSystem, Finding, files_below};
+use szg_files::{FileFault, FileSystem, Finding, files_below};
 use szg_named::named_by;
 use szg_results::{ResultStop, read_missing};
 use szg_tables::{Missing, MissingReason};
 use szg_values::{Kind, Material, NameFault};
+use szg_verify::Shard;
 
 /// What was verified.
 #[derive(Drop)]
@@ -23,10 +28,21 @@ pub struct Verification {
     pub tables: Vec<Table>,
     /// The materials that were asked for, and all that captures and promotions lead to from them.
     pub materials: Vec<Material>,
-    /// Whether the tables of all these are verified.
+    /// Whether the tables of all these are verified, or logged.
     pub is_all: bool,
     /// The materials that are not verified, in their order.
     pub unverified: Vec<Unverified>,
+    /// The materials that were not checked again: by a log they were verified with the same tables.
+    pub logged: Vec<Material>,
+}
+
+/// What was found of a shard of a material.
+#[derive(Drop)]
+pub struct ShardVerification {
+    /// The tables that were read.
+    pub tables: Vec<Table>,
+    /// Whether each position of the shard passes.
+    pub is_checked: bool,
 }
 
 /// Why a folder was not verified to the end.
@@ -34,6 +50,10 @@ pub struct Verification {
 pub enum VerifyStop {
     /// A name is no material's.
     Name(NameFault),
+    /// The words name no shard of one material.
+    Shard,
+    /// The log can't be read.
+    Log(FileFault),
     /// The folder can't be read, a file fails or is no table, or an allocation was refused.
     Read(ResultStop),
     /// The output failed, or an allocation was refused.
@@ -90,10 +110,11 @@ fn material_at(folder: &str, path: &str) -> Option<Material> {
 }
 
 /// Verifies the tables of materials in a folder, and those of all that captures and promotions lead to from them: each is
-/// read once, whole. Writes a line for each material, those of the fewest men first, and a summary.
+/// read once, whole. Writes a line for each material, those of the fewest men first, and a summary. Materials that a log,
+/// the output of earlier verifications, has with the same tables are not checked again.
 ///
 /// If all are verified, then for each position of these materials a probe of the tables that were read finds its class in
-/// chess with the fifty-move rule, whoever made the tables.
+/// chess with the fifty-move rule, whoever made the tables. For those that the log has this rests on the log.
 ///
 /// Errors: `VerifyStop`; the lines of materials that came before were written.
 pub fn verify_folder<S: FileSystem, W: Write, P: Progress>(
@@ -101,25 +122,54 @@ pub fn verify_folder<S: FileSystem, W: Write, P: Progress>(
     system: &mut S,
     folder: &str,
     asked: Vec<Material>,
+    log: Option<&str>,
     output: &mut W,
     progress: &mut P,
 ) -> Result<Verification, VerifyStop>
-    ensures true_tables { IfOk result (λ v. IsTrue v.is_all → AreTrue v.tables.items v.materials.items) }
-    // It says no with a cause: a refusal names the first position of a material that breaks a condition over these tables.
-    ensures caused { IfOk result (λ v. All (IsCaused v.tables.items v.materials.items) v.unverified.items) }
+    ensures true_tables { IfOk result (λ v. IsTrue v.is_all → AreCheckedIn v.tables.items v.logged.items → AreTrue v.tables.items v.materials.items) }
+    // Without a log nothing is taken from one.
+    ensures logged { IfOk result (λ v. IsNone log.entry → v.logged.items ≡ []) }
+    // It says no with a cause: a refusal names the first position of a material that breaks a condition over these tables, and
+    // a material is left unchecked only if it leads to one that is not verified.
+    ensures caused { IfOk result (λ v. All (IsCaused v.tables.items v.materials.items v.unverified.items) v.unverified.items) }
     ensures all { IfOk result (λ v. v.is_all ≡ is_whole v.materials.items v.unverified.items) }
     ensures asked { IfOk result (λ v. (m : Sides) → Contains asked.items m → Contains v.materials.items m) }
 {
     let mut materials = asked;
     add_needed(alloc, &mut materials)?;
     let tables = tables_in(alloc, system, folder, &materials)?;
-    match verify_materials(alloc, &tables, &materials, output, progress) {
+    match verify_materials(alloc, &tables, &materials, log, output, progress) {
         Ok(found) => Ok(Verification {
             tables,
             materials,
             is_all: found.is_all,
             unverified: found.unverified,
+            logged: found.logged,
         }),
+        Err(error) => Err(VerifyStop::Output(error)),
+    }
+}
+
+/// Checks the positions of a shard of a material in a folder, and writes a line. The lines of all shards, for the same tables,
+/// say what the line of the whole material says (`shards_are_whole` of `szg_verify`).
+///
+/// Errors: `VerifyStop`.
+pub fn verify_folder_shard<S: FileSystem, W: Write, P: Progress>(
+    alloc: Global,
+    system: &mut S,
+    folder: &str,
+    material: &Material,
+    shard: Shard,
+    output: &mut W,
+    progress: &mut P,
+) -> Result<ShardVerification, VerifyStop>
+    requires { shard.before < shard.shards }
+    ensures checked { IfOk result (λ v. IsTrue v.is_checked → IsShardChecked (tables_of (stored_classes v.tables.items) (stored_distances v.tables.items)) material.now shard.shards shard.before) }
+{
+    let materials = needed_by(alloc, material)?;
+    let tables = tables_in(alloc, system, folder, &materials)?;
+    match verify_shard(alloc, &tables, material, shard, output, progress) {
+        Ok(is_checked) => Ok(ShardVerification { tables, is_checked }),
         Err(error) => Err(VerifyStop::Output(error)),
     }
 }

@@ -1,9 +1,20 @@
 //! Laws of tables that are true.
 
-ghost use Rattle.szg_verified.specs.Verified.{AnswersAreTrue};
+ghost use Rattle.szg_verified.specs.Verified.{AnswersAreTrue, ProbesAreTrue};
+
+use szg_results::laws::answers_of_tables;
 
 /// If tables are true for materials, the answer for a position of these materials is its class in chess, with the
 /// halfmove counter as tables count it.
 pub fn answers_are_true()
     ensures { AnswersAreTrue }
 {}
+
+/// If tables are true for materials, so is the answer over what was fetched of their files: for each position of these
+/// materials `szg probe` finds the class in chess.
+pub fn probes_are_true()
+    ensures { ProbesAreTrue }
+{
+    answers_of_tables();
+    answers_are_true();
+}

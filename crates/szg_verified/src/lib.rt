@@ -2,12 +2,14 @@
 #![tactic(auto)]
 
 mod changes;
+mod digests;
 mod folder;
 pub mod laws;
 mod lines;
+mod log;
 mod run;
 mod verifying;
 
-pub use folder::{Verification, VerifyStop, verify_folder};
-pub use run::run_verification;
+pub use folder::{ShardVerification, Verification, VerifyStop, verify_folder, verify_folder_shard};
+pub use run::{VerificationAsked, run_verification};
 pub use verifying::{Cause, Progress, Unverified};

@@ -1,48 +1,106 @@
 //! The lines of a verification.
 
-use crate::verifying::{Cause, VerifiedCounts};
+use crate::verifying::{Cause, Finding, VerifiedCounts};
 use std::alloc::{AllocError, Global};
 use szg_results::{ResultStop, stop_text};
-use szg_tables::Missing;
-use szg_values::Material;
+use szg_tables::{Missing, MissingReason};
+use szg_values::{Kind, Material};
+use szg_verify::Shard;
 
-/// Returns the line of a material.
+/// Returns the line of a material whose tables have this digest.
 pub fn material_line(
     alloc: Global,
     material: &Material,
-    found: &Result<u64, Cause>,
+    found: &Finding,
+    digest: &str,
+) -> Result<String, AllocError> {
+    let name = material.name();
+    found_line(alloc, name.as_str(), found, digest)
+}
+
+/// Returns the line of a shard of a material.
+pub fn shard_line(
+    alloc: Global,
+    material: &Material,
+    shard: Shard,
+    found: &Finding,
+    digest: &str,
 ) -> Result<String, AllocError> {
     let name = material.name();
     let name = name.as_str();
+    let number = u32::from(shard.before) + 1;
+    let shards = shard.shards;
+    let extent = format!(in alloc; "{name} shard {number}/{shards}")?;
+    found_line(alloc, extent.as_str(), found, digest)
+}
+
+/// Returns the line of what was found of a material, or of a shard of it.
+fn found_line(
+    alloc: Global,
+    extent: &str,
+    found: &Finding,
+    digest: &str,
+) -> Result<String, AllocError> {
     match found {
-        Ok(positions) => {
+        Finding::Verified(positions) => {
             let positions = *positions;
-            format!(in alloc; "{name} verified positions {positions}\n")
+            format!(in alloc; "{extent} verified positions {positions} sha256 {digest}\n")
         }
-        Err(Cause::Refused(refusal)) => {
+        Finding::Logged(positions) => {
+            let positions = *positions;
+            format!(in alloc; "{extent} logged: verified positions {positions} sha256 {digest}\n")
+        }
+        Finding::Failed(cause) => cause_line(alloc, extent, cause),
+    }
+}
+
+/// Returns the line of why positions were not verified.
+fn cause_line(alloc: Global, extent: &str, cause: &Cause) -> Result<String, AllocError> {
+    match cause {
+        Cause::Refused(refusal) => {
             let fen = refusal.position.fen();
             let fen = fen.as_str();
             let condition = refusal.condition;
-            format!(in alloc; "{name} refused {fen} 0 1: {condition}\n")
+            format!(in alloc; "{extent} refused {fen} 0 1: {condition}\n")
         }
-        Err(Cause::Missing(missing)) => {
-            let missing = Missing {
-                material: missing.material.copy(),
-                kind: missing.kind,
-                reason: missing.reason,
-            };
-            let text = stop_text(alloc, &ResultStop::Missing(missing))?;
-            format!(in alloc; "{name} {text}\n")
+        Cause::NoTable(kind, material) => {
+            missing_line(alloc, extent, material, *kind, MissingReason::Table)
         }
-        Err(Cause::Unchecked(other)) => {
+        Cause::Missing(missing) => {
+            missing_line(
+                alloc,
+                extent,
+                &missing.material,
+                missing.kind,
+                missing.reason,
+            )
+        }
+        Cause::Unchecked(other) => {
             let other = other.name();
             let other = other.as_str();
-            format!(in alloc; "{name} unchecked: it leads to {other}\n")
+            format!(in alloc; "{extent} unchecked: it leads to {other}\n")
         }
     }
 }
 
-/// Returns the summary.
+/// Returns the line of what tables lack.
+fn missing_line(
+    alloc: Global,
+    extent: &str,
+    material: &Material,
+    kind: Kind,
+    reason: MissingReason,
+) -> Result<String, AllocError> {
+    let missing = Missing {
+        material: material.copy(),
+        kind,
+        reason,
+    };
+    let text = stop_text(alloc, &ResultStop::Missing(missing))?;
+    format!(in alloc; "{extent} {text}\n")
+}
+
+/// Returns the summary. Only if no material was taken from a log, and all are verified, it begins with `all verified`.
 pub fn summary_line(
     alloc: Global,
     is_all: bool,
@@ -51,13 +109,24 @@ pub fn summary_line(
     let VerifiedCounts {
         materials,
         verified,
+        logged,
         positions,
     } = *tally;
-    if is_all {
-        format!(in alloc; "all verified: materials {materials}, positions {positions}\n")
+    let from_log = if logged == 0 {
+        String::new(alloc)
     } else {
-        format!(in alloc;
-            "not all verified: materials {materials}, verified {verified}, positions {positions}\n"
-        )
+        format!(in alloc; ", logged {logged}")?
+    };
+    let from_log = from_log.as_str();
+    if !is_all {
+        return format!(in alloc;
+            "not all verified: materials {materials}, verified {verified}{from_log}, positions {positions}\n"
+        );
     }
+    let all = if logged == 0 {
+        "all verified"
+    } else {
+        "verified or logged"
+    };
+    format!(in alloc; "{all}: materials {materials}{from_log}, positions {positions}\n")
 }

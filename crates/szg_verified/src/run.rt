@@ -1,57 +1,122 @@
 //! A run of a verification: its words, its lines.
 
-use crate::folder::{VerifyStop, materials_in, verify_folder};
+use crate::folder::{VerifyStop, materials_in, verify_folder, verify_folder_shard};
+use crate::log::shard_of;
 use crate::verifying::Progress;
 use std::alloc::{AllocError, Global};
-use std::io::{self, Write};
+use std::fs;
+use std::io::{self, Read, Write};
 use std::rt::Files;
-use szg_files::Disk;
+use szg_files::{Disk, FileFault};
 use szg_named::{fault_text, name_word};
 use szg_results::{ResultStop, stop_text};
 use szg_values::Material;
 
+/// What a verification is asked for.
+#[derive(Clone, Copy)]
+pub struct VerificationAsked<'a> {
+    /// The folder of the tables.
+    pub folder: &'a str,
+    /// The names of materials; none: all that the folder has.
+    pub names: &'a [&'a str],
+    /// The path of a log: the output of earlier verifications.
+    pub log: Option<&'a str>,
+    /// The shard of the one material that is named, such as `2/5`.
+    pub shard: Option<&'a str>,
+}
+
 /// Verifies the tables of the materials with these names in a folder, or of all that the folder has if there is none, and
-/// of those that captures and promotions lead to. Writes a line for each material and a summary, or why it was not
-/// done. Returns whether all are verified.
+/// of those that captures and promotions lead to, but for those that the log has; or one shard of a material. Writes a line
+/// for each material and a summary, or the line of the shard, or why it was not done. Returns whether all are verified or
+/// logged, or each position of the shard passes.
 ///
 /// Errors: the output's; an allocation was refused.
 pub fn run_verification<R: Files, W: Write, P: Progress>(
     alloc: Global,
     files: &R,
-    folder: &str,
-    names: &[&str],
+    asked: VerificationAsked<'_>,
     output: &mut W,
     progress: &mut P,
 ) -> io::Result<bool> {
-    let stop = match verified(alloc, files, folder, names, output, progress) {
+    let found = match asked.shard {
+        Some(shard) => shard_verified(alloc, files, asked, shard, output, progress),
+        None => verified(alloc, files, asked, output, progress),
+    };
+    let stop = match found {
         Ok(is_all) => return Ok(is_all),
         Err(VerifyStop::Output(error)) => return Err(error),
         Err(VerifyStop::Read(ResultStop::Memory)) => return Err(AllocError.into()),
         Err(stop) => stop,
     };
-    let text = text_of(alloc, folder, &stop)?;
+    let text = text_of(alloc, asked, &stop)?;
     output.write_all(text.as_bytes())?;
     output.flush()?;
     Ok(false)
 }
 
-/// Verifies the tables; returns whether all are verified.
+/// Verifies the tables; returns whether all are verified or logged.
 fn verified<R: Files, W: Write, P: Progress>(
     alloc: Global,
     files: &R,
-    folder: &str,
-    names: &[&str],
+    asked: VerificationAsked<'_>,
     output: &mut W,
     progress: &mut P,
 ) -> Result<bool, VerifyStop> {
-    let asked = if names.is_empty() {
+    let folder = asked.folder;
+    let materials = if asked.names.is_empty() {
         materials_in(alloc, files, folder)?
     } else {
-        materials_of(alloc, names)?
+        materials_of(alloc, asked.names)?
+    };
+    let text = match asked.log {
+        Some(path) => Some(log_at(alloc, files, path)?),
+        None => None,
+    };
+    let log = match &text {
+        Some(bytes) => Some(str::from_utf8(bytes).unwrap_or("")),
+        None => None,
     };
     let mut disk = Disk::new(alloc, files);
-    let verification = verify_folder(alloc, &mut disk, folder, asked, output, progress)?;
-    Ok(verification.is_all)
+    let found = verify_folder(alloc, &mut disk, folder, materials, log, output, progress)?;
+    Ok(found.is_all)
+}
+
+/// Checks a shard; returns whether each of its positions passes.
+fn shard_verified<R: Files, W: Write, P: Progress>(
+    alloc: Global,
+    files: &R,
+    asked: VerificationAsked<'_>,
+    shard: &str,
+    output: &mut W,
+    progress: &mut P,
+) -> Result<bool, VerifyStop> {
+    let (Some(shard), [name], None) = (shard_of(shard), asked.names, asked.log) else {
+        return Err(VerifyStop::Shard);
+    };
+    let material = match Material::parse(name) {
+        Ok(material) => material,
+        Err(fault) => return Err(VerifyStop::Name(fault)),
+    };
+    let mut disk = Disk::new(alloc, files);
+    let folder = asked.folder;
+    let found = verify_folder_shard(alloc, &mut disk, folder, &material, shard, output, progress)?;
+    Ok(found.is_checked)
+}
+
+/// Returns the bytes of a log.
+fn log_at<R: Files>(alloc: Global, files: &R, path: &str) -> Result<Vec<u8>, VerifyStop> {
+    match bytes_at(alloc, files, path) {
+        Ok(bytes) => Ok(bytes),
+        Err(FileFault::Memory) => Err(VerifyStop::Read(ResultStop::Memory)),
+        Err(fault) => Err(VerifyStop::Log(fault)),
+    }
+}
+
+/// Returns the bytes of the file at a path.
+fn bytes_at<R: Files>(alloc: Global, files: &R, path: &str) -> Result<Vec<u8>, FileFault> {
+    let mut bytes = Vec::new(alloc);
+    fs::open(files, path)?.read_to_end(&mut bytes)?;
+    Ok(bytes)
 }
 
 /// Returns the materials with these names, each once.
@@ -74,20 +139,29 @@ fn materials_of(alloc: Global, names: &[&str]) -> Result<Vec<Material>, VerifySt
 }
 
 /// Returns why a folder was not verified, as a line.
-fn text_of(alloc: Global, folder: &str, stop: &VerifyStop) -> Result<String, AllocError> {
+fn text_of(
+    alloc: Global,
+    asked: VerificationAsked<'_>,
+    stop: &VerifyStop,
+) -> Result<String, AllocError> {
     match stop {
         VerifyStop::Name(fault) => {
             let word = name_word(*fault);
             format!(in alloc; "refused name: {word}\n")
         }
-        VerifyStop::Read(ResultStop::Failed(fault)) => {
-            let reason = fault_text(alloc, fault)?;
-            format!(in alloc; "{folder}: {reason}\n")
-        }
+        VerifyStop::Shard => String::from_str(alloc, "refused shard\n"),
+        VerifyStop::Log(fault) => unread_line(alloc, asked.log.unwrap_or(""), fault),
+        VerifyStop::Read(ResultStop::Failed(fault)) => unread_line(alloc, asked.folder, fault),
         VerifyStop::Read(stop) => {
             let text = stop_text(alloc, stop)?;
             format!(in alloc; "{text}\n")
         }
         VerifyStop::Output(error) => format!(in alloc; "{error}\n"),
     }
+}
+
+/// Returns the line of a path that can't be read.
+fn unread_line(alloc: Global, path: &str, fault: &FileFault) -> Result<String, AllocError> {
+    let reason = fault_text(alloc, fault)?;
+    format!(in alloc; "{path}: {reason}\n")
 }

@@ -1,27 +1,33 @@
 //! The verification of materials over tables in memory.
 
-ghost use Rattle.std.specs.Prelude.{◌≡◌, All, IfErr, IfOk, IsOk, IsTrue};
+ghost use Rattle.std.specs.Prelude.{◌≡◌, ◌<◌, [], All, Contains, IfErr, IfOk, IfSome, IsNone, IsOk, IsTrue, List, ℕ};
+ghost use Rattle.szg_values.specs.Material.{Sides};
 ghost use Rattle.szg_game.specs.Game.{is_empty};
 ghost use Rattle.szg_verify.specs.Entries.{tables_of};
-ghost use Rattle.szg_verify.specs.Walk.{IsMaterialChecked};
+ghost use Rattle.szg_verify.specs.Materials.{leads_to};
+ghost use Rattle.szg_verify.specs.Walk.{IsRangeChecked, IsShardChecked};
 ghost use Rattle.szg_tables.specs.Distances.{stored_distances};
 ghost use Rattle.szg_tables.specs.Stored.{stored_classes};
-ghost use Rattle.szg_verified.specs.Verified.{AreTrue, IsCause, IsCaused, is_whole};
+ghost use Rattle.szg_verified.specs.Verified.{AreCheckedIn, AreTrue, IsCause, IsCaused, IsFinding, is_whole, materials_in};
 
-use crate::changes::changes;
-use crate::lines::{material_line, summary_line};
+use crate::digests::digest_of;
+use crate::lines::{material_line, shard_line, summary_line};
+use crate::log::logged_positions;
 use std::alloc::{AllocError, Global};
 use std::io::{self, Write};
 use szg_file::Table;
 use szg_tables::laws::stored_at_images;
 use szg_tables::{Missing, TableSet};
-use szg_values::Material;
+use szg_values::{Kind, Material};
 use szg_verify::laws::{verified_is_true, walk_is_whole};
-use szg_verify::{Cell, Refusal, Walked, Watcher, are_closed, number_count, verify_range};
+use szg_verify::{
+    Cell, Refusal, Shard, Walked, Watcher, are_closed, leads_to, number_count, shard_start,
+    verify_range,
+};
 
-/// The number of cells in which a walk keeps the entries that it found: they take 28 MB. Of four men without pawns they hold
-/// each position with White to move.
-const CELLS: usize = 7_000_000;
+/// The most cells in which a walk keeps the entries that it found: they take 28 MB. Of four men without pawns they hold each
+/// position with White to move.
+const MOST_CELLS: u64 = 7_000_000;
 
 /// Sees how the walk over a material's positions goes, and its end.
 pub trait Progress: Watcher {
@@ -34,10 +40,23 @@ pub trait Progress: Watcher {
 pub enum Cause {
     /// The first position that does not pass.
     Refused(Refusal),
-    /// What the tables do not have.
+    /// There is no table of this kind and material.
+    NoTable(Kind, Material),
+    /// What a table does not have for a placement: an index, or a value with a meaning.
     Missing(Missing),
     /// It was not looked at, since a capture or a promotion leads to this one, which is not verified.
     Unchecked(Material),
+}
+
+/// What was found of a material.
+#[derive(Drop)]
+pub enum Finding {
+    /// This number of positions was checked, and each passes.
+    Verified(u64),
+    /// A log says that this number of positions was checked, with the same tables.
+    Logged(u64),
+    /// It is not verified.
+    Failed(Cause),
 }
 
 /// A material that is not verified.
@@ -56,6 +75,8 @@ pub struct Outcome {
     pub is_all: bool,
     /// Those that are not, in the order of the materials.
     pub unverified: Vec<Unverified>,
+    /// Those that were not checked again, since a log has them.
+    pub logged: Vec<Material>,
 }
 
 /// What a verification came to.
@@ -63,47 +84,62 @@ pub struct Outcome {
 pub struct VerifiedCounts {
     /// The number of materials.
     pub materials: usize,
-    /// The number of those that are verified.
+    /// The number of those that were checked and are verified.
     pub verified: usize,
+    /// The number of those that a log has.
+    pub logged: usize,
     /// The number of their positions that were checked.
     pub positions: u64,
 }
 
-/// Verifies the tables of materials, each of which comes after those that captures and promotions lead to from it. Writes
-/// a line for each, and a summary.
+/// Verifies the tables of materials, each of which comes after those that captures and promotions lead to from it, but for
+/// those that a log has with the same tables. Writes a line for each, and a summary.
 ///
 /// Errors: the output's; an allocation was refused.
 pub fn verify_materials<W: Write, P: Progress>(
     alloc: Global,
     tables: &[Table],
     materials: &[Material],
+    log: Option<&str>,
     output: &mut W,
     progress: &mut P,
 ) -> io::Result<Outcome>
-    ensures true_tables { IfOk result (λ found. IsTrue found.is_all → AreTrue tables.now materials.now) }
-    ensures caused { IfOk result (λ found. All (IsCaused tables.now materials.now) found.unverified.items) }
+    ensures true_tables { IfOk result (λ found. IsTrue found.is_all → AreCheckedIn tables.now found.logged.items → AreTrue tables.now materials.now) }
+    ensures caused { IfOk result (λ found. All (IsCaused tables.now materials.now found.unverified.items) found.unverified.items) }
     ensures all { IfOk result (λ found. found.is_all ≡ is_whole materials.now found.unverified.items) }
+    ensures logged { IfOk result (λ found. IsNone log.entry → found.logged.items ≡ []) }
 {
     stored_at_images(tables);
     verified_is_true();
     let mut unverified = Vec::new(alloc);
-    let mut cells = new_cells(alloc)?;
+    let mut logged = Vec::new(alloc);
+    let mut cells = new_cells(alloc, u64::MAX)?;
     let mut tally = VerifiedCounts {
         materials: materials.len(),
         verified: 0,
+        logged: 0,
         positions: 0,
     };
     'materials: for material in materials {
-        let found = verify_material(alloc, tables, material, &unverified, &mut cells, progress)?;
-        let line = material_line(alloc, material, &found)?;
+        let digest = digest_of(alloc, tables, material)?;
+        let digest = digest.as_str();
+        let found = verify_material(
+            tables,
+            material,
+            &unverified,
+            log,
+            digest,
+            &mut cells,
+            progress,
+        );
+        let line = material_line(alloc, material, &found, digest)?;
         output.write_all(line.as_bytes())?;
         output.flush()?;
+        tally = counted(tally, &found);
         match found {
-            Ok(positions) => {
-                tally.verified = tally.verified.saturating_add(1);
-                tally.positions = tally.positions.saturating_add(positions);
-            }
-            Err(cause) => unverified.push(Unverified {
+            Finding::Verified(_) => {}
+            Finding::Logged(_) => logged.push(material.copy())?,
+            Finding::Failed(cause) => unverified.push(Unverified {
                 material: material.copy(),
                 cause,
             })?,
@@ -113,12 +149,63 @@ pub fn verify_materials<W: Write, P: Progress>(
     let line = summary_line(alloc, is_all, &tally)?;
     output.write_all(line.as_bytes())?;
     output.flush()?;
-    Ok(Outcome { is_all, unverified })
+    Ok(Outcome {
+        is_all,
+        unverified,
+        logged,
+    })
 }
 
-/// Returns room for the entries that walks find.
-fn new_cells(alloc: Global) -> Result<Vec<Cell>, AllocError> {
-    Ok(vec![in alloc; Cell::default(); CELLS]?)
+/// Counts what was found of one more material.
+fn counted(tally: VerifiedCounts, found: &Finding) -> VerifiedCounts {
+    match found {
+        Finding::Verified(positions) => VerifiedCounts {
+            verified: tally.verified.saturating_add(1),
+            positions: tally.positions.saturating_add(*positions),
+            ..tally
+        },
+        Finding::Logged(_) => VerifiedCounts {
+            logged: tally.logged.saturating_add(1),
+            ..tally
+        },
+        Finding::Failed(_) => tally,
+    }
+}
+
+/// Verifies a shard of a material. Writes its line; returns whether each of its positions passes.
+///
+/// Errors: the output's; an allocation was refused.
+pub fn verify_shard<W: Write, P: Progress>(
+    alloc: Global,
+    tables: &[Table],
+    material: &Material,
+    shard: Shard,
+    output: &mut W,
+    progress: &mut P,
+) -> io::Result<bool>
+    requires { shard.before < shard.shards }
+    ensures checked { IfOk result (λ b. IsTrue b → IsShardChecked (tables_of (stored_classes tables.now) (stored_distances tables.now)) material.now shard.shards shard.before) }
+{
+    let from = shard_start(material, shard.shards, shard.before);
+    let to = shard_start(material, shard.shards, shard.before + 1);
+    let mut cells = new_cells(alloc, to.saturating_sub(from))?;
+    let walked = walk(tables, material, from, to, &mut cells, progress);
+    let is_checked = walked.is_ok();
+    let digest = digest_of(alloc, tables, material)?;
+    let found = match walked {
+        Ok(positions) => Finding::Verified(positions),
+        Err(cause) => Finding::Failed(cause),
+    };
+    let line = shard_line(alloc, material, shard, &found, digest.as_str())?;
+    output.write_all(line.as_bytes())?;
+    output.flush()?;
+    Ok(is_checked)
+}
+
+/// Returns room for the entries that a walk over these numbers finds.
+fn new_cells(alloc: Global, numbers: u64) -> Result<Vec<Cell>, AllocError> {
+    let count = numbers.saturating_mul(4).min(MOST_CELLS) as usize;
+    Ok(vec![in alloc; Cell::default(); count]?)
 }
 
 /// Returns whether there are materials, closed under captures and promotions, and none of them is not verified.
@@ -137,45 +224,56 @@ fn is_empty<T>(items: &[T]) -> bool
     items.is_empty()
 }
 
-/// Verifies the tables of a material. Returns the number of positions that were checked, or why it is not verified.
+/// Verifies the tables of a material, unless it leads to one that is not verified, or a log has it with tables of this digest.
 fn verify_material<P: Progress>(
-    alloc: Global,
     tables: &[Table],
     material: &Material,
     unverified: &[Unverified],
+    log: Option<&str>,
+    digest: &str,
     cells: &mut [Cell],
     progress: &mut P,
-) -> Result<Result<u64, Cause>, AllocError>
-    ensures checked { IfOk result (λ found. IsOk found → IsMaterialChecked (tables_of (stored_classes tables.now) (stored_distances tables.now)) material.now) }
-    ensures cause { IfOk result (λ found. IfErr found (λ cause. IsCause tables.now material.now cause)) }
+) -> Finding
+    ensures { IsFinding tables.now unverified.now log.entry material.now result }
 {
-    match first_unverified(alloc, material, unverified)? {
-        Some(other) => Ok(Err(Cause::Unchecked(other))),
-        None => Ok(walk(tables, material, cells, progress)),
+    walk_is_whole();
+    if let Some(other) = first_unverified(material, unverified) {
+        return Finding::Failed(Cause::Unchecked(other));
+    }
+    if let Some(text) = log {
+        let name = material.name();
+        if let Some(positions) = logged_positions(text, name.as_str(), digest) {
+            return Finding::Logged(positions);
+        }
+    }
+    let count = number_count(material);
+    match walk(tables, material, 0, count, cells, progress) {
+        Ok(positions) => Finding::Verified(positions),
+        Err(cause) => Finding::Failed(cause),
     }
 }
 
-/// Checks each position of a material, but for images, up to the first that does not pass. Returns the number of
-/// positions if each passes.
+/// Checks each position of a material that these numbers place, but for images, up to the first that does not pass. Returns
+/// the number of positions if each passes.
 fn walk<P: Progress>(
     tables: &[Table],
     material: &Material,
+    from: u64,
+    to: u64,
     cells: &mut [Cell],
     progress: &mut P,
 ) -> Result<u64, Cause>
-    ensures checked { IsOk result → IsMaterialChecked (tables_of (stored_classes tables.now) (stored_distances tables.now)) material.now }
-    ensures cause { IfErr result (λ cause. IsCause tables.now material.now cause) }
+    ensures checked { IsOk result → IsRangeChecked (tables_of (stored_classes tables.now) (stored_distances tables.now)) material.now from to }
+    ensures cause { (unverified : List Unverified) → IfErr result (λ cause. IsCause tables.now unverified material.now from to cause) }
 {
-    walk_is_whole();
     let mut classes = TableSet::new(tables);
     let mut distances = TableSet::new(tables);
-    let count = number_count(material);
     let walked = verify_range(
         &mut classes,
         &mut distances,
         material,
-        0,
-        count,
+        from,
+        to,
         cells,
         progress,
     );
@@ -193,20 +291,30 @@ fn walk<P: Progress>(
                 ..
             },
         ) => Err(Cause::Refused(refusal)),
-        Err(missing) => Err(Cause::Missing(missing)),
+        Err(missing) => Err(lack_of(tables, missing)),
     }
 }
 
-/// Returns the first of the materials to which a capture or a promotion leads that is not verified.
-fn first_unverified(
-    alloc: Global,
-    material: &Material,
-    unverified: &[Unverified],
-) -> Result<Option<Material>, AllocError> {
-    for change in changes(alloc, material)? {
-        if unverified.iter().any(|other| other.material == change) {
-            return Ok(Some(change));
+/// Returns why positions could not be checked: there is no table, or it lacks something.
+fn lack_of(tables: &[Table], missing: Missing) -> Cause
+    ensures { (unverified : List Unverified) (sides : Sides) (from to : ℕ) → IsCause tables.now unverified sides from to result }
+{
+    if TableSet::new(tables).has_table(missing.kind, &missing.material) {
+        Cause::Missing(missing)
+    } else {
+        Cause::NoTable(missing.kind, missing.material)
+    }
+}
+
+/// Returns the first material that is not verified and to which a capture or a promotion leads.
+fn first_unverified(material: &Material, unverified: &[Unverified]) -> Option<Material>
+    ensures leads { IfSome result (λ other. IsTrue (leads_to material.now other)) }
+    ensures unverified { IfSome result (λ other. Contains (materials_in unverified.now) other) }
+{
+    for other in unverified {
+        if leads_to(material, &other.material) {
+            return Some(other.material.copy());
         }
     }
-    Ok(None)
+    None
 }

@@ -18,6 +18,7 @@ OUTSIDE_MAP, CHANGED, BAD_BLOCK, EN_PASSANT, IN_CHECK, MISSING, CONTRADICTION = 
 # those with which a result names the table that it lacks: the men have no index in it, or it has no class
 OTHER_MATERIAL, WRONG_SIDE, NO_CLASS = 10, 13, 14
 MAX_MEN, MAX_MOVES = 6, 128
+NO_RESULT = 127
 TEXT_SIZE = 32
 
 
@@ -83,6 +84,7 @@ def _signatures() -> "dict[str, list[Any]]":
         "szg_tablebase_add": [tablebase, *file, POINTER(Answer)],
         "szg_share_tablebase": [tablebase, tablebase],
         "szg_tablebase_wdl": [tablebase, *placement, c_uint8, POINTER(c_int8), POINTER(MissingTable)],
+        "szg_tablebase_wdl_of_fens": [tablebase, *text, POINTER(c_int8), c_size_t],
         "szg_tablebase_dtz": [tablebase, *placement, c_uint8, c_uint32, POINTER(Distance), POINTER(MissingTable)],
         "szg_tablebase_moves": [
             tablebase, *placement, c_uint8, c_uint32, POINTER(FoundMove), c_size_t, POINTER(c_size_t), POINTER(MissingTable)],
@@ -91,7 +93,7 @@ def _signatures() -> "dict[str, list[Any]]":
 
 
 # Short calls, which keep the interpreter's lock: meanwhile no other thread calls with the same handle, and none forks.
-LOCKED = ("szg_share_tablebase", "szg_tablebase_wdl", "szg_tablebase_dtz", "szg_tablebase_moves")
+LOCKED = ("szg_share_tablebase", "szg_tablebase_wdl", "szg_tablebase_wdl_of_fens", "szg_tablebase_dtz", "szg_tablebase_moves")
 
 
 def _load() -> ctypes.CDLL:

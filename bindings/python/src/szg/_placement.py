@@ -83,17 +83,15 @@ def _color(color: Any, what: str) -> bool:
 
 def _men_of_rank(number: int, rank: str) -> bytes:
     """The men of a rank of a FEN; ranks are numbered from 0. Errors: ValueError."""
-    men, file, was_gap = b"", 0, False
+    men, file = b"", 0
     for letter in rank:
-        is_gap = letter in "12345678"
-        if is_gap and not was_gap:
+        if letter in "12345678":
             file += int(letter)
-        elif letter.upper() in LETTERS[1:] and not is_gap:
+        elif letter.upper() in LETTERS[1:]:
             men += bytes((LETTERS.index(letter.upper()), letter.islower(), 8 * number + file))
             file += 1
         else:
             raise ValueError(f"{letter!r} cannot come there")
-        was_gap = is_gap
     if file != 8:
         raise ValueError(f"rank {number + 1} must have eight squares")
     return men

@@ -1,12 +1,12 @@
 """Results of positions over files of tables: only this file knows which calls of the C library give them."""
 from ctypes import byref, c_int8, c_size_t
 from functools import partial
-from typing import Any, Callable, Iterable, List, Mapping, NamedTuple, NoReturn, Optional, Tuple
+from typing import Any, Callable, List, Mapping, NamedTuple, NoReturn, Optional, Sequence, Tuple
 
 from ._errors import BadBlock, MissingTableError, Untold
 from ._library import (
-    BAD_BLOCK, DONE, MAX_MOVES, MEN, MISSING, NO_CLASS, OTHER_MATERIAL, WRONG_SIDE, Distance, FoundMove, MissingTable, TablebaseHandle,
-    ask_file, judge, library, status_text,
+    BAD_BLOCK, DONE, MAX_MOVES, MEN, MISSING, NO_CLASS, NO_RESULT, OTHER_MATERIAL, WRONG_SIDE, Distance, FoundMove, MissingTable,
+    TablebaseHandle, ask_file, judge, library, status_text,
 )
 from ._mapped import mapped
 from ._placement import KING, LETTERS, SQUARES, Position
@@ -45,21 +45,13 @@ class Results:
         self._probe(library.szg_tablebase_wdl, position, byref(wdl))
         return wdl.value
 
-    def many(self, positions: Iterable[Position]) -> List[Optional[int]]:
-        """The class of each position; None where `wdl` raises a KeyError. What a call writes to is made once for all."""
-        call, wdl, missing = library.szg_tablebase_wdl, c_int8(), MissingTable()
-        to_wdl, to_missing = byref(wdl), byref(missing)
-        found: List[Optional[int]] = []
-        for position in positions:
-            men, turn, passed, _, beyond = position
-            if not beyond and call(self._handle, men, len(men) // 3, not turn, passed, to_wdl, to_missing) == DONE:
-                found.append(wdl.value)
-                continue
-            try:
-                found.append(self.wdl(position))
-            except KeyError:
-                found.append(None)
-        return found
+    def of_fens(self, fens: Sequence[str]) -> List[Optional[int]]:
+        """The class of each of these FENs, read by the library; None for one of another form, with castling rights or a line feed, or
+        for which a table isn't open."""
+        text = "\n".join(["" if "\n" in fen else fen for fen in fens]).encode(errors="replace")
+        classes = (c_int8 * len(fens))()
+        library.szg_tablebase_wdl_of_fens(self._handle, text, len(text), classes, len(fens))
+        return [None if wdl == NO_RESULT else wdl for wdl in classes]
 
     def dtz(self, position: Position) -> int:
         distance = Distance()

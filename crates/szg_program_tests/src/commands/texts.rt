@@ -71,8 +71,17 @@ const QUIET: &str = "--quiet Report only files that are refused or can't be read
 const SUMS: &str =
     "--sums <LIST> Compare each file with its sum in LIST, as md5sum, sha1sum, sha256sum or sha512sum writes it; may be given several times";
 
+const MANIFEST: &str =
+    "--manifest <FILE> Write the SHA-256 sums of the files that pass to FILE, as sha256sum does, at the end of the run";
+
+const LOGS: &str =
+    "--resume <LOG> Leave out files that are good by their last record in LOG (a report in tsv or json), and have not changed since, unless --sums or --manifest is given; may be given several times";
+
+const SHARD: &str =
+    "--shard <K/N> Check only every N-th file, from the K-th on: runs with K from 1 to N share the files out";
+
 const REPORT: &str =
-    "--format <FORMAT> Format of the report: text is one line per file and a summary; tsv and json are one record per file: path, verdict, bytes, reason, offset (bytes), time (seconds) [default: text] [possible values: text, tsv, json]";
+    "--format <FORMAT> Format of the report: text is one line per file; tsv and json are one record per file: path, verdict, bytes, reason, offset (bytes), time (seconds), last change (nanoseconds from 1970); a summary follows [default: text] [possible values: text, tsv, json]";
 
 const HELP: &str = "-h, --help Print help";
 
@@ -85,12 +94,16 @@ struct Text<'a> {
 }
 
 const VERIFICATION: Text<'_> = Text {
-    usage: "<FOLDER> [NAME]...",
+    usage: "[OPTIONS] <FOLDER> [NAME]...",
     arguments: &[
         "<FOLDER> Folder of table files",
         "[NAME]... Materials to verify, such as KQvKR, with those that captures and promotions lead to [default: all of the folder]",
     ],
-    options: &[HELP],
+    options: &[
+        "--resume <LOG> Pass over materials that LOG, the output of earlier runs, has as verified with the same tables",
+        "--shard <K/N> Check only the K-th of N parts of the positions of NAME",
+        HELP,
+    ],
     end: "Example: szg verify tables KQvKR",
 };
 
@@ -115,7 +128,9 @@ static COMMANDS: [Command<'_>; 11] = [
         files: Text {
             usage: "[OPTIONS] <FILE>...",
             arguments: &[TABLES],
-            options: &[QUIET, SUMS, REPORT, TRAILING, NAMED, KINDED, HELP],
+            options: &[
+                QUIET, SUMS, MANIFEST, LOGS, SHARD, REPORT, TRAILING, NAMED, KINDED, HELP,
+            ],
             end: "Example: szg check *.rtbw *.rtbz Standard input: szg check KQvK wdl < KQvK.rtbw",
         },
     },

@@ -62,6 +62,7 @@ fn check_folder(
         &mut system,
         "t",
         asked,
+        None,
         &mut output,
         &mut ProgressLine::new(&errors, &clock, false),
     );

@@ -27,4 +27,9 @@ returns-in-Err-Number-clause-none g c =
 pub returns-in-Err-Kind-clause-none : goal.returns-in-Err-Kind-clause-none
 returns-in-Err-Kind-clause-none g c =
     let chosen : IsChosen c.in_ok-matches.matches c.in-Some.command.now (found_of c.in-Some.chosen.now) = record { named = sym c.in-Some.ensures.name; values = sym c.in-Some.ensures.rows } in
-    inr (inr (c.in_ok-matches.matches, c.in_ok-matches.ensures.found, inr (c.in-Some.command.now, found_of c.in-Some.chosen.now, chosen, inr (inr (rw (c.in-Err-Kind.field-0-is) at c.in-Err-Kind.ensures.none)))))
+    inr (inr (c.in_ok-matches.matches, c.in_ok-matches.ensures.found, inr (c.in-Some.command.now, found_of c.in-Some.chosen.now, chosen, inr (inr (inl (rw (c.in-Err-Kind.field-0-is) at c.in-Err-Kind.ensures.none))))))
+
+pub returns-in-Err-Shard-clause-none : goal.returns-in-Err-Shard-clause-none
+returns-in-Err-Shard-clause-none g c =
+    let chosen : IsChosen c.in_ok-matches.matches c.in-Some.command.now (found_of c.in-Some.chosen.now) = record { named = sym c.in-Some.ensures.name; values = sym c.in-Some.ensures.rows } in
+    inr (inr (c.in_ok-matches.matches, c.in_ok-matches.ensures.found, inr (c.in-Some.command.now, found_of c.in-Some.chosen.now, chosen, inr (inr (inr (rw (c.in-Err-Shard.field-0-is) at c.in-Err-Shard.ensures.none))))))

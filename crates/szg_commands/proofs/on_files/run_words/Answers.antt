@@ -1,26 +1,24 @@
-use Rattle.std.proofs.Common.{[], map, inl, inr, refl, rules, sym}
+use Rattle.std.proofs.Common.{map, inl, inr, None, refl, rules, sym}
 use Rattle.szg_named.specs.Verdicts.{plain_options}
-use Rattle.szg_commands.proofs.Endings.{EndsTask-then, check_ends_well, ends_well, listed_or, summed}
+use Rattle.szg_commands.proofs.Endings.{EndsTask-then, check_ends_well, checked_so, ends_well, if_ok_then, listed_or}
+use Rattle.szg_commands.specs.OnFiles.{asked_of, plain_check}
 use Rattle.szg_commands.proofs.Outcomes.{has_run_none}
 use Rattle.szg_commands.proofs.on_files.run_words.Goals as goal
 
 pub returns-in-Some-clause-ending : goal.returns-in-Some-clause-ending
 returns-in-Some-clause-ending g c = (
-  plain_options,
-  [],
-  map (λ path. path.now) c.in-Some.paths.now,
-  inl (sym c.in-Some.ensures, refl, refl),
+  plain_check (map (λ path. path.now) c.in-Some.paths.now),
+  inl (map (λ path. path.now) c.in-Some.paths.now, sym c.in-Some.ensures, refl),
   refl,
-  summed g.S.FileSystem.content g.S.FileSystem.failures g.S.File.Input g.W.Output c.args.system.now c.check_files.new.system c.args.writer.now c.check_files.new.writer
-      plain_options plain_options [] (map (λ path. path.now) c.in-Some.paths.now) c.check_files.result refl (search rules) (search rules),
+  checked_so _ c.check_files.result (if_ok_then c.check_files.result (λ report found. ((plain_options, (None, None, refl, refl, refl), found), refl)) c.check_files.ensures.found) c.check_files.ensures.device,
 )
 
 pub returns-in-Ok-Check-clause-ending : goal.returns-in-Ok-Check-clause-ending
 returns-in-Ok-Check-clause-ending g c =
     check_ends_well g.P.Finder.finds g.P.Finder.refuses g.S.FileSystem.content g.S.FileSystem.failures g.S.File.Input g.R.Input g.W.Output (map (λ word. word.now) c.args.words.now)
     c.args.system.now c.run_check.new.system c.args.reader.now c.args.reader.now c.args.writer.now c.run_check.new.writer c.run_check.result
-    c.in-Ok-Check.options c.deref.result.now (map (λ path. path.now) c.deref-in-Ok-Check.result.now)
-    (inr (c.in-Ok-Check.field-0, c.in-Ok-Check.ensures.queried, rw (c.in-Ok-Check.field-0-is) (refl, search rules, search rules)))
+    (asked_of c.in-Ok-Check.job)
+    (inr (c.in-Ok-Check.job, rw (c.in-Ok-Check.field-0-is) at c.in-Ok-Check.ensures.queried, refl))
     refl
     c.run_check.ensures
 

@@ -1,6 +1,8 @@
-use Rattle.std.proofs.Common.{◌≡◌, true, refl, rules, inl, inr, sym, ◌∙◌}
+use Rattle.std.proofs.Common.{◌≡◌, Bool, true, refl, rules, inl, inr, sym, ap, ◌∙◌, if◌then◌else◌}
 use Rattle.std.specs.Str.{bytes_eq}
 use Rattle.szg_named.specs.Verdicts.{is_table}
+use Rattle.szg_named.specs.declared.file_verdict.FileVerdict.TheVariants.{Sum}
+use Rattle.szg_named.specs.declared.file_verdict.SumFault.TheVariants.{Differs}
 use Rattle.szg_named.proofs.Hashing.{compared, on_err, on_ok}
 use Rattle.szg_named.proofs.one.check_hashed.Goals as goal
 
@@ -8,21 +10,13 @@ pub returns-then-is_err-clause-says : goal.returns-then-is_err-clause-says
 returns-then-is_err-clause-says g c =
     let table : is_table c.in_ok-found.found ≡ true = search rules in
     let failed = on_err c.read_on.result (sym c.is_err.ensures.value ∙ c.if-is_err.true) c.read_on.ensures.failed in
-    compared g.F.Input (λ m. bytes_eq (g.H.Hasher.sum_of m) c.args.due.now) c.args.material.now c.args.kind c.args.file c.new-hashed.result c.check_opened.new.file c.read_on.new.input c.in_ok-found.found _ c.new-hashed.ensures c.in_ok-found.ensures.says table
-    (inr (c.reason.result, refl, failed))
+    compared g.F.Input (λ m. bytes_eq (g.H.Hasher.sum_of m) c.args.due.now) c.args.material.now c.args.kind c.args.file _ c.new-hashed.result c.check_opened.new.file c.read_on.new.input c.in_ok-found.found _ c.new-hashed.ensures (search rules)
+    c.in_ok-found.ensures.says table (inr (c.reason.result, refl, failed))
 
-pub returns-then-is_met-clause-says : goal.returns-then-is_met-clause-says
-returns-then-is_met-clause-says g c =
+pub returns-clause-says : goal.returns-clause-says
+returns-clause-says g c =
     let table : is_table c.in_ok-found.found ≡ true = search rules in
     let end = on_ok c.read_on.result (sym c.is_err.ensures.value ∙ c.if-is_err.false) c.read_on.ensures.end in
-    let met = sym c.is_met.ensures ∙ c.if-is_met.true in
-    compared g.F.Input (λ m. bytes_eq (g.H.Hasher.sum_of m) c.args.due.now) c.args.material.now c.args.kind c.args.file c.new-hashed.result c.check_opened.new.file c.read_on.new.input c.in_ok-found.found _ c.new-hashed.ensures c.in_ok-found.ensures.says table
-    (inl (end, (c.read_on.ensures.rest.0, c.read_on.ensures.rest.1), rw met refl))
-
-pub returns-else-is_met-clause-says : goal.returns-else-is_met-clause-says
-returns-else-is_met-clause-says g c =
-    let table : is_table c.in_ok-found.found ≡ true = search rules in
-    let end = on_ok c.read_on.result (sym c.is_err.ensures.value ∙ c.if-is_err.false) c.read_on.ensures.end in
-    let other = sym c.is_met.ensures ∙ c.if-is_met.false in
-    compared g.F.Input (λ m. bytes_eq (g.H.Hasher.sum_of m) c.args.due.now) c.args.material.now c.args.kind c.args.file c.new-hashed.result c.check_opened.new.file c.read_on.new.input c.in_ok-found.found _ c.new-hashed.ensures c.in_ok-found.ensures.says table
-    (inl (end, (c.read_on.ensures.rest.0, c.read_on.ensures.rest.1), rw other refl))
+    compared g.F.Input (λ m. bytes_eq (g.H.Hasher.sum_of m) c.args.due.now) c.args.material.now c.args.kind c.args.file _ c.new-hashed.result c.check_opened.new.file c.read_on.new.input c.in_ok-found.found _ c.new-hashed.ensures (search rules)
+    c.in_ok-found.ensures.says table
+    (inl (end, (c.read_on.ensures.rest.0, c.read_on.ensures.rest.1), c.judged-verdict.ensures ∙ ap (λ (b : Bool). if b then c.in_ok-found.found else Sum Differs) c.compared-input.ensures.met))

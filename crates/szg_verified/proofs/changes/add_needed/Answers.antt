@@ -1,6 +1,4 @@
-use Rattle.std.proofs.Common.{List, Contains}
 use Rattle.std.proofs.lemmas.List.Sorted.{Contains-permutation}
-use Rattle.szg_values.specs.Material.{Sides}
 use Rattle.szg_verified.proofs.Materials.{on_ok}
 use Rattle.szg_verified.proofs.changes.add_needed.Goals as goal
 

@@ -1,46 +1,65 @@
-use Rattle.std.proofs.Common.{◌≡◌, List, sym, ap, ◌∙◌, subst, arith, inl, inr, All, Contains}
+use Rattle.std.proofs.Common.{List, sym, ap, ◌∙◌, subst, arith, inl, inr, Contains}
 use Rattle.std.proofs.lemmas.List.{take_all}
+use Rattle.std.proofs.lemmas.List.Elements.{Contains-append_left, Contains-append_right}
 use Rattle.szg_values.specs.Material.{Sides}
 use Rattle.szg_game.specs.Game.{is_empty}
 use Rattle.szg_verify.specs.Entries.{tables_of}
 use Rattle.szg_verify.specs.Materials.{are_closed}
-use Rattle.szg_verify.specs.Walk.{IsMaterialChecked}
 use Rattle.szg_tables.specs.Distances.{stored_distances}
 use Rattle.szg_tables.specs.Stored.{stored_classes}
-use Rattle.szg_verified.specs.Verified.{IsCaused, is_whole}
-use Rattle.szg_verified.proofs.Materials.{one_more, ok}
-use Rattle.szg_verified.proofs.Causes.{cause_of, caused_by, pushed, not_empty, whole_parts}
+use Rattle.szg_verified.specs.Verified.{IsCheckedIn, IsFinding, is_whole}
+use Rattle.szg_verified.specs.declared.verifying.Unverified.{Unverified}
+use Rattle.szg_verified.proofs.Materials.{one_more, single}
+use Rattle.szg_verified.proofs.Causes.{caused_by, failed_as, logged_by, pushed, not_empty, same_caused, verified_as, whole_parts}
 use Rattle.szg_verified.proofs.verifying.verify_materials.Goals as goal
-use Rattle.szg_verified.proofs.verifying.verify_materials.Goals.{in-Ok, in-Err+in_ok-push-in-Err}
+use Rattle.szg_verified.proofs.verifying.verify_materials.Goals.{in-Verified, in-Logged+in_ok-push-in-Logged, in-Failed+in_ok-push-in-Failed}
 
 pub materials-preserved : goal.materials-preserved
 materials-preserved g c =
     let tables = c.args.tables.now in
     let materials = c.args.materials.now in
     let before = c.materials.invariant in
+    let found = c.verify_material-found.result in
+    let item = c.material-item.result in
+    let is = subst (λ (us : List Unverified). IsFinding tables us c.args.log item found) c.deref.ensures.value c.verify_material-found.ensures in
     elim c.match-found.branch [
-      | in-Ok w ↦ (
-          let same = ap (λ z. z.items) w.unverified-is in
+      | in-Verified w ↦ (
+          let none_more = ap (λ z. z.items) w.unverified-is in
+          let none_logged = ap (λ z. z.items) w.logged-is in
           record {
-            checked = λ none sides held. elim (one_more materials c.materials.material-index c.material-item.result sides c.materials-test.true c.material-item.is held) [
-              | inl here ↦ subst (IsMaterialChecked (tables_of (stored_classes tables) (stored_distances tables))) here (c.in_ok-found.ensures.checked (ok c.in_ok-found.found _ w.in-Ok.is))
-              | inr earlier ↦ before.checked (sym (ap is_empty same) ∙ none) sides earlier
+            checked = λ none sides held. elim (one_more materials c.materials.material-index item sides c.materials-test.true c.material-item.is held) [
+              | inl here ↦ inl (subst (IsCheckedIn tables) here (verified_as tables _ c.args.log item found _ w.in-Verified.is is))
+              | inr earlier ↦ elim (before.checked (sym (ap is_empty none_more) ∙ none) sides earlier) [ inl done ↦ inl done | inr held ↦ inr (subst (λ (xs : List Sides). Contains xs sides) (sym none_logged) held) ]
             ];
-            caused = subst (All (IsCaused tables materials)) (sym same) before.caused;
+            caused = same_caused tables materials _ _ none_more before.caused;
+            unlogged = λ none. none_logged ∙ before.unlogged none;
           })
-      | in-Err+in_ok-push-in-Err w ↦ (
-          let more = ap (λ z. z.items) w.unverified-is ∙ w.in_ok-push-in-Err.ensures.items in
+      | in-Logged+in_ok-push-in-Logged w ↦ (
+          let none_more = ap (λ z. z.items) w.unverified-is in
+          let more = ap (λ z. z.items) w.logged-is ∙ w.in_ok-push-in-Logged.ensures.items in
+          record {
+            checked = λ none sides held. elim (one_more materials c.materials.material-index item sides c.materials-test.true c.material-item.is held) [
+              | inl here ↦ inr (subst (λ (xs : List Sides). Contains xs sides) (sym more) (Contains-append_right c.materials.logged.items _ sides (single _ sides (w.copy.ensures ∙ here))))
+              | inr earlier ↦ elim (before.checked (sym (ap is_empty none_more) ∙ none) sides earlier) [ inl done ↦ inl done | inr held ↦ inr (subst (λ (xs : List Sides). Contains xs sides) (sym more) (Contains-append_left c.materials.logged.items _ sides held)) ]
+            ];
+            caused = same_caused tables materials _ _ none_more before.caused;
+            unlogged = λ none. logged_by tables _ c.args.log item found _ w.in-Logged.is is none;
+          })
+      | in-Failed+in_ok-push-in-Failed w ↦ (
+          let more = ap (λ z. z.items) w.unverified-is ∙ w.in_ok-push-in-Failed.ensures.items in
+          let none_logged = ap (λ z. z.items) w.logged-is in
           record {
             checked = λ none. not_empty c.materials.unverified.items _ _ more none;
             caused = pushed tables materials c.materials.unverified.items _ _ more before.caused
-                (caused_by tables materials c.materials.material-index c.material-item.result w.copy.result w.in-Err.cause c.materials-test.true c.material-item.is w.copy.ensures
-                (cause_of tables c.material-item.result c.in_ok-found.found w.in-Err.cause w.in-Err.is c.in_ok-found.ensures.cause));
+                (caused_by tables materials _ c.materials.material-index item w.copy-in-Failed.result w.in-Failed.cause c.materials-test.true c.material-item.is w.copy-in-Failed.ensures
+                (failed_as tables _ c.args.log item found w.in-Failed.cause w.in-Failed.is is));
+            unlogged = λ none. none_logged ∙ before.unlogged none;
           })
     ]
 
 pub returns-clause-true_tables : goal.returns-clause-true_tables
-returns-clause-true_tables g c = λ t p position covered.
+returns-clause-true_tables g c = λ t logged p position covered.
     let whole = whole_parts (is_empty c.args.materials.now) (are_closed c.args.materials.now) (is_empty c.materials.unverified.items) (ap (is_whole c.args.materials.now) (sym c.deref-2.ensures.value) ∙ sym c.is_whole-is_all.ensures ∙ t) in
     c.verified_is_true.ensures (tables_of (stored_classes c.args.tables.now) (stored_distances c.args.tables.now)) c.args.materials.now p
     whole.0 c.stored_at_images.ensures.tables
-    (λ sides held. c.materials.invariant.checked whole.1 sides (subst (λ (xs : List Sides). Contains xs sides) (sym (take_all c.materials.material-index c.args.materials.now (omega arith))) held)) position covered
+    (λ sides held. elim (c.materials.invariant.checked whole.1 sides (subst (λ (xs : List Sides). Contains xs sides) (sym (take_all c.materials.material-index c.args.materials.now (omega arith))) held)) [ inl done ↦ done | inr taken ↦ logged sides taken ]) position covered

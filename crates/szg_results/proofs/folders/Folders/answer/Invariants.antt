@@ -1,9 +1,10 @@
 use Rattle.std.proofs.Common.{◌≡◌}
-use Rattle.szg_results.specs.Folders.{words_of}
+use Rattle.szg_results.specs.Folders.{AreFetched, words_of}
 use Rattle.szg_results.proofs.folders.Folders.answer.Given as goal
 
-abbrev pub invariant-tables : goal.invariant-tables
-invariant-tables g l = record {
+abbrev pub invariant-pieces : goal.invariant-pieces
+invariant-pieces g l = record {
   words : words_of l.self ≡ words_of l.initial.self;
   content : g.S.FileSystem.content l.system ≡ g.S.FileSystem.content l.initial.system;
+  fetched : AreFetched (g.S.FileSystem.content l.initial.system) l.initial.self.tables.items → AreFetched (g.S.FileSystem.content l.initial.system) l.self.tables.items;
 }

@@ -7,8 +7,8 @@ use Rattle.szg_probe.specs.declared.assessments.RankedMove.{RankedMove}
 use Rattle.szg_results.specs.Folders.{words_of}
 use Rattle.szg_results.specs.Objects.{IfFound, IsDtz}
 use Rattle.szg_results.specs.declared.objects.MoveAfter.{MoveAfter}
-use Rattle.szg_results.specs.declared.objects.OrTable.{OrTable}
-use Rattle.szg_results.proofs.After.{more_moves, same_dtz}
+use Rattle.szg_results.specs.declared.objects.OrPiece.{OrPiece}
+use Rattle.szg_results.proofs.After.{more_moves, piece_is, same_dtz}
 use Rattle.szg_results.proofs.folders.Folders.moves_after.Goals as goal
 
 pub after-requires : goal.after-requires
@@ -29,7 +29,7 @@ moves-preserved g c =
     let Legal = λ (r : RankedMove). Contains (legal_moves p) r.m in
     let legal : Legal c.ranked-item.result = subst Legal (sym c.ranked-item.is) (c.requires c.moves.ranked-index c.ranked-item.result c.moves-test.true) in
     let IsAfter = λ (t : MoveAfter). IsDtz files words tables (after p t.ranked.m) t.dtz in
-    let found = subst (λ (f : OrTable (Option ℤ)). IfFound f (λ (dtz : Option ℤ). IsDtz (g.S.FileSystem.content c.moves.system) words tables c.after.result dtz)) c.in-Found.is c.in_ok-dtz.ensures.dtz in
+    let found = subst (λ (f : OrPiece (Option ℤ)). IfFound f (λ (dtz : Option ℤ). IsDtz (g.S.FileSystem.content c.moves.system) words tables c.after.result dtz)) c.in-Found.is c.in_ok-dtz.ensures.dtz in
     let dtz : IsAfter s = same_dtz files (g.S.FileSystem.content c.moves.system) words tables (after p c.ranked-item.result.m) c.in-Found.dtz c.moves.invariant.content
     (subst (λ (q : Position). IsDtz (g.S.FileSystem.content c.moves.system) words tables q c.in-Found.dtz) c.after.ensures found) in
     record {
@@ -38,3 +38,7 @@ moves-preserved g c =
       legal = subst (All (λ (t : MoveAfter). Legal t.ranked)) (sym pushed) (All-push (λ (t : MoveAfter). Legal t.ranked) before s c.moves.invariant.legal legal);
       dtz = subst (All IsAfter) (sym pushed) (All-push IsAfter before s c.moves.invariant.dtz dtz);
     }
+
+pub returns-in-Read-clause-read : goal.returns-in-Read-clause-read
+returns-in-Read-clause-read g c =
+    piece_is {A = Option ℤ} (g.S.FileSystem.content c.args.system.now) (g.S.FileSystem.content c.moves.system) c.args.self.now.tables.items _ c.in-Read.piece c.moves.invariant.content c.in-Read.is c.in_ok-dtz.ensures.read

@@ -1,0 +1,69 @@
+//! The positions of texts.
+ghost use Rattle.std.specs.Prelude.{◌≡◌, MatchResult};
+ghost use Rattle.szg_c.specs.Fens.{IsRead, fen_result, square_code};
+
+use crate::men::{CodedMan, coded_men, color_code};
+use crate::status::{DONE, MAN};
+use crate::tablebase_calls::position_status;
+use szg_chess::{FenRecord, Position};
+use szg_values::{MAX_MEN, Square};
+
+/// A position and its fifty-move counter, as the calls on a tablebase take them.
+#[repr(C)]
+#[derive(Drop)]
+pub struct RawPosition {
+    /// The men are the first of these.
+    pub men: [CodedMan; MAX_MEN],
+    /// The side to move: White 0, Black 1.
+    pub mover: u8,
+    /// The square that a pawn has just passed over by a double step; 64 for none.
+    pub en_passant: u8,
+    /// The plies since the last capture or pawn's move.
+    pub counter: u32,
+    /// The number of men.
+    pub count: usize,
+}
+
+/// Parses a text in Forsyth-Edwards Notation, as `szg probe` does: the board, the side to move, `-` for castling, the en
+/// passant square or `-`, and, where more text follows, two counters, the first of which is the fifty-move counter. Without
+/// them it is 0.
+///
+/// Errors: `MEN`, `SAME_SQUARE`, `PAWN_RANK`, `EN_PASSANT` and `IN_CHECK` as for `szg_tablebase_wdl`; `MAN` for a text of
+/// another form. Then the position is unchanged.
+#[unsafe(no_mangle)]
+pub extern "C" fn szg_read_fen(text: &[u8], position: &mut RawPosition) -> u32
+    ensures read { MatchResult (fen_result text.now) (λ said. (result ≡ DONE) × IsRead said position.old position.new) (λ status. result ≡ status) }
+    ensures stays { (result ≡ DONE → ⊥) → position.new ≡ position.old }
+{
+    let Ok(fen) = str::from_utf8(text) else {
+        return MAN;
+    };
+    match Position::parse_fen(fen) {
+        Ok(said) => write_position(&said, position),
+        Err(fault) => position_status(fault),
+    }
+}
+
+/// Writes a position and its counter; returns `DONE`.
+fn write_position(said: &FenRecord, position: &mut RawPosition) -> u32
+    ensures done { result ≡ DONE }
+    ensures read { IsRead said.now position.old position.new }
+{
+    let placed = said.position.men();
+    let coded = coded_men(placed);
+    position.men[..placed.len()].copy_from_slice(&coded);
+    position.count = placed.len();
+    position.mover = color_code(said.position.mover());
+    position.en_passant = square_code(said.position.en_passant());
+    position.counter = said.halfmove;
+    DONE
+}
+
+fn square_code(square: Option<Square>) -> u8
+    ensures { result ≡ square_code square }
+{
+    match square {
+        Some(square) => square.number(),
+        None => 64,
+    }
+}

@@ -1,0 +1,18 @@
+use Rattle.std.proofs.Common.{List}
+use Rattle.szg_game.specs.declared.Class.{Class}
+use Rattle.szg_game.specs.declared.Class.TheVariants.{Draw}
+use Rattle.szg_tables.specs.Fetched.{fetched_classes, fetched_numbers}
+use Rattle.szg_tables.specs.declared.fetched.FetchedTable.{FetchedTable}
+use Rattle.szg_results.proofs.Noted.{known, no_class, unknown}
+use Rattle.szg_results.proofs.wanted.NotingTables.class.Goals as goal
+
+pub returns-in-Ok-clause-class : goal.returns-in-Ok-clause-class
+returns-in-Ok-clause-class c =
+    known {A = Class} (λ (ts : List FetchedTable). fetched_classes ts c.args.position.now.placed_men c.args.position.now.mover) Draw c.new-set.result.tables.now c.args.self.now.tables.now c.new-set.ensures
+    c.in-Ok.class c.in-Ok.ensures.class
+
+pub returns-in-Ok-note-clause-class : goal.returns-in-Ok-note-clause-class
+returns-in-Ok-note-clause-class c =
+    let men = c.args.position.now.placed_men in let mover = c.args.position.now.mover in
+    unknown {A = Class} (λ (ts : List FetchedTable). fetched_classes ts men mover) Draw c.new-set.result.tables.now c.args.self.now.tables.now c.new-set.ensures
+    (no_class (fetched_classes c.new-set.result.tables.now) (fetched_numbers c.new-set.result.tables.now) c.in-Err.missing men mover c.in-Wdl.is c.in-Err.ensures.fault)
