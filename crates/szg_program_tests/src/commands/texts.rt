@@ -334,17 +334,25 @@ fn check_help(
     Ok(())
 }
 
-#[test]
-fn help_of_commands(rt: HostRuntime) -> Result<(), Fail> {
-    for command in &COMMANDS {
-        check_help(&rt, command, "", &command.files)?;
-        check_help(&rt, command, " KQvK.rtbw", &command.files)?;
+/// The help of each of these commands, asked in three ways.
+fn check_commands(
+    rt: &(impl Abort + Alloc<A = Global> + Files + Clock),
+    commands: &[Command<'_>],
+) -> Result<(), Fail> {
+    for command in commands {
+        check_help(rt, command, "", &command.files)?;
+        check_help(rt, command, " KQvK.rtbw", &command.files)?;
         let words = if command.name == "build" {
             " --rounds 1"
         } else {
             " KQvK wdl"
         };
-        check_help(&rt, command, words, &command.streams)?;
+        check_help(rt, command, words, &command.streams)?;
     }
     Ok(())
+}
+
+#[test]
+fn help_of_commands(rt: HostRuntime) -> Result<(), Fail> {
+    check_commands(&rt, &COMMANDS)
 }
