@@ -115,7 +115,8 @@ struct Command<'a> {
     files: Text<'a>,
 }
 
-static COMMANDS: [Command<'_>; 11] = [
+/// The commands that read a table file.
+static READERS: [Command<'_>; 4] = [
     Command {
         name: "check",
         about: "Check a table file, and print ok and its length in bytes",
@@ -182,6 +183,10 @@ static COMMANDS: [Command<'_>; 11] = [
             end: "Example: szg values KPvK.rtbw --part c Standard input: szg values KPvK wdl --part c < KPvK.rtbw",
         },
     },
+];
+
+/// The commands that write a file.
+static WRITERS: [Command<'_>; 3] = [
     Command {
         name: "copy",
         about: "Check a table file, and write it without any bytes that follow it",
@@ -230,6 +235,10 @@ static COMMANDS: [Command<'_>; 11] = [
             end: "Example: szg build KQvK.txt -o KQvK.rtbw Standard input: szg build --block 8 < KQvK.txt > KQvK.rtbw",
         },
     },
+];
+
+/// The commands on positions.
+static PROBERS: [Command<'_>; 4] = [
     Command {
         name: "index",
         about: "Print the part, side and index of a placement",
@@ -353,6 +362,16 @@ fn check_commands(
 }
 
 #[test]
-fn help_of_commands(rt: HostRuntime) -> Result<(), Fail> {
-    check_commands(&rt, &COMMANDS)
+fn help_of_readers(rt: HostRuntime) -> Result<(), Fail> {
+    check_commands(&rt, &READERS)
+}
+
+#[test]
+fn help_of_writers(rt: HostRuntime) -> Result<(), Fail> {
+    check_commands(&rt, &WRITERS)
+}
+
+#[test]
+fn help_of_probers(rt: HostRuntime) -> Result<(), Fail> {
+    check_commands(&rt, &PROBERS)
 }
