@@ -1,9 +1,6 @@
-/* Builds tables of lists of values by szg_build. The kinds of lists are skewed with runs, as distances are; uniform; and
- * nearly constant.
- *
- * build list KIND SIZE         writes a list of SIZE values of the kind, each in two bytes
- * build LIST ROUNDS            builds a table of the list in the file LIST; prints the seconds, the peak of memory in
- *                              MB, and the bytes of the table's file */
+/* Builds a table of a list of SIZE values by szg_build: build KIND SIZE ROUNDS
+ * KIND is skewed (with runs, as distances are), uniform or constant (nearly so). Prints the seconds, the peak of memory in MB,
+ * and the bytes of the table's file. */
 #include "bench.h"
 #include <sys/resource.h>
 
@@ -55,20 +52,9 @@ static void fill_nearly_constant(uint16_t *values, size_t size) {
     for (size_t i = 0; i < size; i++) values[i] = below(100) == 0 ? below(20) : 5;
 }
 
-typedef void fill(uint16_t *values, size_t size);
-
-/* skewed with runs; uniform; nearly constant */
-static fill *const KINDS[] = {fill_skewed, fill_uniform, fill_nearly_constant};
-
-/* builds one table; stops the program where it isn't built */
-static uint64_t build(const struct form *form, const uint16_t *values, uint32_t rounds) {
-    struct packing packing = {rounds, 6, 12};
-    uint64_t length = 0;
-    uint32_t status = szg_bench_build((const uint8_t *)form->name, strlen(form->name), form->men, form->count, values,
-                                      form->size, &packing, &length);
-    if (status) fail("the table isn't built");
-    return length;
-}
+static const struct { const char *name; void (*fill)(uint16_t *values, size_t size); } KINDS[] = {
+    {"skewed", fill_skewed}, {"uniform", fill_uniform}, {"constant", fill_nearly_constant},
+};
 
 static const struct form *form_of(size_t size) {
     for (size_t f = 0; f < sizeof FORMS / sizeof *FORMS; f++)
@@ -77,27 +63,22 @@ static const struct form *form_of(size_t size) {
     return NULL;
 }
 
-static void time_build(const char *list, uint32_t rounds) {
-    size_t count;
-    uint8_t *values = bytes_of(list, &count);
-    const struct form *form = form_of(count / 2);
+int main(int argc, char **argv) {
+    if (argc != 4) return 2;
+    const struct form *form = form_of(strtoull(argv[2], NULL, 10));
+    uint16_t *values = malloc(form->size * sizeof *values);
+    if (!values) fail("no memory");
+    for (size_t k = 0; k < sizeof KINDS / sizeof *KINDS; k++)
+        if (!strcmp(argv[1], KINDS[k].name)) KINDS[k].fill(values, form->size);
+    struct packing packing = {(uint32_t)strtoul(argv[3], NULL, 10), 6, 12};
+    uint64_t length = 0;
     double begun = now();
-    uint64_t length = build(form, (const uint16_t *)values, rounds);
+    if (szg_bench_build((const uint8_t *)form->name, strlen(form->name), form->men, form->count, values, form->size, &packing, &length))
+        fail("the table isn't built");
     double seconds = now() - begun;
     struct rusage usage;
     getrusage(RUSAGE_SELF, &usage);
     printf("%.3f %ld %" PRIu64 "\n", seconds, usage.ru_maxrss / 1024, length);
-}
-
-static void write_list(fill *kind, size_t size) {
-    uint16_t *values = malloc(size * sizeof *values);
-    if (!values) exit(4);
-    kind(values, size);
-    fwrite(values, sizeof *values, size, stdout);
-}
-
-int main(int argc, char **argv) {
-    if (argc == 4 && !strcmp(argv[1], "list")) write_list(KINDS[(size_t)atoi(argv[2]) % 3], strtoull(argv[3], NULL, 10));
-    if (argc == 3) time_build(argv[1], (uint32_t)strtoul(argv[2], NULL, 10));
+    free(values);
     return 0;
 }

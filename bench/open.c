@@ -1,5 +1,5 @@
 /* Opens a large table once, as one way does it, and probes it once; prints the wall and processor time of both together and
- * what stays on the heap: open FOLDER front|checked|fathom. The table is that of open_table.py. */
+ * what stays on the heap: open FOLDER front|checked|fathom. The table is that of tables.py. */
 #include "bench.h"
 #include "szg.h"
 #ifdef FATHOM

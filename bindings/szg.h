@@ -327,8 +327,10 @@ void szg_close_front(szg_front *front);
  * a result is what the blocks of the added files spell for the position and for those that it leads to.
  *
  * szg_tablebase_add reads and checks all of a file but its blocks, and keeps what it read (about 6 percent of the file). A
- * probe verifies each block that it reads, takes no memory and no lock. Threads that share tables use a szg_tablebase each,
- * made by szg_share_tablebase. szg_folders, below, finds and maps the files too. */
+ * probe verifies a block when the szg_tablebase first reads it, and keeps a bit for each block of a part and side of a table
+ * that it reads (if memory is refused, it verifies blocks again). It takes no lock. If a file's bytes change, results may be
+ * wrong, and nothing worse. Threads that share tables use a szg_tablebase each, made by szg_share_tablebase. szg_folders,
+ * below, finds and maps the files too. */
 
 /* Tables that were added. Initialise it with SZG_NO_TABLEBASE, let only the calls change it, and pass it to one call at a time.
  * What szg_table says of copies and of cache lines holds here, too. */

@@ -2,12 +2,13 @@
 count of what was compared. With --help a script prints the text that it begins with."""
 import argparse
 import os
+import re
 import shutil
 import stat
 import subprocess
 import sys
 from pathlib import Path
-from typing import Any, BinaryIO, Dict, Iterable, List, Union
+from typing import Any, BinaryIO, Callable, Dict, Iterable, List, Union
 
 import __main__
 
@@ -82,6 +83,18 @@ def run(data: bytes, *words: Word) -> "tuple[int, bytes]":
     return ran.returncode, ran.stdout
 
 
+def write(path: Word, data: bytes) -> None:
+    """Writes a file, and the folders above it."""
+    os.makedirs(os.path.dirname(path), exist_ok=True)
+    with open(path, "wb") as file:
+        file.write(data)
+
+
+def unescaped(text: bytes) -> bytes:
+    """A text in which \\x and two digits stand for a byte."""
+    return re.sub(rb"\\x([0-9a-f]{2})", lambda found: bytes([int(found[1], 16)]), text)
+
+
 def full_device() -> BinaryIO:
     """The device that takes no byte, open for writing; never a file of its name, which a careless writer may have left."""
     device = os.open("/dev/full", os.O_WRONLY)
@@ -115,6 +128,16 @@ class Checks:
         self.count += 1
         if found != due:
             self.fault(f"{what}: {shortened(found)}, not {shortened(due)}")
+
+    def same_texts(self, path: Path, part: str, run: Callable[..., Any]) -> None:
+        """Compares runs with a part of a file, which `== NAME` begins. A paragraph has the status and the words of a run, escaped, and
+        then its standard output; ! begins a line of standard error."""
+        texts = dict(text.split("\n\n", 1) for text in path.read_text(encoding="utf-8").split("== ")[1:])
+        for paragraph in texts[part].rstrip("\n").split("\n\n"):
+            head, _, text = f"{paragraph}\n".partition("\n")
+            status, *words = head.split(" ")
+            out, errors = re.sub(r"^! .*\n", "", text, flags=re.M), "".join(re.findall(r"^! (.*\n)", text, re.M))
+            self.same(head, run(*(unescaped(word.encode()).decode() for word in words)), (int(status), out.encode(), errors.encode()))
 
     def fault(self, text: object) -> None:
         self.faults += 1

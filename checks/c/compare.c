@@ -1,5 +1,7 @@
-/* Compares the library with the reader of table_reader.h, as compare.h says. */
-#include "compare.h"
+/* The comparison of the library with the reader of table_reader.h: a case is a file. Compared are its verdict, reason and
+ * offset, and if it is accepted its sizes, values, byte ranges, numbers, indexes and placements. Of half of the cases the front is
+ * opened too, and its look-ups are compared with blocks as they are and with changed bytes: the value, or the bad block.
+ * cases.c and guided.c include it. */
 #include "made_tables.h"
 #include <stdio.h>
 #include <stdlib.h>
@@ -11,7 +13,7 @@ static struct {
     uint64_t cases, ended[REASONS], differences, values, blocks, fetched, bad, placements, indexes, inverses, numbers;
 } counts;
 
-/* The case that is compared now. */
+/* The case that is compared now. One with a difference is written into `folder`, unless that is NULL; `seed` is for its name. */
 static struct {
     const char *name, *folder;
     bool dtz;
@@ -21,7 +23,7 @@ static struct {
     bool differs;
 } now;
 
-void keep_case(void) {
+static void keep_case(void) {
     char path[4096];
     if (!now.folder) return;
     snprintf(path, sizeof path, "%s/seed%llu_case%llu_%s.%s", now.folder, (unsigned long long)now.seed, (unsigned long long)now.number,
@@ -406,7 +408,8 @@ static void compare_front(const reader_material *material) {
 
 /* ---- Cases */
 
-bool compare(const char *name, bool dtz, const uint8_t *bytes, size_t length) {
+/* Compares a case; what is asked of an accepted table follows from the state of made_tables.h. Returns whether all is equal. */
+static bool compare(const char *name, bool dtz, const uint8_t *bytes, size_t length) {
     reader_material material;
     reader_table t;
     now.name = name, now.dtz = dtz, now.bytes = bytes, now.length = length, now.differs = false;
@@ -427,14 +430,7 @@ bool compare(const char *name, bool dtz, const uint8_t *bytes, size_t length) {
     return !now.differs;
 }
 
-void compare_begin(const char *folder, uint64_t seed) {
-    now.folder = folder;
-    now.seed = seed;
-}
-
-uint64_t compared_cases(void) { return counts.cases; }
-uint64_t compared_differences(void) { return counts.differences; }
-
+/* Prints the counts. Returns 1 if there is a difference, or if a reason never came; else 0. */
 int compare_report(void) {
     int missing = 0;
     for (uint32_t reason = 0; reason < REASONS; reason++) {

@@ -29,7 +29,7 @@ static void print_ranked(int status) {
     struct ranked_move list[TB_MAX_MOVES];
     for (unsigned i = 0; status && i < ranked.size; i++) {
         const struct TbRootMove *m = &ranked.moves[i];
-        list[i] = (struct ranked_move){(unsigned)(TB_MOVE_FROM(m->move) << 9 | TB_MOVE_TO(m->move) << 3 | TB_MOVE_PROMOTES(m->move)), m->tbRank, m->tbScore};
+        list[i] = (struct ranked_move){(unsigned)(TB_MOVE_FROM(m->move) << 9 | TB_MOVE_TO(m->move) << 3 | TB_MOVE_PROMOTES(m->move) | m->pvSize << 20), m->tbRank, m->tbScore};
     }
     printf("\t%d", status);
     print_all(list, status ? ranked.size : 0);
@@ -68,9 +68,11 @@ static void probe(const char *fen, const struct question *q) {
     printf("\t%d", flags);
     print_ranked(tb_probe_root_dtz(c[0], c[1], k[5], k[4], k[3], k[2], k[1], k[0], counter, 0, ep, !q->mover, is_repeated, is_counted, &ranked));
     print_ranked(tb_probe_root_wdl(c[0], c[1], k[5], k[4], k[3], k[2], k[1], k[0], counter, 0, ep, !q->mover, is_counted, &ranked));
-    printf("\t%x %x %x\n", tb_probe_wdl(c[0], c[1], k[5], k[4], k[3], k[2], k[1], k[0], 1, 0, ep, !q->mover),
+    printf("\t%x %x %x %d %d\n", tb_probe_wdl(c[0], c[1], k[5], k[4], k[3], k[2], k[1], k[0], counter + 1, 0, ep, !q->mover),
            tb_probe_wdl(c[0], c[1], k[5], k[4], k[3], k[2], k[1], k[0], 0, TB_CASTLING_K, ep, !q->mover),
-           tb_probe_root(c[0], c[1], k[5], k[4], k[3], k[2], k[1], k[0], 0, TB_CASTLING_q, ep, !q->mover, NULL));
+           tb_probe_root(c[0], c[1], k[5], k[4], k[3], k[2], k[1], k[0], 0, TB_CASTLING_q, ep, !q->mover, NULL),
+           tb_probe_root_dtz(c[0], c[1], k[5], k[4], k[3], k[2], k[1], k[0], 0, TB_CASTLING_k, ep, !q->mover, false, false, &ranked),
+           tb_probe_root_wdl(c[0], c[1], k[5], k[4], k[3], k[2], k[1], k[0], 0, TB_CASTLING_Q, ep, !q->mover, false, &ranked));
 }
 
 int main(int count, char **words) {

@@ -3,14 +3,10 @@
  * Fathom's interface must return it. A folder that is missing, one that is a file, and no table are refused; a pipe or a folder with
  * a table's name is passed over. The status is 0 if all is so. */
 #define _GNU_SOURCE
-#include "szg.h"
+#include "trying.h"
 #include "tbprobe.h"
 #include <errno.h>
-#include <inttypes.h>
 #include <pthread.h>
-#include <stdio.h>
-#include <stdlib.h>
-#include <string.h>
 #include <sys/stat.h>
 #include <unistd.h>
 
@@ -18,11 +14,6 @@ enum { THREADS = 4 };
 static int positions = 20000;
 static szg_folders *folders;
 static uint64_t found[THREADS];
-static int failed;
-
-static void want(const char *what, int64_t got, int64_t wanted) {
-    if (got != wanted) printf("folders: %s: %" PRId64 ", not %" PRId64 "\n", what, got, wanted), failed = 1;
-}
 
 /* The class by Fathom's interface. */
 static int class_by_fathom(const szg_man *men, uint8_t mover) {
@@ -78,9 +69,11 @@ static void refused(const char *paths, uint32_t due, int due_errno) {
 
 int main(int count, char **words) {
     pthread_t threads[THREADS];
+    pthread_attr_t small;
     char paths[4096];
     if (count != 2 && count != 3) return fprintf(stderr, "folders FOLDER [POSITIONS]\n"), 2;
     if (count == 3) positions = atoi(words[2]);
+    file = "folders";
     /* what is no regular file hides no table of a later folder */
     char made[] = "/tmp/szg_folders_XXXXXX", file_path[64], folder_path[64];
     if (mkdtemp(made) == NULL) return perror(made), 2;
@@ -88,10 +81,22 @@ int main(int count, char **words) {
     snprintf(folder_path, sizeof folder_path, "%s/KQvK.rtbz", made);
     if (mkfifo(file_path, 0600) != 0 || mkdir(folder_path, 0700) != 0) return perror(made), 2;
     refused(made, SZG_MISSING, ENOENT);
+    /* none of these is the name of a WDL table of three to six men, and a path or none may be given often */
+    static const char *const others[] = {"KQRBNPvK.rtbw", "KQRBvK.rtbz", "KQRBvK.rtbw.old", "KQRBxK.rtbw", "KQRBvQ.rtbw"};
+    for (size_t i = 0; i < sizeof others / sizeof *others; i++) {
+        snprintf(paths, sizeof paths, "%s/%s", made, others[i]);
+        if (mkdir(paths, 0700) != 0) return perror(paths), 2;
+    }
+    for (int i = 0; i < 3000; i++) want("no tables", tb_init(i % 2 ? "" : "/nowhere") && TB_LARGEST == 0, true);
     snprintf(paths, sizeof paths, "/nowhere:%s:%s", made, words[1]);
     want("open", szg_open_folders(paths, &folders), SZG_DONE);
     want("by Fathom's interface", tb_init(paths) && TB_LARGEST == 3, true);
-    for (int i = 0; i < THREADS; i++) pthread_create(&threads[i], NULL, run, &found[i]);
+    pthread_attr_init(&small);
+#ifndef __SANITIZE_THREAD__
+    /* a call on folders uses less than 56 KB */
+    pthread_attr_setstacksize(&small, 64 << 10);
+#endif
+    for (int i = 0; i < THREADS; i++) pthread_create(&threads[i], &small, run, &found[i]);
     for (int i = 0; i < THREADS; i++) {
         void *why;
         pthread_join(threads[i], &why);
@@ -108,8 +113,12 @@ int main(int count, char **words) {
         FILE *file = fopen(file_path, "w");
         if (file == NULL || fwrite("\x71\xe8", 1, (size_t)bytes, file) != (size_t)bytes || fclose(file) != 0) return perror(file_path), 2;
         refused(made, SZG_REFUSED, bytes);
+        /* the first folder that has the file counts */
+        snprintf(paths, sizeof paths, "%s:%s", made, words[1]);
+        refused(paths, SZG_REFUSED, bytes);
     }
-    unlink(file_path), rmdir(folder_path), rmdir(made);
-    if (!failed) puts("folders: as expected");
-    return failed;
+    unlink(file_path), rmdir(folder_path);
+    for (size_t i = 0; i < sizeof others / sizeof *others; i++) snprintf(paths, sizeof paths, "%s/%s", made, others[i]), rmdir(paths);
+    rmdir(made);
+    return ended();
 }

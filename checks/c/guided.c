@@ -1,7 +1,5 @@
 /* The same comparison, with files that libFuzzer chooses by what the reader runs through. */
-#include "compare.h"
-#include "made_tables.h"
-#include <stdlib.h>
+#include "compare.c"
 
 int LLVMFuzzerTestOneInput(const uint8_t *input, size_t length);
 size_t LLVMFuzzerCustomMutator(uint8_t *input, size_t length, size_t most, unsigned seed);

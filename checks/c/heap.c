@@ -33,6 +33,8 @@ static size_t last_mapped;
 enum target { KEPT, UNMAPPED, TAKEN, UNREADABLE };
 static enum target target_of_refused;
 static void *advised_at, *foreign;
+/* The number of the next cut of a mapping that the kernel refuses; 0 for none. */
+static int refused_cut;
 static size_t advised;
 
 static void expect(bool is_so, const char *what) {
@@ -65,9 +67,10 @@ void __wrap_free(void *block) {
 void *__wrap_mmap(void *at, size_t length, int protection, int flags, int file, off_t offset) {
     if (at != NULL) {
         expect(flags == (MAP_PRIVATE | MAP_ANONYMOUS | MAP_FIXED_NOREPLACE) && file == -1, "another mapping is requested at an address");
-        void *found = __real_mmap(at, length, protection, flags, file, offset);
+        /* an older kernel maps elsewhere what has no room at the address */
+        void *found = __real_mmap(at, length, protection, flags & ~(target_of_refused == TAKEN ? MAP_FIXED_NOREPLACE : 0), file, offset);
         expect((found == at) == (target_of_refused == UNMAPPED), "the target of a refused remapping is taken for another one");
-        mapped += found == at ? (int64_t)length : 0;
+        mapped += found != MAP_FAILED ? (int64_t)length : 0;
         return found;
     }
     expect(at == NULL && protection == (PROT_READ | PROT_WRITE) && flags == (MAP_PRIVATE | MAP_ANONYMOUS) && file == -1 && offset == 0, "another mapping is requested");
@@ -84,6 +87,7 @@ void *__wrap_mmap(void *at, size_t length, int protection, int flags, int file, 
 int __wrap_munmap(void *at, size_t length) {
     unsigned char resident;
     expect((uintptr_t)at % 4096 == 0 && length % 4096 == 0 && mincore(at, 4096, &resident) == 0, "what is unmapped was not mapped");
+    if (refused_cut > 0 && --refused_cut == 0) return -1;
     mapped -= (int64_t)length;
     return __real_munmap(at, length);
 }
@@ -228,10 +232,28 @@ static void copy_where_moving_is_refused(void) {
         until_refusal = INT64_MAX;
         expect(got.ok == (target_of_refused == KEPT || target_of_refused == UNMAPPED), "a block is copied, or refused, at the wrong time");
         expect_foreign();
+        expect(!got.ok || (advised_at == got.block && advised == 12 * MB), "no huge pages are requested for a copied block");
         expect_bytes(got.ok ? got.block : block.block, 5 * MB, 5 * MB, 3);
         expect(mapped == (got.ok ? 12 : 6) * (int64_t)MB + 4096, "more or fewer bytes are mapped than a copied block needs");
         rattle_dealloc(got.ok ? got.block : block.block);
     }
+}
+
+/* What the kernel doesn't cut out of a new mapping is returned with it; what it doesn't cut off a block stays the block's. */
+static void keep_what_is_not_cut(void) {
+    int refused = 0;
+    for (int i = 0; i < 12; i++) {
+        refused_cut = i % 3;
+        struct tried got = rattle_alloc(11 * MB, 16);
+        refused += !got.ok;
+        expect(mapped == (got.ok ? 12 * MB + 4096 : 0), "what was not cut stays mapped");
+        if (!got.ok) continue;
+        refused_cut = 1;
+        expect(rattle_realloc(got.block, 5 * MB, 5 * MB, 16).block == got.block && mapped == 12 * MB + 4096, "a block that is not cut moves");
+        rattle_dealloc(got.block);
+        expect(mapped == 0, "what was not cut off is forgotten");
+    }
+    expect(refused > 1, "few cuts were refused");
 }
 
 /* The bytes of this process's addresses. */
@@ -286,6 +308,7 @@ int main(void) {
             rattle_dealloc(held[i].block);
         }
     copy_where_moving_is_refused();
+    keep_what_is_not_cut();
     grow_near_limit();
     expect(at_boundary > 100, "malloc returned few blocks at multiples of 2 MB");
     expect(plain == 0 && mapped == 0, "memory was not returned");

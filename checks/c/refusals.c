@@ -3,10 +3,37 @@
  * A call without its memory returns SZG_MEMORY or does without, leaves its handle closed, and keeps none. Linked with malloc,
  * realloc and free wrapped. The status is 0 if all is so. */
 #include "trying.h"
-#include "refusing.h"
 
 enum { SIZE = 31332 };
 #define OF_NO_MATERIAL "KvKQ", 4, dtz, bytes, length
+
+/* ---- Growths of memory that are refused */
+
+/* How many growths are granted before one is refused, or -1; how many blocks are held. */
+static long allowed = -1, held;
+
+void *__real_malloc(size_t size);
+void *__real_realloc(void *block, size_t size);
+void __real_free(void *block);
+
+static bool refuses(void) { return allowed >= 0 && allowed-- == 0; }
+
+void *__wrap_malloc(size_t size) {
+    void *block = refuses() ? NULL : __real_malloc(size);
+    held += block != NULL;
+    return block;
+}
+
+void *__wrap_realloc(void *block, size_t size) {
+    void *moved = refuses() ? NULL : __real_realloc(block, size);
+    held += moved && !block;
+    return moved;
+}
+
+void __wrap_free(void *block) {
+    held -= block != NULL;
+    __real_free(block);
+}
 
 static szg_table second = SZG_NO_TABLE;
 static szg_front second_front = SZG_NO_FRONT;

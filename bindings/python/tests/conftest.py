@@ -2,7 +2,7 @@
 import shutil
 import sys
 from pathlib import Path
-from typing import Callable, Iterator, NamedTuple, Tuple
+from typing import Callable, Iterator, NamedTuple, Tuple, Type
 
 import pytest
 import szg
@@ -78,6 +78,12 @@ def other(tmp_path: Path) -> Path:
     return folder
 
 
+def says(error: Type[BaseException], text: str, call: Callable[..., object], *words: object, **more: object) -> None:
+    """A call raises an error whose text has a pattern in it."""
+    with pytest.raises(error, match=text):
+        call(*words, **more)
+
+
 def untold(call: Callable[..., object], *words: object, **more: object) -> str:
     """The reason for which a call has no entry."""
     with pytest.raises(szg.Untold) as caught:
@@ -95,6 +101,5 @@ def refused(call: Callable[..., object], *words: object) -> Tuple[int, str]:
 
 def is_closed(call: Callable[..., object], *words: object) -> bool:
     """Whether a call says that its table is closed."""
-    with pytest.raises(ValueError, match="^the table(base)? is closed$"):
-        call(*words)
+    says(ValueError, "^the table(base)? is closed$", call, *words)
     return True

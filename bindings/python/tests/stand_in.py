@@ -40,9 +40,7 @@ class Board:
         return {file + 8 * rank: Piece(" pnbrqk".index(letter.lower()), letter.isupper()) for (file, rank), letter in self.now.men.items()}
 
     def fen(self) -> str:
-        ranks = ["".join(self.now.men.get((file, rank), "1") for file in range(8)) for rank in range(7, -1, -1)]
-        passed = "-" if self.now.passed is None else chess_rules.name_of(self.now.passed)
-        return f"{'/'.join(ranks)} {self.now.mover} - {passed} {self.halfmove_clock} 1"
+        return f"{self.now.fen()} {self.halfmove_clock} 1"
 
     def is_pawn_move(self, move: Move) -> bool:
         return self.now.men[move[0]].lower() == "p"

@@ -10,7 +10,7 @@ from pathlib import Path
 
 import pytest
 import szg
-from conftest import ROOT, UNPAIRED
+from conftest import ROOT, UNPAIRED, says
 from szg import _library, _placement, _version
 
 HEADER = (ROOT / "bindings/szg.h").read_text(encoding="utf-8")
@@ -98,8 +98,7 @@ def test_the_version_is_the_librarys(monkeypatch: pytest.MonkeyPatch) -> None:
     for fine in (szg.__version__, f"{major}.{minor}.{patch + 3}"):
         assert _library.require_version(fine) == fine
     for other in (f"{major}.{minor + 1}.{patch}", f"{major + 1}.{minor}.{patch}", f"{major}.1{minor}.{patch}", ""):
-        with pytest.raises(ImportError, match=f"has the version {other}, and szg {szg.__version__} needs its own$"):
-            _library.require_version(other)
+        says(ImportError, f"has the version {other}, and szg {szg.__version__} needs its own$", _library.require_version, other)
 
 
 def test_calls_with_a_tablebase_keep_the_interpreters_lock() -> None:
@@ -111,8 +110,7 @@ def test_calls_with_a_tablebase_keep_the_interpreters_lock() -> None:
 def test_a_library_that_lacks_a_call_is_an_import_error(monkeypatch: pytest.MonkeyPatch) -> None:
     # the system's C library has none of the calls
     monkeypatch.setenv("SZG_LIBRARY", "libc.so.6")
-    with pytest.raises(ImportError, match=f"^libc.so.6 has no szg_version: szg {szg.__version__} needs another library$"):
-        _library._load()
+    says(ImportError, f"^libc.so.6 has no szg_version: szg {szg.__version__} needs another library$", _library._load)
 
 
 UNTOLD = ("Man Men SameSquare PawnRank OtherMaterial Irregular KingsTouch WrongSide NoClass Draw OutsideMap EnPassant InCheck "
@@ -128,7 +126,7 @@ FAULTS = {
 def test_each_status_of_a_call_is_an_exception(status: int) -> None:
     fault, said = FAULTS.get(_library.status_text(status), (RuntimeError, f"the library returned the status {status}"))
     with szg.Table("KQvK", "wdl", UNPAIRED.data) as table:
-        front = table._opened._front
+        front = table._front
         for call in (front, front.fetch) if status != _library.BAD_BLOCK else (front.fetch,):
             with pytest.raises(fault) as caught:
                 call(lambda *_: status)
@@ -183,7 +181,7 @@ def test_closing_lets_the_librarys_handles_go(queen_file: Path, monkeypatch: pyt
         for way in ("closed", "dropped", "closed while it serves", "closed by an exception", "shared by two calls"):
             table = szg.Table.open(queen_file)
             table.get(0), table.size()
-            front = table._opened._front
+            front = table._front
             assert len(open_handles) == 2
             if way == "closed":
                 table.close()
@@ -211,5 +209,7 @@ def test_the_library_is_found(tmp_path: Path) -> None:
     copy.write_bytes(Path(_library.library._name).read_bytes())
     found = subprocess.run([sys.executable, "-c", code], env={**env, "SZG_LIBRARY": str(copy)}, capture_output=True, text=True)
     assert found.stdout.strip() == str(copy)
+    empty = subprocess.run([sys.executable, "-c", code], env={**env, "SZG_LIBRARY": ""}, capture_output=True, text=True)
+    assert empty.returncode == 0 and empty.stdout.strip() == _library.library._name
     missing = subprocess.run([sys.executable, "-c", code], env={**env, "SZG_LIBRARY": str(tmp_path / "none")}, capture_output=True, text=True)
     assert missing.returncode != 0 and "OSError" in missing.stderr

@@ -1,7 +1,7 @@
 """Placements as callers write them."""
 import pytest
 import szg
-from conftest import PAWN, UNPAIRED, untold
+from conftest import PAWN, UNPAIRED, says, untold
 from stand_in import Board
 from szg import BLACK, KING, QUEEN, WHITE
 
@@ -48,12 +48,10 @@ def test_what_is_no_fen(table: szg.Table, text: str) -> None:
 
 def test_the_side_to_move_must_be_known(table: szg.Table) -> None:
     for board in (MEN, FEN, type("BaseBoard", (), {"piece_map": Board.of(MEN, WHITE).piece_map})()):
-        with pytest.raises(TypeError, match="^turn, the side to move, must be given"):
-            table.probe_wdl(board)
+        says(TypeError, "^turn, the side to move, must be given", table.probe_wdl, board)
         assert table.probe_wdl(board, WHITE) == 2
     for turn in ("w", 1, 0, szg.Spot(0, 0, 0)):
-        with pytest.raises(TypeError, match="^turn must be True for White or False for Black, not "):
-            table.probe_wdl(MEN, turn)
+        says(TypeError, "^turn must be True for White or False for Black, not ", table.probe_wdl, MEN, turn)
 
 
 @pytest.mark.parametrize("board, said", [

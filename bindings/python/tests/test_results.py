@@ -8,7 +8,7 @@ from typing import Iterator, Optional
 import pytest
 import stand_in
 import szg
-from conftest import ROOT, is_closed, untold
+from conftest import ROOT, is_closed, says, untold
 from stand_in import Board
 from szg import _library
 from table_writer import file_of
@@ -84,8 +84,7 @@ def test_fens_of_many_are_as_one_by_one(tables: szg.Tablebase) -> None:
     for count in (0, 1, 255, 256, 257):
         assert tables.probe_many((fens * 3)[:count]) == [tables.probe_wdl(fen) for fen in (fens * 3)[:count]]
     for wrong in ("", "\n", MATE_FEN.replace("Q", "X"), MATE_FEN.replace("0", "x"), MATE_FEN.replace("w", "\ud800")):
-        with pytest.raises(ValueError, match="is no FEN: "):
-            tables.probe_many([MATE_FEN, wrong])
+        says(ValueError, "is no FEN: ", tables.probe_many, [MATE_FEN, wrong])
     pytest.raises(TypeError, tables.probe_many, [MATE_FEN, b"7k/8/5K2/8/8/8/8/6Q1 w - - 0 1"])
 
 
@@ -119,6 +118,11 @@ def test_the_fifty_move_counter_counts_for_moves_alone(tables: szg.Tablebase, co
     for position in (fen, board):
         assert tables.rank_moves(position)[0].wdl == wdl
         assert tables.probe_wdl(position) == 2 and tables.probe_dtz(position) == 3
+
+
+def test_turn_comes_before_the_boards_own(tables: szg.Tablebase) -> None:
+    for call in (tables.probe_wdl, tables.get_wdl, tables.probe_dtz, tables.get_dtz, tables.rank_moves):
+        assert call(ROOK_FEN, turn=False) == call(ROOK_FEN.replace(" w", " b")) != call(ROOK_FEN)
 
 
 @pytest.fixture(params=range(5), ids=["loss", "blessed loss", "draw", "cursed win", "win"])
@@ -211,7 +215,7 @@ def test_what_no_table_knows(tables: szg.Tablebase, board: object, said: str) ->
 
 
 def test_boards_of_python_chess(tables: szg.Tablebase) -> None:
-    assert tables.probe_wdl(Fields(castling_rights=0, uci_variant="chess", halfmove_clock=7, ep_square=None)) == 2
+    assert tables.probe_wdl(Fields(castling_rights=0, uci_variant="chess", halfmove_clock=7, ep_square=None, chess960=True)) == 2
     pytest.raises(ValueError, tables.probe_wdl, Fields(halfmove_clock=-1))
     pytest.raises(ValueError, tables.probe_wdl, Fields(halfmove_clock=1 << 32))
     pytest.raises(TypeError, tables.probe_wdl, Fields(halfmove_clock="0"))
@@ -282,6 +286,9 @@ def test_a_bound_on_open_tables(tables: szg.Tablebase) -> None:
             for _ in range(3):
                 assert (few.rank_moves(pawn), few.probe_dtz(MATE_FEN), few.probe_wdl(ROOK_FEN)) == wanted
                 assert len(few._current.results._handle.lent) <= bound + 1
+            # tables within the bound stay open
+            handle = few._current.results._handle
+            assert few.probe_wdl(ROOK_FEN) == wanted[2] and (bound > 1 or few._current.results._handle is handle)
 
 
 def test_handles_are_closed(monkeypatch: pytest.MonkeyPatch) -> None:

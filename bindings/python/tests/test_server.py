@@ -7,13 +7,13 @@ import sys
 import urllib.error
 import urllib.request
 from pathlib import Path
-from typing import Iterator, Tuple
+from typing import Iterator, Optional, Tuple
 from urllib.parse import quote
 
 import pytest
 import stand_in
 import szg
-from conftest import ROOT
+from conftest import KNIGHT, PAIRED, ROOT
 from szg import server
 
 PROMOTES = "8/1k2P3/8/8/8/8/8/K7 w - - 0 1"
@@ -22,7 +22,7 @@ PROMOTES = "8/1k2P3/8/8/8/8/8/K7 w - - 0 1"
 @pytest.fixture(scope="module")
 def address() -> Iterator[str]:
     env = {**os.environ, "PYTHONPATH": str(Path(szg.__file__).parents[1])}
-    words = [sys.executable, "-m", "szg.server", "--port", "0", str(ROOT / "samples")]
+    words = [sys.executable, "-m", "szg.server", "--port", "0", str(ROOT / "data"), str(ROOT / "samples")]
     with subprocess.Popen(words, env=env, stdout=subprocess.PIPE, stderr=subprocess.DEVNULL, text=True) as running:
         try:
             yield running.stdout.readline().strip()
@@ -34,6 +34,7 @@ def got(address: str, path: str) -> Tuple[int, str, str]:
     """The status, the type and the text of an answer."""
     try:
         with urllib.request.urlopen(address + path, timeout=20) as answer:
+            assert answer.headers["Access-Control-Allow-Origin"] == "*"
             return answer.status, answer.headers["Content-Type"], answer.read().decode()
     except urllib.error.HTTPError as error:
         return error.code, error.headers["Content-Type"], error.read().decode()
@@ -49,6 +50,7 @@ def test_an_answer_has_the_fields_of_lichess(address: str) -> None:
                          "insufficient_material": False}
         # of the position after it, for the player who moves then: Black has lost
         assert moves[0] == {**found, "uci": "e7e8q", "san": "e8=Q", "zeroing": True, "category": "loss", "dtz": moves[0]["dtz"]}
+        assert all(move["zeroing"] == ("=" in move["san"]) for move in moves)
         assert moves[0]["dtz"] < 0 and {move["san"] for move in moves} >= {"e8=Q", "e8=R", "e8=N", "e8=B", "Ka2"}
         draw = next(move for move in moves if move["san"] == "e8=N")
         assert (draw["category"], draw["dtz"], draw["insufficient_material"]) == ("draw", 0, True)
@@ -62,12 +64,20 @@ def test_ends_and_the_counter(address: str, fen: str, wanted: tuple) -> None:
     found = json.loads(got(address, "standard?fen=" + quote(fen))[2])
     assert (found["category"], found["dtz"], found["checkmate"], found["stalemate"]) == wanted
     assert bool(found["moves"]) == (not wanted[2] and not wanted[3])
+    opposite = {"cursed-win": "blessed-loss", "blessed-loss": "cursed-win"}
+    assert not found["moves"] or found["moves"][0]["category"] == opposite[wanted[0]]
+
+
+def test_moves_that_end_the_game(address: str) -> None:
+    moves = json.loads(got(address, "standard?fen=" + quote("7k/8/5K2/8/6Q1/8/8/8 w - - 0 1"))[2])["moves"]
+    assert {(move["san"], move["category"]) for move in moves if move["checkmate"]} == {("Qg7#", "loss")}
+    assert ("Qg6", "draw") in {(move["san"], move["category"]) for move in moves if move["stalemate"]}
 
 
 def test_moves_are_written_as_in_games() -> None:
     """Against the rules that checks/chess_rules.py has, in positions with captures, promotions and en passant too."""
     fens = [PROMOTES, "8/8/8/8/8/1Q6/2k5/K7 b - -", "7k/8/5K2/8/8/8/8/6Q1 w - -", "4k3/8/8/8/1pP5/8/8/4K3 b - c3", "3rk3/4P3/8/8/8/8/8/K7 w - -",
-            "1k6/8/8/R7/8/R7/8/4K2R w - -", "k7/8/8/3N1N2/8/8/8/K4N2 w - -", "7k/4P3/8/8/8/8/8/K7 w - - 5 9", "4k3/8/8/8/8/8/2P5/4K3 w - -"]
+            "1k6/8/8/R7/8/R7/8/4K2R w - -", "k7/8/8/3N1N2/8/8/8/K4N2 w - -", "7k/4P3/8/8/8/8/8/K7 w - - 5 9", "4k3/8/8/8/8/8/2P5/4K3 w - -", "8/8/8/1k6/8/8/2P5/K7 w - -"]
     with szg.open_tablebase(ROOT / "samples") as tables:
         for fen in fens:
             board, position = stand_in.Board(fen), server.position_of(fen)
@@ -105,6 +115,7 @@ def test_the_page_has_the_board_and_moves_that_lead_on(address: str) -> None:
     assert len(links) == 4 and ">Kd6</a>" in text
     status, _, text = got(address, links[0])
     assert status == 200 and "Black to move: loss" in text
+    assert {"&#9819;", "&#9812;"} < set(re.findall("&#98..;", got(address, "?fen=" + quote("7k/8/8/8/8/8/q7/3K4 b"))[2]))
     # what follows the counter is nobody's
     assert "&quot;&gt;&lt;b&gt;" in got(address, "?fen=" + quote(PROMOTES + '"><b>'))[2]
 
@@ -113,20 +124,39 @@ def test_the_page_has_the_board_and_moves_that_lead_on(address: str) -> None:
     ("standard", 400, "eight ranks"), ("standard?fen=4k3", 400, "eight ranks"), ("?fen=%3Cb%3E", 400, "is no FEN"),
     ("standard?fen=7k/6Q1/5K2/8/8/8/8/8_w", 400, "InCheck"), ("standard?fen=7k/6Q1/5K2/8/8/8/8/8", 400, "turn"),
     ("standard?fen=4K2R/8/8/8/8/8/8/7k_w_K_-_0_1", 404, "castling"), ("standard?fen=k7/8/8/8/8/8/8/KBN5_w", 404, "no WDL table of KBNvK was added"),
-    ("elsewhere", 404, "no such page"),
+    ("elsewhere", 404, "no such page"), ("standard?fen=%C3%A9", 400, "eight ranks"),
 ])
 def test_what_is_refused(address: str, path: str, status: int, said: str) -> None:
     found, kind, text = got(address, path)
     assert (found, kind) == (status, "text/plain") and said in text
 
 
-def test_a_damaged_table_is_the_servers_fault(tmp_path: Path) -> None:
-    (tmp_path / "KQvK.rtbw").write_bytes(b"")
+@pytest.mark.parametrize("name, data", [
+    ("KQvK", b""), ("KQvK", None), ("KQvK", PAIRED.data[:PAIRED.read.subs[0].place].ljust(len(PAIRED.data), b"\0")),
+    ("KNvK", KNIGHT.data[:11] + b"\x07" + KNIGHT.data[12:]),
+], ids=["empty", "gone", "bad block", "no class"])
+def test_a_damaged_table_is_the_servers_fault(tmp_path: Path, name: str, data: Optional[bytes]) -> None:
+    path = tmp_path / f"{name}.rtbw"
+    path.write_bytes(data or b"")
     with szg.open_tablebase(tmp_path) as tables, server.server(tables, port=0) as running:
+        if data is None:
+            path.unlink()
         import threading
         thread = threading.Thread(target=running.serve_forever)
         thread.start()
-        status, _, text = got(f"http://127.0.0.1:{running.server_port}/", "standard?fen=" + quote("7k/8/5K2/8/8/8/8/6Q1 w - - 0 1"))
+        status, _, text = got(f"http://127.0.0.1:{running.server_port}/", "standard?fen=" + quote(f"7k/8/5K2/8/8/8/8/6{name[1]}1 w - - 0 1"))
         running.shutdown()
         thread.join()
-    assert status == 500 and text.startswith(str(tmp_path / "KQvK.rtbw"))
+    assert status == 500 and str(path) in text
+
+
+def test_the_words_of_the_server(monkeypatch: pytest.MonkeyPatch, tmp_path: Path) -> None:
+    asked = []
+
+    def made(tables: szg.Tablebase, host: str, port: int) -> None:
+        asked.append((len(tables._folders), host, port))
+        raise KeyboardInterrupt
+    monkeypatch.setattr(server, "server", made)
+    for words, wanted in (["--host", "::1", "--port", "7"], ("::1", 7)), ([], ("127.0.0.1", 9000)):
+        pytest.raises(KeyboardInterrupt, server.main, [*words, str(tmp_path), str(ROOT / "samples")])
+        assert asked.pop() == (2, *wanted)

@@ -13,7 +13,7 @@ from pathlib import Path
 import pytest
 import szg
 import table_reader
-from conftest import DAMAGED, PAIRED, PAWN, UNPAIRED, Sample, is_closed, refused, untold
+from conftest import DAMAGED, PAIRED, PAWN, UNPAIRED, Sample, is_closed, refused, says, untold
 from damaged_files import Damaged
 from stand_in import Board
 from szg import BLACK, KING, QUEEN, WHITE, _library, _mapped
@@ -108,8 +108,7 @@ def test_lent_memory_is_given_back() -> None:
 
 @pytest.mark.parametrize("data", ["text", 7, None, [1, 2], memoryview(PAIRED.data)[::2]])
 def test_what_is_not_bytes_is_a_type_error(data: object) -> None:
-    with pytest.raises(TypeError, match="^data must be a contiguous bytes-like object, not "):
-        szg.Table("KQvK", "wdl", data)
+    says(TypeError, "^data must be a contiguous bytes-like object, not ", szg.Table, "KQvK", "wdl", data)
 
 
 def test_an_array_that_is_not_contiguous_is_a_type_error(monkeypatch: pytest.MonkeyPatch) -> None:
@@ -118,13 +117,11 @@ def test_an_array_that_is_not_contiguous_is_a_type_error(monkeypatch: pytest.Mon
         raise ValueError("ndarray is not C-contiguous")
     with monkeypatch.context() as patch:
         patch.setattr(_library._python, "PyObject_GetBuffer", refuse)
-        with pytest.raises(TypeError, match="^data must be a contiguous bytes-like object, not bytes$"):
-            szg.Table("KQvK", "wdl", PAIRED.data)
+        says(TypeError, "^data must be a contiguous bytes-like object, not bytes$", szg.Table, "KQvK", "wdl", PAIRED.data)
     numpy = pytest.importorskip("numpy")
     square = numpy.zeros((70, 70), numpy.uint8)
     for wrong in (square[::2], square.T, square[:, 1:]):
-        with pytest.raises(TypeError, match="^data must be a contiguous bytes-like object, not ndarray$"):
-            szg.Table("KQvK", "wdl", wrong)
+        says(TypeError, "^data must be a contiguous bytes-like object, not ndarray$", szg.Table, "KQvK", "wdl", wrong)
 
 
 def test_another_package_has_its_own_argument_types() -> None:
@@ -228,14 +225,10 @@ def test_an_empty_file_is_refused(tmp_path) -> None:
 
 def test_names_and_kinds(tmp_path) -> None:
     for name in ("KvKQ", "", "KQvK\0", "KQvK ", "K\udcffvK", "QvK"):
-        with pytest.raises(ValueError, match="is no material's name$"):
-            szg.Table(name, "wdl", UNPAIRED.data)
-    with pytest.raises(ValueError, match="^kind must be 'wdl' or 'dtz', not 'WDL'$"):
-        szg.Table("KQvK", "WDL", UNPAIRED.data)
-    with pytest.raises(TypeError, match="^name must be a str, not bytes$"):
-        szg.Table(b"KQvK", "wdl", UNPAIRED.data)
-    with pytest.raises(ValueError, match="must end with .rtbw or .rtbz$"):
-        szg.Table.open(tmp_path / "KQvK.bin")
+        says(ValueError, "is no material's name$", szg.Table, name, "wdl", UNPAIRED.data)
+    says(ValueError, "^kind must be 'wdl' or 'dtz', not 'WDL'$", szg.Table, "KQvK", "WDL", UNPAIRED.data)
+    says(TypeError, "^name must be a str, not bytes$", szg.Table, b"KQvK", "wdl", UNPAIRED.data)
+    says(ValueError, "must end with .rtbw or .rtbz$", szg.Table.open, tmp_path / "KQvK.bin")
     pytest.raises(FileNotFoundError, szg.Table.open, tmp_path / "KQvK.rtbw")
     for wrong in (7, None, [tmp_path]):
         pytest.raises(TypeError, szg.Table.open, wrong)
@@ -243,6 +236,9 @@ def test_names_and_kinds(tmp_path) -> None:
         (tmp_path / "KRvK.rtbw").mkdir()
         szg.Table.open(tmp_path / "KRvK.rtbw")
     assert str(tmp_path / "KRvK.rtbw") in str(caught.value)
+    (tmp_path / "KBvK.rtbw").symlink_to("/dev/zero")
+    with pytest.raises(OSError, match="not a regular file"):
+        szg.Table.open(tmp_path / "KBvK.rtbw")
 
 
 def test_a_mapped_table_keeps_no_descriptor(queen_file: Path) -> None:
@@ -266,10 +262,13 @@ def test_a_file_that_the_system_maps_not_is_its_error(queen_file: Path, monkeypa
     def refuse(*_: int) -> int:
         ctypes.set_errno(12)
         return (1 << 64) - 1
+    lost = len(_mapped._lost)
     monkeypatch.setattr(_mapped._system, "mmap", refuse)
     with pytest.raises(OSError) as caught:
         szg.Table.open(queen_file)
     assert str(caught.value) == f"[Errno 12] Cannot allocate memory: {str(queen_file)!r}"
+    # what is there by now is another's
+    assert len(_mapped._lost) == lost + 1
 
 
 @pytest.mark.parametrize("way", ["bytes", "path", "text of a path"])
@@ -283,6 +282,12 @@ def test_a_copy_is_a_table_of_its_own(tmp_path: Path, way: str, again, monkeypat
     table.close()
     assert second.get(11711) == 4 and second.values().tolist() == UNPAIRED.read.subs[0].all_values()
     assert is_closed(again, table)
+
+
+def test_a_copy_has_its_class(queen_file: Path) -> None:
+    own = type("Own", (szg.Table,), {})
+    for one in (own.open(queen_file), own("KQvK", "wdl", UNPAIRED.data), type("Own", (szg.Tablebase,), {})()):
+        assert type(copy.copy(one)) is type(one)
 
 
 def test_a_closed_table(each_sample: Sample, tmp_path) -> None:
@@ -318,10 +323,8 @@ def test_probe_wdl(tmp_path, way: str) -> None:
         exchanged = [(kind, not color, square) for kind, color, square in QUEEN_MEN]
         assert [table.index(exchanged, turn).side for turn in (WHITE, BLACK)] == [1, 0]
         assert [table.probe_wdl(exchanged, turn) for turn in (WHITE, BLACK)] == [0, 2]
-        with pytest.raises(ValueError, match="^KQvK is a WDL table, and this call needs a DTZ table$"):
-            table.probe_dtz(QUEEN_MEN, WHITE, wdl=2)
-        with pytest.raises(ValueError, match="needs a DTZ table$"):
-            table.number(0, wdl=2)
+        says(ValueError, "^KQvK is a WDL table, and this call needs a DTZ table$", table.probe_dtz, QUEEN_MEN, WHITE, wdl=2)
+        says(ValueError, "needs a DTZ table$", table.number, 0, wdl=2)
 
 
 @pytest.mark.parametrize("way", ["bytes", "path"])
@@ -344,14 +347,12 @@ def test_probe_dtz(tmp_path, way: str) -> None:
             assert untold(table.probe_dtz, pawn_on(8), turn, wdl=wdl) == reason
         for wdl in (3, -3, 2 + 256):
             for call in (lambda: table.probe_dtz(PAWN_MEN, WHITE, wdl=wdl), lambda: table.number(0, wdl=wdl)):
-                with pytest.raises(ValueError, match="^wdl must be from -2 to 2, not "):
-                    call()
+                says(ValueError, "^wdl must be from -2 to 2, not ", call)
         for value in (-1, 1 << 16):
             pytest.raises(IndexError, table.number, value, wdl=2)
         pytest.raises(IndexError, table.number, 0, wdl=2, part=4)
         assert untold(table.number, 1, wdl=2) == "OutsideMap"
-        with pytest.raises(ValueError, match="^KPvK is a DTZ table, and this call needs a WDL table$"):
-            table.probe_wdl(PAWN_MEN, WHITE)
+        says(ValueError, "^KPvK is a DTZ table, and this call needs a WDL table$", table.probe_wdl, PAWN_MEN, WHITE)
 
 
 def test_the_class_of_a_dtz_probe_is_a_keyword_and_an_integer() -> None:
@@ -360,8 +361,7 @@ def test_the_class_of_a_dtz_probe_is_a_keyword_and_an_integer() -> None:
         pytest.raises(TypeError, table.probe_dtz, PAWN_MEN, WHITE, 2)
         pytest.raises(TypeError, table.number, 0, 2)
         for wdl in (True, 2.0, "2", None):
-            with pytest.raises(TypeError, match=f"^wdl must be an integer, not {type(wdl).__name__}$"):
-                table.probe_dtz(PAWN_MEN, WHITE, wdl=wdl)
+            says(TypeError, f"^wdl must be an integer, not {type(wdl).__name__}$", table.probe_dtz, PAWN_MEN, WHITE, wdl=wdl)
 
 
 def test_wrong_types_of_numbers() -> None:
@@ -369,8 +369,7 @@ def test_wrong_types_of_numbers() -> None:
         for wrong in ("0", 0.0, None, True):
             for what, call in (("index", lambda: table.get(wrong)), ("part", lambda: table.size(wrong)),
                                ("side", lambda: table.values(0, wrong))):
-                with pytest.raises(TypeError, match=f"^{what} must be an integer, not {type(wrong).__name__}$"):
-                    call()
+                says(TypeError, f"^{what} must be an integer, not {type(wrong).__name__}$", call)
         numpy = pytest.importorskip("numpy")
         assert table.get(numpy.uint32(11711)) == 4
 
@@ -404,6 +403,5 @@ def test_an_index_has_a_placement_that_has_the_index(each_sample: Sample) -> Non
                 pytest.raises(IndexError, table.placement, sub.part, sub.side, index)
         for part, side in ((4, 0), (0, 2), (256, 0), (0, 256), (-1, 0), (0, -1)):
             pytest.raises(IndexError, table.placement, part, side, 0)
-        with pytest.raises(TypeError, match="^index must be an integer, not str$"):
-            table.placement(0, 0, "0")  # type: ignore[arg-type]
+        says(TypeError, "^index must be an integer, not str$", table.placement, 0, 0, "0")
     assert is_closed(table.placement, 0, 0, 0)

@@ -6,7 +6,7 @@ from pathlib import Path
 
 import pytest
 import szg
-from conftest import PAIRED, PAWN, UNPAIRED, is_closed, untold
+from conftest import PAIRED, UNPAIRED, is_closed, untold
 from stand_in import Board
 from szg import BLACK, KING, QUEEN, WHITE
 
@@ -207,14 +207,14 @@ def test_a_closed_tablebase(folder: Path) -> None:
 
 
 def test_names_of_materials(tmp_path: Path) -> None:
-    names = ["KQvKR", "KRvKQ", "KNNvKB", "KBvKNN", "KBPvKN", "KQQvKQ", "KRvKR", "KPvKP", "KvK", "KQRBNvK", "KQRBNPvK", "KNBvK",
+    names = ["KQvKR", "KRvKQ", "KNNvKB", "KBvKNN", "KBPvKN", "KQQvKQ", "KRvKR", "KPvKP", "KvK", "KQRBNvK", "KQRBNPvK", "KQPvKRR", "KRRvKQP", "KNBvK",
              "KQvKRv", "QKvK", "KQvKR.old", "kqvk"]
     for name in names:
         (tmp_path / f"{name}.rtbw").write_bytes(b"")
     (tmp_path / "KQvKR.RTBW").write_bytes(b"")
     with szg.open_tablebase(tmp_path) as tables:
         assert sorted(name for name, _ in tables._files().paths) == sorted(
-            ["KQvKR", "KNNvKB", "KBPvKN", "KQQvKQ", "KRvKR", "KPvKP", "KQRBNvK"])
+            ["KQvKR", "KNNvKB", "KBPvKN", "KQQvKQ", "KRvKR", "KPvKP", "KQRBNvK", "KQPvKRR"])
         # each is asked by both colours
         for fen in ("4k3/8/8/8/8/8/8/nn2K2B w", "4k3/8/8/8/8/8/8/NN2K2b w", "4k3/8/8/8/8/8/8/q3K2R b"):
             pytest.raises(szg.Refused, tables.probe_wdl_table, fen)

@@ -7,7 +7,6 @@ from typing import Callable, List
 import pytest
 import szg
 from conftest import ROOT, UNPAIRED
-from szg import WHITE
 
 SAMPLES = ROOT / "samples"
 QUEEN_FEN, PAWN_FEN, KNIGHT_FEN = "4K3/8/8/8/8/8/8/Q6k w", "4k3/8/8/8/8/8/1P6/4K3 w", "4k3/8/8/8/8/8/8/N3K3 w"
@@ -129,7 +128,7 @@ def test_a_tablebase_is_closed_while_threads_use_it(folder: Path) -> None:
 def test_a_handle_serves_one_call_at_a_time() -> None:
     """No two calls that run at once have one handle."""
     with szg.Table("KQvK", "wdl", UNPAIRED.data) as table:
-        handles, lock, busy, most = table._opened._front, threading.Lock(), set(), [0]
+        handles, lock, busy, most = table._front, threading.Lock(), set(), [0]
 
         def slow(handle, *_) -> int:
             address = id(handle)

@@ -1,6 +1,6 @@
 -- The value that a block's words spell at an index.
 use Rattle.std.proofs.Common.{ℕ, ◌≡◌, ◌+◌, ◌-◌, ◌<◌, ◌≤◌, inl, inr, List, Option, None, Some, length, ap, sym, ◌∙◌, arith}
-use Rattle.std.specs.Prelude.{IsSomeAnd}
+use Rattle.std.specs.Prelude.{IfErr, IfOk, IsSomeAnd, OnOk, Result, Ok, Err}
 use Rattle.std.specs.List.{slice_get, slice_index}
 use Rattle.std.proofs.lemmas.Bool.{cases_lt}
 use Rattle.std.proofs.lemmas.Option.{slice_get_past}
@@ -67,3 +67,17 @@ module _ (size i block item : ℕ) where
   pub held_before : (o : Option Layout) → IsSomeAnd o (λ layout. IsHeldAt layout size i block item) → IsSomeAnd o (λ layout. i - item ≡ start layout.lengths block)
   held_before None h = absurd h
   held_before (Some layout) h = h.before
+
+-- ---- clauses of one result
+
+pub ok_with : {X E : Type 0} (r : Result X E) (P : Type 0) → P → OnOk r P
+ok_with (Ok x) P h = h
+ok_with (Err e) P h = tt
+
+pub ok_map : {X E : Type 0} (r : Result X E) (P Q : X → Type 0) → IfOk r P → ((x : X) → P x → Q x) → IfOk r Q
+ok_map (Ok x) P Q h f = f x h
+ok_map (Err e) P Q h f = tt
+
+pub err_map : {X E : Type 0} (r : Result X E) (P Q : E → Type 0) → IfErr r P → ((e : E) → P e → Q e) → IfErr r Q
+err_map (Ok x) P Q h f = tt
+err_map (Err e) P Q h f = f e h

@@ -11,7 +11,7 @@ ghost use Rattle.szg_code.specs.Spelling.{BeginsWithNoWord};
 ghost use Rattle.szg_block.specs.Spelled.{AreSymbols, values_of, values_spelled, word_at, pairs_above};
 
 use std::alloc::AllocError;
-use szg_code::{Bits, Code, NextWords, WordReader, next, next_word, next_words};
+use szg_code::{Bits, Code, NextWords, WordReader, next, next_word, next_word_if, next_words};
 use szg_pairs::Dict;
 use szg_pairs::entry::{is_leaf, left, right};
 
@@ -178,6 +178,43 @@ pub(crate) fn find_verified(
         return None;
     }
     Some(value_in(dict, reached.words, reached.index as u16))
+}
+
+/// Returns the value at `index` in a block, of which no more words are decoded than up to the value. None if the block's
+/// bits spell no more than `index` values. It relies on nothing that they spell.
+pub(crate) fn find_up_to(code: &Code, dict: &Dict, block: &[u8], index: u64) -> Option<u16>
+    requires accepted { IsCode code.now }
+    requires symbols { code.now.symbols ≡ length dict.now }
+    requires size { length block.now ≤ 2 ^ 60 }
+    ensures value { IfSome result (λ value. slice_get (values_spelled code.now dict.now (bits block.now)) index ≡ Some value) }
+    ensures none { IfNone result (length (values_spelled code.now dict.now (bits block.now)) ≤ index) }
+{
+    if code.is_read_word_by_word() {
+        return find_by_words(code, dict, WordReader::new(block), index);
+    }
+    let reached = reach(code, dict, Bits::new(block), index)?;
+    Some(value_in(dict, reached.words, reached.index as u16))
+}
+
+/// Returns the value at `index` among those that the remaining bits decode to. None if they spell no more than `index`
+/// values. Decodes word by word.
+#[inline(always)]
+fn find_by_words(code: &Code, dict: &Dict, left: WordReader, index: u64) -> Option<u16>
+    requires accepted { IsCode code.now }
+    requires symbols { code.now.symbols ≡ length dict.now }
+    ensures value { IfSome result (λ value. slice_get (values_spelled code.now dict.now left.entry.left) index ≡ Some value) }
+    ensures none { IfNone result (length (values_spelled code.now dict.now left.entry.left) ≤ index) }
+{
+    let mut words = left;
+    let mut ahead = index;
+    while let Some(symbol) = next_word_if(code, &mut words) {
+        let count = u64::from(dict.len(symbol));
+        if ahead < count {
+            return Some(dict.value_at(symbol, ahead as u16));
+        }
+        ahead -= count;
+    }
+    None
 }
 
 /// Returns the value at `index` in a block whose own bits spell more than `index` values.

@@ -1,15 +1,15 @@
 -- A handle on a tablebase.
 use Rattle.std.proofs.Common.{refl}
-use Rattle.szg_c.specs.contracts.tablebase.Tablebase as value
+use Rattle.szg_tables.specs.contracts.mapped.MappedTable as table
 use denote.Signature.{static_lft}
-use Rattle.szg_c.specs.contracts.shared.Shared as shared
+use Rattle.szg_tables.specs.contracts.opened.OpenedSet as tables
 use Rattle.szg_c.specs.contracts.held_tablebase.HeldTablebase as handle
 use Rattle.szg_c.proofs.HandleValues.{Kind}
 
 abbrev pub kind : Kind
 kind = record {
   name = handle.the_type.name;
-  R = shared.the_row (value.the_row static_lft);
+  R = tables.the_row (table.the_row static_lft);
   D = handle.the_type.D;
   at = λ d. d.at;
   alloc = λ d. d.alloc;

@@ -1,79 +1,82 @@
-//! What C holds by a pointer: a share of a value, or nothing.
-ghost use Rattle.std.specs.Prelude.{◌≡◌, ◌⊎◌, IfSome, MatchOption};
+//! What C holds by a pointer, or nothing.
+ghost use Rattle.std.specs.Prelude.{◌≡◌, ◌⊎◌, IfOk, IfSome, MatchOption};
 ghost use Rattle.std.specs.declared.option.Option.{Option};
 ghost use Rattle.std.specs.declared.option.Option.TheVariants.{None, Some};
 
 use crate::loose::Loose;
-use crate::shared::Shared;
 use crate::status::{CLOSED, DONE, MEMORY};
-use std::alloc::Global;
+use std::alloc::{AllocError, Global};
 use std::mem::replace;
 
-/// A C struct with a pointer to a share of a value, or with a null pointer.
+/// A C struct with a pointer to what it owns, or with a null pointer.
 pub trait Handle: Drop {
-    /// The value.
-    type Value: Drop;
+    /// What it owns.
+    type Held: Drop;
 
-    /// the value, if there is a share
-    ghost held: { Self → Option Self.Value };
+    /// what it owns, if its pointer is not null
+    ghost held: { Self → Option Self.Held };
 
-    /// Creates a handle without a share.
+    /// Creates a handle that owns nothing.
     fn none(alloc: Global) -> Self
         ensures { held result ≡ None };
 
-    /// Creates a handle on a share.
-    fn of(shared: Loose<Shared<Self::Value>, Global>) -> Self
-        ensures { held result ≡ Some shared.value };
+    /// Creates a handle.
+    fn of(owned: Loose<Self::Held, Global>) -> Self
+        ensures { held result ≡ Some owned.value };
 
-    /// Returns the share. None if there is none.
-    fn into_loose(self) -> Option<Loose<Shared<Self::Value>, Global>>
-        ensures { MatchOption result (held self ≡ None) (λ shared. held self ≡ Some shared.value) };
+    /// Returns what it owns. None if that is nothing.
+    fn into_loose(self) -> Option<Loose<Self::Held, Global>>
+        ensures { MatchOption result (held self ≡ None) (λ owned. held self ≡ Some owned.value) };
+
+    /// Returns the same for another handle. Errors: memory was refused.
+    fn again(owned: &Self::Held, alloc: Global) -> Result<Self::Held, AllocError>
+        ensures { IfOk result (λ again. again ≡ owned.now) };
 }
 
-/// Takes the share out of a handle. None if there is none.
-pub fn take<H: Handle>(handle: &mut H, alloc: Global) -> Option<Box<Shared<H::Value>>>
-    ensures taken { MatchOption result (H.held handle.old ≡ None) (λ shared. H.held handle.old ≡ Some shared.value) }
+/// Takes what a handle owns. None if that is nothing.
+pub fn take<H: Handle>(handle: &mut H, alloc: Global) -> Option<Box<H::Held>>
+    ensures taken { MatchOption result (H.held handle.old ≡ None) (λ owned. H.held handle.old ≡ Some owned.value) }
     ensures empty { H.held handle.new ≡ None }
 {
     let held = replace(handle, H::none(alloc));
     match held.into_loose() {
         None => None,
-        Some(shared) => Some(shared.into_box()),
+        Some(owned) => Some(owned.into_box()),
     }
 }
 
-/// Stores this share in a handle, and drops the previous one.
-pub fn put<H: Handle>(handle: &mut H, shared: Box<Shared<H::Value>>)
-    ensures { H.held handle.new ≡ Some shared.value }
+/// Stores this in a handle, and drops what the handle had.
+pub fn put<H: Handle>(handle: &mut H, owned: Box<H::Held>)
+    ensures { H.held handle.new ≡ Some owned.value }
 {
-    *handle = H::of(Loose::of(shared));
+    *handle = H::of(Loose::of(owned));
 }
 
-/// Drops the share of a handle.
+/// Drops what a handle owns.
 pub fn shut<H: Handle>(handle: &mut H, alloc: Global)
     ensures { H.held handle.new ≡ None }
 {
     *handle = H::none(alloc);
 }
 
-/// Stores a share in a handle that has none, if there is memory for it.
-pub fn hold<H: Handle>(alloc: Global, handle: &mut H, shared: Shared<H::Value>) -> u32
-    ensures done { (result ≡ 0) → H.held handle.new ≡ Some shared }
+/// Stores this in a handle, if there is memory for it.
+pub fn hold<H: Handle>(alloc: Global, handle: &mut H, owned: H::Held) -> u32
+    ensures done { (result ≡ 0) → H.held handle.new ≡ Some owned }
     ensures kept { (result ≡ 0 → ⊥) → H.held handle.new ≡ H.held handle.old }
     ensures statuses { (result ≡ 0) ⊎ (result ≡ 3) }
 {
-    let Ok(shared) = Box::new(alloc, shared) else {
+    let Ok(owned) = Box::new(alloc, owned) else {
         return MEMORY;
     };
-    put(handle, shared);
+    put(handle, owned);
     DONE
 }
 
-/// Stores a second share of a handle's value in another handle, whose previous share is dropped.
+/// Stores what a handle owns in another handle too, and drops what the other had.
 pub fn share<H: Handle>(alloc: Global, handle: &mut H, second: &mut H) -> u32
     ensures kept { H.held handle.new ≡ H.held handle.old }
     ensures closed { H.held handle.old ≡ None → result ≡ 5 }
-    ensures statuses { IfSome (H.held handle.old) (λ value. (result ≡ 0) ⊎ (result ≡ 3)) }
+    ensures statuses { IfSome (H.held handle.old) (λ owned. (result ≡ 0) ⊎ (result ≡ 3)) }
     ensures done { (result ≡ 0) → H.held second.new ≡ H.held handle.old }
     ensures shut { (result ≡ 0 → ⊥) → H.held second.new ≡ None }
 {
@@ -81,10 +84,10 @@ pub fn share<H: Handle>(alloc: Global, handle: &mut H, second: &mut H) -> u32
     let Some(held) = take(handle, alloc) else {
         return CLOSED;
     };
-    let again = held.again();
+    let again = H::again(&held, alloc);
     put(handle, held);
     match again {
-        Ok(shared) => hold(alloc, second, shared),
+        Ok(owned) => hold(alloc, second, owned),
         Err(_) => MEMORY,
     }
 }

@@ -13,7 +13,7 @@ ghost use Rattle.szg_c.specs.Owned.{held};
 use crate::handle::Handle;
 use crate::loose::Loose;
 use crate::shared::Shared;
-use std::alloc::Global;
+use std::alloc::{AllocError, Global};
 use std::marker::Model;
 use std::ptr::null_mut;
 use szg_file::FrontTable;
@@ -31,7 +31,7 @@ impl Model for HeldFront {
 }
 
 impl Handle for HeldFront {
-    type Value = FrontTable;
+    type Held = Shared<FrontTable>;
 
     ghost held = { λ h. h.value };
 
@@ -66,6 +66,13 @@ impl Handle for HeldFront {
                 alloc,
             })
         }
+    }
+
+    fn again(
+        shared: &Shared<FrontTable>,
+        _alloc: Global,
+    ) -> Result<Shared<FrontTable>, AllocError> {
+        shared.again()
     }
 }
 

@@ -13,7 +13,7 @@ ghost use Rattle.szg_c.specs.Owned.{held};
 use crate::handle::Handle;
 use crate::loose::Loose;
 use crate::shared::Shared;
-use std::alloc::Global;
+use std::alloc::{AllocError, Global};
 use std::marker::Model;
 use std::ptr::null_mut;
 use szg_file::Table;
@@ -31,7 +31,7 @@ impl Model for HeldTable {
 }
 
 impl Handle for HeldTable {
-    type Value = Table;
+    type Held = Shared<Table>;
 
     ghost held = { λ h. h.value };
 
@@ -66,6 +66,10 @@ impl Handle for HeldTable {
                 alloc,
             })
         }
+    }
+
+    fn again(shared: &Shared<Table>, _alloc: Global) -> Result<Shared<Table>, AllocError> {
+        shared.again()
     }
 }
 

@@ -5,34 +5,33 @@ ghost use Rattle.std.specs.declared.option.Option.{Option};
 ghost use Rattle.std.specs.declared.option.Option.TheVariants.{None, Some};
 ghost use Rattle.std.specs.Coded.{coded_option};
 ghost use Rattle.std.specs.contracts.impls.GlobalAllocator.TheImpl.{ghosts};
-ghost use Rattle.szg_c.specs.contracts.shared.Shared.{the_row};
 ghost use Rattle.szg_tables.specs.Mapped.{MappedFile};
-ghost use Rattle.szg_c.specs.contracts.tablebase.Tablebase.{the_row as value_row};
+ghost use Rattle.szg_tables.specs.contracts.opened.OpenedSet.{the_row};
+ghost use Rattle.szg_tables.specs.contracts.mapped.MappedTable.{the_row as table_row};
 ghost use denote.Signature.{static_lft};
 ghost use Rattle.szg_c.specs.Owned.{held};
 
 use crate::handle::Handle;
 use crate::loose::Loose;
-use crate::shared::Shared;
-use crate::tablebase::Tablebase;
-use std::alloc::Global;
+use std::alloc::{AllocError, Global};
 use std::marker::Model;
 use std::ptr::null_mut;
+use szg_tables::MappedSet;
 
 /// A tablebase that C holds, or none.
 #[repr(C)]
 pub struct HeldTablebase {
     at: *mut u8,
     alloc: Global,
-    pub ghost value: { Option (List MappedFile) } by { coded_option (the_row (value_row static_lft)).coded },
+    pub ghost value: { Option (List MappedFile) } by { coded_option (the_row (table_row static_lft)).coded },
 }
 
 impl Model for HeldTablebase {
-    ghost also_owns = { λ h. held (ghosts.dealloc_token h.alloc) (the_row (value_row static_lft)) h.at h.value };
+    ghost also_owns = { λ h. held (ghosts.dealloc_token h.alloc) (the_row (table_row static_lft)) h.at h.value };
 }
 
 impl Handle for HeldTablebase {
-    type Value = Tablebase<'static>;
+    type Held = MappedSet<'static>;
 
     ghost held = { λ h. h.value };
 
@@ -45,28 +44,32 @@ impl Handle for HeldTablebase {
         }
     }
 
-    fn of(shared: Loose<Shared<Tablebase<'static>>, Global>) -> HeldTablebase
-        ensures { result.value ≡ Some shared.entry.value }
+    fn of(tables: Loose<MappedSet<'static>, Global>) -> HeldTablebase
+        ensures { result.value ≡ Some tables.entry.value }
     {
-        let Loose { at, alloc } = shared;
+        let Loose { at, alloc } = tables;
         HeldTablebase {
             at: at as *mut u8,
             alloc,
         }
     }
 
-    fn into_loose(self) -> Option<Loose<Shared<Tablebase<'static>>, Global>>
-        ensures { MatchOption result (self.value ≡ None) (λ shared. self.value ≡ Some shared.value) }
+    fn into_loose(self) -> Option<Loose<MappedSet<'static>, Global>>
+        ensures { MatchOption result (self.value ≡ None) (λ tables. self.value ≡ Some tables.value) }
     {
         let HeldTablebase { at, alloc } = self;
         if at.is_null() {
             None
         } else {
             Some(Loose {
-                at: at as *mut Shared<Tablebase<'static>>,
+                at: at as *mut MappedSet<'static>,
                 alloc,
             })
         }
+    }
+
+    fn again(tables: &MappedSet<'static>, alloc: Global) -> Result<MappedSet<'static>, AllocError> {
+        tables.again(alloc)
     }
 }
 
@@ -75,8 +78,8 @@ unsafe impl Send for HeldTablebase {}
 
 impl Drop for HeldTablebase {
     fn drop(self) {
-        if let Some(shared) = self.into_loose() {
-            drop(shared.into_box());
+        if let Some(tables) = self.into_loose() {
+            drop(tables.into_box());
         }
     }
 }

@@ -23,7 +23,6 @@ mod opening;
 mod places;
 mod shared;
 mod status;
-mod tablebase;
 mod tablebase_calls;
 mod texts;
 mod whole;

@@ -1,4 +1,4 @@
-//! Values that several handles own.
+//! What handles own, of which there may be several.
 ghost use Rattle.std.specs.Prelude.{◌≡◌, IfOk};
 
 use std::alloc::{AllocError, Global};

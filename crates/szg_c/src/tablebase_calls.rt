@@ -1,21 +1,19 @@
 //! Calls on a tablebase: tables are added by their bytes, and positions are probed with their captures, the right to
 //! capture en passant and the fifty-move counter.
-ghost use Rattle.std.specs.Prelude.{◌≡◌, ◌≤◌, ◌⊎◌, ◌++◌, ◌∷◌, [], Err, IfErr, IfOk, IfSome, MatchResult, Ok, drop, length, map};
+ghost use Rattle.std.specs.Prelude.{◌≡◌, ◌≤◌, ◌⊎◌, ◌++◌, ◌∷◌, [], Err, IfErr, IfNone, IfOk, IfSome, MatchResult, Ok, drop, length, map};
 ghost use Rattle.std.specs.declared.option.Option.TheVariants.{None, Some};
 ghost use Rattle.szg_c.specs.Fronts.{IsFront, StopsFront};
 ghost use Rattle.szg_c.specs.Tablebases.{IsAdded, IsClassProbed, IsDistanceProbed, IsMissingReported, IsRankedWritten, files_of, position_of, position_status, promotion_code, raw_move};
 
-use crate::handle::{hold, put, share, shut, take};
+use crate::handle::{put, share, shut, take};
 use crate::held_tablebase::HeldTablebase;
 use crate::men::{CodedMan, are_coded_men, color_of, placed_men};
 use crate::opening::{Answer, kind_of, material_of};
 use crate::places::place_status;
-use crate::shared::Shared;
 use crate::status::{
     BAD_BLOCK, CONTRADICTION, DONE, EN_PASSANT, IN_CHECK, MAN, MEMORY, MEN, MISSING, NAME,
     NO_CLASS, PAWN_RANK, RANGE, REFUSED, SAME_SQUARE, number_of,
 };
-use crate::tablebase::Tablebase;
 use crate::texts::print;
 use arrayvec::ArrayVec;
 use std::alloc::Global;
@@ -100,24 +98,18 @@ fn opened(
     }
 }
 
-/// Stores the tables of a tablebase and one more.
-fn store(
-    alloc: Global,
-    tablebase: &mut HeldTablebase,
-    mut tables: Tablebase<'static>,
-    table: MappedTable<'static>,
-) -> u32
-    ensures done { (result ≡ 0) → tablebase.new.value ≡ Some (tables.entry ++ table.entry ∷ []) }
-    ensures kept { (result ≡ 0 → ⊥) → tablebase.new.value ≡ tablebase.old.value }
-    ensures statuses { (result ≡ 0) ⊎ (result ≡ 3) }
+/// Takes the tables of a tablebase; a set of no table, if it has none. None if memory is refused.
+fn take_tables(alloc: Global, tablebase: &mut HeldTablebase) -> Option<Box<MappedSet<'static>>>
+    ensures tables { IfSome result (λ tables. tables.value ≡ files_of tablebase.old.value) }
+    ensures kept { IfNone result (tablebase.new.value ≡ tablebase.old.value) }
 {
-    if tables.push(table).is_err() {
-        return MEMORY;
+    match take(tablebase, alloc) {
+        Some(tables) => Some(tables),
+        None => match Box::new(alloc, MappedSet::of(Vec::new(alloc))) {
+            Ok(tables) => Some(tables),
+            Err(_) => None,
+        },
     }
-    let Ok(shared) = Shared::new(alloc, tables) else {
-        return MEMORY;
-    };
-    hold(alloc, tablebase, shared)
 }
 
 /// Adds a table to a tablebase, behind the others: that of this name and kind whose file the bytes are. It reads and checks
@@ -143,13 +135,13 @@ pub extern "C" fn szg_tablebase_add(
         Ok(table) => table,
         Err(status) => return status,
     };
-    let Some(held) = take(tablebase, alloc) else {
-        return store(alloc, tablebase, Tablebase::new(alloc), table);
+    let Some(mut tables) = take_tables(alloc, tablebase) else {
+        return MEMORY;
     };
-    let tables = held.value().again(alloc);
-    put(tablebase, held);
-    match tables {
-        Ok(tables) => store(alloc, tablebase, tables, table),
+    let added = tables.push(table);
+    put(tablebase, tables);
+    match added {
+        Ok(()) => DONE,
         Err(_) => MEMORY,
     }
 }
@@ -247,12 +239,13 @@ fn report_missing(missing: Missing, lack: &mut RawMissing) -> u32
 
 /// Writes the class of a position by a set of tables; returns the status.
 fn class_in(
-    set: &mut MappedSet<'_, '_>,
+    set: &mut MappedSet<'static>,
     position: &Position,
     class: &mut i8,
     lack: &mut RawMissing,
 ) -> u32
-    ensures reported { IsClassProbed set.old.tables.now position.now result class.new lack.old lack.new }
+    ensures kept { set.new ≡ set.old }
+    ensures reported { IsClassProbed set.old position.now result class.new lack.old lack.new }
     ensures class_stays { (result ≡ 0 → ⊥) → class.new ≡ class.old }
     ensures lack_stays { (result ≡ 0) → lack.new ≡ lack.old }
 {
@@ -290,23 +283,24 @@ pub extern "C" fn szg_tablebase_wdl(
         Ok(position) => position,
         Err(status) => return status,
     };
-    let Some(held) = take(tablebase, alloc) else {
-        return class_in(&mut MappedSet::new(&[]), &position, class, lack);
+    let Some(mut held) = take(tablebase, alloc) else {
+        return class_in(&mut MappedSet::of(Vec::new(alloc)), &position, class, lack);
     };
-    let status = class_in(&mut held.value().set(), &position, class, lack);
+    let status = class_in(&mut held, &position, class, lack);
     put(tablebase, held);
     status
 }
 
 /// Writes the class and the DTZ of a position by a set of tables; returns the status.
 fn distance_in(
-    set: &mut MappedSet<'_, '_>,
+    set: &mut MappedSet<'static>,
     position: &Position,
     counter: u32,
     distance: &mut RawDistance,
     lack: &mut RawMissing,
 ) -> u32
-    ensures reported { IsDistanceProbed set.old.tables.now counter position.now result distance.new lack.old lack.new }
+    ensures kept { set.new ≡ set.old }
+    ensures reported { IsDistanceProbed set.old counter position.now result distance.new lack.old lack.new }
     ensures distance_stays { (result ≡ 0 → ⊥) → distance.new ≡ distance.old }
 {
     match probe_dtz(set, position) {
@@ -346,10 +340,16 @@ pub extern "C" fn szg_tablebase_dtz(
         Ok(position) => position,
         Err(status) => return status,
     };
-    let Some(held) = take(tablebase, alloc) else {
-        return distance_in(&mut MappedSet::new(&[]), &position, counter, distance, lack);
+    let Some(mut held) = take(tablebase, alloc) else {
+        return distance_in(
+            &mut MappedSet::of(Vec::new(alloc)),
+            &position,
+            counter,
+            distance,
+            lack,
+        );
     };
-    let status = distance_in(&mut held.value().set(), &position, counter, distance, lack);
+    let status = distance_in(&mut held, &position, counter, distance, lack);
     put(tablebase, held);
     status
 }
@@ -393,14 +393,15 @@ fn raw_moves(ranked: &[RankedMove]) -> ArrayVec<RawMove, MAX_MOVES>
 
 /// Writes the moves of a position to the beginning of a list, the best first, by a set of tables; returns the status.
 fn moves_in(
-    set: &mut MappedSet<'_, '_>,
+    set: &mut MappedSet<'static>,
     position: &Position,
     counter: u32,
     moves: &mut [RawMove],
     count: &mut usize,
     lack: &mut RawMissing,
 ) -> u32
-    ensures reported { IsRankedWritten set.old.tables.now counter position.now result moves.old moves.new count.new lack.old lack.new }
+    ensures kept { set.new ≡ set.old }
+    ensures reported { IsRankedWritten set.old counter position.now result moves.old moves.new count.new lack.old lack.new }
     ensures stays { (result ≡ 0 → ⊥) → (moves.new ≡ moves.old) × (count.new ≡ count.old) }
 {
     let ranked = match rank_moves(set, position, counter) {
@@ -442,9 +443,9 @@ pub extern "C" fn szg_tablebase_moves(
         Ok(position) => position,
         Err(status) => return status,
     };
-    let Some(held) = take(tablebase, alloc) else {
+    let Some(mut held) = take(tablebase, alloc) else {
         return moves_in(
-            &mut MappedSet::new(&[]),
+            &mut MappedSet::of(Vec::new(alloc)),
             &position,
             counter,
             moves,
@@ -452,14 +453,7 @@ pub extern "C" fn szg_tablebase_moves(
             lack,
         );
     };
-    let status = moves_in(
-        &mut held.value().set(),
-        &position,
-        counter,
-        moves,
-        count,
-        lack,
-    );
+    let status = moves_in(&mut held, &position, counter, moves, count, lack);
     put(tablebase, held);
     status
 }

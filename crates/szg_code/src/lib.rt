@@ -18,7 +18,7 @@ mod writer;
 pub use canonical::{Code, word};
 pub use code_word::Word;
 pub use reader::{Bits, NextWords, next, next_words};
-pub use word_reader::{WordReader, next_word};
+pub use word_reader::{WordReader, next_word, next_word_if};
 pub use writer::{BitBuf, put};
 
 /// Why a code is refused: the first fault in this order.

@@ -1,5 +1,5 @@
-//! A reader for bits that are known to begin with words.
-ghost use Rattle.std.specs.Prelude.{◌≡◌, ◌*◌, ◌^◌, ◌<◌, ◌≤◌, ◌%◌, ◌+◌, [], ◌++◌, length, take, drop};
+//! A reader of words, quick where they are of one length mostly.
+ghost use Rattle.std.specs.Prelude.{◌≡◌, ◌*◌, ◌^◌, ◌<◌, ◌≤◌, ◌%◌, ◌+◌, [], ◌++◌, IfNone, IfSome, length, take, drop};
 ghost use Rattle.szg_code.specs.Bits.{bits, number};
 ghost use Rattle.szg_code.specs.Spelling.{BeginsWithNoWord};
 ghost use Rattle.szg_code.specs.Cursor.{TakesWord};
@@ -23,7 +23,7 @@ struct Window {
     held: u64,
 }
 
-/// A bit reader over borrowed bytes, each byte's high bit first, for bits that are known to begin with words.
+/// A bit reader over borrowed bytes, each byte's high bit first.
 ///
 /// The window is read anew when it may be too short for the longest word. A word counts as a longest one there, so the
 /// number of words between two such reads is always the same, and a processor can predict it.
@@ -111,4 +111,37 @@ pub fn next_word(code: &Code, words: &mut WordReader) -> u16
         held: window.held - longest,
     };
     symbol
+}
+
+/// Returns the number of bits after the first `offset` bits.
+fn bits_left(bytes: &[u8], offset: u64) -> u64
+    requires fits { length bytes.now ≤ 2 ^ 60 }
+    requires inside { offset ≤ 8 * length bytes.now }
+    ensures { result + offset ≡ 8 * length bytes.now }
+{
+    8 * bytes.len() as u64 - offset
+}
+
+/// Decodes the word at the reader's offset, moves the reader past it, and returns its symbol, as `next_word` does, but for any
+/// bits. None if the remaining bits do not begin with a word.
+#[inline(always)]
+pub fn next_word_if(code: &Code, words: &mut WordReader) -> Option<u16>
+    ensures found { IfSome result (λ s. TakesWord code.now words.old words.new s) }
+    ensures none { IfNone result (BeginsWithNoWord code.now words.old.left) }
+{
+    let longest = code.longest();
+    let window = window_of(words.bytes, words.offset, words.window, longest);
+    let j = code.first_reached_index(window.bits);
+    let count = u64::from(code.min()) + j as u64;
+    let left = bits_left(words.bytes, words.offset);
+    if count > left {
+        return None;
+    }
+    let symbol = code.symbol_in(window.bits, j)?;
+    words.offset += count;
+    words.window = Window {
+        bits: window.bits << count,
+        held: window.held - longest,
+    };
+    Some(symbol)
 }

@@ -12,3 +12,4 @@ pub mod Chosen
 pub mod OnFiles
 pub mod Requested
 pub mod Statuses
+pub mod Copies

@@ -234,7 +234,7 @@ fn file_example(name: &str) -> &'static str {
         "values" =>
             "Example: szg values KPvK.rtbw --part c{n}Standard input: szg values KPvK wdl --part c < KPvK.rtbw",
         "copy" =>
-            "Example: szg copy KQvK.rtbw -o copy.rtbw{n}Standard input: szg copy KQvK wdl < KQvK.rtbw > copy.rtbw",
+            "Example: szg copy KQvK.rtbw -o copy.rtbw{n}Good tables into a folder: szg copy [--sums LIST] FILE.. FOLDER{n}Standard input: szg copy KQvK wdl < KQvK.rtbw > copy.rtbw",
         "dump" =>
             "Example: szg dump KQvK.rtbw -o KQvK.txt{n}Standard input: szg dump KQvK wdl < KQvK.rtbw > KQvK.txt",
         "build" =>

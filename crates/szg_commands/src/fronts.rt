@@ -315,7 +315,7 @@ pub fn answer_in<S: FileSystem>(
 }
 
 /// Why a read of a file failed.
-fn read_failure(file: &impl Reasons) -> FileFault {
+pub(crate) fn read_failure(file: &impl Reasons) -> FileFault {
     match file.reason() {
         Some(error) => FileFault::System(error),
         None => FileFault::System(ErrorKind::Other.into()),

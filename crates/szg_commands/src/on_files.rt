@@ -16,7 +16,7 @@ ghost use Rattle.szg_commands.specs.declared.refusal.Refusal.{Refusal};
 use crate::commands::{carry_out, refuse, run_by, words_outcome};
 use crate::file_words::{CheckJob, FileJob, names_files, parse_files};
 use crate::finding::Finder;
-use crate::fronts::{LookUpStop, answer_in};
+use crate::fronts::{LookUpStop, answer_in, read_failure};
 use crate::outcome::Outcome;
 use crate::refusal::{Refusal, Stop};
 use crate::request::{Request, Task};
@@ -27,14 +27,15 @@ use std::io::ErrorKind;
 use std::rt::Files;
 use std::time::Clock;
 use szg_build::Watcher;
-use szg_file::Ahead;
-use szg_files::{Draft, FileFault, FileSystem, Published, Reasons};
+use szg_file::{Ahead, ReadFault, open_front};
+use szg_files::{Disk, Draft, FileFault, FileSystem, Lock, Published, Reasons};
 use szg_io::{Input, Output, give_whole};
 use szg_named::{
     CheckOptions, CheckReport, ListFailure, ListFault, Log, check_files, check_found,
-    files_to_check, read_lists,
+    files_to_check, kind_at, named_by, read_lists,
 };
 use szg_sums::Sums;
+use szg_values::{Kind, Material};
 
 /// A file that can't be opened, read or written, and why.
 #[derive(Clone, Copy)]
@@ -65,6 +66,8 @@ fn carry_out_into<'a, I: Input, R: Files, V: Watcher>(
     target: &'a str,
     watcher: &mut V,
 ) -> Result<Published<'a>, FileStop<'a>>
+where
+    R::File: Lock,
     ensures stated { IfOk result (λ published. IsPublishedBy I.Input task.now target.now input.old input.new published) }
     ensures refused { (refusal : Refusal) → IsErrOf result (FileStop.Refused refusal) → Meets I.Input task.now input.old input.new refusal }
 {
@@ -73,7 +76,7 @@ fn carry_out_into<'a, I: Input, R: Files, V: Watcher>(
         Err(fault) => return Err(failed(target, fault)),
     };
     match carry_out(alloc, task, input, &mut draft.file, watcher) {
-        Ok(()) => published(draft, target),
+        Ok(()) => published(alloc, draft, files, target),
         Err(Stop::Refused(refusal)) => {
             draft.discard();
             Err(FileStop::Refused(refusal))
@@ -96,30 +99,59 @@ pub fn failed(path: &str, fault: FileFault) -> FileStop<'_>
 {
     match fault {
         FileFault::Memory => FileStop::Memory,
-        FileFault::NotRegular => FileStop::Failed(FileFailure {
-            path,
-            fault: FileFault::NotRegular,
-        }),
-        FileFault::System(error) => FileStop::Failed(FileFailure {
-            path,
-            fault: FileFault::System(error),
-        }),
+        fault => FileStop::Failed(FileFailure { path, fault }),
     }
 }
 
-/// Flushes a draft to the disk, and renames it over its target.
+/// Whether the file at a path is what a name says of its table. A name whose beginning is no material's says the kind only.
+fn is_table_of(
+    alloc: Global,
+    files: &impl Files,
+    path: &str,
+    name: &str,
+    kind: Kind,
+) -> Result<bool, FileFault> {
+    let Ok(material) = Material::parse(name) else {
+        return Ok(kind_at(files, path) == Some(kind));
+    };
+    let mut disk = Disk::new(alloc, files);
+    let mut file = disk.open(path)?;
+    let size = disk.len(&file)?;
+    match open_front(alloc, material, kind, size, &mut file) {
+        Ok(_) => Ok(true),
+        Err(ReadFault::Refused { .. }) => Ok(false),
+        Err(ReadFault::Memory) => Err(FileFault::Memory),
+        Err(ReadFault::Device) => Err(read_failure(&file)),
+    }
+}
+
+/// Flushes a draft to the disk, and renames it over its target. A target that is named as a table becomes no other one, and no
+/// dump.
 fn published<'a, R: Files>(
+    alloc: Global,
     draft: Draft<'a, R>,
+    files: &'a R,
     target: &'a str,
 ) -> Result<Published<'a>, FileStop<'a>>
     ensures text { IfOk result (λ published. published_text published ≡ text_of draft.entry.file) }
     ensures target { IfOk result (λ published. published_target published ≡ draft_target draft.entry) }
     ensures refused { (refusal : Refusal) → IsErrOf result (FileStop.Refused refusal) → ⊥ }
 {
-    let sealed = match draft.seal() {
+    let sealed = match draft.seal(None) {
         Ok(sealed) => sealed,
         Err(fault) => return Err(failed(target, fault)),
     };
+    if let Some((name, kind)) = named_by(target) {
+        let fault = match is_table_of(alloc, files, sealed.path(), name, kind) {
+            Ok(true) => None,
+            Ok(false) => Some(FileFault::OtherTable),
+            Err(fault) => Some(fault),
+        };
+        if let Some(fault) = fault {
+            sealed.discard();
+            return Err(failed(target, fault));
+        }
+    }
     match sealed.publish() {
         Ok(published) => Ok(published),
         Err(fault) => Err(failed(target, fault)),
@@ -137,6 +169,8 @@ fn carry_out_to<'a, I: Input, R: Files, W: Output, V: Watcher>(
     writer: &mut W,
     watcher: &mut V,
 ) -> Result<Option<Published<'a>>, FileStop<'a>>
+where
+    R::File: Lock,
     ensures stated { IfOk result (λ published. IsCarriedTo I.Input W.Output task.now (option_map (λ path. path.now) target.entry) input.old input.new writer.old writer.new published) }
     ensures refused { (refusal : Refusal) → IsErrOf result (FileStop.Refused refusal) → (writer.new ≡ writer.old) × Meets I.Input task.now input.old input.new refusal }
     ensures failed { (failure : FileFailure) → IsErrOf result (FileStop.Failed failure) → writer.new ≡ writer.old }
@@ -169,6 +203,8 @@ fn carry_out_from<'a, S: FileSystem, R: Files, W: Output, V: Watcher>(
     writer: &mut W,
     watcher: &mut V,
 ) -> Result<Option<Published<'a>>, FileStop<'a>>
+where
+    R::File: Lock,
     ensures stated { IfOk result (λ published. IsCarriedFrom S.content S.failures S.File.Input W.Output task.now source.now (option_map (λ path. path.now) target.entry) system.old system.new writer.old writer.new published) }
     ensures refused { (refusal : Refusal) → IsErrOf result (FileStop.Refused refusal) → (writer.new ≡ writer.old)
         × MeetsFrom S.content S.failures S.File.Input task.now source.now system.old system.new refusal }
@@ -202,6 +238,7 @@ fn stream_into<'a, S: FileSystem, R: Files>(
     files: &'a R,
 ) -> Result<Published<'a>, FileStop<'a>>
 where
+    R::File: Lock,
     S::File: Ahead,
     requires listed { IsListed request.now.action }
     ensures stated { IfOk result (λ published. IsPublishedFrom S.content S.failures S.File.Input (Task.OnTable request.now) source.now target.now system.old system.new published) }
@@ -212,7 +249,7 @@ where
         Err(fault) => return Err(failed(target, fault)),
     };
     match stream_from(alloc, request, source, system, &mut draft.file) {
-        Ok(()) => published(draft, target),
+        Ok(()) => published(alloc, draft, files, target),
         Err(FileStop::Device) => match draft.abandon() {
             Some(fault) => Err(failed(target, fault)),
             None => Err(FileStop::Device),
@@ -235,6 +272,7 @@ fn stream_to<'a, S: FileSystem, R: Files, W: Output>(
     writer: &mut W,
 ) -> Result<Option<Published<'a>>, FileStop<'a>>
 where
+    R::File: Lock,
     S::File: Ahead,
     requires listed { IsListed request.now.action }
     ensures stated { IfOk result (λ published. IsCarriedFrom S.content S.failures S.File.Input W.Output (Task.OnTable request.now) source.now (option_map (λ path. path.now) target.entry) system.old system.new writer.old writer.new published) }
@@ -266,6 +304,7 @@ fn carry_out_file<'a, S: FileSystem, R: Files, W: Output, V: Watcher>(
     watcher: &mut V,
 ) -> Result<Option<Published<'a>>, FileStop<'a>>
 where
+    R::File: Lock,
     S::File: Ahead,
     ensures stated { IfOk result (λ published. IsCarriedFrom S.content S.failures S.File.Input W.Output task.now source.now (option_map (λ path. path.now) target.entry) system.old system.new writer.old writer.new published) }
     ensures refused { (refusal : Refusal) → IsErrOf result (FileStop.Refused refusal) → (writer.new ≡ writer.old)
@@ -347,6 +386,7 @@ fn run_from<'a, S: FileSystem, D: Files, W: Output, V: Watcher>(
     watcher: &mut V,
 ) -> Ending<'a>
 where
+    D::File: Lock,
     S::File: Ahead,
     ensures { EndsTask result (λ published. IsCarriedFrom S.content S.failures S.File.Input W.Output task.now source.now (option_map (λ path. path.now) target.entry) system.old system.new writer.old writer.new published)
         ((refusal : Refusal) × MeetsFrom S.content S.failures S.File.Input task.now source.now system.old system.new refusal × Gives W.Output writer.old writer.new (refusal_line refusal) 0)
@@ -372,6 +412,8 @@ fn run_to<'a, R: Input, D: Files, W: Output, V: Watcher>(
     writer: &mut W,
     watcher: &mut V,
 ) -> Ending<'a>
+where
+    D::File: Lock,
     ensures { EndsTask result (λ published. IsCarriedTo R.Input W.Output task.now (option_map (λ path. path.now) target.entry) reader.old reader.new writer.old writer.new published)
         ((refusal : Refusal) × Meets R.Input task.now reader.old reader.new refusal × Gives W.Output writer.old writer.new (refusal_line refusal) 0)
         (IsUnwritten W.Output writer.old writer.new) (IsStarted R.Input W.Output task.now reader.old reader.new writer.old writer.new) }
@@ -398,6 +440,7 @@ fn run_task<'a, R: Input, W: Output, S: FileSystem, D: Files, V: Watcher>(
     watcher: &mut V,
 ) -> Ending<'a>
 where
+    D::File: Lock,
     S::File: Ahead,
     ensures { EndsTask result (HasDoneTask S.content S.failures S.File.Input R.Input W.Output task.now source.entry target.entry system.old system.new reader.old reader.new writer.old writer.new)
         (HasRefusedTask S.content S.failures S.File.Input R.Input W.Output task.now source.entry system.old system.new reader.old reader.new writer.old writer.new)
@@ -448,7 +491,7 @@ fn run_look_up<'a, S: FileSystem, W: Output>(
 }
 
 /// How a check ends before its first file where another file fails.
-fn unchecked(path: &str, fault: FileFault) -> Ending<'_>
+pub(crate) fn unchecked(path: &str, fault: FileFault) -> Ending<'_>
     ensures { EndsCheck result (λ report. ⊥) (λ given. ⊥) ⊥ (Unit {0}) }
 {
     match fault {
@@ -458,7 +501,7 @@ fn unchecked(path: &str, fault: FileFault) -> Ending<'_>
 }
 
 /// How a check ends where a list of sums, or a log, isn't read; `due` is what its lines have to be.
-fn unread_list<'a>(failure: ListFailure<'a>, due: LineKind) -> Ending<'a>
+pub(crate) fn unread_list<'a>(failure: ListFailure<'a>, due: LineKind) -> Ending<'a>
     ensures { EndsCheck result (λ report. ⊥) (λ given. ⊥) ⊥ (Unit {0}) }
 {
     let ListFailure { path, fault } = failure;
@@ -469,7 +512,7 @@ fn unread_list<'a>(failure: ListFailure<'a>, due: LineKind) -> Ending<'a>
 }
 
 /// What was read from files, if any are named.
-fn given<'s, T>(files: &[&str], read: &'s T) -> Option<&'s T>
+pub(crate) fn given<'s, T>(files: &[&str], read: &'s T) -> Option<&'s T>
     ensures { IsGiven files.now result }
 {
     if files.is_empty() {
@@ -490,7 +533,7 @@ fn list_into<'a, R: Files>(mut draft: Draft<'a, R>, text: &[u8]) -> Result<Publi
             None => FileFault::System(ErrorKind::Other.into()),
         });
     }
-    draft.seal()?.publish()
+    draft.seal(None)?.publish()
 }
 
 /// Checks files, and writes the list of the digests of those that pass to the file at `target`: at the end, and whole.
@@ -505,6 +548,7 @@ fn check_into<'a, S: FileSystem, D: Files + Clock, W: Output>(
     writer: &mut W,
 ) -> Ending<'a>
 where
+    D::File: Lock,
     S::File: Ahead,
     ensures { EndsCheck result (λ report. IsFoundReport S.content S.failures S.File.Input W.Output options.entry (map (λ path. path.now) paths.now) system.old system.new writer.old writer.new report)
         (λ given. given ≡ Some target.now) (HasFailed (W.failures writer.old) (W.failures writer.new) (W.interrupted writer.new)) (writer.new ≡ writer.old) }
@@ -541,6 +585,7 @@ fn check_by<'a, S: FileSystem, D: Files + Clock, W: Output>(
     writer: &mut W,
 ) -> Ending<'a>
 where
+    D::File: Lock,
     S::File: Ahead,
     ensures { EndsCheck result (λ report. IsFoundReport S.content S.failures S.File.Input W.Output options.entry (map (λ path. path.now) paths.now) system.old system.new writer.old writer.new report)
         (λ given. given ≡ option_map (λ path. path.now) target.entry) (HasFailed (W.failures writer.old) (W.failures writer.new) (W.interrupted writer.new)) (writer.new ≡ writer.old) }
@@ -561,6 +606,7 @@ fn run_check<'a, S: FileSystem, D: Files + Clock, W: Output>(
     writer: &mut W,
 ) -> Ending<'a>
 where
+    D::File: Lock,
     S::File: Ahead,
     ensures { EndsCheck result (IsAskedReport S.content S.failures S.File.Input W.Output (asked_of job.entry) system.old system.new writer.old writer.new)
         (IsTargetOf (asked_of job.entry)) (HasFailed (W.failures writer.old) (W.failures writer.new) (W.interrupted writer.new)) (writer.new ≡ writer.old) }
@@ -597,6 +643,7 @@ pub fn run_words<'a, P: Finder, R: Input, W: Output, S: FileSystem, D: Files + C
     watcher: &mut V,
 ) -> Ending<'a>
 where
+    D::File: Lock,
     S::File: Ahead,
     // It asks to check files and gives no options: they were checked in their order, just their lines and the summary
     // were written, and the reader stays.

@@ -1,7 +1,9 @@
-//! How far a build or a verification has come, shown on a terminal.
+//! How far a build, a verification or the reading of files has come, shown on a terminal.
+use std::cell::Cell;
 use std::fmt::{self, Display, Formatter};
 use std::time::{Clock, Duration, Instant};
 use szg_build::Watcher;
+use szg_files::ReadWatcher;
 use szg_values::Material;
 use szg_verified::Progress;
 use szg_verify::Watcher as WalkWatcher;
@@ -203,5 +205,102 @@ impl<'a, E: Eprint, C: Clock> Progress for ProgressLine<'a, E, C> {
             let _ = eprint!(self.errors; "{ERASE}");
         }
         self.walk = None;
+    }
+}
+
+/// What was read of files.
+#[derive(Clone, Copy)]
+struct ReadSoFar {
+    files: u64,
+    bytes: u64,
+    /// When the first file was opened. None before, and if the clock failed.
+    began: Option<Instant>,
+    /// When the line was written last, or else the first file was opened.
+    written: Option<Instant>,
+    is_shown: bool,
+}
+
+impl ReadSoFar {
+    /// Returns the megabytes that were read in a second up to now.
+    fn rate(&self, now: Instant) -> u64 {
+        let millis = match self.began {
+            Some(began) => now.duration_since(began).as_millis().max(1),
+            None => 1,
+        };
+        self.bytes / 1000 / u64::try_from(millis).unwrap_or(u64::MAX).max(1)
+    }
+}
+
+/// Shows on standard error how many files and bytes were read, and how fast: one line, as `ProgressLine` does.
+#[derive(Drop)]
+pub struct ReadLine<'a, E, C> {
+    errors: &'a E,
+    clock: &'a C,
+    is_terminal: bool,
+    so_far: Cell<ReadSoFar>,
+}
+
+impl<'a, E: Eprint, C: Clock> ReadLine<'a, E, C> {
+    /// Creates it without a line; `is_terminal` is whether `errors` is a terminal.
+    pub fn new(errors: &'a E, clock: &'a C, is_terminal: bool) -> ReadLine<'a, E, C> {
+        ReadLine {
+            errors,
+            clock,
+            is_terminal,
+            so_far: Cell::new(ReadSoFar {
+                files: 0,
+                bytes: 0,
+                began: None,
+                written: None,
+                is_shown: false,
+            }),
+        }
+    }
+
+    /// Erases the line if there is one.
+    pub(crate) fn erase(&self) {
+        let mut so_far = self.so_far.get();
+        if so_far.is_shown {
+            let _ = eprint!(self.errors; "{ERASE}");
+            so_far.is_shown = false;
+            self.so_far.set(so_far);
+        }
+    }
+
+    /// Adds files and bytes, and writes the line if that was long ago.
+    fn add(&self, files: u64, bytes: u64) {
+        let Ok(now) = Instant::now(self.clock) else {
+            return;
+        };
+        let mut so_far = self.so_far.get();
+        so_far.files = so_far.files.saturating_add(files);
+        so_far.bytes = so_far.bytes.saturating_add(bytes);
+        so_far.began = so_far.began.or(Some(now));
+        let written = so_far.written.unwrap_or(now);
+        so_far.written = Some(written);
+        if now.duration_since(written) >= Duration::from_millis(PAUSE_MILLIS) {
+            let ReadSoFar { files, bytes, .. } = so_far;
+            let (megabytes, rate) = (bytes / 1_000_000, so_far.rate(now));
+            let _ = eprint!(self.errors;
+                "{ERASE}files {files}, {megabytes} MB, {rate} MB a second"
+            );
+            so_far.written = Some(now);
+            so_far.is_shown = true;
+        }
+        self.so_far.set(so_far);
+    }
+}
+
+impl<'a, E: Eprint, C: Clock> ReadWatcher for ReadLine<'a, E, C> {
+    fn see_open(&self) {
+        if self.is_terminal {
+            self.add(1, 0);
+        }
+    }
+
+    fn see_read(&self, bytes: u64) {
+        if self.is_terminal {
+            self.add(0, bytes);
+        }
     }
 }

@@ -1,10 +1,12 @@
 //! A run of the program: a command line on a machine's files and on an input and an output.
 ghost use Rattle.std.specs.Prelude.{◌≡◌, IfOk, OnErr, OnOk, map, string_bytes};
 
+use crate::copying::{copies_of, run_copies};
 use crate::finding::Clap;
 use crate::meant::meant_name;
 use crate::on_files::{Ending, run_words};
 use crate::outcome::Outcome;
+use crate::progress::ReadLine;
 use crate::results::{asked_of, is_fen, run_results};
 use crate::statuses::{ending_status, status_of};
 use crate::verification::{run_verify, verification_of};
@@ -15,8 +17,9 @@ use std::process::ExitCode;
 use std::rt::Files;
 use std::time::Clock;
 use szg_build::Watcher;
-use szg_files::{Disk, Monitored};
+use szg_files::{Disk, Lock, Monitored};
 use szg_io::Std;
+use szg_named::escaped_path;
 use szg_verified::Progress;
 
 /// The words of the command line.
@@ -58,7 +61,10 @@ fn is_refused(ending: &Ending<'_>) -> bool {
 /// Prints on standard error, for each word with the sides exchanged, the name that is meant.
 fn print_meant(rt: &(impl Eprint + AllocGlobal), texts: &[&str]) {
     'texts: for text in texts {
-        if let Ok(Some(meant)) = meant_name(rt.alloc(), text) {
+        if let (Ok(Some(meant)), Ok(text)) = (
+            meant_name(rt.alloc(), text),
+            escaped_path(rt.alloc(), text),
+        ) {
             let _ = eprintln!(rt; "{text}: the side with more men comes first: {meant}");
         }
     }
@@ -85,16 +91,21 @@ pub fn print_assumed_class(rt: &(impl Eprint + AllocGlobal), words: &[String]) {
 }
 
 /// Runs the words of a command line on a machine's files, on an input and an output; faults are printed on standard error.
-/// `watcher` sees a build or a verification. `is_terminal` says whether the output is a terminal.
-pub fn run_given(
+/// `watcher` sees a build or a verification, and `reads` shows what is read of files. `is_terminal` says whether the output is a
+/// terminal.
+pub fn run_given<D: Files + Clock>(
     rt: &(impl Eprint + AllocGlobal),
-    machine: &(impl Files + Clock),
+    machine: &D,
     words: &[String],
     is_terminal: bool,
     input: impl Read + Drop,
     output: impl Write + Drop,
     watcher: &mut (impl Watcher + Progress),
-) -> ExitCode {
+    reads: &ReadLine<'_, impl Eprint, impl Clock>,
+) -> ExitCode
+where
+    D::File: Lock,
+{
     let Ok(texts) = texts_of(rt.alloc(), words) else {
         return status_of(rt, &Outcome::Memory);
     };
@@ -111,19 +122,41 @@ pub fn run_given(
         machine,
         texts.as_slice(),
         input,
-        output,
+        Above { output, reads },
         watcher,
+        reads,
     );
+    reads.erase();
     if is_refused(&ending) && !is_closed {
         print_meant(rt, texts.as_slice());
     }
     ending_status(rt, ending, is_closed)
 }
 
-/// The number of bytes of the output that are written at once. Each line of a check is written when its file was checked, so that
-/// a run that is cut off leaves whole lines.
-fn buffer_for(texts: &[&str]) -> usize {
-    if texts.get(1) == Some(&"check") {
+/// An output whose lines come above what a terminal shows of reads.
+#[derive(Drop)]
+struct Above<'a, 'b, W, E, C> {
+    output: W,
+    reads: &'a ReadLine<'b, E, C>,
+}
+
+impl<'a, 'b, W: Write, E: Eprint, C: Clock> Write for Above<'a, 'b, W, E, C> {
+    ghost contents = { λ above. W.contents above.output };
+
+    fn write(&mut self, buf: &[u8]) -> io::Result<usize> {
+        self.reads.erase();
+        self.output.write(buf)
+    }
+
+    fn flush(&mut self) -> io::Result<()> {
+        self.output.flush()
+    }
+}
+
+/// The number of bytes of the output that are written at once. Each line of a check or a copy is written when its file was checked,
+/// so that a run that is cut off leaves whole lines.
+fn buffer_for(texts: &[&str], is_copies: bool) -> usize {
+    if is_copies || texts.get(1) == Some(&"check") {
         0
     } else {
         1 << 13
@@ -139,24 +172,34 @@ fn run_on_streams<'a, D: Files + Clock>(
     input: impl Read + Drop,
     output: impl Write + Drop,
     watcher: &mut impl Watcher,
-) -> (Ending<'a>, bool) {
-    let Ok(mut writer) = BufWriter::with_capacity(alloc, buffer_for(texts), Monitored::new(output))
-    else {
+    reads: &ReadLine<'_, impl Eprint, impl Clock>,
+) -> (Ending<'a>, bool)
+where
+    D::File: Lock,
+{
+    let Ok(copies) = copies_of(alloc, texts) else {
         return (Ending::Memory, false);
     };
-    let mut disk = Disk::new(alloc, machine);
+    let buffer = buffer_for(texts, copies.is_some());
+    let Ok(mut writer) = BufWriter::with_capacity(alloc, buffer, Monitored::new(output)) else {
+        return (Ending::Memory, false);
+    };
+    let mut disk = Disk::watched(alloc, machine, reads);
     let mut reader = Std::new(input);
     let mut output = Std::new(&mut writer);
-    let ending = run_words(
-        alloc,
-        &Clap,
-        texts,
-        &mut disk,
-        machine,
-        &mut reader,
-        &mut output,
-        watcher,
-    );
+    let ending = match &copies {
+        Some(asked) => run_copies(alloc, &mut disk, machine, asked, &mut output),
+        None => run_words(
+            alloc,
+            &Clap,
+            texts,
+            &mut disk,
+            machine,
+            &mut reader,
+            &mut output,
+            watcher,
+        ),
+    };
     let flushed = writer.flush();
     let is_closed = match writer.get_ref().error() {
         Some(error) => error.kind() == io::ErrorKind::BrokenPipe,

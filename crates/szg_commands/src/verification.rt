@@ -43,7 +43,7 @@ pub(crate) fn verification_of<'a>(
     alloc: Global,
     words: &'a [&'a str],
 ) -> Result<Option<FolderWords<'a>>, AllocError> {
-    let Some(mut rest) = after_command(words) else {
+    let Some(mut rest) = after_command(words, "verify") else {
         return Ok(None);
     };
     let mut found = FolderWords {
@@ -75,14 +75,14 @@ pub(crate) fn verification_of<'a>(
     })
 }
 
-/// Returns the words after the command `verify`. None for another command.
-fn after_command<'a>(words: &'a [&'a str]) -> Option<&'a [&'a str]> {
-    words.get(1..)?.strip_prefix(&["verify"])
+/// Returns the words after a command. None for another command.
+pub(crate) fn after_command<'a>(words: &'a [&'a str], command: &'a str) -> Option<&'a [&'a str]> {
+    words.get(1..)?.strip_prefix(&[command])
 }
 
 /// Returns the value of an option and the words after it: it is in the option's word, after `=`, or it is the next word. None
 /// for another option, and without a value.
-fn value_of<'a>(
+pub(crate) fn value_of<'a>(
     option: &str,
     word: &'a str,
     rest: &'a [&'a str],

@@ -6,6 +6,7 @@ pub mod FrontLaws
 pub mod FrontValid
 pub mod FrontTables
 pub mod OpenedLaws
+pub mod PassedLaws
 pub mod OutlinedLaws
 pub mod PlacingLaws
 pub mod WantedLaws

@@ -26,6 +26,7 @@ pub use lookup::constant_value;
 pub use opened::fetching::{ByteRange, FetchFault, Located};
 pub use opened::forward::Ahead;
 pub use opened::front_table::{FrontTable, open_front};
+pub use opened::passed::Passed;
 pub use opened::{OpenFault, Opened, open};
 pub use reading::in_memory::read_bytes;
 pub use reading::parts::{has_two_sides, part_count};

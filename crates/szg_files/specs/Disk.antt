@@ -2,5 +2,5 @@
 use Rattle.std.specs.Prelude.{ℕ}
 use Rattle.szg_files.specs.declared.disk.Disk.{Disk}
 
-abbrev pub failures_of : {R F D : Type 0} → Disk R F D → ℕ
+abbrev pub failures_of : {R F D P : Type 0} → Disk R F D P → ℕ
 failures_of disk = disk.failures

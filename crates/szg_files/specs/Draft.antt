@@ -15,7 +15,7 @@ abbrev pub text_of : {F A : Type 0} → Std (BufWriter (Monitored F) A) → List
 text_of file = written_of (writer_inner (device_of file)) ++ writer_buffer (device_of file)
 
 abbrev pub sealed_text : {R F D : Type 0} → Sealed R F D → List ℕ
-sealed_text sealed = sealed.written.bytes
+sealed_text sealed = written_of sealed.file
 
 abbrev pub draft_target : {R F D : Type 0} → Draft R F D → List ℕ
 draft_target draft = draft.target.now

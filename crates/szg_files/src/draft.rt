@@ -3,16 +3,19 @@
 //!
 //! A draft and a sealed file can't be dropped: the one is sealed or discarded, the other is published. So no path through
 //! a program leaves a temporary file, and none renames what wasn't flushed whole. A process that is killed leaves
-//! the temporary file, and the target as it was or whole.
+//! the temporary file, and the target as it was or whole. A process holds the lock of its temporary file until that is renamed,
+//! so the next one with the same target finds out that a file is left over, and replaces it.
 ghost use Rattle.std.specs.Prelude.{◌≡◌, [], IfOk};
 ghost use Rattle.szg_io.specs.Counts.{counts_of};
+ghost use Rattle.szg_files.specs.Monitored.{written_of};
 ghost use Rattle.szg_files.specs.Draft.{text_of, draft_target, sealed_text, sealed_target, published_text, published_target};
 
 use crate::file_system::FileFault;
 use crate::monitored::Monitored;
 use std::alloc::{AllocError, Global};
-use std::fs::{OpenFile, OpenOptions};
-use std::io::{BufWriter, ErrorKind, Write};
+use std::fs::{self, File, FileTimes, Metadata, OpenFile, OpenOptions};
+use std::io::{self, BufWriter, ErrorKind, Write};
+use std::os::unix::fs::MetadataExt;
 use std::rt::Files;
 use szg_io::{Past, Std};
 
@@ -21,6 +24,22 @@ const BUFFER: usize = 1 << 17;
 
 /// The number of names that are tried for a temporary file.
 const NAMES: u32 = 1000;
+
+/// A file that can be locked.
+pub trait Lock {
+    /// Takes the file's lock, and holds it until the file is closed. Errors: `WouldBlock` if it was opened elsewhere and its lock
+    /// is held there, or the system's reason.
+    fn try_lock(&self) -> io::Result<()>;
+}
+
+impl Lock for File {
+    fn try_lock(&self) -> io::Result<()> {
+        match File::try_lock(self) {
+            Ok(()) => Ok(()),
+            Err(error) => Err(error.into()),
+        }
+    }
+}
 
 /// A file that is written through a buffer.
 pub type DraftFile<F> = Std<BufWriter<Monitored<F>>>;
@@ -36,10 +55,11 @@ pub struct Draft<'a, R: Files> {
 
 /// A temporary file that is complete and flushed to the disk.
 pub struct Sealed<'a, R: Files> {
+    // it stays open, and so locked
+    file: Monitored<R::File>,
     files: &'a R,
     path: String,
     target: &'a str,
-    written: Past,
 }
 
 /// A sealed file was renamed to the target, which has these bytes.
@@ -76,24 +96,65 @@ fn path_beside(alloc: Global, target: &str, number: u32) -> Result<String, Alloc
     format!(in alloc; "{folder}{slash}{kept}.{number}.new")
 }
 
-/// Creates a file in the target's folder under a name that does not exist yet.
+/// Removes the file at a path if a killed process left it there: a regular file whose lock nobody holds. Returns whether it did.
+/// While its lock is held here, no other process renames it.
+fn remove_left<R: Files>(files: &R, path: &str) -> io::Result<bool>
+where
+    R::File: Lock,
+{
+    if !files.symlink_metadata(path)?.is_file() {
+        return Ok(false);
+    }
+    let file = fs::open(files, path)?;
+    file.try_lock()?;
+    let (opened, found) = (file.metadata()?, files.symlink_metadata(path)?);
+    if opened.dev() != found.dev() || opened.ino() != found.ino() {
+        return Ok(false);
+    }
+    files.remove_file(path)?;
+    Ok(true)
+}
+
+/// Creates a file at a path where none is, and locks it. None if there is one, or another process has locked this one first.
+fn create_locked<R: Files>(files: &R, path: &str) -> Result<Option<R::File>, FileFault>
+where
+    R::File: Lock,
+{
+    let created = OpenOptions::new()
+        .write(true)
+        .create_new(true)
+        .open(files, path);
+    match created {
+        Ok(file) => match file.try_lock() {
+            Err(error) if error.kind() == ErrorKind::WouldBlock => Ok(None),
+            // where there are no locks, nobody takes it for one that was left
+            _ => Ok(Some(file)),
+        },
+        Err(error) if error.kind() == ErrorKind::AlreadyExists => Ok(None),
+        Err(error) => Err(FileFault::System(error)),
+    }
+}
+
+/// Creates a file in the target's folder under a name that doesn't exist yet, or that a killed process left.
 fn create_beside<R: Files>(
     alloc: Global,
     files: &R,
     target: &str,
-) -> Result<(R::File, String), FileFault> {
+) -> Result<(R::File, String), FileFault>
+where
+    R::File: Lock,
+{
     'names: for number in 0..NAMES {
         let Ok(path) = path_beside(alloc, target, number) else {
             return Err(FileFault::Memory);
         };
-        match OpenOptions::new()
-            .write(true)
-            .create_new(true)
-            .open(files, path.as_str())
-        {
-            Ok(file) => return Ok((file, path)),
-            Err(error) if error.kind() == ErrorKind::AlreadyExists => {}
-            Err(error) => return Err(FileFault::System(error)),
+        if let Some(file) = create_locked(files, path.as_str())? {
+            return Ok((file, path));
+        }
+        if let Ok(true) = remove_left(files, path.as_str()) {
+            if let Some(file) = create_locked(files, path.as_str())? {
+                return Ok((file, path));
+            }
         }
     }
     Err(FileFault::System(ErrorKind::AlreadyExists.into()))
@@ -103,6 +164,8 @@ impl<'a, R: Files> Draft<'a, R> {
     /// Creates a temporary file for a target that does not exist or is a regular file. Errors: `NotRegular` if it
     /// is anything else, or the system's reason.
     pub fn create(alloc: Global, files: &'a R, target: &'a str) -> Result<Draft<'a, R>, FileFault>
+    where
+        R::File: Lock,
         ensures empty { IfOk result (λ draft. text_of draft.file ≡ []) }
         ensures unmoved { IfOk result (λ draft. (counts_of draft.file).moved ≡ []) }
         ensures target { IfOk result (λ draft. draft_target draft ≡ target.now) }
@@ -136,8 +199,9 @@ impl<'a, R: Files> Draft<'a, R> {
             path,
             target: _,
         } = self;
-        drop(file);
+        // before its lock is free
         let _ = files.remove_file(path.as_str());
+        drop(file);
     }
 
     /// Removes the temporary file; returns the error of the last write that failed. None if no write failed.
@@ -150,8 +214,9 @@ impl<'a, R: Files> Draft<'a, R> {
         }
     }
 
-    /// Flushes all bytes to the disk. Errors: the system's reason; then the temporary file has been removed.
-    pub fn seal(self) -> Result<Sealed<'a, R>, FileFault>
+    /// Gives the file the mode and the time of last change of another one, if there is one, and flushes all bytes to the disk.
+    /// Errors: the system's reason; then the temporary file has been removed.
+    pub fn seal(self, like: Option<&Metadata>) -> Result<Sealed<'a, R>, FileFault>
         ensures text { IfOk result (λ sealed. sealed_text sealed ≡ text_of self.entry.file) }
         ensures target { IfOk result (λ sealed. sealed_target sealed ≡ draft_target self.entry) }
     {
@@ -161,12 +226,12 @@ impl<'a, R: Files> Draft<'a, R> {
             path,
             target,
         } = self;
-        match flushed(file) {
-            Ok(written) => Ok(Sealed {
+        match flushed(file, like) {
+            Ok(file) => Ok(Sealed {
+                file,
                 files,
                 path,
                 target,
-                written,
             }),
             Err(fault) => {
                 let _ = files.remove_file(path.as_str());
@@ -176,20 +241,50 @@ impl<'a, R: Files> Draft<'a, R> {
     }
 }
 
-/// Writes the buffered bytes and flushes the file to the disk; returns its bytes.
-fn flushed<F: Write + OpenFile + Drop>(file: DraftFile<F>) -> Result<Past, FileFault>
-    ensures { IfOk result (λ written. written.bytes ≡ text_of file) }
+/// Gives a file the mode and the time of last change of another one.
+fn make_like<F: OpenFile>(file: &F, like: &Metadata) -> io::Result<()> {
+    file.set_permissions(like.permissions())?;
+    file.set_times(FileTimes::new().set_modified(like.modified()?))
+}
+
+/// Writes the buffered bytes, makes the file like another one if there is one, and flushes it to the disk.
+fn flushed<F: Write + OpenFile + Drop>(
+    file: DraftFile<F>,
+    like: Option<&Metadata>,
+) -> Result<Monitored<F>, FileFault>
+    ensures { IfOk result (λ flushed. written_of flushed ≡ text_of file) }
 {
     match file.into_inner().into_inner() {
         Ok(monitored) => {
+            if let Some(like) = like {
+                make_like(monitored.inner(), like)?;
+            }
             monitored.inner().sync_all()?;
-            Ok(monitored.into_written())
+            Ok(monitored)
         }
         Err(stopped) => Err(FileFault::System(stopped.into_error())),
     }
 }
 
 impl<'a, R: Files> Sealed<'a, R> {
+    /// Returns the temporary file's path.
+    pub fn path(&self) -> &str {
+        self.path.as_str()
+    }
+
+    /// Removes the temporary file.
+    pub fn discard(self) {
+        let Sealed {
+            file,
+            files,
+            path,
+            target: _,
+        } = self;
+        // before its lock is free
+        let _ = files.remove_file(path.as_str());
+        drop(file);
+    }
+
     /// Renames the temporary file to the target's name, and so replaces an existing target. Errors: the system's
     /// reason; then the target is unchanged, and the temporary file has been removed.
     pub fn publish(self) -> Result<Published<'a>, FileFault>
@@ -197,13 +292,16 @@ impl<'a, R: Files> Sealed<'a, R> {
         ensures target { IfOk result (λ published. published_target published ≡ sealed_target self.entry) }
     {
         let Sealed {
+            file,
             files,
             path,
             target,
-            written,
         } = self;
         match files.rename(path.as_str(), target) {
-            Ok(()) => Ok(Published { target, written }),
+            Ok(()) => {
+                let written = file.into_written();
+                Ok(Published { target, written })
+            }
             Err(error) => {
                 let _ = files.remove_file(path.as_str());
                 Err(FileFault::System(error))

@@ -10,6 +10,8 @@ use szg_io::Input;
 pub enum FileFault {
     /// It is a directory, a pipe or a device: only regular files are opened.
     NotRegular,
+    /// What was to be written isn't the table that its name says.
+    OtherTable,
     /// The system's reason.
     System(Error),
     /// An allocation was refused.

@@ -9,8 +9,8 @@ mod memory;
 mod monitored;
 mod ranges;
 
-pub use disk::{Disk, DiskFile, SystemFile};
-pub use draft::{Draft, DraftFile, Published, Sealed};
+pub use disk::{Disk, DiskFile, ReadWatcher, SystemFile};
+pub use draft::{Draft, DraftFile, Lock, Published, Sealed};
 pub use file_system::{FileFault, FileSystem, Reasons};
 pub use folders::{Below, Finding, files_below, first_bytes, is_folder};
 pub use memory::{MemoryFile, MemoryFiles};

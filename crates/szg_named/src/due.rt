@@ -17,7 +17,7 @@ pub enum Due {
 }
 
 /// Returns what the digest of the file at a path has to be, by lists of sums if there are any.
-pub(crate) fn due_of(alloc: Global, sums: Option<&Sums>, path: &str) -> Result<Due, AllocError>
+pub fn due_of(alloc: Global, sums: Option<&Sums>, path: &str) -> Result<Due, AllocError>
     ensures { IfOk result (λ due. due ≡ due_in sums.entry path.now) }
 {
     let Some(sums) = sums else {

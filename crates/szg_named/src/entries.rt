@@ -11,10 +11,7 @@ use std::path::Path;
 use std::rt::Files;
 use szg_files::{Below, Finding, files_below, first_bytes, is_folder};
 use szg_sums::{Sums, normal};
-use szg_values::Material;
-
-/// The first four bytes of a WDL table and of a DTZ table.
-const MAGICS: [[u8; 4]; 2] = [[0x71, 0xe8, 0x23, 0x5d], [0xd7, 0x66, 0x0c, 0xa5]];
+use szg_values::{Kind, Material};
 
 /// A path, and its verdict if it is known without opening a file.
 #[derive(Drop)]
@@ -78,16 +75,19 @@ fn has_material(name: &str) -> bool {
     Material::parse(stem).is_ok()
 }
 
+/// Returns the kind of table whose first four bytes a file has. None if it has others, or can't be read.
+pub fn kind_at<R: Files>(files: &R, path: &str) -> Option<Kind> {
+    match first_bytes(files, path)? {
+        [0x71, 0xe8, 0x23, 0x5d] => Some(Kind::Wdl),
+        [0xd7, 0x66, 0x0c, 0xa5] => Some(Kind::Dtz),
+        _ => None,
+    }
+}
+
 /// Whether a file looks like a table: by its name, or by its first four bytes.
 fn looks_like_table<R: Files>(files: &R, path: &str) -> bool {
     let name = Path::new(path).file_name().unwrap_or("");
-    if has_ending(name) || has_material(name) {
-        return true;
-    }
-    match first_bytes(files, path) {
-        Some(bytes) => MAGICS.contains(&bytes),
-        None => false,
-    }
+    has_ending(name) || has_material(name) || kind_at(files, path).is_some()
 }
 
 /// Returns what a report has of a path below a folder. None if it isn't a table's file, and doesn't look like one.

@@ -18,8 +18,8 @@ mod shard;
 mod stop;
 
 pub use check_paths::files_to_check;
-pub use due::Due;
-pub use entries::{PathToCheck, entries_at};
+pub use due::{Due, due_of};
+pub use entries::{PathToCheck, entries_at, kind_at};
 pub use file_verdict::{FileVerdict, Skip, SumFault};
 pub use lines::{
     error_text, escaped_path, fault_text, name_word, reason_word, sum_word, summary_line,

@@ -258,6 +258,7 @@ fn more_text(alloc: Global, word: &str, count: u64) -> Result<String, AllocError
 pub fn fault_text(alloc: Global, fault: &FileFault) -> Result<String, AllocError> {
     match fault {
         FileFault::NotRegular => String::from_str(alloc, "not a regular file"),
+        FileFault::OtherTable => String::from_str(alloc, "its name is another table's"),
         FileFault::System(error) => error_text(alloc, &Some(*error)),
         FileFault::Memory => String::from_str(alloc, "out of memory"),
     }

@@ -27,6 +27,7 @@ pub mod triples;
 mod typed;
 pub mod unranking;
 
+pub use men::has_men_of;
 pub use probes::{FrontBytes, Unprobed, Values, class_of, probe_class, probe_number};
 pub use spots::locate;
 pub use tables::{index_of, placement_of, probe_dtz, probe_wdl};

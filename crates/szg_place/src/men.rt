@@ -10,6 +10,7 @@ ghost use Rattle.szg_place.specs.Spots.{is_of_material};
 
 use crate::typed::{material_fits, men_fit};
 use szg_count::MaterialInfo;
+use szg_file::TableIndex;
 use szg_values::{Color, Man, PlacedMen, Square};
 
 /// A man as a file codes it, and its square.
@@ -39,6 +40,14 @@ pub(crate) fn exchange_of(material: &MaterialInfo, placement: &PlacedMen<'_>) ->
     }
     let symmetric_with_black = is_symmetric_with_black_to_move(material, placement);
     Some(are_colors_exchanged(key, own, symmetric_with_black))
+}
+
+/// Returns whether a placement has a table's men, with colours exchanged or not. It compares one number.
+#[inline(always)]
+pub fn has_men_of(index: &TableIndex, placement: &PlacedMen<'_>) -> bool
+    ensures { result ≡ is_of_material index.now.material placement.now }
+{
+    exchange_of(index.material_info(), placement).is_some()
 }
 
 // Returns whether colours are exchanged, for a placement that has the material's men. Colours are exchanged if the

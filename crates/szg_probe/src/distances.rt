@@ -82,8 +82,7 @@ pub fn probe_dtz<T: DistanceTables>(
     tables: &mut T,
     position: &Position,
 ) -> Result<Distance, DistanceFault<T::Fault>>
-    ensures same { T.stored tables.new ≡ T.stored tables.old }
-    ensures same_numbers { T.numbers tables.new ≡ T.numbers tables.old }
+    ensures same { tables.new ≡ tables.old }
     ensures distance { IfOk result (λ d. probed_distance (T.stored tables.old) (T.numbers tables.old) position.now ≡ Some (d.class, d.plies)) }
     ensures class { IfOk result (λ d. AreTrue (T.stored tables.old) → ChessClass position.now d.class) }
     ensures fault { IfErr result (MayLack (T.explains (T.stored tables.old) (T.numbers tables.old)) (probed_distance (T.stored tables.old) (T.numbers tables.old) position.now ≡ None) position.now) }
@@ -105,8 +104,7 @@ pub(crate) fn distance_of<T: DistanceTables>(
     class: Class,
 ) -> Result<u32, DistanceFault<T::Fault>>
     requires { probed (T.stored tables.old) position.now ≡ Some class }
-    ensures same { T.stored tables.new ≡ T.stored tables.old }
-    ensures same_numbers { T.numbers tables.new ≡ T.numbers tables.old }
+    ensures same { tables.new ≡ tables.old }
     ensures distance { IfOk result (λ d. distance_of (T.stored tables.old) (T.numbers tables.old) position.now class ≡ Some d) }
     ensures few { IfOk result (λ d. d < 2 ^ 31 + 102) }
     ensures fault { IfErr result (MayLack (T.explains (T.stored tables.old) (T.numbers tables.old)) (distance_of (T.stored tables.old) (T.numbers tables.old) position.now class ≡ None) position.now) }
@@ -144,8 +142,7 @@ fn keeps_by_zeroing<T: Tables>(
     m: Move,
 ) -> Result<bool, T::Fault>
     requires { Contains (legal_moves position.now) m }
-    ensures same { T.stored tables.new ≡ T.stored tables.old }
-    ensures same_numbers { T.numbers tables.new ≡ T.numbers tables.old }
+    ensures same { tables.new ≡ tables.old }
     ensures keeps { IfOk result (λ b. keeps_by_zeroing (T.stored tables.old) position.now class m ≡ Some b) }
     ensures fault { IfErr result (λ fault. MayFail (T.explains (T.stored tables.old) (T.numbers tables.old) fault) position.now) }
 {
@@ -166,8 +163,7 @@ fn has_zeroing<T: Tables>(
     position: &Position,
     class: Class,
 ) -> Result<bool, T::Fault>
-    ensures same { T.stored tables.new ≡ T.stored tables.old }
-    ensures same_numbers { T.numbers tables.new ≡ T.numbers tables.old }
+    ensures same { tables.new ≡ tables.old }
     ensures zeroing { IfOk result (λ b. has_zeroing (T.stored tables.old) position.now class ≡ Some b) }
     ensures fault { IfErr result (λ fault. MayFail (T.explains (T.stored tables.old) (T.numbers tables.old) fault) position.now) }
 {
@@ -189,8 +185,7 @@ fn differs_without_right<T: Tables>(
     class: Class,
 ) -> Result<bool, T::Fault>
     requires { probed (T.stored tables.old) position.now ≡ Some class }
-    ensures same { T.stored tables.new ≡ T.stored tables.old }
-    ensures same_numbers { T.numbers tables.new ≡ T.numbers tables.old }
+    ensures same { tables.new ≡ tables.old }
     ensures differs { IfOk result (λ b. differs_without_right (T.stored tables.old) position.now class ≡ Some b) }
     ensures fault { IfErr result (λ fault. MayFail (T.explains (T.stored tables.old) (T.numbers tables.old) fault) position.now) }
 {
@@ -208,8 +203,7 @@ fn differs_without_right<T: Tables>(
 /// Returns whether the next move of a position of this class settles its distance.
 fn is_next<T: Tables>(tables: &mut T, position: &Position, class: Class) -> Result<bool, T::Fault>
     requires { probed (T.stored tables.old) position.now ≡ Some class }
-    ensures same { T.stored tables.new ≡ T.stored tables.old }
-    ensures same_numbers { T.numbers tables.new ≡ T.numbers tables.old }
+    ensures same { tables.new ≡ tables.old }
     ensures next { IfOk result (λ b. is_next (T.stored tables.old) position.now class ≡ Some b) }
     ensures fault { IfErr result (λ fault. MayFail (T.explains (T.stored tables.old) (T.numbers tables.old) fault) position.now) }
 {
@@ -232,8 +226,7 @@ fn stored_distance<T: DistanceTables>(
     class: Class,
 ) -> Result<Option<u32>, T::Fault>
     requires { probed (T.stored tables.old) position.now ≡ Some class }
-    ensures same { T.stored tables.new ≡ T.stored tables.old }
-    ensures same_numbers { T.numbers tables.new ≡ T.numbers tables.old }
+    ensures same { tables.new ≡ tables.old }
     ensures distance { IfOk result (λ d. stored_distance (T.stored tables.old) (T.numbers tables.old) position.now class ≡ Some d) }
     ensures few { IfOk result (λ d. ForSome d (λ plies. plies < 2 ^ 31 + 101)) }
     ensures fault { IfErr result (λ fault. MayFail (T.explains (T.stored tables.old) (T.numbers tables.old) fault) position.now) }
@@ -262,8 +255,7 @@ fn searched_distance<T: DistanceTables>(
     position: &Position,
     class: Class,
 ) -> Result<u32, DistanceFault<T::Fault>>
-    ensures same { T.stored tables.new ≡ T.stored tables.old }
-    ensures same_numbers { T.numbers tables.new ≡ T.numbers tables.old }
+    ensures same { tables.new ≡ tables.old }
     ensures distance { IfOk result (λ d. searched_distance (T.stored tables.old) (T.numbers tables.old) position.now class ≡ Some d) }
     ensures few { IfOk result (λ d. d < 2 ^ 31 + 102) }
     ensures fault { IfErr result (MayLack (T.explains (T.stored tables.old) (T.numbers tables.old)) (searched_distance (T.stored tables.old) (T.numbers tables.old) position.now class ≡ None) position.now) }
@@ -327,8 +319,7 @@ fn quiet_distance<T: DistanceTables>(
     m: Move,
 ) -> Result<Option<u32>, DistanceFault<T::Fault>>
     requires { Contains (legal_moves position.now) m }
-    ensures same { T.stored tables.new ≡ T.stored tables.old }
-    ensures same_numbers { T.numbers tables.new ≡ T.numbers tables.old }
+    ensures same { tables.new ≡ tables.old }
     ensures distance { IfOk result (λ quiet. quiet_distance (T.stored tables.old) (T.numbers tables.old) position.now class m ≡ Some quiet) }
     ensures few { IfOk result (λ quiet. ForSome quiet (λ d. d < 2 ^ 31 + 102)) }
     ensures fault { IfErr result (MayLack (T.explains (T.stored tables.old) (T.numbers tables.old)) (quiet_distance (T.stored tables.old) (T.numbers tables.old) position.now class m ≡ None) position.now) }
@@ -360,8 +351,7 @@ fn distance_by<T: DistanceTables>(
     position: &Position,
 ) -> Result<u32, DistanceFault<T::Fault>>
     requires { probed (T.stored tables.old) position.now ≡ Some class }
-    ensures same { T.stored tables.new ≡ T.stored tables.old }
-    ensures same_numbers { T.numbers tables.new ≡ T.numbers tables.old }
+    ensures same { tables.new ≡ tables.old }
     ensures distance { IfOk result (λ d. distance_by (T.stored tables.old) (T.numbers tables.old) class position.now ≡ Some d) }
     ensures few { IfOk result (λ d. d < 2 ^ 31 + 102) }
     ensures fault { IfErr result (MayLack (T.explains (T.stored tables.old) (T.numbers tables.old)) (distance_by (T.stored tables.old) (T.numbers tables.old) class position.now ≡ None) position.now) }

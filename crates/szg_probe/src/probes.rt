@@ -15,8 +15,7 @@ use szg_game::Class;
 ///
 /// Errors: those of the tables.
 pub fn probe_wdl<T: Tables>(tables: &mut T, position: &Position) -> Result<Class, T::Fault>
-    ensures same { T.stored tables.new ≡ T.stored tables.old }
-    ensures same_numbers { T.numbers tables.new ≡ T.numbers tables.old }
+    ensures same { tables.new ≡ tables.old }
     ensures probed { IfOk result (λ k. probed (T.stored tables.old) position.now ≡ Some k) }
     ensures class { IfOk result (λ k. AreTrue (T.stored tables.old) → ChessClass position.now k) }
     ensures fault { IfErr result (λ fault. MayFail (T.explains (T.stored tables.old) (T.numbers tables.old) fault) position.now) }
@@ -28,8 +27,7 @@ pub fn probe_wdl<T: Tables>(tables: &mut T, position: &Position) -> Result<Class
 
 /// `probe_wdl`, by the captures in turn; a capture that wins ends the search.
 pub(crate) fn search<T: Tables>(tables: &mut T, position: &Position) -> Result<Class, T::Fault>
-    ensures same { T.stored tables.new ≡ T.stored tables.old }
-    ensures same_numbers { T.numbers tables.new ≡ T.numbers tables.old }
+    ensures same { tables.new ≡ tables.old }
     ensures probed { IfOk result (λ k. probed (T.stored tables.old) position.now ≡ Some k) }
     ensures fault { IfErr result (λ fault. MayFail (T.explains (T.stored tables.old) (T.numbers tables.old) fault) position.now) }
 {
@@ -58,8 +56,7 @@ pub(crate) fn search<T: Tables>(tables: &mut T, position: &Position) -> Result<C
 
 /// Returns the class that the tables store; two kings alone are a draw.
 fn stored_class<T: Tables>(tables: &mut T, position: &Position) -> Result<Class, T::Fault>
-    ensures same { T.stored tables.new ≡ T.stored tables.old }
-    ensures same_numbers { T.numbers tables.new ≡ T.numbers tables.old }
+    ensures same { tables.new ≡ tables.old }
     ensures class { IfOk result (λ k. stored_class (T.stored tables.old) position.now ≡ Some k) }
     ensures fault { IfErr result (λ fault. MayFail (T.explains (T.stored tables.old) (T.numbers tables.old) fault) position.now) }
 {

@@ -28,8 +28,7 @@ pub trait Tables {
     /// does not count. Errors: those of the set of tables.
     fn class(&mut self, position: &Position) -> Result<Class, Self::Fault>
         requires { 2 < length position.now.placed_men }
-        ensures same { stored self.new ≡ stored self.old }
-        ensures same_numbers { numbers self.new ≡ numbers self.old }
+        ensures same { self.new ≡ self.old }
         ensures class { IfOk result (λ k. stored self.old position.now.placed_men position.now.mover ≡ Some k) }
         ensures fault { IfErr result (λ fault. explains (stored self.old) (numbers self.old) fault position.now.placed_men position.now.mover) };
 }
@@ -40,8 +39,7 @@ pub trait DistanceTables: Tables {
     /// None if they store numbers for the other side to move alone. Errors: those of the set of tables.
     fn number(&mut self, position: &Position, class: Class) -> Result<Option<u32>, Self::Fault>
         requires { 2 < length position.now.placed_men }
-        ensures same { Self.stored self.new ≡ Self.stored self.old }
-        ensures same_numbers { Self.numbers self.new ≡ Self.numbers self.old }
+        ensures same { self.new ≡ self.old }
         ensures number { IfOk result (λ n. Self.numbers self.old position.now.placed_men position.now.mover class ≡ Some n) }
         ensures few { IfOk result (λ n. ForSome n (λ plies. plies < 2 ^ 31)) }
         ensures fault { IfErr result (λ fault. Self.explains (Self.stored self.old) (Self.numbers self.old) fault position.now.placed_men position.now.mover) };

@@ -6,6 +6,8 @@ mod chess;
 #[cfg(test)]
 mod helpers;
 #[cfg(test)]
+mod mapped;
+#[cfg(test)]
 mod probe;
 #[cfg(test)]
 mod results;

@@ -158,15 +158,15 @@ fn shard_positions(
         &mut output,
         &mut Unseen,
     );
-    assert!(rt;
-        matches!(
-            found,
-            Ok(ShardVerification {
-                is_checked: true,
-                ..
-            })
-        )
-    );
+    let Ok(
+        ShardVerification {
+            positions: Ok(checked),
+            ..
+        },
+    ) = found
+    else {
+        panic!(rt; "a shard of true tables fails");
+    };
     let number = u32::from(shard.before) + 1;
     let shards = shard.shards;
     let front = format!(in rt.alloc(); "KNvK shard {number}/{shards} verified positions ")?;
@@ -178,7 +178,8 @@ fn shard_positions(
     let Some(positions) = rest.strip_suffix(back.as_str()) else {
         panic!(rt; "{text}");
     };
-    Ok(positions.parse::<u64>()?)
+    assert_eq!(rt; positions.parse::<u64>()?, checked);
+    Ok(checked)
 }
 
 #[test]

@@ -29,8 +29,12 @@ pub more_moves : (rs : List RankedMove) (i : ℕ) (d : RankedMove) (ss : List Mo
 more_moves rs i d ss s below first next =
     map-append ranked_of ss (s ∷ []) ∙ ap (λ (us : List RankedMove). us ++ s.ranked ∷ []) first ∙ ap (λ (r : RankedMove). take i rs ++ r ∷ []) next ∙ sym (take_more rs i d below)
 
-pub same_dtz : (files files' : List ℕ → Option (List ℕ)) (words : List (List ℕ)) (tables : List FetchedTable) (p : Position) (dtz : Option ℤ) → files' ≡ files → IsDtz files' words tables p dtz → IsDtz files words tables p dtz
-same_dtz files files' words tables p dtz same is = subst (λ (these : List ℕ → Option (List ℕ)). IsDtz these words tables p dtz) same is
+pub same_dtz : (files files' : List ℕ → Option (List ℕ)) (words words' : List (List ℕ)) (tables tables' : List FetchedTable) (p : Position) (dtz : Option ℤ) → files' ≡ files → words' ≡ words → tables' ≡ tables →
+    IsDtz files' words' tables' p dtz → IsDtz files words tables p dtz
+same_dtz files files' words words' tables tables' p dtz same words-are tables-are is =
+    subst (λ (these : List ℕ → Option (List ℕ)). IsDtz these words tables p dtz) same
+    (subst (λ (ws : List (List ℕ)). IsDtz files' ws tables p dtz) words-are
+    (subst (λ (ts : List FetchedTable). IsDtz files' words' ts p dtz) tables-are is))
 
 -- a text that is parsed as a record
 parsed_by : (o : Option PositionFault) (parsed : Result FenRecord PositionFault) (r r' : FenRecord) → (IsNone o → parsed ≡ Ok r') → IfSome o (λ fault. parsed ≡ Err fault) → parsed ≡ Ok r →
@@ -66,13 +70,14 @@ object_is files files' files'' words words' words'' tables fen text parsed r a s
     (both.0, a, (subst (λ (q : FenRecord). IsAnswerOf (fetched_classes tables) (fetched_numbers tables) q a) so answer, lacks-there), ss, after-there, object ∙ ap (λ (q : FenRecord). object_text q.position a ss) so)
 
 -- a piece that was read on the way
-pub piece_is : {A : Type 0} (files files' : List ℕ → Option (List ℕ)) (tables : List FetchedTable) (found : OrPiece A) (piece : Piece) → files' ≡ files → found ≡ Read piece → IfRead found (IsPieceOf files' tables) → IsPieceOf files tables piece
-piece_is {A} files files' tables found piece same is read =
-    subst (λ (these : List ℕ → Option (List ℕ)). IsPieceOf these tables piece) same (subst (λ (f : OrPiece A). IfRead f (IsPieceOf files' tables)) is read)
+pub piece_is : {A : Type 0} (files files' : List ℕ → Option (List ℕ)) (words words' : List (List ℕ)) (tables tables' : List FetchedTable) (found : OrPiece A) (piece : Piece) → files' ≡ files → words' ≡ words →
+    tables' ≡ tables → found ≡ Read piece → IfRead found (IsPieceOf files' words' tables') → IsPieceOf files words tables piece
+piece_is {A} files files' words words' tables tables' found piece same words-are tables-are is read =
+    subst (λ (these : List ℕ → Option (List ℕ)). IsPieceOf these words tables piece) same
+    (subst (λ (ws : List (List ℕ)). IsPieceOf files' ws tables piece) words-are
+    (subst (λ (ts : List FetchedTable). IsPieceOf files' words' ts piece) tables-are (subst (λ (f : OrPiece A). IfRead f (IsPieceOf files' words' tables')) is read)))
 
 -- the DTZ that a probe found
-pub dtz_is : (files : List ℕ → Option (List ℕ)) (words : List (List ℕ)) (tables' tables : List FetchedTable) (p : Position) (k : Class) (d : ℕ) (n : ℤ) → tables' ≡ tables →
-    probed_distance (fetched_classes tables') (fetched_numbers tables') p ≡ Some (k, d) → n ≡ signed_distance k d → IsDtz files words tables p (Some n)
-dtz_is files words tables' tables p k d n same is signed =
-    subst (λ (ts : List FetchedTable). IsDtz files words ts p (Some n)) same
-    (ap (option_map (λ (found : Class × ℕ). signed_distance found.0 found.1)) is ∙ ap (λ (m : ℤ). Some m) (sym signed))
+pub dtz_is : (files : List ℕ → Option (List ℕ)) (words : List (List ℕ)) (tables : List FetchedTable) (p : Position) (k : Class) (d : ℕ) (n : ℤ) →
+    probed_distance (fetched_classes tables) (fetched_numbers tables) p ≡ Some (k, d) → n ≡ signed_distance k d → IsDtz files words tables p (Some n)
+dtz_is files words tables p k d n is signed = ap (option_map (λ (found : Class × ℕ). signed_distance found.0 found.1)) is ∙ ap (λ (m : ℤ). Some m) (sym signed)

@@ -12,10 +12,11 @@ use Rattle.szg_chess.specs.Position.{Position}
 use Rattle.szg_chess.specs.Moves.{after, has_no_move, is_mate, is_stalemate, is_zeroing, legal_captures, legal_moves}
 use Rattle.szg_probe.specs.Chess.{without_right}
 use Rattle.szg_probe.specs.Probing.{StoredClasses, stored_class, is_known_loss, all_known, best_capture, has_only_captures, has_only_en_passant, class_from, probed_at, probed}
-use Rattle.szg_probe.specs.Distances.{StoredNumbers, at_counter, chosen, differs_without_right, distance_by, distance_of, has_zeroing, is_drawn, is_known_true, is_next, keeps_by_zeroing, move_distance, offset_of, probed_distance, quiet_distance, ranked, searched_distance, stays, stored_distance, stored_or}
+use Rattle.szg_probe.specs.Distances.{StoredNumbers, at_counter, chosen, differs_without_right, distance_by, distance_of, has_zeroing, is_drawn, is_known_true, is_next, keeps_by_zeroing, move_distance, offset_of, probed_distance, quiet_distance, ranked, searched_distance, signed_distance, stays, stored_distance, stored_or}
 use Rattle.szg_probe.specs.declared.assessments.RankedMove.{RankedMove}
 use Rattle.szg_tables.specs.Fetched.{AreAmong, AreNumbersAmong}
 use Rattle.szg_tables.proofs.Among.{Among, if_among, map_among, then_among}
+use Rattle.szg_results.specs.Objects.{dtz_over}
 use Rattle.szg_results.specs.Results.{IsAnswer, zero_numbers}
 use Rattle.szg_results.specs.declared.results.Answer.{Answer}
 
@@ -178,7 +179,7 @@ module _ (few many : StoredClasses) (among : AreAmong few many) where
     distance_of_among p k =
         stored_or_among (stored_distance few numbers p k) (stored_distance many others p k) (searched_distance few numbers p k) (searched_distance many others p k) (stored_distance_among p k) (searched_among p k)
 
-    distance_among : (p : Position) → Among (probed_distance few numbers p) (probed_distance many others p)
+    pub distance_among : (p : Position) → Among (probed_distance few numbers p) (probed_distance many others p)
     distance_among p =
         then_among (λ k. option_map (λ d. (k, d)) (distance_of few numbers p k)) (λ k. option_map (λ d. (k, d)) (distance_of many others p k)) (probed few p) (probed many p) (classes_known p)
         (λ k. map_among (λ d. (k, d)) (distance_of few numbers p k) (distance_of many others p k) (distance_of_among p k))
@@ -224,3 +225,9 @@ module _ (few many : StoredClasses) (among : AreAmong few many) where
 pub chosen_among : (numbers others : StoredNumbers) (b : Bool) → AreNumbersAmong numbers others → AreNumbersAmong (if b then numbers else zero_numbers) (if b then others else zero_numbers)
 chosen_among numbers others true also = also
 chosen_among numbers others false also = λ men mover k n e. e
+
+-- ---- the DTZ of positions after moves
+
+pub dtz_among : (few many : StoredClasses) (among : AreAmong few many) (numbers others : StoredNumbers) (also : AreNumbersAmong numbers others) (p : Position) → Among (dtz_over few numbers p) (dtz_over many others p)
+dtz_among few many among numbers others also p =
+    map_among (λ (found : Class × ℕ). signed_distance found.0 found.1) (probed_distance few numbers p) (probed_distance many others p) (distance_among few many among numbers others also p)

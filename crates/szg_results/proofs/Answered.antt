@@ -9,11 +9,11 @@ use Rattle.szg_tables.specs.declared.fetched.FetchedTable.{FetchedTable}
 use Rattle.szg_results.specs.Results.{IsAnswer, IsAnswerOf, zero_numbers}
 use Rattle.szg_results.specs.declared.results.Answer.{Answer}
 
-pub answered : (classes : StoredClasses) (numbers : StoredNumbers) (fen : FenRecord) (a : Answer) (b : Bool) → a.has_distances ≡ b →
+answered : (classes : StoredClasses) (numbers : StoredNumbers) (fen : FenRecord) (a : Answer) (b : Bool) → a.has_distances ≡ b →
     IsAnswer classes (if b then numbers else zero_numbers) fen.position (if b then fen.halfmove else 0) a → IsAnswerOf classes numbers fen a
 answered classes numbers fen a b is h = subst (λ (c : Bool). IsAnswer classes (if c then numbers else zero_numbers) fen.position (if c then fen.halfmove else 0) a) (sym is) h
 
--- the same over the tables of a set
+-- over the tables of a set
 pub answered_over : {F : Type 0} (tables' tables : List FetchedTable) (fen : FenRecord) (b : Bool) (o : Result Answer F) → tables' ≡ tables → IfOk o (λ a. a.has_distances ≡ b) →
     IfOk o (λ a. IsAnswer (fetched_classes tables') (if b then fetched_numbers tables' else zero_numbers) fen.position (if b then fen.halfmove else 0) a) →
     IfOk o (λ a. IsAnswerOf (fetched_classes tables) (fetched_numbers tables) fen a)

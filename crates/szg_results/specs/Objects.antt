@@ -1,6 +1,6 @@
 -- The JSON object of an answer, with the fields, the names and the viewpoint of lichess's tablebase: what is said of a move
 -- is said of the position after it, for the player to move there.
-use Rattle.std.specs.Prelude.{ℕ, ℤ, ◌≡◌, ◌==◌, ◌+◌, ◌%◌, ◌||◌, ◌&&◌, IsNone, Bool, List, [], ◌∷◌, ◌++◌, length, map, flat_map, codes, All, Option, Some, None, option_map, if◌then◌else◌}
+use Rattle.std.specs.Prelude.{ℕ, ℤ, ◌≡◌, ◌==◌, ◌+◌, ◌%◌, ◌||◌, ◌&&◌, IsNone, Bool, List, [], ◌∷◌, ◌++◌, length, map, flat_map, codes, All, Option, Some, None, IfSome, option_map, if◌then◌else◌}
 use Rattle.std.specs.Fmt.{signed_decimal}
 use Rattle.std.specs.List.{list_all, list_any}
 use Rattle.szg_values.specs.Men.{is_man, file_of, rank_of}
@@ -14,9 +14,12 @@ use Rattle.szg_chess.specs.Moves.{after, is_mate, is_stalemate}
 use Rattle.szg_chess.specs.Fen.{fen_fault, record_of}
 use Rattle.szg_chess.specs.Uci.{uci_text}
 use Rattle.szg_chess.specs.San.{san_text}
-use Rattle.szg_probe.specs.Distances.{probed_distance, signed_distance}
+use Rattle.szg_file.specs.Held.{Shown}
+use Rattle.szg_probe.specs.Probing.{StoredClasses}
+use Rattle.szg_probe.specs.Distances.{StoredNumbers, probed_distance, signed_distance}
 use Rattle.szg_probe.specs.declared.assessments.RankedMove.{RankedMove}
-use Rattle.szg_tables.specs.Fetched.{fetched_classes, fetched_numbers}
+use Rattle.szg_tables.specs.Fetched.{IsOfTable, fetched_classes, fetched_numbers}
+use Rattle.szg_tables.specs.Stored.{stored_classes, stored_numbers}
 use Rattle.szg_tables.specs.declared.fetched.FetchedTable.{FetchedTable}
 use Rattle.szg_results.specs.Folders.{IsAnswerIn, LacksDistances}
 use Rattle.szg_results.specs.declared.objects.MoveAfter.{MoveAfter}
@@ -87,10 +90,14 @@ object_text p a ss = (head_text p a ++ moves_text p ss) ++ codes "]}\n"
 
 -- ---- what it says
 
+-- the DTZ of a position with its sign, over stored classes and numbers. None if one that it takes is not known.
+abbrev pub dtz_over : StoredClasses → StoredNumbers → Position → Option ℤ
+dtz_over classes numbers p = option_map (λ found. signed_distance found.0 found.1) (probed_distance classes numbers p)
+
 -- The DTZ is that of the position over what was fetched of tables. It is unknown only if a DTZ table that it may take is
 -- absent.
 abbrev pub IsDtz : (List ℕ → Option (List ℕ)) → List (List ℕ) → List FetchedTable → Position → Option ℤ → Type 0
-IsDtz files words tables p (Some n) = option_map (λ found. signed_distance found.0 found.1) (probed_distance (fetched_classes tables) (fetched_numbers tables) p) ≡ Some n
+IsDtz files words tables p (Some n) = dtz_over (fetched_classes tables) (fetched_numbers tables) p ≡ Some n
 IsDtz files words tables p None = LacksDistances files words p
 
 -- these ranked moves, each with the DTZ of the position after it
@@ -101,6 +108,12 @@ AreAfter files words tables p rs ss = (map (λ s. s.ranked) ss ≡ rs) × All (�
 abbrev pub IsObjectOf : (List ℕ → Option (List ℕ)) → List (List ℕ) → List FetchedTable → List ℕ → List ℕ → Type 0
 IsObjectOf files words tables fen text = IsNone (fen_fault fen) × (a : Answer) × IsAnswerIn files words tables (record_of fen) a
     × (ss : List MoveAfter) × AreAfter files words tables (record_of fen).position a.moves.items ss × (text ≡ object_text (record_of fen).position a ss)
+
+-- Each DTZ of the moves of an object over what was fetched of the files of tables is that of the position after the move over
+-- the tables.
+abbrev pub FetchedDtzs : Type 0
+FetchedDtzs = (parts : List FetchedTable) (tables : List Shown) (files : List ℕ → Option (List ℕ)) (words : List (List ℕ)) (p : Position) (rs : List RankedMove) (ss : List MoveAfter) → All (IsOfTable tables) parts →
+    AreAfter files words parts p rs ss → All (λ s. IfSome s.dtz (λ n. dtz_over (stored_classes tables) (stored_numbers tables) (after p s.ranked.m) ≡ Some n)) ss
 
 -- ---- while tables are read
 

@@ -1,10 +1,11 @@
 //! Tables of folders. A table is opened when it is first needed, by its front, and a value is read when it is first needed, by
 //! its block; both stay.
 
-ghost use Rattle.std.specs.Prelude.{◌≡◌, ℕ, [], false, All, Contains, IfNone, IfOk, IfSome, List, Option, slice_get, string_bytes};
+ghost use Rattle.std.specs.Prelude.{◌≡◌, ℕ, [], false, All, Contains, IfNone, IfOk, IfSome, List, Option, Some, slice_get, string_bytes};
 ghost use Rattle.szg_tables.specs.Fetched.{fetched_classes, fetched_numbers};
 ghost use Rattle.szg_results.specs.Folders.{AreFetched, IsAbsent, IsAnswerIn, IsFetched, IsPieceOf, IsValueOf, LacksDistances, may_do_without, words_of};
 ghost use Rattle.szg_chess.specs.Moves.{legal_moves};
+ghost use Rattle.szg_probe.specs.Distances.{probed_distance};
 ghost use Rattle.szg_results.specs.Results.{IsAnswerOf};
 ghost use Rattle.szg_results.specs.Lines.{IsLineOf, IsTextOf};
 ghost use Rattle.szg_results.specs.Objects.{AreAfter, IfFound, IfRead, IsDtz, IsObjectOf};
@@ -15,11 +16,12 @@ use crate::pieces::{Piece, fetch, open_missing};
 use crate::wanted::wanted_values;
 use crate::{Answer, line_of, probe_position, text_of};
 use std::alloc::{AllocError, Global};
+use std::mem::replace;
 use szg_chess::{FenRecord, Position, PositionFault};
 use szg_file::Reason;
 use szg_files::{FileFault, FileSystem};
 use szg_named::{fault_text, reason_word};
-use szg_probe::{DistanceFault, RankedMove, probe_dtz};
+use szg_probe::{Distance, DistanceFault, RankedMove, probe_dtz};
 use szg_tables::{FetchedSet, FetchedTable, FetchedValue, Missing, MissingReason};
 use szg_values::{Kind, Material};
 
@@ -85,7 +87,7 @@ impl<'a> Folders<'a> {
     /// Forgets the tables if much was read of them.
     fn forget(&mut self)
         ensures words { words_of self.new ≡ words_of self.old }
-        ensures fetched { (files : List ℕ → Option (List ℕ)) → AreFetched files self.old.tables.items → AreFetched files self.new.tables.items }
+        ensures fetched { (files : List ℕ → Option (List ℕ)) → AreFetched files (words_of self.old) self.old.tables.items → AreFetched files (words_of self.new) self.new.tables.items }
     {
         if self.bytes > MOST_BYTES || self.values > MOST_VALUES {
             self.tables.clear();
@@ -97,7 +99,7 @@ impl<'a> Folders<'a> {
     /// Keeps what was read.
     fn keep(&mut self, piece: Piece) -> Result<(), AllocError>
         ensures words { words_of self.new ≡ words_of self.old }
-        ensures fetched { (files : List ℕ → Option (List ℕ)) → IsPieceOf files self.old.tables.items piece → AreFetched files self.old.tables.items → AreFetched files self.new.tables.items }
+        ensures fetched { (files : List ℕ → Option (List ℕ)) → IsPieceOf files (words_of self.old) self.old.tables.items piece → AreFetched files (words_of self.old) self.old.tables.items → AreFetched files (words_of self.new) self.new.tables.items }
     {
         match piece {
             Piece::Front(table) => {
@@ -127,10 +129,10 @@ impl<'a> Folders<'a> {
         ensures distances { IfOk result (λ a. a.has_distances ≡ false → LacksDistances (S.content system.old) (words_of self.old) fen.now.position) }
         ensures words { words_of self.new ≡ words_of self.old }
         ensures content { S.content system.new ≡ S.content system.old }
-        ensures fetched { AreFetched (S.content system.old) self.old.tables.items → AreFetched (S.content system.old) self.new.tables.items }
+        ensures fetched { AreFetched (S.content system.old) (words_of self.old) self.old.tables.items → AreFetched (S.content system.old) (words_of self.new) self.new.tables.items }
     {
         'pieces: for _ in 0..MOST_PIECES {
-            let missing = match self.answer_now(fen, true) {
+            let missing = match answer_over(alloc, &mut self.tables, fen, true) {
                 Ok(answer) => return Ok(answer),
                 Err(DistanceFault::Contradiction) => return Err(ResultStop::Contradiction),
                 Err(DistanceFault::Tables(missing)) => missing,
@@ -157,10 +159,10 @@ impl<'a> Folders<'a> {
         ensures answer { IfOk result (λ a. IsAnswerOf (fetched_classes self.new.tables.items) (fetched_numbers self.new.tables.items) fen.now a) }
         ensures words { words_of self.new ≡ words_of self.old }
         ensures content { S.content system.new ≡ S.content system.old }
-        ensures fetched { AreFetched (S.content system.old) self.old.tables.items → AreFetched (S.content system.old) self.new.tables.items }
+        ensures fetched { AreFetched (S.content system.old) (words_of self.old) self.old.tables.items → AreFetched (S.content system.old) (words_of self.new) self.new.tables.items }
     {
         'pieces: for _ in 0..MOST_PIECES {
-            let missing = match self.answer_now(fen, false) {
+            let missing = match answer_over(alloc, &mut self.tables, fen, false) {
                 Ok(answer) => return Ok(answer),
                 Err(DistanceFault::Contradiction) => return Err(ResultStop::Contradiction),
                 Err(DistanceFault::Tables(missing)) => missing,
@@ -186,7 +188,7 @@ impl<'a> Folders<'a> {
         ensures text { IfOk result (λ text. IsTextOf (IsAnswerIn (S.content system.old) (words_of self.old) self.new.tables.items) fen.now (string_bytes text)) }
         ensures words { words_of self.new ≡ words_of self.old }
         ensures content { S.content system.new ≡ S.content system.old }
-        ensures fetched { AreFetched (S.content system.old) self.old.tables.items → AreFetched (S.content system.old) self.new.tables.items }
+        ensures fetched { AreFetched (S.content system.old) (words_of self.old) self.old.tables.items → AreFetched (S.content system.old) (words_of self.new) self.new.tables.items }
     {
         let record = match Position::parse_fen(fen) {
             Ok(record) => record,
@@ -215,7 +217,7 @@ impl<'a> Folders<'a> {
         ensures line { IfOk result (λ line. IsLineOf (IsAnswerIn (S.content system.old) (words_of self.old) self.new.tables.items) fen.now (string_bytes line)) }
         ensures words { words_of self.new ≡ words_of self.old }
         ensures content { S.content system.new ≡ S.content system.old }
-        ensures fetched { AreFetched (S.content system.old) self.old.tables.items → AreFetched (S.content system.old) self.new.tables.items }
+        ensures fetched { AreFetched (S.content system.old) (words_of self.old) self.old.tables.items → AreFetched (S.content system.old) (words_of self.new) self.new.tables.items }
     {
         let record = match Position::parse_fen(fen) {
             Ok(record) => record,
@@ -244,7 +246,7 @@ impl<'a> Folders<'a> {
         ensures object { IfOk result (λ text. IsObjectOf (S.content system.old) (words_of self.old) self.new.tables.items fen.now (string_bytes text)) }
         ensures words { words_of self.new ≡ words_of self.old }
         ensures content { S.content system.new ≡ S.content system.old }
-        ensures fetched { AreFetched (S.content system.old) self.old.tables.items → AreFetched (S.content system.old) self.new.tables.items }
+        ensures fetched { AreFetched (S.content system.old) (words_of self.old) self.old.tables.items → AreFetched (S.content system.old) (words_of self.new) self.new.tables.items }
     {
         let record = match Position::parse_fen(fen) {
             Ok(record) => record,
@@ -269,17 +271,19 @@ impl<'a> Folders<'a> {
 
     /// Returns legal moves, each with the DTZ of the position after it.
     fn moves_after<S: FileSystem>(
-        &self,
+        &mut self,
         alloc: Global,
         system: &mut S,
         position: &Position,
         moves: &[RankedMove],
     ) -> Result<OrPiece<Vec<MoveAfter>>, ResultStop>
         requires { All (λ r. Contains (legal_moves position.now) r.m) moves.now }
+        ensures words { words_of self.new ≡ words_of self.old }
+        ensures tables { self.new.tables.items ≡ self.old.tables.items }
         ensures content { S.content system.new ≡ S.content system.old }
-        ensures read { IfOk result (λ found. IfRead found (IsPieceOf (S.content system.old) self.now.tables.items)) }
+        ensures read { IfOk result (λ found. IfRead found (IsPieceOf (S.content system.old) (words_of self.old) self.old.tables.items)) }
         ensures legal { IfOk result (λ found. IfFound found (λ moves_after. All (λ s. Contains (legal_moves position.now) s.ranked.m) moves_after.items)) }
-        ensures after { IfOk result (λ found. IfFound found (λ moves_after. AreAfter (S.content system.old) (words_of self.now) self.now.tables.items position.now moves.now moves_after.items)) }
+        ensures after { IfOk result (λ found. IfFound found (λ moves_after. AreAfter (S.content system.old) (words_of self.old) self.old.tables.items position.now moves.now moves_after.items)) }
     {
         let mut found = Vec::new(alloc);
         'moves: for ranked in moves {
@@ -298,17 +302,18 @@ impl<'a> Folders<'a> {
 
     /// Returns the DTZ of a position with its sign. None if it takes a DTZ table that is in none of the folders.
     fn dtz<S: FileSystem>(
-        &self,
+        &mut self,
         alloc: Global,
         system: &mut S,
         position: &Position,
     ) -> Result<OrPiece<Option<i64>>, ResultStop>
+        ensures words { words_of self.new ≡ words_of self.old }
+        ensures tables { self.new.tables.items ≡ self.old.tables.items }
         ensures content { S.content system.new ≡ S.content system.old }
-        ensures read { IfOk result (λ found. IfRead found (IsPieceOf (S.content system.old) self.now.tables.items)) }
-        ensures dtz { IfOk result (λ found. IfFound found (λ dtz. IsDtz (S.content system.old) (words_of self.now) self.now.tables.items position.now dtz)) }
+        ensures read { IfOk result (λ found. IfRead found (IsPieceOf (S.content system.old) (words_of self.old) self.old.tables.items)) }
+        ensures dtz { IfOk result (λ found. IfFound found (λ dtz. IsDtz (S.content system.old) (words_of self.old) self.old.tables.items position.now dtz)) }
     {
-        let mut set = FetchedSet::new(&self.tables);
-        let missing = match probe_dtz(&mut set, position) {
+        let missing = match distance_over(alloc, &mut self.tables, position) {
             Ok(distance) => return Ok(OrPiece::Found(Some(distance.signed()))),
             Err(DistanceFault::Contradiction) => return Err(ResultStop::Contradiction),
             Err(DistanceFault::Tables(missing)) => missing,
@@ -329,7 +334,7 @@ impl<'a> Folders<'a> {
         missing: &Missing,
     ) -> Result<Option<Piece>, ResultStop>
         ensures content { S.content system.new ≡ S.content system.old }
-        ensures read { IfOk result (λ piece. IfSome piece (IsPieceOf (S.content system.old) self.now.tables.items)) }
+        ensures read { IfOk result (λ piece. IfSome piece (IsPieceOf (S.content system.old) (words_of self.now) self.now.tables.items)) }
         ensures lacks { IfOk result (λ piece. IfNone piece (LacksDistances (S.content system.old) (words_of self.now) position.now)) }
     {
         match self.read_piece(alloc, system, missing)? {
@@ -350,7 +355,7 @@ impl<'a> Folders<'a> {
         missing: &Missing,
     ) -> Result<Option<Piece>, ResultStop>
         ensures content { S.content system.new ≡ S.content system.old }
-        ensures read { IfOk result (λ piece. IfSome piece (IsPieceOf (S.content system.old) self.now.tables.items)) }
+        ensures read { IfOk result (λ piece. IfSome piece (IsPieceOf (S.content system.old) (words_of self.now) self.now.tables.items)) }
         ensures absent { IfOk result (λ piece. IfNone piece (IsAbsent (S.content system.old) (words_of self.now) missing.now.material missing.now.kind)) }
     {
         match missing.reason {
@@ -384,10 +389,10 @@ impl<'a> Folders<'a> {
     )
         ensures words { words_of self.new ≡ words_of self.old }
         ensures content { S.content system.new ≡ S.content system.old }
-        ensures fetched { AreFetched (S.content system.old) self.old.tables.items → AreFetched (S.content system.old) self.new.tables.items }
+        ensures fetched { AreFetched (S.content system.old) (words_of self.old) self.old.tables.items → AreFetched (S.content system.old) (words_of self.new) self.new.tables.items }
     {
         'passes: for _ in 0..MOST_PASSES {
-            let wanted = wanted_values(alloc, &self.tables, position, has_distances);
+            let wanted = wanted_values(alloc, &mut self.tables, position, has_distances);
             if wanted.is_empty() {
                 return;
             }
@@ -403,24 +408,44 @@ impl<'a> Folders<'a> {
             }
         }
     }
+}
 
-    /// Probes a position over what was fetched of the tables.
-    #[tactic(auto, using(crate::proofs::Answered::answered))]
-    fn answer_now(
-        &self,
-        fen: &FenRecord,
-        has_distances: bool,
-    ) -> Result<Answer, DistanceFault<Missing>>
-        ensures answer { IfOk result (λ a. IsAnswerOf (fetched_classes self.now.tables.items) (fetched_numbers self.now.tables.items) fen.now a) }
-        ensures has_distances { IfOk result (λ a. a.has_distances ≡ has_distances) }
-    {
-        let mut set = FetchedSet::new(&self.tables);
-        if has_distances {
-            return probe_position(&mut set, &fen.position, fen.halfmove, true);
-        }
-        let mut alone = ClassesAlone { tables: set };
-        probe_position(&mut alone, &fen.position, 0, false)
+/// Probes a position over what was fetched of tables.
+fn answer_over(
+    alloc: Global,
+    tables: &mut Vec<FetchedTable>,
+    fen: &FenRecord,
+    has_distances: bool,
+) -> Result<Answer, DistanceFault<Missing>>
+    ensures tables { tables.new.items ≡ tables.old.items }
+    ensures answer { IfOk result (λ a. IsAnswerOf (fetched_classes tables.old.items) (fetched_numbers tables.old.items) fen.now a) }
+    ensures has_distances { IfOk result (λ a. a.has_distances ≡ has_distances) }
+{
+    let mut set = FetchedSet::of(replace(tables, Vec::new(alloc)));
+    if has_distances {
+        let answer = probe_position(&mut set, &fen.position, fen.halfmove, true);
+        *tables = set.into_tables();
+        return answer;
     }
+    let mut alone = ClassesAlone { tables: set };
+    let answer = probe_position(&mut alone, &fen.position, 0, false);
+    *tables = alone.tables.into_tables();
+    answer
+}
+
+/// Probes the distance of a position over what was fetched of tables.
+fn distance_over(
+    alloc: Global,
+    tables: &mut Vec<FetchedTable>,
+    position: &Position,
+) -> Result<Distance, DistanceFault<Missing>>
+    ensures tables { tables.new.items ≡ tables.old.items }
+    ensures distance { IfOk result (λ d. probed_distance (fetched_classes tables.old.items) (fetched_numbers tables.old.items) position.now ≡ Some (d.class, d.plies)) }
+{
+    let mut set = FetchedSet::of(replace(tables, Vec::new(alloc)));
+    let distance = probe_dtz(&mut set, position);
+    *tables = set.into_tables();
+    distance
 }
 
 /// Adds a value to the table with a number. A table's values stay where no memory is left.
@@ -429,7 +454,7 @@ fn keep_value(
     number: usize,
     value: FetchedValue,
 ) -> Result<(), AllocError>
-    ensures { (files : List ℕ → Option (List ℕ)) → IfSome (slice_get tables.old number) (IsValueOf files value) → AreFetched files tables.old → AreFetched files tables.new }
+    ensures { (files : List ℕ → Option (List ℕ)) (words : List (List ℕ)) → IfSome (slice_get tables.old number) (IsValueOf files value) → AreFetched files words tables.old → AreFetched files words tables.new }
 {
     if number < tables.len() {
         add_value(&mut tables[number], value)
@@ -440,7 +465,7 @@ fn keep_value(
 
 /// Adds a value that was fetched.
 fn add_value(table: &mut FetchedTable, value: FetchedValue) -> Result<(), AllocError>
-    ensures { (files : List ℕ → Option (List ℕ)) → IsValueOf files value table.old → IsFetched files table.old → IsFetched files table.new }
+    ensures { (files : List ℕ → Option (List ℕ)) (words : List (List ℕ)) → IsValueOf files value table.old → IsFetched files words table.old → IsFetched files words table.new }
 {
     Ok(table.values.push(value)?)
 }

@@ -3,7 +3,9 @@
 ghost use Rattle.std.specs.Prelude.{◌≡◌, Some, [], IfNone, IfOk, IfSome, map, option_map, string_bytes};
 ghost use Rattle.szg_block.specs.BlocksTrait.{bytes_at};
 ghost use Rattle.szg_file.specs.FrontTable.{IsFrontOf};
-ghost use Rattle.szg_results.specs.Folders.{IsAbsent, IsAbsentAt, IsFetched, IsValueOf, ending_of, path_of};
+ghost use Rattle.szg_file.specs.Opened.{table_in};
+ghost use Rattle.szg_file.specs.WholeRead.{IsTable};
+ghost use Rattle.szg_results.specs.Folders.{IsAbsent, IsAbsentAt, IsFetched, IsFirstPath, IsReadFrom, IsValueOf, ending_of, path_of};
 
 use crate::folders::{ResultStop, copy_of};
 use std::alloc::{AllocError, Global};
@@ -42,6 +44,7 @@ pub fn read_missing<S: FileSystem>(
     missing: &Missing,
 ) -> Result<Option<Table>, ResultStop>
     ensures content { S.content system.new ≡ S.content system.old }
+    ensures table { IfOk result (λ table. IfSome table (λ t. IsReadFrom (S.content system.old) (map (λ word. word.now) words.now) missing.now.material missing.now.kind t)) }
     ensures absent { IfOk result (λ table. IfNone table (IsAbsent (S.content system.old) (map (λ word. word.now) words.now) missing.now.material missing.now.kind)) }
 {
     match find_file(alloc, system, words, missing)? {
@@ -53,6 +56,7 @@ pub fn read_missing<S: FileSystem>(
 /// Opens a table by its front, from the first folder that has it. None if none has it.
 ///
 /// Errors: those of `read_missing`, but for the checks of blocks.
+#[tactic(auto, using(crate::proofs::Kept::opened_is))]
 pub(crate) fn open_missing<S: FileSystem>(
     alloc: Global,
     system: &mut S,
@@ -60,7 +64,7 @@ pub(crate) fn open_missing<S: FileSystem>(
     missing: &Missing,
 ) -> Result<Option<FetchedTable>, ResultStop>
     ensures content { S.content system.new ≡ S.content system.old }
-    ensures fetched { IfOk result (λ table. IfSome table (λ t. IsFetched (S.content system.old) t)) }
+    ensures fetched { IfOk result (λ table. IfSome table (λ t. IsFetched (S.content system.old) (map (λ word. word.now) words.now) t)) }
     ensures absent { IfOk result (λ table. IfNone table (IsAbsent (S.content system.old) (map (λ word. word.now) words.now) missing.now.material missing.now.kind)) }
 {
     match find_file(alloc, system, words, missing)? {
@@ -70,7 +74,7 @@ pub(crate) fn open_missing<S: FileSystem>(
 }
 
 /// Finds a table's file by the first word that has it. None if none has it.
-#[tactic(auto, using(crate::proofs::Absent::absent_next))]
+#[tactic(auto, using(crate::proofs::Absent::absent_next, crate::proofs::Absent::first_at))]
 fn find_file<S: FileSystem>(
     alloc: Global,
     system: &mut S,
@@ -79,6 +83,7 @@ fn find_file<S: FileSystem>(
 ) -> Result<Option<Found<S::File>>, ResultStop>
     ensures content { S.content system.new ≡ S.content system.old }
     ensures absent { IfOk result (λ found. IfNone found (IsAbsent (S.content system.old) (map (λ word. word.now) words.now) missing.now.material missing.now.kind)) }
+    ensures first { IfOk result (λ found. IfSome found (λ f. IsFirstPath (S.content system.old) (map (λ word. word.now) words.now) missing.now.material missing.now.kind (string_bytes f.path))) }
     ensures unread { IfOk result (λ found. IfSome found (λ f. S.File.moved f.file ≡ [])) }
     ensures coming { IfOk result (λ found. IfSome found (λ f. IfSome (S.content system.old (string_bytes f.path)) (λ bytes. S.File.coming f.file ≡ Some bytes))) }
 {
@@ -99,6 +104,7 @@ fn open_at<S: FileSystem>(
 ) -> Result<Option<Found<S::File>>, ResultStop>
     ensures content { S.content system.new ≡ S.content system.old }
     ensures absent { IfOk result (λ found. IfNone found (IsAbsentAt (S.content system.old) missing.now.material missing.now.kind word.now)) }
+    ensures path { IfOk result (λ found. IfSome found (λ f. path_of missing.now.material missing.now.kind word.now ≡ Some (string_bytes f.path))) }
     ensures unread { IfOk result (λ found. IfSome found (λ f. S.File.moved f.file ≡ [])) }
     ensures coming { IfOk result (λ found. IfSome found (λ f. IfSome (S.content system.old (string_bytes f.path)) (λ bytes. S.File.coming f.file ≡ Some bytes))) }
 {
@@ -119,6 +125,8 @@ fn read_from<F: Input + Reasons + Drop>(
     mut file: F,
 ) -> Result<Table, ResultStop>
     requires { F.moved file ≡ [] }
+    ensures table { IfOk result (λ t. IsTable missing.now.material missing.now.kind t) }
+    ensures there { IfOk result (λ t. IfSome (F.coming file) (λ content. table_in missing.now.material missing.now.kind content ≡ Some t.contents)) }
 {
     let Missing { material, kind, .. } = missing;
     match read(alloc, material.copy(), *kind, &mut file) {
@@ -137,6 +145,8 @@ fn front_from<S: FileSystem>(
     requires { S.File.moved found.file ≡ [] }
     // where the system specifies the file's bytes, the front is theirs
     ensures front { IfOk result (λ t. IfSome (S.File.coming found.file) (λ content. IsFrontOf t.front content)) }
+    ensures material { IfOk result (λ t. t.front.index.material ≡ missing.now.material) }
+    ensures kind { IfOk result (λ t. t.front.index.kind ≡ missing.now.kind) }
     ensures path { IfOk result (λ t. t.path ≡ found.path) }
     ensures none { IfOk result (λ t. t.values.items ≡ []) }
 {

@@ -31,8 +31,7 @@ pub fn probe_position<T: DistanceTables>(
     counter: u32,
     has_distances: bool,
 ) -> Result<Answer, DistanceFault<T::Fault>>
-    ensures same { T.stored tables.new ≡ T.stored tables.old }
-    ensures same_numbers { T.numbers tables.new ≡ T.numbers tables.old }
+    ensures same { tables.new ≡ tables.old }
     ensures stated { IfOk result (λ a. IsAnswer (T.stored tables.old) (T.numbers tables.old) position.now counter a) }
     ensures has_distances { IfOk result (λ a. a.has_distances ≡ has_distances) }
 {

@@ -8,6 +8,8 @@ use crate::classes_alone::ClassesAlone;
 use crate::folders::copy_of;
 use crate::probe_position;
 use std::alloc::Global;
+use std::marker::Model;
+use std::mem::replace;
 use szg_chess::Position;
 use szg_game::Class;
 use szg_place::Spot;
@@ -16,20 +18,29 @@ use szg_tables::{FetchedSet, FetchedTable, Missing, MissingReason};
 use szg_values::Kind;
 
 /// As many values are noted at once.
-const MOST_WANTED: usize = 256;
+const MOST_WANTED: usize = 1024;
 
 /// A set of tables in which a value that was not fetched is noted, and counts as a draw or as the number 0. So a probe goes
 /// on, and what it finds is of no use but for the notes.
 #[derive(Drop)]
-struct Noting<'s> {
-    tables: &'s [FetchedTable],
+struct Noting {
+    tables: FetchedSet,
     wanted: Vec<Missing>,
 }
 
-impl Noting<'_> {
+impl Model for Noting {
+    ghost use Rattle.std.specs.Prelude.{List};
+    ghost use Rattle.szg_tables.specs.declared.fetched.FetchedTable.{FetchedTable};
+
+    ghost Value = { List FetchedTable };
+
+    ghost view = { λ noting. noting.tables };
+}
+
+impl Noting {
     /// Notes a value that was not fetched, once. Errors: it is something else, or there is no room.
     fn note(&mut self, missing: Missing) -> Result<(), Missing>
-        ensures { self.new.tables.now ≡ self.old.tables.now }
+        ensures { self.new ≡ self.old }
     {
         let MissingReason::Unread(spot) = missing.reason else {
             return Err(missing);
@@ -64,18 +75,17 @@ fn is_same(noted: &Missing, missing: &Missing, spot: Spot) -> bool {
     }
 }
 
-impl Tables for Noting<'_> {
+impl Tables for Noting {
     type Fault = Missing;
 
-    ghost stored = { λ noting men mover. Some (unwrap_or (fetched_classes noting.tables.now men mover) Draw) };
+    ghost stored = { λ noting men mover. Some (unwrap_or (fetched_classes noting men mover) Draw) };
 
-    ghost numbers = { λ noting men mover k. Some (unwrap_or (fetched_numbers noting.tables.now men mover k) (Some 0)) };
+    ghost numbers = { λ noting men mover k. Some (unwrap_or (fetched_numbers noting men mover k) (Some 0)) };
 
     ghost explains = { λ classes numbers missing men mover. ⊤ };
 
     fn class(&mut self, position: &Position) -> Result<Class, Missing> {
-        let mut set = FetchedSet::new(self.tables);
-        let missing = match set.class(position) {
+        let missing = match self.tables.class(position) {
             Ok(class) => return Ok(class),
             Err(missing) => missing,
         };
@@ -89,10 +99,9 @@ impl Tables for Noting<'_> {
     }
 }
 
-impl DistanceTables for Noting<'_> {
+impl DistanceTables for Noting {
     fn number(&mut self, position: &Position, class: Class) -> Result<Option<u32>, Missing> {
-        let mut set = FetchedSet::new(self.tables);
-        let missing = match set.number(position, class) {
+        let missing = match self.tables.number(position, class) {
             Ok(number) => return Ok(number),
             Err(missing) => missing,
         };
@@ -106,19 +115,27 @@ impl DistanceTables for Noting<'_> {
 /// Returns values that were not fetched and that a probe of a position, with its moves, seems to take.
 pub(crate) fn wanted_values(
     alloc: Global,
-    tables: &[FetchedTable],
+    tables: &mut Vec<FetchedTable>,
     position: &Position,
     has_distances: bool,
-) -> Vec<Missing> {
+) -> Vec<Missing>
+    ensures { tables.new.items ≡ tables.old.items }
+{
     let mut noting = Noting {
-        tables,
+        tables: FetchedSet::of(replace(tables, Vec::new(alloc))),
         wanted: Vec::new(alloc),
     };
     if has_distances {
         let _ = probe_position(&mut noting, position, 0, true);
-        return noting.wanted;
+    } else {
+        let mut alone = ClassesAlone { tables: noting };
+        let _ = probe_position(&mut alone, position, 0, false);
+        noting = alone.tables;
     }
-    let mut alone = ClassesAlone { tables: noting };
-    let _ = probe_position(&mut alone, position, 0, false);
-    alone.tables.wanted
+    let Noting {
+        tables: set,
+        wanted,
+    } = noting;
+    *tables = set.into_tables();
+    wanted
 }

@@ -1,4 +1,5 @@
 mod Stored
+mod ListedValues
 mod Images
 mod ImageDistances
 mod MappedFiles

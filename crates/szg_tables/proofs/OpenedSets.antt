@@ -1,32 +1,92 @@
 -- What opened tables store, by the table that is found.
-use Rattle.std.proofs.Common.{◌≡◌, ℕ, List, ap, sym, ◌∙◌, subst, Option, Some, None}
-use Rattle.std.specs.Prelude.{find, option_and_then}
-use Rattle.szg_values.specs.Material.{Sides}
+use Rattle.std.proofs.Common.{◌≡◌, ◌<◌, ℕ, zero, suc, Bool, true, cond, nat_lt, List, [], ◌∷◌, length, refl, sym, ap, ◌∙◌, subst, inl, inr, arith, Option, Some, None}
+use Rattle.std.specs.Prelude.{IsSomeAnd, find, option_and_then, position, slice_get}
+use Rattle.std.specs.List.{position_or_len}
+use Rattle.std.proofs.lemmas.Bool.{and_parts, cases_Bool, ltb-false, ltb-true}
+use Rattle.std.proofs.lemmas.List.Folds.{find_at}
+use Rattle.std.proofs.lemmas.Option.{slice_get_past}
 use Rattle.szg_values.specs.Placement.{PlacedMan, Board, material_of}
 use Rattle.szg_values.specs.declared.Color.{Color}
 use Rattle.szg_values.specs.declared.Kind.{Kind}
 use Rattle.szg_values.specs.declared.Kind.TheVariants.{Wdl, Dtz}
 use Rattle.szg_game.specs.declared.Class.{Class}
 use Rattle.szg_tables.specs.Opened.{Opened, class_in, first_for, is_for, number_in, opened_classes, opened_numbers}
-use Rattle.szg_tables.specs.Stored.{board_of}
+use Rattle.szg_tables.specs.Stored.{board_of, is_kind}
 
-pub found_by : {A : Type 0} (opened : A → Opened) (kind : Kind) (board : Board) (tables : List A) (m : Sides) (o : Option A) → m ≡ material_of board.placed_men →
-    o ≡ find (λ t. is_for kind m (opened t).index) tables → first_for opened kind board tables ≡ o
-found_by {A} opened kind board tables m o is found = sym (subst (λ (s : Sides). o ≡ find (λ (t : A). is_for kind s (opened t).index) tables) is found)
+-- ---- the first that passes a test
+
+none_there : {X : Type 0} (xs : List X) (n : ℕ) → n < length xs → slice_get xs n ≡ None → ⊥
+none_there [] n h e = omega (arith, h)
+none_there (x ∷ xs) zero h e = cc e
+none_there (x ∷ xs) (suc n) h e = none_there xs n (omega (arith, h)) e
+
+module _ {X : Type 0} (p : X → Bool) where
+  passes : (xs : List X) (x : X) → find p xs ≡ Some x → p x ≡ true
+  passes [] x e = absurd (cc e)
+  passes (y ∷ ys) x e = elim (cases_Bool (p y)) [
+    | inl t ↦ let same : y ≡ x = cc (sym (ap (λ (b : Bool). cond b (Some y) (find p ys)) t) ∙ e) in ap p (sym same) ∙ t
+    | inr f ↦ passes ys x (sym (ap (λ (b : Bool). cond b (Some y) (find p ys)) f) ∙ e)
+  ]
+
+  first_there : (xs : List X) (n : ℕ) → position p xs ≡ Some n → (find p xs ≡ slice_get xs n) × (n < length xs)
+  first_there xs n e = elim (cases_Bool (nat_lt (position_or_len p xs) (length xs))) [
+    | inl t ↦
+        let same : position_or_len p xs ≡ n = cc (sym (ap (λ (b : Bool). cond b (Some (position_or_len p xs)) None) t) ∙ e) in
+        (find_at p xs ∙ ap (λ (k : ℕ). slice_get xs k) same, subst (λ (k : ℕ). k < length xs) same (ltb-true _ _ t))
+    | inr f ↦ absurd (cc (sym (ap (λ (b : Bool). cond b (Some (position_or_len p xs)) None) f) ∙ e))
+  ]
+
+  first_at : (xs : List X) (n : ℕ) → position p xs ≡ Some n → find p xs ≡ slice_get xs n
+  first_at xs n e = (first_there xs n e).0
+
+  first_passes : (P : X → Type 0) → ((x : X) → p x ≡ true → P x) → (xs : List X) (n : ℕ) → position p xs ≡ Some n → IsSomeAnd (slice_get xs n) P
+  first_passes P of xs n e = go (slice_get xs n) refl where
+    go : (o : Option X) → slice_get xs n ≡ o → IsSomeAnd o P
+    go (Some x) at = of x (passes xs x (first_at xs n e ∙ at))
+    go None at = absurd (none_there xs n (first_there xs n e).1 at)
+
+  first_nowhere : (xs : List X) → position p xs ≡ None → find p xs ≡ None
+  first_nowhere xs e = elim (cases_Bool (nat_lt (position_or_len p xs) (length xs))) [
+    | inl t ↦ absurd (cc (sym (ap (λ (b : Bool). cond b (Some (position_or_len p xs)) None) t) ∙ e))
+    | inr f ↦ find_at p xs ∙ slice_get_past xs (position_or_len p xs) (ltb-false _ _ f)
+  ]
+
+-- a table that passes the test for a kind is of this kind
+same_kind : (kind k : Kind) → is_kind kind k ≡ true → k ≡ kind
+same_kind Wdl Wdl e = refl
+same_kind Wdl Dtz e = absurd (cc e)
+same_kind Dtz Wdl e = absurd (cc e)
+same_kind Dtz Dtz e = refl
+
+-- ---- the first table for a board
+
+module _ {A : Type 0} (opened : A → Opened) (kind : Kind) (board' board : Board) (tables' tables : List A) (boards : board' ≡ board) (same : tables' ≡ tables) where
+  abbrev test : Board → A → Bool
+  test b t = is_for kind (material_of b.placed_men) (opened t).index
+
+  here : (o : Option ℕ) → o ≡ position (test board') tables' → position (test board) tables ≡ o
+  here o is = sym (is ∙ ap (λ (b : Board). position (test b) tables') boards ∙ ap (λ (ts : List A). position (test board) ts) same)
+
+  pub found_at : (n : ℕ) → Some n ≡ position (test board') tables' → first_for opened kind board tables ≡ slice_get tables n
+  found_at n is = first_at (test board) tables n (here (Some n) is)
+
+  pub kind_at : (n : ℕ) → Some n ≡ position (test board') tables' → IsSomeAnd (slice_get tables n) (λ t. (opened t).index.kind ≡ kind)
+  kind_at n is = first_passes (test board) (λ (t : A). (opened t).index.kind ≡ kind) (λ t e. same_kind kind (opened t).index.kind (and_parts _ _ e).0) tables n (here (Some n) is)
+
+  pub found_nowhere : None ≡ position (test board') tables' → first_for opened kind board tables ≡ None
+  found_nowhere is = first_nowhere (test board) tables (here None is)
+
+pub same_index : {A : Type 0} (opened : A → Opened) (new old : A) → new ≡ old → (opened new).index ≡ (opened old).index
+same_index {A} opened new old same = ap (λ (t : A). (opened t).index) same
+
+-- ---- what is stored
 
 module _ {A : Type 0} (opened : A → Opened) (tables : List A) (men : List PlacedMan) (mover : Color) (board : Board) (is : board ≡ board_of men mover) where
-  pub class_by : (t : A) (x : Option Class) → first_for opened Wdl board tables ≡ Some t → class_in board (opened t) ≡ x → opened_classes opened tables men mover ≡ x
-  class_by t x found there =
-      ap (option_and_then (λ (u : A). class_in (board_of men mover) (opened u))) (subst (λ (b : Board). first_for opened Wdl b tables ≡ Some t) is found)
-      ∙ subst (λ (b : Board). class_in b (opened t) ≡ x) is there
+  pub class_by : (o : Option A) (x : Option Class) → first_for opened Wdl board tables ≡ o → option_and_then (λ t. class_in board (opened t)) o ≡ x → opened_classes opened tables men mover ≡ x
+  class_by o x found there =
+      subst (λ (b : Board). option_and_then (λ (t : A). class_in b (opened t)) (first_for opened Wdl b tables) ≡ x) is (ap (option_and_then (λ (t : A). class_in board (opened t))) found ∙ there)
 
-  pub number_by_table : (k : Class) (t : A) (x : Option (Option ℕ)) → first_for opened Dtz board tables ≡ Some t → number_in board k (opened t) ≡ x → opened_numbers opened tables men mover k ≡ x
-  number_by_table k t x found there =
-      ap (option_and_then (λ (u : A). number_in (board_of men mover) k (opened u))) (subst (λ (b : Board). first_for opened Dtz b tables ≡ Some t) is found)
-      ∙ subst (λ (b : Board). number_in b k (opened t) ≡ x) is there
-
-  pub no_class : first_for opened Wdl board tables ≡ None → opened_classes opened tables men mover ≡ None
-  no_class none = ap (option_and_then (λ (u : A). class_in (board_of men mover) (opened u))) (subst (λ (b : Board). first_for opened Wdl b tables ≡ None) is none)
-
-  pub no_number : (k : Class) → first_for opened Dtz board tables ≡ None → opened_numbers opened tables men mover k ≡ None
-  no_number k none = ap (option_and_then (λ (u : A). number_in (board_of men mover) k (opened u))) (subst (λ (b : Board). first_for opened Dtz b tables ≡ None) is none)
+  pub number_by_table : (k : Class) (o : Option A) (x : Option (Option ℕ)) → first_for opened Dtz board tables ≡ o → option_and_then (λ t. number_in board k (opened t)) o ≡ x →
+      opened_numbers opened tables men mover k ≡ x
+  number_by_table k o x found there =
+      subst (λ (b : Board). option_and_then (λ (t : A). number_in b k (opened t)) (first_for opened Dtz b tables) ≡ x) is (ap (option_and_then (λ (t : A). number_in board k (opened t))) found ∙ there)

@@ -1,6 +1,6 @@
 -- What is stored, by the table that is found.
 use Rattle.std.proofs.lemmas.Bool.{le-ltb, ltb-false, or_parts}
-use Rattle.std.proofs.Common.{◌≡◌, ◌<◌, ◌≤◌, ℕ, List, length, refl, sym, ap, ◌∙◌, subst, Option, Some, None, Bool, true, false, arith}
+use Rattle.std.proofs.Common.{◌≡◌, ◌<◌, ◌≤◌, ℕ, List, length, sym, ap, ◌∙◌, subst, Option, Some, None, Bool, true, false, arith}
 use Rattle.szg_verify.specs.declared.Distance.{Distance}
 use Rattle.szg_tables.specs.Distances.{distance_in, is_left_out, stored_distances}
 use Rattle.std.specs.Prelude.{option_and_then, nat_lt, ◌&&◌, ◌||◌}

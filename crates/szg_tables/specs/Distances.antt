@@ -1,5 +1,5 @@
 -- The numbers that DTZ tables in memory store, with how they count.
-use Rattle.std.specs.Prelude.{ℕ, ◌/◌, ◌||◌, ◌&&◌, nat_lt, Bool, false, List, length, map, slice_index, Option, Some, None, option_map, option_and_then, unwrap_or, if◌then◌else◌}
+use Rattle.std.specs.Prelude.{ℕ, ◌/◌, ◌||◌, ◌&&◌, nat_lt, Bool, false, List, length, map, slice_index, Option, None, option_map, option_and_then, unwrap_or, if◌then◌else◌}
 use Rattle.szg_values.specs.Men.{is_color}
 use Rattle.szg_values.specs.Placement.{PlacedMan, Board}
 use Rattle.szg_values.specs.declared.Color.{Color}

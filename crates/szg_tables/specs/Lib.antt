@@ -1,5 +1,6 @@
 pub mod Stored
 pub mod Distances
+pub mod Listed
 pub mod Images
 pub mod Opened
 pub mod Mapped

@@ -3,7 +3,6 @@ use Rattle.std.specs.Prelude.{ℕ, ℤ, pos, neg_ℤ, ◌≡◌, ◌==◌, ◌&&
 use Rattle.szg_values.specs.Material.{Sides, is_same_men}
 use Rattle.szg_values.specs.Placement.{PlacedMan, Board, material_of}
 use Rattle.szg_values.specs.declared.Color.{Color}
-use Rattle.szg_values.specs.declared.Color.TheVariants.{White}
 use Rattle.szg_values.specs.declared.Kind.{Kind}
 use Rattle.szg_values.specs.declared.Kind.TheVariants.{Wdl, Dtz}
 use Rattle.szg_file.specs.Contents.{Contents}

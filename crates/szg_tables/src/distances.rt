@@ -6,18 +6,18 @@ ghost use Rattle.szg_file.specs.File.{flags_of};
 ghost use Rattle.szg_tables.specs.Distances.{as_stored, distance_in, is_exact, is_left_out, stored_distances};
 
 use crate::in_memory::number_in;
+use crate::listed::ListedTable;
 use crate::{Missing, MissingReason, TableSet};
 use szg_chess::Position;
 use szg_file::{Table, has_bit};
 use szg_game::Class;
-use szg_place::index_of;
 use szg_values::{Color, Kind, Placement};
 use szg_verify::{Distance, DtzTables, has_equal_sides};
 
 impl<'a> DtzTables for TableSet<'a> {
     type Fault = Missing;
 
-    ghost distances = { λ set. stored_distances set.tables.now };
+    ghost distances = { λ set. stored_distances set };
 
     fn distance(&mut self, position: &Position, class: Class) -> Result<Option<Distance>, Missing> {
         if is_left_out(position) {
@@ -30,7 +30,7 @@ impl<'a> DtzTables for TableSet<'a> {
             Ok(table) => table,
             Err(missing) => return Err(missing),
         };
-        match distance_in(table, &placement, class) {
+        match distance_in(&table, &placement, class) {
             Ok(distance) => Ok(distance),
             Err(reason) => Err(Missing {
                 material: placement.material(),
@@ -56,23 +56,20 @@ fn is_black(color: Color) -> bool
 
 /// Returns the number of a placement in a class, in a DTZ table. None if the table stores the other side to move.
 fn distance_in(
-    table: &Table,
+    table: &ListedTable<'_>,
     placement: &Placement,
     class: Class,
 ) -> Result<Option<Distance>, MissingReason>
     requires { table.now.contents.kind ≡ Kind.Dtz }
     ensures { IfOk result (λ d. distance_in placement.now class table.now.contents ≡ d) }
 {
-    let plies = match number_in(table, placement, class) {
-        Ok(Some(plies)) => plies,
+    let number = match number_in(table, placement, class) {
+        Ok(Some(number)) => number,
         Ok(None) => return Ok(None),
         Err(reason) => return Err(reason),
     };
-    let spot = match index_of(table, placement) {
-        Ok(spot) => spot,
-        Err(fault) => return Err(MissingReason::Place(fault)),
-    };
-    match as_stored(is_exact(class, flags_of(table, spot.part)), plies) {
+    let flags = flags_of(table.table(), number.part);
+    match as_stored(is_exact(class, flags), number.plies) {
         Some(distance) => Ok(Some(distance)),
         None => Err(MissingReason::Value),
     }

@@ -1,11 +1,10 @@
 //! Tables of which single values were fetched: neither a file nor a block stays in memory.
 
-ghost use Rattle.std.specs.Prelude.{◌≡◌, ◌++◌, ◌∷◌, [], OnOk};
+ghost use Rattle.std.specs.Prelude.{◌≡◌};
 ghost use Rattle.szg_tables.specs.Fetched.{fetched, fetched_at, is_at};
 
 use crate::MissingReason;
 use crate::opened::{OpenTable, OpenedSet};
-use std::alloc::AllocError;
 use szg_file::{FrontTable, TableIndex};
 use szg_place::Spot;
 
@@ -33,19 +32,8 @@ pub struct FetchedTable {
     pub values: Vec<FetchedValue>,
 }
 
-impl FetchedTable {
-    /// Adds a value that was fetched.
-    pub fn keep(&mut self, value: FetchedValue) -> Result<(), AllocError>
-        ensures front { self.new.front ≡ self.old.front }
-        ensures path { self.new.path ≡ self.old.path }
-        ensures values { OnOk result (self.new.values.items ≡ self.old.values.items ++ value ∷ []) }
-    {
-        Ok(self.values.push(value)?)
-    }
-}
-
 /// A set of such tables. A value that was not fetched is missing: `MissingReason::Unread`.
-pub type FetchedSet<'s> = OpenedSet<'s, FetchedTable>;
+pub type FetchedSet = OpenedSet<FetchedTable>;
 
 impl OpenTable for FetchedTable {
     ghost opened = { λ t. fetched t };
@@ -54,7 +42,7 @@ impl OpenTable for FetchedTable {
         self.front.index()
     }
 
-    fn value(&self, spot: Spot) -> Result<u16, MissingReason> {
+    fn value(&mut self, spot: Spot) -> Result<u16, MissingReason> {
         match fetched_at(&self.values, spot) {
             Some(value) => Ok(value),
             None => Err(MissingReason::Unread(spot)),

@@ -1,51 +1,100 @@
 //! A set of tables in memory.
 
-ghost use Rattle.std.specs.Prelude.{◌≡◌, ◌<◌, ◌^◌, ◌≤ℤ◌, pos, neg_ℤ, IfErr, IfOk, IfNone, IfSome, IsSome, Some, None, is_some, map, option_map, option_and_then, find};
+ghost use Rattle.std.specs.Prelude.{◌≡◌, ◌<◌, ◌^◌, ◌≤ℤ◌, pos, neg_ℤ, All, IfErr, IfOk, IfNone, IfSome, IsSome, Some, None, is_some, map, option_map, option_and_then, find};
 ghost use Rattle.std.specs.Option.{ForSome};
 ghost use Rattle.szg_values.specs.Material.{Sides};
 ghost use Rattle.szg_values.specs.Placement.{Board, material_of};
 ghost use Rattle.szg_file.specs.Held.{Shown};
+ghost use Rattle.szg_place.specs.Spots.{spot_of};
+ghost use Rattle.szg_place.specs.Tables.{numbering_of};
+ghost use Rattle.szg_tables.specs.Listed.{IsListed};
 ghost use Rattle.szg_tables.specs.Stored.{IsMissing, board_of, class_in, class_of_value, is_for, is_kind, number_in, number_of_class, stored_classes, stored_numbers, table_for, value_in};
 
+use crate::listed::{ListedTable, TableLists};
 use crate::{Missing, MissingReason};
+use std::marker::Model;
 use szg_chess::Position;
 use szg_file::Table;
+use szg_file::typed::table_fits;
 use szg_game::Class;
-use szg_place::{PlaceFault, ProbeFault, index_of, probe_dtz};
+use szg_place::{PlaceFault, index_of};
 use szg_probe::{DistanceTables, Tables};
 use szg_values::{Kind, Material, Placement};
 
 /// A set of tables that are whole in memory, of both kinds. A probe allocates nothing.
-#[derive(Clone, Copy, Drop)]
+#[derive(Drop)]
 pub struct TableSet<'a> {
     tables: &'a [Table],
+    listed: &'a [TableLists<'a>],
+}
+
+impl<'a> Model for TableSet<'a> {
+    ghost use Rattle.std.specs.Prelude.{All, List};
+    ghost use Rattle.szg_file.specs.Held.{Shown};
+    ghost use Rattle.szg_tables.specs.Listed.{IsListed};
+
+    ghost Value = { List Shown };
+
+    ghost view = { λ set. set.tables.now };
+
+    ghost invariant = { λ set. All (IsListed set.tables.now) set.listed.now };
 }
 
 impl<'a> TableSet<'a> {
     /// Creates a set of these tables. Of two of one kind and material the first counts.
     pub fn new(tables: &'a [Table]) -> TableSet<'a>
-        ensures { result.tables.now ≡ tables.now }
+        ensures { result ≡ tables.now }
     {
-        TableSet { tables }
+        TableSet {
+            tables,
+            listed: &[],
+        }
+    }
+
+    /// Creates a set of these tables, some of which have lists of their values.
+    pub(crate) fn with_lists(tables: &'a [Table], listed: &'a [TableLists<'a>]) -> TableSet<'a>
+        requires { All (IsListed tables.now) listed.now }
+        ensures { result ≡ tables.now }
+    {
+        TableSet { tables, listed }
     }
 
     /// Returns whether there is a table of this kind and material.
     pub fn has_table(&self, kind: Kind, material: &Material) -> bool
-        ensures { result ≡ is_some (find (is_for kind material.now) self.now.tables.now) }
+        ensures { result ≡ is_some (find (is_for kind material.now) self.now) }
     {
         first_for(self.tables, kind, material).is_some()
     }
 
+    /// Returns the table of a kind and material, if it has lists of its values.
+    fn listed(&self, kind: Kind, material: &Material) -> Option<ListedTable<'a>>
+        ensures first { IfSome result (λ t. find (is_for kind material.now) self.now ≡ Some t) }
+        ensures kind { IfSome result (λ t. t.contents.kind ≡ kind) }
+    {
+        for table in self.listed {
+            if is_kind(kind, table.kind) && material.is_same(&table.material) {
+                return Some(ListedTable {
+                    table: table.table,
+                    lists: &table.lists,
+                });
+            }
+        }
+        None
+    }
+
     /// Returns the first table of a kind for the men of a placement.
-    pub(crate) fn find(&self, kind: Kind, placement: &Placement) -> Result<&'a Table, Missing>
-        ensures found { IfOk result (λ t. table_for kind placement.now self.now.tables.now ≡ Some t.now) }
-        ensures kind { IfOk result (λ t. t.now.contents.kind ≡ kind) }
-        ensures none { IfErr result (λ missing. table_for kind placement.now self.now.tables.now ≡ None) }
+    pub(crate) fn find(&self, kind: Kind, placement: &Placement) -> Result<ListedTable<'a>, Missing>
+        ensures found { IfOk result (λ t. table_for kind placement.now self.now ≡ Some t) }
+        ensures kind { IfOk result (λ t. t.contents.kind ≡ kind) }
+        ensures none { IfErr result (λ missing. table_for kind placement.now self.now ≡ None) }
         ensures missing { IfErr result (λ missing. missing.kind ≡ kind) }
     {
         let material = placement.material();
+        if let Some(table) = self.listed(kind, &material) {
+            return Ok(table);
+        }
         match first_for(self.tables, kind, &material) {
-            Some(table) => Ok(table),
+            Some(table) => Ok(ListedTable { table, lists: &[] }),
             None => Err(Missing {
                 material,
                 kind,
@@ -56,7 +105,11 @@ impl<'a> TableSet<'a> {
 }
 
 /// Returns the first table of a kind and material.
-fn first_for<'a>(tables: &'a [Table], kind: Kind, material: &Material) -> Option<&'a Table>
+pub(crate) fn first_for<'a>(
+    tables: &'a [Table],
+    kind: Kind,
+    material: &Material,
+) -> Option<&'a Table>
     ensures found { option_map (λ t. t.now) result ≡ find (is_for kind material.now) tables.now }
     ensures kind { IfSome result (λ t. t.now.contents.kind ≡ kind) }
 {
@@ -109,46 +162,59 @@ pub fn number_of_class(class: Class) -> i8
 }
 
 /// Returns the class of a placement in a WDL table.
-fn class_in(table: &Table, placement: &Placement) -> Result<Class, MissingReason>
+fn class_in(table: &ListedTable<'_>, placement: &Placement) -> Result<Class, MissingReason>
     ensures class { IfOk result (λ k. class_in placement.now table.now.contents ≡ Some k) }
     ensures none { IfErr result (λ reason. class_in placement.now table.now.contents ≡ None) }
 {
-    let spot = match index_of(table, placement) {
+    let spot = match index_of(table.table(), placement) {
         Ok(spot) => spot,
         Err(fault) => return Err(MissingReason::Place(fault)),
     };
-    match class_of_value(table.get(spot.part, spot.side, spot.index)) {
+    match class_of_value(table.value_at(spot)) {
         Some(class) => Ok(class),
         None => Err(MissingReason::Value),
     }
 }
 
+/// A number of plies of a DTZ table, and the part that stores it.
+#[derive(Clone, Copy)]
+pub(crate) struct StoredNumber {
+    pub(crate) plies: u32,
+    pub(crate) part: u8,
+}
+
 /// Returns the number of a placement in a class in a DTZ table. None if the table stores the other side to move.
 pub(crate) fn number_in(
-    table: &Table,
+    table: &ListedTable<'_>,
     placement: &Placement,
     class: Class,
-) -> Result<Option<u32>, MissingReason>
+) -> Result<Option<StoredNumber>, MissingReason>
     requires { table.now.contents.kind ≡ Kind.Dtz }
-    ensures number { IfOk result (λ n. number_in placement.now class table.now.contents ≡ Some n) }
-    ensures few { IfOk result (λ n. ForSome n (λ plies. plies < 2 ^ 31)) }
+    ensures number { IfOk result (λ n. number_in placement.now class table.now.contents ≡ Some (option_map (λ n. n.plies) n)) }
+    ensures few { IfOk result (λ n. IfSome n (λ n. n.plies < 2 ^ 31)) }
+    ensures part { IfOk result (λ n. IfSome n (λ n. n.part ≡ (spot_of (numbering_of table.now.contents) placement.now).part)) }
     ensures none { IfErr result (λ reason. number_in placement.now class table.now.contents ≡ None) }
 {
-    match probe_dtz(table, placement, number_of_class(class)) {
-        Ok(number) if number < 2_147_483_648 => Ok(Some(number)),
-        Ok(_) => Err(MissingReason::Value),
-        Err(ProbeFault::Place(PlaceFault::WrongSide)) => Ok(None),
-        Err(ProbeFault::Place(fault)) => Err(MissingReason::Place(fault)),
-        Err(ProbeFault::Map(_)) => Err(MissingReason::Value),
+    let whole = table.table();
+    table_fits(whole);
+    let spot = match index_of(whole, placement) {
+        Ok(spot) => spot,
+        Err(PlaceFault::WrongSide) => return Ok(None),
+        Err(fault) => return Err(MissingReason::Place(fault)),
+    };
+    let part = spot.part;
+    match whole.map_value(part, number_of_class(class), table.value_at(spot)) {
+        Ok(plies) if plies < 2_147_483_648 => Ok(Some(StoredNumber { plies, part })),
+        Ok(_) | Err(_) => Err(MissingReason::Value),
     }
 }
 
 impl<'a> Tables for TableSet<'a> {
     type Fault = Missing;
 
-    ghost stored = { λ set. stored_classes set.tables.now };
+    ghost stored = { λ set. stored_classes set };
 
-    ghost numbers = { λ set. stored_numbers set.tables.now };
+    ghost numbers = { λ set. stored_numbers set };
 
     ghost explains = { λ classes numbers missing men mover. IsMissing classes numbers missing men mover };
 
@@ -160,7 +226,7 @@ impl<'a> Tables for TableSet<'a> {
             Ok(table) => table,
             Err(missing) => return Err(missing),
         };
-        match class_in(table, &placement) {
+        match class_in(&table, &placement) {
             Ok(class) => Ok(class),
             Err(reason) => Err(Missing {
                 material: placement.material(),
@@ -180,8 +246,9 @@ impl<'a> DistanceTables for TableSet<'a> {
             Ok(table) => table,
             Err(missing) => return Err(missing),
         };
-        match number_in(table, &placement, class) {
-            Ok(number) => Ok(number),
+        match number_in(&table, &placement, class) {
+            Ok(Some(number)) => Ok(Some(number.plies)),
+            Ok(None) => Ok(None),
             Err(reason) => Err(Missing {
                 material: placement.material(),
                 kind: Kind::Dtz,

@@ -9,12 +9,14 @@ mod distances;
 mod fetched;
 mod in_memory;
 pub mod laws;
+mod listed;
 mod mapped;
 mod opened;
 mod verifying;
 
 pub use fetched::{FetchedSet, FetchedTable, FetchedValue};
 pub use in_memory::{TableSet, number_of_class};
+pub use listed::ValueLists;
 pub use mapped::{MappedSet, MappedTable};
 pub use opened::{OpenTable, OpenedSet};
 pub use verifying::{VerifyFault, verify_tables};

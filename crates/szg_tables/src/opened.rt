@@ -1,18 +1,21 @@
 //! Sets of opened tables. What a table knows of its values is its own affair.
 
-ghost use Rattle.std.specs.Prelude.{◌≡◌, ◌<◌, ◌^◌, IfErr, IfOk, IfSome, Some, None, find, length, option_map};
+ghost use Rattle.std.specs.Prelude.{◌≡◌, ◌<◌, ◌^◌, ◌++◌, ◌∷◌, [], IfErr, IfOk, IsSomeAnd, Some, None, length, option_and_then, position, slice_get};
 ghost use Rattle.std.specs.Option.{ForSome};
+ghost use Rattle.szg_values.specs.Placement.{material_of};
 ghost use Rattle.szg_tables.specs.Opened.{class_in, first_for, is_for, number_in, opened_classes, opened_numbers};
 ghost use Rattle.szg_tables.specs.Stored.{IsMissing};
 
 use crate::in_memory::{class_of_value, is_kind, number_of_class};
 use crate::{Missing, MissingReason};
+use std::alloc::AllocError;
+use std::marker::Model;
 use szg_chess::Position;
 use szg_file::TableIndex;
 use szg_game::Class;
-use szg_place::{PlaceFault, Spot, locate};
+use szg_place::{PlaceFault, Spot, has_men_of, locate};
 use szg_probe::{DistanceTables, Tables};
-use szg_values::{Kind, Material, PlacedMen, Placement};
+use szg_values::{Kind, PlacedMen, Placement};
 
 /// A table whose index is in memory, and its values as far as they are known.
 pub trait OpenTable {
@@ -28,16 +31,18 @@ pub trait OpenTable {
         ensures { result.now ≡ (opened self.now).index };
 
     /// Returns the value at a spot. Errors: why it is not known.
-    fn value(&self, spot: Spot) -> Result<u16, MissingReason>
-        requires { IsSomeAnd (slot_in (opened self.now).index spot.part spot.side) (λ slot. spot.index < slot.size) }
-        ensures value { IfOk result (λ v. (opened self.now).value_at spot ≡ Some v) }
-        ensures none { IfErr result (λ reason. (opened self.now).value_at spot ≡ None) };
+    fn value(&mut self, spot: Spot) -> Result<u16, MissingReason>
+        requires { IsSomeAnd (slot_in (opened self.old).index spot.part spot.side) (λ slot. spot.index < slot.size) }
+        ensures same { self.new ≡ self.old }
+        ensures value { IfOk result (λ v. (opened self.old).value_at spot ≡ Some v) }
+        ensures none { IfErr result (λ reason. (opened self.old).value_at spot ≡ None) };
 }
 
 /// Returns the class of a placement in a WDL table.
-fn class_in<T: OpenTable>(table: &T, placement: &Placement) -> Result<Class, MissingReason>
-    ensures class { IfOk result (λ k. class_in placement.now (T.opened table.now) ≡ Some k) }
-    ensures none { IfErr result (λ reason. class_in placement.now (T.opened table.now) ≡ None) }
+fn class_in<T: OpenTable>(table: &mut T, placement: &Placement) -> Result<Class, MissingReason>
+    ensures same { table.new ≡ table.old }
+    ensures class { IfOk result (λ k. class_in placement.now (T.opened table.old) ≡ Some k) }
+    ensures none { IfErr result (λ reason. class_in placement.now (T.opened table.old) ≡ None) }
 {
     let spot = match locate(table.index(), &PlacedMen::of(placement)) {
         Ok(spot) => spot,
@@ -54,14 +59,15 @@ fn class_in<T: OpenTable>(table: &T, placement: &Placement) -> Result<Class, Mis
 
 /// Returns the number of a placement in a class in a DTZ table. None if the table stores the other side to move.
 fn number_in<T: OpenTable>(
-    table: &T,
+    table: &mut T,
     placement: &Placement,
     class: Class,
 ) -> Result<Option<u32>, MissingReason>
-    requires kind { (T.opened table.now).index.kind ≡ Kind.Dtz }
-    ensures number { IfOk result (λ n. number_in placement.now class (T.opened table.now) ≡ Some n) }
+    requires kind { (T.opened table.old).index.kind ≡ Kind.Dtz }
+    ensures same { table.new ≡ table.old }
+    ensures number { IfOk result (λ n. number_in placement.now class (T.opened table.old) ≡ Some n) }
     ensures few { IfOk result (λ n. ForSome n (λ plies. plies < 2 ^ 31)) }
-    ensures none { IfErr result (λ reason. number_in placement.now class (T.opened table.now) ≡ None) }
+    ensures none { IfErr result (λ reason. number_in placement.now class (T.opened table.old) ≡ None) }
 {
     let spot = match locate(table.index(), &PlacedMen::of(placement)) {
         Ok(spot) => spot,
@@ -81,62 +87,118 @@ fn number_in<T: OpenTable>(
     }
 }
 
-/// Returns whether an index is that of a table of a kind and material.
-pub(crate) fn is_for(index: &TableIndex, kind: Kind, material: &Material) -> bool
-    ensures { result ≡ is_for kind material.now index.now }
+/// Returns whether an index is that of a table of a kind for these men.
+fn is_for(index: &TableIndex, kind: Kind, men: &PlacedMen<'_>) -> bool
+    ensures { result ≡ is_for kind (material_of men.now.placed_men) index.now }
 {
-    is_kind(kind, index.kind()) && material.is_same(index.material())
+    is_kind(kind, index.kind()) && has_men_of(index, men)
 }
 
-/// Returns the first table of a kind and material.
-fn first_for<'s, T: OpenTable>(tables: &'s [T], kind: Kind, material: &Material) -> Option<&'s T>
-    ensures found { option_map (λ t. t.now) result ≡ find (λ t. is_for kind material.now (T.opened t).index) tables.now }
-    ensures kind { IfSome result (λ t. (T.opened t.now).index.kind ≡ kind) }
+/// Returns the number of the first table of a kind for these men.
+fn first_for<T: OpenTable>(tables: &[T], kind: Kind, men: &PlacedMen<'_>) -> Option<usize>
+    ensures { result ≡ position (λ t. is_for kind (material_of men.now.placed_men) (T.opened t).index) tables.now }
 {
     tables
         .iter()
-        .find(|table| is_for(table.index(), kind, material))
+        .position(|table| is_for(table.index(), kind, men))
 }
 
-/// A set of opened tables of both kinds. A probe allocates nothing.
+/// A set of opened tables of both kinds. Of two of one kind and material the first counts.
 #[derive(Drop)]
-pub struct OpenedSet<'s, T> {
-    tables: &'s [T],
+pub struct OpenedSet<T> {
+    pub(crate) tables: Vec<T>,
 }
 
-impl<'s, T: OpenTable> OpenedSet<'s, T> {
-    /// Creates a set of these tables. Of two of one kind and material the first counts.
-    pub fn new(tables: &'s [T]) -> OpenedSet<'s, T>
-        ensures { result.tables.now ≡ tables.now }
+impl<T> Model for OpenedSet<T> {
+    ghost use Rattle.std.specs.Prelude.{List};
+    ghost use Rattle.std.specs.Coded.{coded_list};
+
+    ghost Value = { List T };
+
+    ghost coded = { coded_list T.code };
+
+    ghost view = { λ set. set.tables.items };
+}
+
+impl<T: Drop> OpenedSet<T> {
+    /// Creates a set of these tables.
+    pub fn of(tables: Vec<T>) -> OpenedSet<T>
+        ensures { result ≡ tables.items }
     {
         OpenedSet { tables }
     }
 
-    /// Returns the first table of a kind for the men of a placement.
-    fn find(&self, kind: Kind, placement: &Placement) -> Result<&'s T, Missing>
-        ensures found { IfOk result (λ t. first_for T.opened kind placement.now self.now.tables.now ≡ Some t.now) }
-        ensures kind { IfOk result (λ t. (T.opened t.now).index.kind ≡ kind) }
-        ensures none { IfErr result (λ missing. first_for T.opened kind placement.now self.now.tables.now ≡ None) }
+    /// Returns the tables.
+    pub fn into_tables(self) -> Vec<T>
+        ensures { result.items ≡ self }
+    {
+        self.tables
+    }
+
+    /// Adds a table, behind the others. Errors: memory was refused; then nothing changes.
+    pub fn push(&mut self, table: T) -> Result<(), AllocError>
+        ensures added { IfOk result (λ _. self.new ≡ self.old ++ table ∷ []) }
+        ensures refused { IfErr result (λ _. self.new ≡ self.old) }
+    {
+        match self.tables.push(table) {
+            Ok(()) => Ok(()),
+            Err(_) => Err(AllocError),
+        }
+    }
+}
+
+impl<T: OpenTable> OpenedSet<T> {
+    /// Returns the number of the first table of a kind for the men of a placement.
+    fn find(&self, kind: Kind, placement: &Placement) -> Result<usize, Missing>
+        ensures found { IfOk result (λ n. first_for T.opened kind placement.now self.now ≡ slice_get self.now n) }
+        ensures kind { IfOk result (λ n. IsSomeAnd (slice_get self.now n) (λ t. (T.opened t).index.kind ≡ kind)) }
+        ensures none { IfErr result (λ missing. first_for T.opened kind placement.now self.now ≡ None) }
         ensures missing { IfErr result (λ missing. missing.kind ≡ kind) }
     {
-        let material = placement.material();
-        match first_for(self.tables, kind, &material) {
-            Some(table) => Ok(table),
+        match first_for(&self.tables, kind, &PlacedMen::of(placement)) {
+            Some(n) => Ok(n),
             None => Err(Missing {
-                material,
+                material: placement.material(),
                 kind,
                 reason: MissingReason::Table,
             }),
         }
     }
+
+    /// Returns the class of a placement in the table of this number.
+    fn class_at(&mut self, n: usize, placement: &Placement) -> Result<Class, MissingReason>
+        requires { n < length self.old }
+        ensures same { self.new ≡ self.old }
+        ensures class { IfOk result (λ k. option_and_then (λ t. class_in placement.now (T.opened t)) (slice_get self.old n) ≡ Some k) }
+        ensures none { IfErr result (λ reason. option_and_then (λ t. class_in placement.now (T.opened t)) (slice_get self.old n) ≡ None) }
+    {
+        class_in(&mut self.tables[n], placement)
+    }
+
+    /// Returns the number of a placement in a class in the table of this number. None if the table stores the other side
+    /// to move.
+    fn number_at(
+        &mut self,
+        n: usize,
+        placement: &Placement,
+        class: Class,
+    ) -> Result<Option<u32>, MissingReason>
+        requires { IsSomeAnd (slice_get self.old n) (λ t. (T.opened t).index.kind ≡ Kind.Dtz) }
+        ensures same { self.new ≡ self.old }
+        ensures number { IfOk result (λ o. option_and_then (λ t. number_in placement.now class (T.opened t)) (slice_get self.old n) ≡ Some o) }
+        ensures few { IfOk result (λ o. ForSome o (λ plies. plies < 2 ^ 31)) }
+        ensures none { IfErr result (λ reason. option_and_then (λ t. number_in placement.now class (T.opened t)) (slice_get self.old n) ≡ None) }
+    {
+        number_in(&mut self.tables[n], placement, class)
+    }
 }
 
-impl<'s, T: OpenTable> Tables for OpenedSet<'s, T> {
+impl<T: OpenTable> Tables for OpenedSet<T> {
     type Fault = Missing;
 
-    ghost stored = { λ set. opened_classes T.opened set.tables.now };
+    ghost stored = { λ set. opened_classes T.opened set };
 
-    ghost numbers = { λ set. opened_numbers T.opened set.tables.now };
+    ghost numbers = { λ set. opened_numbers T.opened set };
 
     ghost explains = { λ classes numbers missing men mover. IsMissing classes numbers missing men mover };
 
@@ -144,11 +206,11 @@ impl<'s, T: OpenTable> Tables for OpenedSet<'s, T> {
         let Some(placement) = position.placement() else {
             unreachable!()
         };
-        let table = match self.find(Kind::Wdl, &placement) {
-            Ok(table) => table,
+        let n = match self.find(Kind::Wdl, &placement) {
+            Ok(n) => n,
             Err(missing) => return Err(missing),
         };
-        match class_in(table, &placement) {
+        match self.class_at(n, &placement) {
             Ok(class) => Ok(class),
             Err(reason) => Err(Missing {
                 material: placement.material(),
@@ -159,25 +221,24 @@ impl<'s, T: OpenTable> Tables for OpenedSet<'s, T> {
     }
 }
 
-impl<'s, T: OpenTable> DistanceTables for OpenedSet<'s, T> {
+impl<T: OpenTable> DistanceTables for OpenedSet<T> {
     // the clauses of the trait; and what is not returned is not stored for this class
     fn number(&mut self, position: &Position, class: Class) -> Result<Option<u32>, Missing>
         requires { 2 < length position.now.placed_men }
-        ensures same { opened_classes T.opened self.new.tables.now ≡ opened_classes T.opened self.old.tables.now }
-        ensures same_numbers { opened_numbers T.opened self.new.tables.now ≡ opened_numbers T.opened self.old.tables.now }
-        ensures number { IfOk result (λ n. opened_numbers T.opened self.old.tables.now position.now.placed_men position.now.mover class ≡ Some n) }
+        ensures same { self.new ≡ self.old }
+        ensures number { IfOk result (λ n. opened_numbers T.opened self.old position.now.placed_men position.now.mover class ≡ Some n) }
         ensures few { IfOk result (λ n. ForSome n (λ plies. plies < 2 ^ 31)) }
-        ensures fault { IfErr result (λ missing. IsMissing (opened_classes T.opened self.old.tables.now) (opened_numbers T.opened self.old.tables.now) missing position.now.placed_men position.now.mover) }
-        ensures none { IfErr result (λ missing. opened_numbers T.opened self.old.tables.now position.now.placed_men position.now.mover class ≡ None) }
+        ensures fault { IfErr result (λ missing. IsMissing (opened_classes T.opened self.old) (opened_numbers T.opened self.old) missing position.now.placed_men position.now.mover) }
+        ensures none { IfErr result (λ missing. opened_numbers T.opened self.old position.now.placed_men position.now.mover class ≡ None) }
     {
         let Some(placement) = position.placement() else {
             unreachable!()
         };
-        let table = match self.find(Kind::Dtz, &placement) {
-            Ok(table) => table,
+        let n = match self.find(Kind::Dtz, &placement) {
+            Ok(n) => n,
             Err(missing) => return Err(missing),
         };
-        match number_in(table, &placement, class) {
+        match self.number_at(n, &placement, class) {
             Ok(number) => Ok(number),
             Err(reason) => Err(Missing {
                 material: placement.material(),

@@ -3,7 +3,9 @@
 
 use std::io::{self, IsTerminal};
 use std::process::ExitCode;
-use szg_commands::{ProgressLine, no_words_status, print_assumed_class, run_given, words_given};
+use szg_commands::{
+    ProgressLine, ReadLine, no_words_status, print_assumed_class, run_given, words_given,
+};
 
 /// Runs the words of the command line on the system's files and the standard streams.
 ///
@@ -22,6 +24,7 @@ fn main(rt: HostRuntime) -> ExitCode {
                 rt.reader(),
                 io::writer(&rt),
                 &mut line,
+                &ReadLine::new(&rt, &rt, is_terminal),
             );
             if is_terminal && status == ExitCode::SUCCESS {
                 print_assumed_class(&rt, &words);

@@ -1,5 +1,5 @@
 -- What a verification that finds no fault says of tables.
-use Rattle.std.specs.Prelude.{ℕ, ◌≡◌, ◌&&◌, not, map, All, Bool, Contains, List, Option, Some, IsSome, IsFalse, IsTrue, is_some, find, if◌then◌else◌}
+use Rattle.std.specs.Prelude.{ℕ, ◌≡◌, ◌+◌, ◌&&◌, not, map, All, Bool, Contains, List, [], Option, Some, IsSome, IsFalse, IsTrue, is_some, find, if◌then◌else◌}
 use Rattle.szg_values.specs.Material.{Sides}
 use Rattle.szg_values.specs.declared.Kind.{Kind}
 use Rattle.szg_file.specs.Held.{Shown}
@@ -11,7 +11,7 @@ use Rattle.szg_probe.specs.Chess.{ChessClass}
 use Rattle.szg_probe.specs.Probing.{probed}
 use Rattle.szg_verify.specs.Entries.{tables_of}
 use Rattle.szg_verify.specs.Materials.{are_closed, covers, leads_to}
-use Rattle.szg_verify.specs.Walk.{IsFirstRefused, IsMaterialChecked, colored_men, number_count}
+use Rattle.szg_verify.specs.Walk.{IsFirstRefused, IsMaterialChecked, colored_men, number_count, shard_start}
 use Rattle.szg_tables.specs.Distances.{stored_distances}
 use Rattle.szg_tables.specs.Fetched.{IsOfTable, fetched_classes, fetched_numbers}
 use Rattle.szg_tables.specs.Stored.{is_for, stored_classes, stored_numbers}
@@ -55,6 +55,12 @@ IsCause tables unverified sides from to (Unchecked other) = IsTrue (leads_to sid
 
 abbrev pub IsCauseOf : List Shown → List Unverified → Sides → Cause → Type 0
 IsCauseOf tables unverified sides cause = IsCause tables unverified sides 0 (number_count (colored_men sides)) cause
+
+-- why this shard of the material did not pass: of `shards` shards, the one after `before` others
+abbrev pub IsCauseInShard : List Shown → Sides → ℕ → ℕ → Cause → Type 0
+IsCauseInShard tables sides shards before cause =
+    let count = number_count (colored_men sides) in
+    IsCause tables [] sides (shard_start count shards before) (shard_start count shards (before + 1)) cause
 
 -- what was found of a material, after those that are not verified; a log was given if it has the material
 abbrev pub IsFinding : {L : Type 0} → List Shown → List Unverified → Option L → Sides → Finding → Type 0

@@ -1,15 +1,15 @@
 //! The verification of a folder.
 
-ghost use Rattle.std.specs.Prelude.{◌≡◌, ◌<◌, [], All, Contains, IfOk, IsNone, IsTrue};
+ghost use Rattle.std.specs.Prelude.{◌≡◌, ◌<◌, [], All, Contains, IfErr, IfOk, IsNone, IsOk, IsTrue};
 ghost use Rattle.szg_values.specs.Material.{Sides};
 ghost use Rattle.szg_verify.specs.Entries.{tables_of};
 ghost use Rattle.szg_verify.specs.Walk.{IsShardChecked};
 ghost use Rattle.szg_tables.specs.Distances.{stored_distances};
 ghost use Rattle.szg_tables.specs.Stored.{stored_classes};
-ghost use Rattle.szg_verified.specs.Verified.{AreCheckedIn, AreTrue, IsCaused, is_whole};
+ghost use Rattle.szg_verified.specs.Verified.{AreCheckedIn, AreTrue, IsCauseInShard, IsCaused, is_whole};
 
 use crate::changes::{add_needed, needed_by};
-use crate::verifying::{Progress, Unverified, verify_materials, verify_shard};
+use crate::verifying::{Cause, Progress, Unverified, verify_materials, verify_shard};
 use std::alloc::{AllocError, Global};
 use std::io::{self, Write};
 use std::rt::Files;
@@ -41,8 +41,8 @@ pub struct Verification {
 pub struct ShardVerification {
     /// The tables that were read.
     pub tables: Vec<Table>,
-    /// Whether each position of the shard passes.
-    pub is_checked: bool,
+    /// The number of the shard's positions if each passes, or why one does not.
+    pub positions: Result<u64, Cause>,
 }
 
 /// Why a folder was not verified to the end.
@@ -164,12 +164,14 @@ pub fn verify_folder_shard<S: FileSystem, W: Write, P: Progress>(
     progress: &mut P,
 ) -> Result<ShardVerification, VerifyStop>
     requires { shard.before < shard.shards }
-    ensures checked { IfOk result (λ v. IsTrue v.is_checked → IsShardChecked (tables_of (stored_classes v.tables.items) (stored_distances v.tables.items)) material.now shard.shards shard.before) }
+    ensures checked { IfOk result (λ v. IsOk v.positions → IsShardChecked (tables_of (stored_classes v.tables.items) (stored_distances v.tables.items)) material.now shard.shards shard.before) }
+    // It says no with a cause: a refusal names the first of the shard's positions that breaks a condition over these tables.
+    ensures caused { IfOk result (λ v. IfErr v.positions (IsCauseInShard v.tables.items material.now shard.shards shard.before)) }
 {
     let materials = needed_by(alloc, material)?;
     let tables = tables_in(alloc, system, folder, &materials)?;
     match verify_shard(alloc, &tables, material, shard, output, progress) {
-        Ok(is_checked) => Ok(ShardVerification { tables, is_checked }),
+        Ok(positions) => Ok(ShardVerification { tables, positions }),
         Err(error) => Err(VerifyStop::Output(error)),
     }
 }

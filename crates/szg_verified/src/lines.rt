@@ -15,15 +15,20 @@ pub fn material_line(
     digest: &str,
 ) -> Result<String, AllocError> {
     let name = material.name();
-    found_line(alloc, name.as_str(), found, digest)
+    let name = name.as_str();
+    match found {
+        Finding::Verified(positions) => verified_line(alloc, name, "", *positions, digest),
+        Finding::Logged(positions) => verified_line(alloc, name, "logged: ", *positions, digest),
+        Finding::Failed(cause) => cause_line(alloc, name, cause),
+    }
 }
 
-/// Returns the line of a shard of a material.
+/// Returns the line of a shard of a material, from the number of its positions if each passes, or why one does not.
 pub fn shard_line(
     alloc: Global,
     material: &Material,
     shard: Shard,
-    found: &Finding,
+    positions: &Result<u64, Cause>,
     digest: &str,
 ) -> Result<String, AllocError> {
     let name = material.name();
@@ -31,27 +36,22 @@ pub fn shard_line(
     let number = u32::from(shard.before) + 1;
     let shards = shard.shards;
     let extent = format!(in alloc; "{name} shard {number}/{shards}")?;
-    found_line(alloc, extent.as_str(), found, digest)
+    let extent = extent.as_str();
+    match positions {
+        Ok(positions) => verified_line(alloc, extent, "", *positions, digest),
+        Err(cause) => cause_line(alloc, extent, cause),
+    }
 }
 
-/// Returns the line of what was found of a material, or of a shard of it.
-fn found_line(
+/// Returns the line of positions that were verified, in this run or by a log.
+fn verified_line(
     alloc: Global,
     extent: &str,
-    found: &Finding,
+    by: &str,
+    positions: u64,
     digest: &str,
 ) -> Result<String, AllocError> {
-    match found {
-        Finding::Verified(positions) => {
-            let positions = *positions;
-            format!(in alloc; "{extent} verified positions {positions} sha256 {digest}\n")
-        }
-        Finding::Logged(positions) => {
-            let positions = *positions;
-            format!(in alloc; "{extent} logged: verified positions {positions} sha256 {digest}\n")
-        }
-        Finding::Failed(cause) => cause_line(alloc, extent, cause),
-    }
+    format!(in alloc; "{extent} {by}verified positions {positions} sha256 {digest}\n")
 }
 
 /// Returns the line of why positions were not verified.

@@ -100,7 +100,7 @@ fn shard_verified<R: Files, W: Write, P: Progress>(
     let mut disk = Disk::new(alloc, files);
     let folder = asked.folder;
     let found = verify_folder_shard(alloc, &mut disk, folder, &material, shard, output, progress)?;
-    Ok(found.is_checked)
+    Ok(found.positions.is_ok())
 }
 
 /// Returns the bytes of a log.

@@ -8,7 +8,7 @@ ghost use Rattle.szg_verify.specs.Materials.{leads_to};
 ghost use Rattle.szg_verify.specs.Walk.{IsRangeChecked, IsShardChecked};
 ghost use Rattle.szg_tables.specs.Distances.{stored_distances};
 ghost use Rattle.szg_tables.specs.Stored.{stored_classes};
-ghost use Rattle.szg_verified.specs.Verified.{AreCheckedIn, AreTrue, IsCause, IsCaused, IsFinding, is_whole, materials_in};
+ghost use Rattle.szg_verified.specs.Verified.{AreCheckedIn, AreTrue, IsCause, IsCauseInShard, IsCaused, IsFinding, is_whole, materials_in};
 
 use crate::digests::digest_of;
 use crate::lines::{material_line, shard_line, summary_line};
@@ -17,7 +17,7 @@ use std::alloc::{AllocError, Global};
 use std::io::{self, Write};
 use szg_file::Table;
 use szg_tables::laws::stored_at_images;
-use szg_tables::{Missing, TableSet};
+use szg_tables::{Missing, TableSet, ValueLists};
 use szg_values::{Kind, Material};
 use szg_verify::laws::{verified_is_true, walk_is_whole};
 use szg_verify::{
@@ -25,9 +25,12 @@ use szg_verify::{
     verify_range,
 };
 
-/// The most cells in which a walk keeps the entries that it found: they take 28 MB. Of four men without pawns they hold each
-/// position with White to move.
-const MOST_CELLS: u64 = 7_000_000;
+/// The most bytes of a walk's lists of values. Of four men without pawns they hold all values.
+const MOST_VALUES: usize = 6_000_000;
+
+/// The most cells in which a walk keeps the entries that it found: they take 20 MB. Of four men without pawns they hold most
+/// positions with White to move.
+const MOST_CELLS: u64 = 5_000_000;
 
 /// Sees how the walk over a material's positions goes, and its end.
 pub trait Progress: Watcher {
@@ -113,7 +116,6 @@ pub fn verify_materials<W: Write, P: Progress>(
     verified_is_true();
     let mut unverified = Vec::new(alloc);
     let mut logged = Vec::new(alloc);
-    let mut cells = new_cells(alloc, u64::MAX)?;
     let mut tally = VerifiedCounts {
         materials: materials.len(),
         verified: 0,
@@ -123,15 +125,7 @@ pub fn verify_materials<W: Write, P: Progress>(
     'materials: for material in materials {
         let digest = digest_of(alloc, tables, material)?;
         let digest = digest.as_str();
-        let found = verify_material(
-            tables,
-            material,
-            &unverified,
-            log,
-            digest,
-            &mut cells,
-            progress,
-        );
+        let found = verify_material(alloc, tables, material, &unverified, log, digest, progress)?;
         let line = material_line(alloc, material, &found, digest)?;
         output.write_all(line.as_bytes())?;
         output.flush()?;
@@ -172,7 +166,8 @@ fn counted(tally: VerifiedCounts, found: &Finding) -> VerifiedCounts {
     }
 }
 
-/// Verifies a shard of a material. Writes its line; returns whether each of its positions passes.
+/// Verifies a shard of a material, and writes its line. Returns the number of its positions if each passes, or why one does
+/// not.
 ///
 /// Errors: the output's; an allocation was refused.
 pub fn verify_shard<W: Write, P: Progress>(
@@ -182,24 +177,19 @@ pub fn verify_shard<W: Write, P: Progress>(
     shard: Shard,
     output: &mut W,
     progress: &mut P,
-) -> io::Result<bool>
+) -> io::Result<Result<u64, Cause>>
     requires { shard.before < shard.shards }
-    ensures checked { IfOk result (λ b. IsTrue b → IsShardChecked (tables_of (stored_classes tables.now) (stored_distances tables.now)) material.now shard.shards shard.before) }
+    ensures checked { IfOk result (λ positions. IsOk positions → IsShardChecked (tables_of (stored_classes tables.now) (stored_distances tables.now)) material.now shard.shards shard.before) }
+    ensures cause { IfOk result (λ positions. IfErr positions (IsCauseInShard tables.now material.now shard.shards shard.before)) }
 {
     let from = shard_start(material, shard.shards, shard.before);
     let to = shard_start(material, shard.shards, shard.before + 1);
-    let mut cells = new_cells(alloc, to.saturating_sub(from))?;
-    let walked = walk(tables, material, from, to, &mut cells, progress);
-    let is_checked = walked.is_ok();
+    let positions = walk(alloc, tables, material, from, to, progress)?;
     let digest = digest_of(alloc, tables, material)?;
-    let found = match walked {
-        Ok(positions) => Finding::Verified(positions),
-        Err(cause) => Finding::Failed(cause),
-    };
-    let line = shard_line(alloc, material, shard, &found, digest.as_str())?;
+    let line = shard_line(alloc, material, shard, &positions, digest.as_str())?;
     output.write_all(line.as_bytes())?;
     output.flush()?;
-    Ok(is_checked)
+    Ok(positions)
 }
 
 /// Returns room for the entries that a walk over these numbers finds.
@@ -225,56 +215,63 @@ fn is_empty<T>(items: &[T]) -> bool
 }
 
 /// Verifies the tables of a material, unless it leads to one that is not verified, or a log has it with tables of this digest.
+///
+/// Errors: an allocation was refused.
 fn verify_material<P: Progress>(
+    alloc: Global,
     tables: &[Table],
     material: &Material,
     unverified: &[Unverified],
     log: Option<&str>,
     digest: &str,
-    cells: &mut [Cell],
     progress: &mut P,
-) -> Finding
-    ensures { IsFinding tables.now unverified.now log.entry material.now result }
+) -> Result<Finding, AllocError>
+    ensures { IfOk result (λ found. IsFinding tables.now unverified.now log.entry material.now found) }
 {
     walk_is_whole();
     if let Some(other) = first_unverified(material, unverified) {
-        return Finding::Failed(Cause::Unchecked(other));
+        return Ok(Finding::Failed(Cause::Unchecked(other)));
     }
     if let Some(text) = log {
         let name = material.name();
         if let Some(positions) = logged_positions(text, name.as_str(), digest) {
-            return Finding::Logged(positions);
+            return Ok(Finding::Logged(positions));
         }
     }
     let count = number_count(material);
-    match walk(tables, material, 0, count, cells, progress) {
-        Ok(positions) => Finding::Verified(positions),
-        Err(cause) => Finding::Failed(cause),
+    let walked = walk(alloc, tables, material, 0, count, progress)?;
+    match walked {
+        Ok(positions) => Ok(Finding::Verified(positions)),
+        Err(cause) => Ok(Finding::Failed(cause)),
     }
 }
 
 /// Checks each position of a material that these numbers place, but for images, up to the first that does not pass. Returns
-/// the number of positions if each passes.
+/// the number of positions if each passes, or why one does not.
+///
+/// Errors: an allocation of cells was refused. If one of lists of values is, the walk goes on without them.
 fn walk<P: Progress>(
+    alloc: Global,
     tables: &[Table],
     material: &Material,
     from: u64,
     to: u64,
-    cells: &mut [Cell],
     progress: &mut P,
-) -> Result<u64, Cause>
-    ensures checked { IsOk result → IsRangeChecked (tables_of (stored_classes tables.now) (stored_distances tables.now)) material.now from to }
-    ensures cause { (unverified : List Unverified) → IfErr result (λ cause. IsCause tables.now unverified material.now from to cause) }
+) -> Result<Result<u64, Cause>, AllocError>
+    ensures checked { IfOk result (λ walked. IsOk walked → IsRangeChecked (tables_of (stored_classes tables.now) (stored_distances tables.now)) material.now from to) }
+    ensures cause { IfOk result (λ walked. (unverified : List Unverified) → IfErr walked (λ cause. IsCause tables.now unverified material.now from to cause)) }
 {
-    let mut classes = TableSet::new(tables);
-    let mut distances = TableSet::new(tables);
+    let lists = ValueLists::of(alloc, tables, material, MOST_VALUES);
+    let mut cells = new_cells(alloc, to.saturating_sub(from))?;
+    let mut classes = lists.set();
+    let mut distances = lists.set();
     let walked = verify_range(
         &mut classes,
         &mut distances,
         material,
         from,
         to,
-        cells,
+        &mut cells,
         progress,
     );
     progress.end();
@@ -284,14 +281,14 @@ fn walk<P: Progress>(
                 positions,
                 refused: None,
             },
-        ) => Ok(positions),
+        ) => Ok(Ok(positions)),
         Ok(
             Walked {
                 refused: Some(refusal),
                 ..
             },
-        ) => Err(Cause::Refused(refusal)),
-        Err(missing) => Err(lack_of(tables, missing)),
+        ) => Ok(Err(Cause::Refused(refusal))),
+        Err(missing) => Ok(Err(lack_of(tables, missing))),
     }
 }
 

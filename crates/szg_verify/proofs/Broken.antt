@@ -1,6 +1,6 @@
 -- An entry that is not accepted breaks a condition.
 use Rattle.std.proofs.Common.{◌≡◌, ℕ, ◌+◌, List, [], ◌∷◌, refl, sym, ap, ◌∙◌, Bool, true, false, arith, Option, Some, None}
-use Rattle.std.specs.Prelude.{IfSome, IsTrue, not, ◌&&◌, ◌||◌, ◌==◌, nat_lt, leb, cond, if◌then◌else◌}
+use Rattle.std.specs.Prelude.{IfSome, IsTrue, not, ◌&&◌, ◌||◌, ◌==◌, nat_lt, leb, if◌then◌else◌}
 use Rattle.std.specs.List.{list_all, list_any}
 use Rattle.szg_game.specs.Game.{Move as Step, is_empty}
 use Rattle.szg_game.specs.Certified.{accepts, accepts_as, is_loss, is_lost, is_win, is_won, lasts, makes_progress, wins_no_sooner, loses_no_sooner, wins_by, loses_by}

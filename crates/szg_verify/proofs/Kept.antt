@@ -1,14 +1,14 @@
 -- Entries that were found before: the place and the tag of a cell stand for one position of the men.
 use Rattle.std.proofs.Common.{◌≡◌, ◌≢◌, ℕ, suc, ◌+◌, ◌*◌, ◌/◌, ◌%◌, ◌^◌, ◌<◌, ◌≤◌, List, [], ◌∷◌, length, refl, sym, ap, ◌∙◌, subst, Bool, true, false, arith, inl, inr, Option, Some, None, Contains, set, get_or, slice_get, ◌-◌, zero, drop, length-drop, nat_lt, if◌then◌else◌, IsTrue}
-use Rattle.std.specs.Prelude.{not, ◌&&◌, ◌||◌, ◌==◌, map}
-use Rattle.std.specs.List.{All, AllWithin, list_any}
+use Rattle.std.specs.Prelude.{not, ◌&&◌, ◌||◌, ◌==◌, map, IfSome}
+use Rattle.std.specs.List.{All, list_any}
 use Rattle.std.proofs.lemmas.Bool.{cases_Bool, and_parts, and_from, or_parts, both_ways, eqb-true, eqb-false, eq-eqb, ltb-true, ltb-false}
 use Rattle.std.proofs.lemmas.List.{get_or-set_same, get_or-set_other, length-set}
-use Rattle.std.proofs.lemmas.List.Elements.{All-head, All-tail}
+use Rattle.std.proofs.lemmas.List.Elements.{All-head, All-tail, All-weaker}
 use Rattle.std.proofs.lemmas.Option.{slice_get_within, get_or_from_slice_get, slice_get-get_or}
 use native.Mathlib.Nat.{pow-suc, pow-le-pow_right, zero-lt-suc}
 use Rattle.szg_verify.proofs.Loops.{next_left}
-use Rattle.szg_values.specs.Men.{is_man, is_color, rank_of}
+use Rattle.szg_values.specs.Men.{is_man, is_color, other_color, rank_of}
 use Rattle.szg_values.specs.Material.{Sides}
 use Rattle.szg_values.specs.Placement.{PlacedMan, AreOnBoard}
 use Rattle.szg_values.specs.declared.Man.{Man}
@@ -20,13 +20,18 @@ use Rattle.szg_game.specs.declared.Class.TheVariants.{Loss, BlessedLoss, Draw, C
 use Rattle.szg_game.specs.declared.Entry.{Entry}
 use Rattle.szg_chess.specs.declared.Move.{Move}
 use Rattle.szg_chess.specs.Laws.{kinds_of}
-use Rattle.szg_chess.specs.Moves.{after, is_capture, is_pawn_on, is_zeroing, legal_moves}
+use Rattle.szg_chess.specs.Attacks.{ranks_apart}
+use Rattle.szg_chess.specs.Moves.{after, captured_square, is_capture, is_pawn_on, is_zeroing, legal_moves, man_after, men_after}
 use Rattle.szg_chess.specs.Position.{Position, IsPosition}
+use Rattle.szg_chess.proofs.AfterMen.{is_off, off_from}
+use Rattle.szg_chess.proofs.AfterMove.{pass_is}
+use Rattle.szg_chess.proofs.Captured.{filter_all, capture_takes, capture_passes, enters_off}
+use Rattle.szg_chess.proofs.Facts.{faultless}
 use Rattle.szg_chess.proofs.KeptMen.{kinds_law}
 use Rattle.szg_chess.proofs.Members.{any_of}
 use Rattle.szg_chess.proofs.MoveFacts.{legal_move}
 use Rattle.szg_probe.specs.Probing.{StoredClasses}
-use Rattle.szg_verify.specs.Entries.{StoredDistances, StoredTables, near_entry, plain_entry, tables_of}
+use Rattle.szg_verify.specs.Entries.{StoredDistances, StoredTables, tables_of}
 use Rattle.szg_verify.specs.Memory.{digits_of, holds_pawn, packed, start_of, size_of, IsSpotOf, class_code, class_by, code_of, is_wide, is_near, found_by, IsRight, AreRight}
 use Rattle.szg_verify.specs.Verified.{is_checked}
 use Rattle.szg_verify.specs.Walk.{colored_men, is_king_walked, placed_by, position_by, IsRangeChecked}
@@ -238,6 +243,89 @@ quiet_keeps p m position held quiet =
       | inr remains ↦ remains.is
     ] in
     kinds_law p m position held parts.1 none
+
+-- the men after a move that is not zeroing: none is captured
+pub quiet_men : (p : Position) (m : Move) → IsPosition p → Contains (legal_moves p) m → is_zeroing p m ≡ false → (after p m).placed_men ≡ map (man_after m) p.placed_men
+unfolding after men_after
+quiet_men p m position held quiet =
+    let known = faultless p position.no_fault in
+    let move = (legal_move p m held).0 in let s = move.man in let c = captured_square p m in
+    let plain = (or_parts (is_pawn_on p m.from) (is_capture p m) quiet).1 in
+    let off : All (λ (u : PlacedMan). u.2 ≢ c) p.placed_men = elim move.way [
+      | inl takes ↦ absurd (both_ways (is_capture p m) plain (capture_takes p m s takes))
+      | inr other ↦ elim other [
+        | inl passes ↦ absurd (both_ways (is_capture p m) plain (capture_passes p m s (pass_is p m s move.stands move.own move.from_is passes)))
+        | inr enters ↦ enters_off p m s known move.stands move.from_is enters
+      ]
+    ] in
+    ap (map (man_after m)) (filter_all (is_off c) p.placed_men (All-weaker (λ (u : PlacedMan). u.2 ≢ c) (λ u. is_off c u ≡ true) (off_from c) p.placed_men off))
+
+mover_after : (p : Position) (m : Move) → (after p m).mover ≡ other_color p.mover
+unfolding after
+mover_after p m = refl
+
+none_passed : (p : Position) (m : Move) → is_pawn_on p m.from ≡ false → (after p m).en_passant ≡ None
+unfolding after
+none_passed p m none = elim (cases_Bool (ranks_apart m.from m.to == 2)) [
+  | inl t ↦ rw (t, none) refl
+  | inr f ↦ rw f refl
+]
+
+-- the spot of the position after such a move, from the men before it
+quiet_spot : (len tag place : ℕ) (p : Position) (m : Move) → IsPosition p → Contains (legal_moves p) m → is_zeroing p m ≡ false →
+    start_of (other_color p.mover) len ≤ place → place < start_of (other_color p.mover) len + size_of (other_color p.mover) len →
+    packed (holds_pawn p.placed_men) (digits_of (map (man_after m) p.placed_men)) ≡ Some (tag * size_of (other_color p.mover) len + (place - start_of (other_color p.mover) len)) →
+    IsSpotOf len (after p m) tag place
+quiet_spot len tag place p m position held quiet from to number =
+    let mover = sym (mover_after p m) in
+    let men = quiet_men p m position held quiet in
+    let kinds = quiet_keeps p m position held quiet in
+    let pawn : holds_pawn (after p m).placed_men ≡ holds_pawn p.placed_men =
+    pawn_kinds (after p m).placed_men ∙ ap (list_any (λ (k : Man × Color). is_man Pawn k.0)) kinds ∙ sym (pawn_kinds p.placed_men) in
+    record {
+      plain = none_passed p m (or_parts (is_pawn_on p m.from) (is_capture p m) quiet).0;
+      from = subst (λ (c : Color). start_of c len ≤ place) mover from;
+      to = subst (λ (c : Color). place < start_of c len + size_of c len) mover to;
+      number = ap (λ (b : Bool). packed b (digits_of (after p m).placed_men)) pawn ∙ ap (λ (us : List PlacedMan). packed (holds_pawn p.placed_men) (digits_of us)) men
+          ∙ number ∙ ap (λ (c : Color). Some (tag * size_of c len + (place - start_of c len))) mover;
+    }
+
+-- of a look-up: each spot that it finds
+pub quiet_spots : {S : Type 0} (tag place : S → ℕ) (len : ℕ) (p : Position) (m : Move) (mover : Color) (pawn : Bool) (digits : ℕ) → IsPosition p → Contains (legal_moves p) m → is_zeroing p m ≡ false →
+    mover ≡ other_color p.mover → pawn ≡ holds_pawn p.placed_men → digits ≡ digits_of (map (man_after m) p.placed_men) → (o : Option S) →
+    IfSome o (λ s. start_of mover len ≤ place s) → IfSome o (λ s. place s < start_of mover len + size_of mover len) →
+    IfSome o (λ s. packed pawn digits ≡ Some (tag s * size_of mover len + (place s - start_of mover len))) → IfSome o (λ s. IsSpotOf len (after p m) (tag s) (place s))
+quiet_spots tag place len p m mover pawn digits position held quiet moves holds are None from to number = tt
+quiet_spots tag place len p m mover pawn digits position held quiet moves holds are (Some s) from to number =
+    quiet_spot len (tag s) (place s) p m position held quiet (subst (λ (c : Color). start_of c len ≤ place s) moves from) (subst (λ (c : Color). place s < start_of c len + size_of c len) moves to)
+    (sym (ap (λ (b : Bool). packed b digits) holds ∙ ap (packed (holds_pawn p.placed_men)) are) ∙ number ∙ ap (λ (c : Color). Some (tag s * size_of c len + (place s - start_of c len))) moves)
+
+-- the digits of men after a move
+digits_moved : (m : Move) (men : List PlacedMan) → m.to < 64 → AreOnBoard men → digits_of (map (man_after m) men) < 64 ^ length men
+digits_moved m [] to h = omega arith
+digits_moved m (s ∷ men) to h =
+    let here : (man_after m s).2 < 64 = elim (cases_Bool (s.2 == m.from)) [
+      | inl t ↦ rw t to
+      | inr f ↦ rw f (All-head (λ (u : PlacedMan). u.2 < 64) s men h)
+    ] in
+    let rest = digits_moved m men to (All-tail (λ (u : PlacedMan). u.2 < 64) s men h) in
+    let power = pow-suc 64 (length men) in
+    omega (arith, here, rest, power)
+
+pub digits_moved_within : (most i : ℕ) (m : Move) (men : List PlacedMan) → m.to < 64 → AreOnBoard men → length men ≤ most + i → digits_of (map (man_after m) (drop i men)) < 64 ^ most
+digits_moved_within most i m men to h few =
+    let size = length-drop i men in
+    let much : 64 ^ length (drop i men) ≤ 64 ^ most = pow-le-pow_right (zero-lt-suc 63) (omega (arith, few, size)) in
+    let power = digits_moved m (drop i men) to (all_dropped (λ u. u.2 < 64) i men h) in
+    omega (arith, much, power)
+
+pub digits_moved_step : (men : List PlacedMan) (m : Move) (step : ℕ) (s : PlacedMan) → step < length men → s ≡ get_or men (length men - 1 - step) s →
+    digits_of (map (man_after m) (drop (length men - (step + 1)) men)) ≡ (man_after m s).2 + 64 * digits_of (map (man_after m) (drop (length men - step) men))
+digits_moved_step men m step s less is =
+    let place : length men - (step + 1) ≡ length men - 1 - step = omega (arith, less) in
+    let next : length men - 1 - step + 1 ≡ length men - step = omega (arith, less) in
+    ap (λ (i : ℕ). digits_of (map (man_after m) (drop i men))) place ∙ ap (λ (us : List PlacedMan). digits_of (map (man_after m) us)) (next_left men (length men - 1 - step) s (omega (arith, less)) is)
+    ∙ ap (λ (i : ℕ). (man_after m s).2 + 64 * digits_of (map (man_after m) (drop i men))) next
 
 -- cells that are right before such a move are right after it, and the other way round
 pub right_after : (tables : StoredTables) (cells : List Cell) (p q : Position) (m : Move) → IsPosition p → Contains (legal_moves p) m → is_zeroing p m ≡ false → q ≡ after p m →

@@ -26,8 +26,8 @@ use Rattle.szg_chess.proofs.Images.Counts.{as_many}
 use Rattle.szg_chess.proofs.Images.Positions.{image_is_image}
 use Rattle.szg_probe.specs.Chess.{ChessClass}
 use Rattle.szg_probe.specs.Images.{has_no_pawn, shares_value, has_lone_pawns as lone_men}
-use Rattle.szg_probe.specs.Probing.{StoredClasses, probed}
-use Rattle.szg_verify.specs.Entries.{StoredDistances, StoredTables, tables_of}
+use Rattle.szg_probe.specs.Probing.{probed}
+use Rattle.szg_verify.specs.Entries.{StoredTables}
 use Rattle.szg_verify.specs.Verified.{is_checked, AreSymmetric, has_equal_sides, IsImageBy, HasCheckedImage}
 use Rattle.szg_verify.specs.Materials.{has_sides, is_of, kings_alone, are_closed, covers}
 use Rattle.szg_verify.specs.Walk.{colored_men, placed_by, position_by, number_count, has_lone_pawns, has_pawn, is_walked, is_king_walked, colored_man, IsRangeChecked, IsMaterialChecked, shard_start, ShardsAreWhole}

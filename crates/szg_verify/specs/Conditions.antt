@@ -1,5 +1,5 @@
 -- The conditions on the entry of a position, by what breaks them.
-use Rattle.std.specs.Prelude.{ℕ, ◌+◌, ◌==◌, nat_lt, Bool, true, false, not, ◌&&◌, ◌||◌, List, Option, Some, None, is_none, if◌then◌else◌}
+use Rattle.std.specs.Prelude.{ℕ, ◌+◌, ◌==◌, nat_lt, Bool, true, false, not, ◌&&◌, ◌||◌, List, Option, Some, None, if◌then◌else◌}
 use Rattle.std.specs.List.{list_all, list_any}
 use Rattle.szg_game.specs.Game.{Move as Step, is_empty}
 use Rattle.szg_game.specs.Certified.{is_loss, is_lost, is_win, is_won, lasts, makes_progress, wins_no_sooner, loses_no_sooner}

@@ -9,7 +9,8 @@ ghost use Rattle.szg_verify.specs.Memory.{AreRight};
 ghost use Rattle.szg_verify.specs.Verified.{entry_after, is_checked};
 
 use crate::conditions::{Condition, broken_by};
-use crate::entries::plain_entry;
+use crate::entries::{find_entry, plain_entry};
+use crate::memory::recall_after;
 use crate::steps::Steps;
 use crate::{Cell, DtzTables};
 use szg_chess::{Move, Position};
@@ -92,11 +93,13 @@ fn entry_after<T: Tables, D: DtzTables<Fault = T::Fault>>(
 {
     // A fact that the proof uses: the men are those of a position.
     let _ = position.men();
-    let next = position.after(m);
     if !position.is_zeroing(&m) {
-        return plain_entry(classes, distances, cells, &next);
+        if let Some(entry) = recall_after(cells, false, position, &m) {
+            return Ok(Some(entry));
+        }
+        return find_entry(classes, distances, cells, &position.after(m));
     }
-    match probe_wdl(classes, &next) {
+    match probe_wdl(classes, &position.after(m)) {
         Ok(class) => Ok(Some(Entry {
             class,
             lower: 0,

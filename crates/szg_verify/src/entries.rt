@@ -1,16 +1,18 @@
 //! Entries: what tables say of a position.
 
-ghost use Rattle.std.specs.Prelude.{◌≡◌, ◌+◌, ◌||◌, Contains, IfOk, IsFalse, Some, ◌≤◌, option_map};
+ghost use Rattle.std.specs.Prelude.{◌≡◌, ◌+◌, ◌||◌, Contains, IfOk, IsFalse, None, Some, ◌≤◌, length, option_map};
 ghost use Rattle.std.specs.List.{list_any, list_all};
 ghost use Rattle.szg_chess.specs.Laws.{kinds_of};
 ghost use Rattle.szg_chess.specs.Moves.{has_no_move, is_zeroing, legal_moves};
+ghost use Rattle.szg_probe.specs.Probing.{probed};
 ghost use Rattle.szg_verify.specs.Memory.{AreRight};
 ghost use Rattle.szg_verify.specs.Entries.{is_drawn, keeps, least_plies, most_plies, plies_before, entry_by_distance, wins_at_once, is_one_ply, farthest, greatest, least, entry_before, near_entry, near_after, far_as, quiet_moves, steps_to, plain_entry, tables_of, StepList};
 
-use crate::memory::{keep, recall};
+use crate::memory::{keep, recall, recall_after};
 use crate::steps::Steps;
 use crate::{Cell, Distance, DtzTables};
-use szg_chess::{Move, Position};
+use arrayvec::ArrayVec;
+use szg_chess::{MAX_MOVES, Move, Position};
 use szg_game::{Class, Entry};
 use szg_probe::{Tables, probe_wdl};
 
@@ -117,20 +119,33 @@ fn is_ended(position: &Position, moves: &[Move]) -> bool
     moves.is_empty()
 }
 
-/// Returns the entry of a position from its class and the stored number alone. None if there is no number.
-fn near_entry<T: Tables, D: DtzTables<Fault = T::Fault>>(
+/// Returns the legal moves, or none for a draw, since its entry does not depend on them.
+fn moves_that_count(class: Class, position: &Position) -> ArrayVec<Move, MAX_MOVES>
+    ensures { IsFalse (is_drawn class) → result.items ≡ legal_moves position.now }
+{
+    if is_drawn(class) {
+        ArrayVec::new()
+    } else {
+        position.legal_moves()
+    }
+}
+
+/// Returns the entry of a position of this class from the stored number alone, given the legal moves unless it is a draw.
+/// None if there is no number.
+fn near_of<T: Tables, D: DtzTables<Fault = T::Fault>>(
     classes: &mut T,
     distances: &mut D,
     position: &Position,
+    class: Class,
+    moves: &[Move],
 ) -> Result<Option<Entry>, T::Fault>
+    requires class { probed (T.stored classes.old) position.now ≡ Some class }
+    requires moves { IsFalse (is_drawn class) → moves.now ≡ legal_moves position.now }
     ensures same_classes { T.stored classes.new ≡ T.stored classes.old }
     ensures same_distances { D.distances distances.new ≡ D.distances distances.old }
     ensures entry { IfOk result (λ e. e ≡ near_entry (tables_of (T.stored classes.old) (D.distances distances.old)) position.now) }
+    ensures undrawn { IfOk result (λ e. e ≡ None → IsFalse (is_drawn class)) }
 {
-    let class = match probe_wdl(classes, position) {
-        Ok(class) => class,
-        Err(fault) => return Err(fault),
-    };
     if is_drawn(class) {
         return Ok(Some(Entry {
             class,
@@ -138,15 +153,14 @@ fn near_entry<T: Tables, D: DtzTables<Fault = T::Fault>>(
             upper: 0,
         }));
     }
-    let moves = position.legal_moves();
-    if is_ended(position, moves.as_slice()) {
+    if is_ended(position, moves) {
         return Ok(Some(Entry {
             class,
             lower: 0,
             upper: 0,
         }));
     }
-    let one_ply = match is_one_ply(classes, class, position, moves.as_slice()) {
+    let one_ply = match is_one_ply(classes, class, position, moves) {
         Ok(one_ply) => one_ply,
         Err(fault) => return Err(fault),
     };
@@ -164,8 +178,36 @@ fn near_entry<T: Tables, D: DtzTables<Fault = T::Fault>>(
     }
 }
 
-/// `near_entry`, if it was not found before.
-fn known_near<T: Tables, D: DtzTables<Fault = T::Fault>>(
+/// Returns what `near_of` does, and keeps it.
+fn kept_near<T: Tables, D: DtzTables<Fault = T::Fault>>(
+    classes: &mut T,
+    distances: &mut D,
+    cells: &mut [Cell],
+    position: &Position,
+    class: Class,
+    moves: &[Move],
+) -> Result<Option<Entry>, T::Fault>
+    requires class { probed (T.stored classes.old) position.now ≡ Some class }
+    requires moves { IsFalse (is_drawn class) → moves.now ≡ legal_moves position.now }
+    requires right { AreRight (kinds_of position.now.placed_men) (tables_of (T.stored classes.old) (D.distances distances.old)) cells.old }
+    ensures same_classes { T.stored classes.new ≡ T.stored classes.old }
+    ensures same_distances { D.distances distances.new ≡ D.distances distances.old }
+    ensures right { AreRight (kinds_of position.now.placed_men) (tables_of (T.stored classes.old) (D.distances distances.old)) cells.new }
+    ensures entry { IfOk result (λ e. e ≡ near_entry (tables_of (T.stored classes.old) (D.distances distances.old)) position.now) }
+    ensures undrawn { IfOk result (λ e. e ≡ None → IsFalse (is_drawn class)) }
+{
+    match near_of(classes, distances, position, class, moves) {
+        Ok(Some(entry)) => {
+            keep(cells, true, position, entry);
+            Ok(Some(entry))
+        }
+        Ok(None) => Ok(None),
+        Err(fault) => Err(fault),
+    }
+}
+
+/// Returns the entry of a position from its class and the stored number alone, and keeps it. None if there is no number.
+fn find_near<T: Tables, D: DtzTables<Fault = T::Fault>>(
     classes: &mut T,
     distances: &mut D,
     cells: &mut [Cell],
@@ -177,17 +219,12 @@ fn known_near<T: Tables, D: DtzTables<Fault = T::Fault>>(
     ensures right { AreRight (kinds_of position.now.placed_men) (tables_of (T.stored classes.old) (D.distances distances.old)) cells.new }
     ensures entry { IfOk result (λ e. e ≡ near_entry (tables_of (T.stored classes.old) (D.distances distances.old)) position.now) }
 {
-    if let Some(entry) = recall(cells, true, position) {
-        return Ok(Some(entry));
-    }
-    match near_entry(classes, distances, position) {
-        Ok(Some(entry)) => {
-            keep(cells, true, position, entry);
-            Ok(Some(entry))
-        }
-        Ok(None) => Ok(None),
-        Err(fault) => Err(fault),
-    }
+    let class = match probe_wdl(classes, position) {
+        Ok(class) => class,
+        Err(fault) => return Err(fault),
+    };
+    let moves = moves_that_count(class, position);
+    kept_near(classes, distances, cells, position, class, moves.as_slice())
 }
 
 /// Returns `near_entry` after a legal move that is not zeroing.
@@ -208,25 +245,31 @@ fn near_after<T: Tables, D: DtzTables<Fault = T::Fault>>(
 {
     // A fact that the proof uses: the men are those of a position.
     let _ = position.men();
-    known_near(classes, distances, cells, &position.after(m))
+    if let Some(entry) = recall_after(cells, true, position, &m) {
+        return Ok(Some(entry));
+    }
+    find_near(classes, distances, cells, &position.after(m))
 }
 
-/// Returns the entries after the moves that are not zeroing. None if there is no number for one of them.
+/// Returns the entries after the moves that are not zeroing, given the legal moves. None if there is no number for one of
+/// them.
 fn quiet_steps<T: Tables, D: DtzTables<Fault = T::Fault>>(
     classes: &mut T,
     distances: &mut D,
     cells: &mut [Cell],
     position: &Position,
+    moves: &[Move],
 ) -> Result<Option<Steps>, T::Fault>
+    requires moves { moves.now ≡ legal_moves position.now }
+    requires few { length moves.now ≤ 128 }
     requires right { AreRight (kinds_of position.now.placed_men) (tables_of (T.stored classes.old) (D.distances distances.old)) cells.old }
     ensures same_classes { T.stored classes.new ≡ T.stored classes.old }
     ensures same_distances { D.distances distances.new ≡ D.distances distances.old }
     ensures right { AreRight (kinds_of position.now.placed_men) (tables_of (T.stored classes.old) (D.distances distances.old)) cells.new }
     ensures steps { IfOk result (λ o. option_map (λ s. s.items) o ≡ steps_to (near_after (tables_of (T.stored classes.old) (D.distances distances.old)) position.now) position.now (quiet_moves position.now)) }
 {
-    let moves = position.legal_moves();
     let mut steps = Steps::new();
-    for m in moves.as_slice() {
+    for m in moves {
         if !position.is_zeroing(m) {
             match near_after(classes, distances, cells, position, *m) {
                 Ok(Some(entry)) => steps.push(entry, false),
@@ -292,30 +335,88 @@ fn entry_before(class: Class, steps: &[(Entry, bool)]) -> Entry
     }
 }
 
-/// Returns the entry of a position of this class one ply before the stored side.
+/// Returns the entry of a position of this class one ply before the stored side, given the legal moves.
 fn far_entry<T: Tables, D: DtzTables<Fault = T::Fault>>(
     classes: &mut T,
     distances: &mut D,
     cells: &mut [Cell],
     position: &Position,
     class: Class,
+    moves: &[Move],
 ) -> Result<Option<Entry>, T::Fault>
+    requires moves { moves.now ≡ legal_moves position.now }
+    requires few { length moves.now ≤ 128 }
     requires right { AreRight (kinds_of position.now.placed_men) (tables_of (T.stored classes.old) (D.distances distances.old)) cells.old }
     ensures same_classes { T.stored classes.new ≡ T.stored classes.old }
     ensures same_distances { D.distances distances.new ≡ D.distances distances.old }
     ensures right { AreRight (kinds_of position.now.placed_men) (tables_of (T.stored classes.old) (D.distances distances.old)) cells.new }
     ensures entry { IfOk result (λ e. e ≡ far_as (tables_of (T.stored classes.old) (D.distances distances.old)) position.now class) }
 {
-    match quiet_steps(classes, distances, cells, position) {
+    match quiet_steps(classes, distances, cells, position, moves) {
         Ok(Some(steps)) => Ok(Some(entry_before(class, steps.as_slice()))),
         Ok(None) => Ok(None),
         Err(fault) => Err(fault),
     }
 }
 
-/// Returns the entry of a position without regard to its en passant square. None if there is no number for the position
-/// or for one after its moves.
-fn find_entry<T: Tables, D: DtzTables<Fault = T::Fault>>(
+/// Returns what `far_entry` does, and keeps it.
+fn kept_far<T: Tables, D: DtzTables<Fault = T::Fault>>(
+    classes: &mut T,
+    distances: &mut D,
+    cells: &mut [Cell],
+    position: &Position,
+    class: Class,
+    moves: &[Move],
+) -> Result<Option<Entry>, T::Fault>
+    requires class { probed (T.stored classes.old) position.now ≡ Some class }
+    requires moves { moves.now ≡ legal_moves position.now }
+    requires far { near_entry (tables_of (T.stored classes.old) (D.distances distances.old)) position.now ≡ None }
+    requires few { length moves.now ≤ 128 }
+    requires right { AreRight (kinds_of position.now.placed_men) (tables_of (T.stored classes.old) (D.distances distances.old)) cells.old }
+    ensures same_classes { T.stored classes.new ≡ T.stored classes.old }
+    ensures same_distances { D.distances distances.new ≡ D.distances distances.old }
+    ensures right { AreRight (kinds_of position.now.placed_men) (tables_of (T.stored classes.old) (D.distances distances.old)) cells.new }
+    ensures entry { IfOk result (λ e. e ≡ plain_entry (tables_of (T.stored classes.old) (D.distances distances.old)) position.now) }
+{
+    match far_entry(classes, distances, cells, position, class, moves) {
+        Ok(Some(entry)) => {
+            keep(cells, false, position, entry);
+            Ok(Some(entry))
+        }
+        Ok(None) => Ok(None),
+        Err(fault) => Err(fault),
+    }
+}
+
+/// Returns the entry of a position of this class without regard to its en passant square, given the legal moves unless it
+/// is a draw, and keeps it. None if there is no number for the position or for one after its moves.
+fn kept_entry<T: Tables, D: DtzTables<Fault = T::Fault>>(
+    classes: &mut T,
+    distances: &mut D,
+    cells: &mut [Cell],
+    position: &Position,
+    class: Class,
+    moves: &[Move],
+) -> Result<Option<Entry>, T::Fault>
+    requires class { probed (T.stored classes.old) position.now ≡ Some class }
+    requires moves { IsFalse (is_drawn class) → moves.now ≡ legal_moves position.now }
+    requires few { length moves.now ≤ 128 }
+    requires right { AreRight (kinds_of position.now.placed_men) (tables_of (T.stored classes.old) (D.distances distances.old)) cells.old }
+    ensures same_classes { T.stored classes.new ≡ T.stored classes.old }
+    ensures same_distances { D.distances distances.new ≡ D.distances distances.old }
+    ensures right { AreRight (kinds_of position.now.placed_men) (tables_of (T.stored classes.old) (D.distances distances.old)) cells.new }
+    ensures entry { IfOk result (λ e. e ≡ plain_entry (tables_of (T.stored classes.old) (D.distances distances.old)) position.now) }
+{
+    match kept_near(classes, distances, cells, position, class, moves) {
+        Ok(Some(entry)) => Ok(Some(entry)),
+        Ok(None) => kept_far(classes, distances, cells, position, class, moves),
+        Err(fault) => Err(fault),
+    }
+}
+
+/// Returns the entry of a position without regard to its en passant square, and keeps it. None if there is no number for
+/// the position or for one after its moves.
+pub(crate) fn find_entry<T: Tables, D: DtzTables<Fault = T::Fault>>(
     classes: &mut T,
     distances: &mut D,
     cells: &mut [Cell],
@@ -327,14 +428,12 @@ fn find_entry<T: Tables, D: DtzTables<Fault = T::Fault>>(
     ensures right { AreRight (kinds_of position.now.placed_men) (tables_of (T.stored classes.old) (D.distances distances.old)) cells.new }
     ensures entry { IfOk result (λ e. e ≡ plain_entry (tables_of (T.stored classes.old) (D.distances distances.old)) position.now) }
 {
-    match known_near(classes, distances, cells, position) {
-        Ok(Some(entry)) => Ok(Some(entry)),
-        Ok(None) => match probe_wdl(classes, position) {
-            Ok(class) => far_entry(classes, distances, cells, position, class),
-            Err(fault) => Err(fault),
-        },
-        Err(fault) => Err(fault),
-    }
+    let class = match probe_wdl(classes, position) {
+        Ok(class) => class,
+        Err(fault) => return Err(fault),
+    };
+    let moves = moves_that_count(class, position);
+    kept_entry(classes, distances, cells, position, class, moves.as_slice())
 }
 
 /// `find_entry`, if the entry was not found before.
@@ -353,12 +452,5 @@ pub(crate) fn plain_entry<T: Tables, D: DtzTables<Fault = T::Fault>>(
     if let Some(entry) = recall(cells, false, position) {
         return Ok(Some(entry));
     }
-    match find_entry(classes, distances, cells, position) {
-        Ok(Some(entry)) => {
-            keep(cells, false, position, entry);
-            Ok(Some(entry))
-        }
-        Ok(None) => Ok(None),
-        Err(fault) => Err(fault),
-    }
+    find_entry(classes, distances, cells, position)
 }

@@ -1,16 +1,18 @@
 //! Room for entries that were found, so that each is found once mostly.
 
-ghost use Rattle.std.specs.Prelude.{◌≡◌, ◌&&◌, not, ◌<◌, ◌≤◌, ◌+◌, ◌-◌, ◌*◌, ◌^◌, List, Some, IfSome, IsTrue, length, nat_lt, if◌then◌else◌};
+ghost use Rattle.std.specs.Prelude.{◌≡◌, ◌&&◌, not, ◌<◌, ◌≤◌, ◌+◌, ◌-◌, ◌*◌, ◌^◌, List, Some, IfSome, IsFalse, IsTrue, Contains, length, map, nat_lt, if◌then◌else◌};
+ghost use Rattle.szg_values.specs.Men.{other_color};
 ghost use Rattle.szg_values.specs.Placement.{AreOnBoard};
 ghost use Rattle.szg_values.specs.declared.Man.{Man};
 ghost use Rattle.szg_values.specs.declared.Color.{Color};
 ghost use Rattle.szg_game.specs.declared.Entry.{Entry};
 ghost use Rattle.szg_chess.specs.Laws.{kinds_of};
-ghost use Rattle.szg_chess.specs.Position.{IsPosition};
+ghost use Rattle.szg_chess.specs.Moves.{after, is_zeroing, legal_moves, man_after};
+ghost use Rattle.szg_chess.specs.Position.{Position, IsPosition};
 ghost use Rattle.szg_verify.specs.Entries.{StoredTables};
-ghost use Rattle.szg_verify.specs.Memory.{AreRight, IsSpotOf, class_by, class_code, code_of, digits_of, found_by, holds_pawn, is_near, is_wide, packed};
+ghost use Rattle.szg_verify.specs.Memory.{AreRight, IsSpotOf, class_by, class_code, code_of, digits_of, found_by, holds_pawn, is_near, is_wide, packed, size_of, start_of};
 
-use szg_chess::Position;
+use szg_chess::{Move, Position};
 use szg_game::{Class, Entry};
 use szg_values::{Color, Man, Square};
 
@@ -49,6 +51,31 @@ pub(crate) fn recall(cells: &[Cell], needs_near: bool, position: &Position) -> O
     let Some(spot) = spot_of(cells.len(), position) else {
         return None;
     };
+    recall_at(cells, needs_near, spot)
+}
+
+/// Returns what `recall` does for the position after a legal move that is not zeroing, without making that position.
+pub(crate) fn recall_after(
+    cells: &[Cell],
+    needs_near: bool,
+    position: &Position,
+    m: &Move,
+) -> Option<Entry>
+    requires legal { Contains (legal_moves position.now) m.now }
+    requires quiet { IsFalse (is_zeroing position.now m.now) }
+    ensures { IfSome result (λ e. (tables : StoredTables) → AreRight (kinds_of position.now.placed_men) tables cells.now → found_by needs_near tables (after position.now m.now) ≡ Some e) }
+{
+    let Some(spot) = spot_after(cells.len(), position, m) else {
+        return None;
+    };
+    recall_at(cells, needs_near, spot)
+}
+
+/// Returns the entry that was kept at a spot, if it still is there.
+fn recall_at(cells: &[Cell], needs_near: bool, spot: Spot) -> Option<Entry>
+    requires inside { spot.place < length cells.now }
+    ensures { IfSome result (λ e. (p : Position) (tables : StoredTables) → IsPosition p → IsSpotOf (length cells.now) p spot.tag spot.place → AreRight (kinds_of p.placed_men) tables cells.now → found_by needs_near tables p ≡ Some e) }
+{
     let cell = cells[spot.place];
     if cell.tag != spot.tag {
         return None;
@@ -82,17 +109,13 @@ fn entry_in(cell: &Cell, class: Class) -> Entry
     }
 }
 
-/// Keeps the entry of a position in place of another one, if there is room for it. The one by the stored number alone is
-/// the whole one too, and stays.
+/// Keeps the entry of a position in place of another one, if there is room for it.
 pub(crate) fn keep(cells: &mut [Cell], near: bool, position: &Position, entry: Entry)
     ensures { (tables : StoredTables) → AreRight (kinds_of position.now.placed_men) tables cells.old → found_by near tables position.now ≡ Some entry → AreRight (kinds_of position.now.placed_men) tables cells.new }
 {
     let Some(spot) = spot_of(cells.len(), position) else {
         return;
     };
-    if !near && recall(cells, true, position).is_some() {
-        return;
-    }
     if 255 < entry.lower || !is_narrow(&entry) {
         return;
     }
@@ -169,11 +192,48 @@ fn spot_of(len: usize, position: &Position) -> Option<Spot>
     if position.en_passant().is_some() {
         return None;
     }
-    let number = match packed(holds_pawn(men), digits_of(men)) {
+    spot_by(len, position.mover(), holds_pawn(men), digits_of(men))
+}
+
+/// Returns where the entry of the position after a legal move that is not zeroing is kept, of so many cells.
+fn spot_after(len: usize, position: &Position, m: &Move) -> Option<Spot>
+    requires legal { Contains (legal_moves position.now) m.now }
+    requires quiet { IsFalse (is_zeroing position.now m.now) }
+    ensures spot { IfSome result (λ s. IsSpotOf len (after position.now m.now) s.tag s.place) }
+    ensures inside { IfSome result (λ s. s.place < len) }
+    // A fact that the proof uses: the men are those of a position.
+    ensures position { IsPosition position.now }
+{
+    let men = position.men();
+    spot_by(
+        len,
+        other_color(position.mover()),
+        holds_pawn(men),
+        digits_after(m, men),
+    )
+}
+
+fn other_color(color: Color) -> Color
+    ensures { result ≡ other_color color }
+{
+    match color {
+        Color::White => Color::Black,
+        Color::Black => Color::White,
+    }
+}
+
+/// Returns where the entry of a position of a side to move is kept, with or without pawns, from the squares of the men.
+fn spot_by(len: usize, mover: Color, pawn: bool, digits: u64) -> Option<Spot>
+    ensures from { IfSome result (λ s. start_of mover len ≤ s.place) }
+    ensures to { IfSome result (λ s. s.place < start_of mover len + size_of mover len) }
+    ensures number { IfSome result (λ s. packed pawn digits ≡ Some (s.tag * size_of mover len + (s.place - start_of mover len))) }
+    ensures inside { IfSome result (λ s. s.place < len) }
+{
+    let number = match packed(pawn, digits) {
         Some(number) => number,
         None => return None,
     };
-    match position.mover() {
+    match mover {
         Color::White => spot_in(0, len - len / 16, number),
         Color::Black => spot_in(len - len / 16, len / 16, number),
     }
@@ -237,4 +297,32 @@ fn digits_of(men: &[(Man, Color, Square)]) -> u64
         digits = u64::from(men[men.len() - 1 - step].2.number()) + 64 * digits;
     }
     digits
+}
+
+/// Returns the squares of men after a move that captures none as one number.
+fn digits_after(m: &Move, men: &[(Man, Color, Square)]) -> u64
+    requires count { length men.now ≤ 6 }
+    requires on_board { AreOnBoard men.now }
+    ensures digits { result ≡ digits_of (map (man_after m.now) men.now) }
+{
+    let mut digits = 0;
+    for step in 0..men.len() {
+        let square = square_after(m, &men[men.len() - 1 - step]);
+        digits = u64::from(square.number()) + 64 * digits;
+    }
+    digits
+}
+
+/// Returns the square of a man after a move.
+fn square_after(m: &Move, man: &(Man, Color, Square)) -> Square
+    ensures square { result ≡ (man_after m.now man.now).2 }
+    ensures to { m.now.to < 64 }
+{
+    // A fact that the proof uses: the move leads to a square.
+    let _ = m.to.number();
+    if man.2.number() == m.from.number() {
+        m.to
+    } else {
+        man.2
+    }
 }

@@ -1,12 +1,13 @@
 """One table."""
+import ctypes
 import os
+from ctypes import byref, c_int64, c_size_t, c_uint8, c_uint16, c_uint32, c_uint64
 from pathlib import Path
 from types import TracebackType
 from typing import Any, Callable, NamedTuple, Optional, Tuple, Type, Union
 
-from ._library import Lent
+from ._library import MAX_MEN, FoundSpot, Handles, Lent, library
 from ._mapped import mapped
-from ._opened import Opened
 from ._placement import Man, Placement, Position, integer, position_of
 
 KINDS = {".rtbw": "wdl", ".rtbz": "dtz"}
@@ -76,13 +77,15 @@ class Table:
         if kind not in KINDS.values():
             raise ValueError(f"kind must be 'wdl' or 'dtz', not {kind!r}")
         self.name, self.kind = name, kind
-        self._opened = Opened(name, kind, lent)
+        self._front = Handles(name, kind, lent)
         if verify:
             self.verify()
 
     def size(self, part: int = 0, side: int = 0) -> int:
         """The number of positions of a part's side. Errors: IndexError if the table has no such part or side."""
-        return self._opened.size(_byte(part, "part"), _byte(side, "side"))
+        part, side, size = _byte(part, "part"), _byte(side, "side"), c_uint64()
+        self._front(library.szg_front_size, part, side, byref(size))
+        return size.value
 
     def get(self, index: int, part: int = 0, side: int = 0) -> int:
         """The stored value at an index, which isn't always the position's (see `probe_wdl` and `probe_dtz`).
@@ -90,7 +93,9 @@ class Table:
         In WDL it is the stored class plus 2; in DTZ a value that `number` decodes.
 
         Errors: IndexError if the table has no such part, side or index; BadBlock if its block does not decode."""
-        return self._opened.get(_byte(part, "part"), _byte(side, "side"), _index(index))
+        part, side, index, value = _byte(part, "part"), _byte(side, "side"), _index(index), c_uint16()
+        self._front.fetch(library.szg_front_get, part, side, index, byref(value))
+        return value.value
 
     def values(self, part: int = 0, side: int = 0) -> memoryview:
         """All stored values of a part's side (see `get`), in the order of their indexes. All of the table is checked for it.
@@ -100,7 +105,10 @@ class Table:
         bytes too.
 
         Errors: IndexError if the table has no such part or side; Refused; MemoryError."""
-        return self._opened.values(_byte(part, "part"), _byte(side, "side"))
+        values = (c_uint16 * self.size(part, side))()
+        self._front.ask(library.szg_values, part, side, values, len(values))
+        # ctypes' own format, <H, cannot be indexed by memoryview
+        return memoryview(values).cast("B").cast("H")
 
     def number(self, value: int, *, wdl: int, part: int = 0) -> int:
         """The number of plies of a stored value of a DTZ table in a class: what `probe_dtz` returns for it.
@@ -113,11 +121,15 @@ class Table:
         if not 0 <= value < 1 << 16:
             raise IndexError(f"the table has no value {value}")
         self._require("dtz")
-        return self._opened.number(_byte(part, "part"), _class(wdl), value)
+        part, wdl, number = _byte(part, "part"), _class(wdl), c_uint32()
+        self._front(library.szg_front_number, part, wdl, value, byref(number))
+        return number.value
 
     def index(self, board: Placement, turn: Optional[bool] = None) -> Spot:
         """Where the table stores a placement. Errors: Untold if it has no index; TypeError; ValueError for a bad FEN."""
-        return Spot(*self._opened.index(position_of(board, turn)))
+        position, spot = position_of(board, turn), FoundSpot()
+        self._front(library.szg_front_index, position.men, len(position.men) // 3, position.mover, byref(spot))
+        return Spot(spot.part, spot.side, spot.index)
 
     def placement(self, part: int, side: int, index: int) -> Tuple[Tuple[Man, ...], bool]:
         """The placement of an index: the men as tuples (kind, colour, square), and who moves (True if White).
@@ -128,7 +140,11 @@ class Table:
 
         Errors: IndexError if the table has no such part, side or index; Untold if the part's side has no placements:
         `Irregular`, or `WrongSide` for a DTZ table with pawns that stores Black if both sides have the same men."""
-        return self._opened.placement(_byte(part, "part"), _byte(side, "side"), _index(index))
+        part, side, index = _byte(part, "part"), _byte(side, "side"), _index(index)
+        men, count, mover = ctypes.create_string_buffer(3 * MAX_MEN), c_size_t(), c_uint8()
+        self._front(library.szg_front_placement, part, side, index, men, MAX_MEN, byref(count), byref(mover))
+        found = men.raw[:3 * count.value]
+        return tuple((kind, color == 0, square) for kind, color, square in zip(found[::3], found[1::3], found[2::3])), mover.value == 0
 
     def probe_wdl(self, board: Placement, turn: Optional[bool] = None) -> int:
         """The stored class of a placement, which isn't the position's if a capture decides: then it may be lower.
@@ -155,7 +171,9 @@ class Table:
         return self._probe(position_of(board, turn), _class(wdl))
 
     def _probe(self, position: Position, wdl: int) -> int:
-        return self._opened.probe(position, wdl)
+        outcome = c_int64()
+        self._front.fetch(library.szg_front_probe, position.men, len(position.men) // 3, position.mover, wdl, byref(outcome))
+        return outcome.value
 
     def verify(self) -> int:
         """Checks all bytes of the table, as they are now; returns its number of bytes.
@@ -163,7 +181,7 @@ class Table:
         No check of the format finds a changed bit that still decodes: keep sums of the files.
 
         Errors: Refused with the first check that fails; MemoryError."""
-        return self._opened.check()
+        return self._front.ask(library.szg_check)
 
     def _require(self, kind: str) -> None:
         if self.kind != kind:
@@ -171,7 +189,7 @@ class Table:
 
     def close(self) -> None:
         """Closes the table. A second call does nothing."""
-        self._opened.close()
+        self._front.close()
 
     def __enter__(self) -> "Table":
         return self
@@ -182,14 +200,13 @@ class Table:
         self.close()
 
     def __reduce__(self) -> Tuple[Callable[..., "Table"], Tuple[Any, ...]]:
-        if self._opened.is_closed():
-            raise ValueError("the table is closed")
+        lent = self._front.lent()
         if self._path is not None:
             return type(self).open, (self._path,)
-        return type(self), (self.name, self.kind, self._opened.data())
+        return type(self), (self.name, self.kind, ctypes.string_at(lent.address, lent.length))
 
     def __repr__(self) -> str:
-        path, closed = "" if self._path is None else f" {self._path!r}", ", closed" if self._opened.is_closed() else ""
+        path, closed = "" if self._path is None else f" {self._path!r}", ", closed" if self._front.is_closed() else ""
         return f"<szg.Table {self.name} {self.kind}{path}{closed}>"
 
 

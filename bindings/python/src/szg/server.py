@@ -142,7 +142,8 @@ class Handler(BaseHTTPRequestHandler):
         except KeyError as error:
             self.send(404, "text/plain", str(error))
         except (Untold, ValueError, TypeError) as error:
-            self.send(400, "text/plain", str(error))
+            is_of_tables = isinstance(error, Untold) and (error.path is not None or error.reason == "Contradiction")
+            self.send(500 if is_of_tables else 400, "text/plain", str(error))
 
     def send(self, status: int, kind: str, text: str) -> None:
         data = text.encode()

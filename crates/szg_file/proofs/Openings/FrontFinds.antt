@@ -108,7 +108,7 @@ unread_known slot content (Pairs flags block_bits span_bits extra blocks code di
 
 -- ---- the bytes of the block
 
-block_is_at : (block_bits blocks first n : ℕ) (content : List ℕ) → n < blocks → block_at block_bits (bytes_at content first (blocks * 2 ^ block_bits)) n ≡ bytes_at content (first + n * 2 ^ block_bits) (2 ^ block_bits)
+pub block_is_at : (block_bits blocks first n : ℕ) (content : List ℕ) → n < blocks → block_at block_bits (bytes_at content first (blocks * 2 ^ block_bits)) n ≡ bytes_at content (first + n * 2 ^ block_bits) (2 ^ block_bits)
 unfolding block_at
 block_is_at block_bits blocks first n content there =
     let w : ℕ = 2 ^ block_bits in

@@ -1,6 +1,6 @@
 -- What an opened table returns without its blocks is that of the table that was opened.
-use Rattle.std.proofs.Common.{◌≡◌, ℕ, List, [], ◌∷◌, ◌++◌, map, take, drop, refl, sym, ap, subst, ◌∙◌, Option, Some, option_map, IsSome}
-use Rattle.std.specs.Prelude.{IfSome, IsSomeAnd, ℤ, option_and_then}
+use Rattle.std.proofs.Common.{◌≡◌, ℕ, List, [], ◌∷◌, ◌++◌, map, take, drop, refl, sym, ap, subst, ◌∙◌, Option, Some, option_map}
+use Rattle.std.specs.Prelude.{IsSomeAnd, option_and_then}
 use Rattle.std.proofs.lemmas.List.{take-append-drop}
 use Rattle.szg_values.specs.declared.Kind.{Kind}
 use Rattle.szg_values.specs.Material.{Sides}
@@ -10,19 +10,19 @@ use Rattle.szg_file.specs.Contents.{Contents, Slot, Subtable, constant, pairs}
 use Rattle.szg_file.specs.File.{file, flags_of}
 use Rattle.szg_file.specs.Format.{verdict, good}
 use Rattle.szg_file.specs.Held.{part_of, map_of, subtable_of}
-use Rattle.szg_file.specs.Index.{Index, IsIndex, index_with, slot_in, number_in}
+use Rattle.szg_file.specs.Index.{Index, IsIndex, index_with, slot_in}
 use Rattle.szg_file.specs.Opened.{table_of, table_in, IsIndexIn}
 use Rattle.szg_file.specs.Outline.{outlined}
 use Rattle.szg_file.specs.Placed.{whole_sub}
 use Rattle.szg_file.specs.Reading.{Advances}
-use Rattle.szg_file.specs.Values.{subtable_at, number_of_value}
+use Rattle.szg_file.specs.Values.{subtable_at}
 use Rattle.szg_file.specs.declared.reading.dropping.PlacedSub.{PlacedSub}
 use Rattle.szg_file.specs.declared.reading.front.Front.{Front}
 use Rattle.szg_file.specs.declared.reading.outline.Outline.{Outline}
 use Rattle.szg_file.proofs.Grammar.FormatLaws.{good-more}
 use Rattle.szg_file.proofs.Readers.ReadAnswers.{whole_file}
 use Rattle.szg_file.proofs.Openings.OpenedLaws.{forward_moved}
-use Rattle.szg_file.proofs.Tables.IndexLaws.{accepted_index, size_of_table, slot_there, number_of_table}
+use Rattle.szg_file.proofs.Tables.IndexLaws.{accepted_index, size_of_table}
 
 -- a property of the table that was opened
 pub stated_in : (P : Contents → Type 0) (there : Option Contents) (t : Contents) → there ≡ Some t → P t → IsSomeAnd there P

@@ -4,6 +4,7 @@ use super::fixtures::{
 };
 use super::words_of;
 use std::alloc::Global;
+use std::fs::File;
 use std::process::Abort;
 use std::rt::Files;
 use std::test::Fail;
@@ -15,7 +16,7 @@ use szg_io::Std;
 
 /// The words of this line, on these files and with nothing on standard input, print this text.
 fn check_on_files(
-    rt: &(impl Abort + Alloc<A = Global> + Files + Clock),
+    rt: &(impl Abort + Alloc<A = Global> + Files<File = File> + Clock),
     line: &str,
     files: &[MemoryFile<'_>],
     text: &str,

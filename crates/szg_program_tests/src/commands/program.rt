@@ -3,12 +3,13 @@ use super::fixtures::kpvk_wdl_numbered;
 use std::alloc::{AllocError, Global};
 use std::cell::RefCell;
 use std::fmt::Display;
+use std::fs::File;
 use std::io::{self, ErrorKind, Write};
 use std::process::{Abort, ExitCode};
 use std::rt::Files;
 use std::test::Fail;
 use std::time::Clock;
-use szg_commands::{ProgressLine, no_words_status, run_given};
+use szg_commands::{ProgressLine, ReadLine, no_words_status, run_given};
 
 /// Standard error in memory.
 #[derive(Drop)]
@@ -58,7 +59,7 @@ type Case<'a> = (&'a str, u8, &'a str, &'a str);
 
 /// Runs the words of a line, and returns the status and what is printed on standard error.
 fn run_line(
-    rt: &(impl Abort + Alloc<A = Global> + Files + Clock),
+    rt: &(impl Abort + Alloc<A = Global> + Files<File = File> + Clock),
     line: &str,
     input: &[u8],
     output: impl Write + Drop,
@@ -73,13 +74,14 @@ fn run_line(
         input,
         output,
         &mut ProgressLine::new(&errors, rt, false),
+        &ReadLine::new(&errors, rt, false),
     );
     Ok((status, errors.0.take(rt.alloc())?))
 }
 
 /// What is printed on standard error for words that make no command: nothing on standard output, and status 2.
 pub fn printed_as_error(
-    rt: &(impl Abort + Alloc<A = Global> + Files + Clock),
+    rt: &(impl Abort + Alloc<A = Global> + Files<File = File> + Clock),
     line: &str,
 ) -> Result<String, Fail> {
     let mut output = Vec::new(rt.alloc());
@@ -91,7 +93,7 @@ pub fn printed_as_error(
 
 /// The program prints on each stream what the cases say, and ends with their status.
 fn check_cases(
-    rt: &(impl Abort + Alloc<A = Global> + Files + Clock),
+    rt: &(impl Abort + Alloc<A = Global> + Files<File = File> + Clock),
     input: &[u8],
     cases: &[Case<'_>],
 ) -> Result<(), Fail> {

@@ -1,6 +1,7 @@
 //! The words of each text of help, on the standard streams and for files.
 use super::program::printed_as_error;
 use std::alloc::Global;
+use std::fs::File;
 use std::process::Abort;
 use std::rt::Files;
 use std::test::Fail;
@@ -200,7 +201,7 @@ static WRITERS: [Command<'_>; 3] = [
             usage: "[OPTIONS] <FILE>",
             arguments: &[TABLE],
             options: &[OUTPUT, NAMED, KINDED, HELP],
-            end: "Example: szg copy KQvK.rtbw -o copy.rtbw Standard input: szg copy KQvK wdl < KQvK.rtbw > copy.rtbw",
+            end: "Example: szg copy KQvK.rtbw -o copy.rtbw Good tables into a folder: szg copy [--sums LIST] FILE.. FOLDER Standard input: szg copy KQvK wdl < KQvK.rtbw > copy.rtbw",
         },
     },
     Command {
@@ -328,7 +329,7 @@ fn words_due(alloc: Global, command: &Command<'_>, text: &Text<'_>) -> Result<St
 
 /// The help of a command, asked with this word, has the words of this text.
 fn check_help(
-    rt: &(impl Abort + Alloc<A = Global> + Files + Clock),
+    rt: &(impl Abort + Alloc<A = Global> + Files<File = File> + Clock),
     command: &Command<'_>,
     word: &str,
     text: &Text<'_>,
@@ -345,7 +346,7 @@ fn check_help(
 
 /// The help of each of these commands, asked in three ways.
 fn check_commands(
-    rt: &(impl Abort + Alloc<A = Global> + Files + Clock),
+    rt: &(impl Abort + Alloc<A = Global> + Files<File = File> + Clock),
     commands: &[Command<'_>],
 ) -> Result<(), Fail> {
     for command in commands {

@@ -7,8 +7,8 @@ use std::io;
 use std::process::Abort;
 use std::test::Fail;
 use std::time::{Clock, Duration};
-use szg_commands::ProgressLine;
-use szg_files::{MemoryFile, MemoryFiles};
+use szg_commands::{ProgressLine, ReadLine};
+use szg_files::{MemoryFile, MemoryFiles, ReadWatcher};
 use szg_values::Material;
 use szg_verified::{Progress, verify_folder};
 use szg_verify::Watcher;
@@ -121,5 +121,27 @@ fn progress_on_a_terminal(rt: HostRuntime) -> Result<(), Fail> {
         shown.as_str(),
         "\r\x1b[KKQvK: 22000 positions, 12000 a second, 2 s left\r\x1b[K"
     );
+    Ok(())
+}
+
+#[test]
+fn reads_on_a_terminal(rt: HostRuntime) -> Result<(), Fail> {
+    for (is_terminal, text) in [
+        (
+            true,
+            "\r\x1b[Kfiles 1, 3 MB, 3 MB a second\r\x1b[Kfiles 2, 3 MB, 1 MB a second\r\x1b[Kfiles 2, 8 MB, 2 MB a second",
+        ),
+        (false, ""),
+    ] {
+        let errors = Errors::new(rt.alloc());
+        let clock = new_clock();
+        let line = ReadLine::new(&errors, &clock, is_terminal);
+        line.see_open();
+        line.see_read(3_999_999);
+        line.see_open();
+        line.see_read(4_000_001);
+        let shown = errors.take(rt.alloc())?;
+        assert_eq!(&rt; shown.as_str(), text, "terminal {is_terminal}");
+    }
     Ok(())
 }

@@ -8,7 +8,7 @@ returns-in-Ok-true-clause-zeroing g c =
     let p = c.args.position.now in
     let k = c.args.class in
     let m = c.m-item.result in
-    let here = carried (λ s n. keeps_by_zeroing s p k m) (g.T.Tables.stored c.loop-m.tables) (g.T.Tables.stored c.args.tables.now) (g.T.Tables.numbers c.loop-m.tables) (g.T.Tables.numbers c.args.tables.now) _ c.loop-m.invariant.0 c.loop-m.invariant.1 (c.in-Ok-true.ensures.keeps ∙ ap (λ (b : Bool). Some b) c.in-Ok-true.field-0-test) in
+    let here = carried (λ s n. keeps_by_zeroing s p k m) (g.T.Tables.stored c.loop-m.tables) (g.T.Tables.stored c.args.tables.now) (g.T.Tables.numbers c.loop-m.tables) (g.T.Tables.numbers c.args.tables.now) _ (ap g.T.Tables.stored c.loop-m.invariant.0) (ap g.T.Tables.numbers c.loop-m.invariant.0) (c.in-Ok-true.ensures.keeps ∙ ap (λ (b : Bool). Some b) c.in-Ok-true.field-0-test) in
     some_at (keeps_by_zeroing (g.T.Tables.stored c.args.tables.now) p k) c.as_slice-m-items.result.now _ c.loop-m.m-index m (c.as_slice-m-items.ensures.value ∙ c.legal_moves-moves.ensures) c.loop-m-test.true c.m-item.is here
 
 pub loop-m-preserved : goal.loop-m-preserved
@@ -17,8 +17,7 @@ loop-m-preserved g c =
     let k = c.args.class in
     let m = c.m-item.result in
     let before = c.loop-m.invariant in
-    let here = carried (λ s n. keeps_by_zeroing s p k m) (g.T.Tables.stored c.loop-m.tables) (g.T.Tables.stored c.args.tables.now) (g.T.Tables.numbers c.loop-m.tables) (g.T.Tables.numbers c.args.tables.now) _ before.0 before.1 (c.in-Ok-false.ensures.keeps ∙ ap (λ (b : Bool). Some b) c.in-Ok-false.field-0-test) in (
+    let here = carried (λ s n. keeps_by_zeroing s p k m) (g.T.Tables.stored c.loop-m.tables) (g.T.Tables.stored c.args.tables.now) (g.T.Tables.numbers c.loop-m.tables) (g.T.Tables.numbers c.args.tables.now) _ (ap g.T.Tables.stored before.0) (ap g.T.Tables.numbers before.0) (c.in-Ok-false.ensures.keeps ∙ ap (λ (b : Bool). Some b) c.in-Ok-false.field-0-test) in (
       c.keeps_by_zeroing.ensures.same ∙ before.0,
-      c.keeps_by_zeroing.ensures.same_numbers ∙ before.1,
-      none_next (keeps_by_zeroing (g.T.Tables.stored c.args.tables.now) p k) c.as_slice-m-items.result.now c.loop-m.m-index m c.loop-m-test.true c.m-item.is before.2 here,
+      none_next (keeps_by_zeroing (g.T.Tables.stored c.args.tables.now) p k) c.as_slice-m-items.result.now c.loop-m.m-index m c.loop-m-test.true c.m-item.is before.1 here,
     )

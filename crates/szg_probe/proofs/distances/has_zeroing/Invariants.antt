@@ -4,5 +4,5 @@ use Rattle.szg_probe.proofs.Moves.{NoneSoFar}
 use Rattle.szg_probe.proofs.distances.has_zeroing.Given as goal
 
 abbrev pub invariant-loop-m : goal.invariant-loop-m
-invariant-loop-m g l = (g.T.Tables.stored l.tables ≡ g.T.Tables.stored l.fn.tables) × (g.T.Tables.numbers l.tables ≡ g.T.Tables.numbers l.fn.tables)
+invariant-loop-m g l = (l.tables ≡ l.fn.tables)
     × NoneSoFar (keeps_by_zeroing (g.T.Tables.stored l.fn.tables) l.position l.class) (take l.m-index l.m-items)

@@ -20,17 +20,17 @@ search-requires g t c κs within =
     (omega (arith, fewer, same, c.decreases), within)
 
 pub loop-m-init : goal.loop-m-init
-loop-m-init g t c = (refl, best_start (after_in (g.T.Tables.stored c.args.tables.now) c.args.position.now), refl)
+loop-m-init g t c = (refl, best_start (after_in (g.T.Tables.stored c.args.tables.now) c.args.position.now))
 
 pub loop-m-preserved : goal.loop-m-preserved
 loop-m-preserved g t c =
     let tables = g.T.Tables.stored c.args.tables.now in
     let p = c.args.position.now in
     let before = c.loop-m.invariant in
-    let known = probed_carried (g.T.Tables.stored c.loop-m.tables) tables c.after.result _ c.in-Ok.class before.0 c.after.ensures c.in-Ok.ensures.probed in
+    let known = probed_carried (g.T.Tables.stored c.loop-m.tables) tables c.after.result _ c.in-Ok.class (ap g.T.Tables.stored before.0) c.after.ensures c.in-Ok.ensures.probed in
     let no_loss = sym c.is_loss.ensures ∙ c.if-is_loss.false in
     let now = c.better-best.ensures ∙ ap (better c.loop-m.best) c.negate.ensures in
-    (c.search.ensures.same ∙ before.0, best_step tables p c.as_slice-m-items.result.now c.loop-m.m-index c.m-item.result c.loop-m.best c.in-Ok.class c.better-best.result c.loop-m-test.true c.m-item.is before.1 known no_loss now, c.search.ensures.same_numbers ∙ before.2)
+    (c.search.ensures.same ∙ before.0, best_step tables p c.as_slice-m-items.result.now c.loop-m.m-index c.m-item.result c.loop-m.best c.in-Ok.class c.better-best.result c.loop-m-test.true c.m-item.is before.1 known no_loss now)
 
 pub returns-in-Err-clause-fault : goal.returns-in-Err-clause-fault
 returns-in-Err-clause-fault g t c =
@@ -38,14 +38,14 @@ returns-in-Err-clause-fault g t c =
     let i = item_in p c.as_slice-m-items.result.now c.loop-m.m-index c.m-item.result (c.as_slice-m-items.ensures.value ∙ c.captures-captures.ensures.list) c.loop-m-test.true c.m-item.is in
     let explains = g.T.Tables.explains in
     fault_below (explains (g.T.Tables.stored c.args.tables.now) (g.T.Tables.numbers c.args.tables.now) c.in-Err.fault) p c.m-item.result c.men.ensures.position i
-    (fault_carried explains (g.T.Tables.stored c.loop-m.tables) (g.T.Tables.stored c.args.tables.now) (g.T.Tables.numbers c.loop-m.tables) (g.T.Tables.numbers c.args.tables.now) c.after.result _ c.in-Err.fault c.loop-m.invariant.0 c.loop-m.invariant.2 c.after.ensures c.in-Err.ensures.fault)
+    (fault_carried explains (g.T.Tables.stored c.loop-m.tables) (g.T.Tables.stored c.args.tables.now) (g.T.Tables.numbers c.loop-m.tables) (g.T.Tables.numbers c.args.tables.now) c.after.result _ c.in-Err.fault (ap g.T.Tables.stored c.loop-m.invariant.0) (ap g.T.Tables.numbers c.loop-m.invariant.0) c.after.ensures c.in-Err.ensures.fault)
 
 pub returns-then-is_loss-clause-probed : goal.returns-then-is_loss-clause-probed
 returns-then-is_loss-clause-probed g t c =
     let tables = g.T.Tables.stored c.args.tables.now in
     let p = c.args.position.now in
     let i = item_in p c.as_slice-m-items.result.now c.loop-m.m-index c.m-item.result (c.as_slice-m-items.ensures.value ∙ c.captures-captures.ensures.list) c.loop-m-test.true c.m-item.is in
-    let known = probed_carried (g.T.Tables.stored c.loop-m.tables) tables c.after.result _ c.in-Ok.class c.loop-m.invariant.0 c.after.ensures c.in-Ok.ensures.probed in
+    let known = probed_carried (g.T.Tables.stored c.loop-m.tables) tables c.after.result _ c.in-Ok.class (ap g.T.Tables.stored c.loop-m.invariant.0) c.after.ensures c.in-Ok.ensures.probed in
     probed_win tables p c.m-item.result c.in-Ok.class c.men.ensures.position i known (sym c.is_loss.ensures ∙ c.if-is_loss.true)
 
 pub returns-then-is_win-clause-probed : goal.returns-then-is_win-clause-probed
@@ -66,6 +66,6 @@ returns-in-Ok-stored_class-clause-probed g t c =
     let p = c.args.position.now in
     let best = c.loop-m.best in
     let whole = best_whole tables p c.as_slice-m-items.result.now c.loop-m.m-index best (c.as_slice-m-items.ensures.value ∙ c.captures-captures.ensures.list) (omega arith) c.loop-m.invariant.1 in
-    let stored = ap (λ (s : StoredClasses). stored_class s p) (sym c.loop-m.invariant.0) ∙ c.in-Ok-stored_class.ensures.class in
+    let stored = ap (λ (s : StoredClasses). stored_class s p) (sym (ap g.T.Tables.stored c.loop-m.invariant.0)) ∙ c.in-Ok-stored_class.ensures.class in
     probed_both tables p best c.in-Ok-stored_class.stored c.men.ensures.position whole (sym c.is_win.ensures ∙ c.if-is_win.false) (sym c.has_only_en_passant.ensures ∙ c.if-has_only_en_passant.false) stored
     ∙ ap (λ (k : Class). Some k) (sym c.better.ensures)

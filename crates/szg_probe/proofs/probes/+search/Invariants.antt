@@ -6,4 +6,4 @@ abbrev pub decreases-search : goal.decreases-search
 decreases-search g l = length l.position.now.placed_men
 
 abbrev pub invariant-loop-m : goal.invariant-loop-m
-invariant-loop-m g l = (g.T.Tables.stored l.tables ≡ g.T.Tables.stored l.fn.tables) × BestSoFar (after_in (g.T.Tables.stored l.fn.tables) l.position) (take l.m-index l.m-items) l.best × (g.T.Tables.numbers l.tables ≡ g.T.Tables.numbers l.fn.tables)
+invariant-loop-m g l = (l.tables ≡ l.fn.tables) × BestSoFar (after_in (g.T.Tables.stored l.fn.tables) l.position) (take l.m-index l.m-items) l.best

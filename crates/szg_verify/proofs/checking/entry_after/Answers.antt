@@ -3,13 +3,13 @@ use Rattle.szg_verify.specs.Entries.{tables_of}
 use Rattle.szg_verify.proofs.Kept.{right_after, right_before}
 use Rattle.szg_verify.proofs.checking.entry_after.Goals as goal
 
-pub plain_entry-requires : goal.plain_entry-requires
-plain_entry-requires g c = record {
-  right = right_after (tables_of (g.T.Tables.stored c.args.classes.now) (g.D.DtzTables.distances c.args.distances.now)) c.args.cells.now c.args.position.now c.after-next.result c.args.m
-      c.men.ensures.position c.requires.legal (sym c.is_zeroing.ensures ∙ c.if-not-is_zeroing.true) c.after-next.ensures c.requires.right;
+pub find_entry-requires : goal.find_entry-requires
+find_entry-requires g c = record {
+  right = right_after (tables_of (g.T.Tables.stored c.args.classes.now) (g.D.DtzTables.distances c.args.distances.now)) c.args.cells.now c.args.position.now c.after.result c.args.m
+      c.men.ensures.position c.requires.legal (sym c.is_zeroing.ensures ∙ c.if-not-is_zeroing.true) c.after.ensures c.requires.right;
 }
 
 pub returns-then-not-is_zeroing-clause-right : goal.returns-then-not-is_zeroing-clause-right
 returns-then-not-is_zeroing-clause-right g c =
-    right_before (tables_of (g.T.Tables.stored c.args.classes.now) (g.D.DtzTables.distances c.args.distances.now)) c.plain_entry.new.cells c.args.position.now c.after-next.result c.args.m
-    c.men.ensures.position c.requires.legal (sym c.is_zeroing.ensures ∙ c.if-not-is_zeroing.true) c.after-next.ensures c.plain_entry.ensures.right
+    right_before (tables_of (g.T.Tables.stored c.args.classes.now) (g.D.DtzTables.distances c.args.distances.now)) c.find_entry.new.cells c.args.position.now c.after.result c.args.m
+    c.men.ensures.position c.requires.legal (sym c.is_zeroing.ensures ∙ c.if-not-is_zeroing.true) c.after.ensures c.find_entry.ensures.right

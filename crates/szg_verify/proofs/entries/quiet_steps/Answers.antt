@@ -26,8 +26,8 @@ returns-in-Ok-None-clause-steps g c =
     let distances = g.D.DtzTables.distances c.args.distances.now in
     let before = c.loop-m.invariant in
     let none = entry_carried_at near_after (g.T.Tables.stored c.loop-m.classes) classes (g.D.DtzTables.distances c.loop-m.distances) distances p c.m-item.result c.in-Ok-None.field-0 before.same_classes before.same_distances c.in-Ok-None.ensures.entry in
-    sym (ap (λ (ms : List Move). steps_to (near_after (tables_of classes distances) p) p (quiet p ms)) (sym (c.as_slice-m-items.ensures.value ∙ c.legal_moves-moves.ensures))
-    ∙ quiet_stopped (near_after (tables_of classes distances) p) p c.as_slice-m-items.result.now c.loop-m.m-index c.m-item.result c.loop-m-test.true c.m-item.is (sym c.is_zeroing.ensures ∙ c.if-not-is_zeroing.true) (none ∙ c.in-Ok-None.field-0-is))
+    sym (ap (λ (ms : List Move). steps_to (near_after (tables_of classes distances) p) p (quiet p ms)) (sym c.requires.moves)
+    ∙ quiet_stopped (near_after (tables_of classes distances) p) p c.args.moves.now c.loop-m.m-index c.m-item.result c.loop-m-test.true c.m-item.is (sym c.is_zeroing.ensures ∙ c.if-not-is_zeroing.true) (none ∙ c.in-Ok-None.field-0-is))
 
 pub loop-m-preserved : goal.loop-m-preserved
 loop-m-preserved g c =
@@ -45,7 +45,7 @@ loop-m-preserved g c =
             same_distances = ap g.D.DtzTables.distances w.distances-is ∙ (w.near_after.ensures.same_distances ∙ before.same_distances);
             right = subst (AreRight (kinds_of p.placed_men) (tables_of classes distances)) (sym w.cells-is) (carried (λ (t : StoredTables). AreRight (kinds_of p.placed_men) t w.near_after.new.cells) (g.T.Tables.stored c.loop-m.classes) classes (g.D.DtzTables.distances c.loop-m.distances) distances before.same_classes before.same_distances w.near_after.ensures.right);
             few = let few = before.few in let size = ap length items ∙ length-append c.loop-m.steps.items ((w.in-Ok-Some.entry, false) ∷ []) in omega (arith, few, size);
-            so_far = quiet_pushed entry p c.as_slice-m-items.result.now c.loop-m.m-index c.m-item.result c.loop-m-test.true c.m-item.is c.loop-m.steps.items c.if-not-is_zeroing.steps.items w.in-Ok-Some.entry
+            so_far = quiet_pushed entry p c.args.moves.now c.loop-m.m-index c.m-item.result c.loop-m-test.true c.m-item.is c.loop-m.steps.items c.if-not-is_zeroing.steps.items w.in-Ok-Some.entry
                 (sym c.is_zeroing.ensures ∙ w.if-not-is_zeroing.true) before.so_far (some ∙ w.in-Ok-Some.field-0-is) items;
           })
       | else-not-is_zeroing w ↦ (
@@ -55,7 +55,7 @@ loop-m-preserved g c =
             same_distances = ap g.D.DtzTables.distances w.distances-is ∙ before.same_distances;
             right = subst (AreRight (kinds_of p.placed_men) (tables_of classes distances)) (sym w.cells-is) before.right;
             few = let few = before.few in let size = ap length items in omega (arith, few, size);
-            so_far = quiet_passed entry p c.as_slice-m-items.result.now c.loop-m.m-index c.m-item.result c.loop-m-test.true c.m-item.is c.loop-m.steps.items
+            so_far = quiet_passed entry p c.args.moves.now c.loop-m.m-index c.m-item.result c.loop-m-test.true c.m-item.is c.loop-m.steps.items
                 (sym c.is_zeroing.ensures ∙ w.if-not-is_zeroing.false) before.so_far ∙ ap (λ (ns : List (Step Entry)). Some ns) (sym items);
           })
     ]

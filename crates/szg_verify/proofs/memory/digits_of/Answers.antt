@@ -1,6 +1,6 @@
 use Rattle.std.proofs.Common.{◌-◌, ◌<◌, arith, drop, length}
 use Rattle.szg_verify.specs.Memory.{digits_of}
-use Rattle.szg_verify.proofs.Kept.{digits_step, digits_within}
+use Rattle.szg_verify.proofs.Kept.{digits_within}
 use Rattle.szg_verify.proofs.memory.digits_of.Goals as goal
 
 pub overflow_mul-digits : goal.overflow_mul-digits

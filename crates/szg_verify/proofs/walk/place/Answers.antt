@@ -1,6 +1,5 @@
 use Rattle.std.proofs.Common.{List, ap, arith, sym, ◌++◌, ◌∙◌}
 use Rattle.std.proofs.lemmas.List.{append-nil, drop_all}
-use Rattle.szg_values.specs.Placement.{PlacedMan}
 use Rattle.szg_values.specs.declared.Color.{Color}
 use Rattle.szg_values.specs.declared.Man.{Man}
 use Rattle.szg_chess.specs.Laws.{kinds_of}

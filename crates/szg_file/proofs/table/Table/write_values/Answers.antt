@@ -1,4 +1,4 @@
-use Rattle.std.proofs.Common.{◌≡◌, ℕ, ap, ◌∙◌, sym, length}
+use Rattle.std.proofs.Common.{◌≡◌, ℕ, ap, ◌∙◌, sym}
 use Rattle.szg_values.specs.declared.Kind.{Kind}
 use Rattle.szg_block.specs.Views as block
 use Rattle.szg_block.specs.Subtable.{packed_of, values_over}

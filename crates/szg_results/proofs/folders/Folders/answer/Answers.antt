@@ -1,6 +1,6 @@
-use Rattle.std.proofs.Common.{◌∙◌, Option, subst}
+use Rattle.std.proofs.Common.{◌≡◌, ◌∙◌, Option, subst, sym}
 use Rattle.std.specs.Prelude.{IfSome}
-use Rattle.szg_results.specs.Folders.{IsPieceOf}
+use Rattle.szg_results.specs.Folders.{AreFetched, IsPieceOf, words_of}
 use Rattle.szg_results.specs.declared.pieces.Piece.{Piece}
 use Rattle.szg_results.proofs.Kept.{carried, moved}
 use Rattle.szg_results.proofs.folders.Folders.answer.Goals as goal
@@ -8,11 +8,36 @@ use Rattle.szg_results.proofs.folders.Folders.answer.Goals as goal
 pub pieces-preserved : goal.pieces-preserved
 pieces-preserved g c =
     let files = g.S.FileSystem.content c.args.system.now in let there = g.S.FileSystem.content c.pieces.system in
-    let first = c.args.self.now.tables.items in let old = c.pieces.self.tables.items in let new = c.keep.new.self.tables.items in
-    let piece = subst (λ (o : Option Piece). IfSome o (IsPieceOf there old)) c.in-Some.is c.in_ok-piece.ensures.read in
+    let words = words_of c.pieces.self in let kept = c.answer_over.new.tables.items in let new = c.keep.new.self.tables.items in
+    let same : kept ≡ c.pieces.self.tables.items = c.answer_over.ensures.tables in
+    let piece = subst (λ (o : Option Piece). IfSome o (IsPieceOf there words kept)) c.in-Some.is c.in_ok-piece.ensures.read in
     record {
       words = c.read_ahead.ensures.words ∙ c.keep.ensures.words ∙ c.pieces.invariant.words;
       content = c.read_ahead.ensures.content ∙ c.read_or_lack.ensures.content ∙ c.pieces.invariant.content;
-      fetched = λ all. moved files (g.S.FileSystem.content c.read_or_lack.new.system) new c.read_ahead.new.self.tables.items (c.read_or_lack.ensures.content ∙ c.pieces.invariant.content) c.read_ahead.ensures.fetched
-          (carried files there first old new c.in-Some.piece c.pieces.invariant.content piece c.keep.ensures.fetched c.pieces.invariant.fetched all);
+      fetched = λ all. moved files (g.S.FileSystem.content c.read_or_lack.new.system) (words_of c.keep.new.self) (words_of c.read_ahead.new.self) new c.read_ahead.new.self.tables.items (c.read_or_lack.ensures.content ∙ c.pieces.invariant.content) c.read_ahead.ensures.fetched
+          (carried files there words (words_of c.keep.new.self) kept new c.in-Some.piece c.pieces.invariant.content piece c.keep.ensures.fetched (subst (AreFetched files words) (sym same) (c.pieces.invariant.fetched all)));
     }
+
+pub returns-in_err-keep-clause-fetched : goal.returns-in_err-keep-clause-fetched
+returns-in_err-keep-clause-fetched g c = λ all.
+    let files = g.S.FileSystem.content c.args.system.now in let there = g.S.FileSystem.content c.pieces.system in
+    let words = words_of c.pieces.self in let kept = c.answer_over.new.tables.items in let new = c.keep.new.self.tables.items in
+    let same : kept ≡ c.pieces.self.tables.items = c.answer_over.ensures.tables in
+    let piece = subst (λ (o : Option Piece). IfSome o (IsPieceOf there words kept)) c.in-Some.is c.in_ok-piece.ensures.read in
+    carried files there words (words_of c.keep.new.self) kept new c.in-Some.piece c.pieces.invariant.content piece c.keep.ensures.fetched (subst (AreFetched files words) (sym same) (c.pieces.invariant.fetched all))
+
+pub returns-in-Ok-answer_by_classes-clause-fetched : goal.returns-in-Ok-answer_by_classes-clause-fetched
+returns-in-Ok-answer_by_classes-clause-fetched g c = λ all.
+    let files = g.S.FileSystem.content c.args.system.now in
+    let words = words_of c.pieces.self in let kept = c.answer_over.new.tables.items in
+    let same : kept ≡ c.pieces.self.tables.items = c.answer_over.ensures.tables in
+    moved files (g.S.FileSystem.content c.read_or_lack.new.system) words (words_of c.answer_by_classes.new.self) kept c.answer_by_classes.new.self.tables.items (c.read_or_lack.ensures.content ∙ c.pieces.invariant.content) c.answer_by_classes.ensures.fetched
+    (subst (AreFetched files words) (sym same) (c.pieces.invariant.fetched all))
+
+pub returns-in-Err-clause-fetched : goal.returns-in-Err-clause-fetched
+returns-in-Err-clause-fetched g c = λ all.
+    let files = g.S.FileSystem.content c.args.system.now in
+    let words = words_of c.pieces.self in let kept = c.answer_over.new.tables.items in
+    let same : kept ≡ c.pieces.self.tables.items = c.answer_over.ensures.tables in
+    moved files (g.S.FileSystem.content c.read_or_lack.new.system) words (words_of c.answer_by_classes.new.self) kept c.answer_by_classes.new.self.tables.items (c.read_or_lack.ensures.content ∙ c.pieces.invariant.content) c.answer_by_classes.ensures.fetched
+    (subst (AreFetched files words) (sym same) (c.pieces.invariant.fetched all))

@@ -6,5 +6,5 @@ abbrev pub invariant-pieces : goal.invariant-pieces
 invariant-pieces g l = record {
   words : words_of l.self ≡ words_of l.initial.self;
   content : g.S.FileSystem.content l.system ≡ g.S.FileSystem.content l.initial.system;
-  fetched : AreFetched (g.S.FileSystem.content l.initial.system) l.initial.self.tables.items → AreFetched (g.S.FileSystem.content l.initial.system) l.self.tables.items;
+  fetched : AreFetched (g.S.FileSystem.content l.initial.system) (words_of l.initial.self) l.initial.self.tables.items → AreFetched (g.S.FileSystem.content l.initial.system) (words_of l.self) l.self.tables.items;
 }

@@ -1,4 +1,4 @@
-use Rattle.std.proofs.Common.{ℤ, Some, ◌∙◌, rules, SFits, subst, sym, w64}
+use Rattle.std.proofs.Common.{ℤ, Some, rules, SFits, subst, sym, w64}
 use Rattle.std.proofs.lemmas.Int.{to_z-of_z}
 use Rattle.szg_results.specs.Folders.{words_of}
 use Rattle.szg_results.specs.Objects.{IsDtz}
@@ -11,5 +11,4 @@ returns-in-Ok-clause-dtz g c =
     let tables = c.args.self.now.tables.items in
     let fits : SFits w64 c.signed.result = search rules in
     subst (λ (n : ℤ). IsDtz files (words_of c.args.self.now) tables c.args.position.now (Some n)) (sym (to_z-of_z w64 c.signed.result fits))
-    (dtz_is files (words_of c.args.self.now) c.new-set.result.tables.now tables c.args.position.now c.in-Ok.distance.class c.in-Ok.distance.plies c.signed.result (c.new-set.ensures ∙ c.deref.ensures.value)
-    c.in-Ok.ensures.distance c.signed.ensures)
+    (dtz_is files (words_of c.args.self.now) tables c.args.position.now c.in-Ok.distance.class c.in-Ok.distance.plies c.signed.result c.in-Ok.ensures.distance c.signed.ensures)

@@ -29,10 +29,15 @@ moves-preserved g c =
     let Legal = λ (r : RankedMove). Contains (legal_moves p) r.m in
     let legal : Legal c.ranked-item.result = subst Legal (sym c.ranked-item.is) (c.requires c.moves.ranked-index c.ranked-item.result c.moves-test.true) in
     let IsAfter = λ (t : MoveAfter). IsDtz files words tables (after p t.ranked.m) t.dtz in
-    let found = subst (λ (f : OrPiece (Option ℤ)). IfFound f (λ (dtz : Option ℤ). IsDtz (g.S.FileSystem.content c.moves.system) words tables c.after.result dtz)) c.in-Found.is c.in_ok-dtz.ensures.dtz in
-    let dtz : IsAfter s = same_dtz files (g.S.FileSystem.content c.moves.system) words tables (after p c.ranked-item.result.m) c.in-Found.dtz c.moves.invariant.content
-    (subst (λ (q : Position). IsDtz (g.S.FileSystem.content c.moves.system) words tables q c.in-Found.dtz) c.after.ensures found) in
+    let there = g.S.FileSystem.content c.moves.system in
+    let words-there = words_of c.moves.self in
+    let tables-there = c.moves.self.tables.items in
+    let found = subst (λ (f : OrPiece (Option ℤ)). IfFound f (λ (dtz : Option ℤ). IsDtz there words-there tables-there c.after.result dtz)) c.in-Found.is c.in_ok-dtz.ensures.dtz in
+    let dtz : IsAfter s = same_dtz files there words words-there tables tables-there (after p c.ranked-item.result.m) c.in-Found.dtz c.moves.invariant.content c.moves.invariant.words c.moves.invariant.tables
+    (subst (λ (q : Position). IsDtz there words-there tables-there q c.in-Found.dtz) c.after.ensures found) in
     record {
+      words = c.dtz.ensures.words ∙ c.moves.invariant.words;
+      tables = c.dtz.ensures.tables ∙ c.moves.invariant.tables;
       content = c.in_ok-dtz.ensures.content ∙ c.moves.invariant.content;
       same = ap (map (λ (t : MoveAfter). t.ranked)) pushed ∙ more_moves c.args.moves.now c.moves.ranked-index c.ranked-item.result before s c.moves-test.true c.moves.invariant.same c.ranked-item.is;
       legal = subst (All (λ (t : MoveAfter). Legal t.ranked)) (sym pushed) (All-push (λ (t : MoveAfter). Legal t.ranked) before s c.moves.invariant.legal legal);
@@ -41,4 +46,5 @@ moves-preserved g c =
 
 pub returns-in-Read-clause-read : goal.returns-in-Read-clause-read
 returns-in-Read-clause-read g c =
-    piece_is {A = Option ℤ} (g.S.FileSystem.content c.args.system.now) (g.S.FileSystem.content c.moves.system) c.args.self.now.tables.items _ c.in-Read.piece c.moves.invariant.content c.in-Read.is c.in_ok-dtz.ensures.read
+    piece_is {A = Option ℤ} (g.S.FileSystem.content c.args.system.now) (g.S.FileSystem.content c.moves.system) (words_of c.args.self.now) (words_of c.moves.self) c.args.self.now.tables.items c.moves.self.tables.items _ c.in-Read.piece
+    c.moves.invariant.content c.moves.invariant.words c.moves.invariant.tables c.in-Read.is c.in_ok-dtz.ensures.read

@@ -6,10 +6,10 @@ use Rattle.szg_results.proofs.wanted.NotingDistanceTables.number.Goals as goal
 
 pub returns-in-Ok-clause-number : goal.returns-in-Ok-clause-number
 returns-in-Ok-clause-number c =
-    known {A = Option ℕ} (λ (ts : List FetchedTable). fetched_numbers ts c.args.position.now.placed_men c.args.position.now.mover c.args.class) (Some 0) c.new-set.result.tables.now c.args.self.now.tables.now c.new-set.ensures
+    known {A = Option ℕ} (λ (ts : List FetchedTable). fetched_numbers ts c.args.position.now.placed_men c.args.position.now.mover c.args.class) (Some 0) c.self.inside.tables c.args.self.now c.self.view_is
     c.in-Ok.number c.in-Ok.ensures.number
 
 pub returns-in-Ok-note-clause-number : goal.returns-in-Ok-note-clause-number
 returns-in-Ok-note-clause-number c =
-    unknown {A = Option ℕ} (λ (ts : List FetchedTable). fetched_numbers ts c.args.position.now.placed_men c.args.position.now.mover c.args.class) (Some 0) c.new-set.result.tables.now c.args.self.now.tables.now c.new-set.ensures
+    unknown {A = Option ℕ} (λ (ts : List FetchedTable). fetched_numbers ts c.args.position.now.placed_men c.args.position.now.mover c.args.class) (Some 0) c.self.inside.tables c.args.self.now c.self.view_is
     c.in-Err.ensures.none

@@ -10,4 +10,4 @@ returns-in-Ok-distance_in-clause-distance c =
     let board = c.in-Some.placement in
     let kept : is_left_out men mover ≡ false = sym c.is_left_out.ensures ∙ c.if-is_left_out.false in
     let is = placed_is men mover c.placement.result board c.placement.ensures.placed (kept_is_many men mover kept) c.in-Some.is in
-    distance_by_table c.args.self.now.tables.now men mover board is c.args.class c.in-Ok.table.now c.in-Ok-distance_in.distance kept c.in-Ok.ensures.found c.in-Ok-distance_in.ensures
+    distance_by_table c.args.self.now men mover board is c.args.class c.in-Ok.table c.in-Ok-distance_in.distance kept c.in-Ok.ensures.found c.in-Ok-distance_in.ensures

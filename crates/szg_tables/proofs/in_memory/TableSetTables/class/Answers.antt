@@ -7,7 +7,7 @@ pub returns-in-Err-clause-fault : goal.returns-in-Err-clause-fault
 returns-in-Err-clause-fault c =
     let men = c.args.position.now.placed_men in
     let mover = c.args.position.now.mover in
-    let tables = c.args.self.now.tables.now in
+    let tables = c.args.self.now in
     let board = c.in-Some.placement in
     let is = placed_is men mover c.placement.result board c.placement.ensures.placed c.requires c.in-Some.is in
     lacks Wdl c.in-Err.missing.kind (stored_classes tables) (stored_numbers tables) men mover c.in-Err.ensures.missing (no_class tables men mover board is c.in-Err.ensures.none)
@@ -16,16 +16,16 @@ pub returns-in-Ok-class_in-clause-class : goal.returns-in-Ok-class_in-clause-cla
 returns-in-Ok-class_in-clause-class c =
     let men = c.args.position.now.placed_men in
     let mover = c.args.position.now.mover in
-    let tables = c.args.self.now.tables.now in
+    let tables = c.args.self.now in
     let board = c.in-Some.placement in
     let is = placed_is men mover c.placement.result board c.placement.ensures.placed c.requires c.in-Some.is in
-    class_by tables men mover board is c.in-Ok.table.now _ c.in-Ok.ensures.found c.in-Ok-class_in.ensures.class
+    class_by tables men mover board is c.in-Ok.table _ c.in-Ok.ensures.found c.in-Ok-class_in.ensures.class
 
 pub returns-in-Err-class_in-clause-fault : goal.returns-in-Err-class_in-clause-fault
 returns-in-Err-class_in-clause-fault c =
     let men = c.args.position.now.placed_men in
     let mover = c.args.position.now.mover in
-    let tables = c.args.self.now.tables.now in
+    let tables = c.args.self.now in
     let board = c.in-Some.placement in
     let is = placed_is men mover c.placement.result board c.placement.ensures.placed c.requires c.in-Some.is in
-    class_by tables men mover board is c.in-Ok.table.now _ c.in-Ok.ensures.found c.in-Err-class_in.ensures.none
+    class_by tables men mover board is c.in-Ok.table _ c.in-Ok.ensures.found c.in-Err-class_in.ensures.none

@@ -1,0 +1,389 @@
+//! Copies of tables into a folder: `szg copy [--sums LIST].. FILE.. FOLDER`.
+ghost use Rattle.std.specs.Prelude.{◌≡◌, ℕ, List, IfOk};
+ghost use Rattle.sha2.specs.Sha256.{sha256};
+ghost use Rattle.szg_files.specs.Draft.{draft_target, published_target, published_text, text_of};
+ghost use Rattle.szg_io.specs.Moved.{Gives};
+ghost use Rattle.szg_commands.specs.Copies.{IsCopied};
+
+use crate::command_line::CommandForm;
+use crate::commands::words_outcome;
+use crate::on_files::{Ending, FileFailure, LineKind, given, unchecked, unread_list};
+use crate::request::usage_error;
+use crate::verification::{after_command, value_of};
+use std::alloc::{AllocError, Global};
+use std::fs::Metadata;
+use std::io::{Error, ErrorKind};
+use std::path::Path;
+use std::rt::Files;
+use szg_file::Ahead;
+use szg_files::{Draft, FileFault, FileSystem, Lock, Published, Reasons, is_folder};
+use szg_io::{Input, Output, give_whole, take_whole};
+use szg_named::{
+    CheckCounts, CheckOptions, CheckReport, CheckStop, Due, FileVerdict, check_path, due_of,
+    named_by, read_lists, summary_line, verdict_line,
+};
+use szg_sums::{Hasher, Sha256, Sums, sha256_of};
+
+/// What a command line asks to copy.
+#[derive(Drop)]
+pub struct CopyWords<'a> {
+    /// The lists of sums.
+    lists: Vec<&'a str>,
+    /// The tables' files, and then the folder.
+    words: Vec<&'a str>,
+}
+
+impl CopyWords<'_> {
+    /// Whether the words are tables' files, and then one that isn't named as one.
+    fn are_copies(&self) -> bool {
+        match self.words.split_last() {
+            Some((folder, files)) => {
+                !files.is_empty()
+                    && named_by(folder).is_none()
+                    && files.iter().all(|file| named_by(file).is_some())
+            }
+            None => false,
+        }
+    }
+}
+
+/// Returns what a command line asks to copy: its command is `copy`, and after it come tables' files and a folder, with
+/// `--sums` anywhere up to `--`. None for other words.
+pub(crate) fn copies_of<'a>(
+    alloc: Global,
+    words: &'a [&'a str],
+) -> Result<Option<CopyWords<'a>>, AllocError> {
+    let Some(mut rest) = after_command(words, "copy") else {
+        return Ok(None);
+    };
+    let mut found = CopyWords {
+        lists: Vec::new(alloc),
+        words: Vec::new(alloc),
+    };
+    let mut has_options = true;
+    'words: for _ in 0..words.len() {
+        let Some((word, after)) = rest.split_first() else {
+            break;
+        };
+        rest = after;
+        if has_options && *word == "--" {
+            has_options = false;
+        } else if has_options && word.starts_with('-') {
+            let Some((list, after)) = value_of("--sums", word, rest) else {
+                return Ok(None);
+            };
+            found.lists.push(list)?;
+            rest = after;
+        } else {
+            found.words.push(word)?;
+        }
+    }
+    Ok(if found.are_copies() {
+        Some(found)
+    } else {
+        None
+    })
+}
+
+/// A file that was checked.
+#[derive(Drop)]
+pub struct Copied<'a> {
+    /// The path that the verdict is of: the file's, or that of a copy that could not be written.
+    path: &'a str,
+    verdict: FileVerdict,
+    /// Its copy, if it passed.
+    copy: Option<Published<'a>>,
+}
+
+/// Why bytes were not copied.
+#[derive(Clone, Copy)]
+enum CopyFault {
+    /// The input failed.
+    Input,
+    /// The output failed.
+    Output,
+}
+
+/// Copies what an input has left to an output, and returns its SHA-256 digest.
+fn copy_bytes<I: Input, W: Output>(input: &mut I, output: &mut W) -> Result<[u8; 32], CopyFault>
+    ensures { IfOk result (λ digest. (text : List ℕ) × Gives W.Output output.old output.new text 0 × (digest ≡ sha256 text)) }
+{
+    let mut hasher: Sha256 = Hasher::empty();
+    let mut chunk = [0; 16384];
+    'chunks: for _ in 0..u64::MAX {
+        let Ok(count) = take_whole(input, &mut chunk) else {
+            return Err(CopyFault::Input);
+        };
+        let bytes = &chunk[..count];
+        hasher.feed(bytes);
+        if give_whole(output, bytes).is_err() {
+            return Err(CopyFault::Output);
+        }
+        if count < chunk.len() {
+            return Ok(sha256_of(hasher));
+        }
+    }
+    Err(CopyFault::Input)
+}
+
+/// A file's system's reason, or that of another failure.
+fn reason_of(error: Option<Error>) -> FileFault {
+    match error {
+        Some(error) => FileFault::System(error),
+        None => FileFault::System(ErrorKind::Other.into()),
+    }
+}
+
+/// Copies the file at `path`, which was checked and has this digest, to `target`: with its mode and time of last change,
+/// whole or not at all.
+///
+/// Errors: the file or the target fails, or the file has changed and has another digest.
+fn copy_checked<'a, S: FileSystem, R: Files>(
+    alloc: Global,
+    system: &mut S,
+    files: &'a R,
+    path: &'a str,
+    digest: &[u8; 32],
+    target: &'a str,
+) -> Result<Published<'a>, FileFailure<'a>>
+where
+    R::File: Lock,
+    ensures digest { IfOk result (λ copy. sha256 (published_text copy) ≡ digest.now) }
+    ensures target { IfOk result (λ copy. published_target copy ≡ target.now) }
+{
+    let (like, mut file) = match opened(system, files, path) {
+        Ok(opened) => opened,
+        Err(fault) => return Err(FileFailure { path, fault }),
+    };
+    let mut draft = match Draft::create(alloc, files, target) {
+        Ok(draft) => draft,
+        Err(fault) => {
+            return Err(FileFailure {
+                path: target,
+                fault,
+            });
+        }
+    };
+    match copy_bytes(&mut file, &mut draft.file) {
+        Ok(found) if found == *digest => match published_like(draft, &like) {
+            Ok(copy) => Ok(copy),
+            Err(fault) => Err(FileFailure {
+                path: target,
+                fault,
+            }),
+        },
+        Ok(_) => {
+            draft.discard();
+            let fault = FileFault::System(ErrorKind::InvalidData.into());
+            Err(FileFailure { path, fault })
+        }
+        Err(CopyFault::Input) => {
+            draft.discard();
+            let fault = reason_of(file.reason());
+            Err(FileFailure { path, fault })
+        }
+        Err(CopyFault::Output) => {
+            let fault = match draft.abandon() {
+                Some(fault) => fault,
+                None => reason_of(None),
+            };
+            Err(FileFailure {
+                path: target,
+                fault,
+            })
+        }
+    }
+}
+
+/// Opens the file at a path, after its mode and time.
+fn opened<S: FileSystem, R: Files>(
+    system: &mut S,
+    files: &R,
+    path: &str,
+) -> Result<(Metadata, S::File), FileFault> {
+    let like = files.metadata(path)?;
+    Ok((like, system.open(path)?))
+}
+
+/// Makes a draft like another file, flushes it to the disk, and renames it over its target.
+fn published_like<'a, R: Files>(
+    draft: Draft<'a, R>,
+    like: &Metadata,
+) -> Result<Published<'a>, FileFault>
+    ensures text { IfOk result (λ copy. published_text copy ≡ text_of draft.entry.file) }
+    ensures target { IfOk result (λ copy. published_target copy ≡ draft_target draft.entry) }
+{
+    draft.seal(Some(like))?.publish()
+}
+
+/// Checks the file at a path and its digest, and copies it to `target` if it passes. Errors: `Memory`.
+fn copy_file<'a, S: FileSystem, R: Files>(
+    alloc: Global,
+    system: &mut S,
+    files: &'a R,
+    path: &'a str,
+    due: Due,
+    target: &'a str,
+) -> Result<Copied<'a>, CheckStop>
+where
+    S::File: Ahead,
+    R::File: Lock,
+    ensures copied { IfOk result (λ copied. IsCopied S.content S.failures S.File.Input due path.now target.now system.old copied) }
+{
+    let naming = CheckOptions::plain().naming;
+    let found = check_path(alloc, system, naming, path, due, true)?;
+    let (FileVerdict::Whole(_), Some(digest)) = (found.verdict, found.digest) else {
+        return Ok(Copied {
+            path,
+            verdict: found.verdict,
+            copy: None,
+        });
+    };
+    match copy_checked(alloc, system, files, path, &digest, target) {
+        Ok(copy) => Ok(Copied {
+            path,
+            verdict: found.verdict,
+            copy: Some(copy),
+        }),
+        Err(
+            FileFailure {
+                fault: FileFault::Memory,
+                ..
+            },
+        ) => Err(CheckStop::Memory),
+        Err(FileFailure { path, fault }) => Ok(Copied {
+            path,
+            verdict: FileVerdict::Unopened(fault),
+            copy: None,
+        }),
+    }
+}
+
+/// Returns the path of a file's copy in a folder.
+fn path_in(alloc: Global, folder: &str, path: &str) -> Result<String, AllocError> {
+    let name = Path::new(path).file_name().unwrap_or("");
+    format!(in alloc; "{folder}/{name}")
+}
+
+/// Returns the line of a file that was checked, and copied if it passed, and its verdict. Errors: `Memory`.
+fn copy_to<S: FileSystem, R: Files>(
+    alloc: Global,
+    system: &mut S,
+    files: &R,
+    path: &str,
+    due: Due,
+    folder: &str,
+) -> Result<(Vec<u8>, FileVerdict), CheckStop>
+where
+    S::File: Ahead,
+    R::File: Lock,
+{
+    let target = path_in(alloc, folder, path)?;
+    let copied = copy_file(alloc, system, files, path, due, target.as_str())?;
+    let line = verdict_line(alloc, copied.path, &copied.verdict, false)?;
+    Ok((line, copied.verdict))
+}
+
+/// Copies files into a folder; writes a line of each, and a summary.
+///
+/// Errors: `Device` if the writer failed, `Memory` if an allocation was refused.
+fn copy_files<S: FileSystem, R: Files, W: Output>(
+    alloc: Global,
+    system: &mut S,
+    files: &R,
+    sums: Option<&Sums>,
+    paths: &[&str],
+    folder: &str,
+    writer: &mut W,
+) -> Result<CheckReport, CheckStop>
+where
+    S::File: Ahead,
+    R::File: Lock,
+{
+    let mut counts = CheckCounts {
+        good: 0,
+        refused: 0,
+        unread: 0,
+        kept: 0,
+        skipped: 0,
+    };
+    'paths: for path in paths {
+        let due = due_of(alloc, sums, path)?;
+        let (line, verdict) = copy_to(alloc, system, files, path, due, folder)?;
+        if give_whole(writer, &line).is_err() {
+            return Err(CheckStop::Device);
+        }
+        counts = counts.with(&verdict, false);
+    }
+    let end = summary_line(alloc, &counts)?;
+    if give_whole(writer, end.as_bytes()).is_err() {
+        return Err(CheckStop::Device);
+    }
+    Ok(CheckReport {
+        counts,
+        manifest: Vec::new(alloc),
+    })
+}
+
+/// Returns the first file whose name an earlier one has: its copy would replace the other's.
+fn same_name<'a>(paths: &[&'a str]) -> Option<&'a str> {
+    'paths: for (number, path) in paths.iter().enumerate() {
+        let name = Path::new(path).file_name();
+        if paths
+            .iter()
+            .take(number)
+            .any(|other| Path::new(other).file_name() == name)
+        {
+            return Some(path);
+        }
+    }
+    None
+}
+
+/// Creates the error of a file whose name an earlier one has.
+fn same_name_error(alloc: Global, path: &str) -> Result<clap::Error, AllocError> {
+    let message = format!(in alloc; "another file has the name of '{path}'")?;
+    usage_error(
+        alloc,
+        "copy",
+        CommandForm::Files,
+        clap::error::ErrorKind::ArgumentConflict,
+        message.as_str(),
+    )
+}
+
+/// Copies what a command line asks for: each table that passes its check, and the comparison with lists of sums if there are
+/// any, goes into the folder.
+pub(crate) fn run_copies<'a, S: FileSystem, R: Files, W: Output>(
+    alloc: Global,
+    system: &mut S,
+    files: &R,
+    asked: &CopyWords<'a>,
+    writer: &mut W,
+) -> Ending<'a>
+where
+    S::File: Ahead,
+    R::File: Lock,
+{
+    let Some((folder, paths)) = asked.words.split_last() else {
+        return Ending::Memory;
+    };
+    let folder: &'a str = folder;
+    match is_folder(files, folder) {
+        Ok(true) => {}
+        Ok(false) => return unchecked(folder, FileFault::System(ErrorKind::NotADirectory.into())),
+        Err(fault) => return unchecked(folder, fault),
+    }
+    if let Some(path) = same_name(paths) {
+        return match same_name_error(alloc, path) {
+            Ok(error) => Ending::Words(words_outcome(error)),
+            Err(_) => Ending::Memory,
+        };
+    }
+    let mut sums = Sums::new(alloc);
+    if let Err(failure) = read_lists(alloc, files, &asked.lists, &mut sums) {
+        return unread_list(failure, LineKind::Sum);
+    }
+    let sums = given(&asked.lists, &sums);
+    Ending::Checked(copy_files(alloc, system, files, sums, paths, folder, writer))
+}
