@@ -62,3 +62,16 @@ fn a_bad_block_is_refused_each_time(rt: HostRuntime) {
         assert!(rt; found(&rt, &mut set, LATE).is_ok());
     }
 }
+
+/// Block 121, which has 256 values from 30976 on, is named, and not the first one.
+#[test]
+fn a_later_bad_block_is_named(rt: HostRuntime) {
+    let good = made(&rt, szg_fixtures::kqvk_wdl_unpaired(rt.alloc()));
+    let file = made(
+        &rt,
+        good.changed(rt.alloc(), &[(280, 0), (281, 1), (36, 0x9b)]),
+    );
+    let mut set = set_of(&rt, &file);
+    assert!(rt; found(&rt, &mut set, LATE) == Err((121, 320 + 121 * 32)));
+    assert!(rt; found(&rt, &mut set, ODD) == Ok(Class::Win));
+}

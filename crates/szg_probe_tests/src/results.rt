@@ -250,6 +250,67 @@ fn a_damaged_block(rt: HostRuntime) {
     }
 }
 
+/// The block of the DTZ table that has the position's number is damaged: it has a value more than its bytes.
+#[test]
+fn a_damaged_block_of_distances(rt: HostRuntime) {
+    let wdl = made(&rt, kqvk_wdl_true_but_for_ends(rt.alloc()));
+    let file = made(&rt, kqvk_dtz_packed(rt.alloc()));
+    let table = table_in(&rt, &file);
+    let Some(placement) = position(&rt, MATE_IN_ONE).placement() else {
+        panic!(rt; "no placement")
+    };
+    let block = made(&rt, index_of(&table, &placement)).index / 256;
+    let offset = block.saturating_mul(32).saturating_add(320);
+    let length = block.saturating_mul(2).saturating_add(34) as usize;
+    let changes = [(length, 0), (length.saturating_add(1), 1), (32, 0x9b)];
+    let damaged = made(&rt, file.changed(rt.alloc(), &changes));
+    let files = [at("t/KQvK.rtbw", &wdl), at("t/KQvK.rtbz", &damaged)];
+    let text = found(&rt, &files, &["t"], Form::Line, MATE_IN_ONE);
+    let due = made(
+        &rt,
+        format!(in rt.alloc(); "refused block {block} of KQvK dtz at {offset}"),
+    );
+    assert_eq!(rt; text.as_str(), due.as_str());
+}
+
+/// White's values are 5, which is no class; White and Black win, so that no move of Black's keeps a win.
+#[test]
+fn tables_without_an_answer(rt: HostRuntime) {
+    let good = made(&rt, kqvk_wdl_true_but_for_ends(rt.alloc()));
+    let dtz = made(&rt, kqvk_dtz_packed(rt.alloc()));
+    let black = "8/8/8/3k4/8/8/1Q6/K7 b - - 0 1";
+    for (change, fen, due) in [
+        ((11, 5), MATE_IN_ONE, "refused value in KQvK wdl"),
+        ((13, 4), black, "refused contradiction"),
+    ] {
+        let wdl = made(&rt, good.changed(rt.alloc(), &[change]));
+        let files = [at("t/KQvK.rtbw", &wdl), at("t/KQvK.rtbz", &dtz)];
+        for form in [Form::Line, Form::Lines, Form::Object] {
+            check_cases(&rt, &files, &[(fen, form, due)]);
+        }
+    }
+}
+
+/// A refusal is the same in each form, and the first folder that has a table counts.
+#[test]
+fn the_first_folder_counts(rt: HostRuntime) {
+    let good = made(&rt, kqvk_wdl_true_but_for_ends(rt.alloc()));
+    let mut cut = made(&rt, kqvk_wdl_true_but_for_ends(rt.alloc()));
+    cut.bytes.truncate(10);
+    let files = [at("t/KQvK.rtbw", &good), at("u/KQvK.rtbw", &cut)];
+    for (words, due) in [
+        (["t", "u"], "8/8/8/3Q4/3k4/8/8/K7 b - - 0 1\t0\t-\td4d5\n"),
+        (["u", "t"], "refused table KQvK wdl at 10: Truncated"),
+    ] {
+        let text = found(&rt, &files, &words, Form::Line, QUEEN_LOST);
+        assert_eq!(rt; text.as_str(), due);
+    }
+    for form in [Form::Line, Form::Lines, Form::Object] {
+        let text = found(&rt, &files, &["t"], form, "9/8/8/8/8/8/8/8 w - -");
+        assert_eq!(rt; text.as_str(), "refused fen: Letter");
+    }
+}
+
 /// A file that ends within its front, or before its blocks do.
 #[test]
 fn a_file_that_ends_early(rt: HostRuntime) {

@@ -116,13 +116,13 @@ fn what_a_log_has_is_passed_over(rt: HostRuntime) -> Result<(), Fail> {
     Ok(())
 }
 
-// Lines that are no record of it: another material, a shard alone or none, other words.
+// Lines that are no record of it: another material, whose name may begin with this one's, a shard alone or none, other words.
 #[test]
 fn what_a_log_lacks_is_checked(rt: HostRuntime) -> Result<(), Fail> {
     let file = fixtures::knvk_wdl_constant(rt.alloc())?;
     let text = format!(in rt.alloc(); "{VERIFIED}all verified: materials 1, positions 107360\n")?;
     let log =
-        "KBvK verified positions 7 sha256 D\nKNvK shard 1/2 verified positions 7 sha256 D\nKNvK shard 2/3 verified positions 7 sha256 D\nKNvK shard 0/0 verified positions 7 sha256 D\nKNvK refused verified positions 7 sha256 D\nKNvK verified positions seven sha256 D\nKNvK verified positions 7 sha256 DD\n".replace(
+        "KBvK verified positions 7 sha256 D\nKNvKN verified positions 7 sha256 D\nKNvK shard 1/2 verified positions 7 sha256 D\nKNvK shard 2/3 verified positions 7 sha256 D\nKNvK shard 0/0 verified positions 7 sha256 D\nKNvK refused verified positions 7 sha256 D\nKNvK verified positions seven sha256 D\nKNvK verified positions 7 sha256 DD\n".replace(
             rt.alloc(),
             "D",
             DIGEST,
