@@ -1,5 +1,5 @@
-/* What the benches call of Fathom: the look-up in one table, without the captures and moves of its public calls. Debian's
- * libfathom 1.0+git.20190811 exports it; its header doesn't have it. */
+/* What the benches call of Fathom: its probes of positions, and the look-up in one table, without the captures and moves of its
+ * public calls. Debian's libfathom 1.0+git.20190811 exports the latter; its header doesn't have it. */
 #ifndef BENCH_FATHOM_H
 #define BENCH_FATHOM_H
 #include "szg.h"
@@ -23,5 +23,13 @@ static inline fathom_position fathom_of(const szg_man *men, int count, uint8_t m
         *kinds[men[i].kind] |= 1ull << men[i].square;
     }
     return p;
+}
+
+/* The class of a position plus 2, and the result at the root, with those of all moves. */
+static inline unsigned fathom_wdl(const fathom_position *p) {
+    return tb_probe_wdl(p->white, p->black, p->kings, p->queens, p->rooks, p->bishops, p->knights, p->pawns, 0, 0, 0, p->turn);
+}
+static inline unsigned fathom_root(const fathom_position *p, unsigned *results) {
+    return tb_probe_root(p->white, p->black, p->kings, p->queens, p->rooks, p->bishops, p->knights, p->pawns, 0, 0, 0, p->turn, results);
 }
 #endif

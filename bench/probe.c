@@ -1,17 +1,16 @@
 /* Times whole probes, from a placement to its class or number, by the C library and by Fathom, on the same files and the
  * same random placements: probe FOLDER NAME [PLAN]. Neither side looks at captures or moves. Without Fathom (FATHOM is not
  * defined) the C library is timed alone. Each line has the least processor time of several rounds. */
-#include "bench.h"
-#include "szg.h"
+#include "placements.h"
 #ifdef FATHOM
 #include "fathom.h"
 #endif
 
-enum { PLACEMENTS = 1 << 16, ROUNDS = 15, MOST_MEN = 6 };
+enum { PLACEMENTS = 1 << 16, ROUNDS = 15 };
 
 /* A placement with the class and the number that the C library gives. */
 struct placement {
-    szg_man men[MOST_MEN];
+    szg_man men[SZG_MAX_MEN];
     uint8_t mover;
     int8_t wdl;
     int64_t number;
@@ -40,41 +39,14 @@ static void open_table(const char *folder, const char *name, bool dtz, struct op
         fail(path);
 }
 
-static bool kings_touch(const struct placement *p) {
-    int kings[2], found = 0;
-    for (int i = 0; i < men_count; i++)
-        if (p->men[i].kind == SZG_KING) kings[found++] = p->men[i].square;
-    return abs(kings[0] % 8 - kings[1] % 8) <= 1 && abs(kings[0] / 8 - kings[1] / 8) <= 1;
-}
-
-static void draw_placement(const char *name, struct placement *p, uint64_t *state) {
-    do {
-        uint64_t used = 0;
-        uint8_t is_flipped = draw(state) & 1, color = SZG_WHITE;
-        men_count = 0;
-        for (const char *letter = name; *letter; letter++) {
-            if (*letter == 'v') {
-                color = SZG_BLACK;
-                continue;
-            }
-            uint8_t kind = (uint8_t)(strchr(" PNBRQK", *letter) - " PNBRQK"), square;
-            do
-                square = (uint8_t)(kind == SZG_PAWN ? 8 + draw(state) % 48 : draw(state) % 64);
-            while (used >> square & 1);
-            used |= 1ull << square;
-            p->men[men_count++] = (szg_man){kind, color ^ is_flipped, square};
-        }
-        p->mover = draw(state) & 1;
-    } while (kings_touch(p));
-}
-
 /* Draws the placements of both lists: for DTZ those of the stored side that have a number. */
 static void draw_placements(const char *name) {
     uint64_t state = 1;
     for (int i = 0, wdl = 0, dtz = 0; wdl < PLACEMENTS || dtz < PLACEMENTS; i++) {
         struct placement p = {.number = 0};
         int64_t class_of_position = 0;
-        draw_placement(name, &p, &state);
+        men_count = draw_men(name, p.men, &state);
+        p.mover = draw(&state) & 1;
         if (i == 100 * PLACEMENTS || szg_probe(&wdl_table.table, p.men, (size_t)men_count, p.mover, 0, &class_of_position) != SZG_DONE)
             fail("the table has too few of these placements");
         p.wdl = (int8_t)class_of_position;

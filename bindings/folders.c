@@ -27,6 +27,7 @@ struct opened {
     _Atomic size_t handles;   /* the number of handles */
     pthread_mutex_t lock;     /* for all below but `paths` */
     unsigned long count;      /* the number of tables that were added */
+    uint8_t most_bits;        /* the greatest span bits of a table */
     szg_tablebase tablebase;  /* all of them */
     struct mapping *mappings;
     char *path;               /* room for that of a file */
@@ -84,6 +85,26 @@ static void unmap_file(struct mapping *mapping)
     free(mapping);
 }
 
+/* Adds the table of a file, unless its span bits exceed those that are wanted. */
+static uint32_t add_file(struct opened *opened, const szg_missing *missing, const uint8_t *bytes, size_t length, szg_answer *answer)
+{
+    size_t name_length = strlen(missing->name);
+    if (opened->most_bits < UINT8_MAX) {
+        szg_front front = SZG_NO_FRONT;
+        uint8_t bits = 0;
+        uint32_t status = szg_open_front(missing->name, name_length, missing->dtz, bytes, length, &front, answer);
+        szg_front_span(&front, &bits);
+        szg_close_front(&front);
+        if (status != SZG_DONE)
+            return status;
+        if (bits > opened->most_bits) {
+            *answer = (szg_answer){0, SZG_SPAN_BITS};
+            return SZG_REFUSED;
+        }
+    }
+    return szg_tablebase_add(&opened->tablebase, missing->name, name_length, missing->dtz, bytes, length, answer);
+}
+
 /* Finds, maps and adds the file of a table, under the lock. */
 static uint32_t add_table(struct opened *opened, szg_missing *missing)
 {
@@ -98,8 +119,7 @@ static uint32_t add_table(struct opened *opened, szg_missing *missing)
         return SZG_MISSING;
     }
     szg_answer answer = {0, 0};
-    uint32_t status = szg_tablebase_add(&opened->tablebase, missing->name, strlen(missing->name), missing->dtz,
-                                        mapping->bytes == NULL ? &nothing : mapping->bytes, mapping->length, &answer);
+    uint32_t status = add_file(opened, missing, mapping->bytes == NULL ? &nothing : mapping->bytes, mapping->length, &answer);
     if (status != SZG_DONE) {
         missing->block = answer.reason;
         missing->offset = answer.place;
@@ -149,8 +169,16 @@ uint32_t szg_open_folders(const char *paths, szg_folders **folders)
     opened->path = opened->paths + length;
     memcpy(opened->paths, paths, length);
     opened->handles = 1;
+    opened->most_bits = UINT8_MAX;
     *folders = handle;
     return SZG_DONE;
+}
+
+void szg_limit_folders(szg_folders *folders, uint8_t bits)
+{
+    pthread_mutex_lock(&folders->opened->lock);
+    folders->opened->most_bits = bits;
+    pthread_mutex_unlock(&folders->opened->lock);
 }
 
 uint32_t szg_share_folders(szg_folders *folders, szg_folders **second)

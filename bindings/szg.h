@@ -274,6 +274,12 @@ uint32_t szg_share_front(szg_front *front, szg_front *second);
 /* The number of positions of a part's side. With another status than SZG_DONE *size stays. */
 uint32_t szg_front_size(szg_front *front, uint8_t part, uint8_t side, uint64_t *size);
 
+/* The greatest span bits of the table's subtables, as `szg show` prints them: 1 to 31, or 0 if all are constant. To find its block
+ * a look-up adds at most 2^(*bits - 1) + 65535 lengths of blocks: in a crafted table of one-value blocks that may take 16 to 55 ms.
+ * A caller that must not wait so long opens a front first, and opens or adds no table whose bits exceed a bound. With another
+ * status than SZG_DONE *bits stays. */
+uint32_t szg_front_span(szg_front *front, uint8_t *bits);
+
 /* The stored value at an index of a part's side: see szg_get. `bytes` are those of the file that szg_open_front was given.
  * SZG_BAD_BLOCK: the block that has the value doesn't decode, and *bad names it. SZG_CHANGED: this block ends after these
  * bytes. With another status than SZG_DONE *value stays, with another than SZG_BAD_BLOCK *bad stays. */
@@ -326,11 +332,12 @@ void szg_close_front(szg_front *front);
  * materials that its captures (for DTZ and moves, its moves) lead to. Castling rights aren't known to tables. It is proved that
  * a result is what the blocks of the added files spell for the position and for those that it leads to.
  *
- * szg_tablebase_add reads and checks all of a file but its blocks, and keeps what it read (about 6 percent of the file). A
- * probe verifies a block when the szg_tablebase first reads it, and keeps a bit for each block of a part and side of a table
- * that it reads (if memory is refused, it verifies blocks again). It takes no lock. If a file's bytes change, results may be
- * wrong, and nothing worse. Threads that share tables use a szg_tablebase each, made by szg_share_tablebase. szg_folders,
- * below, finds and maps the files too. */
+ * szg_tablebase_add reads and checks all of a file but its blocks. It keeps headers, codes and dictionaries; sparse indexes
+ * and block lengths are read where they are, so nothing that grows with the file stays in memory. A probe verifies a block
+ * when the szg_tablebase first reads it, and keeps a bit for each block of a part and side of a table that it reads (if memory
+ * is refused, it verifies blocks again). It takes no lock. If a file's bytes change, results may be wrong, or there is none
+ * (SZG_NO_CLASS if they lead to no block), and nothing worse. Threads that share tables use a szg_tablebase each, made by
+ * szg_share_tablebase. szg_folders, below, finds and maps the files too. */
 
 /* Tables that were added. Initialise it with SZG_NO_TABLEBASE, let only the calls change it, and pass it to one call at a time.
  * What szg_table says of copies and of cache lines holds here, too. */
@@ -446,6 +453,10 @@ typedef struct szg_folders szg_folders;
 /* Opens the tables of folders: `paths` has their paths, separated by ':', and the first that has a file counts. No file is looked
  * for yet. SZG_MEMORY leaves *folders unchanged. */
 uint32_t szg_open_folders(const char *paths, szg_folders **folders);
+
+/* From now on tables whose greatest span bits exceed `bits` are refused, with the reason SZG_SPAN_BITS and offset 0, when a position
+ * first needs them (see szg_front_span): for all handles of these tables. */
+void szg_limit_folders(szg_folders *folders, uint8_t bits);
 
 /* Makes *second a second handle of the same tables, for another thread. A file is mapped, and kept in memory, once for all. */
 uint32_t szg_share_folders(szg_folders *folders, szg_folders **second);

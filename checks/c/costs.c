@@ -1,12 +1,30 @@
 /* Calls the library COUNT times on an opened table, for counts of instructions: costs FOLDER CALL COUNT
- * CALL is check, open, get (short words), get_long (long pairs), index or share. */
+ * CALL is check, open, get (short words), get_long (long pairs), index or share. With keep it prints instead how many bytes of
+ * heap a tablebase keeps for FOLDER's large.rtbw. */
 #include "trying.h"
+#include <malloc.h>
 
 static const szg_man MEN[3] = {{SZG_KING, SZG_WHITE, 60}, {SZG_QUEEN, SZG_WHITE, 0}, {SZG_KING, SZG_BLACK, 7}};
+
+static size_t heap(void) {
+    struct mallinfo2 info = mallinfo2();
+    return info.uordblks + info.hblkhd;
+}
+
+static int keep(const char *folder) {
+    szg_tablebase tablebase = SZG_NO_TABLEBASE;
+    load(folder, "large.rtbw", "KQRvK", false);
+    size_t before = heap();
+    want("add", szg_tablebase_add(&tablebase, OF_FILE, &answer), SZG_DONE);
+    printf("%zu\n", heap() - before);
+    szg_close_tablebase(&tablebase);
+    return failed;
+}
 
 int main(int count, char **words) {
     if (count != 4) return 2;
     const char *call = words[2];
+    if (strcmp(call, "keep") == 0) return keep(words[1]);
     uint64_t times = strtoull(words[3], NULL, 10), sum = 0;
     szg_table other = SZG_NO_TABLE;
     load_sample(words[1], strcmp(call, "get_long") == 0 ? PAIRED : UNPAIRED);

@@ -67,6 +67,20 @@ static void refused(const char *paths, uint32_t due, int due_errno) {
     szg_close_folders(none);
 }
 
+/* A probe of tables of at most these span bits: those of KQvK's WDL table are 15. */
+static void limited(const char *paths, uint8_t bits, uint32_t due) {
+    const szg_man men[] = {{SZG_KING, SZG_WHITE, 0}, {SZG_QUEEN, SZG_WHITE, 20}, {SZG_KING, SZG_BLACK, 63}};
+    int8_t class;
+    szg_missing missing = {"", true, 7, 7};
+    szg_folders *few, *second;
+    want("open", szg_open_folders(paths, &few), SZG_DONE);
+    want("share", szg_share_folders(few, &second), SZG_DONE);
+    szg_limit_folders(few, bits);
+    want("a table by its span", szg_folders_wdl(second, men, 3, SZG_WHITE, SZG_NO_SQUARE, &class, &missing), due);
+    if (due == SZG_REFUSED) want("reason", missing.block, SZG_SPAN_BITS), want("offset", (int64_t)missing.offset, 0);
+    szg_close_folders(few), szg_close_folders(second);
+}
+
 int main(int count, char **words) {
     pthread_t threads[THREADS];
     pthread_attr_t small;
@@ -105,6 +119,9 @@ int main(int count, char **words) {
     }
     szg_close_folders(folders);
     tb_free();
+    limited(words[1], 14, SZG_REFUSED);
+    limited(words[1], 15, SZG_DONE);
+    limited(words[1], UINT8_MAX, SZG_DONE);
     refused("/nowhere", SZG_MISSING, ENOENT);
     snprintf(paths, sizeof paths, "%s/KQvK.rtbw", words[1]);
     refused(paths, SZG_MISSING, ENOTDIR);

@@ -100,6 +100,7 @@ static void handles_stay(bool is_open) {
     STAYS(other, szg_index(of, rook_men, 3, SZG_WHITE, &lent.spot));
     STAYS(other, szg_probe(of, rook_men, 3, SZG_WHITE, 0, &lent.outcome));
     STAYS(range, szg_front_size(to, 0, 2, &lent.size));
+    if (!is_open) STAYS(SZG_CLOSED, szg_front_span(to, &lent.mover));
     STAYS(range, szg_front_get(to, bytes, length, 0, 0, SIZE, &lent.value, &lent.bad));
     STAYS(range, szg_front_get(to, bytes, length, 1, 0, 0, &lent.value, &lent.bad));
     STAYS(changed, szg_front_get(to, bytes, 1, 0, 0, 0, &lent.value, &lent.bad));

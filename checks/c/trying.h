@@ -59,7 +59,7 @@ static inline void look_up_by_each_call(szg_table *of, szg_front *to, uint64_t i
     char text[SZG_TEXT_SIZE];
     szg_man men[SZG_MAX_MEN];
     size_t count = 0;
-    uint8_t mover = 0;
+    uint8_t mover = 0, bits;
     uint16_t value = 0;
     uint32_t number;
     uint64_t size;
@@ -77,6 +77,7 @@ static inline void look_up_by_each_call(szg_table *of, szg_front *to, uint64_t i
     want("front index", szg_front_index(to, men, count, mover, &spot), SZG_DONE);
     want("size", szg_positions(of, 0, 0, &size), SZG_DONE);
     want("front size", szg_front_size(to, 0, 0, &size), SZG_DONE);
+    want("front span", szg_front_span(to, &bits), SZG_DONE);
     szg_probe(of, men, count, mover, 2, &outcome), szg_front_probe(to, bytes, length, men, count, mover, 2, &outcome, &bad);
     szg_number(of, 0, 2, value, &number), szg_front_number(to, 0, 2, value, &number);
     szg_version(text, sizeof text), szg_status_text(SZG_MEMORY, text, sizeof text), szg_reason_text(SZG_WORD, text, sizeof text);

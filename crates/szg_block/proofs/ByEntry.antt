@@ -1,28 +1,28 @@
 -- A look-up from the sparse index: the entry, the block that the entry leads to, and the steps.
-use Rattle.std.proofs.Common.{ℕ, suc, ◌≡◌, refl, ◌+◌, ◌-◌, ◌*◌, ◌/◌, ◌^◌, ◌<◌, ◌≤◌, List, Some, length, ap, sym, ◌∙◌, subst, arith, get_or}
-use Rattle.std.specs.Prelude.{IfSome}
-use Rattle.std.specs.List.{slice_index}
-use Rattle.std.proofs.Math.Nat.{div-mul-le_self, le-div_iff_mul-le}
+use Rattle.std.proofs.Common.{ℕ, suc, ◌≡◌, refl, ◌+◌, ◌-◌, ◌*◌, ◌/◌, ◌%◌, ◌^◌, ◌<◌, ◌≤◌, List, None, Some, length, ap, sym, ◌∙◌, arith}
+use Rattle.std.specs.Prelude.{IfNone, IfSome, Option}
+use Rattle.std.specs.List.{slice_get, slice_index}
+use Rattle.std.proofs.Math.Nat.{div-add-mod, div-mul-le_self, le-div_iff_mul-le}
 use Rattle.std.proofs.lemmas.Nat.{pow_pos}
-use Rattle.std.proofs.lemmas.Option.{slice_get-get_or, slice_get-map}
+use Rattle.std.proofs.lemmas.Option.{get_or_from_slice_get, slice_get_within}
 use Rattle.szg_code.specs.Acceptance.{IsCode}
 use Rattle.szg_code.specs.Bits.{bits}
 use Rattle.szg_code.specs.Canonical.{CanonicalCode}
 use Rattle.szg_block.specs.Layout.{Layout, SparseEntry}
 use Rattle.szg_block.specs.Block.{start, block_at}
 use Rattle.szg_block.specs.BlocksTrait.{packed_blocks}
+use Rattle.szg_block.specs.Indexed.{entry_of, IsSoundIndex}
 use Rattle.szg_block.specs.Parts.{IsGoodAt}
-use Rattle.szg_block.specs.Sound.{entry_count, HasGoodEntry, HasTotal, IsShapedLayout, IsSoundLayout}
+use Rattle.szg_block.specs.Sound.{entry_count, middle_of_span, HasGoodEntry, HasTotal, IsShapedLayout, IsSoundLayout}
 use Rattle.szg_block.specs.Spelled.{word_at, pairs_above}
 use Rattle.szg_block.specs.Steps.{block_location, entry_block, move_count}
-use Rattle.szg_block.specs.Subtable.{layout_from, layout_of, IsShapedHead, IsSoundOver, steps_from}
+use Rattle.szg_block.specs.Subtable.{layout_of, HasSoundIndex, IsShapedHead, IsSoundOver, steps_from}
 use Rattle.szg_block.specs.declared.Entry.{Entry}
 use Rattle.szg_block.specs.declared.Sub.{Sub}
 use Rattle.szg_block.specs.declared.probing.Steps.{Steps}
-use Rattle.szg_block.proofs.Parts.{length-entries, good_entry-to}
 use Rattle.szg_block.proofs.Reading.{IsValueAt, block_is, value_at}
 use Rattle.szg_block.proofs.Values.{block_location-IsLocationOfValue, start-monotone}
-use Rattle.szg_block.proofs.Walking.{one_block}
+use Rattle.szg_block.proofs.Walking.{none_past, one_block}
 use Rattle.szg_block.proofs.WordAt.{word_count-at, descent_count-at}
 
 -- the span of each value has an entry
@@ -36,6 +36,30 @@ span_there span_bits size i h =
     let m : suc (i / w) * w ≤ size + w - 1 = omega arith in
     (le-div_iff_mul-le p).1 m
 
+-- ---- clauses of one result
+
+pub some_map : {X : Type 0} (o : Option X) (P Q : X → Type 0) → IfSome o P → ((x : X) → P x → Q x) → IfSome o Q
+some_map None P Q h f = tt
+some_map (Some x) P Q h f = f x h
+
+pub none_map : {X : Type 0} (o : Option X) {P Q : Type 0} → IfNone o P → (P → Q) → IfNone o Q
+none_map None h f = f h
+none_map (Some x) h f = tt
+
+-- a good entry leads from the start of its block to value i: both values counted from the start of the value's span
+module _ (lengths : List ℕ) (span_bits i : ℕ) (entry : Entry) (good : IsGoodAt lengths span_bits (i / 2 ^ span_bits) entry) where
+  middle_at : start lengths entry.block + entry.offset + i % 2 ^ span_bits ≡ i + 2 ^ span_bits / 2
+  unfolding middle_of_span
+  middle_at =
+      let d : 2 ^ span_bits * (i / 2 ^ span_bits) + i % 2 ^ span_bits ≡ i = div-add-mod i (2 ^ span_bits) in
+      omega (arith, d, good.1)
+
+  pub led_on : 2 ^ span_bits / 2 ≤ i % 2 ^ span_bits + entry.offset → start lengths entry.block + (i % 2 ^ span_bits + entry.offset - 2 ^ span_bits / 2) ≡ i
+  led_on h = omega (arith, middle_at, h)
+
+  pub led_back : i % 2 ^ span_bits + entry.offset < 2 ^ span_bits / 2 → start lengths entry.block ≡ i + (2 ^ span_bits / 2 - (i % 2 ^ span_bits + entry.offset))
+  led_back h = omega (arith, middle_at, h)
+
 -- the result of a walk from the sparse entry to value i: its block, its index there, and the moves to that block
 pub record IsFoundAt (layout : Layout) (i j p m : ℕ) : Type 0 where
   pub there : j < layout.blocks
@@ -43,55 +67,84 @@ pub record IsFoundAt (layout : Layout) (i j p m : ℕ) : Type 0 where
   pub item : p ≡ (block_location layout i).item
   pub moves : m ≡ move_count layout i
 
-module _ (block_bits span_bits extra blocks : ℕ) (code : CanonicalCode) (dict : List (List ℕ)) (sparse : List Entry) (lengths : List ℕ) (size : ℕ)
-    (shaped : IsShapedLayout (layout_from block_bits span_bits extra blocks code dict sparse lengths) size) (index : HasTotal (layout_from block_bits span_bits extra blocks code dict sparse lengths) size × ((j : ℕ) → HasGoodEntry (layout_from block_bits span_bits extra blocks code dict sparse lengths) j))
-    (i : ℕ) (below : i < size) where
-  layout : Layout
-  layout = layout_from block_bits span_bits extra blocks code dict sparse lengths
-
-  pub entry_there : i / 2 ^ span_bits < length sparse
+module _ (layout : Layout) (size : ℕ) (shaped : IsShapedLayout layout size) (total : HasTotal layout size) (entries : (j : ℕ) → HasGoodEntry layout j) (i : ℕ) (below : i < size) where
+  entry_there : i / 2 ^ layout.span_bits < length layout.sparse
   entry_there =
-      let s : i / 2 ^ span_bits < entry_count span_bits size = span_there span_bits size i below in
-      let n = shaped.sparse in
-      let e = length-entries sparse in
-      omega arith
+      let s : i / 2 ^ layout.span_bits < entry_count layout.span_bits size = span_there layout.span_bits size i below in
+      omega (arith, s, shaped.sparse)
 
-  pub value_below : i < start lengths (length lengths)
+  value_below : i < start layout.lengths (length layout.lengths)
   value_below =
-      let n : length lengths ≡ blocks + extra = shaped.lengths in
-      let t : size ≤ start lengths blocks = index.0 in
-      let m : start lengths blocks ≤ start lengths (length lengths) = start-monotone lengths blocks (length lengths) (omega arith) (omega arith) in
-      omega arith
+      let n : length layout.lengths ≡ layout.blocks + layout.extra = shaped.lengths in
+      let m : start layout.lengths layout.blocks ≤ start layout.lengths (length layout.lengths) = start-monotone layout.lengths layout.blocks (length layout.lengths) (omega arith) (omega arith) in
+      omega (arith, total, m)
 
-  module _ (d entry : Entry) (e : entry ≡ get_or sparse (i / 2 ^ span_bits) d) where
-    pub entry_good : IsGoodAt lengths span_bits (i / 2 ^ span_bits) entry
+  module _ (entry : Entry) (is : slice_get layout.sparse (i / 2 ^ layout.span_bits) ≡ Some (entry_of entry)) where
+    entry_good : IsGoodAt layout.lengths layout.span_bits (i / 2 ^ layout.span_bits) entry
     entry_good =
-        let g = good_entry-to block_bits span_bits extra blocks code dict sparse lengths shaped.lengths (i / 2 ^ span_bits) (index.1 (i / 2 ^ span_bits)) in
-        let g' = rw (slice_get-get_or sparse (i / 2 ^ span_bits) d entry_there) at g in
-        subst (IsGoodAt lengths span_bits (i / 2 ^ span_bits)) (sym e) g'
+        let good = rw is at (entries (i / 2 ^ layout.span_bits)) in
+        (omega (arith, good.there, shaped.lengths), good.location)
 
-    entry_block_is : entry_block (layout_from block_bits span_bits extra blocks code dict sparse lengths) i ≡ entry.block
+    entry_block_is : entry_block layout i ≡ entry.block
     unfolding entry_block
-    entry_block_is =
-        let m = slice_get-map (λ (entry : Entry). let e : SparseEntry = record { block = entry.block; offset = entry.offset } in e) sparse (i / 2 ^ span_bits) in
-        let n = slice_get-get_or sparse (i / 2 ^ span_bits) d entry_there in
-        rw (m, n, ← e)
+    entry_block_is = rw is refl
 
-    pub found_at : (j p : ℕ) → j < length lengths → i ≡ start lengths j + p → p < slice_index lengths j + 1
-        → IsFoundAt (layout_from block_bits span_bits extra blocks code dict sparse lengths) i j p ((entry.block - j) + (j - entry.block))
+    found_at : (j p n : ℕ) → slice_get layout.lengths j ≡ Some n → p ≤ n → i ≡ start layout.lengths j + p
+        → IsFoundAt layout i j p ((entry.block - j) + (j - entry.block))
     unfolding move_count
-    found_at j p there location inside =
-        let h = block_location-IsLocationOfValue (layout_from block_bits span_bits extra blocks code dict sparse lengths) size shaped index.0 i below in
-        let n : length lengths ≡ blocks + extra = shaped.lengths in
-        let b : (block_location (layout_from block_bits span_bits extra blocks code dict sparse lengths) i).list ≡ j =
-        one_block lengths _ j _ p (omega (arith, h.block, n)) there (sym h.is_at ∙ location) h.item inside in
-        let s = ap (λ k. start lengths k) b in
+    found_at j p n some inside location =
+        let h = block_location-IsLocationOfValue layout size shaped total i below in
+        let there : j < length layout.lengths = slice_get_within layout.lengths j n some in
+        let is_length : slice_index layout.lengths j ≡ n = get_or_from_slice_get layout.lengths j n 0 some in
+        let b : (block_location layout i).list ≡ j =
+        one_block layout.lengths _ j _ p (omega (arith, h.block, shaped.lengths)) there (sym h.is_at ∙ location) h.item (omega (arith, is_length, inside)) in
+        let s = ap (λ k. start layout.lengths k) b in
         record {
           there = omega (arith, h.block, b);
           block = sym b;
           item = omega (arith, h.is_at, location, s);
           moves = rw (entry_block_is, b) refl;
         }
+
+-- the same for the parts that a look-up reads
+module _ (sparse : List SparseEntry) (lengths : List ℕ) (blocks span_bits : ℕ) (layout : Layout) (size i : ℕ) (below : i < size) where
+  pub entry_somewhere : IsSoundIndex sparse lengths blocks span_bits layout size → slice_get sparse (i / 2 ^ span_bits) ≡ None → ⊥
+  entry_somewhere s none =
+      let t = entry_there layout size s.shaped s.total s.entries i below in
+      let e : slice_get layout.sparse (i / 2 ^ layout.span_bits) ≡ None = rw (s.sparse_is, s.span_bits_are) none in
+      let past : length layout.sparse ≤ i / 2 ^ layout.span_bits = none_past layout.sparse (i / 2 ^ layout.span_bits) e in
+      omega (arith, t, past)
+
+  module _ (entry : Entry) (is : Some (entry_of entry) ≡ slice_get sparse (i / 2 ^ span_bits)) (s : IsSoundIndex sparse lengths blocks span_bits layout size) where
+    is_entry : slice_get layout.sparse (i / 2 ^ layout.span_bits) ≡ Some (entry_of entry)
+    is_entry = rw (s.sparse_is, s.span_bits_are) (sym is)
+
+    pub good_entry : IsGoodAt lengths span_bits (i / 2 ^ span_bits) entry
+    good_entry =
+        let g = entry_good layout size s.shaped s.total s.entries i below entry is_entry in
+        rw (s.lengths_are, s.span_bits_are) at g
+
+    pub found_somewhere : start lengths (length lengths) ≤ i → ⊥
+    found_somewhere past =
+        let b = value_below layout size s.shaped s.total s.entries i below in
+        let b' : i < start lengths (length lengths) = rw s.lengths_are at b in
+        omega (arith, b', past)
+
+    pub found_in : (j p n : ℕ) → Some n ≡ slice_get lengths j → p ≤ n → i ≡ start lengths j + p → IsFoundAt layout i j p ((entry.block - j) + (j - entry.block))
+    found_in j p n some inside location =
+        found_at layout size s.shaped s.total s.entries i below entry is_entry j p n (rw s.lengths_are (sym some)) inside (rw s.lengths_are location)
+
+pub sound_index : (sub : Sub) (layout : Layout) (size : ℕ) → layout_of sub ≡ Some layout → IsShapedHead sub size → HasSoundIndex sub size →
+    IsSoundIndex layout.sparse layout.lengths layout.blocks layout.span_bits layout size
+sound_index sub layout size is head index = record {
+  sparse_is = refl;
+  lengths_are = refl;
+  blocks_are = refl;
+  span_bits_are = refl;
+  shaped = (rw is at head).1;
+  total = (rw is at index).0;
+  entries = (rw is at index).1;
+}
 
 -- the steps of a look-up of value i, from the result of a walk and the words of the value's block
 module _ (layout : Layout) (size count : ℕ) (bytes : ℕ → List ℕ) (shaped : IsShapedLayout layout size) (accepted : IsCode layout.code) (all : count ≡ layout.blocks)

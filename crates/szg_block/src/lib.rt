@@ -13,15 +13,17 @@ ghost use Rattle.szg_block.specs.Sound.{SpellsNeeded, entry_count as entry_count
 ghost use Rattle.szg_block.specs.Subtable.{layout_of, packed_of, IsShaped, IsShapedHead, IsSoundOver, HasSoundIndex, IsFaultOf, IsIndexFault};
 ghost use Rattle.szg_block.specs.Views.{IsSound};
 
-pub use block_value::checked_value;
+pub use block_value::{checked_value, value_in_block};
 pub use blocks::{Blocks, SourceFault, Whole};
 pub use decoding::decode_block;
 pub use expanding::Sound;
-use lengths::{needed_from, total};
+pub use index::BlockIndex;
+pub use lengths::needed_from;
+use lengths::total;
 use packed::first_bad_block;
 pub use packed::{block_count, block_of};
 pub use paged::Paged;
-pub use probing::{Steps, ValueLocation, locate_value, look_up};
+pub use probing::{Steps, ValueLocation, locate_by, locate_value, look_up};
 pub use source::{Image, Source};
 use sparse::first_bad_entry;
 use szg_code::Code;
@@ -33,6 +35,7 @@ mod block_value;
 mod blocks;
 mod decoding;
 mod expanding;
+mod index;
 pub mod laws;
 mod lengths;
 mod packed;

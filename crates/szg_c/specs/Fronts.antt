@@ -1,5 +1,8 @@
 -- What calls on an opened front return. Status 18 is a block that doesn't decode, 17 bytes that can't be the file's.
-use Rattle.std.specs.Prelude.{◌≡◌, ◌&&◌, ℕ, ℤ, pos, zero, suc, nat_lt, Bool, true, false, List, is_some, Option, Some, None, IfSome, IsNone, Result, Ok, Err, if◌then◌else◌}
+use Rattle.std.specs.Prelude.{◌≡◌, ◌&&◌, ℕ, ℤ, pos, zero, suc, fold, max, nat_lt, Bool, true, false, List, is_some, Option, Some, None, IfSome, IsNone, Result, Ok, Err, if◌then◌else◌}
+use Rattle.std.specs.Option.{option_map_or}
+use Rattle.szg_block.specs.Subtable.{layout_of}
+use Rattle.szg_block.specs.declared.Sub.{Sub}
 use Rattle.szg_values.specs.Material.{Sides, parsed}
 use Rattle.szg_values.specs.Placement.{Board}
 use Rattle.szg_values.specs.declared.Kind.{Kind}
@@ -9,6 +12,7 @@ use Rattle.szg_file.specs.Format.{verdict}
 use Rattle.szg_file.specs.FrontTable.{FrontKept, IsFrontOf}
 use Rattle.szg_file.specs.Unread.{unread_file, front_at, IsDecoded}
 use Rattle.szg_file.specs.declared.fault.Reason.{Reason}
+use Rattle.szg_file.specs.declared.reading.dropping.PlacedSub.{PlacedSub}
 use Rattle.szg_file.specs.declared.opened.fetching.FetchFault.{FetchFault}
 use Rattle.szg_file.specs.declared.opened.fetching.FetchFault.TheVariants.{Block, Source}
 use Rattle.szg_file.specs.declared.fault.MapFault.{MapFault}
@@ -40,6 +44,14 @@ StopsFront name dtz bytes status place reason = ⊥
 abbrev pub ReportsFront : List ℕ → Bool → List ℕ → Type 0 → ℕ → ℕ → ℕ → Type 0
 ReportsFront name dtz bytes done zero place reason = done
 ReportsFront name dtz bytes done (suc status) place reason = StopsFront name dtz bytes (suc status) place reason
+
+-- the span bits of a subtable, 0 of a constant one
+abbrev pub span_bits_of : Sub → ℕ
+span_bits_of sub = option_map_or (λ layout. layout.span_bits) (layout_of sub) 0
+
+-- the greatest span bits of subtables
+abbrev pub greatest_span_bits : List PlacedSub → ℕ
+greatest_span_bits subs = fold (λ greatest placed. max greatest (span_bits_of placed.sub)) 0 subs
 
 -- what is written of a fault of a fetch, and its status
 abbrev pub FetchReported : FetchFault → BadBlock → BadBlock → ℕ → Type 0

@@ -3,7 +3,7 @@ use Rattle.std.specs.Prelude.{ℕ, ℤ, ◌≡◌, ◌++◌, ◌∷◌, [], ◌&
 use Rattle.std.specs.List.{list_all}
 use Rattle.std.specs.List.Sorted.{IsNonDecreasingBy}
 use Rattle.szg_values.specs.Men.{code_of}
-use Rattle.szg_values.specs.Material.{name_of}
+use Rattle.szg_values.specs.Material.{Sides, name_of, parsed}
 use Rattle.szg_values.specs.declared.Man.{Man}
 use Rattle.szg_place.specs.Layout.{is_dtz}
 use Rattle.szg_game.specs.declared.Class.{Class}
@@ -14,14 +14,15 @@ use Rattle.szg_chess.specs.declared.PositionFault.TheVariants as fault
 use Rattle.szg_probe.specs.Probing.{MayFail, all_known, probed}
 use Rattle.szg_probe.specs.Distances.{class_at, probed_distance, rank_of, ranked, signed_distance}
 use Rattle.szg_probe.specs.declared.assessments.RankedMove.{RankedMove}
-use Rattle.szg_tables.specs.Mapped.{MappedFile, mapped_classes, mapped_numbers}
+use Rattle.szg_file.specs.InPlace.{InPlace}
+use Rattle.szg_tables.specs.Mapped.{IsOpenedFrom, mapped_classes, mapped_numbers}
 use Rattle.szg_tables.specs.Stored.{IsMissing, number_of_class}
 use Rattle.szg_tables.specs.declared.Missing.{Missing}
 use Rattle.szg_tables.specs.declared.MissingReason.{MissingReason}
 use Rattle.szg_tables.specs.declared.MissingReason.TheVariants as reason
-use Rattle.szg_c.specs.Fronts.{IsFront}
 use Rattle.szg_c.specs.Men.{is_coded_man, placed_man_of, color_of}
 use Rattle.szg_c.specs.Places.{place_status}
+use Rattle.szg_c.specs.Reported.{kind_of_flag}
 use Rattle.szg_c.specs.Texts.{printed}
 use Rattle.szg_c.specs.declared.men.CodedMan.{CodedMan}
 use Rattle.szg_c.specs.declared.status.TheConstants.{BAD_BLOCK, CONTRADICTION, DONE, EN_PASSANT, IN_CHECK, MAN, MEN, MISSING, NO_CLASS, PAWN_RANK, RANGE, SAME_SQUARE}
@@ -32,13 +33,17 @@ use Rattle.szg_c.specs.declared.tablebase_calls.RawMove.{RawMove}
 -- ---- tables
 
 -- the tables of a tablebase; none if its handle holds nothing
-abbrev pub files_of : Option (List MappedFile) → List MappedFile
+abbrev pub files_of : Option (List InPlace) → List InPlace
 files_of None = []
 files_of (Some files) = files
 
+-- the name is a material's, and this is the table of this name and kind that was opened from these bytes, blocks unchecked
+abbrev pub IsTableOf : List ℕ → Bool → List ℕ → InPlace → Type 0
+IsTableOf name dtz bytes f = (material : Sides) × (parsed name ≡ Ok material) × IsOpenedFrom material (kind_of_flag dtz) bytes f
+
 -- a file was added behind the others: these bytes, opened as the table of this name and kind
-abbrev pub IsAdded : List ℕ → Bool → List ℕ → List MappedFile → Option (List MappedFile) → Type 0
-IsAdded name dtz bytes before after = (f : MappedFile) × IsFront name dtz bytes f.kept × (f.bytes ≡ bytes) × (after ≡ Some (before ++ f ∷ []))
+abbrev pub IsAdded : List ℕ → Bool → List ℕ → List InPlace → Option (List InPlace) → Type 0
+IsAdded name dtz bytes before after = (f : InPlace) × IsTableOf name dtz bytes f × (after ≡ Some (before ++ f ∷ []))
 
 -- ---- positions
 
@@ -96,23 +101,23 @@ pub record IsMissingReported (missing : Missing) (status : ℕ) (before after : 
   pub block : IsBlockWritten missing.reason before after
 
 -- a position of as many men or fewer misses what is reported
-abbrev pub IsLacking : List MappedFile → Position → ℕ → RawMissing → RawMissing → Type 0
+abbrev pub IsLacking : List InPlace → Position → ℕ → RawMissing → RawMissing → Type 0
 IsLacking files p status before after =
     (missing : Missing) × MayFail (IsMissing (mapped_classes files) (mapped_numbers files) missing) p × IsMissingReported missing status before after
 
 -- ---- probes
 
 -- The class of the position by the tables, or what is missing.
-pub record IsClassProbed (files : List MappedFile) (p : Position) (status : ℕ) (class : ℤ) (before after : RawMissing) : Type 0 where
+pub record IsClassProbed (files : List InPlace) (p : Position) (status : ℕ) (class : ℤ) (before after : RawMissing) : Type 0 where
   pub done : status ≡ 0 → (k : Class) × (probed (mapped_classes files) p ≡ Some k) × (class ≡ number_of_class k)
   pub lacking : (status ≡ 0 → ⊥) → IsLacking files p status before after
 
 -- The tables contradict themselves where they have no answer; else the status says what is missing.
-abbrev pub IsUnanswered : List MappedFile → Type 0 → Position → ℕ → RawMissing → RawMissing → Type 0
+abbrev pub IsUnanswered : List InPlace → Type 0 → Position → ℕ → RawMissing → RawMissing → Type 0
 IsUnanswered files none p status before after = ((status ≡ CONTRADICTION) × none) ⊎ IsLacking files p status before after
 
 -- The class with the fifty-move counter and the DTZ of the position by the tables, or why there is none.
-pub record IsDistanceProbed (files : List MappedFile) (counter : ℕ) (p : Position) (status : ℕ) (distance : RawDistance) (before after : RawMissing) : Type 0 where
+pub record IsDistanceProbed (files : List InPlace) (counter : ℕ) (p : Position) (status : ℕ) (distance : RawDistance) (before after : RawMissing) : Type 0 where
   pub done : status ≡ 0 → (k : Class) × (plies : ℕ) × (probed_distance (mapped_classes files) (mapped_numbers files) p ≡ Some (k, plies))
       × (distance.class ≡ number_of_class (class_at counter k plies)) × (distance.dtz ≡ signed_distance k plies)
   pub lacking : (status ≡ 0 → ⊥) → IsUnanswered files (probed_distance (mapped_classes files) (mapped_numbers files) p ≡ None) p status before after
@@ -136,11 +141,11 @@ raw_move r = record {
 }
 
 -- each legal move with what it gives by the tables; None if that is not known
-abbrev pub known_moves : List MappedFile → ℕ → Position → Option (List RankedMove)
+abbrev pub known_moves : List InPlace → ℕ → Position → Option (List RankedMove)
 known_moves files counter p = all_known (map (ranked (mapped_classes files) (mapped_numbers files) counter p) (legal_moves p))
 
 -- the list begins with the legal moves, the best first, and its rest is as before; their number is written
-pub record AreRankedIn (files : List MappedFile) (counter : ℕ) (p : Position) (before after : List RawMove) (count : ℕ) : Type 0 where
+pub record AreRankedIn (files : List InPlace) (counter : ℕ) (p : Position) (before after : List RawMove) (count : ℕ) : Type 0 where
   pub moves : List RankedMove
   pub all : List RankedMove
   pub known : known_moves files counter p ≡ Some all
@@ -150,7 +155,7 @@ pub record AreRankedIn (files : List MappedFile) (counter : ℕ) (p : Position) 
   pub number : count ≡ length moves
 
 -- the ranked moves; or the list is too short for them; or why there are none
-pub record IsRankedWritten (files : List MappedFile) (counter : ℕ) (p : Position) (status : ℕ) (before after : List RawMove) (count : ℕ) (lack_before lack_after : RawMissing) : Type 0 where
+pub record IsRankedWritten (files : List InPlace) (counter : ℕ) (p : Position) (status : ℕ) (before after : List RawMove) (count : ℕ) (lack_before lack_after : RawMissing) : Type 0 where
   pub done : status ≡ 0 → AreRankedIn files counter p before after count
   pub short : status ≡ RANGE → length before < length (legal_moves p)
   pub lacking : (status ≡ 0 → ⊥) → (status ≡ RANGE → ⊥) → IsUnanswered files (known_moves files counter p ≡ None) p status lack_before lack_after

@@ -3,7 +3,7 @@ ghost use Rattle.std.specs.Prelude.{◌≡◌, ◌⊎◌, ℕ, List, IfErr, IfOk
 ghost use Rattle.std.specs.declared.option.Option.TheVariants.{None, Some};
 ghost use Rattle.szg_file.specs.FrontTable.{IsFrontOf};
 ghost use Rattle.szg_file.specs.Index.{slot_in};
-ghost use Rattle.szg_c.specs.Fronts.{FetchReported, IsFront, IsGot, ReportsFront, StopsFront};
+ghost use Rattle.szg_c.specs.Fronts.{FetchReported, IsFront, IsGot, ReportsFront, StopsFront, greatest_span_bits, span_bits_of};
 ghost use Rattle.szg_c.specs.Places.{with_slot};
 
 use crate::handle::{hold, put, share, shut, take};
@@ -12,7 +12,8 @@ use crate::opening::{Answer, kind_of, material_of};
 use crate::shared::Shared;
 use crate::status::{BAD_BLOCK, CHANGED, CLOSED, DONE, MEMORY, NAME, RANGE, REFUSED, number_of};
 use std::alloc::Global;
-use szg_file::{FetchFault, FrontTable, ReadFault, TableIndex, open_front};
+use szg_block::Sub;
+use szg_file::{FetchFault, FrontTable, PlacedSub, ReadFault, TableIndex, open_front};
 use szg_io::Bytes;
 
 /// A block that doesn't decode.
@@ -142,6 +143,44 @@ pub extern "C" fn szg_front_size(
     let status = size_in(held.value(), part, side, size);
     put(front, held);
     status
+}
+
+/// The span bits of a subtable, 0 of a constant one.
+fn span_bits_of(sub: &Sub) -> u8
+    ensures { result ≡ span_bits_of sub.now }
+{
+    match sub {
+        Sub::Constant { .. } => 0,
+        Sub::Pairs { span_bits, .. } => *span_bits,
+    }
+}
+
+/// The greatest span bits of subtables, 0 if all are constant.
+fn greatest_span_bits(subs: &[PlacedSub]) -> u8
+    ensures { result ≡ greatest_span_bits subs.now }
+{
+    let mut greatest = 0;
+    'subtables: for placed in subs {
+        greatest = greatest.max(span_bits_of(&placed.sub));
+    }
+    greatest
+}
+
+/// The greatest span bits of the table's subtables, 0 if all are constant.
+///
+/// Errors: `CLOSED` if the handle holds no front. Then `bits` stays.
+#[unsafe(no_mangle)]
+pub extern "C" fn szg_front_span(alloc: Global, front: &mut HeldFront, bits: &mut u8) -> u32
+    ensures kept { front.new.value ≡ front.old.value }
+    ensures closed { front.old.value ≡ None → (result ≡ 5) × (bits.new ≡ bits.old) }
+    ensures reported { IfSome front.old.value (λ f. (result ≡ 0) × (bits.new ≡ greatest_span_bits f.subs)) }
+{
+    let Some(held) = take(front, alloc) else {
+        return CLOSED;
+    };
+    *bits = greatest_span_bits(held.value().subs());
+    put(front, held);
+    DONE
 }
 
 /// Whether a table has this index.

@@ -5,7 +5,7 @@ ghost use Rattle.std.specs.declared.option.Option.{Option};
 ghost use Rattle.std.specs.declared.option.Option.TheVariants.{None, Some};
 ghost use Rattle.std.specs.Coded.{coded_option};
 ghost use Rattle.std.specs.contracts.impls.GlobalAllocator.TheImpl.{ghosts};
-ghost use Rattle.szg_tables.specs.Mapped.{MappedFile};
+ghost use Rattle.szg_file.specs.InPlace.{InPlace};
 ghost use Rattle.szg_tables.specs.contracts.opened.OpenedSet.{the_row};
 ghost use Rattle.szg_tables.specs.contracts.mapped.MappedTable.{the_row as table_row};
 ghost use denote.Signature.{static_lft};
@@ -23,7 +23,7 @@ use szg_tables::MappedSet;
 pub struct HeldTablebase {
     at: *mut u8,
     alloc: Global,
-    pub ghost value: { Option (List MappedFile) } by { coded_option (the_row (table_row static_lft)).coded },
+    pub ghost value: { Option (List InPlace) } by { coded_option (the_row (table_row static_lft)).coded },
 }
 
 impl Model for HeldTablebase {

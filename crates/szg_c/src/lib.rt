@@ -31,7 +31,8 @@ pub use fens::{RawPosition, szg_read_fen};
 pub use front_blocks::{RawByteRange, szg_front_find, szg_front_value};
 pub use front_places::{szg_front_index, szg_front_number, szg_front_probe};
 pub use fronts::{
-    BadBlock, szg_close_front, szg_front_get, szg_front_size, szg_open_front, szg_share_front,
+    BadBlock, szg_close_front, szg_front_get, szg_front_size, szg_front_span, szg_open_front,
+    szg_share_front,
 };
 pub use held::{szg_all, szg_close, szg_get, szg_number, szg_open, szg_positions, szg_share};
 pub use held_front::HeldFront;

@@ -2,8 +2,8 @@
 //! capture en passant and the fifty-move counter.
 ghost use Rattle.std.specs.Prelude.{◌≡◌, ◌≤◌, ◌⊎◌, ◌++◌, ◌∷◌, [], Err, IfErr, IfNone, IfOk, IfSome, MatchResult, Ok, drop, length, map};
 ghost use Rattle.std.specs.declared.option.Option.TheVariants.{None, Some};
-ghost use Rattle.szg_c.specs.Fronts.{IsFront, StopsFront};
-ghost use Rattle.szg_c.specs.Tablebases.{IsAdded, IsClassProbed, IsDistanceProbed, IsMissingReported, IsRankedWritten, files_of, position_of, position_status, promotion_code, raw_move};
+ghost use Rattle.szg_c.specs.Fronts.{StopsFront};
+ghost use Rattle.szg_c.specs.Tablebases.{IsAdded, IsClassProbed, IsDistanceProbed, IsMissingReported, IsRankedWritten, IsTableOf, files_of, position_of, position_status, promotion_code, raw_move};
 
 use crate::handle::{put, share, shut, take};
 use crate::held_tablebase::HeldTablebase;
@@ -77,7 +77,7 @@ fn opened(
     bytes: &'static [u8],
     answer: &mut Answer,
 ) -> Result<MappedTable<'static>, u32>
-    ensures front { IfOk result (λ t. IsFront name.now dtz bytes.now t.kept × (t.bytes ≡ bytes.now)) }
+    ensures front { IfOk result (IsTableOf name.now dtz bytes.now) }
     ensures stops { IfErr result (λ status. StopsFront name.now dtz bytes.now status answer.new.place answer.new.reason) }
     ensures stays { IfErr result (λ status. (status ≡ 2 → ⊥) → answer.new ≡ answer.old) }
     ensures kept { IfOk result (λ t. answer.new ≡ answer.old) }

@@ -1,5 +1,5 @@
 -- Lists that a loop makes piece by piece.
-use Rattle.std.proofs.Common.{◌≡◌, ℕ, ◌+◌, ◌<◌, ◌≤◌, List, [], ◌∷◌, ◌++◌, length, get_or, take, drop, drop-cons, zero, suc, refl, sym, ap, ◌∙◌, Bool, true, false, cond, arith, length-append, zero-add}
+use Rattle.std.proofs.Common.{◌≡◌, ℕ, ◌+◌, ◌-◌, ◌<◌, ◌≤◌, List, [], ◌∷◌, ◌++◌, length, get_or, take, drop, drop-cons, zero, suc, refl, sym, ap, ◌∙◌, Bool, true, false, cond, arith, length-append, zero-add}
 use Rattle.std.specs.Prelude.{filter, flat_map}
 use Rattle.std.specs.List.{range_with_len}
 use Rattle.std.proofs.lemmas.List.{append-nil, take-append-drop}
@@ -96,3 +96,17 @@ pieces_room {A} legal f n i h =
     let size = ap (λ (ys : List ℕ). length (flat_map f ys)) split.1 ∙ ap length (flat_map-append f (range_with_len 0 i) (i ∷ split.0)) ∙ length-append (flat_map f (range_with_len 0 i)) (f i ++ flat_map f split.0) in
     let more = length-append (f i) (flat_map f split.0) in
     omega (arith, few, size, more)
+
+-- numbers whose pieces are empty add nothing
+pub pieces_skip : {A : Type 0} (legal : A → Bool) (f : ℕ → List A) (a b : ℕ) → a ≤ b → ((i : ℕ) → a ≤ i → i < b → f i ≡ []) →
+    filter legal (flat_map f (range_with_len 0 b)) ≡ filter legal (flat_map f (range_with_len 0 a))
+pieces_skip {A} legal f a b h none = skip (b - a) b (omega (arith, h)) none
+  where
+    skip : (k b : ℕ) → a + k ≡ b → ((i : ℕ) → a ≤ i → i < b → f i ≡ []) → filter legal (flat_map f (range_with_len 0 b)) ≡ filter legal (flat_map f (range_with_len 0 a))
+    skip zero b e none = let same : b ≡ a = omega (arith, e) in rw same refl
+    skip (suc k) b e none =
+        let last : b ≡ (a + k) + 1 = omega (arith, e) in
+        ap (λ (n : ℕ). filter legal (flat_map f (range_with_len 0 n))) last ∙ pieces_more legal f (a + k)
+        ∙ ap (λ (ys : List A). filter legal (flat_map f (range_with_len 0 (a + k))) ++ filter legal ys) (none (a + k) (omega arith) (omega (arith, last)))
+        ∙ append-nil (filter legal (flat_map f (range_with_len 0 (a + k))))
+        ∙ skip k (a + k) refl (λ i from to. none i from (omega (arith, last, to)))

@@ -4,16 +4,17 @@ use Rattle.std.specs.Prelude.{not, ◌&&◌, ◌||◌, ◌==◌, nat_lt, nat_le,
 use Rattle.std.specs.List.{All, list_any, Contains}
 use Rattle.std.specs.Int.{bit_at}
 use Rattle.std.specs.Int.Bits.{bit_and}
-use Rattle.std.proofs.lemmas.Bool.{cases_Bool, and_parts, or_cases, eq-eqb, ne_eqb, eqb-true, leb-true, ltb-true, ltb-false, both_ways, false_from_ne_true}
+use Rattle.std.proofs.lemmas.Bool.{cases_Bool, and_parts, and_right, or_cases, eq-eqb, ne_eqb, eqb-true, leb-true, ltb-true, ltb-false, both_ways, false_from_ne_true}
 use Rattle.std.proofs.lemmas.List.Elements.{All-contains}
 use Rattle.std.proofs.lemmas.Nat.Bits.{bit_at_and, bit_at-zero, bit_at_above, same_from_bits}
-use Rattle.szg_values.specs.Men.{file_of, rank_of}
+use Rattle.szg_values.specs.Men.{is_man, file_of, rank_of}
 use Rattle.szg_values.specs.Placement.{PlacedMan, AreOnBoard}
 use Rattle.szg_values.specs.declared.Man.TheVariants.{Pawn, Knight, Bishop, Rook, Queen, King}
 use Rattle.szg_values.specs.declared.Color.{Color}
 use Rattle.szg_values.specs.declared.Color.TheVariants.{White, Black}
 use Rattle.szg_chess.specs.Attacks.{distance, files_apart, ranks_apart, is_straight, is_diagonal, is_amid, is_between, is_ahead, is_occupied, is_clear, is_king_step, is_knight_jump, is_pawn_attack, attacks}
-use Rattle.szg_chess.specs.Squares.{squares_of, squares_between, attacks_past}
+use Rattle.szg_chess.specs.Moves.{may_enter}
+use Rattle.szg_chess.specs.Squares.{is_in, reach_of, squares_of, squares_between, attacks_past}
 use Rattle.szg_chess.proofs.Members.{any_of, some_of, none_of}
 use Rattle.szg_chess.proofs.Sets.{set_small, in_set, in_bit, no_bit}
 
@@ -160,3 +161,17 @@ unfolding attacks_past
 attacks_by_sets men on_board s to h =
     ap (λ (b : Bool). b && bit_and (squares_between s.2 to) (squares_of men) == 0) (in_set (attacks [] s) to h)
     ∙ ap (λ (b : Bool). attacks [] s to && b) (clear_set men on_board s.2 to) ∙ sym (reach_split men s to)
+
+-- a piece enters no square that it does not attack on an empty board
+pub unreached : (s : PlacedMan) (to : ℕ) → to < 64 → is_man Pawn s.0 ≡ false → is_in (reach_of s) to ≡ false → (men : List PlacedMan) → may_enter men s to ≡ false
+unfolding may_enter
+unreached s to inside piece none men =
+    let far : attacks [] s to ≡ false = sym (in_set (attacks [] s) to inside) ∙ none in
+    rw piece (ap (λ (b : Bool). not (is_occupied men to) && b) (reach_split men s to ∙ ap (λ (b : Bool). b && is_clear men s.2 to) far) ∙ and_right (not (is_occupied men to)) false refl)
+
+-- a pawn enters no square of another file
+pub off_file : (s : PlacedMan) (to : ℕ) → is_man Pawn s.0 ≡ true → (file_of to == file_of s.2) ≡ false → (men : List PlacedMan) → may_enter men s to ≡ false
+unfolding may_enter
+off_file s to pawn none men =
+    let apart : (files_apart s.2 to == 0) ≡ false = ne_eqb (files_apart s.2 to) 0 (λ e. both_ways (file_of to == file_of s.2) none (eq-eqb (file_of to) (file_of s.2) (omega (arith, e)))) in
+    rw (pawn, apart) (and_right (not (is_occupied men to)) false refl)

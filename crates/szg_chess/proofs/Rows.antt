@@ -1,15 +1,16 @@
 -- The tables of squares.
-use Rattle.std.proofs.Common.{◌≡◌, ℕ, ◌+◌, ◌*◌, ◌/◌, ◌%◌, ◌<◌, zero, suc, refl, sym, ap, ◌∙◌, Bool, true, arith}
+use Rattle.std.proofs.Common.{◌≡◌, ℕ, ◌+◌, ◌*◌, ◌/◌, ◌%◌, ◌^◌, ◌<◌, zero, suc, refl, sym, ap, ◌∙◌, Bool, true, false, arith, zero-add}
 use Rattle.std.specs.Prelude.{◌==◌, ◌&&◌, slice_index, if◌then◌else◌}
+use Rattle.std.specs.Int.{bit_at}
 use Rattle.std.specs.List.{list_all, range_with_len}
 use Rattle.std.proofs.lemmas.Bool.{eqb-true, and_parts}
-use Rattle.szg_values.specs.Men.{is_man, is_color, code_of}
+use Rattle.szg_values.specs.Men.{is_man, is_color, code_of, file_of}
 use Rattle.szg_values.specs.declared.Man.{Man}
 use Rattle.szg_values.specs.declared.Man.TheVariants.{Pawn, Knight, Bishop, Rook, Queen, King}
 use Rattle.szg_values.specs.declared.Color.{Color}
 use Rattle.szg_values.specs.declared.Color.TheVariants.{White, Black}
 use Rattle.szg_chess.specs.Attacks.{attacks, is_between}
-use Rattle.szg_chess.specs.Squares.{set_below, squares_between, reach_of}
+use Rattle.szg_chess.specs.Squares.{is_in, set_below, squares_between, reach_of}
 use Rattle.szg_chess.specs.Moves.{all_squares}
 use Rattle.szg_chess.specs.declared.tables.TheConstants.{REACH, BETWEEN}
 use Rattle.szg_chess.proofs.Squares.{at_square}
@@ -163,3 +164,23 @@ reach_read Bishop color from h = read 3 Bishop White bishop from h
 reach_read Rook color from h = read 4 Rook White rook from h
 reach_read Queen color from h = read 5 Queen White queen from h
 reach_read King color from h = read 6 King White king from h
+
+-- the squares of a file
+abbrev is_filed : ℕ → Bool
+is_filed n = bit_at (0x0101010101010101 * 2 ^ (n / 64) % 2 ^ 64) (n % 64) == (if file_of (n % 64) == n / 64 then 1 else 0)
+
+filed : list_all is_filed (range_with_len 0 512) ≡ true
+filed = refl
+
+one_if : (b : Bool) → ((if b then 1 else 0) == 1) ≡ b
+one_if true = refl
+one_if false = refl
+
+pub of_file : (file square : ℕ) → file < 8 → square < 64 → is_in (0x0101010101010101 * 2 ^ file % 2 ^ 64) square ≡ (file_of square == file)
+of_file file square few inside =
+    let n = 64 * file + square in
+    let high : n / 64 ≡ file = omega arith in let low : n % 64 ≡ square = omega arith in
+    let e = ap is_filed (sym (zero-add n)) ∙ range_test is_filed 0 512 filed n (omega arith) in
+    ap (λ (k : ℕ). k == 1) (ap (λ (k : ℕ). bit_at (0x0101010101010101 * 2 ^ k % 2 ^ 64) square) (sym high) ∙ ap (bit_at (0x0101010101010101 * 2 ^ (n / 64) % 2 ^ 64)) (sym low)
+    ∙ eqb-true (bit_at (0x0101010101010101 * 2 ^ (n / 64) % 2 ^ 64) (n % 64)) (if file_of (n % 64) == n / 64 then 1 else 0) e)
+    ∙ one_if (file_of (n % 64) == n / 64) ∙ ap (λ (q : ℕ). file_of q == n / 64) low ∙ ap (λ (k : ℕ). file_of square == k) high

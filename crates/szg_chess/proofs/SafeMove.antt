@@ -1,9 +1,9 @@
 -- Whether a move leaves its king in check, without the list of the men after it.
-use Rattle.std.proofs.Common.{◌≡◌, ◌≢◌, ℕ, ◌<◌, List, [], ◌∷◌, map, get_or, length, zero, refl, sym, ap, ◌∙◌, Bool, true, false, arith, inl, inr, Option, Some, None}
+use Rattle.std.proofs.Common.{◌≡◌, ◌≢◌, ℕ, ◌^◌, ◌<◌, List, [], ◌∷◌, map, get_or, length, zero, refl, sym, ap, ◌∙◌, Bool, true, false, arith, inl, inr, Option, Some, None}
 use Rattle.std.specs.Prelude.{filter, not, ◌&&◌, ◌||◌, ◌==◌, unwrap_or}
 use Rattle.std.specs.List.{All, find, list_any, Contains}
-use Rattle.std.proofs.lemmas.Bool.{cases_Bool, and_parts, and_from, and_right, or_cases, eq-eqb, ne_eqb, eqb-true, eqb-false, not-true, not_from_false}
-use Rattle.std.proofs.lemmas.List.Elements.{All-head, All-tail, All-map, All-filter, All-contains_itself, Contains-append_right}
+use Rattle.std.proofs.lemmas.Bool.{both_ways, cases_Bool, and_parts, and_from, and_right, or_cases, eq-eqb, ne_eqb, eqb-true, eqb-false, not-true, not_from_false}
+use Rattle.std.proofs.lemmas.List.Elements.{All-head, All-tail, All-map, All-contains, All-filter, All-contains_itself, Contains-append_right}
 use Rattle.std.proofs.lemmas.List.Sums.{length-filter}
 use Rattle.szg_values.specs.Men.{is_man, is_color, other_color, rank_of}
 use Rattle.szg_values.specs.Placement.{PlacedMan, AreOnBoard}
@@ -14,13 +14,14 @@ use Rattle.szg_values.specs.declared.Color.TheVariants.{White, Black}
 use Rattle.szg_chess.specs.declared.Move.{Move}
 use Rattle.szg_chess.specs.Attacks.{attacks, is_attacked, is_between, is_clear, is_in_check, is_occupied}
 use Rattle.szg_chess.specs.Position.{Position, IsPosition}
-use Rattle.szg_chess.specs.Moves.{promotes, is_en_passant, captured_square, man_after, men_after, is_legal}
+use Rattle.szg_chess.specs.Moves.{may_enter, promotes, is_en_passant, captured_square, man_after, men_after, is_legal}
 use Rattle.szg_chess.specs.Squares.{is_in, is_in_moved, squares_of, attacks_past}
-use Rattle.szg_chess.proofs.Members.{any_of, some_of, any_map, same_man, contains_cons}
-use Rattle.szg_chess.proofs.AfterMen.{is_off, moved, off_is, goes, stays, some_moved}
-use Rattle.szg_chess.proofs.Sets.{same_bool, in_set}
+use Rattle.szg_chess.proofs.Members.{All-passing, any_filter, any_of, some_of, any_map, same_man, contains_cons}
+use Rattle.szg_chess.proofs.AfterMen.{is_off, moved, off_is, off_from, goes, stays, some_moved}
+use Rattle.szg_chess.proofs.Sets.{from_squares, same_bool, in_set}
 use Rattle.szg_chess.proofs.Reach.{reach_split, attacks_by_sets}
 use Rattle.szg_chess.proofs.Facts.{IsFaultless, faultless, has_men_parts, one_king}
+use Rattle.szg_chess.proofs.Captured.{enters_off}
 use Rattle.szg_chess.proofs.Relation.{contains_filter}
 
 any_fused : {X Y : Type 0} (f : Y → Bool) (g : X → Y) (h : X → Bool) (xs : List X) → list_any f (map g (filter h xs)) ≡ list_any (λ x. h x && f (g x)) xs
@@ -244,6 +245,79 @@ check_after_plain p m s king captured occupied position plain stands own from to
     ap (λ (b : Bool). is_off captured king && b) (sym (alike (man_after m king).2))
     ∙ sym (king_after p m king known plain king_stands is_king captured later)
     ∙ check_after p m captured occupied position.squares.men to is_captured is_occupied_
+
+-- ---- a man that may go to any empty square
+
+-- what blocks an attack without the man blocks it after the man's move
+still_clear : (m : Move) (captured : ℕ) (men : List PlacedMan) (a b : ℕ) → All (λ u. u.2 ≢ captured) men → is_clear (moved m captured men) a b ≡ true → is_clear (filter (is_off m.from) men) a b ≡ true
+still_clear m captured men a b off clear =
+    let rest = filter (is_off m.from) men in
+    let blocks : PlacedMan → Bool = λ u. is_between a b u.2 in
+    elim (cases_Bool (list_any blocks rest)) [
+      | inl t ↦
+          let found = some_of blocks rest t in let u = found.0 in
+          let from = All-contains (λ (v : PlacedMan). Contains men v × (is_off m.from v ≡ true)) rest u (All-passing (is_off m.from) men) found.1.0 in
+          let here = ap blocks (stays m u (off_is m.from u from.1)) ∙ found.1.1 in
+          let hit = some_moved blocks m captured men u from.0 (All-contains (λ (v : PlacedMan). v.2 ≢ captured) men u off from.0) here in
+          absurd (both_ways (list_any blocks (moved m captured men)) (not-true (list_any blocks (moved m captured men)) clear) hit)
+      | inr f ↦ ap not f
+    ]
+
+-- the squares of the other men
+pub rest_occupied : (men : List PlacedMan) (square q : ℕ) → is_occupied (filter (is_off square) men) q ≡ (is_occupied men q && not (q == square))
+rest_occupied men square q =
+    let rest = filter (is_off square) men in
+    let here : PlacedMan → Bool = λ u. u.2 == q in
+    same_bool (is_occupied rest q) (is_occupied men q && not (q == square))
+    (λ e.
+    let found = some_of here rest e in let u = found.0 in
+    let from = All-contains (λ (v : PlacedMan). Contains men v × (is_off square v ≡ true)) rest u (All-passing (is_off square) men) found.1.0 in
+    and_from (is_occupied men q) (not (q == square)) (any_of here men u from.0 found.1.1)
+    (not_from_false (q == square) (ne_eqb q square (λ (d : q ≡ square). off_is square u from.1 (eqb-true u.2 q found.1.1 ∙ d)))))
+    (λ e.
+    let parts = and_parts (is_occupied men q) (not (q == square)) e in
+    let found = some_of here men parts.0 in let u = found.0 in
+    any_filter here (is_off square) men u found.1.0 (off_from square u (λ (d : u.2 ≡ square). eqb-false q square (not-true (q == square) parts.1) (sym (eqb-true u.2 q found.1.1) ∙ d))) found.1.1)
+
+-- If without the man its king is not attacked, each of its moves to an empty square is legal.
+pub free_is_legal : (p : Position) (s king : PlacedMan) (left to : ℕ) → IsPosition p → Contains p.placed_men s → is_color p.mover s.1 ≡ true → is_man King s.0 ≡ false → Contains p.placed_men king → is_own_king p king ≡ true → left < 2 ^ 64 →
+    ((q : ℕ) → q < 64 → is_in left q ≡ (is_occupied p.placed_men q && not (q == s.2))) →
+    list_any (λ t. is_color (other_color p.mover) t.1 && not (t.2 == s.2) && attacks_past left t king.2) p.placed_men ≡ false →
+    to < 64 → may_enter p.placed_men s to ≡ true → is_legal p (record { from = s.2; to = to; promotion = None }) ≡ true
+unfolding is_legal men_after
+free_is_legal p s king left to position stands own no_king king_stands is_king small set unattacked inside enters =
+    let men = p.placed_men in let other = other_color p.mover in let known = faultless p position.no_fault in
+    let board : AreOnBoard men = position.squares.men in
+    let m : Move = record { from = s.2; to = to; promotion = None } in
+    let captured = captured_square p m in
+    let after = moved m captured men in let rest = filter (is_off s.2) men in
+    let off = enters_off p m s known stands refl (record { may = enters; inside = inside }) in
+    let rest_board : AreOnBoard rest = All-filter (is_off s.2) (λ (u : PlacedMan). u.2 < 64) men board in
+    let is_rest : left ≡ squares_of rest = from_squares (is_occupied rest) left small (λ q h. set q h ∙ sym (rest_occupied men s.2 q)) in
+    let king_inside : king.2 < 64 = All-contains (λ (u : PlacedMan). u.2 < 64) men king board king_stands in
+    let away : king.2 ≢ s.2 = λ (d : king.2 ≡ s.2). both_ways (is_man King s.0) no_king
+    (ap (λ (u : PlacedMan). is_man King u.0) (sym (same_man men known.apart s stands king king_stands d)) ∙ (and_parts (is_man King king.0) (is_color p.mover king.1) is_king).0) in
+    let stays_king : man_after m king ≡ king = stays m king away in
+    let hits : PlacedMan → Bool = λ t. is_color other t.1 && is_off captured t && attacks_past (squares_of after) t (man_after m king).2 in
+    let whole = check_after_plain p m s king captured (squares_of after) position refl stands own refl inside king_stands is_king refl refl in
+    elim (cases_Bool (list_any hits men)) [
+      | inl t ↦
+          let found = some_of hits men t in let u = found.0 in
+          let parts = and_parts (is_color other u.1 && is_off captured u) (attacks_past (squares_of after) u (man_after m king).2) found.1.1 in
+          let color = (and_parts (is_color other u.1) (is_off captured u) parts.0).0 in
+          let apart : u.2 ≢ s.2 = λ (d : u.2 ≡ s.2). both_ways (is_color other s.1) (ap (is_color other) (color_is p.mover s.1 own) ∙ not_other p.mover)
+          (ap (λ (v : PlacedMan). is_color other v.1) (sym (same_man men known.apart s stands u found.1.0 d)) ∙ color) in
+          let attack : attacks after u king.2 ≡ true = sym (attacks_by_sets after (board_after m inside captured men board) u king.2 king_inside) ∙ ap (λ (v : PlacedMan). attacks_past (squares_of after) u v.2) (sym stays_king) ∙ parts.1 in
+          let both = and_parts (attacks [] u king.2) (is_clear after u.2 king.2) (sym (reach_split after u king.2) ∙ attack) in
+          let past : attacks_past left u king.2 ≡ true = ap (λ (n : ℕ). attacks_past n u king.2) is_rest ∙ attacks_by_sets rest rest_board u king.2 king_inside ∙ reach_split rest u king.2
+          ∙ and_from (attacks [] u king.2) (is_clear rest u.2 king.2) both.0 (still_clear m captured men u.2 king.2 off both.1) in
+          let before : PlacedMan → Bool = λ t. is_color other t.1 && not (t.2 == s.2) && attacks_past left t king.2 in
+          let hit = any_of before men u found.1.0 (and_from (is_color other u.1 && not (u.2 == s.2)) (attacks_past left u king.2) (and_from (is_color other u.1) (not (u.2 == s.2)) color (off_from s.2 u apart)) past) in
+          absurd (both_ways (list_any before men) unattacked hit)
+      | inr f ↦
+          let king_off : is_off captured king ≡ true = off_from captured king (All-contains (λ (v : PlacedMan). v.2 ≢ captured) men king off king_stands) in
+          ap not (sym whole ∙ ap (λ (b : Bool). b && list_any hits men) king_off ∙ f)
+    ]
 
 -- the test of a position by sets
 pub check_here : (men : List PlacedMan) (occupied : ℕ) (color : Color) → AreOnBoard men → occupied ≡ squares_of men →

@@ -1,11 +1,12 @@
 -- Sets of squares, bit by bit.
 use Rattle.std.proofs.Common.{◌≡◌, ℕ, ◌+◌, ◌-◌, ◌*◌, ◌%◌, ◌^◌, ◌<◌, ◌≤◌, zero, suc, refl, sym, ap, ◌∙◌, Bool, true, false, arith, inl, inr, w64}
-use Rattle.std.specs.Prelude.{not, ◌&&◌, ◌||◌, ◌==◌, if◌then◌else◌}
-use Rattle.std.specs.Int.{bit_at, bit_not}
+use Rattle.std.specs.Prelude.{not, ◌&&◌, ◌||◌, ◌==◌, ◌/◌, nat_lt, if◌then◌else◌}
+use Rattle.std.specs.Int.{bit_at, bit_not, trailing_zeros}
 use Rattle.std.specs.Int.Bits.{bit_and, bit_or}
-use Rattle.std.proofs.Math.Nat.{pow-suc, eq-or-lt_of_le}
-use Rattle.std.proofs.lemmas.Bool.{cases_Bool, eq-eqb, eqb-true, eqb-false}
-use Rattle.std.proofs.lemmas.Nat.Bits.{bit_at_set_same, bit_at_set_other, bit_at_clear_same, bit_at_clear_other, bit_at-lt, bit_at_cat_low, bit_at_cat_high, same_from_bits_below}
+use Rattle.std.proofs.Math.Nat.{pow-suc, eq-or-lt_of_le, div-le_self, lt_of_le_of_lt}
+use Rattle.std.proofs.lemmas.Bool.{cases_Bool, eq-eqb, eqb-true, eqb-false, ltb-true, ltb-false}
+use Rattle.std.proofs.lemmas.Nat.Bits.{bit_at_set_same, bit_at_set_other, bit_at_clear_same, bit_at_clear_other, bit_at-lt, bit_at_cat_low, bit_at_cat_high, bit_at-zero, bit_at_above, bit_at-trailing_zeros, same_from_bits_below}
+use Rattle.std.proofs.lemmas.Nat.{shr-shr}
 use Rattle.szg_chess.specs.Squares.{is_in, set_below}
 
 pub same_bool : (a b : Bool) → (a ≡ true → b ≡ true) → (b ≡ true → a ≡ true) → a ≡ b
@@ -122,3 +123,30 @@ added squares k q h = elim (cases_Bool (q == k)) [
 
 pub turned : (a b : ℕ) → (a == b) ≡ (b == a)
 turned a b = same_bool (a == b) (b == a) (λ e. eq-eqb b a (sym (eqb-true a b e))) (λ e. eq-eqb a b (sym (eqb-true b a e)))
+
+-- ---- the first square of a set from one on
+
+pub shifted : (squares from q : ℕ) → from ≤ q → bit_at squares q ≡ bit_at (squares / 2 ^ from) (q - from)
+shifted squares from q h =
+    let e : q ≡ from + (q - from) = omega (arith, h) in
+    ap (λ (k : ℕ). squares / 2 ^ k % 2) e ∙ ap (λ (k : ℕ). k % 2) (sym (shr-shr squares from (q - from)))
+
+pub rest_empty : (squares from q : ℕ) → from ≤ q → squares / 2 ^ from ≡ 0 → is_in squares q ≡ false
+rest_empty squares from q h none = ap (λ (k : ℕ). k == 1) (shifted squares from q h ∙ ap (λ (k : ℕ). bit_at k (q - from)) none ∙ bit_at-zero (q - from))
+
+pub rest_first : (squares from q : ℕ) → squares < 2 ^ 64 → 0 < squares / 2 ^ from → from ≤ q → q < from + trailing_zeros w64 (squares / 2 ^ from) → is_in squares q ≡ false
+rest_first squares from q small some h before =
+    let lowest = bit_at-trailing_zeros w64 (squares / 2 ^ from) some (lt_of_le_of_lt (div-le_self squares (2 ^ from)) small) in
+    ap (λ (k : ℕ). k == 1) (shifted squares from q h ∙ lowest.2 (q - from) (omega (arith, h, before)))
+
+pub rest_within : (squares from : ℕ) → squares < 2 ^ 64 → 0 < squares / 2 ^ from → from + trailing_zeros w64 (squares / 2 ^ from) < 64
+rest_within squares from small some =
+    let rest = squares / 2 ^ from in let k = trailing_zeros w64 rest in
+    let lowest = bit_at-trailing_zeros w64 rest some (lt_of_le_of_lt (div-le_self squares (2 ^ from)) small) in
+    elim (cases_Bool (nat_lt (from + k) 64)) [
+      | inl t ↦ ltb-true (from + k) 64 t
+      | inr f ↦
+          let back : (from + k) - from ≡ k = omega arith in
+          let zero_bit = sym (bit_at_above squares 64 (from + k) small (ltb-false (from + k) 64 f)) ∙ shifted squares from (from + k) (omega arith) ∙ ap (bit_at rest) back ∙ lowest.1 in
+          absurd (omega (arith, zero_bit))
+    ]

@@ -1,10 +1,10 @@
 //! The moves of a position, and the position after a move.
 
-ghost use Rattle.std.specs.Prelude.{ℕ, true, ◌≡◌, ◌≢◌, ◌<◌, ◌≤◌, ◌+◌, ◌==◌, ◌&&◌, ◌||◌, ◌++◌, ◌∷◌, [], not, filter, map, flat_map, length, IsTrue, Some, None, unwrap_or, option_copied, if◌then◌else◌, Contains};
+ghost use Rattle.std.specs.Prelude.{ℕ, true, ◌≡◌, ◌≢◌, ◌<◌, ◌≤◌, ◌+◌, ◌==◌, ◌&&◌, ◌||◌, ◌++◌, ◌∷◌, [], not, filter, map, flat_map, length, IsFalse, IsTrue, List, Some, None, unwrap_or, option_copied, if◌then◌else◌, Contains};
 ghost use Rattle.std.specs.List.{All, find, list_any};
 ghost use Rattle.arrayvec.specs.ArrayVec.{array_vec_len};
 ghost use Rattle.szg_values.specs.Men.{is_man, is_color, other_color, file_of, rank_of, square_at};
-ghost use Rattle.szg_values.specs.Placement.{AreOnBoard};
+ghost use Rattle.szg_values.specs.Placement.{AreOnBoard, PlacedMan};
 ghost use Rattle.szg_values.specs.declared.Man.TheVariants.{King};
 ghost use Rattle.szg_chess.specs.Attacks.{attacks, is_occupied, is_in_check};
 ghost use Rattle.szg_chess.specs.Position.{IsPosition};
@@ -14,6 +14,7 @@ ghost use Rattle.szg_chess.specs.Moves.{men_of, promotes, moves_to, moves_if, ma
 use crate::attacks::{attacks_past, files_apart, is_ahead, is_in, other_color, ranks_apart};
 use crate::men::{Few, moved};
 use crate::positions::is_on;
+use crate::tables::reach_of;
 use crate::{MAX_CAPTURES, MAX_MOVES, Move, Position};
 use arrayvec::ArrayVec;
 use szg_values::{Color, Man, Square};
@@ -77,8 +78,7 @@ impl Position {
     pub fn is_capture(&self, m: &Move) -> bool
         ensures { result ≡ is_capture self.now m.now }
     {
-        let other = other_color(self.mover);
-        is_any_on(other, self.men.as_slice(), m.to.number()) || self.is_en_passant(m)
+        self.has_enemy_on(m.to.number()) || self.is_en_passant(m)
     }
 
     /// Returns whether a move is a pawn's move or a capture.
@@ -170,7 +170,7 @@ impl Position {
         for other in men {
             if self.is_enemy(other) {
                 let may_go = self.attacks(man, other.2);
-                self.push_if(moves, may_go, man, other.2);
+                self.push_if(moves, may_go, false, man, other.2);
             }
         }
     }
@@ -188,7 +188,7 @@ impl Position {
     {
         if let Some(square) = &self.en_passant {
             let may_go = self.may_pass(man, *square);
-            self.push_if(moves, may_go, man, *square);
+            self.push_if(moves, may_go, false, man, *square);
         }
     }
 
@@ -216,45 +216,55 @@ impl Position {
         requires room { array_vec_len moves.old + length (quiet_moves_by self.now.placed_men man.now) ≤ CAP }
         ensures { moves.new.items ≡ moves.old.items ++ filter (is_legal self.now) (quiet_moves_by self.now.placed_men man.now) }
     {
-        for number in 0..64u8 {
+        let squares = squares_ahead(man);
+        let is_free = self.is_free(man);
+        let mut number = next_in(squares, 0);
+        while number < 64 {
             let to = square_of(number);
             let may_go = self.may_enter(man, to);
-            self.push_if(moves, may_go, man, to);
+            self.push_if(moves, may_go, is_free, man, to);
+            number = next_in(squares, number + 1);
         }
     }
 
-    /// Appends the legal moves of a man to a square if it may go there.
+    /// Appends the legal moves of a man to a square if it may go there. If it is free, the moves are legal.
     fn push_if<const CAP: usize>(
         &self,
         moves: &mut ArrayVec<Move, CAP>,
         may_go: bool,
+        is_free: bool,
         man: &(Man, Color, Square),
         to: Square,
     )
         requires standing { Contains self.now.placed_men man.now }
         requires own { is_color self.now.mover man.now.1 ≡ true }
+        requires free { IsTrue is_free → IsTrue may_go → IsTrue (is_legal self.now (record { from = man.now.2; to = to; promotion = None })) }
         requires room { array_vec_len moves.old + length (moves_if may_go man.now to) ≤ CAP }
         ensures { moves.new.items ≡ moves.old.items ++ filter (is_legal self.now) (moves_if may_go man.now to) }
     {
         if may_go {
-            self.push_legal(moves, man, to);
+            self.push_legal(moves, is_free, man, to);
         }
     }
 
-    /// Appends the legal ones of the moves of a man to a square.
+    /// Appends the legal ones of the moves of a man to a square: all if the man is free.
     fn push_legal<const CAP: usize>(
         &self,
         moves: &mut ArrayVec<Move, CAP>,
+        is_free: bool,
         man: &(Man, Color, Square),
         to: Square,
     )
         requires standing { Contains self.now.placed_men man.now }
         requires own { is_color self.now.mover man.now.1 ≡ true }
+        requires free { IsTrue is_free → IsTrue (is_legal self.now (record { from = man.now.2; to = to; promotion = None })) }
         requires room { array_vec_len moves.old + length (moves_to man.now to) ≤ CAP }
         ensures { moves.new.items ≡ moves.old.items ++ filter (is_legal self.now) (moves_to man.now to) }
     {
+        // A fact that the proof uses: the men are those of a position.
+        let _ = self.men();
         // One test is enough: what a pawn is promoted to makes no difference to the mover's king.
-        if self.is_safe(man, to) {
+        if is_free || self.is_safe(man, to) {
             if promotes(man, to) {
                 moves.push(promoted(man.2, to, Man::Queen));
                 moves.push(promoted(man.2, to, Man::Rook));
@@ -266,13 +276,27 @@ impl Position {
         }
     }
 
+    /// Returns whether no move of the mover's man to an empty square leaves the mover's king attacked: without the man, which
+    /// is not the king, it is not attacked.
+    fn is_free(&self, man: &(Man, Color, Square)) -> bool
+        requires standing { Contains self.now.placed_men man.now }
+        requires own { is_color self.now.mover man.now.1 ≡ true }
+        ensures { IsTrue result → (to : ℕ) → to < 64 → may_enter self.now.placed_men man.now to ≡ true → is_legal self.now (record { from = man.now.2; to = to; promotion = None }) ≡ true }
+    {
+        if is_man(Man::King, man) {
+            return false;
+        }
+        let king = self.king();
+        let left = squares_without(self.occupied(), man.2.number());
+        !self.is_attacked_after(man.2.number(), left, king.2)
+    }
+
     /// Returns whether the mover's king is not attacked after a man of the mover's goes to a square.
     #[tactic(auto, unfolding(crate::specs::Moves::is_legal))]
     fn is_safe(&self, man: &(Man, Color, Square), to: Square) -> bool
         requires standing { Contains self.now.placed_men man.now }
         requires own { is_color self.now.mover man.now.1 ≡ true }
-        ensures safe { result ≡ is_legal self.now (record { from = man.now.2; to = to; promotion = None }) }
-        ensures position { IsPosition self.now }
+        ensures { result ≡ is_legal self.now (record { from = man.now.2; to = to; promotion = None }) }
     {
         let m = plain_move(man.2, to);
         let captured = self.captured_square(&m);
@@ -417,6 +441,14 @@ impl Position {
         is_in(self.occupied(), square)
     }
 
+    /// Returns whether an enemy man is on the square. That no man is there is soon known.
+    fn has_enemy_on(&self, square: u8) -> bool
+        requires { square < 64 }
+        ensures { result ≡ list_any (λ s. is_color (other_color self.now.mover) s.1 && s.2 == square) self.now.placed_men }
+    {
+        self.is_occupied(square) && is_any_on(other_color(self.mover), self.men.as_slice(), square)
+    }
+
     /// Returns whether a man is the mover's.
     fn is_own(&self, man: &(Man, Color, Square)) -> bool
         ensures { result ≡ is_color self.now.mover man.now.1 }
@@ -437,6 +469,57 @@ impl Position {
     {
         is_on(Man::Pawn, self.mover, self.men.as_slice(), square)
     }
+}
+
+/// Returns squares among which are all that a man might enter: those that it attacks on an empty board, or a pawn's file.
+fn squares_ahead(man: &(Man, Color, Square)) -> u64
+    ensures { (square : ℕ) → square < 64 → IsFalse (is_in result square) → (men : List PlacedMan) → IsFalse (may_enter men man.now square) }
+{
+    if is_man(Man::Pawn, man) {
+        squares_of_file(man.2.number() % 8)
+    } else {
+        reach_of(man)
+    }
+}
+
+/// Returns the squares of a file.
+fn squares_of_file(file: u8) -> u64
+    requires { file < 8 }
+    ensures { (square : ℕ) → square < 64 → is_in result square ≡ (file_of square == file) }
+{
+    0x0101_0101_0101_0101 << file
+}
+
+/// Returns the first square of a set from `from` on. 64 if there is none.
+fn next_in(squares: u64, from: u8) -> u8
+    requires { from ≤ 64 }
+    ensures from { from ≤ result }
+    ensures within { result ≤ 64 }
+    ensures first { (square : ℕ) → from ≤ square → square < result → IsFalse (is_in squares square) }
+{
+    if from == 64 {
+        return 64;
+    }
+    let rest = squares >> from;
+    if rest == 0 {
+        return 64;
+    }
+    from + rest.trailing_zeros() as u8
+}
+
+/// Returns whether a man is of this kind.
+fn is_man(kind: Man, man: &(Man, Color, Square)) -> bool
+    ensures { result ≡ is_man kind man.now.0 }
+{
+    man.0 == kind
+}
+
+/// Returns a set of squares without one.
+fn squares_without(squares: u64, square: u8) -> u64
+    requires { square < 64 }
+    ensures { (other : ℕ) → other < 64 → is_in result other ≡ (is_in squares other && not (other == square)) }
+{
+    squares & !(1 << square)
 }
 
 /// Returns the squares of men after one goes from a square to another, and the one on `captured` vanishes before.

@@ -1,15 +1,16 @@
 -- What is known of a front, as facts of the table of a file.
-use Rattle.std.proofs.Common.{◌≡◌, ℕ, ◌+◌, ◌-◌, ◌≤◌, List, [], ◌++◌, length, refl, sym, ap, subst, ◌∙◌, arith, inl, inr}
+use Rattle.std.proofs.Common.{◌≡◌, ℕ, ◌+◌, ◌-◌, ◌≤◌, List, [], ◌++◌, length, drop, refl, sym, ap, subst, ◌∙◌, arith, inl, inr}
 use Rattle.std.specs.Prelude.{IfOk, IsNone, Result, Ok, Err, Option, Some, None, IsSome, IfSome, IsSomeAnd, MatchOption, replicate, option_map, option_and_then}
 use Rattle.std.proofs.Math.Seq.{take-append_seam}
-use Rattle.std.proofs.lemmas.List.{length-replicate, length-append}
+use Rattle.std.proofs.lemmas.List.{length-replicate, length-append, length-drop}
 use Rattle.szg_io.specs.declared.device.Input as input
 use Rattle.szg_block.specs.BlocksTrait.{bytes_at}
 use Rattle.szg_file.specs.Contents.{Contents, Slot, slots, Subtable}
 use Rattle.szg_file.specs.FrontInput.{BeginsWith}
 use Rattle.szg_file.specs.FrontTable.{FrontKept, IsFrontOf}
 use Rattle.szg_file.specs.Index.{Index, index_of, slot_in}
-use Rattle.szg_file.specs.Unread.{IsUnread, front_at, front_in}
+use Rattle.szg_file.specs.Format.{good, verdict}
+use Rattle.szg_file.specs.Unread.{IsUnread, front_at, front_in, unread_file}
 use Rattle.szg_file.specs.Values.{subtable_at}
 use Rattle.szg_file.specs.Wanted.{wanted_block}
 use Rattle.szg_file.specs.declared.opened.fetching.ByteRange.{ByteRange}
@@ -23,13 +24,13 @@ use Rattle.szg_place.specs.declared.Spot.{Spot}
 use Rattle.szg_values.specs.Material.{Sides}
 use Rattle.szg_values.specs.Placement.{Board}
 use Rattle.szg_values.specs.declared.Kind.{Kind}
-use Rattle.szg_commands.specs.Answers.{IsSpotLine, spot_line}
+use Rattle.szg_commands.specs.Answers.{IsSpotLine, front_lines, spot_line}
 use Rattle.szg_commands.specs.Fronts.{IsBadBlockAt, IsBlockRead, IsDecodedAt, IsFetchedIn, IsFrontTaken, IsLookUpAnswer, IsLookUpRefused, IsLookedUp, IsMapRefusal, IsMeaningLine, IsUnhad, IsWantedBy}
 use Rattle.szg_commands.specs.Refusals.{index_refusal, place_refusal, size_at, spot_refusal}
 use Rattle.szg_commands.specs.declared.fronts.OpenedFront.{OpenedFront}
 use Rattle.szg_commands.specs.declared.refusal.Refusal.{Refusal}
 use Rattle.szg_commands.specs.declared.refusal.Refusal.TheVariants as why
-use Rattle.szg_commands.specs.declared.request.Action.TheVariants.{Probe}
+use Rattle.szg_commands.specs.declared.request.Action.TheVariants.{Probe, Show}
 use Rattle.szg_commands.specs.declared.request.Class.{Class}
 use Rattle.szg_commands.specs.declared.request.Request.{Request}
 
@@ -62,6 +63,32 @@ unfetched device file kept read size Q room follows = record {
   taken = inl refl;
   room = omega (arith, room);
   stated = λ content h holds. in_table (front_in kept.index.material kept.index.kind content) h.table (Q content) h.there (follows content h);
+}
+
+-- the first lines of a description, once the last bytes are read
+pub described : {F : Type 0} (device : input.Ghosts F) (file : F) (kept : FrontKept) (read size part side : ℕ) (wanted : ByteRange) (block text rest : List ℕ) → kept.length ≡ size → wanted.offset ≡ kept.ending → wanted.count ≡ 16 → wanted.offset + 16 ≤ kept.length →
+    IsBlockRead device file read (Some wanted) block → text ≡ front_lines kept.index.material kept.index.kind (kept.ending + 16) ++ rest →
+    IsFetchedIn device file kept read size (λ content t. IsLookUpAnswer Show part side content t text)
+described device file kept read size part side wanted block text rest long offset count inside (skipped, place, many, range) is = record {
+  skipped = skipped;
+  block = block;
+  taken = inr range;
+  room = omega (arith, inside, offset, count, place, many, long);
+  stated = λ content h holds.
+      let after : List ℕ = drop (kept.ending + 16) content in
+      let left : length after ≡ length content - (kept.ending + 16) = length-drop (kept.ending + 16) content in
+      let whole = h.long in
+      in_table (front_in kept.index.material kept.index.kind content) h.table (λ t. IsLookUpAnswer Show part side content t text) h.there (
+        kept.ending + 16,
+        record {
+          filled = h.filled;
+          rest = after;
+          begins = subst (λ (x : Index). verdict (unread_file x.material x.kind) 0 content ≡ good h.table h.filled after) h.index_is h.ends;
+          long = omega (arith, left, whole, inside, offset);
+        },
+        rest,
+        subst (λ (x : Index). text ≡ front_lines x.material x.kind (kept.ending + 16) ++ rest) h.index_is is,
+      );
 }
 
 -- ---- subtables
@@ -192,8 +219,8 @@ module _ (x : Index) (board : Board) (class : Class) (t : Contents) (same : x �
     spot_here : spot ≡ spot_of (numbering_of t) board
     spot_here = is ∙ ap (λ (y : Index). spot_of (numbering_in y) board) same
 
-    pub probe_parsed : (part side value : ℕ) (text : List ℕ) → IsMeaningLine x.kind x spot.part class value text → IsDecodedAt t spot.part spot.side spot.index value → IsLookUpAnswer (Probe board class) part side t text
-    probe_parsed part side value text meaning decoded = (
+    pub probe_parsed : (part side value : ℕ) (content text : List ℕ) → IsMeaningLine x.kind x spot.part class value text → IsDecodedAt t spot.part spot.side spot.index value → IsLookUpAnswer (Probe board class) part side content t text
+    probe_parsed part side value content text meaning decoded = (
       none_here,
       value,
       subst (λ (s : Spot). IsDecodedAt t s.part s.side s.index value) spot_here decoded,

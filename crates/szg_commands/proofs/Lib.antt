@@ -7,3 +7,4 @@ mod MenWords
 pub mod FrontFacts
 pub mod Endings
 pub mod Words
+mod Sharing

@@ -10,7 +10,7 @@ use Rattle.szg_build.specs.Built.{IsDumpOf}
 use Rattle.szg_build.specs.Dump as stated
 use Rattle.szg_build.specs.Shown.{form_of}
 use Rattle.szg_build.specs.Text.{dump_text}
-use Rattle.szg_values.specs.Material.{name_of}
+use Rattle.szg_values.specs.Material.{Sides, name_of}
 use Rattle.szg_values.specs.Placement.{Board}
 use Rattle.szg_values.specs.declared.Color.{Color}
 use Rattle.szg_values.specs.declared.Color.TheVariants.{White, Black}
@@ -43,9 +43,8 @@ kind_word Wdl = codes "wdl"
 kind_word Dtz = codes "dtz"
 
 -- a description's first lines: the table's name, its kind and its file's length
-abbrev pub front_lines : Shown → List ℕ
-front_lines t = codes "name " ++ (name_of t.contents.material ++ (codes "\nkind " ++ (kind_word t.contents.kind
-    ++ (codes "\nbytes " ++ number_line (length (file_bytes t))))))
+abbrev pub front_lines : Sides → Kind → ℕ → List ℕ
+front_lines material kind count = codes "name " ++ (name_of material ++ (codes "\nkind " ++ (kind_word kind ++ (codes "\nbytes " ++ number_line count))))
 
 -- ---- dumps
 
@@ -110,7 +109,7 @@ placement_line board = mover_word board.mover ++ (men_words board.placed_men ++ 
 -- is left to tests. Words that make no placement have no answer.
 abbrev pub IsAnswer : Action → ℕ → ℕ → Shown → List ℕ → Type 0
 IsAnswer Check part side t text = text ≡ codes "ok " ++ number_line (length (file_bytes t))
-IsAnswer Show part side t text = (rest : List ℕ) × (text ≡ front_lines t ++ rest)
+IsAnswer Show part side t text = (rest : List ℕ) × (text ≡ front_lines t.contents.material t.contents.kind (length (file_bytes t)) ++ rest)
 IsAnswer (Get index) part side t text =
     IsSomeAnd (subtable_at t.contents part side) (λ found. IsSomeAnd (item (values_of t.contents.kind found) index) (λ value. text ≡ number_line value))
 IsAnswer (GetCounted index) part side t text =

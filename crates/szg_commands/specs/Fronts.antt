@@ -1,5 +1,6 @@
--- What a look-up in a file by its front does: the file is read and checked up to its blocks, and then at most one block.
-use Rattle.std.specs.Prelude.{◌≡◌, ◌⊎◌, ℕ, ◌+◌, ◌<◌, ◌≤◌, List, [], length, Option, Some, None, IsNone, IfSome, IsSomeAnd, Ok}
+-- What a look-up in a file by its front does: the file is read and checked up to its blocks, and then at most one block, or
+-- the last bytes.
+use Rattle.std.specs.Prelude.{◌≡◌, ◌⊎◌, ℕ, ◌+◌, ◌<◌, ◌≤◌, List, [], ◌++◌, length, Option, Some, None, IsNone, IfSome, IsSomeAnd, Ok}
 use Rattle.szg_io.specs.declared.device.Input as input
 use Rattle.szg_io.specs.Moved.{Takes}
 use Rattle.szg_values.specs.Material.{Sides, parsed}
@@ -11,7 +12,8 @@ use Rattle.szg_file.specs.Fetching.{NamesBadBlock}
 use Rattle.szg_file.specs.FrontInput.{BeginsWith, IsFrontRefusal}
 use Rattle.szg_file.specs.FrontTable.{FrontKept, IsFrontOf}
 use Rattle.szg_file.specs.Index.{Index as TableIndex, index_of}
-use Rattle.szg_file.specs.Unread.{IsDecoded, front_at, front_in}
+use Rattle.szg_file.specs.Format.{good, verdict}
+use Rattle.szg_file.specs.Unread.{IsDecoded, front_at, front_in, unread_file}
 use Rattle.szg_file.specs.Values.{subtable_at}
 use Rattle.szg_file.specs.Wanted.{wanted_block}
 use Rattle.szg_file.specs.declared.fault.Reason.{Reason}
@@ -23,14 +25,14 @@ use Rattle.szg_files.specs.declared.file_system.FileFault.TheVariants.{Memory}
 use Rattle.szg_place.specs.Probes.{as_number}
 use Rattle.szg_place.specs.Spots.{place_fault, spot_of}
 use Rattle.szg_place.specs.Tables.{class_of, numbering_of}
-use Rattle.szg_commands.specs.Answers.{IsSpotLine, class_line, number_line, number_of_class}
+use Rattle.szg_commands.specs.Answers.{IsSpotLine, class_line, front_lines, number_line, number_of_class}
 use Rattle.szg_commands.specs.Refusals.{index_refusal, map_refusal, size_at, spot_refusal}
 use Rattle.szg_commands.specs.Requests.{first_check}
 use Rattle.szg_commands.specs.declared.fronts.OpenedFront.{OpenedFront}
 use Rattle.szg_commands.specs.declared.refusal.Refusal.{Refusal}
 use Rattle.szg_commands.specs.declared.refusal.Refusal.TheVariants as why
 use Rattle.szg_commands.specs.declared.request.Action.{Action}
-use Rattle.szg_commands.specs.declared.request.Action.TheVariants.{Get, Index, Probe}
+use Rattle.szg_commands.specs.declared.request.Action.TheVariants.{Get, Index, Probe, Show}
 use Rattle.szg_commands.specs.declared.request.Class.{Class}
 use Rattle.szg_commands.specs.declared.request.Request.{Request}
 
@@ -46,14 +48,23 @@ IsMeaningLine Wdl x part class value text = text ≡ class_line (class_of value)
 IsMeaningLine Dtz x part class value text =
     (number : ℕ) × (as_number x part (number_of_class class) value ≡ Ok number) × (text ≡ number_line number)
 
--- This text is the answer to a look-up in a table whose blocks are not checked: only of a value whose whole block decodes.
-abbrev pub IsLookUpAnswer : Action → ℕ → ℕ → Contents → List ℕ → Type 0
-IsLookUpAnswer (Get index) part side t text = (value : ℕ) × IsDecodedAt t part side index value × (text ≡ number_line value)
-IsLookUpAnswer (Index board) part side t text = IsSpotLine t board text
-IsLookUpAnswer (Probe board class) part side t text =
+-- The file of the table that these bytes begin with has `count` bytes.
+pub record HasLength (content : List ℕ) (t : Contents) (count : ℕ) : Type 0 where
+  pub filled : List ℕ
+  pub rest : List ℕ
+  pub begins : verdict (unread_file t.material t.kind) 0 content ≡ good t filled rest
+  pub long : count + length rest ≡ length content
+
+-- This text is the answer to a look-up in a table whose blocks are not checked: the first lines of its description, a spot,
+-- or a value whose whole block decodes.
+abbrev pub IsLookUpAnswer : Action → ℕ → ℕ → List ℕ → Contents → List ℕ → Type 0
+IsLookUpAnswer Show part side content t text = (count : ℕ) × HasLength content t count × (rest : List ℕ) × (text ≡ front_lines t.material t.kind count ++ rest)
+IsLookUpAnswer (Get index) part side content t text = (value : ℕ) × IsDecodedAt t part side index value × (text ≡ number_line value)
+IsLookUpAnswer (Index board) part side content t text = IsSpotLine t board text
+IsLookUpAnswer (Probe board class) part side content t text =
     let spot = spot_of (numbering_of t) board in
     IsNone (place_fault (numbering_of t) board) × (value : ℕ) × IsDecodedAt t spot.part spot.side spot.index value × IsMeaningLine t.kind (index_of t) spot.part class value text
-IsLookUpAnswer action part side t text = ⊥
+IsLookUpAnswer action part side content t text = ⊥
 
 -- ---- refusals
 
@@ -83,8 +94,9 @@ IsLookUpRefused action part side content t refusal = ⊥
 
 -- ---- what is read
 
--- a look-up, which needs the front and one block
+-- a look-up, which needs the front and one block, or the last bytes
 abbrev pub IsLookUp : Action → Type 0
+IsLookUp Show = Unit {0}
 IsLookUp (Get index) = Unit {0}
 IsLookUp (Index board) = Unit {0}
 IsLookUp (Probe board class) = Unit {0}
@@ -201,4 +213,4 @@ MeetsIn {F = F} device request file refusal =
 
 -- This text is the look-up's answer in the file that was opened.
 abbrev pub AnswersIn : {F : Type 0} → input.Ghosts F → Request → F → List ℕ → Type 0
-AnswersIn device request file text = IsLookedUp device request file (λ content t. IsLookUpAnswer request.action request.part request.side t text)
+AnswersIn device request file text = IsLookedUp device request file (λ content t. IsLookUpAnswer request.action request.part request.side content t text)

@@ -13,3 +13,4 @@ pub mod OnFiles
 pub mod Requested
 pub mod Statuses
 pub mod Copies
+pub mod Laws

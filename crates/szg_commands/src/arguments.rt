@@ -377,7 +377,7 @@ pub const VERIFY: Argument = Argument {
     form: ArgumentForm::Flag,
     values: ValueParser::Bool,
     is_number: false,
-    help: "Check the whole file first, and not only what the look-up reads",
+    help: "Check the whole file first, and not only what the command reads",
 };
 
 impl Argument {

@@ -62,7 +62,7 @@ static OF_FILES: [Argument; 10] = [
 ];
 
 /// Those of the description of a file.
-static OF_FILE: [Argument; 3] = [FILE, NAME_GIVEN, KIND_GIVEN];
+static OF_FILE: [Argument; 4] = [FILE, VERIFY, NAME_GIVEN, KIND_GIVEN];
 
 /// Those of the copy of a file.
 static OF_FILE_COPY: [Argument; 4] = [FILE, OUTPUT, NAME_GIVEN, KIND_GIVEN];
@@ -228,7 +228,8 @@ fn file_example(name: &str) -> &'static str {
     match name {
         "check" =>
             "Example: szg check *.rtbw *.rtbz{n}Standard input: szg check KQvK wdl < KQvK.rtbw",
-        "show" => "Example: szg show KQvK.rtbw{n}Standard input: szg show KQvK wdl < KQvK.rtbw",
+        "show" =>
+            "It looks at no block of FILE, so a damaged one isn't found; szg check finds it.{n}Example: szg show KQvK.rtbw{n}Standard input: szg show KQvK wdl < KQvK.rtbw",
         "get" =>
             "Example: szg get KQvK.rtbw 31331 --side 1{n}Standard input: szg get KQvK wdl 31331 --side 1 < KQvK.rtbw",
         "values" =>

@@ -13,7 +13,7 @@ ghost use Rattle.szg_commands.specs.declared.refusal.Refusal.{Refusal};
 ghost use Rattle.szg_commands.specs.declared.request.Task.{Task};
 
 use crate::building::build_and_write;
-use crate::description::description;
+use crate::description::table_description;
 use crate::finding::{Clap, Finder};
 use crate::lookups::{counted_answer, get_answer, write_all_values};
 use crate::outcome::Outcome;
@@ -206,7 +206,7 @@ fn answer_request<W: Output>(
             say(writer, text.as_bytes())
         }
         Action::Show => {
-            let text = description(alloc, table)?;
+            let text = table_description(alloc, table)?;
             say(writer, text.as_bytes())
         }
         Action::Get(index) => say_line(writer, get_answer(alloc, table, request, *index)),

@@ -1,4 +1,5 @@
-//! Look-ups in a file by its front: the file is read and checked up to its blocks, and then at most one block.
+//! Look-ups in a file by its front: the file is read and checked up to its blocks, and then at most one block, or the last
+//! bytes.
 
 ghost use Rattle.std.specs.Prelude.{◌≡◌, ℕ, ◌+◌, ◌≤◌, ◌<◌, [], length, Ok, IfOk, IfSome, IfErr, IsErrOf, IsNone, IsSome, IsSomeAnd, Some, option_map, string_bytes, false, true};
 ghost use Rattle.szg_file.specs.Index.{slot_in};
@@ -12,6 +13,7 @@ ghost use Rattle.szg_commands.specs.Refusals.{index_refusal, place_refusal};
 ghost use Rattle.szg_files.specs.declared.file_system.FileFault.{FileFault as Fault};
 ghost use Rattle.szg_commands.specs.declared.refusal.Refusal.{Refusal};
 
+use crate::description::front_description;
 use crate::placements::{class_line, spot_line};
 use crate::refusal::{Refusal, Stop};
 use crate::request::{Action, Class, Request};
@@ -54,14 +56,14 @@ impl From<AllocError> for LookUpStop {
     }
 }
 
-/// Whether an action is a look-up: it needs a table's front, and at most one block.
+/// Whether an action is a look-up: it needs a table's front, and at most one block or the last bytes.
 pub(crate) fn is_look_up(action: &Action) -> bool
     ensures yes { (result ≡ true) → IsLookUp action.now }
     ensures no { (result ≡ false) → IsLookUp action.now → ⊥ }
 {
     matches!(
         action,
-        Action::Get(_) | Action::Index(_) | Action::Probe(..)
+        Action::Show | Action::Get(_) | Action::Index(_) | Action::Probe(..)
     )
 }
 
@@ -92,7 +94,7 @@ fn opened_front<F: Input>(
     Ok(OpenedFront { front, read, size })
 }
 
-/// Reads the bytes of a block after the front of `read` bytes; none if no block is wanted.
+/// Reads bytes after the front of `read` bytes; none if none are wanted.
 fn block_read<S: FileSystem>(
     alloc: Global,
     system: &S,
@@ -211,7 +213,7 @@ fn get_line<S: FileSystem>(
 ) -> Result<String, LookUpStop>
     requires room { opened.now.read ≤ opened.now.size }
     requires size { opened.now.front.length ≡ opened.now.size }
-    ensures stated { IfOk result (λ line. IsFetchedIn S.File.Input file opened.now.front opened.now.read opened.now.size (λ content t. IsLookUpAnswer (Action.Get index) request.now.part request.now.side t (string_bytes line))) }
+    ensures stated { IfOk result (λ line. IsFetchedIn S.File.Input file opened.now.front opened.now.read opened.now.size (λ content t. IsLookUpAnswer (Action.Get index) request.now.part request.now.side content t (string_bytes line))) }
     ensures refused { (refusal : Refusal) → IsErrOf result (LookUpStop.Refused refusal) → IsFetchedIn S.File.Input file opened.now.front opened.now.read opened.now.size (λ content t. IsLookUpRefused (Action.Get index) request.now.part request.now.side content t refusal) }
 {
     let spot = match requested_spot(&opened.front, request.part, request.side, index) {
@@ -251,7 +253,7 @@ fn probe_line<S: FileSystem>(
 ) -> Result<String, LookUpStop>
     requires room { opened.now.read ≤ opened.now.size }
     requires size { opened.now.front.length ≡ opened.now.size }
-    ensures stated { IfOk result (λ line. (part side : ℕ) → IsFetchedIn S.File.Input file opened.now.front opened.now.read opened.now.size (λ content t. IsLookUpAnswer (Action.Probe placement.now class) part side t (string_bytes line))) }
+    ensures stated { IfOk result (λ line. (part side : ℕ) → IsFetchedIn S.File.Input file opened.now.front opened.now.read opened.now.size (λ content t. IsLookUpAnswer (Action.Probe placement.now class) part side content t (string_bytes line))) }
     ensures refused { (refusal : Refusal) → IsErrOf result (LookUpStop.Refused refusal) → (part side : ℕ) → IsFetchedIn S.File.Input file opened.now.front opened.now.read opened.now.size (λ content t. IsLookUpRefused (Action.Probe placement.now class) part side content t refusal) }
 {
     let spot = match locate(opened.front.index(), &PlacedMen::of(placement)) {
@@ -265,7 +267,30 @@ fn probe_line<S: FileSystem>(
     meaning_line(alloc, opened.front.index(), spot.part, class, value)
 }
 
-/// The line of a look-up's answer.
+/// The description of the opened table. After the front it reads the last sixteen bytes, and no block.
+fn show_lines<S: FileSystem>(
+    alloc: Global,
+    system: &S,
+    file: S::File,
+    opened: &OpenedFront,
+) -> Result<String, LookUpStop>
+    requires room { opened.now.read ≤ opened.now.size }
+    requires size { opened.now.front.length ≡ opened.now.size }
+    ensures stated { IfOk result (λ text. (part side : ℕ) → IsFetchedIn S.File.Input file opened.now.front opened.now.read opened.now.size (λ content t. IsLookUpAnswer Action.Show part side content t (string_bytes text))) }
+    ensures answered { (refusal : Refusal) → IsErrOf result (LookUpStop.Refused refusal) → ⊥ }
+{
+    let front = &opened.front;
+    let offset = front.ending();
+    let ending = ByteRange { offset, count: 16 };
+    let last = match block_read(alloc, system, file, opened.read, Some(ending)) {
+        Ok(last) => last,
+        Err(fault) => return Err(LookUpStop::Failed(fault)),
+    };
+    let text = front_description(alloc, front, &last)?;
+    Ok(text)
+}
+
+/// The text of a look-up's answer.
 fn look_up_line<S: FileSystem>(
     alloc: Global,
     system: &S,
@@ -276,10 +301,11 @@ fn look_up_line<S: FileSystem>(
     requires looks { IsLookUp request.now.action }
     requires room { opened.now.read ≤ opened.now.size }
     requires size { opened.now.front.length ≡ opened.now.size }
-    ensures stated { IfOk result (λ line. IsFetchedIn S.File.Input file opened.now.front opened.now.read opened.now.size (λ content t. IsLookUpAnswer request.now.action request.now.part request.now.side t (string_bytes line))) }
+    ensures stated { IfOk result (λ line. IsFetchedIn S.File.Input file opened.now.front opened.now.read opened.now.size (λ content t. IsLookUpAnswer request.now.action request.now.part request.now.side content t (string_bytes line))) }
     ensures refused { (refusal : Refusal) → IsErrOf result (LookUpStop.Refused refusal) → IsFetchedIn S.File.Input file opened.now.front opened.now.read opened.now.size (λ content t. IsLookUpRefused request.now.action request.now.part request.now.side content t refusal) }
 {
     match &request.action {
+        Action::Show => show_lines(alloc, system, file, opened),
         Action::Get(index) => get_line(alloc, system, file, opened, request, *index),
         Action::Index(placement) => index_line(alloc, &opened.front, placement),
         Action::Probe(placement, class) => {

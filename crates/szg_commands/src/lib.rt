@@ -10,6 +10,7 @@ mod description;
 mod file_words;
 mod finding;
 mod fronts;
+pub mod laws;
 mod lookups;
 mod meant;
 mod men;

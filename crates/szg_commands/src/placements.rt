@@ -40,7 +40,7 @@ pub(crate) fn spot_line(alloc: Global, spot: Spot) -> Result<String, AllocError>
 }
 
 /// A part's letter.
-fn part_letter(part: u8) -> &'static str
+pub(crate) fn part_letter(part: u8) -> &'static str
     ensures { result.now ≡ part_letter part }
 {
     match part {

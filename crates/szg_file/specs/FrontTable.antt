@@ -1,25 +1,37 @@
 -- The view of a table that was opened by its front, and its invariant.
-use Rattle.std.specs.Prelude.{ℕ, ◌≡◌, ◌<◌, ◌^◌, List, length, map, Some}
+use Rattle.std.specs.Prelude.{ℕ, ◌≡◌, ◌+◌, ◌<◌, ◌≤◌, ◌^◌, List, length, map, drop, Some}
 use Rattle.std.specs.List.{AllByRecursion}
+use Rattle.szg_block.specs.BlocksTrait.{bytes_at}
 use Rattle.szg_file.specs.Accepted.{IsPart, AreMaps, SideBySide}
 use Rattle.szg_file.specs.Contents.{Contents, slots, part_numbers}
+use Rattle.szg_file.specs.Format.{good, verdict}
 use Rattle.szg_file.specs.Index.{Index, index_of}
 use Rattle.szg_file.specs.Placed.{whole_sub, Fits}
-use Rattle.szg_file.specs.Unread.{front_in, IsUnread}
+use Rattle.szg_file.specs.Unread.{front_in, unread_file, IsUnread}
 use Rattle.szg_file.specs.declared.reading.dropping.PlacedSub.{PlacedSub}
 
--- the index, the length of the file, the length of the longest block, and the subtables without their blocks
+-- the index, byte 4, the length of the source, the offset of the table's last sixteen bytes, the length of the longest
+-- block, and the subtables without their blocks
 pub record FrontKept : Type 0 where
   pub index : Index
+  pub byte4 : ℕ
   pub length : ℕ
+  pub ending : ℕ
   pub room : ℕ
   pub subs : List PlacedSub
 
--- `kept` has the index, length and subtables of the table that `content` begins with; its blocks are not checked
+-- `kept` has the index, byte 4, length, last bytes' offset and subtables of the table that `content` begins with; its
+-- blocks are not checked
 pub record IsFrontOf (kept : FrontKept) (content : List ℕ) : Type 0 where
   pub table : Contents
   pub there : front_in kept.index.material kept.index.kind content ≡ Some table
   pub index_is : kept.index ≡ index_of table
+  pub byte4_is : kept.byte4 ≡ table.byte4
+  pub filled : List ℕ
+  -- after the last bytes the table's file ends
+  pub ends : verdict (unread_file kept.index.material kept.index.kind) 0 content ≡ good table filled (drop (kept.ending + 16) content)
+  pub inside : kept.ending + 16 ≤ kept.length
+  pub last_is : table.last ≡ bytes_at content kept.ending 16
   pub long : length content ≡ kept.length
   pub short : kept.length < 2 ^ 64
   pub subs_are : map (whole_sub content) kept.subs ≡ table.subtables

@@ -34,3 +34,4 @@ pub mod Passed
 pub mod Index
 pub mod FrontInput
 pub mod Streaming
+pub mod InPlace

@@ -4,7 +4,7 @@ use Rattle.std.specs.Int.{bit_at}
 use Rattle.szg_block.specs.Block.{block_at}
 use Rattle.szg_block.specs.Sound.{SpellsNeeded}
 use Rattle.szg_file.specs.Contents.{Slot, Subtable, constant, pairs, layout_of}
-use Rattle.szg_file.specs.FrontTable.{FrontKept}
+use Rattle.szg_file.specs.Index.{Index}
 use Rattle.szg_file.specs.Unread.{front_at}
 use Rattle.szg_file.specs.declared.opened.passed.Passed.{Passed}
 
@@ -22,6 +22,6 @@ BlockPasses (slot, constant flags byte) n = Unit {0}
 BlockPasses (slot, pairs head sparse lengths packed) n = SpellsNeeded (layout_of head sparse lengths) slot.size n (block_at head.block_bits packed n)
 
 -- each noted block passes
-abbrev pub ArePassed : FrontKept → List ℕ → Passed → Type 0
-ArePassed kept content passed =
-    (part side n : ℕ) → IsNoted passed part side n → IfSome (front_at kept.index.material kept.index.kind content part side) (λ found. BlockPasses found n)
+abbrev pub ArePassed : Index → List ℕ → Passed → Type 0
+ArePassed index content passed =
+    (part side n : ℕ) → IsNoted passed part side n → IfSome (front_at index.material index.kind content part side) (λ found. BlockPasses found n)

@@ -3,6 +3,7 @@
 pub(crate) mod fetching;
 pub(crate) mod forward;
 pub(crate) mod front_table;
+pub(crate) mod in_place;
 pub(crate) mod passed;
 mod placing;
 

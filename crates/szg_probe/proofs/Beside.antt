@@ -1,5 +1,5 @@
 -- The class of a position from that of the position without the right to capture en passant, and from its captures.
-use Rattle.std.proofs.Common.{◌≡◌, ℕ, suc, List, [], ◌∷◌, length, map, refl, sym, ap, ◌∙◌, subst, Bool, true, false, arith, inl, inr, ◌⊎◌, ◌↔◌, Option, Some, None, Contains, get_or}
+use Rattle.std.proofs.Common.{◌≡◌, suc, List, [], ◌∷◌, length, map, refl, sym, ap, ◌∙◌, subst, Bool, true, false, arith, inl, inr, ◌⊎◌, ◌↔◌, Some, None, Contains, get_or}
 use Rattle.std.specs.Prelude.{filter, not, ◌==◌, ◌||◌, All, IsTrue}
 use Rattle.std.specs.List.{list_any, list_all}
 use Rattle.std.proofs.lemmas.Bool.{cases_Bool, and_parts, and_from, or_parts, or_from, or_right, not_from_true, not-false, both_ways, not_from_false, not-true, eqb-true}

@@ -1,19 +1,21 @@
 -- Loops over the legal moves.
 use Rattle.std.proofs.Common.{◌≡◌, ℕ, ◌+◌, ◌<◌, ◌≤◌, List, [], ◌∷◌, ◌++◌, length, map, max, take, get_or, refl, sym, ap, ◌∙◌, subst, Bool, true, false, arith, inl, inr, Option, Some, None, Contains}
-use Rattle.std.specs.Prelude.{IsNone, option_and_then}
-use Rattle.std.specs.List.{list_any}
-use Rattle.std.proofs.lemmas.Bool.{cases_Bool}
+use Rattle.std.specs.Prelude.{◌||◌, ◌&&◌, ◌==◌, not, filter, option_and_then, option_map}
+use Rattle.std.specs.List.{list_any, list_all}
+use Rattle.std.proofs.lemmas.Bool.{cases_Bool, or_parts, or_from, ne_eqb}
 use Rattle.std.proofs.lemmas.List.{take_more, take_all}
+use Rattle.szg_values.specs.Men.{is_man, is_color}
 use Rattle.szg_values.specs.Placement.{PlacedMan}
 use Rattle.szg_values.specs.declared.Color.{Color}
+use Rattle.szg_values.specs.declared.Man.TheVariants.{Pawn}
 use Rattle.szg_game.specs.Certified.{is_won}
 use Rattle.szg_game.specs.declared.Class.{Class}
 use Rattle.szg_game.proofs.Lists.{IsIn, in_contains, any_in, in_map}
 use Rattle.szg_chess.specs.declared.Move.{Move}
-use Rattle.szg_chess.specs.Position.{Position, IsPosition}
-use Rattle.szg_chess.specs.Moves.{after, is_zeroing, legal_moves}
-use Rattle.szg_probe.specs.Probing.{StoredClasses, all_known, probed}
-use Rattle.szg_probe.specs.Distances.{StoredNumbers, is_known_true, any_known, choose_some, least, greatest, chosen, offset_of, stays, distance_by, quiet_distance, move_distance, ranked, MayLack}
+use Rattle.szg_chess.specs.Position.{Position, IsPosition, is_on}
+use Rattle.szg_chess.specs.Moves.{after, has_no_move, is_capture, is_zeroing, legal_moves}
+use Rattle.szg_probe.specs.Probing.{StoredClasses, all_known, has_only_captures, probed}
+use Rattle.szg_probe.specs.Distances.{StoredNumbers, is_known_true, any_known, keeps_by_zeroing, has_zeroing, is_drawn, stored_distance, probed_distance, choose_some, least, greatest, chosen, offset_of, stays, distance_by, quiet_distance, move_distance, ranked, MayLack}
 use Rattle.szg_probe.specs.declared.distances.DistanceFault.{DistanceFault}
 use Rattle.szg_probe.specs.declared.distances.DistanceFault.TheVariants.{Tables, Contradiction}
 use Rattle.szg_probe.proofs.Search.{any_more, map_more, known_more, fault_after}
@@ -62,6 +64,70 @@ some_at {A} f items whole i x same h is e =
     let at = subst (λ (xs : List A). IsIn xs x) same (in_contains items x (i, h, sym is)) in
     let found : list_any is_known_true (map f whole) ≡ true = any_in is_known_true (map f whole) (f x) (in_map f whole x at) (ap is_known_true e) in
     rw found refl
+
+-- ---- zeroing moves
+
+known_skips : {A B : Type 0} (g : List A → List A) (c : B) (o : Option (List A)) → option_map (λ all. c) (option_map g o) ≡ option_map (λ all. c) o
+known_skips g c None = refl
+known_skips g c (Some all) = refl
+
+-- elements of which it is known that they are not are passed over
+any_passed : (f : Move → Option Bool) (c : Move → Bool) (ms : List Move) → ((m : Move) → c m ≡ false → f m ≡ Some false) → any_known (map f (filter c ms)) ≡ any_known (map f ms)
+any_passed f c ms passed = let any = any_same ms in let all = all_same ms in rw (any, all) refl
+  where
+    any_same : (xs : List Move) → list_any is_known_true (map f (filter c xs)) ≡ list_any is_known_true (map f xs)
+    any_same [] = refl
+    any_same (x ∷ xs) = elim (cases_Bool (c x)) [
+      | inl e ↦ rw e (ap (λ b. is_known_true (f x) || b) (any_same xs))
+      | inr e ↦ (let known = passed x e in rw (e, known) (any_same xs))
+    ]
+
+    all_same : (xs : List Move) → option_map (λ all. false) (all_known (map f (filter c xs))) ≡ option_map (λ all. false) (all_known (map f xs))
+    all_same [] = refl
+    all_same (x ∷ xs) = elim (cases_Bool (c x)) [
+      | inl e ↦ rw e (by_first (f x) (all_same xs))
+      | inr e ↦ (let known = passed x e in rw (e, known) (all_same xs ∙ sym (known_skips (λ js. false ∷ js) false (all_known (map f xs)))))
+    ]
+      where
+        by_first : (o : Option Bool) → option_map (λ all. false) (all_known (map f (filter c xs))) ≡ option_map (λ all. false) (all_known (map f xs)) → option_map (λ all. false) (all_known (o ∷ map f (filter c xs))) ≡ option_map (λ all. false) (all_known (o ∷ map f xs))
+        by_first None h = refl
+        by_first (Some b) h = known_skips (λ js. b ∷ js) false (all_known (map f (filter c xs))) ∙ h ∙ sym (known_skips (λ js. b ∷ js) false (all_known (map f xs)))
+
+no_pawn_on : (color : Color) (men : List PlacedMan) (square : ℕ) → list_any (λ s. is_man Pawn s.0 && is_color color s.1) men ≡ false → is_on Pawn color men square ≡ false
+no_pawn_on color [] square h = refl
+no_pawn_on color (s ∷ men) square h =
+    let parts = or_parts (is_man Pawn s.0 && is_color color s.1) (list_any (λ t. is_man Pawn t.0 && is_color color t.1) men) h in
+    or_from (is_man Pawn s.0 && is_color color s.1 && s.2 == square) (is_on Pawn color men square) (neither (is_man Pawn s.0) (is_color color s.1) (s.2 == square) parts.0) (no_pawn_on color men square parts.1)
+  where
+    neither : (a b c : Bool) → (a && b) ≡ false → (a && b && c) ≡ false
+    neither false b c h = refl
+    neither true false c h = refl
+    neither true true c h = cc
+
+-- without a pawn a move that is no capture keeps no class by zeroing
+quiet_keeps_none : (classes : StoredClasses) (p : Position) (k : Class) (m : Move) → list_any (λ s. is_man Pawn s.0 && is_color p.mover s.1) p.placed_men ≡ false → is_capture p m ≡ false → keeps_by_zeroing classes p k m ≡ Some false
+unfolding keeps_by_zeroing
+quiet_keeps_none classes p k m none quiet = let off = no_pawn_on p.mover p.placed_men m.from none in rw (off, quiet) refl
+
+-- without a pawn captures alone are zeroing
+pub zeroing_by_captures : (classes : StoredClasses) (p : Position) (k : Class) (b : Bool) (captures : List Move) → list_any (λ s. is_man Pawn s.0 && is_color p.mover s.1) p.placed_men ≡ false → captures ≡ filter (is_capture p) (legal_moves p) →
+    any_known (map (keeps_by_zeroing classes p k) captures) ≡ Some b → has_zeroing classes p k ≡ Some b
+zeroing_by_captures classes p k b captures none same h =
+    sym (any_passed (keeps_by_zeroing classes p k) (is_capture p) (legal_moves p) (λ m quiet. quiet_keeps_none classes p k m none quiet))
+    ∙ sym (ap (λ (ms : List Move). any_known (map (keeps_by_zeroing classes p k) ms)) same) ∙ h
+
+-- each legal move is a capture if there is none, or captures alone
+pub no_quiet_move : (p : Position) → (has_no_move p || has_only_captures p) ≡ list_all (is_capture p) (legal_moves p)
+no_quiet_move p = by_moves (legal_moves p)
+  where
+    by_moves : (ms : List Move) → ((length ms == 0) || (not (length ms == 0) && list_all (is_capture p) ms)) ≡ list_all (is_capture p) ms
+    by_moves [] = refl
+    by_moves (m ∷ ms) = let there : (length (m ∷ ms) == 0) ≡ false = ne_eqb (length (m ∷ ms)) 0 (λ e. cc) in rw there refl
+
+-- a draw has the distance 0
+pub drawn_distance : (classes : StoredClasses) (numbers : StoredNumbers) (p : Position) (k : Class) → probed classes p ≡ Some k → is_drawn k ≡ true → probed_distance classes numbers p ≡ Some (k, 0)
+unfolding stored_distance
+drawn_distance classes numbers p k known drawn = rw (known, drawn) refl
 
 -- ---- what some moves choose
 

@@ -1,8 +1,8 @@
 -- The search of the captures: what is known after some of them.
-use Rattle.std.proofs.Common.{◌≡◌, ◌≢◌, ℕ, zero, suc, ◌+◌, ◌<◌, ◌≤◌, List, [], ◌∷◌, ◌++◌, length, map, refl, sym, ap, ◌∙◌, subst, Bool, true, false, arith, inl, inr, Option, Some, None, take, get_or, Contains}
+use Rattle.std.proofs.Common.{◌≡◌, ℕ, zero, suc, ◌+◌, ◌<◌, ◌≤◌, List, [], ◌∷◌, ◌++◌, length, map, refl, sym, ap, ◌∙◌, subst, Bool, true, false, arith, inl, inr, Option, Some, None, take, get_or, Contains}
 use Rattle.std.specs.Prelude.{◌||◌, ◌&&◌, ◌==◌, not, filter, is_some, option_map}
 use Rattle.std.specs.List.{list_any, list_all}
-use Rattle.std.proofs.lemmas.Bool.{cases_Bool, cases_eq, or_parts, or_left, or_right, or_from, and_parts, and_from, eq-eqb, eqb-true, ne_eqb, not-true, both_ways, not_from_false, not_from_true, false_from_ne_true}
+use Rattle.std.proofs.lemmas.Bool.{cases_Bool, cases_eq, or_parts, or_left, or_right, or_from, and_parts, and_from, eq-eqb, eqb-true, not-true, both_ways, not_from_false, not_from_true, false_from_ne_true}
 use Rattle.std.proofs.lemmas.List.{take_more, take_all}
 use Rattle.szg_game.specs.Classes.{negate, better, best_after}
 use Rattle.szg_game.specs.Certified.{is_win, is_loss}
@@ -26,7 +26,7 @@ use Rattle.szg_probe.proofs.Probed.{men_two, capture_fewer, no_capture}
 -- ---- captures alone
 
 -- each legal move is a capture if there are as many captures as moves
-pub only_by_count : (p : Position) → IsPosition p → has_only_captures p ≡ (not (length (legal_captures p) == 0) && length (legal_moves p) == length (legal_captures p))
+only_by_count : (p : Position) → IsPosition p → has_only_captures p ≡ (not (length (legal_captures p) == 0) && length (legal_moves p) == length (legal_captures p))
 only_by_count p position =
     let moves = legal_moves p in
     let captures = captures_law p position in
@@ -54,17 +54,6 @@ only_by_count p position =
           let all : legal_moves p ≡ legal_captures p = sym (filter_true (is_capture p) (legal_moves p) (each_in (is_capture p) (legal_moves p) parts.1)) ∙ captures_law p position in
           both_ways (length (legal_moves p) == length (legal_captures p)) differ (eq-eqb (length (legal_moves p)) (length (legal_captures p)) (ap length all))) ∙ sym differ
     ]
-
-pub by_count_some : (p : Position) (captures moves : ℕ) → IsPosition p → captures ≡ length (legal_captures p) → moves ≡ length (legal_moves p) → captures ≢ 0 → (moves == captures) ≡ has_only_captures p
-by_count_some p captures moves position c m some =
-    let there : (length (legal_captures p) == 0) ≡ false = ap (λ (n : ℕ). n == 0) (sym c) ∙ ne_eqb captures 0 some in
-    cc (c, m, rw there at (only_by_count p position))
-
-pub by_count_none : (p : Position) (captures : ℕ) → IsPosition p → captures ≡ length (legal_captures p) → captures ≡ 0 → not (captures == 0) ≡ has_only_captures p
-by_count_none p captures position c none =
-    let here : (captures == 0) ≡ true = eq-eqb captures 0 none in
-    let there : (length (legal_captures p) == 0) ≡ true = ap (λ (n : ℕ). n == 0) (sym c) ∙ here in
-    not_from_true (captures == 0) here ∙ sym (rw there at (only_by_count p position))
 
 -- ---- captures en passant alone
 

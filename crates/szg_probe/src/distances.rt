@@ -1,17 +1,21 @@
 //! Distances: how many plies there are to the next zeroing move or to mate.
 
-ghost use Rattle.std.specs.Prelude.{◌≡◌, ◌<◌, ◌≤◌, ◌+◌, ◌^◌, [], not, IfOk, IfErr, IfNone, None, Some, Contains};
+ghost use Rattle.std.specs.Prelude.{◌≡◌, ◌<◌, ◌≤◌, ◌+◌, ◌^◌, ◌&&◌, ◌||◌, [], not, map, All, IfOk, IfErr, IfNone, None, Some, Contains};
+ghost use Rattle.std.specs.List.{list_any};
 ghost use Rattle.std.specs.Option.{ForSome};
+ghost use Rattle.szg_values.specs.Men.{is_man, is_color};
+ghost use Rattle.szg_values.specs.declared.Man.TheVariants.{Pawn};
 ghost use Rattle.szg_game.specs.Classes.{negate};
-ghost use Rattle.szg_chess.specs.Moves.{after, legal_moves};
+ghost use Rattle.szg_chess.specs.Moves.{after, has_no_move, is_mate, legal_moves};
 ghost use Rattle.szg_probe.specs.Chess.{ChessClass};
 ghost use Rattle.szg_probe.specs.Probing.{AreTrue, MayFail, has_only_captures, probed};
-ghost use Rattle.szg_probe.specs.Distances.{MayLack, at_counter, choose_some, chosen, class_at, differs_without_right, distance_by, distance_of, has_zeroing, is_drawn, is_next, keeps_by_zeroing, offset_of, probed_distance, quiet_distance, searched_distance, signed_distance, stays, stored_distance};
+ghost use Rattle.szg_probe.specs.Distances.{MayLack, any_known, at_counter, choose_some, chosen, class_at, differs_without_right, distance_by, distance_of, has_zeroing, is_drawn, is_next, keeps_by_zeroing, offset_of, probed_distance, quiet_distance, searched_distance, signed_distance, stays, stored_distance};
 
-use crate::probes::{has_no_move, has_only_captures, probe_wdl, search};
+use crate::probes::{probe_wdl, search};
 use crate::{DistanceTables, Tables};
 use szg_chess::{Move, Position};
 use szg_game::Class;
+use szg_values::Man;
 
 /// The class of a position, and its distance in plies: to the next zeroing move or to mate, 100 more for a cursed win or
 /// a blessed loss, and 0 for a draw.
@@ -78,6 +82,7 @@ pub enum DistanceFault<F> {
 /// one the moves are tried. (`probe_dtz` in the probing code.)
 ///
 /// Errors: those of the tables, and `Contradiction` if no move keeps a win or the number is there for neither side.
+#[tactic(auto, using(crate::proofs::Moves::drawn_distance))]
 pub fn probe_dtz<T: DistanceTables>(
     tables: &mut T,
     position: &Position,
@@ -91,27 +96,32 @@ pub fn probe_dtz<T: DistanceTables>(
         Ok(class) => class,
         Err(fault) => return Err(DistanceFault::Tables(fault)),
     };
-    match distance_of(tables, position, class) {
+    if is_drawn(class) {
+        return Ok(Distance { class, plies: 0 });
+    }
+    match distance_of(tables, position, position.legal_moves().as_slice(), class) {
         Ok(plies) => Ok(Distance { class, plies }),
         Err(fault) => Err(fault),
     }
 }
 
-/// Returns the distance of a position of this class.
+/// Returns the distance of a position of this class, given its legal moves.
 pub(crate) fn distance_of<T: DistanceTables>(
     tables: &mut T,
     position: &Position,
+    moves: &[Move],
     class: Class,
 ) -> Result<u32, DistanceFault<T::Fault>>
-    requires { probed (T.stored tables.old) position.now ≡ Some class }
+    requires moves { moves.now ≡ legal_moves position.now }
+    requires probed { probed (T.stored tables.old) position.now ≡ Some class }
     ensures same { tables.new ≡ tables.old }
     ensures distance { IfOk result (λ d. distance_of (T.stored tables.old) (T.numbers tables.old) position.now class ≡ Some d) }
     ensures few { IfOk result (λ d. d < 2 ^ 31 + 102) }
     ensures fault { IfErr result (MayLack (T.explains (T.stored tables.old) (T.numbers tables.old)) (distance_of (T.stored tables.old) (T.numbers tables.old) position.now class ≡ None) position.now) }
 {
-    match stored_distance(tables, position, class) {
+    match stored_distance(tables, position, moves, class) {
         Ok(Some(plies)) => Ok(plies),
-        Ok(None) => searched_distance(tables, position, class),
+        Ok(None) => searched_distance(tables, position, moves, class),
         Err(fault) => Err(DistanceFault::Tables(fault)),
     }
 }
@@ -157,18 +167,19 @@ fn keeps_by_zeroing<T: Tables>(
     }
 }
 
-/// Returns whether some zeroing move keeps the class.
-fn has_zeroing<T: Tables>(
+/// Returns whether some of these legal moves is zeroing and keeps the class.
+fn some_keeps<T: Tables>(
     tables: &mut T,
     position: &Position,
+    moves: &[Move],
     class: Class,
 ) -> Result<bool, T::Fault>
+    requires { All (Contains (legal_moves position.now)) moves.now }
     ensures same { tables.new ≡ tables.old }
-    ensures zeroing { IfOk result (λ b. has_zeroing (T.stored tables.old) position.now class ≡ Some b) }
+    ensures keeps { IfOk result (λ b. any_known (map (keeps_by_zeroing (T.stored tables.old) position.now class) moves.now) ≡ Some b) }
     ensures fault { IfErr result (λ fault. MayFail (T.explains (T.stored tables.old) (T.numbers tables.old) fault) position.now) }
 {
-    let moves = position.legal_moves();
-    for m in moves.as_slice() {
+    for m in moves {
         match keeps_by_zeroing(tables, position, class, *m) {
             Ok(true) => return Ok(true),
             Ok(false) => {}
@@ -176,6 +187,35 @@ fn has_zeroing<T: Tables>(
         }
     }
     Ok(false)
+}
+
+/// Returns whether the side to move has a pawn.
+fn has_pawn(position: &Position) -> bool
+    ensures { result ≡ list_any (λ s. is_man Pawn s.0 && is_color position.now.mover s.1) position.now.placed_men }
+{
+    position
+        .men()
+        .iter()
+        .any(|man| man.0 == Man::Pawn && man.1 == position.mover())
+}
+
+/// Returns whether some zeroing move keeps the class, given the legal moves. Without a pawn captures alone are zeroing.
+fn has_zeroing<T: Tables>(
+    tables: &mut T,
+    position: &Position,
+    moves: &[Move],
+    class: Class,
+) -> Result<bool, T::Fault>
+    requires { moves.now ≡ legal_moves position.now }
+    ensures same { tables.new ≡ tables.old }
+    ensures zeroing { IfOk result (λ b. has_zeroing (T.stored tables.old) position.now class ≡ Some b) }
+    ensures fault { IfErr result (λ fault. MayFail (T.explains (T.stored tables.old) (T.numbers tables.old) fault) position.now) }
+{
+    if has_pawn(position) {
+        some_keeps(tables, position, moves, class)
+    } else {
+        some_keeps(tables, position, position.captures().as_slice(), class)
+    }
 }
 
 /// Returns whether a position has its class only by the right to capture en passant.
@@ -200,32 +240,49 @@ fn differs_without_right<T: Tables>(
     }
 }
 
-/// Returns whether the next move of a position of this class settles its distance.
-fn is_next<T: Tables>(tables: &mut T, position: &Position, class: Class) -> Result<bool, T::Fault>
-    requires { probed (T.stored tables.old) position.now ≡ Some class }
+/// Returns whether there is no legal move, or each is a capture, given the legal moves.
+fn has_no_quiet_move(position: &Position, moves: &[Move]) -> bool
+    requires { moves.now ≡ legal_moves position.now }
+    ensures { result ≡ (has_no_move position.now || has_only_captures position.now) }
+{
+    moves.iter().all(|m| position.is_capture(m))
+}
+
+/// Returns whether the next move of a position of this class settles its distance, given the legal moves.
+fn is_next<T: Tables>(
+    tables: &mut T,
+    position: &Position,
+    moves: &[Move],
+    class: Class,
+) -> Result<bool, T::Fault>
+    requires moves { moves.now ≡ legal_moves position.now }
+    requires probed { probed (T.stored tables.old) position.now ≡ Some class }
     ensures same { tables.new ≡ tables.old }
     ensures next { IfOk result (λ b. is_next (T.stored tables.old) position.now class ≡ Some b) }
     ensures fault { IfErr result (λ fault. MayFail (T.explains (T.stored tables.old) (T.numbers tables.old) fault) position.now) }
 {
-    if has_no_move(position) || has_only_captures(position, position.captures().len()) {
+    if has_no_quiet_move(position, moves) {
         return Ok(true);
     }
     match differs_without_right(tables, position, class) {
         Ok(true) => Ok(true),
-        Ok(false) if class.is_won() => has_zeroing(tables, position, class),
+        Ok(false) if class.is_won() => has_zeroing(tables, position, moves, class),
         Ok(false) => Ok(false),
         Err(fault) => Err(fault),
     }
 }
 
-/// Returns the distance of a position of this class without a search. None if the tables store the other side.
+/// Returns the distance of a position of this class without a search, given its legal moves. None if the tables store the
+/// other side.
 #[tactic(auto, unfolding(crate::specs::Distances::stored_distance))]
 fn stored_distance<T: DistanceTables>(
     tables: &mut T,
     position: &Position,
+    moves: &[Move],
     class: Class,
 ) -> Result<Option<u32>, T::Fault>
-    requires { probed (T.stored tables.old) position.now ≡ Some class }
+    requires moves { moves.now ≡ legal_moves position.now }
+    requires probed { probed (T.stored tables.old) position.now ≡ Some class }
     ensures same { tables.new ≡ tables.old }
     ensures distance { IfOk result (λ d. stored_distance (T.stored tables.old) (T.numbers tables.old) position.now class ≡ Some d) }
     ensures few { IfOk result (λ d. ForSome d (λ plies. plies < 2 ^ 31 + 101)) }
@@ -237,7 +294,7 @@ fn stored_distance<T: DistanceTables>(
         return Ok(Some(0));
     }
     let offset = offset_of(class);
-    match is_next(tables, position, class) {
+    match is_next(tables, position, moves, class) {
         Ok(true) => Ok(Some(1 + offset)),
         Ok(false) => match tables.number(position, class) {
             Ok(Some(number)) => Ok(Some(1 + number + offset)),
@@ -248,21 +305,22 @@ fn stored_distance<T: DistanceTables>(
     }
 }
 
-/// Returns the distance of a position of this class by its moves.
+/// Returns the distance of a position of this class by its legal moves.
 #[tactic(auto, unfolding(crate::specs::Distances::searched_distance))]
 fn searched_distance<T: DistanceTables>(
     tables: &mut T,
     position: &Position,
+    moves: &[Move],
     class: Class,
 ) -> Result<u32, DistanceFault<T::Fault>>
+    requires { moves.now ≡ legal_moves position.now }
     ensures same { tables.new ≡ tables.old }
     ensures distance { IfOk result (λ d. searched_distance (T.stored tables.old) (T.numbers tables.old) position.now class ≡ Some d) }
     ensures few { IfOk result (λ d. d < 2 ^ 31 + 102) }
     ensures fault { IfErr result (MayLack (T.explains (T.stored tables.old) (T.numbers tables.old)) (searched_distance (T.stored tables.old) (T.numbers tables.old) position.now class ≡ None) position.now) }
 {
-    let moves = position.legal_moves();
     let mut found = chosen_of_none(class);
-    for m in moves.as_slice() {
+    for m in moves {
         match quiet_distance(tables, position, class, *m) {
             Ok(quiet) => found = choose_some(class.is_won(), quiet, found),
             Err(fault) => return Err(fault),
@@ -343,6 +401,14 @@ fn quiet_distance<T: DistanceTables>(
     }
 }
 
+/// Returns whether the side to move is in check and has no move, given its legal moves.
+pub(crate) fn is_mate(position: &Position, moves: &[Move]) -> bool
+    requires { moves.now ≡ legal_moves position.now }
+    ensures { result ≡ is_mate position.now }
+{
+    moves.is_empty() && position.is_check()
+}
+
 /// Returns the distance by a move to a position of this class.
 #[tactic(auto, unfolding(crate::specs::Distances::distance_by))]
 fn distance_by<T: DistanceTables>(
@@ -356,10 +422,11 @@ fn distance_by<T: DistanceTables>(
     ensures few { IfOk result (λ d. d < 2 ^ 31 + 102) }
     ensures fault { IfErr result (MayLack (T.explains (T.stored tables.old) (T.numbers tables.old)) (distance_by (T.stored tables.old) (T.numbers tables.old) class position.now ≡ None) position.now) }
 {
-    if position.is_mate() {
+    let moves = position.legal_moves();
+    if is_mate(position, moves.as_slice()) {
         return Ok(1);
     }
-    match stored_distance(tables, position, class) {
+    match stored_distance(tables, position, moves.as_slice(), class) {
         Ok(Some(plies)) => Ok(1 + plies),
         Ok(None) => Err(DistanceFault::Contradiction),
         Err(fault) => Err(DistanceFault::Tables(fault)),

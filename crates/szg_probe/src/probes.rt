@@ -1,9 +1,9 @@
 //! Probing: the class of a position.
 
-ghost use Rattle.std.specs.Prelude.{◌≡◌, length, IfOk, IfErr, Some};
-ghost use Rattle.szg_chess.specs.Moves.{has_no_move, legal_captures};
+ghost use Rattle.std.specs.Prelude.{◌≡◌, IfOk, IfErr, Some};
+ghost use Rattle.szg_chess.specs.Moves.{has_no_move};
 ghost use Rattle.szg_probe.specs.Chess.{ChessClass};
-ghost use Rattle.szg_probe.specs.Probing.{AreTrue, MayFail, has_only_captures, has_only_en_passant, probed, stored_class};
+ghost use Rattle.szg_probe.specs.Probing.{AreTrue, MayFail, has_only_en_passant, probed, stored_class};
 
 use crate::Tables;
 use szg_chess::Position;
@@ -74,18 +74,8 @@ fn has_only_en_passant(position: &Position) -> bool
         && !(has_no_move(position) || position.has_move_beside_en_passant())
 }
 
-pub(crate) fn has_no_move(position: &Position) -> bool
+fn has_no_move(position: &Position) -> bool
     ensures { result ≡ has_no_move position.now }
 {
     position.legal_moves().len() == 0
-}
-
-/// Returns whether there is a legal move and each is a capture, given the number of legal captures.
-pub(crate) fn has_only_captures(position: &Position, captures: usize) -> bool
-    requires { captures ≡ length (legal_captures position.now) }
-    ensures { result ≡ has_only_captures position.now }
-{
-    // A fact that the proof uses: the men are those of a position.
-    let _ = position.men();
-    captures != 0 && position.legal_moves().len() == captures
 }

@@ -100,7 +100,7 @@ module _ (few many : StoredClasses) (among : AreAmong few many) where
       (decided_among is_known_loss refl Win best_after (map here (legal_captures p)) (map there (legal_captures p)) (maps_among here there (legal_captures p) (λ m. probed_at_among n (after p m))))
       (stored_among p) x e
 
-  probed_among : (p : Position) → Among (probed few p) (probed many p)
+  pub probed_among : (p : Position) → Among (probed few p) (probed many p)
   probed_among p = probed_at_among (length p.placed_men) p
 
 -- ---- distances

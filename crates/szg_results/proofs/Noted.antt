@@ -19,4 +19,4 @@ module _ {A : Type 0} (f : List FetchedTable → Option A) (other : A) (tables' 
   unknown is = subst (λ (ts : List FetchedTable). Some (unwrap_or (f ts) other) ≡ Some other) same (rw is refl)
 
 pub no_class : (classes : StoredClasses) (numbers : StoredNumbers) (missing : Missing) (men : List PlacedMan) (mover : Color) → missing.kind ≡ Wdl → IsMissing classes numbers missing men mover → classes men mover ≡ None
-no_class classes numbers missing men mover is h = subst (λ (kind : Kind). LacksKind kind classes numbers men mover) is h
+no_class classes numbers missing men mover is h = subst (λ (kind : Kind). LacksKind kind classes numbers men mover) is h.1

@@ -37,14 +37,14 @@ use Rattle.szg_tables.specs.declared.fetched.FetchedValue.{FetchedValue}
 
 -- ---- finding
 
-found_holds : {A : Type 0} (p : A → Bool) (P : A → Type 0) (xs : List A) (x : A) → All P xs → find p xs ≡ Some x → P x × (p x ≡ true)
+pub found_holds : {A : Type 0} (p : A → Bool) (P : A → Type 0) (xs : List A) (x : A) → All P xs → find p xs ≡ Some x → P x × (p x ≡ true)
 found_holds p P [] x all e = let no : None ≡ Some x = e in absurd (cc no)
 found_holds p P (y ∷ ys) x all e = elim (cases_Bool (p y)) [
   | inl t ↦ (let same : y ≡ x = cc (rw t at e) in (subst P same (all 0 y (omega arith)), ap p (sym same) ∙ t))
   | inr f ↦ found_holds p P ys x (λ i d less. all (suc i) d (omega arith)) (rw f at e)
 ]
 
-with_some : {A R : Type 0} (o : Option A) (P : A → Type 0) → IsSomeAnd o P → ((x : A) → o ≡ Some x → P x → R) → R
+pub with_some : {A R : Type 0} (o : Option A) (P : A → Type 0) → IsSomeAnd o P → ((x : A) → o ≡ Some x → P x → R) → R
 with_some None P h next = absurd h
 with_some (Some x) P h next = next x refl h
 

@@ -3,6 +3,6 @@ mod ListedValues
 mod Images
 mod ImageDistances
 mod MappedFiles
-mod OpenedSets
+pub mod OpenedSets
 pub mod Among
-mod FetchedTables
+pub mod FetchedTables

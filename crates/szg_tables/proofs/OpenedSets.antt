@@ -1,6 +1,6 @@
 -- What opened tables store, by the table that is found.
 use Rattle.std.proofs.Common.{◌≡◌, ◌<◌, ℕ, zero, suc, Bool, true, cond, nat_lt, List, [], ◌∷◌, length, refl, sym, ap, ◌∙◌, subst, inl, inr, arith, Option, Some, None}
-use Rattle.std.specs.Prelude.{IsSomeAnd, find, option_and_then, position, slice_get}
+use Rattle.std.specs.Prelude.{IfNone, IfSome, IsSomeAnd, find, option_and_then, position, slice_get}
 use Rattle.std.specs.List.{position_or_len}
 use Rattle.std.proofs.lemmas.Bool.{and_parts, cases_Bool, ltb-false, ltb-true}
 use Rattle.std.proofs.lemmas.List.Folds.{find_at}
@@ -10,8 +10,12 @@ use Rattle.szg_values.specs.declared.Color.{Color}
 use Rattle.szg_values.specs.declared.Kind.{Kind}
 use Rattle.szg_values.specs.declared.Kind.TheVariants.{Wdl, Dtz}
 use Rattle.szg_game.specs.declared.Class.{Class}
-use Rattle.szg_tables.specs.Opened.{Opened, class_in, first_for, is_for, number_in, opened_classes, opened_numbers}
+use Rattle.szg_place.specs.declared.Spot.{Spot}
+use Rattle.szg_tables.specs.Opened.{IsReason, IsReasonIn, Opened, class_in, first_for, is_for, number_in, opened_classes, opened_numbers}
 use Rattle.szg_tables.specs.Stored.{board_of, is_kind}
+use Rattle.szg_tables.specs.declared.Missing.{Missing}
+use Rattle.szg_tables.specs.declared.MissingReason.{MissingReason}
+use Rattle.szg_tables.specs.declared.MissingReason.TheVariants.{Table}
 
 -- ---- the first that passes a test
 
@@ -52,7 +56,7 @@ module _ {X : Type 0} (p : X → Bool) where
   ]
 
 -- a table that passes the test for a kind is of this kind
-same_kind : (kind k : Kind) → is_kind kind k ≡ true → k ≡ kind
+pub same_kind : (kind k : Kind) → is_kind kind k ≡ true → k ≡ kind
 same_kind Wdl Wdl e = refl
 same_kind Wdl Dtz e = absurd (cc e)
 same_kind Dtz Wdl e = absurd (cc e)
@@ -90,3 +94,26 @@ module _ {A : Type 0} (opened : A → Opened) (tables : List A) (men : List Plac
       opened_numbers opened tables men mover k ≡ x
   number_by_table k o x found there =
       subst (λ (b : Board). option_and_then (λ (t : A). number_in b k (opened t)) (first_for opened Dtz b tables) ≡ x) is (ap (option_and_then (λ (t : A). number_in board k (opened t))) found ∙ there)
+
+-- ---- why it is not
+
+module _ {A : Type 0} (opened : A → Opened) (explains : A → Spot → MissingReason → Type 0) (kind : Kind) (tables : List A) (men : List PlacedMan) (mover : Color) (board : Board) (is : board ≡ board_of men mover) where
+  reason_by : (o : Option A) (reason : MissingReason) → first_for opened kind board tables ≡ o → IfNone o (reason ≡ Table) → IfSome o (λ t. IsReasonIn (explains t) board (opened t) reason) →
+      IsReason opened explains kind (board_of men mover) tables reason
+  reason_by o reason found none some =
+      subst (λ (b : Board). IsReason opened explains kind b tables reason) is
+      (subst (λ (p : Option A). IfNone p (reason ≡ Table) × IfSome p (λ t. IsReasonIn (explains t) board (opened t) reason)) (sym found) (none, some))
+
+  pub reason_nowhere : (missing : Missing) → missing ≡ record { material = material_of board.placed_men; kind = kind; reason = Table } → first_for opened kind board tables ≡ None →
+      IsReason opened explains missing.kind (board_of men mover) tables missing.reason
+  reason_nowhere missing same found =
+      subst (λ (m : Missing). IsReason opened explains m.kind (board_of men mover) tables m.reason) (sym same) (reason_by None Table found refl tt)
+
+  some_there : (o : Option A) (P : A → Type 0) (Q : Type 0) → IsSomeAnd o P → IfNone o Q
+  some_there None P Q h = absurd h
+  some_there (Some t) P Q h = tt
+
+  pub reason_at : (n : ℕ) (reason : MissingReason) → first_for opened kind board tables ≡ slice_get tables n → IsSomeAnd (slice_get tables n) (λ t. (opened t).index.kind ≡ kind) →
+      IfSome (slice_get tables n) (λ t. IsReasonIn (explains t) board (opened t) reason) → IsReason opened explains kind (board_of men mover) tables reason
+  reason_at n reason found there why =
+      reason_by (slice_get tables n) reason found (some_there (slice_get tables n) (λ t. (opened t).index.kind ≡ kind) (reason ≡ Table) there) why

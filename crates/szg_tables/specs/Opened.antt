@@ -1,5 +1,5 @@
 -- What opened tables store, as far as their values are known.
-use Rattle.std.specs.Prelude.{ℕ, ◌&&◌, Bool, List, find, Option, Some, None, is_none, option_and_then, if◌then◌else◌}
+use Rattle.std.specs.Prelude.{ℕ, ◌≡◌, ◌&&◌, Bool, List, find, Option, Some, None, IfNone, IfSome, is_none, option_and_then, if◌then◌else◌}
 use Rattle.szg_values.specs.Material.{Sides, is_same_men}
 use Rattle.szg_values.specs.Placement.{Board, material_of}
 use Rattle.szg_values.specs.declared.Kind.{Kind}
@@ -15,6 +15,8 @@ use Rattle.szg_game.specs.declared.Class.{Class}
 use Rattle.szg_probe.specs.Probing.{StoredClasses}
 use Rattle.szg_probe.specs.Distances.{StoredNumbers}
 use Rattle.szg_tables.specs.Stored.{board_of, is_kind, class_of_value, is_few, number_of_class}
+use Rattle.szg_tables.specs.declared.MissingReason.{MissingReason}
+use Rattle.szg_tables.specs.declared.MissingReason.TheVariants.{Table, Place, Value}
 
 -- ---- one table
 
@@ -49,6 +51,18 @@ number_by (Some KingsTouch) board k t = None
 abbrev pub number_in : Board → Class → Opened → Option (Option ℕ)
 number_in board k t = number_by (place_fault (numbering_in t.index) board) board k t
 
+-- Why a table has no class or number for a board: it has no index for it, or its value has no meaning, or is not known, for a
+-- reason that `explains` allows.
+abbrev pub IsReasonBy : Option PlaceFault → Option ℕ → (MissingReason → Type 0) → MissingReason → Type 0
+IsReasonBy (Some fault) value explains reason = reason ≡ Place fault
+IsReasonBy None (Some v) explains reason = reason ≡ Value
+IsReasonBy None None explains reason = explains reason
+
+abbrev pub IsReasonIn : (Spot → MissingReason → Type 0) → Board → Opened → MissingReason → Type 0
+IsReasonIn explains board t reason =
+    let spot = spot_of (numbering_in t.index) board in
+    IsReasonBy (place_fault (numbering_in t.index) board) (t.value_at spot) (explains spot) reason
+
 -- ---- a list of tables of any type, by what each stores
 
 -- the index of a table of this kind and material
@@ -65,3 +79,9 @@ opened_classes opened tables men mover = option_and_then (λ t. class_in (board_
 
 abbrev pub opened_numbers : {A : Type 0} → (A → Opened) → List A → StoredNumbers
 opened_numbers opened tables men mover k = option_and_then (λ t. number_in (board_of men mover) k (opened t)) (first_for opened Dtz (board_of men mover) tables)
+
+-- why the tables have no class or number for a board: there is no table of the kind; else why there is none in the first one
+abbrev pub IsReason : {A : Type 0} → (A → Opened) → (A → Spot → MissingReason → Type 0) → Kind → Board → List A → MissingReason → Type 0
+IsReason opened explains kind board tables reason =
+    let found = first_for opened kind board tables in
+    IfNone found (reason ≡ Table) × IfSome found (λ t. IsReasonIn (explains t) board (opened t) reason)

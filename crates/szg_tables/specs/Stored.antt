@@ -18,6 +18,8 @@ use Rattle.szg_game.specs.declared.Class.TheVariants.{Loss, BlessedLoss, Draw, C
 use Rattle.szg_probe.specs.Probing.{StoredClasses}
 use Rattle.szg_probe.specs.Distances.{StoredNumbers}
 use Rattle.szg_tables.specs.declared.Missing.{Missing}
+use Rattle.szg_tables.specs.declared.MissingReason.{MissingReason}
+use Rattle.szg_tables.specs.declared.MissingReason.TheVariants.{Table, Place, Value}
 
 abbrev pub board_of : List PlacedMan → Color → Board
 board_of men mover = record { placed_men = men; mover = mover }
@@ -92,6 +94,20 @@ abbrev pub LacksKind : Kind → StoredClasses → StoredNumbers → List PlacedM
 LacksKind Wdl classes numbers men mover = classes men mover ≡ None
 LacksKind Dtz classes numbers men mover = (k : Class) × (numbers men mover k ≡ None)
 
--- what is missing is not stored
+-- what is missing is not stored, and the material is that of the men
 abbrev pub IsMissing : StoredClasses → StoredNumbers → Missing → List PlacedMan → Color → Type 0
-IsMissing classes numbers missing men mover = LacksKind missing.kind classes numbers men mover
+IsMissing classes numbers missing men mover = (missing.material ≡ material_of men) × LacksKind missing.kind classes numbers men mover
+
+-- why a table has no class or number for a board: it has no index for it, or its value has no meaning
+abbrev pub reason_by : Option PlaceFault → MissingReason
+reason_by None = Value
+reason_by (Some fault) = Place fault
+
+-- why there is none in the table that is found, if one is
+abbrev pub reason_in : Board → Option Shown → MissingReason
+reason_in board None = Table
+reason_in board (Some t) = reason_by (place_fault (numbering_of t.contents) board)
+
+-- what tables in memory do not have for a board
+abbrev pub missing_in : Kind → Board → List Shown → Missing
+missing_in kind board tables = record { material = material_of board.placed_men; kind = kind; reason = reason_in board (table_for kind board tables) }

@@ -2,6 +2,7 @@
 
 ghost use Rattle.std.specs.Prelude.{◌≡◌};
 ghost use Rattle.szg_tables.specs.Fetched.{fetched, fetched_at, is_at};
+ghost use Rattle.szg_tables.specs.declared.MissingReason.TheVariants.{Unread};
 
 use crate::MissingReason;
 use crate::opened::{OpenTable, OpenedSet};
@@ -37,6 +38,8 @@ pub type FetchedSet = OpenedSet<FetchedTable>;
 
 impl OpenTable for FetchedTable {
     ghost opened = { λ t. fetched t };
+
+    ghost explains = { λ t spot reason. reason ≡ Unread spot };
 
     fn index(&self) -> &TableIndex {
         self.front.index()

@@ -1,14 +1,14 @@
 //! A set of tables in memory.
 
-ghost use Rattle.std.specs.Prelude.{◌≡◌, ◌<◌, ◌^◌, ◌≤ℤ◌, pos, neg_ℤ, All, IfErr, IfOk, IfNone, IfSome, IsSome, Some, None, is_some, map, option_map, option_and_then, find};
+ghost use Rattle.std.specs.Prelude.{◌≡◌, ◌<◌, ◌^◌, ◌≤ℤ◌, pos, neg_ℤ, All, IfErr, IfOk, IfNone, IfSome, IsSome, Some, None, is_some, length, map, option_map, option_and_then, find};
 ghost use Rattle.std.specs.Option.{ForSome};
 ghost use Rattle.szg_values.specs.Material.{Sides};
 ghost use Rattle.szg_values.specs.Placement.{Board, material_of};
 ghost use Rattle.szg_file.specs.Held.{Shown};
-ghost use Rattle.szg_place.specs.Spots.{spot_of};
+ghost use Rattle.szg_place.specs.Spots.{place_fault, spot_of};
 ghost use Rattle.szg_place.specs.Tables.{numbering_of};
 ghost use Rattle.szg_tables.specs.Listed.{IsListed};
-ghost use Rattle.szg_tables.specs.Stored.{IsMissing, board_of, class_in, class_of_value, is_for, is_kind, number_in, number_of_class, stored_classes, stored_numbers, table_for, value_in};
+ghost use Rattle.szg_tables.specs.Stored.{IsMissing, board_of, class_in, class_of_value, is_for, is_kind, missing_in, number_in, number_of_class, reason_by, stored_classes, stored_numbers, table_for, value_in};
 
 use crate::listed::{ListedTable, TableLists};
 use crate::{Missing, MissingReason};
@@ -87,7 +87,7 @@ impl<'a> TableSet<'a> {
         ensures found { IfOk result (λ t. table_for kind placement.now self.now ≡ Some t) }
         ensures kind { IfOk result (λ t. t.contents.kind ≡ kind) }
         ensures none { IfErr result (λ missing. table_for kind placement.now self.now ≡ None) }
-        ensures missing { IfErr result (λ missing. missing.kind ≡ kind) }
+        ensures missing { IfErr result (λ missing. missing ≡ missing_in kind placement.now self.now) }
     {
         let material = placement.material();
         if let Some(table) = self.listed(kind, &material) {
@@ -165,6 +165,7 @@ pub fn number_of_class(class: Class) -> i8
 fn class_in(table: &ListedTable<'_>, placement: &Placement) -> Result<Class, MissingReason>
     ensures class { IfOk result (λ k. class_in placement.now table.now.contents ≡ Some k) }
     ensures none { IfErr result (λ reason. class_in placement.now table.now.contents ≡ None) }
+    ensures reason { IfErr result (λ reason. reason ≡ reason_by (place_fault (numbering_of table.now.contents) placement.now)) }
 {
     let spot = match index_of(table.table(), placement) {
         Ok(spot) => spot,
@@ -194,6 +195,7 @@ pub(crate) fn number_in(
     ensures few { IfOk result (λ n. IfSome n (λ n. n.plies < 2 ^ 31)) }
     ensures part { IfOk result (λ n. IfSome n (λ n. n.part ≡ (spot_of (numbering_of table.now.contents) placement.now).part)) }
     ensures none { IfErr result (λ reason. number_in placement.now class table.now.contents ≡ None) }
+    ensures reason { IfErr result (λ reason. reason ≡ reason_by (place_fault (numbering_of table.now.contents) placement.now)) }
 {
     let whole = table.table();
     table_fits(whole);
@@ -218,7 +220,14 @@ impl<'a> Tables for TableSet<'a> {
 
     ghost explains = { λ classes numbers missing men mover. IsMissing classes numbers missing men mover };
 
-    fn class(&mut self, position: &Position) -> Result<Class, Missing> {
+    // the clauses of the trait; and what is missing
+    fn class(&mut self, position: &Position) -> Result<Class, Missing>
+        requires { 2 < length position.now.placed_men }
+        ensures same { self.new ≡ self.old }
+        ensures class { IfOk result (λ k. stored_classes self.old position.now.placed_men position.now.mover ≡ Some k) }
+        ensures fault { IfErr result (λ missing. IsMissing (stored_classes self.old) (stored_numbers self.old) missing position.now.placed_men position.now.mover) }
+        ensures missing { IfErr result (λ missing. missing ≡ missing_in Kind.Wdl (board_of position.now.placed_men position.now.mover) self.old) }
+    {
         let Some(placement) = position.placement() else {
             unreachable!()
         };
@@ -238,7 +247,15 @@ impl<'a> Tables for TableSet<'a> {
 }
 
 impl<'a> DistanceTables for TableSet<'a> {
-    fn number(&mut self, position: &Position, class: Class) -> Result<Option<u32>, Missing> {
+    // the clauses of the trait; and what is missing
+    fn number(&mut self, position: &Position, class: Class) -> Result<Option<u32>, Missing>
+        requires { 2 < length position.now.placed_men }
+        ensures same { self.new ≡ self.old }
+        ensures number { IfOk result (λ n. stored_numbers self.old position.now.placed_men position.now.mover class ≡ Some n) }
+        ensures few { IfOk result (λ n. ForSome n (λ plies. plies < 2 ^ 31)) }
+        ensures fault { IfErr result (λ missing. IsMissing (stored_classes self.old) (stored_numbers self.old) missing position.now.placed_men position.now.mover) }
+        ensures missing { IfErr result (λ missing. missing ≡ missing_in Kind.Dtz (board_of position.now.placed_men position.now.mover) self.old) }
+    {
         let Some(placement) = position.placement() else {
             unreachable!()
         };

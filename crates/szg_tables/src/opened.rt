@@ -1,10 +1,11 @@
 //! Sets of opened tables. What a table knows of its values is its own affair.
 
-ghost use Rattle.std.specs.Prelude.{◌≡◌, ◌<◌, ◌^◌, ◌++◌, ◌∷◌, [], IfErr, IfOk, IsSomeAnd, Some, None, length, option_and_then, position, slice_get};
+ghost use Rattle.std.specs.Prelude.{◌≡◌, ◌<◌, ◌^◌, ◌++◌, ◌∷◌, [], IfErr, IfOk, IfSome, IsSomeAnd, Some, None, length, option_and_then, position, slice_get};
 ghost use Rattle.std.specs.Option.{ForSome};
 ghost use Rattle.szg_values.specs.Placement.{material_of};
-ghost use Rattle.szg_tables.specs.Opened.{class_in, first_for, is_for, number_in, opened_classes, opened_numbers};
-ghost use Rattle.szg_tables.specs.Stored.{IsMissing};
+ghost use Rattle.szg_tables.specs.Opened.{IsReason, IsReasonIn, class_in, first_for, is_for, number_in, opened_classes, opened_numbers};
+ghost use Rattle.szg_tables.specs.Stored.{IsMissing, board_of};
+ghost use Rattle.szg_tables.specs.declared.MissingReason.TheVariants.{Table};
 
 use crate::in_memory::{class_of_value, is_kind, number_of_class};
 use crate::{Missing, MissingReason};
@@ -21,10 +22,15 @@ use szg_values::{Kind, PlacedMen, Placement};
 pub trait OpenTable {
     ghost use Rattle.std.specs.Prelude.{◌≡◌, ◌<◌, IfErr, IfOk, IsSomeAnd, Some, None};
     ghost use Rattle.szg_file.specs.Index.{slot_in};
+    ghost use Rattle.szg_place.specs.declared.Spot.{Spot};
     ghost use Rattle.szg_tables.specs.Opened.{Opened};
+    ghost use Rattle.szg_tables.specs.declared.MissingReason.{MissingReason};
 
     /// What the table stores.
     ghost opened: { Self → Opened };
+
+    /// When the value at a spot is not known for this reason.
+    ghost explains: { Self → Spot → MissingReason → Type 0 };
 
     /// Returns the table's index.
     fn index(&self) -> &TableIndex
@@ -35,7 +41,8 @@ pub trait OpenTable {
         requires { IsSomeAnd (slot_in (opened self.old).index spot.part spot.side) (λ slot. spot.index < slot.size) }
         ensures same { self.new ≡ self.old }
         ensures value { IfOk result (λ v. (opened self.old).value_at spot ≡ Some v) }
-        ensures none { IfErr result (λ reason. (opened self.old).value_at spot ≡ None) };
+        ensures none { IfErr result (λ reason. (opened self.old).value_at spot ≡ None) }
+        ensures reason { IfErr result (explains self.old spot) };
 }
 
 /// Returns the class of a placement in a WDL table.
@@ -43,6 +50,7 @@ fn class_in<T: OpenTable>(table: &mut T, placement: &Placement) -> Result<Class,
     ensures same { table.new ≡ table.old }
     ensures class { IfOk result (λ k. class_in placement.now (T.opened table.old) ≡ Some k) }
     ensures none { IfErr result (λ reason. class_in placement.now (T.opened table.old) ≡ None) }
+    ensures reason { IfErr result (IsReasonIn (T.explains table.old) placement.now (T.opened table.old)) }
 {
     let spot = match locate(table.index(), &PlacedMen::of(placement)) {
         Ok(spot) => spot,
@@ -68,6 +76,7 @@ fn number_in<T: OpenTable>(
     ensures number { IfOk result (λ n. number_in placement.now class (T.opened table.old) ≡ Some n) }
     ensures few { IfOk result (λ n. ForSome n (λ plies. plies < 2 ^ 31)) }
     ensures none { IfErr result (λ reason. number_in placement.now class (T.opened table.old) ≡ None) }
+    ensures reason { IfErr result (IsReasonIn (T.explains table.old) placement.now (T.opened table.old)) }
 {
     let spot = match locate(table.index(), &PlacedMen::of(placement)) {
         Ok(spot) => spot,
@@ -153,7 +162,7 @@ impl<T: OpenTable> OpenedSet<T> {
         ensures found { IfOk result (λ n. first_for T.opened kind placement.now self.now ≡ slice_get self.now n) }
         ensures kind { IfOk result (λ n. IsSomeAnd (slice_get self.now n) (λ t. (T.opened t).index.kind ≡ kind)) }
         ensures none { IfErr result (λ missing. first_for T.opened kind placement.now self.now ≡ None) }
-        ensures missing { IfErr result (λ missing. missing.kind ≡ kind) }
+        ensures missing { IfErr result (λ missing. missing ≡ record { material = material_of placement.now.placed_men; kind = kind; reason = Table }) }
     {
         match first_for(&self.tables, kind, &PlacedMen::of(placement)) {
             Some(n) => Ok(n),
@@ -171,6 +180,7 @@ impl<T: OpenTable> OpenedSet<T> {
         ensures same { self.new ≡ self.old }
         ensures class { IfOk result (λ k. option_and_then (λ t. class_in placement.now (T.opened t)) (slice_get self.old n) ≡ Some k) }
         ensures none { IfErr result (λ reason. option_and_then (λ t. class_in placement.now (T.opened t)) (slice_get self.old n) ≡ None) }
+        ensures reason { IfErr result (λ reason. IfSome (slice_get self.old n) (λ t. IsReasonIn (T.explains t) placement.now (T.opened t) reason)) }
     {
         class_in(&mut self.tables[n], placement)
     }
@@ -188,6 +198,7 @@ impl<T: OpenTable> OpenedSet<T> {
         ensures number { IfOk result (λ o. option_and_then (λ t. number_in placement.now class (T.opened t)) (slice_get self.old n) ≡ Some o) }
         ensures few { IfOk result (λ o. ForSome o (λ plies. plies < 2 ^ 31)) }
         ensures none { IfErr result (λ reason. option_and_then (λ t. number_in placement.now class (T.opened t)) (slice_get self.old n) ≡ None) }
+        ensures reason { IfErr result (λ reason. IfSome (slice_get self.old n) (λ t. IsReasonIn (T.explains t) placement.now (T.opened t) reason)) }
     {
         number_in(&mut self.tables[n], placement, class)
     }
@@ -202,7 +213,14 @@ impl<T: OpenTable> Tables for OpenedSet<T> {
 
     ghost explains = { λ classes numbers missing men mover. IsMissing classes numbers missing men mover };
 
-    fn class(&mut self, position: &Position) -> Result<Class, Missing> {
+    // the clauses of the trait; and why there is no class
+    fn class(&mut self, position: &Position) -> Result<Class, Missing>
+        requires { 2 < length position.now.placed_men }
+        ensures same { self.new ≡ self.old }
+        ensures class { IfOk result (λ k. opened_classes T.opened self.old position.now.placed_men position.now.mover ≡ Some k) }
+        ensures fault { IfErr result (λ missing. IsMissing (opened_classes T.opened self.old) (opened_numbers T.opened self.old) missing position.now.placed_men position.now.mover) }
+        ensures reason { IfErr result (λ missing. IsReason T.opened T.explains missing.kind (board_of position.now.placed_men position.now.mover) self.old missing.reason) }
+    {
         let Some(placement) = position.placement() else {
             unreachable!()
         };
@@ -222,7 +240,7 @@ impl<T: OpenTable> Tables for OpenedSet<T> {
 }
 
 impl<T: OpenTable> DistanceTables for OpenedSet<T> {
-    // the clauses of the trait; and what is not returned is not stored for this class
+    // the clauses of the trait; what is not returned is not stored for this class, and why
     fn number(&mut self, position: &Position, class: Class) -> Result<Option<u32>, Missing>
         requires { 2 < length position.now.placed_men }
         ensures same { self.new ≡ self.old }
@@ -230,6 +248,7 @@ impl<T: OpenTable> DistanceTables for OpenedSet<T> {
         ensures few { IfOk result (λ n. ForSome n (λ plies. plies < 2 ^ 31)) }
         ensures fault { IfErr result (λ missing. IsMissing (opened_classes T.opened self.old) (opened_numbers T.opened self.old) missing position.now.placed_men position.now.mover) }
         ensures none { IfErr result (λ missing. opened_numbers T.opened self.old position.now.placed_men position.now.mover class ≡ None) }
+        ensures reason { IfErr result (λ missing. IsReason T.opened T.explains missing.kind (board_of position.now.placed_men position.now.mover) self.old missing.reason) }
     {
         let Some(placement) = position.placement() else {
             unreachable!()

@@ -152,7 +152,7 @@ drop_all_of : (size : ℕ) (xs : List ℕ) → length (drop size xs) ≡ 0 → s
 drop_all_of size xs e le = omega (arith, length-drop size xs, e)
 
 -- the accepted text of one field
-field_text : {A : Type 0} (size : ℕ) (next : List ℕ → A) (place : ℕ) (bytes : List ℕ) (a : A) (filled : List ℕ) →
+pub field_text : {A : Type 0} (size : ℕ) (next : List ℕ → A) (place : ℕ) (bytes : List ℕ) (a : A) (filled : List ℕ) →
     verdict (field size (λ b. means (next b))) place bytes ≡ good a filled [] → (length bytes ≡ size) × (next bytes ≡ a) × (filled ≡ [])
 field_text size next place bytes a filled e =
     elim (cases_lt (length bytes) size) [

@@ -164,12 +164,16 @@ subs_cut (b ∷ list) content place inside short =
 
 -- ---- what follows a front
 
--- the offset after the last sixteen bytes
+-- the offset of the last sixteen bytes
+abbrev pub last_at : ℕ → List Begun → ℕ
+last_at place list = unread_end place list + gap 64 (unread_end place list)
+
+-- the offset after them
 abbrev pub file_end : ℕ → List Begun → ℕ
-file_end place list = unread_end place list + gap 64 (unread_end place list) + 16
+file_end place list = last_at place list + 16
 
 abbrev pub last_bytes : List ℕ → ℕ → List Begun → List ℕ
-last_bytes content place list = bytes_at content (unread_end place list + gap 64 (unread_end place list)) 16
+last_bytes content place list = bytes_at content (last_at place list) 16
 
 module _ (material : Sides) (kind : Kind) (f : FrontRead) (content : List ℕ) (place : ℕ) where
   pub following_text : file_end place f.measured ≤ length content →

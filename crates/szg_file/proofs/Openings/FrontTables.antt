@@ -6,6 +6,7 @@ use Rattle.std.specs.List.{AllByRecursion}
 use Rattle.std.proofs.lemmas.List.{length-append, length-map, take-append-drop}
 use Rattle.szg_values.specs.declared.Kind.{Kind}
 use Rattle.szg_values.specs.Material.{Sides}
+use Rattle.szg_block.specs.BlocksTrait.{bytes_at}
 use Rattle.szg_file.specs.Accepted.{AreNumbers, AreMaps, IsMapOf, SideBySide}
 use Rattle.szg_file.specs.Contents.{Contents, Subtable, slots}
 use Rattle.szg_file.specs.File.{flags_of}
@@ -25,7 +26,7 @@ use Rattle.szg_file.proofs.Grammar.FormatLaws.{good-more, take_front}
 use Rattle.szg_file.proofs.Openings.OpenedLaws.{forward_moved}
 use Rattle.szg_file.proofs.Openings.OutlinedLaws.{flags_whole}
 use Rattle.szg_file.proofs.Tables.TableFinds.{side_lengths}
-use Rattle.szg_file.proofs.Openings.FrontLaws.{file_end, last_bytes, following_text, front_good, front_cut}
+use Rattle.szg_file.proofs.Openings.FrontLaws.{file_end, last_at, last_bytes, following_text, front_good, front_cut}
 use Rattle.szg_file.proofs.Openings.FrontValid.{FrontValid, gives_front, unread_are_valid, are_maps_valid}
 
 module _ (material : Sides) (kind : Kind) (f : FrontRead) (place : ℕ) (content : List ℕ) (h : BeginsWithFront material kind f place content) where
@@ -37,9 +38,10 @@ module _ (material : Sides) (kind : Kind) (f : FrontRead) (place : ℕ) (content
   pub front_is_valid : FrontValid material kind f
   front_is_valid = (gives_front material kind).gives 0 (take place content) f h.filled h.small h.whole
 
-  pub front_kept : (kept : FrontKept) → file_end place f.measured ≤ length content → kept.index ≡ index_with material kind f.parts (map (λ placed. flags_of (subtable_of placed.sub)) kept.subs) f.maps → length content ≡ kept.length → kept.length < 2 ^ 64 →
+  pub front_kept : (kept : FrontKept) → kept.byte4 ≡ f.byte4 → kept.ending ≡ last_at place f.measured → kept.ending + 16 ≤ length content → kept.index ≡ index_with material kind f.parts (map (λ placed. flags_of (subtable_of placed.sub)) kept.subs) f.maps → length content ≡ kept.length → kept.length < 2 ^ 64 →
       map (whole_sub content) kept.subs ≡ unread_subs content place f.measured → AllByRecursion (Fits (length content) kept.room) kept.subs → IsFrontOf kept content
-  front_kept kept whole same_index long short same_subs fits =
+  front_kept kept same_byte at room same_index long short same_subs fits =
+      let whole : file_end place f.measured ≤ length content = subst (λ (n : ℕ). n + 16 ≤ length content) at room in
       let table : Contents = unread_table material kind f (unread_subs content place f.measured) (last_bytes content place f.measured) in
       let is : verdict (unread_file material kind) 0 content ≡ good table (h.filled ++ (following_text material kind f content place whole).filled) (drop (file_end place f.measured) content) =
       front_good material kind f content place h.filled (drop place content) begins refl h.inside whole in
@@ -47,6 +49,11 @@ module _ (material : Sides) (kind : Kind) (f : FrontRead) (place : ℕ) (content
       record {
         table = table;
         there = ap (λ (x : Index). table_of (verdict (unread_file x.material x.kind) 0 content)) same_index ∙ ap table_of is;
+        byte4_is = same_byte;
+        filled = h.filled ++ (following_text material kind f content place whole).filled;
+        ends = ap (λ (x : Index). verdict (unread_file x.material x.kind) 0 content) same_index ∙ is ∙ ap (λ (n : ℕ). good table (h.filled ++ (following_text material kind f content place whole).filled) (drop (n + 16) content)) (sym at);
+        inside = omega (arith, room, long);
+        last_is = ap (λ (n : ℕ). bytes_at content n 16) (sym at);
         index_is = same_index ∙ ap (λ (flags : List ℕ). index_with material kind f.parts flags f.maps) (sym (flags_whole content kept.subs) ∙ ap (map flags_of) same_subs);
         long = long;
         short = short;

@@ -15,7 +15,7 @@ use Rattle.szg_block.specs.declared.Sub.{Sub}
 use Rattle.szg_block.specs.declared.Sub.TheVariants.{Constant, Pairs}
 use Rattle.szg_file.specs.Contents.{Slot, Subtable}
 use Rattle.szg_file.specs.Fetching.{IsSpot}
-use Rattle.szg_file.specs.FrontTable.{FrontKept}
+use Rattle.szg_file.specs.Index.{Index}
 use Rattle.szg_file.specs.Passed.{ArePassed, BlockPasses, IsNoted, IsSet}
 use Rattle.szg_file.specs.Placed.{whole_sub}
 use Rattle.szg_file.specs.Unread.{front_at}
@@ -125,15 +125,15 @@ spot_counted (Constant flags byte) first i count spot h is = absurd h
 spot_counted (Pairs flags block_bits span_bits extra blocks code dict sparse lengths packed) first i count spot h is = let there = h.there in omega (arith, there, is)
 
 -- one more block that passes is noted
-pub one_more_passed : (kept : FrontKept) (content : List ℕ) (old new : Passed) (part side block : ℕ) (found : Slot × Subtable) → ArePassed kept content old →
-    front_at kept.index.material kept.index.kind content part side ≡ Some found → BlockPasses found block →
-    ((p s n : ℕ) → IsNoted new p s n → IsNoted old p s n ⊎ ((p ≡ part) × (s ≡ side) × (n ≡ block))) → ArePassed kept content new
-one_more_passed kept content old new part side block found before at passes noted = λ p s n now. elim (noted p s n now) [
+pub one_more_passed : (index : Index) (content : List ℕ) (old new : Passed) (part side block : ℕ) (found : Slot × Subtable) → ArePassed index content old →
+    front_at index.material index.kind content part side ≡ Some found → BlockPasses found block →
+    ((p s n : ℕ) → IsNoted new p s n → IsNoted old p s n ⊎ ((p ≡ part) × (s ≡ side) × (n ≡ block))) → ArePassed index content new
+one_more_passed index content old new part side block found before at passes noted = λ p s n now. elim (noted p s n now) [
   | inl was ↦ before p s n was
   | inr (ep, es, en) ↦
       let P : Option (Slot × Subtable) → Type 0 = λ o. IfSome o (λ f. BlockPasses f n) in
       let here : BlockPasses found n = subst (λ (k : ℕ). BlockPasses found k) (sym en) passes in
-      let place : front_at kept.index.material kept.index.kind content p s ≡ Some found =
-      ap (λ (q : ℕ). front_at kept.index.material kept.index.kind content q s) ep ∙ ap (λ (q : ℕ). front_at kept.index.material kept.index.kind content part q) es ∙ at in
+      let place : front_at index.material index.kind content p s ≡ Some found =
+      ap (λ (q : ℕ). front_at index.material index.kind content q s) ep ∙ ap (λ (q : ℕ). front_at index.material index.kind content part q) es ∙ at in
       subst P (sym place) here
 ]

@@ -1,5 +1,5 @@
 //! Look-ups in a table that was opened by its front: the block of a value is verified before the value is decoded.
-ghost use Rattle.std.specs.Prelude.{◌≡◌, ◌+◌, ◌<◌, ◌^◌, None, Some, IfErr, IfNone, IfOk, IfSome, IsTrue, length, slice_get};
+ghost use Rattle.std.specs.Prelude.{◌≡◌, ◌+◌, ◌<◌, ◌^◌, None, Some, IfErr, IfNone, IfOk, IfSome, length, slice_get};
 ghost use Rattle.szg_block.specs.Block.{block_values};
 ghost use Rattle.szg_block.specs.BlocksTrait.{bytes_at};
 ghost use Rattle.szg_block.specs.Sound.{SpellsNeeded};
@@ -10,10 +10,9 @@ ghost use Rattle.szg_file.specs.Placed.{blocks_size};
 
 use crate::lookup::{Slotted, constant_value, slotted_at};
 use crate::opened::front_table::FrontTable;
-use crate::opened::passed::Passed;
 use crate::reading::blocks::block_bytes;
 use std::marker::Model;
-use szg_block::{ValueLocation, block_count, checked_value, locate_value};
+use szg_block::{ValueLocation, checked_value, locate_value};
 
 /// Why no value is returned.
 #[derive(Debug, Clone, Copy, PartialEq, Eq)]
@@ -36,10 +35,10 @@ pub struct ByteRange {
 
 /// The location of a value in a block, and the offset and the length of the block.
 #[derive(Clone, Copy)]
-struct BlockSpot {
-    value: ValueLocation,
-    offset: u64,
-    count: u64,
+pub(crate) struct BlockSpot {
+    pub value: ValueLocation,
+    pub offset: u64,
+    pub count: u64,
 }
 
 /// Returns the location of value `i` of a subtable. None in a constant subtable.
@@ -62,28 +61,21 @@ fn spot_of(found: &Slotted, i: u64) -> Option<BlockSpot>
     })
 }
 
-/// Returns value `i` of a subtable, decoded from its block's bytes, which are verified first, unless they `passed` before.
+/// Returns value `i` of a subtable, decoded from its block's bytes, which are verified first.
 #[inline(always)]
-fn value_at(
-    found: &Slotted,
-    i: u64,
-    spot: BlockSpot,
-    block: &[u8],
-    passed: bool,
-) -> Result<u16, FetchFault>
+fn value_at(found: &Slotted, i: u64, spot: BlockSpot, block: &[u8]) -> Result<u16, FetchFault>
     requires head { IsShapedHead found.now.placed.now.sub found.now.slot.size }
     requires index { HasSoundIndex found.now.placed.now.sub found.now.slot.size }
     requires below { i < found.now.slot.size }
     requires spot { IsSpot found.now.placed.now i spot }
     requires whole { length block.now ≡ spot.count }
-    requires passed { IsTrue passed → IfSome (layout_of found.now.placed.now.sub) (λ layout. SpellsNeeded layout found.now.slot.size (block_location layout i).list block.now) }
     ensures verified { IfOk result (λ value. IfSome (layout_of found.now.placed.now.sub) (λ layout. SpellsNeeded layout found.now.slot.size (block_location layout i).list block.now)) }
     ensures value { IfOk result (λ value. IfSome (layout_of found.now.placed.now.sub) (λ layout. slice_get (block_values layout block.now) (block_location layout i).item ≡ Some value)) }
     ensures fault { IfErr result (λ fault. fault ≡ FetchFault.Block spot.value.block spot.offset) }
     ensures bad { IfErr result (λ fault. IfSome (layout_of found.now.placed.now.sub) (λ layout. ¬ SpellsNeeded layout found.now.slot.size (block_location layout i).list block.now)) }
 {
     let Slotted { slot, placed } = *found;
-    match checked_value(&placed.sub, slot.size, i, spot.value, block, passed) {
+    match checked_value(&placed.sub, slot.size, i, spot.value, block) {
         Ok(value) => Ok(value),
         Err(_) => Err(FetchFault::Block {
             number: spot.value.block,
@@ -170,7 +162,7 @@ impl<'a> Located<'a> {
         if block.len() as u64 != spot.count {
             return Err(FetchFault::Source);
         }
-        value_at(&self.found, self.index, spot, block, false)
+        value_at(&self.found, self.index, spot, block)
     }
 }
 
@@ -179,7 +171,6 @@ impl FrontTable {
     ghost use Rattle.szg_file.specs.Fetching.{NamesBadBlock};
     ghost use Rattle.szg_file.specs.FrontTable.{IsFrontOf};
     ghost use Rattle.szg_file.specs.Index.{slot_in};
-    ghost use Rattle.szg_file.specs.Passed.{ArePassed};
     ghost use Rattle.szg_file.specs.Placed.{blocks_size, whole_sub};
     ghost use Rattle.szg_block.specs.Subtable.{HasSoundIndex, IsShapedHead};
     ghost use Rattle.szg_file.specs.Unread.{front_at, IsDecoded};
@@ -237,45 +228,5 @@ impl FrontTable {
             return Err(FetchFault::Source);
         };
         located.decode(block)
-    }
-
-    /// Returns value `i` of a part's side as `get` does, from the bytes of the table's file, and verifies each block once:
-    /// a block that passes is noted in `passed`, and a noted one is decoded only up to the value. Allocates nothing but
-    /// the bits of a subtable's blocks, when the first of them passes.
-    ///
-    /// Errors: `Block` if the block does not decode.
-    pub fn get_once(
-        &self,
-        bytes: &[u8],
-        passed: &mut Passed,
-        part: u8,
-        side: u8,
-        i: u64,
-    ) -> Result<u16, FetchFault>
-        requires below { IsSomeAnd (slot_in self.now.index part side) (λ slot. i < slot.size) }
-        requires front { IsFrontOf self.now bytes.now }
-        requires passed { ArePassed self.now bytes.now passed.old }
-        ensures value { IfOk result (λ value. IfSome (front_at self.now.index.material self.now.index.kind bytes.now part side) (λ found. IsDecoded self.now.index.kind found i value)) }
-        ensures fault { IfErr result (λ fault. IfSome (front_at self.now.index.material self.now.index.kind bytes.now part side) (λ found. NamesBadBlock bytes.now found i fault)) }
-        ensures passed { ArePassed self.now bytes.now passed.new }
-    {
-        let found = self.slotted(part, side, i);
-        let Some(spot) = spot_of(&found, i) else {
-            return Ok(constant_value(self.index().kind(), &found.placed.sub));
-        };
-        let Some(block) = bytes_from(bytes, spot.offset, spot.count) else {
-            unreachable!()
-        };
-        let number = spot.value.block;
-        if passed.has(part, side, number) {
-            return value_at(&found, i, spot, block, true);
-        }
-        match value_at(&found, i, spot, block, false) {
-            Ok(value) => {
-                passed.note(part, side, number, block_count(&found.placed.sub));
-                Ok(value)
-            }
-            Err(fault) => Err(fault),
-        }
     }
 }

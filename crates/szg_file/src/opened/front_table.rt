@@ -1,13 +1,14 @@
 //! Tables opened by their front alone: headers, maps, sparse indexes and block lengths are read and checked. A
 //! block is verified when it is fetched.
-ghost use Rattle.std.specs.Prelude.{ℕ, List, ◌≡◌, ◌+◌, ◌≤◌, ◌<◌, ◌^◌, ◌↔◌, ◌⊎◌, [], IfErr, IfOk, IfSome, IsErrOf, IsTrue, length, map};
+ghost use Rattle.std.specs.Prelude.{ℕ, List, ◌≡◌, ◌≤◌, ◌<◌, ◌^◌, [], IfErr, IfOk, IfSome, IsErrOf, IsTrue, length, map};
 ghost use Rattle.szg_io.specs.Device.{HasFailed};
-ghost use Rattle.szg_file.specs.Contents.{gap, slots};
+ghost use Rattle.szg_file.specs.Contents.{slots};
 ghost use Rattle.szg_file.specs.Format.{verdict};
 ghost use Rattle.szg_file.specs.FrontInput.{IsFrontFault, IsFrontRead, IsFrontVerdict};
 ghost use Rattle.szg_file.specs.FrontRead.{front_read};
 ghost use Rattle.szg_file.specs.FrontTable.{IsFrontOf};
 ghost use Rattle.szg_file.specs.Held.{part_of};
+ghost use Rattle.szg_file.specs.InPlace.{EndAt};
 ghost use Rattle.szg_file.specs.Unread.{BeginsWithFront, unread_file};
 
 use crate::fault::{ReadFault, Reason};
@@ -26,8 +27,11 @@ use szg_values::{Kind, Material};
 #[derive(Drop)]
 pub struct FrontTable {
     pub(crate) index: TableIndex,
+    pub(crate) byte4: u8,
     // the source's number of bytes
     pub(crate) length: u64,
+    // the offset of the table's last sixteen bytes
+    pub(crate) ending: u64,
     // the length of the longest block
     pub(crate) room: usize,
     pub(crate) subs: Vec<PlacedSub>,
@@ -39,13 +43,14 @@ impl Model for FrontTable {
 
     ghost Value = { FrontKept };
 
-    ghost view = { λ t. record { index = t.index; length = t.length; room = t.room; subs = t.subs.items } };
+    ghost view = { λ t. record { index = t.index; byte4 = t.byte4; length = t.length; ending = t.ending; room = t.room; subs = t.subs.items } };
 
-    ghost invariant = { λ t. (content : List ℕ) × IsFrontOf (record { index = t.index; length = t.length; room = t.room; subs = t.subs.items }) content };
+    ghost invariant = { λ t. (content : List ℕ) × IsFrontOf (record { index = t.index; byte4 = t.byte4; length = t.length; ending = t.ending; room = t.room; subs = t.subs.items }) content };
 }
 
 impl FrontTable {
-    ghost use Rattle.std.specs.Prelude.{◌≡◌};
+    ghost use Rattle.std.specs.Prelude.{ℕ, List, ◌≡◌, ◌+◌, ◌≤◌};
+    ghost use Rattle.szg_file.specs.FrontTable.{IsFrontOf};
 
     /// Returns the table's index: its material and kind, its parts, and the flags and maps of its subtables.
     pub fn index(&self) -> &TableIndex
@@ -53,15 +58,29 @@ impl FrontTable {
     {
         &self.index
     }
-}
 
-/// Returns whether a file of `length` bytes whose blocks end at `end` has room for the padding and the last sixteen
-/// bytes.
-fn has_ending(end: u64, length: u64) -> bool
-    requires { end < 2 ^ 62 }
-    ensures { IsTrue result ↔ (end + gap 64 end + 16 ≤ length) }
-{
-    end + padding_to_64(end) + 16 <= length
+    /// Returns the byte after the magic. Bit 0: split. Bit 1: pawns.
+    pub fn byte4(&self) -> u8
+        ensures { result ≡ self.now.byte4 }
+    {
+        self.byte4
+    }
+
+    /// Returns the subtables in file order, without their blocks.
+    pub fn subs(&self) -> &[PlacedSub]
+        ensures { result.now ≡ self.now.subs }
+    {
+        &self.subs
+    }
+
+    /// Returns the offset of the last sixteen bytes of the table's file, which no check reads.
+    pub fn ending(&self) -> u64
+        ensures ending { result ≡ self.now.ending }
+        ensures inside { result + 16 ≤ self.now.length }
+        ensures front { (content : List ℕ) × IsFrontOf self.now content }
+    {
+        self.ending
+    }
 }
 
 /// Returns the table of a front that was read from the first `place` bytes of a file of `size` bytes. Errors: `Truncated`
@@ -81,17 +100,19 @@ fn front_table(
     ensures material { IfOk result (λ t. t.index.material ≡ material) }
     ensures kind { IfOk result (λ t. t.index.kind ≡ kind) }
     ensures table { IfOk result (λ t. (content : List ℕ) → length content ≡ size → BeginsWithFront material kind (front_read read) place content → IsFrontOf t content) }
+    ensures lists { IfOk result (λ t. (content : List ℕ) → length content ≡ size → BeginsWithFront material kind (front_read read) place content → EndAt content t.subs place) }
     ensures refused { IfErr result (λ fault. (content : List ℕ) → length content ≡ size → BeginsWithFront material kind (front_read read) place content → IsFrontFault (verdict (unread_file material kind) 0 content) fault) }
     ensures never { IsErrOf result ReadFault.Device → ⊥ }
 {
     let FrontRead {
-        byte4: _,
+        byte4,
         parts,
         maps,
         measured,
     } = read;
     let placed = place_subs(alloc, measured, place)?;
-    if !has_ending(placed.end, size) {
+    let ending = placed.end + padding_to_64(placed.end);
+    if size < ending + 16 {
         return Err(ReadFault::Refused {
             place: size,
             reason: Reason::Truncated,
@@ -100,7 +121,9 @@ fn front_table(
     let index = index_of_placed(material, kind, parts, &placed.subs, maps);
     Ok(FrontTable {
         index,
+        byte4,
         length: size,
+        ending,
         room: placed.room,
         subs: placed.subs,
     })
@@ -123,6 +146,7 @@ pub fn open_front<R: Input>(
     requires first { R.moved input.old ≡ [] }
     // If the reader specifies its bytes, and they are all of the file, the result is the verdict on them.
     ensures verdict { IfSome (R.coming input.old) (λ content. length content ≡ size → IsFrontVerdict material kind content result) }
+    ensures lists { IfOk result (λ opened. IfSome (R.coming input.old) (λ content. length content ≡ size → EndAt content opened.0.subs opened.1)) }
     // In any case: the bytes that were read.
     ensures read { IsFrontRead R.Input material kind size input.old input.new result }
     ensures device { IsErrOf result ReadFault.Device → HasFailed (R.failures input.old) (R.failures input.new) (R.interrupted input.new) }

@@ -1,6 +1,6 @@
 //! Which blocks of a table's file have passed, so that each is verified once.
 ghost use Rattle.std.specs.Prelude.{ℕ, ◌≡◌, ◌+◌, ◌*◌, ◌^◌, ◌<◌, ◌≤◌, ◌⊎◌, List, IfSome, IsTrue, OnOk, length, slice_index};
-ghost use Rattle.szg_file.specs.FrontTable.{FrontKept};
+ghost use Rattle.szg_file.specs.Index.{Index};
 ghost use Rattle.szg_file.specs.Passed.{ArePassed, IsNoted, IsSet};
 
 use std::alloc::{AllocError, Global};
@@ -16,7 +16,7 @@ pub struct Passed {
 impl Passed {
     /// Creates a list in which no block is noted. It allocates nothing.
     pub fn new(alloc: Global) -> Passed
-        ensures { (kept : FrontKept) (content : List ℕ) → ArePassed kept content result }
+        ensures { (index : Index) (content : List ℕ) → ArePassed index content result }
     {
         Passed {
             sets: [

@@ -37,7 +37,7 @@ const SIDE: &str =
 const STEPS: &str =
     "--steps Also print how many moves, words, descents and fetches the look-up takes";
 
-const VERIFY: &str = "--verify Check the whole file first, and not only what the look-up reads";
+const VERIFY: &str = "--verify Check the whole file first, and not only what the command reads";
 
 const CLASS: &str =
     "--class <CLASS> Class of the placement for the side to move, which a DTZ table does not store; its number, the plies before the zeroing one, is that of a win unless another class is given; ignored for a WDL table [default: win] [possible values: win, cursed, draw, blessed, loss]";
@@ -148,8 +148,8 @@ static READERS: [Command<'_>; 4] = [
         files: Text {
             usage: "[OPTIONS] <FILE>",
             arguments: &[TABLE],
-            options: &[NAMED, KINDED, HELP],
-            end: "Example: szg show KQvK.rtbw Standard input: szg show KQvK wdl < KQvK.rtbw",
+            options: &[VERIFY, NAMED, KINDED, HELP],
+            end: "It looks at no block of FILE, so a damaged one isn't found; szg check finds it. Example: szg show KQvK.rtbw Standard input: szg show KQvK wdl < KQvK.rtbw",
         },
     },
     Command {

@@ -3,7 +3,10 @@
 use crate::files::{accepted, made, material};
 use std::alloc::Global;
 use std::process::Abort;
-use szg_file::{FetchFault, FrontTable, ReadFault, Reason, Table, open_front};
+use szg_file::{
+    FetchFault, FrontTable, Passed, ReadFault, Reason, Table, TableInPlace, open_front,
+    open_in_place,
+};
 use szg_fixtures::Fixture;
 use szg_io::{Bytes, Cut};
 
@@ -125,5 +128,63 @@ fn short_files_by_a_front(rt: HostRuntime) {
             assert!(rt; place == 0 && reason == Reason::Magic)
         }
         _ => panic!(rt; "it is not refused"),
+    }
+}
+
+/// Value `i` of a side of a table in place. Its block is read again after it has passed, and gives the same.
+fn value_in_place(
+    rt: &impl Alloc<A = Global>,
+    table: &TableInPlace<'_>,
+    side: u8,
+    i: u64,
+) -> Option<Result<u16, FetchFault>> {
+    let size = table.index().size(0, side)?;
+    if i >= size {
+        return None;
+    }
+    let mut passed = Passed::new(rt.alloc());
+    let value = table.get(&mut passed, 0, side, i);
+    if table.get(&mut passed, 0, side, i) != value {
+        return None;
+    }
+    Some(value)
+}
+
+/// A file is opened in place just if it is opened by its front, and has the same values; else it has the same fault.
+fn check_in_place(rt: &(impl Abort + Alloc<A = Global>), file: &Fixture) {
+    let material = material(rt, file);
+    match (
+        front_of(rt, file, size_of(file)),
+        open_in_place(rt.alloc(), material, file.kind, &file.bytes),
+    ) {
+        (Ok((front, _)), Ok(table)) => {
+            for i in [0, 1, 255, 256, 21759, 21760, 31231, 31232, 31331] {
+                for side in [0, 1] {
+                    let value = value_in_place(rt, &table, side, i);
+                    assert!(rt; value == value_in(&front, &file.bytes, side, i), "at {i}");
+                }
+            }
+        }
+        (Err(fault), Err(other)) => assert!(rt; fault == other),
+        _ => panic!(rt; "only one of them is opened"),
+    }
+}
+
+#[test]
+fn values_in_place(rt: HostRuntime) {
+    for file in &made(&rt, szg_fixtures::of_all_sections(rt.alloc())) {
+        check_in_place(&rt, file);
+    }
+}
+
+/// Each byte of a sparse index and of block lengths is changed.
+#[test]
+fn damaged_lists_in_place(rt: HostRuntime) {
+    let good = made(&rt, szg_fixtures::kqvk_wdl_unpaired(rt.alloc()));
+    for at in 32..286 {
+        for byte in [0, 1, 0xff] {
+            let file = made(&rt, good.changed(rt.alloc(), &[(at, byte)]));
+            check_in_place(&rt, &file);
+        }
     }
 }

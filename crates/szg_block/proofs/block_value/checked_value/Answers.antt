@@ -59,22 +59,3 @@ returns-in-None-clause-fault c =
     count-needed c.in-Pairs.code c.in-Pairs.dict c.in-Pairs.lengths.items c.args.size c.args.location.block (c.args.i - c.args.location.item) c.needed_from-needed.result c.args.block.now c.args.block.now e held.before refl in
     let at = rw c.in-Pairs.is at c.requires.at_block in
     rw (c.in-Pairs.is, ← at) (refl, λ h. c.in-None.ensures.few (omega (arith, needs, spelled_needed layout c.args.size c.args.location.block c.args.block.now c.symbols.ensures.accepted h)))
-
--- a block that passed spells the values that it needs, and the value is one of them
-pub returns-then-passed-clause-verified : goal.returns-then-passed-clause-verified
-returns-then-passed-clause-verified c = ok_with c.value_up_to.result _ (c.requires.passed c.if-passed.true)
-
-pub returns-then-passed-clause-value : goal.returns-then-passed-clause-value
-returns-then-passed-clause-value c =
-    let item = rw c.in-Pairs.is at c.requires.at_item in
-    rw c.in-Pairs.is (ok_map c.value_up_to.result _ _ c.value_up_to.ensures.value (λ value stated. sym (spelled_at _ _ _ value c.args.location.item item stated)))
-
-pub returns-then-passed-clause-fault : goal.returns-then-passed-clause-fault
-returns-then-passed-clause-fault c =
-    let layout = layout_from c.in-Pairs.block_bits c.in-Pairs.span_bits c.in-Pairs.extra c.in-Pairs.blocks c.in-Pairs.code c.in-Pairs.dict c.in-Pairs.sparse.items c.in-Pairs.lengths.items in
-    let held = rw c.in-Pairs.is at (held_at c.args.sub.now c.args.size c.args.i c.args.location.block c.args.location.item c.requires.head c.requires.index c.requires.below c.requires.at_block c.requires.at_item) in
-    let at = rw c.in-Pairs.is at c.requires.at_block in
-    let passed = rw c.in-Pairs.is at (c.requires.passed c.if-passed.true) in
-    let inside = held.inside in
-    let spelled = spelled_needed layout c.args.size c.args.location.block c.args.block.now c.symbols.ensures.accepted (subst (λ (n : ℕ). SpellsNeeded layout c.args.size n c.args.block.now) (sym at) passed) in
-    err_map c.value_up_to.result _ _ c.value_up_to.ensures.few (λ fault few. absurd (omega (arith, inside, spelled, few)))

@@ -1,16 +1,32 @@
-use Rattle.std.proofs.Common.{◌*◌, ◌/◌, ◌^◌, ◌≤◌, length, arith}
-use Rattle.std.proofs.Math.Nat.{div-mul-le_self}
-use Rattle.szg_block.specs.Block.{start}
-use Rattle.szg_block.proofs.Parts.{start-fits}
+use Rattle.std.proofs.Common.{◌+◌, ◌/◌, ◌%◌, ◌^◌, ◌<◌, ◌≤◌, arith}
+use Rattle.szg_block.proofs.ByEntry.{led_back, led_on, none_map, some_map}
+use Rattle.szg_block.proofs.Powers.{shifted_one}
 use Rattle.szg_block.proofs.lengths.find_by_entry.Goals as goal
 
-pub middle_of_span-middle-requires-clause-small : goal.middle_of_span-middle-requires-clause-small
-middle_of_span-middle-requires-clause-small c =
-    let f : start c.args.lengths.now (length c.args.lengths.now) ≤ 65536 * length c.args.lengths.now = start-fits c.args.lengths.now c.type_inv.lengths (length c.args.lengths.now) (omega arith) in
-    let d : c.args.i / 2 ^ c.args.span_bits * 2 ^ c.args.span_bits ≤ c.args.i = div-mul-le_self c.args.i (2 ^ c.args.span_bits) in
-    omega arith
+pub returns-then-at-middle-clause-location : goal.returns-then-at-middle-clause-location
+returns-then-at-middle-clause-location g c = λ good.
+    let w = shifted_one c.args.span_bits (omega (arith, c.requires)) in
+    let h : 2 ^ c.args.span_bits / 2 ≤ c.args.i % 2 ^ c.args.span_bits + c.args.entry.offset = rw (w, c.from.ensures) at c.if-at-middle.true in
+    let on = led_on (g.I.BlockIndex.lengths c.args.index.now) c.args.span_bits c.args.i c.args.entry good h in
+    rw (w, c.from.ensures, on) at c.walk_on.ensures.location
 
-pub overflow_add-at : goal.overflow_add-at
-overflow_add-at c =
-    let f : start c.args.lengths.now (length c.args.lengths.now) ≤ 65536 * length c.args.lengths.now = start-fits c.args.lengths.now c.type_inv.lengths (length c.args.lengths.now) (omega arith) in
-    omega arith
+pub returns-then-at-middle-clause-none : goal.returns-then-at-middle-clause-none
+returns-then-at-middle-clause-none g c = λ good.
+    let w = shifted_one c.args.span_bits (omega (arith, c.requires)) in
+    let h : 2 ^ c.args.span_bits / 2 ≤ c.args.i % 2 ^ c.args.span_bits + c.args.entry.offset = rw (w, c.from.ensures) at c.if-at-middle.true in
+    let on = led_on (g.I.BlockIndex.lengths c.args.index.now) c.args.span_bits c.args.i c.args.entry good h in
+    rw (w, c.from.ensures, on) at c.walk_on.ensures.none
+
+pub returns-else-at-middle-clause-location : goal.returns-else-at-middle-clause-location
+returns-else-at-middle-clause-location g c = λ good.
+    let w = shifted_one c.args.span_bits (omega (arith, c.requires)) in
+    let h : c.args.i % 2 ^ c.args.span_bits + c.args.entry.offset < 2 ^ c.args.span_bits / 2 = rw (w, c.from.ensures) at c.if-at-middle.false in
+    let back = led_back (g.I.BlockIndex.lengths c.args.index.now) c.args.span_bits c.args.i c.args.entry good h in
+    some_map c.walk_back.result _ _ (rw (w, c.from.ensures, back) at c.walk_back.ensures.location) (λ at is. omega (arith, is))
+
+pub returns-else-at-middle-clause-none : goal.returns-else-at-middle-clause-none
+returns-else-at-middle-clause-none g c = λ good.
+    let w = shifted_one c.args.span_bits (omega (arith, c.requires)) in
+    let h : c.args.i % 2 ^ c.args.span_bits + c.args.entry.offset < 2 ^ c.args.span_bits / 2 = rw (w, c.from.ensures) at c.if-at-middle.false in
+    let back = led_back (g.I.BlockIndex.lengths c.args.index.now) c.args.span_bits c.args.i c.args.entry good h in
+    none_map c.walk_back.result (rw (w, c.from.ensures, back) at c.walk_back.ensures.none) (λ before. absurd (omega (arith, before good.0)))

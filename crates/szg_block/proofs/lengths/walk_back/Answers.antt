@@ -1,31 +1,36 @@
-use Rattle.std.proofs.Common.{◌≡◌, ◌+◌, ◌-◌, ◌≤◌, ap, arith}
+use Rattle.std.proofs.Common.{◌≡◌, ◌+◌, ◌≤◌, ◌<◌, length, ap, sym, ◌∙◌, arith}
 use Rattle.szg_block.specs.Block.{start}
-use Rattle.szg_block.proofs.Values.{start-more}
-use Rattle.szg_block.proofs.Walking.{block_after}
+use Rattle.szg_block.proofs.Values.{start-zero}
+use Rattle.szg_block.proofs.Walking.{none_past, start-after}
 use Rattle.szg_block.proofs.lengths.walk_back.Goals as goal
 
-pub overflow_sub-block : goal.overflow_sub-block
-overflow_sub-block c = block_after c.args.lengths.now c.args.end (omega arith)
+pub returns-in_err-block-clause-none : goal.returns-in_err-block-clause-none
+returns-in_err-block-clause-none g c =
+    let lengths = g.I.BlockIndex.lengths c.args.index.now in
+    let first : c.walk.after ≡ 0 = omega (arith, c.in_err-block.ensures) in
+    let zero : start lengths c.walk.after ≡ 0 = ap (λ n. start lengths n) first ∙ start-zero lengths in
+    rw c.from_residual.ensures (λ _. omega (arith, zero, c.walk.invariant.location, c.walk.invariant.some))
 
-pub loop-left-init : goal.loop-left-init
-loop-left-init c =
-    let b : 1 ≤ c.args.end = block_after c.args.lengths.now c.args.end (omega arith) in
-    let e : start c.args.lengths.now (c.args.end - 1 + 1) ≡ start c.args.lengths.now c.args.end = ap (λ k. start c.args.lengths.now k) (omega arith) in
-    record { block = omega arith; some = omega arith; location = omega arith }
+pub returns-in_err-length-clause-none : goal.returns-in_err-length-clause-none
+returns-in_err-length-clause-none g c =
+    let lengths = g.I.BlockIndex.lengths c.args.index.now in
+    let past : length lengths ≤ c.in_ok-block.block = none_past lengths c.in_ok-block.block (sym c.in_err-length.ensures.length) in
+    rw c.from_residual-in_err-length.ensures (λ within. absurd (omega (arith, past, within, c.in_ok-block.ensures, c.walk.invariant.after)))
 
-pub overflow_sub-block-in-loop-left : goal.overflow_sub-block-in-loop-left
-overflow_sub-block-in-loop-left c =
-    let s = start-more c.args.lengths.now c.loop-left.block c.loop-left.invariant.block in
-    block_after c.args.lengths.now c.loop-left.block (omega arith)
+pub returns-then-left-values-clause-location : goal.returns-then-left-values-clause-location
+returns-then-left-values-clause-location g c =
+    let lengths = g.I.BlockIndex.lengths c.args.index.now in
+    let after : start lengths (c.in_ok-block.block + 1) ≡ start lengths c.in_ok-block.block + (c.in_ok-length.length + 1) = start-after lengths c.in_ok-block.block c.in_ok-length.length (sym c.in_ok-length.ensures.length) in
+    let is : start lengths (c.in_ok-block.block + 1) ≡ start lengths c.walk.after = ap (λ n. start lengths n) (omega (arith, c.in_ok-block.ensures)) in
+    omega (arith, after, is, c.walk.invariant.location, c.if-left-values.true, c.from-values.ensures)
 
-pub loop-left-preserved : goal.loop-left-preserved
-loop-left-preserved c =
-    let s = start-more c.args.lengths.now c.loop-left.block c.loop-left.invariant.block in
-    let b : 1 ≤ c.loop-left.block = block_after c.args.lengths.now c.loop-left.block (omega arith) in
-    let e : start c.args.lengths.now (c.loop-left.block - 1 + 1) ≡ start c.args.lengths.now c.loop-left.block = ap (λ k. start c.args.lengths.now k) (omega arith) in
-    record { block = omega arith; some = omega arith; location = omega arith }
-
-pub returns-clause-location : goal.returns-clause-location
-returns-clause-location c =
-    let s = start-more c.args.lengths.now c.loop-left.block c.loop-left.invariant.block in
-    omega arith
+pub walk-preserved : goal.walk-preserved
+walk-preserved g c =
+    let lengths = g.I.BlockIndex.lengths c.args.index.now in
+    let after : start lengths (c.in_ok-block.block + 1) ≡ start lengths c.in_ok-block.block + (c.in_ok-length.length + 1) = start-after lengths c.in_ok-block.block c.in_ok-length.length (sym c.in_ok-length.ensures.length) in
+    let is : start lengths (c.in_ok-block.block + 1) ≡ start lengths c.walk.after = ap (λ n. start lengths n) (omega (arith, c.in_ok-block.ensures)) in
+    record {
+      after = omega (arith, c.in_ok-block.ensures, c.walk.invariant.after);
+      some = omega (arith, c.if-left-values.false);
+      location = omega (arith, after, is, c.walk.invariant.location, c.if-left-values.false, c.from-values.ensures);
+    }

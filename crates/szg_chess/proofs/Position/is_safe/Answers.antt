@@ -11,9 +11,9 @@ use Rattle.szg_chess.proofs.AfterMen.{is_off}
 use Rattle.szg_chess.proofs.SafeMove.{check_after_plain}
 use Rattle.szg_chess.proofs.Position.is_safe.Goals as goal
 
-pub returns-then-number-captured-clause-safe : goal.returns-then-number-captured-clause-safe
+pub returns-then-number-captured : goal.returns-then-number-captured
 unfolding is_legal
-returns-then-number-captured-clause-safe c =
+returns-then-number-captured c =
     let p = c.args.self.now in let m = c.plain_move-m.result in let e = c.plain_move-m.ensures in let king = c.king-king.result in
     let captured = c.captured_square-captured.result in let occupied = c.squares_after-occupied.result in
     let attacked : ℕ → Bool = λ q. list_any (λ t. is_color (other_color p.mover) t.1 && is_off captured t && attacks_past occupied t q) p.placed_men in
@@ -22,9 +22,9 @@ returns-then-number-captured-clause-safe c =
     c.king-king.ensures.standing c.king-king.ensures.king c.captured_square-captured.ensures.square c.squares_after-occupied.ensures.squares in
     eq-eqb c.number.result captured c.if-number-captured.true ∙ ap not (ap (λ (b : Bool). b && attacked (man_after m king).2) (sym off) ∙ whole) ∙ ap (is_legal p) e
 
-pub returns-else-number-captured-clause-safe : goal.returns-else-number-captured-clause-safe
+pub returns-else-number-captured : goal.returns-else-number-captured
 unfolding is_legal
-returns-else-number-captured-clause-safe c =
+returns-else-number-captured c =
     let p = c.args.self.now in let m = c.plain_move-m.result in let e = c.plain_move-m.ensures in let king = c.king-king.result in
     let captured = c.captured_square-captured.result in let occupied = c.squares_after-occupied.result in
     let attacked : ℕ → Bool = λ q. list_any (λ t. is_color (other_color p.mover) t.1 && is_off captured t && attacks_past occupied t q) p.placed_men in

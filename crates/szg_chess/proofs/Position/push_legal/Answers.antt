@@ -1,4 +1,4 @@
-use Rattle.std.proofs.Common.{◌≡◌, ◌∙◌, ◌++◌, List, [], ◌∷◌, ap, sym, refl, true, false, inl, inr, append_assoc, Some}
+use Rattle.std.proofs.Common.{◌≡◌, ◌∙◌, ◌++◌, List, [], ◌∷◌, ap, sym, refl, true, false, inl, inr, append_assoc, Some, None}
 use Rattle.std.proofs.lemmas.Bool.{cases_Bool}
 use Rattle.std.proofs.lemmas.List.{append-nil}
 use Rattle.szg_values.specs.Men.{is_man}
@@ -8,6 +8,7 @@ use Rattle.szg_chess.specs.declared.Move.{Move}
 use Rattle.szg_chess.specs.Moves.{promotes, is_legal}
 use Rattle.szg_chess.proofs.SafeMove.{promotion_alike}
 use Rattle.szg_chess.proofs.Position.push_legal.Goals as goal
+use Rattle.szg_chess.proofs.Position.push_legal.Goals.{then-is_free-via-then-is_free, then-is_free-via-else-is_free+then-is_safe}
 
 four : (xs : List Move) (q r b n : Move) → (((xs ++ q ∷ []) ++ r ∷ []) ++ b ∷ []) ++ n ∷ [] ≡ xs ++ q ∷ r ∷ b ∷ n ∷ []
 four xs q r b n = simp append_assoc refl
@@ -17,8 +18,12 @@ returns-then-promotes g c =
     let p = c.args.self.now in let s = c.args.man.now in let to = c.args.to in
     let move : Man → Move = λ piece. record { from = s.2; to = to; promotion = Some piece } in
     let yes : promotes s to ≡ true = sym c.promotes.ensures ∙ c.if-promotes.true in
+    let safe : is_legal p (record { from = s.2; to = to; promotion = None }) ≡ true = elim c.then-is_free.branch [
+      | then-is_free-via-then-is_free w ↦ c.requires.free w.if-is_free.true
+      | then-is_free-via-else-is_free+then-is_safe w ↦ sym w.is_safe.ensures ∙ w.if-is_safe.true
+    ] in
     let legal : (piece : Man) → is_man King piece ≡ false → is_legal p (move piece) ≡ true =
-    λ piece no_king. promotion_alike p c.is_safe.ensures.position s c.requires.standing c.requires.own to yes piece no_king ∙ sym c.is_safe.ensures.safe ∙ c.if-is_safe.true in
+    λ piece no_king. promotion_alike p c.men.ensures.position s c.requires.standing c.requires.own to yes piece no_king ∙ safe in
     let xs = c.args.moves.now.items in
     let one : c.push.new.self.items ≡ xs ++ move Queen ∷ [] = c.push.ensures.items ∙ ap (λ (m : Move). xs ++ m ∷ []) c.promoted.ensures in
     let two : c.push-then-promotes.new.self.items ≡ (xs ++ move Queen ∷ []) ++ move Rook ∷ [] = c.push-then-promotes.ensures.items ∙ ap (λ (m : Move). c.push.new.self.items ++ m ∷ []) c.promoted-then-promotes.ensures ∙ ap (λ (ms : List Move). ms ++ move Rook ∷ []) one in
@@ -29,11 +34,21 @@ returns-then-promotes g c =
 pub returns-else-is_safe : goal.returns-else-is_safe
 returns-else-is_safe g c =
     let p = c.args.self.now in let s = c.args.man.now in let to = c.args.to in
-    let plain = sym c.is_safe.ensures.safe ∙ c.if-is_safe.false in
+    let plain = sym c.is_safe.ensures ∙ c.if-is_safe.false in
     elim (cases_Bool (promotes s to)) [
       | inl t ↦
           let illegal : (piece : Man) → is_man King piece ≡ false → is_legal p (record { from = s.2; to = to; promotion = Some piece }) ≡ false =
-          λ piece no_king. promotion_alike p c.is_safe.ensures.position s c.requires.standing c.requires.own to t piece no_king ∙ plain in
+          λ piece no_king. promotion_alike p c.men.ensures.position s c.requires.standing c.requires.own to t piece no_king ∙ plain in
           rw (t, illegal Queen refl, illegal Rook refl, illegal Bishop refl, illegal Knight refl) (sym (append-nil c.args.moves.now.items))
       | inr f ↦ rw (f, plain) (sym (append-nil c.args.moves.now.items))
     ]
+
+pub returns-else-promotes : goal.returns-else-promotes
+returns-else-promotes g c =
+    let p = c.args.self.now in let s = c.args.man.now in let to = c.args.to in
+    let safe : is_legal p (record { from = s.2; to = to; promotion = None }) ≡ true = elim c.then-is_free.branch [
+      | then-is_free-via-then-is_free w ↦ c.requires.free w.if-is_free.true
+      | then-is_free-via-else-is_free+then-is_safe w ↦ sym w.is_safe.ensures ∙ w.if-is_safe.true
+    ] in
+    let no : promotes s to ≡ false = sym c.promotes.ensures ∙ c.if-promotes.false in
+    rw (no, safe) (c.push-else-promotes.ensures.items ∙ ap (λ (m : Move). c.args.moves.now.items ++ m ∷ []) c.plain_move.ensures)

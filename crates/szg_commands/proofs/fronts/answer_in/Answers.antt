@@ -9,7 +9,7 @@ returns-in-Ok-opened_front-clause-stated g c =
     let request = c.args.request.now in
     ok_then c.look_up_line.result _ _
     (λ line stated. looked_up g.S.File.Input request c.args.file c.opened_front.new.file c.in-Ok.size c.in-Ok-opened_front.opened
-    (λ content t. IsLookUpAnswer request.action request.part request.side t (string_bytes line)) (c.in-Ok.ensures.size) c.in-Ok-opened_front.ensures.front stated)
+    (λ content t. IsLookUpAnswer request.action request.part request.side content t (string_bytes line)) (c.in-Ok.ensures.size) c.in-Ok-opened_front.ensures.front stated)
     c.look_up_line.ensures.stated
 
 pub returns-in-Ok-opened_front-clause-refused : goal.returns-in-Ok-opened_front-clause-refused

@@ -18,7 +18,7 @@ returns-in-Index-clause-stated g c =
     (
     ok_then c.index_line.result _ _
     (λ line stated. unfetched g.S.File.Input c.args.file kept c.args.opened.now.read c.args.opened.now.size
-    (λ content t. IsLookUpAnswer (Index board) c.args.request.now.part c.args.request.now.side t (string_bytes line)) c.requires.room
+    (λ content t. IsLookUpAnswer (Index board) c.args.request.now.part c.args.request.now.side content t (string_bytes line)) c.requires.room
     (λ content h. spot_of_fetched kept.index board Win h.table h.index_is (string_bytes line) stated))
     c.index_line.ensures.stated
     )
@@ -39,3 +39,10 @@ returns-in-Probe-clause-stated g c =
 
 pub returns-in-Probe-clause-refused : goal.returns-in-Probe-clause-refused
 returns-in-Probe-clause-refused g c = λ refusal is. rw (c.in-Probe.is) (c.probe_line.ensures.refused refusal is c.args.request.now.part c.args.request.now.side)
+
+pub returns-in-Show-clause-stated : goal.returns-in-Show-clause-stated
+returns-in-Show-clause-stated g c =
+    rw (c.in-Show.is) (ok_then c.show_lines.result _ _ (λ text stated. stated c.args.request.now.part c.args.request.now.side) c.show_lines.ensures.stated)
+
+pub returns-in-Show-clause-refused : goal.returns-in-Show-clause-refused
+returns-in-Show-clause-refused g c = λ refusal is. absurd (c.show_lines.ensures.answered refusal is)

@@ -49,8 +49,8 @@ returns-clause-stated g c =
     ok_then c.meaning_line.result _ _
     (λ line meaning part side.
     fetched_then g.S.File.Input c.args.file opened.front opened.read opened.size
-    (λ content t. IsDecodedAt t spot.part spot.side spot.index value) (λ content t. IsLookUpAnswer (Probe board class) part side t (string_bytes line))
-    (λ content h decoded. probe_parsed x board class h.table (c.index.ensures ∙ h.index_is) spot none is_spot part side value (string_bytes line)
+    (λ content t. IsDecodedAt t spot.part spot.side spot.index value) (λ content t. IsLookUpAnswer (Probe board class) part side content t (string_bytes line))
+    (λ content h decoded. probe_parsed x board class h.table (c.index.ensures ∙ h.index_is) spot none is_spot part side value content (string_bytes line)
     (subst (λ (y : Index). IsMeaningLine y.kind y spot.part class value (string_bytes line)) (c.index-2.ensures ∙ sym c.index.ensures) meaning) decoded)
     c.in-Ok-value_by.ensures.value)
     c.meaning_line.ensures.stated

@@ -1,8 +1,10 @@
 use Rattle.std.proofs.Common.{arith, Ok, Err}
 use Rattle.std.proofs.lemmas.Result.{err_from_is_err_and}
 use Rattle.szg_file.specs.FrontRead.{front_read}
+use Rattle.szg_file.specs.InPlace.{EndAt}
 use Rattle.szg_file.specs.declared.fault.Reason.TheVariants.{Truncated}
 use Rattle.szg_file.specs.declared.fault.ReadFault.TheVariants.{Refused}
+use Rattle.szg_file.proofs.Openings.EndLaws.{coming_front}
 use Rattle.szg_file.proofs.Openings.FrontInputs.{front_known, front_late, front_longer, front_opened, front_stopped, front_verdict}
 use Rattle.szg_file.proofs.opened.front_table.open_front.Goals as goal
 
@@ -52,3 +54,8 @@ returns-clause-verdict g c =
 pub returns-clause-read : goal.returns-clause-read
 returns-clause-read g c =
     front_opened c.args.material c.args.kind g.R.Input c.in_ok-read.read c.args.size c.new-front.result c.read_front.new.front c.args.input.now c.read_front.new.input c.new-front.ensures.place c.in_ok-read.ensures.front c.in_ok-table.table (omega arith) c.in_ok-table.ensures.material c.in_ok-table.ensures.kind c.in_ok-table.ensures.table
+
+pub returns-clause-lists : goal.returns-clause-lists
+returns-clause-lists g c =
+    coming_front (λ content. EndAt content c.in_ok-table.table.subs c.read_front.new.front.place) c.args.material c.args.kind g.R.Input c.in_ok-read.read c.args.size c.new-front.result c.read_front.new.front c.args.input.now c.read_front.new.input
+    c.new-front.ensures.place c.in_ok-read.ensures.front c.in_ok-table.ensures.lists

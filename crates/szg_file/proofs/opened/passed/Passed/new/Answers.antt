@@ -9,4 +9,4 @@ returns c =
       c.new.ensures.items,
       (c.new-2.ensures.items, (c.new-3.ensures.items, (c.new-4.ensures.items, (c.new-5.ensures.items, (c.new-6.ensures.items, (c.new-7.ensures.items, (c.new-8.ensures.items, tt))))))),
     ) in
-    λ kept content part side n noted. absurd (none_noted sets empty (2 * part + side) n noted.1)
+    λ index content part side n noted. absurd (none_noted sets empty (2 * part + side) n noted.1)
