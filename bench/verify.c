@@ -109,7 +109,7 @@ static bool is_checked(const struct position *p) {
 }
 
 int main(int argc, char **argv) {
-    number_triples();
+    number_groups();
     for (int a = 1; a < argc; a++) {
         char *side = strchr(argv[a], '=');
         if (side) *side++ = 0;
