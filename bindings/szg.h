@@ -333,9 +333,9 @@ void szg_close_front(szg_front *front);
  * a result is what the blocks of the added files spell for the position and for those that it leads to.
  *
  * szg_tablebase_add reads and checks all of a file but its blocks. It keeps headers, codes and dictionaries; sparse indexes
- * and block lengths are read where they are, so nothing that grows with the file stays in memory. A probe verifies a block
- * when the szg_tablebase first reads it, and keeps a bit for each block of a part and side of a table that it reads (if memory
- * is refused, it verifies blocks again). It takes no lock. If a file's bytes change, results may be wrong, or there is none
+ * and block lengths are read where they are. A probe verifies a block when the szg_tablebase first reads it, and keeps a bit
+ * for each block of a part and side of a table that it reads, 2 MB for a file of 1.1 GB (if memory is refused, it verifies
+ * blocks again). It takes no lock. If a file's bytes change, results may be wrong, or there is none
  * (SZG_NO_CLASS if they lead to no block), and nothing worse. Threads that share tables use a szg_tablebase each, made by
  * szg_share_tablebase. szg_folders, below, finds and maps the files too. */
 
