@@ -18,13 +18,6 @@ pub(crate) fn side_at(kind: Kind, queried: u8) -> u8
     }
 }
 
-// Returns byte `i` of a list; 0 after its end.
-fn byte_at(bytes: &[u8], i: usize) -> u8
-    ensures { result ≡ slice_index bytes.now i }
-{
-    if i < bytes.len() { bytes[i] } else { 0 }
-}
-
 /// Returns whether a DTZ subtable stores another side to move than `queried`. False in WDL, and if both sides have the
 /// same men and there are no pawns.
 pub(crate) fn is_wrong_side(
@@ -38,19 +31,21 @@ pub(crate) fn is_wrong_side(
 {
     match kind {
         Kind::Wdl => false,
-        Kind::Dtz => !is_alike(material) && stored_side(flags, part) != queried,
+        Kind::Dtz => {
+            !(material.symmetric() && !material.has_pawns()) && stored_side(flags, part) != queried
+        }
     }
 }
 
-fn is_alike(material: &MaterialInfo) -> bool
-    ensures { result ≡ (is_symmetric material.now && not (has_pawns material.now)) }
-{
-    material.symmetric() && !material.has_pawns()
-}
-
-/// Returns the side to move whose values a DTZ table stores for a part: the lowest bit of the part's flags.
+/// Returns the side to move whose values a DTZ table stores for a part: the lowest bit of the part's flags; 0 if it has
+/// none.
 pub fn stored_side(flags: &[u8], part: u8) -> u8
     ensures { result ≡ slice_index flags.now part % 2 }
 {
-    byte_at(flags, usize::from(part)) % 2
+    let part = usize::from(part);
+    if part < flags.len() {
+        flags[part] % 2
+    } else {
+        0
+    }
 }
