@@ -66,15 +66,6 @@ fn has_ending(name: &str) -> bool {
     false
 }
 
-/// Whether a file's name begins with a material, up to its end or a dot.
-fn has_material(name: &str) -> bool {
-    let stem = match name.split_once('.') {
-        Some((stem, _)) => stem,
-        None => name,
-    };
-    Material::parse(stem).is_ok()
-}
-
 /// Returns the kind of table whose first four bytes a file has. None if it has others, or can't be read.
 pub fn kind_at<R: Files>(files: &R, path: &str) -> Option<Kind> {
     match first_bytes(files, path)? {
@@ -84,10 +75,15 @@ pub fn kind_at<R: Files>(files: &R, path: &str) -> Option<Kind> {
     }
 }
 
-/// Whether a file looks like a table: by its name, or by its first four bytes.
+/// Whether a file looks like a table: by the ending in its name, by a material that its name begins with, up to its end or
+/// a dot, or by its first four bytes.
 fn looks_like_table<R: Files>(files: &R, path: &str) -> bool {
     let name = Path::new(path).file_name().unwrap_or("");
-    has_ending(name) || has_material(name) || kind_at(files, path).is_some()
+    let stem = match name.split_once('.') {
+        Some((stem, _)) => stem,
+        None => name,
+    };
+    has_ending(name) || Material::parse(stem).is_ok() || kind_at(files, path).is_some()
 }
 
 /// Returns what a report has of a path below a folder. None if it isn't a table's file, and doesn't look like one.

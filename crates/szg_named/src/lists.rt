@@ -1,6 +1,5 @@
 //! Lists of sums, and logs, in files.
 
-use crate::log::Log;
 use std::alloc::Global;
 use std::fs;
 use std::io::Read;
@@ -40,12 +39,6 @@ pub trait FromLines {
 }
 
 impl FromLines for Sums {
-    fn add_lines(&mut self, alloc: Global, text: &[u8]) -> Result<(), SumsFault> {
-        self.add(alloc, text)
-    }
-}
-
-impl FromLines for Log {
     fn add_lines(&mut self, alloc: Global, text: &[u8]) -> Result<(), SumsFault> {
         self.add(alloc, text)
     }

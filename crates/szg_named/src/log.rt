@@ -2,6 +2,7 @@
 ghost use Rattle.std.specs.Prelude.{◌≡◌, None, map};
 ghost use Rattle.szg_named.specs.Logs.{entry_of, last, past_of};
 
+use crate::lists::FromLines;
 use std::alloc::{AllocError, Global};
 use szg_sums::{SumsFault, normal};
 
@@ -40,11 +41,21 @@ impl Log {
         }
     }
 
+    /// Returns the state in which the file at a path was good by its last record. None if that isn't good, or there is none.
+    pub fn last_state(&self, alloc: Global, path: &str) -> Result<Option<FileState>, AllocError>
+        ensures { IfOk result (λ state. state ≡ last_state (entries_of self.now) path.now) }
+    {
+        let path = normal(alloc, path.as_bytes())?;
+        Ok(last_of(&self.entries, &path))
+    }
+}
+
+impl FromLines for Log {
     /// Adds the records of a text, as a check writes them with `--format tsv` or `json`. Summaries and empty lines are passed
     /// over, and what follows the last line's end: a run that was cut off wrote it.
     ///
     /// Errors: the first line that is neither a record nor a summary; an allocation was refused.
-    pub fn add(&mut self, alloc: Global, text: &[u8]) -> Result<(), SumsFault> {
+    fn add_lines(&mut self, alloc: Global, text: &[u8]) -> Result<(), SumsFault> {
         let Some(end) = text.iter().rposition(|byte| *byte == b'\n') else {
             return Ok(());
         };
@@ -60,14 +71,6 @@ impl Log {
             }
         }
         Ok(())
-    }
-
-    /// Returns the state in which the file at a path was good by its last record. None if that isn't good, or there is none.
-    pub fn last_state(&self, alloc: Global, path: &str) -> Result<Option<FileState>, AllocError>
-        ensures { IfOk result (λ state. state ≡ last_state (entries_of self.now) path.now) }
-    {
-        let path = normal(alloc, path.as_bytes())?;
-        Ok(last_of(&self.entries, &path))
     }
 }
 
@@ -103,11 +106,11 @@ fn is_summary(line: &[u8]) -> bool {
 fn entry_in(alloc: Global, line: &[u8]) -> Result<Option<LogEntry>, AllocError> {
     let (path, good) = match line.strip_prefix(b"{\"path\":\"".as_slice()) {
         Some(rest) => match json_parts(rest) {
-            Some((text, good)) => (json_unescaped(alloc, text)?, good),
+            Some((text, good)) => (unescaped(alloc, text, b"\\u00".as_slice())?, good),
             None => return Ok(None),
         },
         None => match tsv_parts(line) {
-            Some((text, good)) => (tsv_unescaped(alloc, text)?, good),
+            Some((text, good)) => (unescaped(alloc, text, b"\\x".as_slice())?, good),
             None => return Ok(None),
         },
     };
@@ -177,16 +180,6 @@ fn json_parts(text: &[u8]) -> Option<(&[u8], Option<FileState>)> {
 fn hex_byte(text: &[u8]) -> Option<u8> {
     let digits = std::str::from_utf8(text.get(..2)?).ok()?;
     u8::from_str_radix(digits, 16).ok()
-}
-
-/// Returns a path without the escapes of a TSV record.
-fn tsv_unescaped(alloc: Global, text: &[u8]) -> Result<Vec<u8>, AllocError> {
-    unescaped(alloc, text, b"\\x".as_slice())
-}
-
-/// Returns a path without the escapes of a JSON record.
-fn json_unescaped(alloc: Global, text: &[u8]) -> Result<Vec<u8>, AllocError> {
-    unescaped(alloc, text, b"\\u00".as_slice())
 }
 
 /// Returns a text without its escapes: `mark` and two hexadecimal digits, or a backslash before another byte.

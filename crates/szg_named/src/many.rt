@@ -79,16 +79,7 @@ impl<'a> CheckOptions<'a> {
     pub fn with(self, sums: Option<&'a Sums>, log: Option<&'a Log>) -> CheckOptions<'a>
         ensures { result ≡ options_with self.entry sums.entry log.entry }
     {
-        CheckOptions {
-            naming: self.naming,
-            allow_trailing: self.allow_trailing,
-            format: self.format,
-            quiet: self.quiet,
-            sums,
-            shard: self.shard,
-            log,
-            has_manifest: self.has_manifest,
-        }
+        CheckOptions { sums, log, ..self }
     }
 }
 
