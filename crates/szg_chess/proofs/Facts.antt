@@ -1,10 +1,10 @@
 -- What a position without a fault is.
-use Rattle.std.proofs.Common.{◌≡◌, ◌≤◌, List, [], ◌∷◌, length, refl, Bool, true, false, arith, inl, inr, Option, Some, None}
-use Rattle.std.specs.Prelude.{filter, ◌&&◌, ◌==◌, not, nat_le, if◌then◌else◌}
-use Rattle.std.proofs.lemmas.Bool.{cases_Bool, and_parts, leb-true, le-leb, eqb-true, eq-eqb}
+use Rattle.std.proofs.Common.{◌≡◌, ◌<◌, ◌≤◌, List, [], ◌∷◌, length, refl, Bool, true, false, arith, inl, inr, Option, Some, None}
+use Rattle.std.specs.Prelude.{filter, ◌&&◌, ◌==◌, not, nat_le, if◌then◌else◌, IsSome}
+use Rattle.std.proofs.lemmas.Bool.{cases_Bool, and_parts, false_from_ne_true, leb-true, le-leb, eqb-true, eq-eqb}
 use Rattle.std.proofs.lemmas.List.Sums.{length-filter}
 use Rattle.szg_values.specs.Men.{is_man, is_color, other_color}
-use Rattle.szg_values.specs.Placement.{PlacedMan, number_of, has_distinct_squares, has_pawns_on_inner_ranks, placement_fault}
+use Rattle.szg_values.specs.Placement.{AreStanding, PlacedMan, number_of, has_distinct_squares, has_pawns_on_inner_ranks, placement_fault}
 use Rattle.szg_values.specs.declared.Man.{Man}
 use Rattle.szg_values.specs.declared.Man.TheVariants.{King}
 use Rattle.szg_values.specs.declared.Color.{Color}
@@ -135,3 +135,16 @@ unfolding placement_fault
 placed p known three =
     let men = p.placed_men in let parts = has_men_parts men known.men in
     rw (le-leb 3 (length men) three, le-leb (length men) 6 parts.few, eq-eqb (number_of King White men) 1 parts.white, eq-eqb (number_of King Black men) 1 parts.black, known.apart, known.inside) refl
+
+-- the men of a position stand on squares of the board
+pub standing : (p : Position) → IsPosition p → AreStanding p.placed_men
+standing p position =
+    let known = faultless p position.no_fault in
+    record { few = (has_men_parts p.placed_men known.men).few; apart = known.apart; inside = known.inside; on_board = position.squares.men }
+
+-- fewer than three men are no placement
+pub no_placement : (men : List PlacedMan) → length men < 3 → IsSome (placement_fault men)
+unfolding placement_fault
+no_placement men few =
+    let short : nat_le 3 (length men) ≡ false = false_from_ne_true (nat_le 3 (length men)) (λ t. let many = leb-true 3 (length men) t in omega (arith, many, few)) in
+    rw short refl

@@ -7,6 +7,7 @@ pub mod AfterMen
 pub mod MoveFacts
 pub mod AfterMove
 pub mod Captured
+pub mod Found
 pub mod Zeroing
 pub mod Sets
 pub mod Reach

@@ -160,6 +160,10 @@ is_check p = is_in_check p.placed_men p.mover
 abbrev pub has_no_move : Position → Bool
 has_no_move p = length (legal_moves p) == 0
 
+-- some legal move is no capture
+abbrev pub has_quiet_move : Position → Bool
+has_quiet_move p = list_any (λ m. not (is_capture p m)) (legal_moves p)
+
 -- mate: the side to move is in check, and has no legal move
 abbrev pub is_mate : Position → Bool
 is_mate p = is_check p && has_no_move p

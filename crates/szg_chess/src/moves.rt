@@ -9,7 +9,7 @@ ghost use Rattle.szg_values.specs.declared.Man.TheVariants.{King};
 ghost use Rattle.szg_chess.specs.Attacks.{attacks, is_occupied, is_in_check};
 ghost use Rattle.szg_chess.specs.Position.{IsPosition};
 ghost use Rattle.szg_chess.specs.Squares.{is_in, is_in_moved, squares_of, attacks_past};
-ghost use Rattle.szg_chess.specs.Moves.{men_of, promotes, moves_to, moves_if, may_pass, en_passant_moves, captures_by, captures_of, home_rank, double_rank, is_push, may_enter, quiet_moves_by, quiet_moves_of, moves_of, is_pawn_on, is_square, is_en_passant, captured_square, man_after, men_after, is_double_step, middle, after, is_legal, legal_moves, legal_captures, is_capture, is_zeroing, is_mate, is_stalemate, has_move_beside_en_passant};
+ghost use Rattle.szg_chess.specs.Moves.{men_of, promotes, moves_to, moves_if, may_pass, en_passant_moves, captures_by, captures_of, home_rank, double_rank, is_push, may_enter, quiet_moves_by, quiet_moves_of, moves_of, is_pawn_on, is_square, is_en_passant, captured_square, man_after, men_after, is_double_step, middle, after, is_legal, legal_moves, legal_captures, is_capture, is_zeroing, is_mate, is_stalemate, has_no_move, has_quiet_move, has_move_beside_en_passant};
 
 use crate::attacks::{attacks_past, files_apart, is_ahead, is_in, other_color, ranks_apart};
 use crate::men::{Few, moved};
@@ -97,18 +97,37 @@ impl Position {
         moves.as_slice().iter().any(|m| !self.is_en_passant(m))
     }
 
+    /// Returns whether there is a legal move. The search ends at the first one.
+    pub fn has_move(&self) -> bool
+        ensures { result ≡ not (has_no_move self.now) }
+    {
+        self.has_quiet_move() || !self.captures().is_empty()
+    }
+
+    /// Returns whether some legal move is no capture. The search ends at the first one.
+    pub fn has_quiet_move(&self) -> bool
+        ensures { result ≡ has_quiet_move self.now }
+    {
+        for man in self.men() {
+            if self.is_own(man) && self.has_quiet_move_by(man) {
+                return true;
+            }
+        }
+        false
+    }
+
     /// Returns whether the side to move is in check and has no move.
     pub fn is_mate(&self) -> bool
         ensures { result ≡ is_mate self.now }
     {
-        self.is_check() && self.legal_moves().is_empty()
+        self.is_check() && !self.has_move()
     }
 
     /// Returns whether the side to move is not in check and has no move.
     pub fn is_stalemate(&self) -> bool
         ensures { result ≡ is_stalemate self.now }
     {
-        !self.is_check() && self.legal_moves().is_empty()
+        !self.is_check() && !self.has_move()
     }
 
     // A fact that callers may use: there are few captures.
@@ -225,6 +244,35 @@ impl Position {
             self.push_if(moves, may_go, is_free, man, to);
             number = next_in(squares, number + 1);
         }
+    }
+
+    /// Returns whether some move of a man to an empty square is legal.
+    fn has_quiet_move_by(&self, man: &(Man, Color, Square)) -> bool
+        requires standing { Contains self.now.placed_men man.now }
+        requires own { is_color self.now.mover man.now.1 ≡ true }
+        ensures { result ≡ list_any (is_legal self.now) (quiet_moves_by self.now.placed_men man.now) }
+    {
+        let squares = squares_ahead(man);
+        let mut to = next_in(squares, 0);
+        while to < 64 {
+            if self.has_quiet_move_to(man, square_of(to)) {
+                return true;
+            }
+            to = next_in(squares, to + 1);
+        }
+        false
+    }
+
+    /// Returns whether a man may go to a square, if that is empty, by a legal move.
+    fn has_quiet_move_to(&self, man: &(Man, Color, Square), to: Square) -> bool
+        requires standing { Contains self.now.placed_men man.now }
+        requires own { is_color self.now.mover man.now.1 ≡ true }
+        ensures { result ≡ list_any (is_legal self.now) (moves_if (may_enter self.now.placed_men man.now to) man.now to) }
+    {
+        // A fact that the proof uses: the men are those of a position.
+        let _ = self.men();
+        // One test is enough: what a pawn is promoted to makes no difference to the mover's king.
+        self.may_enter(man, to) && self.is_safe(man, to)
     }
 
     /// Appends the legal moves of a man to a square if it may go there. If it is free, the moves are legal.

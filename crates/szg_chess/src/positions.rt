@@ -4,7 +4,7 @@ ghost use Rattle.std.specs.Prelude.{◌≡◌, ◌<◌, ◌≤◌, ◌==◌, ◌
 ghost use Rattle.std.specs.List.{list_any, find};
 ghost use Rattle.std.specs.Option.{ForSome};
 ghost use Rattle.szg_values.specs.Men.{is_man, is_color, other_color, file_of, rank_of, square_at};
-ghost use Rattle.szg_values.specs.Placement.{AreOnBoard, number_of, has_distinct_squares, has_pawns_on_inner_ranks};
+ghost use Rattle.szg_values.specs.Placement.{AreOnBoard, men_key, number_of, has_distinct_squares, has_pawns_on_inner_ranks};
 ghost use Rattle.szg_chess.specs.Attacks.{is_occupied, is_in_check};
 ghost use Rattle.szg_chess.specs.Position.{IsPosition, men_fault, state_fault, position_fault, has_two_to_six, has_kings, without_en_passant, man_on, is_on, was_passed, has_sound_en_passant};
 ghost use Rattle.szg_chess.specs.Squares.{squares_of};
@@ -13,7 +13,7 @@ ghost use Rattle.szg_chess.specs.Moves.{is_check};
 use crate::attacks::{is_in_check, other_color, squares_of};
 use crate::men::Few;
 use crate::{Position, PositionFault};
-use szg_values::{Color, Man, Placement, Square};
+use szg_values::{Color, Man, PlacedMen, Placement, Square, man_key};
 
 impl Position {
     /// Creates a position of men, the side to move, and the square that a pawn has just passed over by a double step.
@@ -82,6 +82,15 @@ impl Position {
             Ok(placement) => Some(placement),
             Err(_) => None,
         }
+    }
+
+    /// Borrows the men as those of a placement, which drops the en passant square. None for bare kings.
+    pub fn placed_men(&self) -> Option<PlacedMen<'_>>
+        ensures placed { 3 ≤ length self.now.placed_men → result ≡ Some (record { placed_men = self.now.placed_men; mover = self.now.mover }) }
+        ensures bare { length self.now.placed_men < 3 → result ≡ None }
+    {
+        let men = self.men();
+        PlacedMen::of_standing(men, self.mover(), key_of(men))
     }
 
     /// Returns a copy.
@@ -180,6 +189,18 @@ fn has_kings(men: &[(Man, Color, Square)]) -> bool
     ensures { result ≡ has_kings men.now }
 {
     number_of(Man::King, Color::White, men) == 1 && number_of(Man::King, Color::Black, men) == 1
+}
+
+/// Returns the key of men: the sum of what each adds.
+fn key_of(men: &[(Man, Color, Square)]) -> u64
+    requires { length men.now ≤ 6 }
+    ensures { result ≡ men_key men.now }
+{
+    let mut key = 0;
+    for man in men {
+        key += man_key(man.0, man.1);
+    }
+    key
 }
 
 /// Counts the men of a kind and colour.
