@@ -13,6 +13,7 @@ pub mod PassedBlocks
 pub mod PlacedSubs
 pub mod ReadAnswers
 pub mod ReadingLaws
+pub mod RowsRead
 pub mod Streamed
 pub mod StreamedTables
 pub mod SubtableLoops

@@ -1,7 +1,8 @@
 //! Reading from a device: fields, numbers, lists and padding.
-ghost use Rattle.std.specs.Prelude.{◌≡◌, ◌+◌, ◌*◌, ◌≤◌, ◌<◌, ◌^◌, length, map, take, drop, Err, OnOk, IfOk, OnErr, IsErrOf};
+ghost use Rattle.std.specs.Prelude.{◌≡◌, ◌+◌, ◌*◌, ◌/◌, ◌≤◌, ◌<◌, ◌^◌, ◌++◌, length, map, take, drop, Err, OnOk, IfOk, OnErr, IsErrOf};
+ghost use Rattle.szg_file.specs.Contents.{items, number_of};
 ghost use Rattle.szg_file.specs.Format.{field, means};
-ghost use Rattle.szg_file.specs.File.{filled_to, rows_field, number_field};
+ghost use Rattle.szg_file.specs.File.{entry_of_bytes, filled_to, rows_field, number_field};
 ghost use Rattle.szg_file.specs.Held.{sparse_of, numbers_field, sparse_rows, spare_field};
 ghost use Rattle.szg_file.specs.Reading.{Reading};
 ghost use Rattle.szg_file.specs.Grown.{HasCounted};
@@ -189,40 +190,27 @@ pub(crate) fn take_fill<R: Input>(
     take_spare(alloc, (unit - rest) % unit, input, front)
 }
 
-/// The greatest number of items for which space is reserved at once. Each takes two bytes or more, so their number
-/// is below `PIECE`.
-const ROWS: usize = 16384;
-
-/// Reserves space in a list to which `left` more items will be appended, unless space for `room` items is left.
-/// Returns the number of items for which there is space.
-#[inline(always)]
-fn grow_ahead<T>(
-    list: &mut Vec<T>,
-    room: usize,
-    left: usize,
-    front: &mut Front,
-) -> Result<usize, ReadFault>
-    requires some { 0 < left }
-    requires room { room ≤ left }
-    requires paid { front.old.growth + left ≤ 2 * front.old.place + 2 ^ 15 + room }
+/// Decodes rows of two bytes each, and appends the numbers to a list.
+fn append_numbers(rows: &[u8], list: &mut Vec<u16>, front: &mut Front) -> Result<(), ReadFault>
+    requires most { length rows.now ≤ 32768 }
+    requires paid { front.old.growth ≤ 2 * front.old.place + 2 ^ 15 }
     requires place { front.old.place < 2 ^ 62 }
-    ensures some { IfOk result (λ new. 0 < new) }
-    ensures most { IfOk result (λ new. new ≤ left) }
-    ensures items { list.new.items ≡ list.old.items }
-    ensures growth { IfOk result (λ new. front.new.growth + room ≡ front.old.growth + new) }
-    ensures place { front.new.place ≡ front.old.place }
-    ensures fill { front.new.fill.items ≡ front.old.fill.items }
+    ensures items { OnOk result (list.new.items ≡ list.old.items ++ map number_of (items 2 (length rows.now / 2) rows.now)) }
+    ensures longer { OnOk result (length list.new.items ≡ length list.old.items + length rows.now / 2) }
+    ensures growth { OnOk result (front.new.growth ≡ front.old.growth + length rows.now / 2) }
+    ensures place { OnOk result (front.new.place ≡ front.old.place) }
+    ensures fill { OnOk result (front.new.fill.items ≡ front.old.fill.items) }
     ensures memory { OnErr result (result ≡ Err ReadFault.Memory) }
 {
-    if room > 0 {
-        return Ok(room);
+    let count = rows.len() / 2;
+    grow(list, count, front)?;
+    'rows: for i in 0..count {
+        list.push(LittleEndian::read_u16(&rows[2 * i..]))?;
     }
-    let more = left.min(ROWS);
-    grow(list, more, front)?;
-    Ok(more)
+    Ok(())
 }
 
-/// Reads `count` two-byte numbers as one field.
+/// Reads `count` two-byte numbers as one field, in chunks.
 pub(crate) fn take_numbers<R: Input>(
     alloc: Global,
     count: u64,
@@ -237,14 +225,13 @@ pub(crate) fn take_numbers<R: Input>(
     ensures growth { OnOk result (front.new.growth ≡ front.old.growth + 3 * count) }
     ensures grown { IfOk result (λ list. HasCounted front.old front.new 0 (length list.items)) }
 {
-    let bytes = take_bytes(alloc, 2 * count, input, front)?;
-    let rows = bytes.as_slice();
     let mut list = Vec::new(alloc);
-    let mut room = 0;
-    'rows: for i in 0..rows.len() / 2 {
-        room = grow_ahead(&mut list, room, rows.len() / 2 - i, front)? - 1;
-        let number = LittleEndian::read_u16(&rows[2 * i..]);
-        list.push(number)?;
+    let mut left = count;
+    'pieces: while left > 0 {
+        let size = left.min(PIECE / 2);
+        let rows = take_bytes(alloc, 2 * size, input, front)?;
+        append_numbers(rows.as_slice(), &mut list, front)?;
+        left -= size;
     }
     Ok(list)
 }
@@ -256,6 +243,7 @@ pub(crate) fn take_entries<R: Input>(
     input: &mut R,
     front: &mut Front,
 ) -> Result<Vec<[u8; 3]>, ReadFault>
+    requires few { count < 2 ^ 16 }
     requires place { front.old.place + 3 * count < 2 ^ 62 }
     requires paid { front.old.growth ≤ 2 * front.old.place + 2 ^ 15 }
     ensures rows { Reading (rows_field 3 count) (λ list. list.items) front.old front.new R.Input input.old input.new result }
@@ -267,16 +255,38 @@ pub(crate) fn take_entries<R: Input>(
     let bytes = take_bytes(alloc, 3 * count, input, front)?;
     let rows = bytes.as_slice();
     let mut list = Vec::new(alloc);
-    let mut room = 0;
+    grow(&mut list, count as usize, front)?;
     'rows: for i in 0..rows.len() / 3 {
-        room = grow_ahead(&mut list, room, rows.len() / 3 - i, front)? - 1;
         let row = &rows[3 * i..];
         list.push([row[0], row[1], row[2]])?;
     }
     Ok(list)
 }
 
-/// Reads `count` entries of a sparse index, six bytes each, as one field.
+/// Decodes rows of six bytes each, and appends the entries to a list.
+fn append_sparse(rows: &[u8], list: &mut Vec<Entry>, front: &mut Front) -> Result<(), ReadFault>
+    requires most { length rows.now ≤ 32768 }
+    requires paid { front.old.growth ≤ 2 * front.old.place + 2 ^ 15 }
+    requires place { front.old.place < 2 ^ 62 }
+    ensures items { OnOk result (map sparse_of list.new.items ≡ map sparse_of list.old.items ++ map entry_of_bytes (items 6 (length rows.now / 6) rows.now)) }
+    ensures longer { OnOk result (length list.new.items ≡ length list.old.items + length rows.now / 6) }
+    ensures growth { OnOk result (front.new.growth ≡ front.old.growth + length rows.now / 6) }
+    ensures place { OnOk result (front.new.place ≡ front.old.place) }
+    ensures fill { OnOk result (front.new.fill.items ≡ front.old.fill.items) }
+    ensures memory { OnErr result (result ≡ Err ReadFault.Memory) }
+{
+    let count = rows.len() / 6;
+    grow(list, count, front)?;
+    'rows: for i in 0..count {
+        let row = &rows[6 * i..];
+        let block = LittleEndian::read_u32(row);
+        let offset = LittleEndian::read_u16(&row[4..]);
+        list.push(Entry { block, offset })?;
+    }
+    Ok(())
+}
+
+/// Reads `count` entries of a sparse index, six bytes each, as one field, in chunks.
 pub(crate) fn take_sparse<R: Input>(
     alloc: Global,
     count: u64,
@@ -291,16 +301,13 @@ pub(crate) fn take_sparse<R: Input>(
     ensures growth { OnOk result (front.new.growth ≡ front.old.growth + 7 * count) }
     ensures grown { IfOk result (λ list. HasCounted front.old front.new 0 (length list.items)) }
 {
-    let bytes = take_bytes(alloc, 6 * count, input, front)?;
-    let rows = bytes.as_slice();
     let mut list = Vec::new(alloc);
-    let mut room = 0;
-    'rows: for i in 0..rows.len() / 6 {
-        room = grow_ahead(&mut list, room, rows.len() / 6 - i, front)? - 1;
-        let row = &rows[6 * i..];
-        let block = LittleEndian::read_u32(row);
-        let offset = LittleEndian::read_u16(&row[4..]);
-        list.push(Entry { block, offset })?;
+    let mut left = count;
+    'pieces: while left > 0 {
+        let size = left.min(PIECE / 6);
+        let rows = take_bytes(alloc, 6 * size, input, front)?;
+        append_sparse(rows.as_slice(), &mut list, front)?;
+        left -= size;
     }
     Ok(list)
 }

@@ -1,4 +1,4 @@
-use Rattle.std.proofs.Common.{◌≡◌, ◌+◌, ◌≤◌, ◌/◌, length}
+use Rattle.std.proofs.Common.{◌≡◌, length}
 use Rattle.szg_file.specs.Contents.{items}
 use Rattle.szg_file.proofs.reading.taking.take_entries.Given as goal
 
@@ -6,8 +6,4 @@ abbrev pub invariant-rows : goal.invariant-rows
 invariant-rows g l = record {
   read : l.list.items ≡ items 3 l.i l.rows;
   count : length l.list.items ≡ l.i;
-  growth : l.front.growth ≡ l.initial.front.growth + l.i + l.room;
-  room : l.i + l.room ≤ length l.rows / 3;
-  place : l.front.place ≡ l.initial.front.place;
-  fill : l.front.fill.items ≡ l.initial.front.fill.items;
 }

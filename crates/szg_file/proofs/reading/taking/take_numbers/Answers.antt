@@ -1,25 +1,26 @@
-use Rattle.std.proofs.Common.{◌≡◌, ◌+◌, arith, ◌≤◌, ◌*◌, ◌++◌, ◌∷◌, [], length, take, drop, List, ℕ, rules, ap, ◌∙◌}
-use Rattle.std.proofs.lemmas.List.{length-drop, length_push, take_rest}
-use Rattle.byteorder.specs.Endian.{little_number}
-use Rattle.szg_file.specs.Contents.{number_of}
-use Rattle.szg_file.proofs.Readers.ItemsRead.{mapped-more, little-number_of}
+use Rattle.std.proofs.Common.{◌≡◌, ◌+◌, ◌-◌, ◌*◌, ◌/◌, ◌≤◌, ◌++◌, length, map, List, ℕ, arith, rules, ap, ◌∙◌}
+use Rattle.szg_file.specs.Contents.{number_of, items}
+use Rattle.szg_file.proofs.Readers.RowsRead.{rows_on}
 use Rattle.szg_file.proofs.reading.taking.take_numbers.Goals as goal
 
-pub rows-preserved : goal.rows-preserved
-rows-preserved g c =
-    let bytes = c.as_slice-rows.result.now in
-    let i = c.rows.i in
-    let whole = take_rest bytes (2 * i) in
-    let there : 2 ≤ length (drop (2 * i) bytes) = search (rules, length-drop (2 * i) bytes) in
-    let number : c.read_u16-number.result ≡ number_of (take 2 (drop (2 * i) bytes)) =
-    c.read_u16-number.ensures ∙ ap (little_number 2) whole ∙ little-number_of 2 (drop (2 * i) bytes) there in
-    let pushed : c.push.new.self.items ≡ c.rows.list.items ++ c.read_u16-number.result ∷ [] =
-    c.in_ok-push.ensures.items ∙ ap (λ (z : List ℕ). z ++ c.read_u16-number.result ∷ []) c.in_ok-room.ensures.items in
-    record {
-      read = pushed ∙ mapped-more number_of 2 i bytes c.rows.list.items c.read_u16-number.result c.rows.invariant.read number;
-      count = ap length pushed ∙ length_push c.rows.list.items c.read_u16-number.result ∙ ap (λ (n : ℕ). n + 1) c.rows.invariant.count;
-      growth = omega (arith, c.rows.invariant.growth, c.in_ok-room.ensures.growth, c.in_ok-room.ensures.some);
-      room = omega (arith, c.in_ok-room.ensures.most, c.in_ok-room.ensures.some, c.rows.invariant.room);
-      place = c.in_ok-room.ensures.place ∙ c.rows.invariant.place;
-      fill = c.in_ok-room.ensures.fill ∙ c.rows.invariant.fill;
-    }
+pub pieces-preserved : goal.pieces-preserved
+pieces-preserved g c =
+    let first = c.pieces.invariant in
+    let size = c.min-size.result in
+    let bytes = c.in_ok-rows.rows in
+    let before : List ℕ = c.pieces.list.items in
+    let most : size ≤ c.pieces.left = search rules in
+    let next : c.args.count - (c.pieces.left - size) ≡ (c.args.count - c.pieces.left) + size = omega (arith, first.0, most) in
+    let sum : 2 * (c.args.count - c.pieces.left) + 2 * size ≡ 2 * (c.args.count - (c.pieces.left - size)) = omega (arith, next) in
+    let half : length bytes.items / 2 ≡ size = omega (arith, c.in_ok-rows.ensures.count) in
+    let half_here : length c.as_slice.result.now / 2 ≡ size = ap (λ (z : List ℕ). length z / 2) c.as_slice.ensures.value ∙ half in
+    let grown = c.in_ok-append_numbers.ensures.items
+    ∙ ap (λ (z : List ℕ). before ++ map number_of (items 2 (length z / 2) z)) c.as_slice.ensures.value
+    ∙ ap (λ (n : ℕ). before ++ map number_of (items 2 n bytes.items)) half in (
+      omega (arith, first.0),
+      rows_on number_of 2 (c.args.count - c.pieces.left) size (c.args.count - (c.pieces.left - size)) before c.append_numbers.new.list.items (λ list. list.items) bytes
+          next sum first.1 c.in_ok-rows.ensures.field c.in_ok-rows.ensures.count grown c.in_ok-append_numbers.ensures.place c.in_ok-append_numbers.ensures.fill,
+      omega (arith, c.in_ok-append_numbers.ensures.longer, half_here, first.2, next),
+      omega (arith, c.in_ok-append_numbers.ensures.place, c.in_ok-rows.ensures.place, first.3, sum),
+      omega (arith, c.in_ok-append_numbers.ensures.growth, half_here, c.in_ok-rows.ensures.growth, first.4, next),
+    )

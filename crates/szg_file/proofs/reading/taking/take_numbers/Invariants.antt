@@ -1,13 +1,16 @@
-use Rattle.std.proofs.Common.{◌≡◌, ◌+◌, ◌≤◌, ◌/◌, length, map}
-use Rattle.szg_file.specs.Contents.{number_of, items}
+use Rattle.std.proofs.Common.{◌≡◌, ◌+◌, ◌*◌, ◌≤◌, ◌-◌, length}
+use Rattle.szg_file.specs.Contents.{number_of}
+use Rattle.szg_file.proofs.Readers.RowsRead.{RowsRead}
 use Rattle.szg_file.proofs.reading.taking.take_numbers.Given as goal
 
-abbrev pub invariant-rows : goal.invariant-rows
-invariant-rows g l = record {
-  read : l.list.items ≡ map number_of (items 2 l.i l.rows);
-  count : length l.list.items ≡ l.i;
-  growth : l.front.growth ≡ l.initial.front.growth + l.i + l.room;
-  room : l.i + l.room ≤ length l.rows / 2;
-  place : l.front.place ≡ l.initial.front.place;
-  fill : l.front.fill.items ≡ l.initial.front.fill.items;
-}
+-- the first numbers of the field were read, and are in the list
+abbrev pub invariant-pieces : goal.invariant-pieces
+invariant-pieces g l =
+    (l.left ≤ l.count)
+    × RowsRead number_of 2 (l.count - l.left) l.list.items l.initial.front l.front g.R.Input l.initial.input l.input
+    × (length l.list.items ≡ l.count - l.left)
+    × (l.front.place ≡ l.initial.front.place + 2 * (l.count - l.left))
+    × (l.front.growth ≡ l.initial.front.growth + 3 * (l.count - l.left))
+
+abbrev pub decreases-pieces : goal.decreases-pieces
+decreases-pieces g l = l.left
