@@ -1,6 +1,6 @@
 //! The check of a position.
 
-ghost use Rattle.std.specs.Prelude.{◌≡◌, IfOk, IfSome, IsTrue, option_map, Contains, is_none};
+ghost use Rattle.std.specs.Prelude.{◌≡◌, [], IfOk, IfSome, IsTrue, Some, None, if◌then◌else◌, Contains, is_none};
 ghost use Rattle.szg_chess.specs.Laws.{kinds_of};
 ghost use Rattle.szg_chess.specs.Moves.{after, is_zeroing, legal_moves};
 ghost use Rattle.szg_verify.specs.Conditions.{breaks};
@@ -43,36 +43,39 @@ pub fn check_position<T: Tables, D: DtzTables<Fault = T::Fault>>(
         Ok(None) => return Ok(Some(Condition::NoNumber)),
         Err(fault) => return Err(fault),
     };
-    match all_steps(classes, distances, cells, position) {
-        Ok(Some(steps)) => Ok(broken_by(PLY_LIMIT, entry, position.is_check(), steps.as_slice())),
-        Ok(None) => Ok(Some(Condition::NoNumberAfter)),
+    let mut steps = Steps::new();
+    match all_steps(classes, distances, cells, position, &mut steps) {
+        Ok(true) => Ok(broken_by(PLY_LIMIT, entry, position.is_check(), steps.as_slice())),
+        Ok(false) => Ok(Some(Condition::NoNumberAfter)),
         Err(fault) => Err(fault),
     }
 }
 
-/// Returns the entries after the legal moves, as far as they count. None if one is not there.
+/// Appends the entries after the legal moves, as far as they count, to none. Returns whether all are there.
 fn all_steps<T: Tables, D: DtzTables<Fault = T::Fault>>(
     classes: &mut T,
     distances: &mut D,
     cells: &mut [Cell],
     position: &Position,
-) -> Result<Option<Steps>, T::Fault>
+    steps: &mut Steps,
+) -> Result<bool, T::Fault>
+    requires none { steps.old.items ≡ [] }
     requires right { AreRight (kinds_of position.now.placed_men) (tables_of (T.stored classes.old) (D.distances distances.old)) cells.old }
     ensures same_classes { T.stored classes.new ≡ T.stored classes.old }
     ensures same_distances { D.distances distances.new ≡ D.distances distances.old }
     ensures right { AreRight (kinds_of position.now.placed_men) (tables_of (T.stored classes.old) (D.distances distances.old)) cells.new }
-    ensures steps { IfOk result (λ o. option_map (λ s. s.items) o ≡ steps_to (entry_after (tables_of (T.stored classes.old) (D.distances distances.old)) position.now) position.now (legal_moves position.now)) }
+    ensures steps { IfOk result (λ all. (if all then Some steps.new.items else None) ≡ steps_to (entry_after (tables_of (T.stored classes.old) (D.distances distances.old)) position.now) position.now (legal_moves position.now)) }
 {
     let moves = position.legal_moves();
-    let mut steps = Steps::new();
     for m in moves.as_slice() {
-        match entry_after(classes, distances, cells, position, *m) {
-            Ok(Some(entry)) => steps.push(entry, position.is_zeroing(m)),
-            Ok(None) => return Ok(None),
+        let zeroing = position.is_zeroing(m);
+        match entry_after(classes, distances, cells, position, *m, zeroing) {
+            Ok(Some(entry)) => steps.push(entry, zeroing),
+            Ok(None) => return Ok(false),
             Err(fault) => return Err(fault),
         }
     }
-    Ok(Some(steps))
+    Ok(true)
 }
 
 /// Returns the entry after a legal move, as far as it counts: after a zeroing move the class alone.
@@ -83,8 +86,10 @@ fn entry_after<T: Tables, D: DtzTables<Fault = T::Fault>>(
     cells: &mut [Cell],
     position: &Position,
     m: Move,
+    zeroing: bool,
 ) -> Result<Option<Entry>, T::Fault>
     requires legal { Contains (legal_moves position.now) m }
+    requires zeroing { zeroing ≡ is_zeroing position.now m }
     requires right { AreRight (kinds_of position.now.placed_men) (tables_of (T.stored classes.old) (D.distances distances.old)) cells.old }
     ensures same_classes { T.stored classes.new ≡ T.stored classes.old }
     ensures same_distances { D.distances distances.new ≡ D.distances distances.old }
@@ -93,7 +98,7 @@ fn entry_after<T: Tables, D: DtzTables<Fault = T::Fault>>(
 {
     // A fact that the proof uses: the men are those of a position.
     let _ = position.men();
-    if !position.is_zeroing(&m) {
+    if !zeroing {
         if let Some(entry) = recall_after(cells, false, position, &m) {
             return Ok(Some(entry));
         }

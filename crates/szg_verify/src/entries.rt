@@ -1,6 +1,6 @@
 //! Entries: what tables say of a position.
 
-ghost use Rattle.std.specs.Prelude.{◌≡◌, ◌+◌, ◌||◌, Contains, IfOk, IsFalse, None, Some, ◌≤◌, length, option_map};
+ghost use Rattle.std.specs.Prelude.{◌≡◌, ◌+◌, ◌||◌, Contains, IfOk, IsFalse, None, Some, ◌≤◌, length, [], if◌then◌else◌};
 ghost use Rattle.std.specs.List.{list_any, list_all};
 ghost use Rattle.szg_chess.specs.Laws.{kinds_of};
 ghost use Rattle.szg_chess.specs.Moves.{has_no_move, is_zeroing, legal_moves};
@@ -251,34 +251,35 @@ fn near_after<T: Tables, D: DtzTables<Fault = T::Fault>>(
     find_near(classes, distances, cells, &position.after(m))
 }
 
-/// Returns the entries after the moves that are not zeroing, given the legal moves. None if there is no number for one of
-/// them.
+/// Appends the entries after the moves that are not zeroing to none, given the legal moves. Returns whether there is a
+/// number for each of them.
 fn quiet_steps<T: Tables, D: DtzTables<Fault = T::Fault>>(
     classes: &mut T,
     distances: &mut D,
     cells: &mut [Cell],
     position: &Position,
     moves: &[Move],
-) -> Result<Option<Steps>, T::Fault>
+    steps: &mut Steps,
+) -> Result<bool, T::Fault>
+    requires none { steps.old.items ≡ [] }
     requires moves { moves.now ≡ legal_moves position.now }
     requires few { length moves.now ≤ 128 }
     requires right { AreRight (kinds_of position.now.placed_men) (tables_of (T.stored classes.old) (D.distances distances.old)) cells.old }
     ensures same_classes { T.stored classes.new ≡ T.stored classes.old }
     ensures same_distances { D.distances distances.new ≡ D.distances distances.old }
     ensures right { AreRight (kinds_of position.now.placed_men) (tables_of (T.stored classes.old) (D.distances distances.old)) cells.new }
-    ensures steps { IfOk result (λ o. option_map (λ s. s.items) o ≡ steps_to (near_after (tables_of (T.stored classes.old) (D.distances distances.old)) position.now) position.now (quiet_moves position.now)) }
+    ensures steps { IfOk result (λ all. (if all then Some steps.new.items else None) ≡ steps_to (near_after (tables_of (T.stored classes.old) (D.distances distances.old)) position.now) position.now (quiet_moves position.now)) }
 {
-    let mut steps = Steps::new();
     for m in moves {
         if !position.is_zeroing(m) {
             match near_after(classes, distances, cells, position, *m) {
                 Ok(Some(entry)) => steps.push(entry, false),
-                Ok(None) => return Ok(None),
+                Ok(None) => return Ok(false),
                 Err(fault) => return Err(fault),
             }
         }
     }
-    Ok(Some(steps))
+    Ok(true)
 }
 
 /// Returns the greatest bounds, the lower and the upper.
@@ -352,9 +353,10 @@ fn far_entry<T: Tables, D: DtzTables<Fault = T::Fault>>(
     ensures right { AreRight (kinds_of position.now.placed_men) (tables_of (T.stored classes.old) (D.distances distances.old)) cells.new }
     ensures entry { IfOk result (λ e. e ≡ far_as (tables_of (T.stored classes.old) (D.distances distances.old)) position.now class) }
 {
-    match quiet_steps(classes, distances, cells, position, moves) {
-        Ok(Some(steps)) => Ok(Some(entry_before(class, steps.as_slice()))),
-        Ok(None) => Ok(None),
+    let mut steps = Steps::new();
+    match quiet_steps(classes, distances, cells, position, moves, &mut steps) {
+        Ok(true) => Ok(Some(entry_before(class, steps.as_slice()))),
+        Ok(false) => Ok(None),
         Err(fault) => Err(fault),
     }
 }

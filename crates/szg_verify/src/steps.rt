@@ -26,6 +26,7 @@ impl Model for Steps {
 
 impl Steps {
     /// Creates an empty list.
+    #[inline(always)]
     pub(crate) fn new() -> Steps
         ensures { result.items ≡ [] }
     {

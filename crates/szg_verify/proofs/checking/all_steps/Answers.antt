@@ -13,8 +13,8 @@ loop-m-init g c = record {
   same_classes = refl;
   same_distances = refl;
   right = c.requires.right;
-  few = let e = ap length c.new-steps.ensures in omega (arith, e);
-  so_far = none_yet (entry_after (tables_of (g.T.Tables.stored c.args.classes.now) (g.D.DtzTables.distances c.args.distances.now)) c.args.position.now) c.args.position.now c.new-steps.result.items c.new-steps.ensures;
+  few = let e = ap length c.requires.none in omega (arith, e);
+  so_far = none_yet (entry_after (tables_of (g.T.Tables.stored c.args.classes.now) (g.D.DtzTables.distances c.args.distances.now)) c.args.position.now) c.args.position.now c.args.steps.now.items c.requires.none;
 }
 
 pub returns-in-Ok-None-clause-steps : goal.returns-in-Ok-None-clause-steps
@@ -34,7 +34,7 @@ loop-m-preserved g c =
     let distances = g.D.DtzTables.distances c.args.distances.now in
     let before = c.loop-m.invariant in
     let some = entry_carried_at entry_after (g.T.Tables.stored c.loop-m.classes) classes (g.D.DtzTables.distances c.loop-m.distances) distances p c.m-item.result c.in-Ok-Some.field-0 before.same_classes before.same_distances c.in-Ok-Some.ensures.entry in
-    let items = c.push.ensures ∙ ap (λ (z : Bool). c.loop-m.steps.items ++ (c.in-Ok-Some.entry, z) ∷ []) c.is_zeroing.ensures in
+    let items = c.push.ensures ∙ ap (λ (z : Bool). c.loop-m.steps.items ++ (c.in-Ok-Some.entry, z) ∷ []) c.is_zeroing-zeroing.ensures in
     record {
       same_classes = c.entry_after.ensures.same_classes ∙ before.same_classes;
       same_distances = c.entry_after.ensures.same_distances ∙ before.same_distances;
