@@ -2,14 +2,15 @@
  * missing.
  *
  * All handles that share tables have one `opened` in common. Under its lock a file is mapped once, and its table added to the
- * tablebase there; each handle then shares that tablebase's tables. So a probe takes the lock only if its handle lacks a table. A
- * mutex of the default kind is never refused.
+ * tablebase there; each handle then shares that tablebase's tables. So a probe takes the lock only if its handle lacks a table.
  * Files are unmapped when the last handle is closed, after all tablebases. */
 #define _GNU_SOURCE
 #include "szg.h"
 #include <errno.h>
 #include <fcntl.h>
+#include <limits.h>
 #include <pthread.h>
+#include <stdio.h>
 #include <stdlib.h>
 #include <string.h>
 #include <sys/mman.h>
@@ -19,116 +20,100 @@
 /* A mapped file. The list owns the mappings; the tables read them. */
 struct mapping {
     struct mapping *next;
-    void *bytes;
+    void *bytes; /* one more than those of the file, since an empty one can't be mapped */
     size_t length;
 };
 
 struct opened {
-    _Atomic size_t handles;   /* the number of handles */
-    pthread_mutex_t lock;     /* for all below but `paths` */
-    unsigned long count;      /* the number of tables that were added */
-    uint8_t most_bits;        /* the greatest span bits of a table */
-    szg_tablebase tablebase;  /* all of them */
-    struct mapping *mappings;
-    char *path;               /* room for that of a file */
-    char paths[];             /* those of the folders, separated by ':' */
+    _Atomic size_t handles;    /* the number of handles */
+    _Atomic uint8_t most_bits; /* the greatest span bits of a table */
+    pthread_mutex_t lock;      /* for the next two */
+    szg_tablebase tablebase;   /* all tables that were added */
+    struct mapping *mappings;  /* their files, the newest first */
+    char paths[];              /* those of the folders, separated by ':' */
 };
 
 struct szg_folders {
-    szg_tablebase tablebase; /* the first `count` of the tables */
-    unsigned long count;
     struct opened *opened;
+    szg_tablebase tablebase;      /* the tables up to a newest one */
+    const struct mapping *newest; /* the file of that one */
 };
 
-/* Maps a file. False with errno if the system refuses it, or ENOENT if it is no regular file: a pipe isn't waited for. */
-static bool map_file(const char *path, struct mapping *mapping)
+/* Maps a file. Returns 0 or an errno, ENOENT for what is no regular file: a pipe isn't waited for. */
+static int map_file(const char *path, struct mapping *mapping)
 {
     struct stat state;
-    int file = open(path, O_RDONLY | O_CLOEXEC | O_NONBLOCK);
+    int why = ENOENT, file = open(path, O_RDONLY | O_CLOEXEC | O_NONBLOCK);
     if (file < 0)
-        return false;
-    mapping->bytes = MAP_FAILED;
-    if (fstat(file, &state) == 0) {
-        errno = ENOENT;
+        return errno;
+    if (fstat(file, &state) != 0)
+        why = errno;
+    else if (S_ISREG(state.st_mode)) {
         mapping->length = (size_t)state.st_size;
-        /* an empty file can't be mapped, and is refused by its first check */
-        if (S_ISREG(state.st_mode))
-            mapping->bytes = mapping->length == 0 ? NULL : mmap(NULL, mapping->length, PROT_READ, MAP_SHARED, file, 0);
+        mapping->bytes = mmap(NULL, mapping->length + 1, PROT_READ, MAP_SHARED, file, 0);
+        why = mapping->bytes == MAP_FAILED ? errno : 0;
     }
-    int why = errno;
     close(file);
-    errno = why;
-    return mapping->bytes != MAP_FAILED;
+    return why;
 }
 
-/* Maps the file of a table in the first folder that has it. False with errno, ENOENT if none has. */
-static bool find_file(struct opened *opened, const szg_missing *missing, struct mapping *mapping)
+/* Maps the file of a table in the first folder that has it. Returns 0 or an errno, ENOENT if none has it. */
+static int find_file(const char *folder, const szg_missing *missing, struct mapping *mapping)
 {
-    for (const char *folder = opened->paths;; folder++) {
-        size_t length = strcspn(folder, ":");
-        memcpy(opened->path, folder, length);
-        opened->path[length] = '/';
-        strcpy(opened->path + length + 1, missing->name);
-        strcat(opened->path, missing->dtz ? ".rtbz" : ".rtbw");
-        if (map_file(opened->path, mapping))
-            return true;
-        folder += length;
-        if (errno != ENOENT || *folder == '\0')
-            return false;
+    char path[PATH_MAX];
+    for (const char *end;; folder = end + 1) {
+        end = strchrnul(folder, ':');
+        int length = end - folder < PATH_MAX ? (int)(end - folder) : PATH_MAX;
+        size_t needed = (size_t)snprintf(path, sizeof path, "%.*s/%s.%s", length, folder, missing->name, missing->dtz ? "rtbz" : "rtbw");
+        int why = needed < sizeof path ? map_file(path, mapping) : ENAMETOOLONG;
+        if (why != ENOENT || *end == '\0')
+            return why;
     }
-}
-
-static void unmap_file(struct mapping *mapping)
-{
-    if (mapping->bytes != NULL)
-        munmap(mapping->bytes, mapping->length);
-    free(mapping);
 }
 
 /* Adds the table of a file, unless its span bits exceed those that are wanted. */
-static uint32_t add_file(struct opened *opened, const szg_missing *missing, const uint8_t *bytes, size_t length, szg_answer *answer)
+static uint32_t add_file(struct opened *opened, const szg_missing *missing, const struct mapping *file, szg_answer *answer)
 {
     size_t name_length = strlen(missing->name);
-    if (opened->most_bits < UINT8_MAX) {
+    uint8_t most_bits = opened->most_bits, bits = 0;
+    if (most_bits < UINT8_MAX) {
         szg_front front = SZG_NO_FRONT;
-        uint8_t bits = 0;
-        uint32_t status = szg_open_front(missing->name, name_length, missing->dtz, bytes, length, &front, answer);
+        uint32_t status = szg_open_front(missing->name, name_length, missing->dtz, file->bytes, file->length, &front, answer);
         szg_front_span(&front, &bits);
         szg_close_front(&front);
         if (status != SZG_DONE)
             return status;
-        if (bits > opened->most_bits) {
-            *answer = (szg_answer){0, SZG_SPAN_BITS};
-            return SZG_REFUSED;
-        }
     }
-    return szg_tablebase_add(&opened->tablebase, missing->name, name_length, missing->dtz, bytes, length, answer);
+    if (bits > most_bits) {
+        *answer = (szg_answer){0, SZG_SPAN_BITS};
+        return SZG_REFUSED;
+    }
+    return szg_tablebase_add(&opened->tablebase, missing->name, name_length, missing->dtz, file->bytes, file->length, answer);
 }
 
 /* Finds, maps and adds the file of a table, under the lock. */
 static uint32_t add_table(struct opened *opened, szg_missing *missing)
 {
-    static const uint8_t nothing;
     struct mapping *mapping = malloc(sizeof *mapping);
     if (mapping == NULL)
         return SZG_MEMORY;
-    if (!find_file(opened, missing, mapping)) {
-        int why = errno;
+    int why = find_file(opened->paths, missing, mapping);
+    if (why != 0) {
         free(mapping);
         errno = why;
         return SZG_MISSING;
     }
     szg_answer answer = {0, 0};
-    uint32_t status = add_file(opened, missing, mapping->bytes == NULL ? &nothing : mapping->bytes, mapping->length, &answer);
+    uint32_t status = add_file(opened, missing, mapping, &answer);
     if (status != SZG_DONE) {
         missing->block = answer.reason;
         missing->offset = answer.place;
-        unmap_file(mapping);
+        munmap(mapping->bytes, mapping->length + 1);
+        free(mapping);
         return status;
     }
     mapping->next = opened->mappings;
     opened->mappings = mapping;
-    opened->count++;
     return SZG_DONE;
 }
 
@@ -137,58 +122,44 @@ static uint32_t fetch(szg_folders *folders, szg_missing *missing)
 {
     struct opened *opened = folders->opened;
     pthread_mutex_lock(&opened->lock);
-    uint32_t status = folders->count < opened->count ? SZG_DONE : add_table(opened, missing);
-    if (status == SZG_DONE) {
-        /* if this is refused, the handle has no tables, but still a count below that of all */
+    uint32_t status = folders->newest != opened->mappings ? SZG_DONE : add_table(opened, missing);
+    if (status == SZG_DONE)
+        /* if this is refused, the handle has no tables, and its newest is still not that of all */
         status = szg_share_tablebase(&opened->tablebase, &folders->tablebase);
-        if (status == SZG_DONE)
-            folders->count = opened->count;
-    }
+    if (status == SZG_DONE)
+        folders->newest = opened->mappings;
     pthread_mutex_unlock(&opened->lock);
     return status;
 }
 
-static szg_folders *new_handle(struct opened *opened)
+uint32_t szg_share_folders(szg_folders *folders, szg_folders **second)
 {
-    szg_folders *folders = malloc(sizeof *folders);
-    if (folders != NULL)
-        *folders = (szg_folders){SZG_NO_TABLEBASE, 0, opened};
-    return folders;
+    szg_folders *handle = malloc(sizeof *handle);
+    if (handle == NULL)
+        return SZG_MEMORY;
+    *handle = (szg_folders){folders->opened, SZG_NO_TABLEBASE, NULL};
+    handle->opened->handles++;
+    *second = handle;
+    return SZG_DONE;
 }
 
 uint32_t szg_open_folders(const char *paths, szg_folders **folders)
 {
-    size_t length = strlen(paths) + 1, longest = length + sizeof "/" + sizeof ((szg_missing *)0)->name + sizeof ".rtbw";
-    struct opened *opened = calloc(1, sizeof *opened + length + longest);
-    szg_folders *handle = opened == NULL ? NULL : new_handle(opened);
-    if (handle == NULL || pthread_mutex_init(&opened->lock, NULL) != 0) {
-        free(handle);
-        free(opened);
+    size_t size = strlen(paths) + 1;
+    struct opened *opened = malloc(sizeof *opened + size);
+    if (opened == NULL)
         return SZG_MEMORY;
-    }
-    opened->path = opened->paths + length;
-    memcpy(opened->paths, paths, length);
-    opened->handles = 1;
-    opened->most_bits = UINT8_MAX;
-    *folders = handle;
-    return SZG_DONE;
+    *opened = (struct opened){.most_bits = UINT8_MAX, .lock = PTHREAD_MUTEX_INITIALIZER};
+    memcpy(opened->paths, paths, size);
+    uint32_t status = szg_share_folders(&(szg_folders){.opened = opened}, folders);
+    if (status != SZG_DONE)
+        free(opened);
+    return status;
 }
 
 void szg_limit_folders(szg_folders *folders, uint8_t bits)
 {
-    pthread_mutex_lock(&folders->opened->lock);
     folders->opened->most_bits = bits;
-    pthread_mutex_unlock(&folders->opened->lock);
-}
-
-uint32_t szg_share_folders(szg_folders *folders, szg_folders **second)
-{
-    szg_folders *handle = new_handle(folders->opened);
-    if (handle == NULL)
-        return SZG_MEMORY;
-    folders->opened->handles++;
-    *second = handle;
-    return SZG_DONE;
 }
 
 /* A probe, and again with each table that it lacked. */
@@ -229,7 +200,8 @@ void szg_close_folders(szg_folders *folders)
     szg_close_tablebase(&opened->tablebase);
     for (struct mapping *mapping = opened->mappings, *next; mapping != NULL; mapping = next) {
         next = mapping->next;
-        unmap_file(mapping);
+        munmap(mapping->bytes, mapping->length + 1);
+        free(mapping);
     }
     pthread_mutex_destroy(&opened->lock);
     free(opened);

@@ -14,11 +14,11 @@
 #include <sys/mman.h>
 #include <sys/stat.h>
 
-enum call { OPEN, FSTAT, MMAP, MALLOC, MUTEX, OPENDIR, KEY, SPECIFIC, CALLS, NONE };
+enum call { OPEN, FSTAT, MMAP, MALLOC, OPENDIR, KEY, SPECIFIC, CALLS, NONE };
 /* Which errno a call has that fails, and the status that is due then. */
 static const struct { const char *name; int why; uint32_t status; } calls[CALLS] = {
     {"open", EMFILE, SZG_MISSING}, {"fstat", EIO, SZG_MISSING}, {"mmap", ENOMEM, SZG_MISSING}, {"malloc", ENOMEM, SZG_MEMORY},
-    {"pthread_mutex_init", ENOMEM, SZG_MEMORY}, {"opendir", EMFILE, 0}, {"pthread_key_create", EAGAIN, 0}, {"pthread_setspecific", ENOMEM, 0}};
+    {"opendir", EMFILE, 0}, {"pthread_key_create", EAGAIN, 0}, {"pthread_setspecific", ENOMEM, 0}};
 static enum call chosen;
 static long made[CALLS], fails_at, held, mapped, files, refused;
 static int failed;
@@ -42,8 +42,6 @@ int __real_munmap(void *at, size_t length);
 void *__real_malloc(size_t size);
 void *__real_calloc(size_t count, size_t size);
 void __real_free(void *block);
-int __real_pthread_mutex_init(pthread_mutex_t *mutex, const pthread_mutexattr_t *attributes);
-int __real_pthread_mutex_destroy(pthread_mutex_t *mutex);
 DIR *__real_opendir(const char *name);
 int __real_closedir(DIR *names);
 int __real_pthread_key_create(pthread_key_t *key, void (*end)(void *));
@@ -72,10 +70,6 @@ char *__wrap_strdup(const char *text) {
     char *copy = __wrap_malloc(strlen(text) + 1);
     return copy == NULL ? NULL : strcpy(copy, text);
 }
-int __wrap_pthread_mutex_init(pthread_mutex_t *mutex, const pthread_mutexattr_t *attributes) {
-    return fails(MUTEX) ? calls[MUTEX].why : (held++, __real_pthread_mutex_init(mutex, attributes));
-}
-int __wrap_pthread_mutex_destroy(pthread_mutex_t *mutex) { return held--, __real_pthread_mutex_destroy(mutex); }
 DIR *__wrap_opendir(const char *name) {
     DIR *names = fails(OPENDIR) ? NULL : __real_opendir(name);
     files += names != NULL;

@@ -125,6 +125,10 @@ int main(int count, char **words) {
     refused("/nowhere", SZG_MISSING, ENOENT);
     snprintf(paths, sizeof paths, "%s/KQvK.rtbw", words[1]);
     refused(paths, SZG_MISSING, ENOTDIR);
+    /* a path that the folder alone leaves too little room for */
+    memset(paths, '/', sizeof paths);
+    paths[sizeof paths - 8] = '\0';
+    refused(paths, SZG_MISSING, ENAMETOOLONG);
     unlink(file_path);
     for (int bytes = 0; bytes < 3; bytes++) {
         FILE *file = fopen(file_path, "w");
