@@ -2,6 +2,7 @@
 import json
 import os
 import re
+import shutil
 import subprocess
 import sys
 import urllib.error
@@ -118,6 +119,24 @@ def test_the_page_has_the_board_and_moves_that_lead_on(address: str) -> None:
     assert {"&#9819;", "&#9812;"} < set(re.findall("&#98..;", got(address, "?fen=" + quote("7k/8/8/8/8/8/q7/3K4 b"))[2]))
     # what follows the counter is nobody's
     assert "&quot;&gt;&lt;b&gt;" in got(address, "?fen=" + quote(PROMOTES + '"><b>'))[2]
+
+
+def test_the_page_in_a_browser(address: str, tmp_path: Path) -> None:
+    browser = shutil.which("chromium") or shutil.which("google-chrome")
+    if browser is None:
+        pytest.skip("there is no Chromium")
+
+    def shown(path: str) -> str:
+        words = [browser, "--headless", "--no-sandbox", "--disable-gpu", f"--user-data-dir={tmp_path}", "--dump-dom", address + path]
+        return subprocess.run(words, stdout=subprocess.PIPE, stderr=subprocess.DEVNULL, text=True, timeout=60, check=True).stdout
+
+    text = shown("?fen=" + quote("4k3/8/4K3/4P3/8/8/8/8 w"))
+    board = re.search(r'<table class="board"><tbody>(.*?)</tbody>', text, re.S)[1]
+    rows = ["".join(man or " " for man in re.findall("<td>(.?)</td>", row)) for row in board.split("</tr>")[:-1]]
+    assert rows == [" " * 4 + man + " " * 3 for man in "♚ ♔♙    "]
+    moves = re.findall('<a href="/([^"]*)">([^<]*)</a></td><td>([^<]*)</td><td>([^<]*)</td>', text)
+    assert len(moves) == 4 and moves[0][1:] == ("Kd6", "loss", "-2")
+    assert "<h1>Black to move: loss, DTZ -2</h1>" in shown(moves[0][0])
 
 
 @pytest.mark.parametrize("path, status, said", [
