@@ -116,6 +116,14 @@ zeroing_by_captures classes p k b captures none same h =
     sym (any_passed (keeps_by_zeroing classes p k) (is_capture p) (legal_moves p) (λ m quiet. quiet_keeps_none classes p k m none quiet))
     ∙ sym (ap (λ (ms : List Move). any_known (map (keeps_by_zeroing classes p k) ms)) same) ∙ h
 
+-- all pass a test if none fails it
+pub none_fails : {A : Type 0} (test : A → Bool) (xs : List A) → not (list_any (λ x. not (test x)) xs) ≡ list_all test xs
+none_fails test [] = refl
+none_fails test (x ∷ xs) = elim (cases_Bool (test x)) [
+  | inl e ↦ rw e (none_fails test xs)
+  | inr e ↦ rw e refl
+]
+
 -- each legal move is a capture if there is none, or captures alone
 pub no_quiet_move : (p : Position) → (has_no_move p || has_only_captures p) ≡ list_all (is_capture p) (legal_moves p)
 no_quiet_move p = by_moves (legal_moves p)

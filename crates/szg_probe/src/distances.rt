@@ -6,7 +6,7 @@ ghost use Rattle.std.specs.Option.{ForSome};
 ghost use Rattle.szg_values.specs.Men.{is_man, is_color};
 ghost use Rattle.szg_values.specs.declared.Man.TheVariants.{Pawn};
 ghost use Rattle.szg_game.specs.Classes.{negate};
-ghost use Rattle.szg_chess.specs.Moves.{after, has_no_move, is_mate, legal_moves};
+ghost use Rattle.szg_chess.specs.Moves.{after, has_no_move, legal_moves};
 ghost use Rattle.szg_probe.specs.Chess.{ChessClass};
 ghost use Rattle.szg_probe.specs.Probing.{AreTrue, MayFail, has_only_captures, probed};
 ghost use Rattle.szg_probe.specs.Distances.{MayLack, any_known, at_counter, choose_some, chosen, class_at, differs_without_right, distance_by, distance_of, has_zeroing, is_drawn, is_next, keeps_by_zeroing, offset_of, probed_distance, quiet_distance, searched_distance, signed_distance, stays, stored_distance};
@@ -99,29 +99,27 @@ pub fn probe_dtz<T: DistanceTables>(
     if is_drawn(class) {
         return Ok(Distance { class, plies: 0 });
     }
-    match distance_of(tables, position, position.legal_moves().as_slice(), class) {
+    match distance_of(tables, position, class) {
         Ok(plies) => Ok(Distance { class, plies }),
         Err(fault) => Err(fault),
     }
 }
 
-/// Returns the distance of a position of this class, given its legal moves.
+/// Returns the distance of a position of this class.
 pub(crate) fn distance_of<T: DistanceTables>(
     tables: &mut T,
     position: &Position,
-    moves: &[Move],
     class: Class,
 ) -> Result<u32, DistanceFault<T::Fault>>
-    requires moves { moves.now ≡ legal_moves position.now }
-    requires probed { probed (T.stored tables.old) position.now ≡ Some class }
+    requires { probed (T.stored tables.old) position.now ≡ Some class }
     ensures same { tables.new ≡ tables.old }
     ensures distance { IfOk result (λ d. distance_of (T.stored tables.old) (T.numbers tables.old) position.now class ≡ Some d) }
     ensures few { IfOk result (λ d. d < 2 ^ 31 + 102) }
     ensures fault { IfErr result (MayLack (T.explains (T.stored tables.old) (T.numbers tables.old)) (distance_of (T.stored tables.old) (T.numbers tables.old) position.now class ≡ None) position.now) }
 {
-    match stored_distance(tables, position, moves, class) {
+    match stored_distance(tables, position, class) {
         Ok(Some(plies)) => Ok(plies),
-        Ok(None) => searched_distance(tables, position, moves, class),
+        Ok(None) => searched_distance(tables, position, class),
         Err(fault) => Err(DistanceFault::Tables(fault)),
     }
 }
@@ -199,20 +197,18 @@ fn has_pawn(position: &Position) -> bool
         .any(|man| man.0 == Man::Pawn && man.1 == position.mover())
 }
 
-/// Returns whether some zeroing move keeps the class, given the legal moves. Without a pawn captures alone are zeroing.
+/// Returns whether some zeroing move keeps the class. Without a pawn captures alone are zeroing.
 fn has_zeroing<T: Tables>(
     tables: &mut T,
     position: &Position,
-    moves: &[Move],
     class: Class,
 ) -> Result<bool, T::Fault>
-    requires { moves.now ≡ legal_moves position.now }
     ensures same { tables.new ≡ tables.old }
     ensures zeroing { IfOk result (λ b. has_zeroing (T.stored tables.old) position.now class ≡ Some b) }
     ensures fault { IfErr result (λ fault. MayFail (T.explains (T.stored tables.old) (T.numbers tables.old) fault) position.now) }
 {
     if has_pawn(position) {
-        some_keeps(tables, position, moves, class)
+        some_keeps(tables, position, position.legal_moves().as_slice(), class)
     } else {
         some_keeps(tables, position, position.captures().as_slice(), class)
     }
@@ -240,49 +236,39 @@ fn differs_without_right<T: Tables>(
     }
 }
 
-/// Returns whether there is no legal move, or each is a capture, given the legal moves.
-fn has_no_quiet_move(position: &Position, moves: &[Move]) -> bool
-    requires { moves.now ≡ legal_moves position.now }
+/// Returns whether there is no legal move, or each is a capture.
+fn has_no_quiet_move(position: &Position) -> bool
     ensures { result ≡ (has_no_move position.now || has_only_captures position.now) }
 {
-    moves.iter().all(|m| position.is_capture(m))
+    !position.has_quiet_move()
 }
 
-/// Returns whether the next move of a position of this class settles its distance, given the legal moves.
-fn is_next<T: Tables>(
-    tables: &mut T,
-    position: &Position,
-    moves: &[Move],
-    class: Class,
-) -> Result<bool, T::Fault>
-    requires moves { moves.now ≡ legal_moves position.now }
-    requires probed { probed (T.stored tables.old) position.now ≡ Some class }
+/// Returns whether the next move of a position of this class settles its distance.
+fn is_next<T: Tables>(tables: &mut T, position: &Position, class: Class) -> Result<bool, T::Fault>
+    requires { probed (T.stored tables.old) position.now ≡ Some class }
     ensures same { tables.new ≡ tables.old }
     ensures next { IfOk result (λ b. is_next (T.stored tables.old) position.now class ≡ Some b) }
     ensures fault { IfErr result (λ fault. MayFail (T.explains (T.stored tables.old) (T.numbers tables.old) fault) position.now) }
 {
-    if has_no_quiet_move(position, moves) {
+    if has_no_quiet_move(position) {
         return Ok(true);
     }
     match differs_without_right(tables, position, class) {
         Ok(true) => Ok(true),
-        Ok(false) if class.is_won() => has_zeroing(tables, position, moves, class),
+        Ok(false) if class.is_won() => has_zeroing(tables, position, class),
         Ok(false) => Ok(false),
         Err(fault) => Err(fault),
     }
 }
 
-/// Returns the distance of a position of this class without a search, given its legal moves. None if the tables store the
-/// other side.
+/// Returns the distance of a position of this class without a search. None if the tables store the other side.
 #[tactic(auto, unfolding(crate::specs::Distances::stored_distance))]
 fn stored_distance<T: DistanceTables>(
     tables: &mut T,
     position: &Position,
-    moves: &[Move],
     class: Class,
 ) -> Result<Option<u32>, T::Fault>
-    requires moves { moves.now ≡ legal_moves position.now }
-    requires probed { probed (T.stored tables.old) position.now ≡ Some class }
+    requires { probed (T.stored tables.old) position.now ≡ Some class }
     ensures same { tables.new ≡ tables.old }
     ensures distance { IfOk result (λ d. stored_distance (T.stored tables.old) (T.numbers tables.old) position.now class ≡ Some d) }
     ensures few { IfOk result (λ d. ForSome d (λ plies. plies < 2 ^ 31 + 101)) }
@@ -294,7 +280,7 @@ fn stored_distance<T: DistanceTables>(
         return Ok(Some(0));
     }
     let offset = offset_of(class);
-    match is_next(tables, position, moves, class) {
+    match is_next(tables, position, class) {
         Ok(true) => Ok(Some(1 + offset)),
         Ok(false) => match tables.number(position, class) {
             Ok(Some(number)) => Ok(Some(1 + number + offset)),
@@ -310,17 +296,16 @@ fn stored_distance<T: DistanceTables>(
 fn searched_distance<T: DistanceTables>(
     tables: &mut T,
     position: &Position,
-    moves: &[Move],
     class: Class,
 ) -> Result<u32, DistanceFault<T::Fault>>
-    requires { moves.now ≡ legal_moves position.now }
     ensures same { tables.new ≡ tables.old }
     ensures distance { IfOk result (λ d. searched_distance (T.stored tables.old) (T.numbers tables.old) position.now class ≡ Some d) }
     ensures few { IfOk result (λ d. d < 2 ^ 31 + 102) }
     ensures fault { IfErr result (MayLack (T.explains (T.stored tables.old) (T.numbers tables.old)) (searched_distance (T.stored tables.old) (T.numbers tables.old) position.now class ≡ None) position.now) }
 {
+    let moves = position.legal_moves();
     let mut found = chosen_of_none(class);
-    for m in moves {
+    for m in moves.as_slice() {
         match quiet_distance(tables, position, class, *m) {
             Ok(quiet) => found = choose_some(class.is_won(), quiet, found),
             Err(fault) => return Err(fault),
@@ -401,14 +386,6 @@ fn quiet_distance<T: DistanceTables>(
     }
 }
 
-/// Returns whether the side to move is in check and has no move, given its legal moves.
-pub(crate) fn is_mate(position: &Position, moves: &[Move]) -> bool
-    requires { moves.now ≡ legal_moves position.now }
-    ensures { result ≡ is_mate position.now }
-{
-    moves.is_empty() && position.is_check()
-}
-
 /// Returns the distance by a move to a position of this class.
 #[tactic(auto, unfolding(crate::specs::Distances::distance_by))]
 fn distance_by<T: DistanceTables>(
@@ -422,11 +399,10 @@ fn distance_by<T: DistanceTables>(
     ensures few { IfOk result (λ d. d < 2 ^ 31 + 102) }
     ensures fault { IfErr result (MayLack (T.explains (T.stored tables.old) (T.numbers tables.old)) (distance_by (T.stored tables.old) (T.numbers tables.old) class position.now ≡ None) position.now) }
 {
-    let moves = position.legal_moves();
-    if is_mate(position, moves.as_slice()) {
+    if position.is_mate() {
         return Ok(1);
     }
-    match stored_distance(tables, position, moves.as_slice(), class) {
+    match stored_distance(tables, position, class) {
         Ok(Some(plies)) => Ok(1 + plies),
         Ok(None) => Err(DistanceFault::Contradiction),
         Err(fault) => Err(DistanceFault::Tables(fault)),

@@ -1,7 +1,6 @@
 //! Probing: the class of a position.
 
 ghost use Rattle.std.specs.Prelude.{◌≡◌, IfOk, IfErr, Some};
-ghost use Rattle.szg_chess.specs.Moves.{has_no_move};
 ghost use Rattle.szg_probe.specs.Chess.{ChessClass};
 ghost use Rattle.szg_probe.specs.Probing.{AreTrue, MayFail, has_only_en_passant, probed, stored_class};
 
@@ -70,12 +69,8 @@ fn stored_class<T: Tables>(tables: &mut T, position: &Position) -> Result<Class,
 fn has_only_en_passant(position: &Position) -> bool
     ensures { result ≡ has_only_en_passant position.now }
 {
-    position.en_passant().is_some()
-        && !(has_no_move(position) || position.has_move_beside_en_passant())
-}
-
-fn has_no_move(position: &Position) -> bool
-    ensures { result ≡ has_no_move position.now }
-{
-    position.legal_moves().len() == 0
+    if position.en_passant().is_none() {
+        return false;
+    }
+    position.has_move() && !position.has_move_beside_en_passant()
 }

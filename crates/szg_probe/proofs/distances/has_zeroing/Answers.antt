@@ -14,10 +14,12 @@ use Rattle.szg_probe.proofs.Moves.{zeroing_by_captures}
 use Rattle.szg_probe.proofs.distances.has_zeroing.Goals as goal
 
 pub some_keeps-requires : goal.some_keeps-requires
-some_keeps-requires g c = subst (λ (ms : List Move). All (Contains ms) c.args.moves.now) c.requires (All-contains_itself c.args.moves.now)
+some_keeps-requires g c =
+    let ms = c.as_slice.result.now in
+    subst (λ (all : List Move). All (Contains all) ms) (c.as_slice.ensures.value ∙ c.legal_moves.ensures) (All-contains_itself ms)
 
 pub some_keeps-requires-else-has_pawn : goal.some_keeps-requires-else-has_pawn
-some_keeps-requires-else-has_pawn g c = subst (All (Contains (legal_moves c.args.position.now))) (sym c.as_slice.ensures.value) c.captures-2.ensures.legal
+some_keeps-requires-else-has_pawn g c = subst (All (Contains (legal_moves c.args.position.now))) (sym c.as_slice-else-has_pawn.ensures.value) c.captures-2.ensures.legal
 
 among : {E : Type 0} (r : Result Bool E) (classes : StoredClasses) (p : Position) (k : Class) (captures : List Move) → list_any (λ s. is_man Pawn s.0 && is_color p.mover s.1) p.placed_men ≡ false → captures ≡ filter (is_capture p) (legal_moves p) →
     IfOk r (λ b. any_known (map (keeps_by_zeroing classes p k) captures) ≡ Some b) → IfOk r (λ b. has_zeroing classes p k ≡ Some b)
@@ -26,5 +28,5 @@ among (Err e) classes p k captures none same h = h
 
 pub returns-else-has_pawn-clause-zeroing : goal.returns-else-has_pawn-clause-zeroing
 returns-else-has_pawn-clause-zeroing g c =
-    among c.some_keeps-else-has_pawn.result (g.T.Tables.stored c.args.tables.now) c.args.position.now c.args.class c.as_slice.result.now (sym c.has_pawn.ensures ∙ c.if-has_pawn.false)
-    (c.as_slice.ensures.value ∙ c.captures-2.ensures.all) c.some_keeps-else-has_pawn.ensures.keeps
+    among c.some_keeps-else-has_pawn.result (g.T.Tables.stored c.args.tables.now) c.args.position.now c.args.class c.as_slice-else-has_pawn.result.now (sym c.has_pawn.ensures ∙ c.if-has_pawn.false)
+    (c.as_slice-else-has_pawn.ensures.value ∙ c.captures-2.ensures.all) c.some_keeps-else-has_pawn.ensures.keeps

@@ -10,7 +10,7 @@ returns-in-Err-clause-fault g c =
     let p = c.args.position.now in
     let k = c.args.class in
     let lack = lack_at g.T.Tables.explains (λ s n m. quiet_distance s n p k m) (g.T.Tables.stored c.loop-m.tables) (g.T.Tables.stored c.args.tables.now) (g.T.Tables.numbers c.loop-m.tables) (g.T.Tables.numbers c.args.tables.now) p
-    c.args.moves.now c.loop-m.m-index c.m-item.result c.in-Err.fault (ap g.T.Tables.stored c.loop-m.invariant.0) (ap g.T.Tables.numbers c.loop-m.invariant.0) c.requires c.loop-m-test.true c.m-item.is c.in-Err.ensures.fault in
+    c.as_slice-m-items.result.now c.loop-m.m-index c.m-item.result c.in-Err.fault (ap g.T.Tables.stored c.loop-m.invariant.0) (ap g.T.Tables.numbers c.loop-m.invariant.0) (c.as_slice-m-items.ensures.value ∙ c.legal_moves-moves.ensures) c.loop-m-test.true c.m-item.is c.in-Err.ensures.fault in
     lack_by (g.T.Tables.explains (g.T.Tables.stored c.args.tables.now) (g.T.Tables.numbers c.args.tables.now)) p c.in-Err.fault (λ none. ap (λ (o : Option (List (Option ℕ))). option_and_then (chosen k) o) none) lack
 
 pub loop-m-preserved : goal.loop-m-preserved
@@ -21,6 +21,6 @@ loop-m-preserved g c =
     let m = c.m-item.result in
     let here = carried (λ s n. quiet_distance s n p k m) (g.T.Tables.stored c.loop-m.tables) (g.T.Tables.stored c.args.tables.now) (g.T.Tables.numbers c.loop-m.tables) (g.T.Tables.numbers c.args.tables.now) _ (ap g.T.Tables.stored before.0) (ap g.T.Tables.numbers before.0) c.in-Ok.ensures.distance in (
       c.quiet_distance.ensures.same ∙ before.0,
-      chosen_next (quiet_distance (g.T.Tables.stored c.args.tables.now) (g.T.Tables.numbers c.args.tables.now) p k) k c.args.moves.now c.loop-m.m-index m c.loop-m.found _ c.in-Ok.quiet c.loop-m-test.true c.m-item.is before.1 here (c.choose_some-found.ensures.chosen ∙ ap (λ (b : Bool). choose_some b c.in-Ok.quiet c.loop-m.found) c.is_won.ensures),
+      chosen_next (quiet_distance (g.T.Tables.stored c.args.tables.now) (g.T.Tables.numbers c.args.tables.now) p k) k c.as_slice-m-items.result.now c.loop-m.m-index m c.loop-m.found _ c.in-Ok.quiet c.loop-m-test.true c.m-item.is before.1 here (c.choose_some-found.ensures.chosen ∙ ap (λ (b : Bool). choose_some b c.in-Ok.quiet c.loop-m.found) c.is_won.ensures),
       c.choose_some-found.ensures.few c.in-Ok.ensures.few before.2,
     )
