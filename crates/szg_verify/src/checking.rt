@@ -1,6 +1,6 @@
 //! The check of a position.
 
-ghost use Rattle.std.specs.Prelude.{◌≡◌, [], IfOk, IfSome, IsTrue, Some, None, if◌then◌else◌, Contains, is_none};
+ghost use Rattle.std.specs.Prelude.{◌≡◌, ◌≤◌, length, IfOk, IfSome, IsTrue, Some, None, if◌then◌else◌, Contains, is_none};
 ghost use Rattle.szg_chess.specs.Laws.{kinds_of};
 ghost use Rattle.szg_chess.specs.Moves.{after, is_zeroing, legal_moves};
 ghost use Rattle.szg_verify.specs.Conditions.{breaks};
@@ -22,13 +22,15 @@ const PLY_LIMIT: u32 = 100;
 
 /// Checks a position without an en passant square: whether the entry that the tables say of it agrees with the entries
 /// after its moves. Returns None if so, and else a condition that it breaks. It allocates nothing; the cells have what was
-/// found of other positions.
+/// found of other positions; both lists of steps are room, and what they hold doesn't count.
 ///
 /// Errors: those of the tables.
 pub fn check_position<T: Tables, D: DtzTables<Fault = T::Fault>>(
     classes: &mut T,
     distances: &mut D,
     cells: &mut [Cell],
+    steps: &mut Steps,
+    quiet: &mut Steps,
     position: &Position,
 ) -> Result<Option<Condition>, T::Fault>
     requires right { AreRight (kinds_of position.now.placed_men) (tables_of (T.stored classes.old) (D.distances distances.old)) cells.old }
@@ -38,38 +40,42 @@ pub fn check_position<T: Tables, D: DtzTables<Fault = T::Fault>>(
     ensures checked { IfOk result (λ o. is_none o ≡ is_checked (tables_of (T.stored classes.old) (D.distances distances.old)) position.now) }
     ensures broken { IfOk result (λ o. IfSome o (λ c. IsTrue (breaks (tables_of (T.stored classes.old) (D.distances distances.old)) position.now c))) }
 {
-    let entry = match plain_entry(classes, distances, cells, position) {
+    let found = position.legal_moves();
+    let moves = found.as_slice();
+    let entry = match plain_entry(classes, distances, cells, quiet, position, moves) {
         Ok(Some(entry)) => entry,
         Ok(None) => return Ok(Some(Condition::NoNumber)),
         Err(fault) => return Err(fault),
     };
-    let mut steps = Steps::new();
-    match all_steps(classes, distances, cells, position, &mut steps) {
+    match all_steps(classes, distances, cells, quiet, position, moves, steps) {
         Ok(true) => Ok(broken_by(PLY_LIMIT, entry, position.is_check(), steps.as_slice())),
         Ok(false) => Ok(Some(Condition::NoNumberAfter)),
         Err(fault) => Err(fault),
     }
 }
 
-/// Appends the entries after the legal moves, as far as they count, to none. Returns whether all are there.
+/// Lists the entries after the legal moves, as far as they count. Returns whether all are there.
 fn all_steps<T: Tables, D: DtzTables<Fault = T::Fault>>(
     classes: &mut T,
     distances: &mut D,
     cells: &mut [Cell],
+    quiet: &mut Steps,
     position: &Position,
+    moves: &[Move],
     steps: &mut Steps,
 ) -> Result<bool, T::Fault>
-    requires none { steps.old.items ≡ [] }
+    requires moves { moves.now ≡ legal_moves position.now }
+    requires few { length moves.now ≤ 128 }
     requires right { AreRight (kinds_of position.now.placed_men) (tables_of (T.stored classes.old) (D.distances distances.old)) cells.old }
     ensures same_classes { T.stored classes.new ≡ T.stored classes.old }
     ensures same_distances { D.distances distances.new ≡ D.distances distances.old }
     ensures right { AreRight (kinds_of position.now.placed_men) (tables_of (T.stored classes.old) (D.distances distances.old)) cells.new }
     ensures steps { IfOk result (λ all. (if all then Some steps.new.items else None) ≡ steps_to (entry_after (tables_of (T.stored classes.old) (D.distances distances.old)) position.now) position.now (legal_moves position.now)) }
 {
-    let moves = position.legal_moves();
-    for m in moves.as_slice() {
+    steps.clear();
+    for m in moves {
         let zeroing = position.is_zeroing(m);
-        match entry_after(classes, distances, cells, position, *m, zeroing) {
+        match entry_after(classes, distances, cells, quiet, position, *m, zeroing) {
             Ok(Some(entry)) => steps.push(entry, zeroing),
             Ok(None) => return Ok(false),
             Err(fault) => return Err(fault),
@@ -84,6 +90,7 @@ fn entry_after<T: Tables, D: DtzTables<Fault = T::Fault>>(
     classes: &mut T,
     distances: &mut D,
     cells: &mut [Cell],
+    quiet: &mut Steps,
     position: &Position,
     m: Move,
     zeroing: bool,
@@ -102,7 +109,7 @@ fn entry_after<T: Tables, D: DtzTables<Fault = T::Fault>>(
         if let Some(entry) = recall_after(cells, false, position, &m) {
             return Ok(Some(entry));
         }
-        return find_entry(classes, distances, cells, &position.after(m));
+        return find_entry(classes, distances, cells, quiet, &position.after(m));
     }
     match probe_wdl(classes, &position.after(m)) {
         Ok(class) => Ok(Some(Entry {

@@ -1,6 +1,6 @@
 //! Entries: what tables say of a position.
 
-ghost use Rattle.std.specs.Prelude.{◌≡◌, ◌+◌, ◌||◌, Contains, IfOk, IsFalse, None, Some, ◌≤◌, length, [], if◌then◌else◌};
+ghost use Rattle.std.specs.Prelude.{◌≡◌, ◌+◌, ◌||◌, Contains, IfOk, IsFalse, None, Some, ◌≤◌, length, if◌then◌else◌};
 ghost use Rattle.std.specs.List.{list_any, list_all};
 ghost use Rattle.szg_chess.specs.Laws.{kinds_of};
 ghost use Rattle.szg_chess.specs.Moves.{has_no_move, is_zeroing, legal_moves};
@@ -251,8 +251,8 @@ fn near_after<T: Tables, D: DtzTables<Fault = T::Fault>>(
     find_near(classes, distances, cells, &position.after(m))
 }
 
-/// Appends the entries after the moves that are not zeroing to none, given the legal moves. Returns whether there is a
-/// number for each of them.
+/// Lists the entries after the moves that are not zeroing, given the legal moves. Returns whether there is a number for
+/// each of them.
 fn quiet_steps<T: Tables, D: DtzTables<Fault = T::Fault>>(
     classes: &mut T,
     distances: &mut D,
@@ -261,7 +261,6 @@ fn quiet_steps<T: Tables, D: DtzTables<Fault = T::Fault>>(
     moves: &[Move],
     steps: &mut Steps,
 ) -> Result<bool, T::Fault>
-    requires none { steps.old.items ≡ [] }
     requires moves { moves.now ≡ legal_moves position.now }
     requires few { length moves.now ≤ 128 }
     requires right { AreRight (kinds_of position.now.placed_men) (tables_of (T.stored classes.old) (D.distances distances.old)) cells.old }
@@ -270,6 +269,7 @@ fn quiet_steps<T: Tables, D: DtzTables<Fault = T::Fault>>(
     ensures right { AreRight (kinds_of position.now.placed_men) (tables_of (T.stored classes.old) (D.distances distances.old)) cells.new }
     ensures steps { IfOk result (λ all. (if all then Some steps.new.items else None) ≡ steps_to (near_after (tables_of (T.stored classes.old) (D.distances distances.old)) position.now) position.now (quiet_moves position.now)) }
 {
+    steps.clear();
     for m in moves {
         if !position.is_zeroing(m) {
             match near_after(classes, distances, cells, position, *m) {
@@ -341,6 +341,7 @@ fn far_entry<T: Tables, D: DtzTables<Fault = T::Fault>>(
     classes: &mut T,
     distances: &mut D,
     cells: &mut [Cell],
+    quiet: &mut Steps,
     position: &Position,
     class: Class,
     moves: &[Move],
@@ -353,9 +354,8 @@ fn far_entry<T: Tables, D: DtzTables<Fault = T::Fault>>(
     ensures right { AreRight (kinds_of position.now.placed_men) (tables_of (T.stored classes.old) (D.distances distances.old)) cells.new }
     ensures entry { IfOk result (λ e. e ≡ far_as (tables_of (T.stored classes.old) (D.distances distances.old)) position.now class) }
 {
-    let mut steps = Steps::new();
-    match quiet_steps(classes, distances, cells, position, moves, &mut steps) {
-        Ok(true) => Ok(Some(entry_before(class, steps.as_slice()))),
+    match quiet_steps(classes, distances, cells, position, moves, quiet) {
+        Ok(true) => Ok(Some(entry_before(class, quiet.as_slice()))),
         Ok(false) => Ok(None),
         Err(fault) => Err(fault),
     }
@@ -366,6 +366,7 @@ fn kept_far<T: Tables, D: DtzTables<Fault = T::Fault>>(
     classes: &mut T,
     distances: &mut D,
     cells: &mut [Cell],
+    quiet: &mut Steps,
     position: &Position,
     class: Class,
     moves: &[Move],
@@ -380,7 +381,7 @@ fn kept_far<T: Tables, D: DtzTables<Fault = T::Fault>>(
     ensures right { AreRight (kinds_of position.now.placed_men) (tables_of (T.stored classes.old) (D.distances distances.old)) cells.new }
     ensures entry { IfOk result (λ e. e ≡ plain_entry (tables_of (T.stored classes.old) (D.distances distances.old)) position.now) }
 {
-    match far_entry(classes, distances, cells, position, class, moves) {
+    match far_entry(classes, distances, cells, quiet, position, class, moves) {
         Ok(Some(entry)) => {
             keep(cells, false, position, entry);
             Ok(Some(entry))
@@ -396,6 +397,7 @@ fn kept_entry<T: Tables, D: DtzTables<Fault = T::Fault>>(
     classes: &mut T,
     distances: &mut D,
     cells: &mut [Cell],
+    quiet: &mut Steps,
     position: &Position,
     class: Class,
     moves: &[Move],
@@ -411,7 +413,7 @@ fn kept_entry<T: Tables, D: DtzTables<Fault = T::Fault>>(
 {
     match kept_near(classes, distances, cells, position, class, moves) {
         Ok(Some(entry)) => Ok(Some(entry)),
-        Ok(None) => kept_far(classes, distances, cells, position, class, moves),
+        Ok(None) => kept_far(classes, distances, cells, quiet, position, class, moves),
         Err(fault) => Err(fault),
     }
 }
@@ -422,6 +424,7 @@ pub(crate) fn find_entry<T: Tables, D: DtzTables<Fault = T::Fault>>(
     classes: &mut T,
     distances: &mut D,
     cells: &mut [Cell],
+    quiet: &mut Steps,
     position: &Position,
 ) -> Result<Option<Entry>, T::Fault>
     requires right { AreRight (kinds_of position.now.placed_men) (tables_of (T.stored classes.old) (D.distances distances.old)) cells.old }
@@ -435,16 +438,28 @@ pub(crate) fn find_entry<T: Tables, D: DtzTables<Fault = T::Fault>>(
         Err(fault) => return Err(fault),
     };
     let moves = moves_that_count(class, position);
-    kept_entry(classes, distances, cells, position, class, moves.as_slice())
+    kept_entry(
+        classes,
+        distances,
+        cells,
+        quiet,
+        position,
+        class,
+        moves.as_slice(),
+    )
 }
 
-/// `find_entry`, if the entry was not found before.
+/// Returns what `find_entry` does, given the legal moves, and finds it only if it was not found before.
 pub(crate) fn plain_entry<T: Tables, D: DtzTables<Fault = T::Fault>>(
     classes: &mut T,
     distances: &mut D,
     cells: &mut [Cell],
+    quiet: &mut Steps,
     position: &Position,
+    moves: &[Move],
 ) -> Result<Option<Entry>, T::Fault>
+    requires moves { moves.now ≡ legal_moves position.now }
+    requires few { length moves.now ≤ 128 }
     requires right { AreRight (kinds_of position.now.placed_men) (tables_of (T.stored classes.old) (D.distances distances.old)) cells.old }
     ensures same_classes { T.stored classes.new ≡ T.stored classes.old }
     ensures same_distances { D.distances distances.new ≡ D.distances distances.old }
@@ -454,5 +469,9 @@ pub(crate) fn plain_entry<T: Tables, D: DtzTables<Fault = T::Fault>>(
     if let Some(entry) = recall(cells, false, position) {
         return Ok(Some(entry));
     }
-    find_entry(classes, distances, cells, position)
+    let class = match probe_wdl(classes, position) {
+        Ok(class) => class,
+        Err(fault) => return Err(fault),
+    };
+    kept_entry(classes, distances, cells, quiet, position, class, moves)
 }

@@ -20,6 +20,7 @@ pub use checking::check_position;
 pub use closed::{are_closed, leads_to};
 pub use conditions::{Condition, broken_by};
 pub use memory::Cell;
+pub use steps::Steps;
 pub use tables::{DtzTables, has_equal_sides};
 pub use verifying::verify;
 pub use walk::{Refusal, Shard, Walked, Watcher, number_count, shard_start, verify_range};

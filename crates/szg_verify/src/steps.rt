@@ -6,9 +6,9 @@ use std::marker::Model;
 use szg_chess::MAX_MOVES;
 use szg_game::{Class, Entry};
 
-/// The entries after some moves, and whether each move is zeroing.
+/// Room for the entries after some moves, and whether each move is zeroing.
 #[derive(Drop)]
-pub(crate) struct Steps {
+pub struct Steps {
     cells: [(Entry, bool); MAX_MOVES],
     len: usize,
 }
@@ -26,8 +26,7 @@ impl Model for Steps {
 
 impl Steps {
     /// Creates an empty list.
-    #[inline(always)]
-    pub(crate) fn new() -> Steps
+    pub fn new() -> Steps
         ensures { result.items ≡ [] }
     {
         let missing = Entry {
@@ -39,6 +38,13 @@ impl Steps {
             cells: [(missing, false); MAX_MOVES],
             len: 0,
         }
+    }
+
+    /// Removes all entries.
+    pub(crate) fn clear(&mut self)
+        ensures { self.new.items ≡ [] }
+    {
+        self.len = 0;
     }
 
     /// Appends an entry.

@@ -11,7 +11,7 @@ ghost use Rattle.szg_verify.specs.Verified.{is_checked};
 ghost use Rattle.szg_verify.specs.Walk.{IsFirstRefused, IsRangeChecked, IsRefused, colored_man, colored_men, has_lone_pawns, has_pawn, is_walked, kind_of, number_count, placed_by, position_by, shard_start};
 
 use crate::memory::clear;
-use crate::{Cell, Condition, DtzTables, check_position};
+use crate::{Cell, Condition, DtzTables, Steps, check_position};
 use arrayvec::ArrayVec;
 use szg_chess::Position;
 use szg_probe::Tables;
@@ -99,13 +99,17 @@ pub fn verify_range<T: Tables, D: DtzTables<Fault = T::Fault>, W: Watcher>(
     let men = colored.as_slice();
     let lone = has_lone_pawns(men);
     let none = !has_pawn(men);
+    let mut steps = Steps::new();
+    let mut quiet = Steps::new();
     let mut positions: u64 = 0;
     for number in from..to {
         if number % CHUNK == 0 {
             watcher.see_progress(material, number, to, positions);
         }
         if is_walked(lone, none, (number % 64) as u8) {
-            match check_number(classes, distances, cells, men, number) {
+            match check_number(
+                classes, distances, cells, &mut steps, &mut quiet, men, number,
+            ) {
                 Ok(walked) => {
                     positions = positions.saturating_add(walked.positions);
                     if walked.refused.is_some() {
@@ -167,6 +171,8 @@ fn check_number<T: Tables, D: DtzTables<Fault = T::Fault>>(
     classes: &mut T,
     distances: &mut D,
     cells: &mut [Cell],
+    steps: &mut Steps,
+    quiet: &mut Steps,
     men: &[(Man, Color)],
     number: u64,
 ) -> Result<Walked, T::Fault>
@@ -183,6 +189,8 @@ fn check_number<T: Tables, D: DtzTables<Fault = T::Fault>>(
         classes,
         distances,
         cells,
+        steps,
+        quiet,
         number,
         placed.as_slice(),
         Color::White,
@@ -197,6 +205,8 @@ fn check_number<T: Tables, D: DtzTables<Fault = T::Fault>>(
         classes,
         distances,
         cells,
+        steps,
+        quiet,
         number,
         placed.as_slice(),
         Color::Black,
@@ -214,6 +224,8 @@ fn check_placed<T: Tables, D: DtzTables<Fault = T::Fault>>(
     classes: &mut T,
     distances: &mut D,
     cells: &mut [Cell],
+    steps: &mut Steps,
+    quiet: &mut Steps,
     number: u64,
     placed: &[(Man, Color, Square)],
     mover: Color,
@@ -234,7 +246,7 @@ fn check_placed<T: Tables, D: DtzTables<Fault = T::Fault>>(
             });
         }
     };
-    let broken = match check_position(classes, distances, cells, &position) {
+    let broken = match check_position(classes, distances, cells, steps, quiet, &position) {
         Ok(broken) => broken,
         Err(fault) => return Err(fault),
     };

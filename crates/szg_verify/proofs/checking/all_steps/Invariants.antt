@@ -10,6 +10,6 @@ invariant-loop-m g l = record {
   same_classes : g.T.Tables.stored l.classes ≡ g.T.Tables.stored l.fn.classes;
   same_distances : g.D.DtzTables.distances l.distances ≡ g.D.DtzTables.distances l.fn.distances;
   few : length l.steps.items ≤ l.m-index;
-  so_far : steps_to (entry_after (tables_of (g.T.Tables.stored l.fn.classes) (g.D.DtzTables.distances l.fn.distances)) l.position) l.position (take l.m-index l.m-items) ≡ Some l.steps.items;
+  so_far : steps_to (entry_after (tables_of (g.T.Tables.stored l.fn.classes) (g.D.DtzTables.distances l.fn.distances)) l.position) l.position (take l.m-index l.moves) ≡ Some l.steps.items;
   right : AreRight (kinds_of l.position.placed_men) (tables_of (g.T.Tables.stored l.fn.classes) (g.D.DtzTables.distances l.fn.distances)) l.cells;
 }

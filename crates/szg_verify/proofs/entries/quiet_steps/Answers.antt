@@ -15,8 +15,8 @@ loop-m-init g c = record {
   same_classes = refl;
   same_distances = refl;
   right = c.requires.right;
-  few = let e = ap length c.requires.none in omega (arith, e);
-  so_far = none_yet (near_after (tables_of (g.T.Tables.stored c.args.classes.now) (g.D.DtzTables.distances c.args.distances.now)) c.args.position.now) c.args.position.now c.args.steps.now.items c.requires.none;
+  few = let e = ap length c.clear.ensures in omega (arith, e);
+  so_far = none_yet (near_after (tables_of (g.T.Tables.stored c.args.classes.now) (g.D.DtzTables.distances c.args.distances.now)) c.args.position.now) c.args.position.now c.clear.new.self.items c.clear.ensures;
 }
 
 pub returns-in-Ok-None-clause-steps : goal.returns-in-Ok-None-clause-steps
