@@ -1,10 +1,10 @@
 -- Consecutive items, read one at a time.
-use Rattle.std.proofs.Common.{◌≡◌, ℕ, zero, suc, ◌+◌, ◌*◌, ◌≤◌, List, [], ◌∷◌, ◌++◌, length, map, take, drop, slice_index, refl, sym, ap, ◌∙◌, arith}
+use Rattle.std.proofs.Common.{◌≡◌, ℕ, zero, suc, ◌+◌, ◌*◌, ◌<◌, ◌≤◌, List, [], ◌∷◌, ◌++◌, length, map, take, drop, slice_index, refl, sym, ap, ◌∙◌, arith}
 use Rattle.std.proofs.lemmas.List.{drop-drop, drop-take, length-drop, length-take-le, map-append, take_at}
 use Rattle.std.proofs.Math.Seq.{take-add}
 use Rattle.szg_block.specs.Layout.{SparseEntry}
 use Rattle.szg_file.specs.File.{entry_of_bytes}
-use Rattle.byteorder.specs.Endian.{little_number}
+use Rattle.byteorder.specs.Endian.{little_number, IsRead}
 use Rattle.byteorder.specs.Numbers.{little_from-cons}
 use Rattle.szg_file.specs.Contents.{number_of, items}
 
@@ -57,3 +57,17 @@ six_bytes xs block offset h b o =
     o ∙ little-number_of 2 (drop 4 xs) (omega (arith, h, length-drop 4 xs)) ∙ ap number_of (sym (drop-take 4 2 xs)) in
     ap (λ (n : ℕ). let e : SparseEntry = record { block = n; offset = offset } in e) low
     ∙ ap (λ (n : ℕ). let e : SparseEntry = record { block = number_of (take 4 (take 6 xs)); offset = n } in e) high
+
+-- numbers that are read by `read_u16_into`
+pub numbers_read : (dst src : List ℕ) → IsRead little_number 2 src dst → length src ≡ 2 * length dst → dst ≡ map number_of (items 2 (length dst) src)
+numbers_read [] src h e = refl
+numbers_read (x ∷ dst) src h e =
+    let some : 0 < length (x ∷ dst) = omega arith in
+    let there : 2 ≤ length src = omega (arith, e) in
+    let left : length (drop 2 src) ≡ 2 * length dst = omega (arith, length-drop 2 src, e) in
+    let first : x ≡ number_of (take 2 src) = h 0 some ∙ little-number_of 2 src there in
+    let others : IsRead little_number 2 (drop 2 src) dst = λ k l.
+    let below : suc k < length (x ∷ dst) = omega (arith, l) in
+    let on : 2 + 2 * k ≡ 2 * suc k = omega arith in
+    h (suc k) below ∙ ap (little_number 2) (sym (drop-drop (2 * k) 2 src ∙ ap (λ (n : ℕ). drop n src) on)) in
+    ap (λ (n : ℕ). n ∷ dst) first ∙ ap (λ (z : List ℕ). number_of (take 2 src) ∷ z) (numbers_read dst (drop 2 src) others left)

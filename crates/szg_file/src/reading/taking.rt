@@ -1,5 +1,5 @@
 //! Reading from a device: fields, numbers, lists and padding.
-ghost use Rattle.std.specs.Prelude.{◌≡◌, ◌+◌, ◌*◌, ◌/◌, ◌≤◌, ◌<◌, ◌^◌, ◌++◌, length, map, take, drop, Err, OnOk, IfOk, OnErr, IsErrOf};
+ghost use Rattle.std.specs.Prelude.{◌≡◌, ◌+◌, ◌*◌, ◌/◌, ◌%◌, ◌≤◌, ◌<◌, ◌^◌, ◌++◌, length, map, take, drop, Err, OnOk, IfOk, OnErr, IsErrOf};
 ghost use Rattle.szg_file.specs.Contents.{items, number_of};
 ghost use Rattle.szg_file.specs.Format.{field, means};
 ghost use Rattle.szg_file.specs.File.{entry_of_bytes, filled_to, rows_field, number_field};
@@ -192,10 +192,12 @@ pub(crate) fn take_fill<R: Input>(
 
 /// Decodes rows of two bytes each, and appends the numbers to a list.
 fn append_numbers(rows: &[u8], list: &mut Vec<u16>, front: &mut Front) -> Result<(), ReadFault>
+    requires even { length rows.now % 2 ≡ 0 }
     requires most { length rows.now ≤ 32768 }
     requires paid { front.old.growth ≤ 2 * front.old.place + 2 ^ 15 }
     requires place { front.old.place < 2 ^ 62 }
-    ensures items { OnOk result (list.new.items ≡ list.old.items ++ map number_of (items 2 (length rows.now / 2) rows.now)) }
+    ensures kept { OnOk result (take (length list.old.items) list.new.items ≡ list.old.items) }
+    ensures numbers { OnOk result (drop (length list.old.items) list.new.items ≡ map number_of (items 2 (length rows.now / 2) rows.now)) }
     ensures longer { OnOk result (length list.new.items ≡ length list.old.items + length rows.now / 2) }
     ensures growth { OnOk result (front.new.growth ≡ front.old.growth + length rows.now / 2) }
     ensures place { OnOk result (front.new.place ≡ front.old.place) }
@@ -204,9 +206,11 @@ fn append_numbers(rows: &[u8], list: &mut Vec<u16>, front: &mut Front) -> Result
 {
     let count = rows.len() / 2;
     grow(list, count, front)?;
-    'rows: for i in 0..count {
-        list.push(LittleEndian::read_u16(&rows[2 * i..]))?;
+    let at = list.len();
+    if list.resize(at + count, 0).is_err() {
+        return Err(ReadFault::Memory);
     }
+    LittleEndian::read_u16_into(rows, &mut list[at..]);
     Ok(())
 }
 

@@ -6,7 +6,6 @@ use Rattle.szg_file.specs.Held.{subtable_of}
 use Rattle.szg_file.specs.Index.{IsIndex, index_with}
 use Rattle.szg_file.specs.declared.reading.dropping.PlacedSub.{PlacedSub}
 use Rattle.szg_file.proofs.Openings.EndLaws.{end_at}
-use Rattle.szg_file.proofs.Openings.FrontLaws.{file_end, last_at}
 use Rattle.szg_file.proofs.Openings.FrontTables.{front_index, front_kept, front_short}
 use Rattle.szg_file.proofs.opened.front_table.front_table.Goals as goal
 

@@ -1,4 +1,4 @@
-use Rattle.std.proofs.Common.{◌≡◌, arith, ◌+◌, ◌-◌, ◌*◌, ◌≤◌, ◌++◌, ◌∷◌, [], length, take, drop, map, List, ℕ, rules, ap, refl, ◌∙◌, append_assoc}
+use Rattle.std.proofs.Common.{◌≡◌, arith, ◌-◌, ◌*◌, ◌≤◌, ◌++◌, ◌∷◌, [], length, take, drop, map, List, ℕ, rules, ap, refl, ◌∙◌, append_assoc}
 use Rattle.std.proofs.lemmas.List.{length-drop, length-append, take_rest, map-append}
 use Rattle.byteorder.specs.Endian.{little_number}
 use Rattle.szg_block.specs.Layout.{SparseEntry}

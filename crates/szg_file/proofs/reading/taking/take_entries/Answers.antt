@@ -1,4 +1,4 @@
-use Rattle.std.proofs.Common.{◌≡◌, ◌+◌, ◌-◌, ◌*◌, ◌≤◌, ◌∷◌, [], length, take, drop, List, ℕ, slice_index, rules, ap, ◌∙◌}
+use Rattle.std.proofs.Common.{◌+◌, ◌-◌, ◌*◌, ◌≤◌, ◌∷◌, [], length, take, drop, List, ℕ, slice_index, rules, ap, ◌∙◌}
 use Rattle.std.proofs.lemmas.List.{length-drop, length_push, take_rest}
 use Rattle.szg_file.proofs.Readers.ItemsRead.{rows-more, three_bytes}
 use Rattle.szg_file.proofs.reading.taking.take_entries.Goals as goal

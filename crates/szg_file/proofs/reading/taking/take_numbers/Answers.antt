@@ -1,4 +1,5 @@
-use Rattle.std.proofs.Common.{◌≡◌, ◌+◌, ◌-◌, ◌*◌, ◌/◌, ◌≤◌, ◌++◌, length, map, List, ℕ, arith, rules, ap, ◌∙◌}
+use Rattle.std.proofs.Common.{◌≡◌, ◌+◌, ◌-◌, ◌*◌, ◌/◌, ◌≤◌, ◌++◌, length, map, drop, List, ℕ, arith, rules, sym, ap, ◌∙◌}
+use Rattle.std.proofs.lemmas.List.{take-append-drop}
 use Rattle.szg_file.specs.Contents.{number_of, items}
 use Rattle.szg_file.proofs.Readers.RowsRead.{rows_on}
 use Rattle.szg_file.proofs.reading.taking.take_numbers.Goals as goal
@@ -14,7 +15,10 @@ pieces-preserved g c =
     let sum : 2 * (c.args.count - c.pieces.left) + 2 * size ≡ 2 * (c.args.count - (c.pieces.left - size)) = omega (arith, next) in
     let half : length bytes.items / 2 ≡ size = omega (arith, c.in_ok-rows.ensures.count) in
     let half_here : length c.as_slice.result.now / 2 ≡ size = ap (λ (z : List ℕ). length z / 2) c.as_slice.ensures.value ∙ half in
-    let grown = c.in_ok-append_numbers.ensures.items
+    let after : List ℕ = c.append_numbers.new.list.items in
+    let grown = sym (take-append-drop (length before) after)
+    ∙ ap (λ (z : List ℕ). z ++ drop (length before) after) c.in_ok-append_numbers.ensures.kept
+    ∙ ap (λ (z : List ℕ). before ++ z) c.in_ok-append_numbers.ensures.numbers
     ∙ ap (λ (z : List ℕ). before ++ map number_of (items 2 (length z / 2) z)) c.as_slice.ensures.value
     ∙ ap (λ (n : ℕ). before ++ map number_of (items 2 n bytes.items)) half in (
       omega (arith, first.0),
