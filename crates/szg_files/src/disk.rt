@@ -1,11 +1,12 @@
 //! The files of the system.
-ghost use Rattle.std.specs.Prelude.{◌≡◌, ◌+◌, ◌^◌, ◌-◌, min, None, [], IfOk};
+ghost use Rattle.std.specs.Prelude.{◌≡◌, ◌<◌, ◌+◌, ◌^◌, ◌-◌, min, None, [], IfOk, length};
 ghost use Rattle.szg_io.specs.Counts.{counts_of};
 ghost use Rattle.szg_files.specs.Disk.{failures_of};
 
 use crate::file_system::{FileFault, FileSystem, Reasons};
 use crate::monitored::Monitored;
-use std::alloc::Global;
+use crate::ranges::RangeFault;
+use std::alloc::{AllocError, Global};
 use std::fs::{self, OpenFile};
 use std::io::{self, BufReader, Error, ErrorKind, Read, Seek, SeekFrom};
 use std::rt::Files;
@@ -13,6 +14,14 @@ use szg_io::Std;
 
 /// The number of bytes that are read at once.
 const BUFFER: usize = 1 << 17;
+
+/// As many files stay open between the ranges that are read of them.
+const MOST_KEPT: usize = 64;
+
+/// The system's numbers of these reasons: the process, or the system, has no room for a further open file.
+const PROCESS_IS_FULL: i32 = 24;
+
+const SYSTEM_IS_FULL: i32 = 23;
 
 /// Sees what is read of files.
 pub trait ReadWatcher {
@@ -58,6 +67,13 @@ impl<'a, F: Seek, P> Seek for SystemFile<'a, F, P> {
 /// A file of the system, read through a buffer.
 pub type DiskFile<'a, F, P> = Std<BufReader<Monitored<SystemFile<'a, F, P>>>>;
 
+/// A file that stays open, and its path.
+#[derive(Drop)]
+struct KeptFile<'a, F, P> {
+    path: String,
+    file: SystemFile<'a, F, P>,
+}
+
 /// The files of a system.
 #[derive(Drop)]
 pub struct Disk<'a, R: Files, P> {
@@ -65,6 +81,7 @@ pub struct Disk<'a, R: Files, P> {
     alloc: Global,
     failures: u64,
     watcher: Option<&'a P>,
+    kept: Vec<KeptFile<'a, R::File, P>>,
 }
 
 impl<'a, R: Files> Disk<'a, R, ()> {
@@ -77,6 +94,7 @@ impl<'a, R: Files> Disk<'a, R, ()> {
             alloc,
             failures: 0,
             watcher: None,
+            kept: Vec::new(alloc),
         }
     }
 }
@@ -91,13 +109,12 @@ impl<'a, R: Files, P: ReadWatcher> Disk<'a, R, P> {
             alloc,
             failures: 0,
             watcher: Some(watcher),
+            kept: Vec::new(alloc),
         }
     }
 
     /// Opens a regular file. It checks the path before it opens it, because opening a pipe waits for a writer.
-    fn open_regular(&self, path: &str) -> Result<DiskFile<'a, R::File, P>, FileFault>
-        ensures { IfOk result (λ file. (counts_of file).moved ≡ []) }
-    {
+    fn open_regular(&self, path: &str) -> Result<SystemFile<'a, R::File, P>, FileFault> {
         if !self.files.metadata(path)?.is_file() {
             return Err(FileFault::NotRegular);
         }
@@ -109,17 +126,82 @@ impl<'a, R: Files, P: ReadWatcher> Disk<'a, R, P> {
         if let Some(watcher) = watcher {
             watcher.see_open();
         }
-        let file = Monitored::new(SystemFile { file, watcher });
-        match BufReader::with_capacity(self.alloc, BUFFER, file) {
-            Ok(reader) => Ok(Std::new(reader)),
+        Ok(SystemFile { file, watcher })
+    }
+
+    /// Opens a regular file. If there is no room for a further open file, the kept ones are closed first.
+    fn open_with_room(&mut self, path: &str) -> Result<SystemFile<'a, R::File, P>, FileFault>
+        ensures { failures_of self.new ≡ failures_of self.old }
+    {
+        match self.open_regular(path) {
+            Err(fault) if is_full(&fault) => {
+                self.kept.clear();
+                self.open_regular(path)
+            }
+            opened => opened,
+        }
+    }
+
+    /// Returns the number of a path's kept file. Opens it if it isn't kept.
+    fn kept_at(&mut self, path: &str) -> Result<usize, FileFault>
+        ensures quiet { failures_of self.new ≡ failures_of self.old }
+        ensures number { IfOk result (λ number. number < length self.new.kept.items) }
+    {
+        if let Some(number) = self.kept.iter().position(|kept| kept.path.as_str() == path) {
+            return Ok(number);
+        }
+        if self.kept.len() == MOST_KEPT {
+            self.kept.clear();
+        }
+        let file = self.open_with_room(path)?;
+        let path = String::from_str(self.alloc, path)?;
+        match self.kept.push(KeptFile { path, file }) {
+            Ok(()) => Ok(self.kept.len() - 1),
             Err(_) => Err(FileFault::Memory),
         }
+    }
+}
+
+impl<'a, F: Read + Seek + OpenFile, P: ReadWatcher> SystemFile<'a, F, P> {
+    /// Reads a range of the file, which is to have `size` bytes.
+    fn read_range(&mut self, size: u64, offset: u64, bytes: &mut [u8]) -> Result<(), RangeFault> {
+        if self.file.metadata()?.len() != size {
+            return Err(RangeFault::Ended);
+        }
+        self.file.seek(SeekFrom::Start(offset))?;
+        Ok(self.read_exact(bytes)?)
+    }
+}
+
+/// Returns whether there is no room for a further open file.
+fn is_full(fault: &FileFault) -> bool {
+    match fault {
+        FileFault::System(error) => matches!(
+            error.raw_os_error(),
+            Some(PROCESS_IS_FULL | SYSTEM_IS_FULL)
+        ),
+        _ => false,
     }
 }
 
 impl From<Error> for FileFault {
     fn from(error: Error) -> FileFault {
         FileFault::System(error)
+    }
+}
+
+impl From<AllocError> for FileFault {
+    fn from(_failed: AllocError) -> FileFault {
+        FileFault::Memory
+    }
+}
+
+impl From<Error> for RangeFault {
+    fn from(error: Error) -> RangeFault {
+        match error.kind() {
+            ErrorKind::UnexpectedEof => RangeFault::Ended,
+            _ => RangeFault::Failed(FileFault::System(error)),
+        }
     }
 }
 
@@ -137,7 +219,12 @@ impl<'a, R: Files, P: ReadWatcher> FileSystem for Disk<'a, R, P> {
     ghost failures = { λ disk. disk.failures };
 
     fn open(&mut self, path: &str) -> Result<DiskFile<'a, R::File, P>, FileFault> {
-        let opened = self.open_regular(path);
+        // later ranges are of the file that is there now
+        self.kept.retain(|kept| kept.path.as_str() != path);
+        let opened = match self.open_with_room(path) {
+            Ok(file) => buffered(self.alloc, file),
+            Err(fault) => Err(fault),
+        };
         if opened.is_err() {
             self.failures = self.failures.saturating_add(1);
         }
@@ -159,5 +246,36 @@ impl<'a, R: Files, P: ReadWatcher> FileSystem for Disk<'a, R, P> {
         let mut reader = file.into_inner();
         reader.seek_relative(offset)?;
         Ok(Std::new(reader))
+    }
+
+    fn read_at(
+        &mut self,
+        path: &str,
+        size: u64,
+        offset: u64,
+        bytes: &mut [u8],
+    ) -> Result<(), RangeFault> {
+        let number = match self.kept_at(path) {
+            Ok(number) => number,
+            Err(fault) => return Err(RangeFault::Failed(fault)),
+        };
+        let read = self.kept[number].file.read_range(size, offset, bytes);
+        if read.is_err() {
+            self.kept.swap_remove(number);
+        }
+        read
+    }
+}
+
+/// Reads an opened file through a buffer.
+fn buffered<'a, F: Read + Drop, P: ReadWatcher>(
+    alloc: Global,
+    file: SystemFile<'a, F, P>,
+) -> Result<DiskFile<'a, F, P>, FileFault>
+    ensures { IfOk result (λ file. (counts_of file).moved ≡ []) }
+{
+    match BufReader::with_capacity(alloc, BUFFER, Monitored::new(file)) {
+        Ok(reader) => Ok(Std::new(reader)),
+        Err(_) => Err(FileFault::Memory),
     }
 }

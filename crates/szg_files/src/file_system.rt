@@ -1,7 +1,8 @@
 //! Files by path.
-ghost use Rattle.std.specs.Prelude.{◌≡◌, ℕ, List, None, Option, Some, [], IfErr, IfOk, IfSome, OnOk, OnErr, drop, length};
+ghost use Rattle.std.specs.Prelude.{◌≡◌, ◌+◌, ◌<◌, ◌⊎◌, ℕ, List, None, Option, Some, [], IfErr, IfOk, IfSome, IsErrOf, OnOk, OnErr, drop, length, take};
 ghost use Rattle.szg_io.specs.Device.{raised};
 
+use crate::ranges::RangeFault;
 use std::io::Error;
 use szg_io::Input;
 
@@ -32,7 +33,7 @@ pub trait FileSystem {
     /// the bytes of the file at a path, if the system specifies them
     ghost content: { Self → List ℕ → Option (List ℕ) };
 
-    /// the number of paths that could not be opened so far
+    /// the number of paths that `open` could not open so far
     ghost failures: { Self → ℕ };
 
     /// Opens the regular file at a path, at its first byte. Errors: `FileFault`, only if the system failed, and doesn't
@@ -57,4 +58,23 @@ pub trait FileSystem {
         ensures unread { IfOk result (λ rest. Self.File.moved rest ≡ []) }
         ensures coming { IfOk result (λ rest. IfSome (Self.File.coming file) (λ bytes. Self.File.coming rest ≡ Some (drop count bytes))) }
         ensures failed { IfErr result (λ fault. Self.File.coming file ≡ None) };
+
+    /// Reads the bytes from `offset` on of the file at a path, which is to have `size` bytes, into the whole of `bytes`. The
+    /// file may stay open for the next call.
+    ///
+    /// Errors: `Ended` if its size is another one, or if it ends before the range does; else `Failed` with the system's
+    /// reason, only if the bytes are not known.
+    fn read_at(
+        &mut self,
+        path: &str,
+        size: u64,
+        offset: u64,
+        bytes: &mut [u8],
+    ) -> Result<(), RangeFault>
+        ensures range { OnOk result (IfSome (content self.old path.now) (λ known. bytes.new ≡ take (length bytes.old) (drop offset known))) }
+        ensures size { OnOk result (IfSome (content self.old path.now) (λ known. length known ≡ size)) }
+        ensures content { content self.new ≡ content self.old }
+        ensures quiet { failures self.new ≡ failures self.old }
+        ensures ended { IsErrOf result RangeFault.Ended → IfSome (content self.old path.now) (λ known. (length known ≡ size → length known < offset + length bytes.old)) }
+        ensures failed { IfErr result (λ fault. fault ≡ RangeFault.Ended ⊎ content self.old path.now ≡ None) };
 }

@@ -230,27 +230,19 @@ impl<'a, R: Files> FolderWalk<'a, R> {
 
 /// Returns the names in a folder, without `.` and `..`, in their byte order.
 fn names_in<R: Files>(alloc: Global, files: &R, folder: &str) -> Result<Vec<Vec<u8>>, FileFault> {
-    let path = memory(format!(in alloc; "{folder}/"))?;
+    let path = format!(in alloc; "{folder}/")?;
     let mut directory = files.open_dir(path.as_str())?;
-    let mut buffer = memory(vec![in alloc; 0; BUFFER])?;
+    let mut buffer = vec![in alloc; 0; BUFFER]?;
     let mut names = Vec::new(alloc);
     'chunks: for _ in 0..u64::MAX {
         let count = directory.read(&mut buffer)?;
         if count == 0 {
             break;
         }
-        memory(add_names(alloc, &buffer[..count], &mut names))?;
+        add_names(alloc, &buffer[..count], &mut names)?;
     }
-    memory(names.sort())?;
+    names.sort()?;
     Ok(names)
-}
-
-/// A growth that was refused, as a fault of a file.
-fn memory<T>(grown: Result<T, AllocError>) -> Result<T, FileFault> {
-    match grown {
-        Ok(value) => Ok(value),
-        Err(_) => Err(FileFault::Memory),
-    }
 }
 
 /// Adds the names of a chunk, of which each is followed by a zero byte.

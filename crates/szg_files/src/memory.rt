@@ -3,6 +3,7 @@ ghost use Rattle.std.specs.Prelude.{◌≡◌, option_map};
 ghost use Rattle.szg_files.specs.Memory.{found};
 
 use crate::file_system::{FileFault, FileSystem, Reasons};
+use crate::ranges::RangeFault;
 use std::io::{Error, ErrorKind};
 use szg_io::Bytes;
 
@@ -63,5 +64,28 @@ impl<'a> FileSystem for MemoryFiles<'a> {
         let left = file.left();
         let first = count.min(left.len() as u64) as usize;
         Ok(Bytes::new(&left[first..]))
+    }
+
+    fn read_at(
+        &mut self,
+        path: &str,
+        size: u64,
+        offset: u64,
+        bytes: &mut [u8],
+    ) -> Result<(), RangeFault> {
+        let Some(known) = first_of(self.files, path) else {
+            let reason = Error::from(ErrorKind::NotFound);
+            return Err(RangeFault::Failed(FileFault::System(reason)));
+        };
+        let length = known.len() as u64;
+        if length != size || length < offset {
+            return Err(RangeFault::Ended);
+        }
+        let rest = &known[offset as usize..];
+        if rest.len() < bytes.len() {
+            return Err(RangeFault::Ended);
+        }
+        bytes.copy_from_slice(&rest[..bytes.len()]);
+        Ok(())
     }
 }
