@@ -1,10 +1,15 @@
 /* Compares full probing: what `szg probe FOLDER.. -` prints, Fathom's and Stockfish's, and the solver's.
  *
  *     full_probes draw SEED ALL <NAME.positions >EXPECTED      a line "FEN<tab>class<tab>dtz" for each position that was solved
+ *     full_probes passing TABLES LETTER >NAME.positions
  *     full_probes compare TABLES OUTPUT STOCKFISH EXPECTED
  *
  * draw: each position is turned or flipped at random (ALL 0), or in all mirror images with both colors (ALL 1), and has a
  * fifty-move counter, which is 0 for half of them.
+ * passing: positions of a king and a pawn against a king and a pawn, with the man LETTER of White (Q) or Black (q), in which White
+ * may capture en passant: where that is the only move, where it gives check by the man, or where it would give up White's king
+ * to it. Tables of five men with one value serve: a position is left out where that isn't the best of Fathom's moves. Nothing was
+ * solved (class 9).
  * compare: OUTPUT has szg's lines, STOCKFISH a line "class dtz" for each. Fathom, which is linked, probes the tables in the
  * folder TABLES: class, DTZ, and each move's class and DTZ with the counter. szg's best move has to be one of Fathom's best. The
  * solver's DTZ may be one ply off where tables count moves. Prints each difference up to twenty, and a line of counts. Status 0
@@ -12,7 +17,86 @@
 #include "questions.h"
 
 enum { LINE = 1 << 14 };
+enum { UNSOLVED = 9 };
 static long passing, passing_only, passing_wins;
+
+/* ---- en passant */
+/* Whether the man on `from` attacks `to`, on a board of letters by square. */
+static int attacks(const char *board, int from, int to) {
+    int files = (to & 7) - (from & 7), ranks = (to >> 3) - (from >> 3), letter = toupper((unsigned char)board[from]);
+    if (letter == 'P') return abs(files) == 1 && ranks == (board[from] == 'P' ? 1 : -1);
+    if (letter == 'N') return files * files + ranks * ranks == 5;
+    if (letter == 'K') return abs(files) <= 1 && abs(ranks) <= 1;
+    int is_straight = !files || !ranks, is_diagonal = abs(files) == abs(ranks);
+    if (from == to || !((is_straight && letter != 'B') || (is_diagonal && letter != 'R'))) return 0;
+    int step = 8 * ((ranks > 0) - (ranks < 0)) + (files > 0) - (files < 0);
+    for (from += step; from != to && !board[from]; from += step) {}
+    return from == to;
+}
+
+/* Whether a king is attacked, not counting a man on `aside`. */
+static int is_attacked(const char *board, char king, int aside) {
+    int to = (int)((const char *)memchr(board, king, 64) - board);
+    for (int from = 0; from < 64; from++)
+        if (board[from] && from != aside && !islower((unsigned char)board[from]) != (king == 'K') && attacks(board, from, to)) return 1;
+    return 0;
+}
+
+/* Makes White's move, which takes what is on `taken`. Returns whether it is legal; *checks is whether another man gives check. */
+static int is_legal(const char *board, int from, int to, int taken, int *checks) {
+    char after[64];
+    memcpy(after, board, 64);
+    after[from] = after[taken] = 0, after[to] = board[from];
+    *checks = is_attacked(after, 'k', to);
+    return !is_attacked(after, 'K', NO_SQUARE);
+}
+
+static void board_of(const struct question *q, char *board) {
+    memset(board, 0, 64);
+    for (int i = 0; i < q->count; i++) board[q->square[i]] = q->letter[i];
+}
+
+/* Whether White's king or pawn has a legal move that isn't en passant. */
+static int has_other_move(const char *board, int king, int pawn) {
+    int checks;
+    for (int to = 0; to < 64; to++) {
+        if (isupper((unsigned char)board[to])) continue;
+        if (attacks(board, king, to) && is_legal(board, king, to, to, &checks)) return 1;
+        if ((board[to] ? attacks(board, pawn, to) : to == pawn + 8) && is_legal(board, pawn, to, to, &checks)) return 1;
+    }
+    return 0;
+}
+
+/* Whether these men are a position in which en passant is the only move, gives check by the other man, or gives up the king. */
+static int is_passing(const struct question *q) {
+    char board[64];
+    int men = 0, checks, king = q->square[0], pawn = q->square[1];
+    board_of(q, board);
+    for (int i = 0; i < 64; i++) men += board[i] != 0;
+    if (men < q->count || board[q->passed] || board[q->passed + 8] || is_attacked(board, 'k', NO_SQUARE)) return 0;
+    if (!is_legal(board, pawn, q->passed, q->passed - 8, &checks)) return !is_attacked(board, 'K', NO_SQUARE);
+    return checks || (islower((unsigned char)q->letter[2]) && !has_other_move(board, king, pawn));
+}
+
+static int write_passing(char **words) {
+    struct question q = {.count = 5, .letter = {'K', 'P', words[1][0], 'k', 'p'}};
+    if (!tb_init(words[0])) return perror("full_probes"), 2;
+    for (int all = 0; all < 1 << 22; all++) {
+        int pawn = all >> 19 | 32, taken = pawn + (all >> 18 & 1 ? 1 : -1), squares[] = {all >> 12 & 63, pawn, all >> 6 & 63, all & 63, taken};
+        memcpy(q.square, squares, sizeof squares);
+        q.passed = taken + 8;
+        if (taken >> 3 != 4 || !is_passing(&q)) continue;
+        struct found found = fathom_of(&q);
+        unsigned best = TB_LOSS;
+        if (found.root == TB_RESULT_FAILED) continue;
+        for (unsigned *r = found.results; *r != TB_RESULT_FAILED; r++) if (TB_GET_WDL(*r) > best) best = TB_GET_WDL(*r);
+        if (best != found.wdl) continue;
+        printf("w %d %d %d", q.passed, UNSOLVED, UNSOLVED);
+        for (int i = 0; i < q.count; i++) printf(" %c%d", q.letter[i], q.square[i]);
+        puts("");
+    }
+    return 0;
+}
 
 /* ---- drawing */
 static int draw(int seed, int is_all) {
@@ -105,7 +189,7 @@ static int compare(char **words) {
         if (sscanf(tab, "%d\t%d\t%7[^\t]", &class, &dtz, best) != 3) { differ(fen, tab, 0, 0, 0, 0); continue; }
         if (sscanf(expected + length, "\t%d\t%d", &solver_class, &solver_dtz) != 2) return 2;
         int counter = read_fen(fen).counter, is_late = solver_class == 1 || solver_class == -1;
-        if (abs(dtz - solver_dtz) > is_late || (counter == 0 && class != solver_class)) differ(fen, "the solver", solver_class, solver_dtz, class, dtz);
+        if (solver_class != UNSOLVED && (abs(dtz - solver_dtz) > is_late || (counter == 0 && class != solver_class))) differ(fen, "the solver", solver_class, solver_dtz, class, dtz);
         if (sscanf(stockfish, "%d %d", &other_class, &other_dtz) != 2 || other_dtz != dtz || (counter == 0 && other_class != class))
             differ(fen, "Stockfish", other_class, other_dtz, class, dtz);
         ask_fathom(fen, class, dtz, best);
@@ -117,6 +201,7 @@ static int compare(char **words) {
 
 int main(int count, char **words) {
     if (count == 4 && !strcmp(words[1], "draw")) return draw(atoi(words[2]), atoi(words[3]));
+    if (count == 4 && !strcmp(words[1], "passing")) return write_passing(words + 2);
     if (count == 6 && !strcmp(words[1], "compare")) return compare(words + 2);
-    return fprintf(stderr, "full_probes draw SEED ALL | compare TABLES OUTPUT STOCKFISH EXPECTED\n"), 2;
+    return fprintf(stderr, "full_probes draw SEED ALL | passing TABLES LETTER | compare TABLES OUTPUT STOCKFISH EXPECTED\n"), 2;
 }

@@ -11,7 +11,7 @@ use crate::folders::{ResultStop, copy_of};
 use std::alloc::{AllocError, Global};
 use std::io::ErrorKind;
 use szg_file::{ByteRange, FetchFault, ReadFault, Table, open_front, read};
-use szg_files::{FileFault, FileSystem, RangeFault, Reasons, read_range};
+use szg_files::{FileFault, FileSystem, RangeFault, Reasons};
 use szg_io::Input;
 use szg_named::named_by;
 use szg_place::Spot;
@@ -217,22 +217,13 @@ fn block_of<S: FileSystem>(
     ensures block { IfOk result (λ block. IfSome (S.content system.old (string_bytes table.now.path)) (λ content. IfSome wanted (λ range. block.items ≡ bytes_at content range.offset range.count))) }
 {
     let mut block = Vec::new(alloc);
-    let Some(range) = wanted else {
+    let Some(ByteRange { offset, count }) = wanted else {
         return Ok(block);
     };
-    let file = match system.open(table.path.as_str()) {
-        Ok(file) => file,
-        Err(fault) => return Err(ResultStop::Failed(fault)),
-    };
-    match system.len(&file) {
-        Ok(size) if size == table.size => {}
-        Ok(_) => return Err(ended()),
-        Err(fault) => return Err(ResultStop::Failed(fault)),
-    }
-    if block.resize(range.count as usize, 0).is_err() {
+    if block.resize(count as usize, 0).is_err() {
         return Err(ResultStop::Memory);
     }
-    match read_range(system, file, range.offset, &mut block) {
+    match system.read_at(table.path.as_str(), table.size, offset, &mut block) {
         Ok(()) => Ok(block),
         Err(RangeFault::Ended) => Err(ended()),
         Err(RangeFault::Failed(fault)) => Err(ResultStop::Failed(fault)),
