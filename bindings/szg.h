@@ -66,7 +66,8 @@ enum szg_status {
     SZG_OUTSIDE_MAP = 16, /* the value is not in the DTZ table's map */
 
     SZG_CHANGED = 17, /* the bytes can't be those of the file: szg_front_value got more or fewer of them than szg_front_find
-                         counts, or szg_front_get or szg_front_probe so few that the end of the value's block is missing.
+                         counts, or szg_front_get or szg_front_probe so few that the end of the value's block is missing;
+                         or the bytes that were added to a tablebase lead to no block.
                          No call has it for a constant subtable, whose values need no bytes */
 
     SZG_BAD_BLOCK = 18, /* the block that has the value does not decode: the file is damaged there */
@@ -237,10 +238,11 @@ void szg_close(szg_table *table);
 /* ---- Opened fronts: opening costs what the front of the file costs.
  *
  * szg_open_front reads and checks the headers, the maps, the sparse indexes and the block lengths, and looks at no block.
- * Each look-up takes the bytes of the file again (the caller's map, say), verifies the whole block that has the value, and
- * returns the value or SZG_BAD_BLOCK. A damaged block spoils no look-up in another one. Bits that were flipped so that the
- * block still decodes can't be seen. A look-up takes no memory and no lock. A caller without the whole file in memory takes
- * three steps: szg_front_find returns which bytes the value needs, the caller reads them, szg_front_value decodes the value.
+ * Each look-up takes the bytes of the file again (the caller's map, say: see "Mapped files" above), verifies the whole block
+ * that has the value, and returns the value or SZG_BAD_BLOCK. A damaged block spoils no look-up in another one. Bits that
+ * were flipped so that the block still decodes can't be seen. A look-up takes no memory and no lock. A caller without the
+ * whole file in memory takes three steps: szg_front_find returns which bytes the value needs, the caller reads them,
+ * szg_front_value decodes the value.
  *
  * Threads that share a front use a szg_front each, made by szg_share_front, as with the other handles: the front stays in
  * memory once, and no call waits for another. All of them may read the same bytes at a time. */
@@ -327,16 +329,17 @@ void szg_close_front(szg_front *front);
 
 /* ---- Tablebases: results of positions.
  *
- * A tablebase is a list of tables whose files stay in the caller's memory, mapped files say. A position of two to six men is
- * probed with its captures, the right to capture en passant and the fifty-move counter, and so needs the tables of all
- * materials that its captures (for DTZ and moves, its moves) lead to. Castling rights aren't known to tables. It is proved that
- * a result is what the blocks of the added files spell for the position and for those that it leads to.
+ * A tablebase is a list of tables whose files stay in the caller's memory, mapped files say (see "Mapped files" above). A
+ * position of two to six men is probed with its captures, the right to capture en passant and the fifty-move counter, and so
+ * needs the tables of all materials that its captures (for DTZ and moves, its moves) lead to. Castling rights aren't known
+ * to tables. It is proved that a result is what the blocks of the added files spell for the position and for those that it
+ * leads to.
  *
  * szg_tablebase_add reads and checks all of a file but its blocks. It keeps headers, codes and dictionaries; sparse indexes
  * and block lengths are read where they are. A probe verifies a block when the szg_tablebase first reads it, and keeps a bit
  * for each block of a part and side of a table that it reads, 2 MB for a file of 1.1 GB (if memory is refused, it verifies
  * blocks again). It takes no lock. If a file's bytes change, results may be wrong, or there is none
- * (SZG_NO_CLASS if they lead to no block), and nothing worse. Threads that share tables use a szg_tablebase each, made by
+ * (SZG_CHANGED if they lead to no block), and nothing worse. Threads that share tables use a szg_tablebase each, made by
  * szg_share_tablebase. szg_folders, below, finds and maps the files too. */
 
 /* Tables that were added. Initialise it with SZG_NO_TABLEBASE, let only the calls change it, and pass it to one call at a time.
@@ -350,8 +353,8 @@ typedef struct szg_tablebase { void *held; } szg_tablebase;
 #define SZG_NO_TABLEBASE ((szg_tablebase){0})
 #endif
 
-/* The table for which a position has no result: *missing is written with the statuses SZG_MISSING, SZG_BAD_BLOCK, SZG_NO_CLASS
- * and SZG_OTHER_MATERIAL to SZG_WRONG_SIDE, and is otherwise unchanged. */
+/* The table for which a position has no result: *missing is written with the statuses SZG_MISSING, SZG_BAD_BLOCK, SZG_CHANGED,
+ * SZG_NO_CLASS and SZG_OTHER_MATERIAL to SZG_WRONG_SIDE, and is otherwise unchanged. */
 typedef struct szg_missing {
     char name[8];    /* its material, as "KQvKR", and a zero byte */
     bool dtz;        /* whether it is a DTZ table */

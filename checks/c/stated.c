@@ -190,9 +190,37 @@ static void attempt_truncated(void) {
     close(copy);
 }
 
+/* ---- Bytes of a tablebase that change: the sparse index, read where it is, leads beyond the last block. */
+static void attempt_changed(void) {
+    enum { FIRST = 100 };
+    szg_tablebase tables = SZG_NO_TABLEBASE;
+    szg_man men[SZG_MAX_MEN];
+    szg_byte_range range;
+    szg_missing missing = {"", true, 7, 7};
+    size_t men_count;
+    uint8_t mover, *copy = malloc(length);
+    int8_t class;
+    int changed = 0, without_class = 0;
+    want("a range", szg_front_find(&front, 0, 0, 0, &range), SZG_DONE);
+    memcpy(copy, bytes, length);
+    want("a table", szg_tablebase_add(&tables, name, strlen(name), dtz, copy, length, &answer), SZG_DONE);
+    memset(copy, 255, length);
+    for (uint64_t index = 0; index < FIRST && szg_front_placement(&front, 0, 0, index, men, SZG_MAX_MEN, &men_count, &mover) == SZG_DONE; index++) {
+        uint32_t status = szg_tablebase_wdl(&tables, men, men_count, mover, SZG_NO_SQUARE, &class, &missing);
+        changed += status == SZG_CHANGED;
+        without_class += status == SZG_NO_CLASS;
+    }
+    want("whether bytes that changed are seen", changed > 0, !dtz && range.count > 0);
+    want("positions without a class", without_class, 0);
+    if (changed > 0) want("the table's name", strcmp(missing.name, name), 0), want("block", missing.block, 7);
+    szg_close_tablebase(&tables);
+    free(copy);
+}
+
 static void attempt(void) {
     hold();
     attempt_stacks();
+    attempt_changed();
     attempt_handles();
     attempt_truncated();
     let_go();

@@ -247,6 +247,17 @@ def test_missing_tables(tmp_path: Path) -> None:
         assert tables.get_wdl(MATE_FEN) is None and tables.probe_dtz_table("4k3/8/4K3/4P3/8/8/8/8 w", 2)[1] == 1
 
 
+def test_a_file_that_changes(tmp_path: Path) -> None:
+    path, fen = tmp_path / "KQvK.rtbw", "7k/8/5K2/8/8/8/8/6Q1 b"
+    path.write_bytes((ROOT / "samples" / path.name).read_bytes())
+    with szg.open_tablebase(tmp_path) as tables:
+        assert tables.probe_wdl(fen) == -2
+        # the sparse index leads beyond the last block
+        with path.open("r+b") as file:
+            file.write(b"\xff" * path.stat().st_size)
+        assert str(path) in str(pytest.raises(szg.Changed, tables.probe_wdl, fen).value)
+
+
 @pytest.mark.parametrize("position, reason", [
     ("8/8/8/8/8/8/8/Q6k w", "Men"), ("K7/8/8/8/8/8/8/K6k w", "Men"), ("4K3/8/8/8/8/8/8/P6k w", "PawnRank"), ("7k/6Q1/5K2/8/8/8/8/8 w", "InCheck"),
     ([(6, True, 0), (6, False, 63), (5, True, 63)], "SameSquare"), ([(6, True, 0), (6, False, 63), (7, True, 5)], "Man"),

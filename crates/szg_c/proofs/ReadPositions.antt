@@ -16,7 +16,7 @@ use Rattle.szg_chess.specs.Position.{IsPosition, Position}
 use Rattle.szg_c.specs.Men.{coded_man, color_code, color_of, is_coded_man, man_of_code, placed_man_of}
 use Rattle.szg_c.specs.Fens.{square_code}
 use Rattle.szg_c.specs.Tablebases.{position_of, square_of}
-use Rattle.szg_c.specs.declared.men.CodedMan.{CodedMan}
+use Rattle.szg_c.specs.declared.men.RawMan.{RawMan}
 
 color_again : (c : Color) → color_of (color_code c) ≡ c
 color_again color.White = refl
@@ -58,7 +58,7 @@ square_again None h = refl
 square_again (Some square) h = let e = lt-ltb square 64 (h square refl) in rw e refl
 
 -- the first of these numbers, with those of the side to move and of the en passant square
-pub read_again : (p : Position) (placed : List PlacedMan) (coded rest : List CodedMan) (mover passed : ℕ) → IsPosition p → placed ≡ p.placed_men → coded ≡ map coded_man placed → mover ≡ color_code p.mover → passed ≡ square_code p.en_passant →
+pub read_again : (p : Position) (placed : List PlacedMan) (coded rest : List RawMan) (mover passed : ℕ) → IsPosition p → placed ≡ p.placed_men → coded ≡ map coded_man placed → mover ≡ color_code p.mover → passed ≡ square_code p.en_passant →
     position_of (take (length placed) (coded ++ rest)) mover passed ≡ Ok p
 unfolding position_of
 read_again p placed coded rest mover passed is e f g h =

@@ -4,10 +4,10 @@ use Rattle.std.specs.Prelude.{Result, Ok, nat_lt, map, IfSome, IsNone, IsSome}
 use Rattle.std.specs.List.{list_all}
 use Rattle.szg_values.specs.Placement.{AreStanding, Board, PlacedMan, men_key, placement_fault}
 use Rattle.szg_values.specs.declared.PlacementFault.{PlacementFault}
-use Rattle.szg_c.specs.declared.men.CodedMan.{CodedMan}
+use Rattle.szg_c.specs.declared.men.RawMan.{RawMan}
 use Rattle.szg_c.specs.Men.{ArePut, board_of, color_of, is_coded_man, placed_man_of}
 
-pub put_all : (men : List CodedMan) (mover : ℕ) (placed : List PlacedMan) (r : Option ℕ) → nat_lt mover 2 ≡ true → IfSome r (λ key. list_all is_coded_man men ≡ true) → IfSome r (λ key. placed ≡ map placed_man_of men) →
+pub put_all : (men : List RawMan) (mover : ℕ) (placed : List PlacedMan) (r : Option ℕ) → nat_lt mover 2 ≡ true → IfSome r (λ key. list_all is_coded_man men ≡ true) → IfSome r (λ key. placed ≡ map placed_man_of men) →
     IfSome r (λ key. AreStanding (map placed_man_of men)) → IfSome r (λ key. key ≡ men_key (map placed_man_of men)) → IfSome r (λ key. ArePut men mover placed key)
 put_all men mover placed None side reported is stand k = search rules
 put_all men mover placed (Some key) side reported is stand k = record {
@@ -18,7 +18,7 @@ put_all men mover placed (Some key) side reported is stand k = record {
   key_is = k ∙ ap men_key (sym is);
 }
 
-stated_board : (men : List CodedMan) (mover : ℕ) → nat_lt mover 2 ≡ true → list_all is_coded_man men ≡ true → placement_fault (map placed_man_of men) ≡ None →
+stated_board : (men : List RawMan) (mover : ℕ) → nat_lt mover 2 ≡ true → list_all is_coded_man men ≡ true → placement_fault (map placed_man_of men) ≡ None →
     board_of men mover ≡ Ok (record { placed_men = map placed_man_of men; mover = color_of mover })
 unfolding board_of
 stated_board men mover side reported none = rw (side, reported, none) refl
@@ -28,7 +28,7 @@ found : (o : Option PlacementFault) (r : Option Board) (board : Board) (whole : 
 found None r board whole accepted refused same = rw (accepted (search rules)) (same refl)
 found (Some why) r board whole accepted refused same = rw (refused (search rules)) (search rules)
 
-pub sound_board : (men : List CodedMan) (mover : ℕ) (placed : List PlacedMan) (key : ℕ) (board : Board) (r : Option Board) → ArePut men mover placed key → board ≡ record { placed_men = placed; mover = color_of mover } →
+pub sound_board : (men : List RawMan) (mover : ℕ) (placed : List PlacedMan) (key : ℕ) (board : Board) (r : Option Board) → ArePut men mover placed key → board ≡ record { placed_men = placed; mover = color_of mover } →
     (IsNone (placement_fault placed) → r ≡ Some board) → (IsSome (placement_fault placed) → r ≡ None) → IfSome r (λ p. board_of men mover ≡ Ok p)
 sound_board men mover placed key board r put e accepted refused =
     found (placement_fault placed) r board (board_of men mover) accepted refused

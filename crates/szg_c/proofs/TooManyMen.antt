@@ -7,9 +7,9 @@ use Rattle.szg_values.specs.Placement.{PlacedMan}
 use Rattle.szg_chess.specs.Position.{Position, position_fault, men_fault}
 use Rattle.szg_chess.specs.declared.PositionFault.TheVariants.{Men}
 use Rattle.szg_c.specs.Men.{placed_man_of}
-use Rattle.szg_c.specs.declared.men.CodedMan.{CodedMan}
+use Rattle.szg_c.specs.declared.men.RawMan.{RawMan}
 
-pub too_many_men : (men : List CodedMan) (p : Position) → p.placed_men ≡ map placed_man_of men → 6 < length men → position_fault p ≡ Some Men
+pub too_many_men : (men : List RawMan) (p : Position) → p.placed_men ≡ map placed_man_of men → 6 < length men → position_fault p ≡ Some Men
 unfolding position_fault men_fault
 too_many_men men p are many =
     let long : length p.placed_men ≡ length men = ap (λ (l : List PlacedMan). length l) are ∙ length-map men placed_man_of in

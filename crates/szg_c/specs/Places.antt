@@ -57,10 +57,6 @@ abbrev pub placement_unless : Option PlaceFault → Board → Result Board ℕ
 placement_unless None board = Ok board
 placement_unless (Some why) board = Err (place_status why)
 
-abbrev pub board_or_status : Result Board PlaceFault → Result Board ℕ
-board_or_status (Ok board) = Ok board
-board_or_status (Err why) = Err (place_status why)
-
 -- the placement of an index of a part's side, if the table has this index
 abbrev pub placement_result : Index → ℕ → ℕ → ℕ → Result Board ℕ
 placement_result x part side index = if is_some (with_slot (slot_in x part side) index) then

@@ -24,8 +24,8 @@ use Rattle.szg_c.specs.Men.{is_coded_man, placed_man_of, color_of}
 use Rattle.szg_c.specs.Places.{place_status}
 use Rattle.szg_c.specs.Reported.{kind_of_flag}
 use Rattle.szg_c.specs.Texts.{printed}
-use Rattle.szg_c.specs.declared.men.CodedMan.{CodedMan}
-use Rattle.szg_c.specs.declared.status.TheConstants.{BAD_BLOCK, CONTRADICTION, DONE, EN_PASSANT, IN_CHECK, MAN, MEN, MISSING, NO_CLASS, PAWN_RANK, RANGE, SAME_SQUARE}
+use Rattle.szg_c.specs.declared.men.RawMan.{RawMan}
+use Rattle.szg_c.specs.declared.status.TheConstants.{BAD_BLOCK, CHANGED, CONTRADICTION, DONE, EN_PASSANT, IN_CHECK, MAN, MEN, MISSING, NO_CLASS, PAWN_RANK, RANGE, SAME_SQUARE}
 use Rattle.szg_c.specs.declared.tablebase_calls.RawDistance.{RawDistance}
 use Rattle.szg_c.specs.declared.tablebase_calls.RawMissing.{RawMissing}
 use Rattle.szg_c.specs.declared.tablebase_calls.RawMove.{RawMove}
@@ -67,11 +67,11 @@ abbrev pub position_unless : Option PositionFault → Position → Result Positi
 position_unless None p = Ok p
 position_unless (Some why) p = Err (position_status why)
 
-abbrev pub coded_position : List CodedMan → ℕ → ℕ → Position
+abbrev pub coded_position : List RawMan → ℕ → ℕ → Position
 coded_position men mover en_passant = record { placed_men = map placed_man_of men; mover = color_of mover; en_passant = square_of en_passant }
 
 -- the position of men, a side to move and an en passant square, or the status that says why there is none
-unfoldable pub position_of : List CodedMan → ℕ → ℕ → Result Position ℕ
+unfoldable pub position_of : List RawMan → ℕ → ℕ → Result Position ℕ
 position_of men mover en_passant =
     if not (nat_lt mover 2 && list_all is_coded_man men) then Err MAN else
     position_unless (position_fault (coded_position men mover en_passant)) (coded_position men mover en_passant)
@@ -82,7 +82,7 @@ abbrev pub missing_status : MissingReason → ℕ
 missing_status reason.Table = MISSING
 missing_status (reason.Place why) = place_status why
 missing_status reason.Value = NO_CLASS
-missing_status (reason.Unread spot) = NO_CLASS
+missing_status (reason.Unread spot) = CHANGED
 missing_status (reason.Block number offset) = BAD_BLOCK
 
 -- the number and offset of a block that does not decode; else they stay

@@ -2,7 +2,7 @@
 ghost use Rattle.std.specs.Prelude.{◌≡◌, MatchResult};
 ghost use Rattle.szg_c.specs.Fens.{IsRead, fen_result, square_code};
 
-use crate::men::{CodedMan, coded_men, color_code};
+use crate::men::{RawMan, coded_men, color_code};
 use crate::status::{DONE, MAN};
 use crate::tablebase_calls::position_status;
 use szg_chess::{FenRecord, Position};
@@ -13,7 +13,7 @@ use szg_values::{MAX_MEN, Square};
 #[derive(Drop)]
 pub struct RawPosition {
     /// The men are the first of these.
-    pub men: [CodedMan; MAX_MEN],
+    pub men: [RawMan; MAX_MEN],
     /// The side to move: White 0, Black 1.
     pub mover: u8,
     /// The square that a pawn has just passed over by a double step; 64 for none.

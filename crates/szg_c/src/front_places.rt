@@ -1,16 +1,15 @@
 //! Calls on the placements of an opened front.
-ghost use Rattle.std.specs.Prelude.{◌≡◌, ◌≤ℤ◌, pos, neg_ℤ, Err, IfSome, MatchResult, Ok};
+ghost use Rattle.std.specs.Prelude.{◌≡◌, Err, IfSome, MatchResult, Ok};
 ghost use Rattle.std.specs.declared.option.Option.TheVariants.{None, Some};
-ghost use Rattle.szg_c.specs.Fronts.{IsClassReported, IsFaultReported, IsNumberReported, IsOutcome, IsOutcomeReported, IsProbed};
-ghost use Rattle.szg_place.specs.Probes.{as_class, as_number};
+ghost use Rattle.szg_c.specs.Fronts.{IsClassReported, IsFaultReported, IsNumberReported, IsOutcome, IsOutcomeReported};
 ghost use Rattle.szg_c.specs.Men.{board_of};
 ghost use Rattle.szg_c.specs.Places.{IsSpot, number_result, spot_result};
 
 use crate::fronts::{BadBlock, fetch_status};
-use crate::handle::{put, take};
+use crate::handle::{find, put, take, write};
 use crate::held_front::HeldFront;
-use crate::men::{CodedMan, key_of_men, placement_or_fault, sound_men};
-use crate::places::{FoundSpot, is_class, map_status, number_or_status, place_status, write_spot};
+use crate::men::{RawMan, key_of_men, placement_or_fault, sound_men};
+use crate::places::{FoundSpot, is_class, map_status, place_status, write_spot};
 use crate::status::{CLOSED, DONE, NO_CLASS, RANGE};
 use arrayvec::ArrayVec;
 use std::alloc::Global;
@@ -26,7 +25,7 @@ use szg_values::{Kind, PlacedMen};
 pub extern "C" fn szg_front_index(
     alloc: Global,
     front: &mut HeldFront,
-    men: &[CodedMan],
+    men: &[RawMan],
     mover: u8,
     spot: &mut FoundSpot,
 ) -> u32
@@ -59,18 +58,12 @@ pub extern "C" fn szg_front_number(
     ensures closed { front.old.value ≡ None → (result ≡ 5) × (number.new ≡ number.old) }
     ensures reported { IfSome front.old.value (λ f. MatchResult (number_result f.index part class value) (λ n. (result ≡ 0) × (number.new ≡ n)) (λ status. (result ≡ status) × (number.new ≡ number.old))) }
 {
-    let Some(held) = take(front, alloc) else {
-        return CLOSED;
-    };
-    let reported = number_in(held.value().index(), part, class, value);
-    put(front, held);
-    match reported {
-        Ok(found) => {
-            *number = found;
-            DONE
-        }
-        Err(status) => status,
-    }
+    write(
+        find(alloc, front, |held| {
+            number_in(held.value().index(), part, class, value)
+        }),
+        number,
+    )
 }
 
 pub fn number_in(index: &TableIndex, part: u8, class: i8, value: u16) -> Result<u32, u32>
@@ -79,7 +72,7 @@ pub fn number_in(index: &TableIndex, part: u8, class: i8, value: u16) -> Result<
     if index.kind() != Kind::Dtz || !is_class(class) || index.size(part, 0).is_none() {
         return Err(RANGE);
     }
-    number_or_status(index.map_value(part, class, value))
+    index.map_value(part, class, value).map_err(map_status)
 }
 
 /// What the table has for these men with this mover, out of the file's bytes: a WDL table the class (2, 1, 0, -1, -2), a
@@ -95,7 +88,7 @@ pub extern "C" fn szg_front_probe(
     alloc: Global,
     front: &mut HeldFront,
     bytes: &[u8],
-    men: &[CodedMan],
+    men: &[RawMan],
     mover: u8,
     class: i8,
     outcome: &mut i64,
@@ -118,7 +111,7 @@ pub extern "C" fn szg_front_probe(
 fn outcome_in(
     table: &FrontTable,
     bytes: &[u8],
-    men: &[CodedMan],
+    men: &[RawMan],
     mover: u8,
     class: i8,
     outcome: &mut i64,
@@ -143,7 +136,7 @@ fn outcome_in(
 fn outcome_or_fault(
     table: &FrontTable,
     bytes: &[u8],
-    men: &[CodedMan],
+    men: &[RawMan],
     mover: u8,
     class: i8,
     outcome: &mut i64,

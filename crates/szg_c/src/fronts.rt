@@ -1,14 +1,14 @@
 //! Calls on an opened front. The file's bytes are lent at each call.
-ghost use Rattle.std.specs.Prelude.{◌≡◌, ◌⊎◌, ℕ, List, IfErr, IfOk, IfSome, IsSomeAnd, MatchOption, is_some};
+ghost use Rattle.std.specs.Prelude.{◌≡◌, ◌⊎◌, IfErr, IfOk, IfSome, IsSomeAnd, MatchOption, is_some};
 ghost use Rattle.std.specs.declared.option.Option.TheVariants.{None, Some};
 ghost use Rattle.szg_file.specs.FrontTable.{IsFrontOf};
 ghost use Rattle.szg_file.specs.Index.{slot_in};
 ghost use Rattle.szg_c.specs.Fronts.{FetchReported, IsFront, IsGot, ReportsFront, StopsFront, greatest_span_bits, span_bits_of};
 ghost use Rattle.szg_c.specs.Places.{with_slot};
 
-use crate::handle::{hold, put, share, shut, take};
+use crate::handle::{find, hold, put, share, shut, take, write};
 use crate::held_front::HeldFront;
-use crate::opening::{Answer, kind_of, material_of};
+use crate::opening::{RawAnswer, kind_of, material_of};
 use crate::shared::Shared;
 use crate::status::{BAD_BLOCK, CHANGED, CLOSED, DONE, MEMORY, NAME, RANGE, REFUSED, number_of};
 use std::alloc::Global;
@@ -32,7 +32,7 @@ fn front_in(
     name: &[u8],
     dtz: bool,
     bytes: &[u8],
-    answer: &mut Answer,
+    answer: &mut RawAnswer,
 ) -> Result<FrontTable, u32>
     ensures front { IfOk result (IsFront name.now dtz bytes.now) }
     ensures stops { IfErr result (λ status. StopsFront name.now dtz bytes.now status answer.new.place answer.new.reason) }
@@ -67,7 +67,7 @@ pub extern "C" fn szg_open_front(
     dtz: bool,
     bytes: &[u8],
     front: &mut HeldFront,
-    answer: &mut Answer,
+    answer: &mut RawAnswer,
 ) -> u32
     ensures says { ReportsFront name.now dtz bytes.now (IsSomeAnd front.new.value (IsFront name.now dtz bytes.now)) result answer.new.place answer.new.reason }
     ensures shut { (result ≡ 0 → ⊥) → front.new.value ≡ None }
@@ -112,17 +112,6 @@ pub extern "C" fn szg_close_front(alloc: Global, front: &mut HeldFront)
 }
 
 /// The number of positions of a part's side.
-fn size_in(table: &FrontTable, part: u8, side: u8, size: &mut u64) -> u32
-    ensures { MatchOption (slot_in table.now.index part side) ((result ≡ 4) × (size.new ≡ size.old)) (λ slot. (result ≡ 0) × (size.new ≡ slot.size)) }
-{
-    let Some(count) = table.index().size(part, side) else {
-        return RANGE;
-    };
-    *size = count;
-    DONE
-}
-
-/// The number of positions of a part's side.
 ///
 /// Errors: `CLOSED` if the handle holds no front, `RANGE` if the table has no such part or side. Then the size stays.
 #[unsafe(no_mangle)]
@@ -137,12 +126,12 @@ pub extern "C" fn szg_front_size(
     ensures closed { front.old.value ≡ None → (result ≡ 5) × (size.new ≡ size.old) }
     ensures reported { IfSome front.old.value (λ f. MatchOption (slot_in f.index part side) ((result ≡ 4) × (size.new ≡ size.old)) (λ slot. (result ≡ 0) × (size.new ≡ slot.size))) }
 {
-    let Some(held) = take(front, alloc) else {
-        return CLOSED;
-    };
-    let status = size_in(held.value(), part, side, size);
-    put(front, held);
-    status
+    write(
+        find(alloc, front, |held| {
+            held.value().index().size(part, side).ok_or(RANGE)
+        }),
+        size,
+    )
 }
 
 /// The span bits of a subtable, 0 of a constant one.
@@ -175,12 +164,12 @@ pub extern "C" fn szg_front_span(alloc: Global, front: &mut HeldFront, bits: &mu
     ensures closed { front.old.value ≡ None → (result ≡ 5) × (bits.new ≡ bits.old) }
     ensures reported { IfSome front.old.value (λ f. (result ≡ 0) × (bits.new ≡ greatest_span_bits f.subs)) }
 {
-    let Some(held) = take(front, alloc) else {
-        return CLOSED;
-    };
-    *bits = greatest_span_bits(held.value().subs());
-    put(front, held);
-    DONE
+    write(
+        find(alloc, front, |held| {
+            Ok(greatest_span_bits(held.value().subs()))
+        }),
+        bits,
+    )
 }
 
 /// Whether a table has this index.

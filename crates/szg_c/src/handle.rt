@@ -1,5 +1,6 @@
 //! What C holds by a pointer, or nothing.
-ghost use Rattle.std.specs.Prelude.{◌≡◌, ◌⊎◌, IfOk, IfSome, MatchOption};
+ghost use Rattle.std.specs.Prelude.{◌≡◌, ◌⊎◌, Err, IfOk, IfSome, MatchOption, MatchResult};
+ghost use Rattle.std.specs.Fn.{FnOnceReturnsAt};
 ghost use Rattle.std.specs.declared.option.Option.{Option};
 ghost use Rattle.std.specs.declared.option.Option.TheVariants.{None, Some};
 
@@ -50,6 +51,37 @@ pub fn put<H: Handle>(handle: &mut H, owned: Box<H::Held>)
     ensures { H.held handle.new ≡ Some owned.value }
 {
     *handle = H::of(Loose::of(owned));
+}
+
+/// Returns what a function finds in what a handle owns. Errors: `CLOSED` if that is nothing; else the function's status.
+pub fn find<H: Handle, R, F: FnOnce(&H::Held) -> Result<R, u32>>(
+    alloc: Global,
+    handle: &mut H,
+    function: F,
+) -> Result<R, u32>
+    requires { F.IsAlwaysCallable function }
+    ensures kept { H.held handle.new ≡ H.held handle.old }
+    ensures found { MatchOption (H.held handle.old) (result ≡ Err CLOSED) (λ owned. FnOnceReturnsAt F.FnOnce function owned result) }
+{
+    let Some(held) = take(handle, alloc) else {
+        return Err(CLOSED);
+    };
+    let found = function(&held);
+    put(handle, held);
+    found
+}
+
+/// Writes what was found; returns the status.
+pub fn write<T: Drop>(found: Result<T, u32>, to: &mut T) -> u32
+    ensures { MatchResult found (λ x. (result ≡ DONE) × (to.new ≡ x)) (λ status. (result ≡ status) × (to.new ≡ to.old)) }
+{
+    match found {
+        Ok(x) => {
+            *to = x;
+            DONE
+        }
+        Err(status) => status,
+    }
 }
 
 /// Drops what a handle owns.

@@ -1,5 +1,5 @@
 //! Calls on a table by its handle.
-ghost use Rattle.std.specs.Prelude.{◌≡◌, ◌≢◌, ◌<◌, ◌⊎◌, length, IfSome, IsNone, IsSomeAnd, MatchResult};
+ghost use Rattle.std.specs.Prelude.{◌≡◌, ◌≢◌, ◌<◌, ◌⊎◌, length, IfErr, IfOk, IfSome, IsNone, IsOk, IsSomeAnd, MatchResult};
 ghost use Rattle.std.specs.declared.option.Option.TheVariants.{None, Some};
 ghost use Rattle.szg_file.specs.Index.{index_of};
 ghost use Rattle.szg_file.specs.Values.{subtable_at, values_of, item};
@@ -7,9 +7,9 @@ ghost use Rattle.szg_c.specs.Places.{number_result};
 ghost use Rattle.szg_c.specs.Reported.{Reports};
 
 use crate::front_places::number_in;
-use crate::handle::{hold, put, share, shut, take};
+use crate::handle::{find, hold, put, share, shut, take, write};
 use crate::held_table::HeldTable;
-use crate::opening::{Answer, open};
+use crate::opening::{RawAnswer, open};
 use crate::shared::Shared;
 use crate::status::{CLOSED, DONE, MEMORY, RANGE};
 use std::alloc::Global;
@@ -23,7 +23,7 @@ pub extern "C" fn szg_open(
     dtz: bool,
     bytes: &[u8],
     table: &mut HeldTable,
-    answer: &mut Answer,
+    answer: &mut RawAnswer,
 ) -> u32
     ensures says { Reports name.now dtz bytes.now (λ t. table.new.value ≡ Some t) (λ t. ⊥) result answer.new.place answer.new.reason }
     ensures shut { (result ≡ 0 → ⊥) → table.new.value ≡ None }
@@ -65,21 +65,19 @@ pub extern "C" fn szg_close(alloc: Global, table: &mut HeldTable)
     shut(table, alloc);
 }
 
-/// Finds the value at an index, if the table has it.
-fn value_in(table: &Table, part: u8, side: u8, index: u64, value: &mut u16) -> u32
-    ensures done { (result ≡ 0) → IsSomeAnd (subtable_at table.now.contents part side) (λ found. item (values_of table.now.contents.kind found) index ≡ Some value.new) }
-    ensures there { IfSome (subtable_at table.now.contents part side) (λ found. index < found.0.size → result ≡ 0) }
-    ensures statuses { (result ≡ 0) ⊎ (result ≡ 4) }
-    ensures stays { (result ≡ 0 → ⊥) → value.new ≡ value.old }
+/// Returns the value at an index. Errors: `RANGE` if the table has no such index.
+fn value_in(table: &Table, part: u8, side: u8, index: u64) -> Result<u16, u32>
+    ensures value { IfOk result (λ value. IsSomeAnd (subtable_at table.now.contents part side) (λ found. item (values_of table.now.contents.kind found) index ≡ Some value)) }
+    ensures there { IfSome (subtable_at table.now.contents part side) (λ found. index < found.0.size → IsOk result) }
+    ensures range { IfErr result (λ status. status ≡ RANGE) }
 {
     let Some(size) = table.size(part, side) else {
-        return RANGE;
+        return Err(RANGE);
     };
     if index >= size {
-        return RANGE;
+        return Err(RANGE);
     }
-    *value = table.get(part, side, index);
-    DONE
+    Ok(table.get(part, side, index))
 }
 
 /// Finds the value at an index.
@@ -102,27 +100,14 @@ pub extern "C" fn szg_get(
     ensures statuses { IfSome table.old.value (λ t. (result ≡ 0) ⊎ (result ≡ 4)) }
     ensures stays { (result ≡ 0 → ⊥) → value.new ≡ value.old }
 {
-    let Some(held) = take(table, alloc) else {
-        return CLOSED;
-    };
-    let status = value_in(held.value(), part, side, index, value);
-    put(table, held);
-    status
-}
-
-/// Finds the number of positions of a part's side, if there is one.
-pub fn size_in(table: &Table, part: u8, side: u8, size: &mut u64) -> u32
-    ensures done { (result ≡ 0) → IsSomeAnd (subtable_at table.now.contents part side) (λ found. size.new ≡ found.0.size) }
-    ensures there { IfSome (subtable_at table.now.contents part side) (λ found. result ≡ 0) }
-    ensures missing { (result ≡ 4) → IsNone (subtable_at table.now.contents part side) }
-    ensures statuses { (result ≡ 0) ⊎ (result ≡ 4) }
-    ensures stays { (result ≡ 0 → ⊥) → size.new ≡ size.old }
-{
-    let Some(count) = table.size(part, side) else {
-        return RANGE;
-    };
-    *size = count;
-    DONE
+    write(
+        find(
+            alloc,
+            table,
+            |held| value_in(held.value(), part, side, index),
+        ),
+        value,
+    )
 }
 
 /// Finds the number of positions of a part's side.
@@ -143,12 +128,12 @@ pub extern "C" fn szg_positions(
     ensures statuses { IfSome table.old.value (λ t. (result ≡ 0) ⊎ (result ≡ 4)) }
     ensures stays { (result ≡ 0 → ⊥) → size.new ≡ size.old }
 {
-    let Some(held) = take(table, alloc) else {
-        return CLOSED;
-    };
-    let status = size_in(held.value(), part, side, size);
-    put(table, held);
-    status
+    write(
+        find(alloc, table, |held| {
+            held.value().size(part, side).ok_or(RANGE)
+        }),
+        size,
+    )
 }
 
 /// Decodes all values of a part's side, if the length of `values` is their number.
@@ -215,16 +200,10 @@ pub extern "C" fn szg_number(
     ensures closed { table.old.value ≡ None → (result ≡ 5) × (number.new ≡ number.old) }
     ensures reported { IfSome table.old.value (λ t. MatchResult (number_result (index_of t.contents) part class value) (λ n. (result ≡ 0) × (number.new ≡ n)) (λ status. (result ≡ status) × (number.new ≡ number.old))) }
 {
-    let Some(held) = take(table, alloc) else {
-        return CLOSED;
-    };
-    let reported = number_in(held.value().index(), part, class, value);
-    put(table, held);
-    match reported {
-        Ok(found) => {
-            *number = found;
-            DONE
-        }
-        Err(status) => status,
-    }
+    write(
+        find(alloc, table, |held| {
+            number_in(held.value().index(), part, class, value)
+        }),
+        number,
+    )
 }

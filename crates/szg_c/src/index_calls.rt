@@ -1,20 +1,21 @@
 //! Calls on the placement of an index.
 ghost use Rattle.std.specs.Prelude.{◌≡◌, ◌<◌, Err, IfSome, MatchResult, Ok, Result, length};
-ghost use Rattle.std.specs.declared.option.Option.TheVariants.{None, Some};
+ghost use Rattle.std.specs.declared.option.Option.TheVariants.{None};
 ghost use Rattle.szg_file.specs.Index.{index_of};
 ghost use Rattle.szg_c.specs.Men.{IsWritten, with_room};
-ghost use Rattle.szg_c.specs.Places.{board_or_status, placement_result};
+ghost use Rattle.szg_c.specs.Places.{placement_result};
+ghost use Rattle.szg_c.specs.declared.status.TheConstants.{CLOSED, DONE};
 
 use crate::fronts::has_index;
-use crate::handle::{put, take};
+use crate::handle::find;
 use crate::held_front::HeldFront;
 use crate::held_table::HeldTable;
-use crate::men::{CodedMan, write_placement};
+use crate::men::{RawMan, write_placement};
 use crate::places::place_status;
-use crate::status::{CLOSED, DONE, RANGE};
+use crate::status::RANGE;
 use std::alloc::Global;
 use szg_file::TableIndex;
-use szg_place::{PlaceFault, Spot, placement};
+use szg_place::{Spot, placement};
 use szg_values::Placement;
 
 /// Writes the placement of an index of a part's side: the men to the beginning of `men`, their number to `count`, the
@@ -31,7 +32,7 @@ pub extern "C" fn szg_placement(
     part: u8,
     side: u8,
     index: u64,
-    men: &mut [CodedMan],
+    men: &mut [RawMan],
     count: &mut usize,
     mover: &mut u8,
 ) -> u32
@@ -40,12 +41,10 @@ pub extern "C" fn szg_placement(
     ensures reported { IfSome table.old.value (λ t. MatchResult (with_room (length men.old) (placement_result (index_of t.contents) part side index)) (λ board. (result ≡ DONE) × IsWritten board men.old men.new count.new mover.new) (λ status. result ≡ status)) }
     ensures stays { (result ≡ DONE → ⊥) → (men.new ≡ men.old) × (count.new ≡ count.old) × (mover.new ≡ mover.old) }
 {
-    let Some(held) = take(table, alloc) else {
-        return CLOSED;
-    };
-    let reported = placement_by(held.value().index(), part, side, index);
-    put(table, held);
-    written(reported, men, count, mover)
+    let found = find(alloc, table, |held| {
+        placement_by(held.value().index(), part, side, index)
+    });
+    write_found(found, men, count, mover)
 }
 
 /// Writes the placement of an index of a part's side, as `szg_placement`.
@@ -58,7 +57,7 @@ pub extern "C" fn szg_front_placement(
     part: u8,
     side: u8,
     index: u64,
-    men: &mut [CodedMan],
+    men: &mut [RawMan],
     count: &mut usize,
     mover: &mut u8,
 ) -> u32
@@ -67,12 +66,10 @@ pub extern "C" fn szg_front_placement(
     ensures reported { IfSome front.old.value (λ f. MatchResult (with_room (length men.old) (placement_result f.index part side index)) (λ board. (result ≡ DONE) × IsWritten board men.old men.new count.new mover.new) (λ status. result ≡ status)) }
     ensures stays { (result ≡ DONE → ⊥) → (men.new ≡ men.old) × (count.new ≡ count.old) × (mover.new ≡ mover.old) }
 {
-    let Some(held) = take(front, alloc) else {
-        return CLOSED;
-    };
-    let reported = placement_by(held.value().index(), part, side, index);
-    put(front, held);
-    written(reported, men, count, mover)
+    let found = find(alloc, front, |held| {
+        placement_by(held.value().index(), part, side, index)
+    });
+    write_found(found, men, count, mover)
 }
 
 /// Returns the placement of an index by a table's index. Errors: a status.
@@ -82,29 +79,20 @@ fn placement_by(table: &TableIndex, part: u8, side: u8, index: u64) -> Result<Pl
     if !has_index(table, part, side, index) {
         return Err(RANGE);
     }
-    placement_or_status(placement(table, Spot { part, side, index }))
-}
-
-fn placement_or_status(reported: Result<Placement, PlaceFault>) -> Result<Placement, u32>
-    ensures { result ≡ board_or_status reported }
-{
-    match reported {
-        Ok(placement) => Ok(placement),
-        Err(fault) => Err(place_status(fault)),
-    }
+    placement(table, Spot { part, side, index }).map_err(place_status)
 }
 
 /// Writes a placement, if there is one; returns the status.
-fn written(
-    reported: Result<Placement, u32>,
-    men: &mut [CodedMan],
+fn write_found(
+    found: Result<Placement, u32>,
+    men: &mut [RawMan],
     count: &mut usize,
     mover: &mut u8,
 ) -> u32
-    ensures reported { MatchResult (with_room (length men.old) reported) (λ board. (result ≡ DONE) × IsWritten board men.old men.new count.new mover.new) (λ status. result ≡ status) }
+    ensures reported { MatchResult (with_room (length men.old) found) (λ board. (result ≡ DONE) × IsWritten board men.old men.new count.new mover.new) (λ status. result ≡ status) }
     ensures stays { (result ≡ DONE → ⊥) → (men.new ≡ men.old) × (count.new ≡ count.old) × (mover.new ≡ mover.old) }
 {
-    match reported {
+    match found {
         Ok(placement) => write_placement(&placement, men, count, mover),
         Err(status) => status,
     }

@@ -39,8 +39,8 @@ pub use held_front::HeldFront;
 pub use held_table::HeldTable;
 pub use held_tablebase::HeldTablebase;
 pub use index_calls::{szg_front_placement, szg_placement};
-pub use men::CodedMan;
-pub use opening::Answer;
+pub use men::RawMan;
+pub use opening::RawAnswer;
 pub use places::{FoundSpot, szg_index, szg_probe};
 pub use tablebase_calls::{
     RawDistance, RawMissing, RawMove, szg_close_tablebase, szg_share_tablebase, szg_tablebase_add,

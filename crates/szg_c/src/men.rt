@@ -1,5 +1,5 @@
 //! Placements as C passes them.
-ghost use Rattle.std.specs.Prelude.{◌≡◌, ◌<◌, ◌≤◌, ◌&&◌, IsTrue, IsFalse, IfSome, IsNone, MatchResult, Ok, length, map, nat_lt, true, []};
+ghost use Rattle.std.specs.Prelude.{◌≡◌, ◌<◌, ◌≤◌, ◌&&◌, IsTrue, IsFalse, IfSome, IsNone, MatchResult, Ok, length, map, true, []};
 ghost use Rattle.std.specs.declared.option.Option.TheVariants.{None, Some};
 ghost use Rattle.std.specs.List.{list_all};
 ghost use Rattle.szg_values.specs.Placement.{AreStanding, men_key};
@@ -14,7 +14,7 @@ use szg_values::{
 /// A man on a square, as three numbers.
 #[repr(C)]
 #[derive(Clone, Copy, Default)]
-pub struct CodedMan {
+pub struct RawMan {
     /// Pawn 1, knight 2, bishop 3, rook 4, queen 5, king 6, as in a file and in python-chess.
     pub kind: u8,
     /// White 0, Black 1.
@@ -27,7 +27,7 @@ pub struct CodedMan {
 /// men show, or the side to move is no number of a colour: then `placement_or_fault` returns it.
 #[inline(always)]
 pub fn key_of_men(
-    men: &[CodedMan],
+    men: &[RawMan],
     mover: u8,
     placed_men: &mut ArrayVec<(Man, Color, Square), MAX_MEN>,
 ) -> Option<u64>
@@ -44,7 +44,7 @@ pub fn key_of_men(
 /// then `placement_or_fault` returns it.
 #[inline(always)]
 pub fn sound_men<'a>(
-    men: &[CodedMan],
+    men: &[RawMan],
     mover: u8,
     placed_men: &'a ArrayVec<(Man, Color, Square), MAX_MEN>,
     key: u64,
@@ -58,10 +58,7 @@ pub fn sound_men<'a>(
 /// Puts the men on their squares, into an empty list; returns their key. None if a man's numbers are invalid, two men are
 /// on one square, or a pawn is on rank 1 or 8.
 #[inline(always)]
-fn put_men(
-    men: &[CodedMan],
-    placed_men: &mut ArrayVec<(Man, Color, Square), MAX_MEN>,
-) -> Option<u64>
+fn put_men(men: &[RawMan], placed_men: &mut ArrayVec<(Man, Color, Square), MAX_MEN>) -> Option<u64>
     requires few { length men.now ≤ 6 }
     requires empty { placed_men.old.items ≡ [] }
     ensures reported { IfSome result (λ key. list_all is_coded_man men.now ≡ true) }
@@ -84,7 +81,7 @@ fn put_men(
 /// first status that applies, of `MAN` for an invalid number, `MEN`, `SAME_SQUARE` and `PAWN_RANK`.
 #[inline(never)]
 #[tactic(auto, unfolding(crate::specs::Men::board_of))]
-pub fn placement_or_fault(men: &[CodedMan], mover: u8) -> Result<Placement, u32>
+pub fn placement_or_fault(men: &[RawMan], mover: u8) -> Result<Placement, u32>
     ensures { result ≡ board_of men.now mover }
 {
     if mover >= 2 {
@@ -103,20 +100,20 @@ pub fn placement_or_fault(men: &[CodedMan], mover: u8) -> Result<Placement, u32>
 }
 
 /// Whether each man's numbers encode a kind, a colour and a square.
-pub fn are_coded_men(men: &[CodedMan]) -> bool
+pub fn are_coded_men(men: &[RawMan]) -> bool
     ensures { result ≡ list_all is_coded_man men.now }
 {
     men.iter().all(|man| is_coded_man(man))
 }
 
-fn is_coded_man(man: &CodedMan) -> bool
+fn is_coded_man(man: &RawMan) -> bool
     ensures { result ≡ is_coded_man man.now }
 {
     0 < man.kind && man.kind < 7 && man.color < 2 && man.square < 64
 }
 
 /// Decodes the men. None if a man's numbers are invalid.
-pub fn placed_men(men: &[CodedMan]) -> Option<ArrayVec<(Man, Color, Square), MAX_MEN>>
+pub fn placed_men(men: &[RawMan]) -> Option<ArrayVec<(Man, Color, Square), MAX_MEN>>
     requires { length men.now ≤ 6 }
     ensures reported { IfSome result (λ placed_men. IsTrue (list_all is_coded_man men.now) × (placed_men.items ≡ map placed_man_of men.now)) }
     ensures unstated { IsNone result → IsFalse (list_all is_coded_man men.now) }
@@ -128,7 +125,7 @@ pub fn placed_men(men: &[CodedMan]) -> Option<ArrayVec<(Man, Color, Square), MAX
     Some(placed_men)
 }
 
-fn placed_man_of(man: &CodedMan) -> Option<(Man, Color, Square)>
+fn placed_man_of(man: &RawMan) -> Option<(Man, Color, Square)>
     ensures reported { IsTrue (is_coded_man man.now) → result ≡ Some (placed_man_of man.now) }
     ensures unstated { IsFalse (is_coded_man man.now) → result ≡ None }
 {
@@ -181,7 +178,7 @@ fn placement_status(fault: PlacementFault) -> u32
 /// Errors: `RANGE` if there are more men than the list has items. Then all stays.
 pub fn write_placement(
     placement: &Placement,
-    men: &mut [CodedMan],
+    men: &mut [RawMan],
     count: &mut usize,
     mover: &mut u8,
 ) -> u32
@@ -200,13 +197,13 @@ pub fn write_placement(
 }
 
 /// Returns men as numbers.
-pub fn coded_men(placed: &[(Man, Color, Square)]) -> ArrayVec<CodedMan, MAX_MEN>
+pub fn coded_men(placed: &[(Man, Color, Square)]) -> ArrayVec<RawMan, MAX_MEN>
     requires { length placed.now ≤ 6 }
     ensures { result.items ≡ map coded_man placed.now }
 {
     let mut coded = ArrayVec::new();
     for (kind, color, square) in placed {
-        coded.push(CodedMan {
+        coded.push(RawMan {
             kind: kind.code(),
             color: color_code(*color),
             square: square.number(),

@@ -11,7 +11,7 @@ use szg_values::{Kind, Material};
 /// What a call returns with its status.
 #[repr(C)]
 #[derive(Drop)]
-pub struct Answer {
+pub struct RawAnswer {
     /// The number of bytes of the table's file if a check accepts it; the offset of the refusal if it is refused.
     pub place: u64,
     /// The number of the reason if the file is refused.
@@ -41,7 +41,7 @@ pub fn open(
     name: &[u8],
     dtz: bool,
     bytes: &[u8],
-    answer: &mut Answer,
+    answer: &mut RawAnswer,
 ) -> Result<Table, u32>
     ensures table { IfOk result (λ t. IsTable name.now dtz bytes.now t) }
     ensures stops { IfErr result (λ status. Stops name.now dtz bytes.now status answer.new.place answer.new.reason) }

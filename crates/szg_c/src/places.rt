@@ -1,14 +1,14 @@
 //! Calls on a handle by placement.
-ghost use Rattle.std.specs.Prelude.{◌≡◌, ℤ, pos, Result, Ok, Err, IfSome, MatchResult};
+ghost use Rattle.std.specs.Prelude.{◌≡◌, pos, Result, Ok, Err, IfSome, MatchResult};
 ghost use Rattle.std.specs.declared.option.Option.TheVariants.{None, Some};
 ghost use Rattle.szg_file.specs.Index.{index_of};
 ghost use Rattle.szg_c.specs.Men.{board_of};
-ghost use Rattle.szg_c.specs.Places.{IsSpot, is_class, map_status as map_fault_status, number_or_status, outcome_of, outcome_result, place_status as place_fault_status, spot_result};
+ghost use Rattle.szg_c.specs.Places.{IsSpot, is_class, map_status as map_fault_status, outcome_of, outcome_result, place_status as place_fault_status, spot_result};
 ghost use Rattle.szg_c.specs.Reporting.{class_or_status, distance_or_status, fault_status};
 
 use crate::handle::{put, take};
 use crate::held_table::HeldTable;
-use crate::men::{CodedMan, key_of_men, placement_or_fault, sound_men};
+use crate::men::{RawMan, key_of_men, placement_or_fault, sound_men};
 use crate::status::{
     CLOSED, DONE, DRAW, IRREGULAR, KINGS_TOUCH, NO_CLASS, OTHER_MATERIAL, OUTSIDE_MAP, RANGE,
     WRONG_SIDE,
@@ -42,7 +42,7 @@ pub struct FoundSpot {
 pub extern "C" fn szg_index(
     alloc: Global,
     table: &mut HeldTable,
-    men: &[CodedMan],
+    men: &[RawMan],
     mover: u8,
     spot: &mut FoundSpot,
 ) -> u32
@@ -61,7 +61,7 @@ pub extern "C" fn szg_index(
 /// Writes the location of men in a table; returns the status. A `Result` with a `Spot` is matched once, where it is made,
 /// since each one that is passed on is copied.
 #[inline(always)]
-pub fn write_spot(index: &TableIndex, men: &[CodedMan], mover: u8, spot: &mut FoundSpot) -> u32
+pub fn write_spot(index: &TableIndex, men: &[RawMan], mover: u8, spot: &mut FoundSpot) -> u32
     ensures { MatchResult (spot_result index.now (board_of men.now mover)) (λ found. (result ≡ 0) × IsSpot spot.new found) (λ status. (result ≡ status) × (spot.new ≡ spot.old)) }
 {
     let mut placed_men = ArrayVec::new();
@@ -77,7 +77,7 @@ pub fn write_spot(index: &TableIndex, men: &[CodedMan], mover: u8, spot: &mut Fo
 /// The same, by one check of the men after the other.
 #[cold]
 #[inline(never)]
-fn write_spot_or_fault(index: &TableIndex, men: &[CodedMan], mover: u8, spot: &mut FoundSpot) -> u32
+fn write_spot_or_fault(index: &TableIndex, men: &[RawMan], mover: u8, spot: &mut FoundSpot) -> u32
     ensures { MatchResult (spot_result index.now (board_of men.now mover)) (λ found. (result ≡ 0) × IsSpot spot.new found) (λ status. (result ≡ status) × (spot.new ≡ spot.old)) }
 {
     match placement_or_fault(men, mover) {
@@ -113,7 +113,7 @@ fn write_spot_of(index: &TableIndex, placement: &PlacedMen<'_>, spot: &mut Found
 pub extern "C" fn szg_probe(
     alloc: Global,
     table: &mut HeldTable,
-    men: &[CodedMan],
+    men: &[RawMan],
     mover: u8,
     class: i8,
     outcome: &mut i64,
@@ -132,7 +132,7 @@ pub extern "C" fn szg_probe(
 
 /// Writes the class or the distance of men in a table; returns the status.
 #[inline(always)]
-fn write_outcome(table: &Table, men: &[CodedMan], mover: u8, class: i8, outcome: &mut i64) -> u32
+fn write_outcome(table: &Table, men: &[RawMan], mover: u8, class: i8, outcome: &mut i64) -> u32
     ensures { MatchResult (outcome_result table.now.contents class (board_of men.now mover)) (λ n. (result ≡ 0) × (outcome.new ≡ n)) (λ status. (result ≡ status) × (outcome.new ≡ outcome.old)) }
 {
     let mut placed_men = ArrayVec::new();
@@ -150,7 +150,7 @@ fn write_outcome(table: &Table, men: &[CodedMan], mover: u8, class: i8, outcome:
 #[inline(never)]
 fn write_outcome_or_fault(
     table: &Table,
-    men: &[CodedMan],
+    men: &[RawMan],
     mover: u8,
     class: i8,
     outcome: &mut i64,
@@ -246,16 +246,6 @@ pub fn is_class(class: i8) -> bool
     ensures { result ≡ is_class class }
 {
     !(class < -2 || 2 < class)
-}
-
-/// Returns the distance of a DTZ value. Errors: the status for its fault.
-pub fn number_or_status(reported: Result<u32, MapFault>) -> Result<u32, u32>
-    ensures { result ≡ number_or_status reported }
-{
-    match reported {
-        Ok(number) => Ok(number),
-        Err(fault) => Err(map_status(fault)),
-    }
 }
 
 pub fn place_status(fault: PlaceFault) -> u32

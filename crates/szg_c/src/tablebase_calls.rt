@@ -1,17 +1,17 @@
 //! Calls on a tablebase: tables are added by their bytes, and positions are probed with their captures, the right to
 //! capture en passant and the fifty-move counter.
-ghost use Rattle.std.specs.Prelude.{◌≡◌, ◌≤◌, ◌⊎◌, ◌++◌, ◌∷◌, [], Err, IfErr, IfNone, IfOk, IfSome, MatchResult, Ok, drop, length, map};
+ghost use Rattle.std.specs.Prelude.{◌≡◌, ◌≤◌, ◌⊎◌, Err, IfErr, IfNone, IfOk, IfSome, MatchResult, Ok, length, map};
 ghost use Rattle.std.specs.declared.option.Option.TheVariants.{None, Some};
 ghost use Rattle.szg_c.specs.Fronts.{StopsFront};
 ghost use Rattle.szg_c.specs.Tablebases.{IsAdded, IsClassProbed, IsDistanceProbed, IsMissingReported, IsRankedWritten, IsTableOf, files_of, position_of, position_status, promotion_code, raw_move};
 
 use crate::handle::{put, share, shut, take};
 use crate::held_tablebase::HeldTablebase;
-use crate::men::{CodedMan, are_coded_men, color_of, placed_men};
-use crate::opening::{Answer, kind_of, material_of};
+use crate::men::{RawMan, are_coded_men, color_of, placed_men};
+use crate::opening::{RawAnswer, kind_of, material_of};
 use crate::places::place_status;
 use crate::status::{
-    BAD_BLOCK, CONTRADICTION, DONE, EN_PASSANT, IN_CHECK, MAN, MEMORY, MEN, MISSING, NAME,
+    BAD_BLOCK, CHANGED, CONTRADICTION, DONE, EN_PASSANT, IN_CHECK, MAN, MEMORY, MEN, MISSING, NAME,
     NO_CLASS, PAWN_RANK, RANGE, REFUSED, SAME_SQUARE, number_of,
 };
 use crate::texts::print;
@@ -75,7 +75,7 @@ fn opened(
     name: &[u8],
     dtz: bool,
     bytes: &'static [u8],
-    answer: &mut Answer,
+    answer: &mut RawAnswer,
 ) -> Result<MappedTable<'static>, u32>
     ensures front { IfOk result (IsTableOf name.now dtz bytes.now) }
     ensures stops { IfErr result (λ status. StopsFront name.now dtz bytes.now status answer.new.place answer.new.reason) }
@@ -124,7 +124,7 @@ pub extern "C" fn szg_tablebase_add(
     name: &[u8],
     dtz: bool,
     bytes: &'static [u8],
-    answer: &mut Answer,
+    answer: &mut RawAnswer,
 ) -> u32
     ensures added { (result ≡ 0) → IsAdded name.now dtz bytes.now (files_of tablebase.old.value) tablebase.new.value }
     ensures stops { (result ≡ 0 → ⊥) → StopsFront name.now dtz bytes.now result answer.new.place answer.new.reason }
@@ -176,7 +176,7 @@ pub extern "C" fn szg_close_tablebase(alloc: Global, tablebase: &mut HeldTableba
 /// over by a double step (64 or more for none). Errors: the first status that applies, of `MAN` for an invalid number, `MEN`,
 /// `SAME_SQUARE`, `PAWN_RANK`, `EN_PASSANT` and `IN_CHECK`.
 #[tactic(auto, unfolding(crate::specs::Tablebases::position_of))]
-fn position_of(men: &[CodedMan], mover: u8, en_passant: u8) -> Result<Position, u32>
+fn position_of(men: &[RawMan], mover: u8, en_passant: u8) -> Result<Position, u32>
     ensures { result ≡ position_of men.now mover en_passant }
 {
     if mover >= 2 {
@@ -228,7 +228,8 @@ fn report_missing(missing: Missing, lack: &mut RawMissing) -> u32
     match missing.reason {
         MissingReason::Table => MISSING,
         MissingReason::Place(fault) => place_status(fault),
-        MissingReason::Value | MissingReason::Unread(_) => NO_CLASS,
+        MissingReason::Value => NO_CLASS,
+        MissingReason::Unread(_) => CHANGED,
         MissingReason::Block { number, offset } => {
             lack.block = number;
             lack.offset = offset;
@@ -263,13 +264,14 @@ fn class_in(
 /// passed over by a double step (64 or more for none). The fifty-move counter is 0.
 ///
 /// Errors, the first that holds: `MAN`, `MEN`, `SAME_SQUARE`, `PAWN_RANK`, `EN_PASSANT`, `IN_CHECK` for what is no position;
-/// `MISSING` if a table is not there, `BAD_BLOCK` if a block does not decode, `NO_CLASS` for a value that is no class, and a
-/// status of `szg_index` for a placement for which a table has no index: then `lack` has the table. The class is unchanged.
+/// `MISSING` if a table is not there, `BAD_BLOCK` if a block does not decode, `CHANGED` if a file's bytes have
+/// changed and lead to no block, `NO_CLASS` for a value that is no class, and a status of `szg_index` for a placement for which a
+/// table has no index: then `lack` has the table. The class is unchanged.
 #[unsafe(no_mangle)]
 pub extern "C" fn szg_tablebase_wdl(
     alloc: Global,
     tablebase: &mut HeldTablebase,
-    men: &[CodedMan],
+    men: &[RawMan],
     mover: u8,
     en_passant: u8,
     class: &mut i8,
@@ -325,7 +327,7 @@ fn distance_in(
 pub extern "C" fn szg_tablebase_dtz(
     alloc: Global,
     tablebase: &mut HeldTablebase,
-    men: &[CodedMan],
+    men: &[RawMan],
     mover: u8,
     en_passant: u8,
     counter: u32,
@@ -427,7 +429,7 @@ fn moves_in(
 pub extern "C" fn szg_tablebase_moves(
     alloc: Global,
     tablebase: &mut HeldTablebase,
-    men: &[CodedMan],
+    men: &[RawMan],
     mover: u8,
     en_passant: u8,
     counter: u32,

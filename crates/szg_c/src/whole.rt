@@ -5,8 +5,8 @@ ghost use Rattle.szg_file.specs.Values.{subtable_at, values_of};
 ghost use Rattle.szg_c.specs.Reported.{Reports};
 ghost use Rattle.szg_c.specs.Lists.{AreValuesAt, HasIndexFrom};
 
-use crate::held::{size_in, values_in};
-use crate::opening::{Answer, kind_of, material_of, open};
+use crate::held::values_in;
+use crate::opening::{RawAnswer, kind_of, material_of, open};
 use crate::status::{DONE, MEMORY, NAME, RANGE, REFUSED, number_of};
 use std::alloc::Global;
 use szg_file::{NoSink, ReadFault, Table, scan};
@@ -20,7 +20,7 @@ pub extern "C" fn szg_check(
     name: &[u8],
     dtz: bool,
     bytes: &[u8],
-    answer: &mut Answer,
+    answer: &mut RawAnswer,
 ) -> u32
     ensures { Reports name.now dtz bytes.now (λ t. answer.new.place ≡ length (file_bytes t)) (λ t. ⊥) result answer.new.place answer.new.reason }
 {
@@ -61,16 +61,21 @@ pub extern "C" fn szg_size(
     part: u8,
     side: u8,
     size: &mut u64,
-    answer: &mut Answer,
+    answer: &mut RawAnswer,
 ) -> u32
     ensures says { Reports name.now dtz bytes.now (λ t. IsSomeAnd (subtable_at t.contents part side) (λ found. size.new ≡ found.0.size)) (λ t. IsNone (subtable_at t.contents part side)) result answer.new.place answer.new.reason }
     ensures stays { (result ≡ 0 → ⊥) → size.new ≡ size.old }
     ensures answer_stays { (result ≡ 2 → ⊥) → answer.new ≡ answer.old }
 {
-    match open(alloc, name, dtz, bytes, answer) {
-        Ok(table) => size_in(&table, part, side, size),
-        Err(status) => status,
-    }
+    let table = match open(alloc, name, dtz, bytes, answer) {
+        Ok(table) => table,
+        Err(status) => return status,
+    };
+    let Some(found) = table.size(part, side) else {
+        return RANGE;
+    };
+    *size = found;
+    DONE
 }
 
 /// Decodes all values of a part's side into a list of that length. With another status than `DONE`, `values` is
@@ -84,7 +89,7 @@ pub extern "C" fn szg_values(
     part: u8,
     side: u8,
     values: &mut [u16],
-    answer: &mut Answer,
+    answer: &mut RawAnswer,
 ) -> u32
     ensures says { Reports name.now dtz bytes.now (λ t. IsSomeAnd (subtable_at t.contents part side) (λ found. values.new ≡ values_of t.contents.kind found)) (λ t. IfSome (subtable_at t.contents part side) (λ found. length values.old ≢ found.0.size)) result answer.new.place answer.new.reason }
     ensures stays { (result ≡ 0 → ⊥) → values.new ≡ values.old }
@@ -108,7 +113,7 @@ pub extern "C" fn szg_values_at(
     side: u8,
     indexes: &[u64],
     values: &mut [u16],
-    answer: &mut Answer,
+    answer: &mut RawAnswer,
 ) -> u32
     ensures says { Reports name.now dtz bytes.now (λ t. IsSomeAnd (subtable_at t.contents part side) (λ found. AreValuesAt (values_of t.contents.kind found) indexes.now values.new (min (length indexes.now) (length values.new)))) (λ t. IfSome (subtable_at t.contents part side) (λ found. HasIndexFrom found.0.size indexes.now (min (length indexes.now) (length values.old)))) result answer.new.place answer.new.reason }
     ensures rest { drop (min (length indexes.now) (length values.old)) values.new ≡ drop (min (length indexes.now) (length values.old)) values.old }

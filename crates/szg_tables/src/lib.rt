@@ -44,6 +44,6 @@ pub enum MissingReason {
     Value,
     /// The block that has the value does not decode: its number in its subtable, and its offset in the file.
     Block { number: u32, offset: u64 },
-    /// The value at this spot was not fetched.
+    /// The value at this spot was not fetched; or, of a mapped file, its bytes have changed since, and lead to no block.
     Unread(Spot),
 }

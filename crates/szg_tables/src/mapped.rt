@@ -92,7 +92,7 @@ fn value_at(table: &TableInPlace<'_>, passed: &mut Passed, spot: Spot) -> Result
         Ok(value) => Ok(value),
         Err(FetchFault::Block { number, offset }) => Err(MissingReason::Block { number, offset }),
         // only if the bytes have changed since the table was opened
-        Err(FetchFault::Source) => Err(MissingReason::Value),
+        Err(FetchFault::Source) => Err(MissingReason::Unread(spot)),
     }
 }
 

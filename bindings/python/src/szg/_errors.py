@@ -62,7 +62,7 @@ class BadBlock(ValueError):
 
 
 class Changed(ValueError):
-    """The bytes are fewer than when the table was opened."""
+    """The bytes are fewer than when the table was opened, or lead to no block."""
 
 
 class MissingTableError(KeyError):

@@ -3,9 +3,9 @@ from ctypes import byref, c_int8, c_size_t
 from functools import partial
 from typing import Any, Callable, List, Mapping, NamedTuple, NoReturn, Optional, Sequence, Tuple
 
-from ._errors import BadBlock, MissingTableError, Untold
+from ._errors import BadBlock, Changed, MissingTableError, Untold
 from ._library import (
-    BAD_BLOCK, DONE, MAX_MOVES, MEN, MISSING, NO_CLASS, NO_RESULT, OTHER_MATERIAL, WRONG_SIDE, Distance, FoundMove, MissingTable,
+    BAD_BLOCK, CHANGED, DONE, MAX_MOVES, MEN, MISSING, NO_CLASS, NO_RESULT, OTHER_MATERIAL, WRONG_SIDE, Distance, FoundMove, MissingTable,
     TablebaseHandle, ask_file, judge, library, status_text,
 )
 from ._mapped import mapped
@@ -81,9 +81,11 @@ class Results:
             handle = self._handle = self._with(handle, key)
 
     def _raise(self, status: int, men: bytes, key: Key, missing: MissingTable) -> NoReturn:
-        """Raises what a status means. Errors: BadBlock; Untold; MissingTableError for too many men; those of `judge`."""
+        """Raises what a status means. Errors: BadBlock; Changed; Untold; MissingTableError for too many men; those of `judge`."""
         if status == BAD_BLOCK:
             raise BadBlock(missing.block, missing.offset, self._paths[key])
+        if status == CHANGED:
+            raise Changed(f"{self._paths[key]} was changed")
         if status == NO_CLASS or OTHER_MATERIAL <= status <= WRONG_SIDE:
             raise Untold(status_text(status), self._paths[key])
         kings = [color for kind, color in zip(men[::3], men[1::3]) if kind == KING]

@@ -4,7 +4,7 @@ use Rattle.std.proofs.lemmas.Grind.{common_steps}
 use Rattle.std.proofs.lemmas.List.{get_or-map, length-map}
 use Rattle.szg_values.specs.Placement.{PlacedMan}
 use Rattle.szg_values.proofs.Stood.{stood_more}
-use Rattle.szg_c.specs.declared.men.CodedMan.{CodedMan}
+use Rattle.szg_c.specs.declared.men.RawMan.{RawMan}
 use Rattle.szg_c.specs.Men.{placed_man_of}
 use Rattle.szg_c.proofs.men.put_men.Goals as goal
 
@@ -15,7 +15,7 @@ placed_is false p q reported unstated = let h = unstated (search rules) in cc
 pub loop-man-preserved : goal.loop-man-preserved
 loop-man-preserved c =
     let men = c.args.men.now in let i = c.loop-man.man-index in let man = c.in_ok-placed_man in let taken = c.in_ok-taken in
-    let none : CodedMan = record { kind = 0; color = 0; square = 0 } in record {
+    let none : RawMan = record { kind = 0; color = 0; square = 0 } in record {
       reported = grind (arith, common_steps);
       placed = grind (arith, common_steps);
       stood =
