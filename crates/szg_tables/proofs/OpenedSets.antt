@@ -5,6 +5,7 @@ use Rattle.std.specs.List.{position_or_len}
 use Rattle.std.proofs.lemmas.Bool.{and_parts, cases_Bool, ltb-false, ltb-true}
 use Rattle.std.proofs.lemmas.List.Folds.{find_at}
 use Rattle.std.proofs.lemmas.Option.{slice_get_past}
+use Rattle.szg_values.specs.Material.{Sides}
 use Rattle.szg_values.specs.Placement.{PlacedMan, Board, material_of}
 use Rattle.szg_values.specs.declared.Color.{Color}
 use Rattle.szg_values.specs.declared.Kind.{Kind}
@@ -64,21 +65,24 @@ same_kind Dtz Dtz e = refl
 
 -- ---- the first table for a board
 
-module _ {A : Type 0} (opened : A → Opened) (kind : Kind) (board' board : Board) (tables' tables : List A) (boards : board' ≡ board) (same : tables' ≡ tables) where
-  abbrev test : Board → A → Bool
-  test b t = is_for kind (material_of b.placed_men) (opened t).index
+module _ {A : Type 0} (opened : A → Opened) (kind : Kind) (board : Board) (tables' tables : List A) (same : tables' ≡ tables) where
+  abbrev test : A → Bool
+  test t = is_for kind (material_of board.placed_men) (opened t).index
 
-  here : (o : Option ℕ) → o ≡ position (test board') tables' → position (test board) tables ≡ o
-  here o is = sym (is ∙ ap (λ (b : Board). position (test b) tables') boards ∙ ap (λ (ts : List A). position (test board) ts) same)
+  here : (o : Option ℕ) → o ≡ position test tables' → position test tables ≡ o
+  here o is = sym (is ∙ ap (position test) same)
 
-  pub found_at : (n : ℕ) → Some n ≡ position (test board') tables' → first_for opened kind board tables ≡ slice_get tables n
-  found_at n is = first_at (test board) tables n (here (Some n) is)
+  pub found_at : (o : Option ℕ) → o ≡ position test tables' → IfSome o (λ n. first_for opened kind board tables ≡ slice_get tables n)
+  found_at None is = tt
+  found_at (Some n) is = first_at test tables n (here (Some n) is)
 
-  pub kind_at : (n : ℕ) → Some n ≡ position (test board') tables' → IsSomeAnd (slice_get tables n) (λ t. (opened t).index.kind ≡ kind)
-  kind_at n is = first_passes (test board) (λ (t : A). (opened t).index.kind ≡ kind) (λ t e. same_kind kind (opened t).index.kind (and_parts _ _ e).0) tables n (here (Some n) is)
+  pub kind_at : (o : Option ℕ) → o ≡ position test tables' → IfSome o (λ n. IsSomeAnd (slice_get tables n) (λ t. (opened t).index.kind ≡ kind))
+  kind_at None is = tt
+  kind_at (Some n) is = first_passes test (λ (t : A). (opened t).index.kind ≡ kind) (λ t e. same_kind kind (opened t).index.kind (and_parts _ _ e).0) tables n (here (Some n) is)
 
-  pub found_nowhere : None ≡ position (test board') tables' → first_for opened kind board tables ≡ None
-  found_nowhere is = first_nowhere (test board) tables (here None is)
+  pub found_nowhere : (o : Option ℕ) → o ≡ position test tables' → IfNone o (first_for opened kind board tables ≡ None)
+  found_nowhere None is = first_nowhere test tables (here None is)
+  found_nowhere (Some n) is = tt
 
 pub same_index : {A : Type 0} (opened : A → Opened) (new old : A) → new ≡ old → (opened new).index ≡ (opened old).index
 same_index {A} opened new old same = ap (λ (t : A). (opened t).index) same
@@ -104,16 +108,20 @@ module _ {A : Type 0} (opened : A → Opened) (explains : A → Spot → Missing
       subst (λ (b : Board). IsReason opened explains kind b tables reason) is
       (subst (λ (p : Option A). IfNone p (reason ≡ Table) × IfSome p (λ t. IsReasonIn (explains t) board (opened t) reason)) (sym found) (none, some))
 
-  pub reason_nowhere : (missing : Missing) → missing ≡ record { material = material_of board.placed_men; kind = kind; reason = Table } → first_for opened kind board tables ≡ None →
+  reason_of : (missing : Missing) (material : Sides) (reason : MissingReason) → missing ≡ record { material = material; kind = kind; reason = reason } → IsReason opened explains kind (board_of men mover) tables reason →
       IsReason opened explains missing.kind (board_of men mover) tables missing.reason
-  reason_nowhere missing same found =
-      subst (λ (m : Missing). IsReason opened explains m.kind (board_of men mover) tables m.reason) (sym same) (reason_by None Table found refl tt)
+  reason_of missing material reason same h = subst (λ (m : Missing). IsReason opened explains m.kind (board_of men mover) tables m.reason) (sym same) h
+
+  pub reason_nowhere : (missing : Missing) (material : Sides) → missing ≡ record { material = material; kind = kind; reason = Table } → first_for opened kind board tables ≡ None →
+      IsReason opened explains missing.kind (board_of men mover) tables missing.reason
+  reason_nowhere missing material same found = reason_of missing material Table same (reason_by None Table found refl tt)
 
   some_there : (o : Option A) (P : A → Type 0) (Q : Type 0) → IsSomeAnd o P → IfNone o Q
   some_there None P Q h = absurd h
   some_there (Some t) P Q h = tt
 
-  pub reason_at : (n : ℕ) (reason : MissingReason) → first_for opened kind board tables ≡ slice_get tables n → IsSomeAnd (slice_get tables n) (λ t. (opened t).index.kind ≡ kind) →
-      IfSome (slice_get tables n) (λ t. IsReasonIn (explains t) board (opened t) reason) → IsReason opened explains kind (board_of men mover) tables reason
-  reason_at n reason found there why =
-      reason_by (slice_get tables n) reason found (some_there (slice_get tables n) (λ t. (opened t).index.kind ≡ kind) (reason ≡ Table) there) why
+  pub reason_at : (missing : Missing) (material : Sides) (n : ℕ) (reason : MissingReason) → missing ≡ record { material = material; kind = kind; reason = reason } →
+      first_for opened kind board tables ≡ slice_get tables n → IsSomeAnd (slice_get tables n) (λ t. (opened t).index.kind ≡ kind) →
+      IfSome (slice_get tables n) (λ t. IsReasonIn (explains t) board (opened t) reason) → IsReason opened explains missing.kind (board_of men mover) tables missing.reason
+  reason_at missing material n reason same found there why =
+      reason_of missing material reason same (reason_by (slice_get tables n) reason found (some_there (slice_get tables n) (λ t. (opened t).index.kind ≡ kind) (reason ≡ Table) there) why)

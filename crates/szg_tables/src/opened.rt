@@ -1,6 +1,6 @@
 //! Sets of opened tables. What a table knows of its values is its own affair.
 
-ghost use Rattle.std.specs.Prelude.{◌≡◌, ◌<◌, ◌^◌, ◌++◌, ◌∷◌, [], IfErr, IfOk, IfSome, IsSomeAnd, Some, None, length, option_and_then, position, slice_get};
+ghost use Rattle.std.specs.Prelude.{◌≡◌, ◌<◌, ◌^◌, ◌++◌, ◌∷◌, [], IfErr, IfNone, IfOk, IfSome, IsSomeAnd, Some, None, length, option_and_then, position, slice_get};
 ghost use Rattle.std.specs.Option.{ForSome};
 ghost use Rattle.szg_values.specs.Placement.{material_of};
 ghost use Rattle.szg_tables.specs.Opened.{IsReason, IsReasonIn, class_in, first_for, is_for, number_in, opened_classes, opened_numbers};
@@ -16,7 +16,7 @@ use szg_file::TableIndex;
 use szg_game::Class;
 use szg_place::{PlaceFault, Spot, has_men_of, locate};
 use szg_probe::{DistanceTables, Tables};
-use szg_values::{Kind, PlacedMen, Placement};
+use szg_values::{Kind, PlacedMen};
 
 /// A table whose index is in memory, and its values as far as they are known.
 pub trait OpenTable {
@@ -45,14 +45,14 @@ pub trait OpenTable {
         ensures reason { IfErr result (explains self.old spot) };
 }
 
-/// Returns the class of a placement in a WDL table.
-fn class_in<T: OpenTable>(table: &mut T, placement: &Placement) -> Result<Class, MissingReason>
+/// Returns the class of a placement's men in a WDL table.
+fn class_in<T: OpenTable>(table: &mut T, men: &PlacedMen<'_>) -> Result<Class, MissingReason>
     ensures same { table.new ≡ table.old }
-    ensures class { IfOk result (λ k. class_in placement.now (T.opened table.old) ≡ Some k) }
-    ensures none { IfErr result (λ reason. class_in placement.now (T.opened table.old) ≡ None) }
-    ensures reason { IfErr result (IsReasonIn (T.explains table.old) placement.now (T.opened table.old)) }
+    ensures class { IfOk result (λ k. class_in men.now (T.opened table.old) ≡ Some k) }
+    ensures none { IfErr result (λ reason. class_in men.now (T.opened table.old) ≡ None) }
+    ensures reason { IfErr result (IsReasonIn (T.explains table.old) men.now (T.opened table.old)) }
 {
-    let spot = match locate(table.index(), &PlacedMen::of(placement)) {
+    let spot = match locate(table.index(), men) {
         Ok(spot) => spot,
         Err(fault) => return Err(MissingReason::Place(fault)),
     };
@@ -65,20 +65,20 @@ fn class_in<T: OpenTable>(table: &mut T, placement: &Placement) -> Result<Class,
     }
 }
 
-/// Returns the number of a placement in a class in a DTZ table. None if the table stores the other side to move.
+/// Returns the number of a placement's men in a class in a DTZ table. None if the table stores the other side to move.
 fn number_in<T: OpenTable>(
     table: &mut T,
-    placement: &Placement,
+    men: &PlacedMen<'_>,
     class: Class,
 ) -> Result<Option<u32>, MissingReason>
     requires kind { (T.opened table.old).index.kind ≡ Kind.Dtz }
     ensures same { table.new ≡ table.old }
-    ensures number { IfOk result (λ n. number_in placement.now class (T.opened table.old) ≡ Some n) }
+    ensures number { IfOk result (λ n. number_in men.now class (T.opened table.old) ≡ Some n) }
     ensures few { IfOk result (λ n. ForSome n (λ plies. plies < 2 ^ 31)) }
-    ensures none { IfErr result (λ reason. number_in placement.now class (T.opened table.old) ≡ None) }
-    ensures reason { IfErr result (IsReasonIn (T.explains table.old) placement.now (T.opened table.old)) }
+    ensures none { IfErr result (λ reason. number_in men.now class (T.opened table.old) ≡ None) }
+    ensures reason { IfErr result (IsReasonIn (T.explains table.old) men.now (T.opened table.old)) }
 {
-    let spot = match locate(table.index(), &PlacedMen::of(placement)) {
+    let spot = match locate(table.index(), men) {
         Ok(spot) => spot,
         Err(PlaceFault::WrongSide) => return Ok(None),
         Err(fault) => return Err(MissingReason::Place(fault)),
@@ -110,6 +110,21 @@ fn first_for<T: OpenTable>(tables: &[T], kind: Kind, men: &PlacedMen<'_>) -> Opt
     tables
         .iter()
         .position(|table| is_for(table.index(), kind, men))
+}
+
+/// Returns what is missing for the men of a position.
+fn missing(position: &Position, kind: Kind, reason: MissingReason) -> Missing
+    requires { 2 < length position.now.placed_men }
+    ensures { result ≡ record { material = material_of position.now.placed_men; kind = kind; reason = reason } }
+{
+    let Some(placement) = position.placement() else {
+        unreachable!()
+    };
+    Missing {
+        material: placement.material(),
+        kind,
+        reason,
+    }
 }
 
 /// A set of opened tables of both kinds. Of two of one kind and material the first counts.
@@ -157,50 +172,42 @@ impl<T: Drop> OpenedSet<T> {
 }
 
 impl<T: OpenTable> OpenedSet<T> {
-    /// Returns the number of the first table of a kind for the men of a placement.
-    fn find(&self, kind: Kind, placement: &Placement) -> Result<usize, Missing>
-        ensures found { IfOk result (λ n. first_for T.opened kind placement.now self.now ≡ slice_get self.now n) }
-        ensures kind { IfOk result (λ n. IsSomeAnd (slice_get self.now n) (λ t. (T.opened t).index.kind ≡ kind)) }
-        ensures none { IfErr result (λ missing. first_for T.opened kind placement.now self.now ≡ None) }
-        ensures missing { IfErr result (λ missing. missing ≡ record { material = material_of placement.now.placed_men; kind = kind; reason = Table }) }
+    /// Returns the number of the first table of a kind for these men.
+    fn find(&self, kind: Kind, men: &PlacedMen<'_>) -> Option<usize>
+        ensures found { IfSome result (λ n. first_for T.opened kind men.now self.now ≡ slice_get self.now n) }
+        ensures kind { IfSome result (λ n. IsSomeAnd (slice_get self.now n) (λ t. (T.opened t).index.kind ≡ kind)) }
+        ensures none { IfNone result (first_for T.opened kind men.now self.now ≡ None) }
     {
-        match first_for(&self.tables, kind, &PlacedMen::of(placement)) {
-            Some(n) => Ok(n),
-            None => Err(Missing {
-                material: placement.material(),
-                kind,
-                reason: MissingReason::Table,
-            }),
-        }
+        first_for(&self.tables, kind, men)
     }
 
-    /// Returns the class of a placement in the table of this number.
-    fn class_at(&mut self, n: usize, placement: &Placement) -> Result<Class, MissingReason>
+    /// Returns the class of a placement's men in the table of this number.
+    fn class_at(&mut self, n: usize, men: &PlacedMen<'_>) -> Result<Class, MissingReason>
         requires { n < length self.old }
         ensures same { self.new ≡ self.old }
-        ensures class { IfOk result (λ k. option_and_then (λ t. class_in placement.now (T.opened t)) (slice_get self.old n) ≡ Some k) }
-        ensures none { IfErr result (λ reason. option_and_then (λ t. class_in placement.now (T.opened t)) (slice_get self.old n) ≡ None) }
-        ensures reason { IfErr result (λ reason. IfSome (slice_get self.old n) (λ t. IsReasonIn (T.explains t) placement.now (T.opened t) reason)) }
+        ensures class { IfOk result (λ k. option_and_then (λ t. class_in men.now (T.opened t)) (slice_get self.old n) ≡ Some k) }
+        ensures none { IfErr result (λ reason. option_and_then (λ t. class_in men.now (T.opened t)) (slice_get self.old n) ≡ None) }
+        ensures reason { IfErr result (λ reason. IfSome (slice_get self.old n) (λ t. IsReasonIn (T.explains t) men.now (T.opened t) reason)) }
     {
-        class_in(&mut self.tables[n], placement)
+        class_in(&mut self.tables[n], men)
     }
 
-    /// Returns the number of a placement in a class in the table of this number. None if the table stores the other side
-    /// to move.
+    /// Returns the number of a placement's men in a class in the table of this number. None if the table stores the other
+    /// side to move.
     fn number_at(
         &mut self,
         n: usize,
-        placement: &Placement,
+        men: &PlacedMen<'_>,
         class: Class,
     ) -> Result<Option<u32>, MissingReason>
         requires { IsSomeAnd (slice_get self.old n) (λ t. (T.opened t).index.kind ≡ Kind.Dtz) }
         ensures same { self.new ≡ self.old }
-        ensures number { IfOk result (λ o. option_and_then (λ t. number_in placement.now class (T.opened t)) (slice_get self.old n) ≡ Some o) }
+        ensures number { IfOk result (λ o. option_and_then (λ t. number_in men.now class (T.opened t)) (slice_get self.old n) ≡ Some o) }
         ensures few { IfOk result (λ o. ForSome o (λ plies. plies < 2 ^ 31)) }
-        ensures none { IfErr result (λ reason. option_and_then (λ t. number_in placement.now class (T.opened t)) (slice_get self.old n) ≡ None) }
-        ensures reason { IfErr result (λ reason. IfSome (slice_get self.old n) (λ t. IsReasonIn (T.explains t) placement.now (T.opened t) reason)) }
+        ensures none { IfErr result (λ reason. option_and_then (λ t. number_in men.now class (T.opened t)) (slice_get self.old n) ≡ None) }
+        ensures reason { IfErr result (λ reason. IfSome (slice_get self.old n) (λ t. IsReasonIn (T.explains t) men.now (T.opened t) reason)) }
     {
-        number_in(&mut self.tables[n], placement, class)
+        number_in(&mut self.tables[n], men, class)
     }
 }
 
@@ -221,20 +228,16 @@ impl<T: OpenTable> Tables for OpenedSet<T> {
         ensures fault { IfErr result (λ missing. IsMissing (opened_classes T.opened self.old) (opened_numbers T.opened self.old) missing position.now.placed_men position.now.mover) }
         ensures reason { IfErr result (λ missing. IsReason T.opened T.explains missing.kind (board_of position.now.placed_men position.now.mover) self.old missing.reason) }
     {
-        let Some(placement) = position.placement() else {
+        let Some(men) = position.placed_men() else {
             unreachable!()
         };
-        let n = match self.find(Kind::Wdl, &placement) {
-            Ok(n) => n,
-            Err(missing) => return Err(missing),
+        let n = match self.find(Kind::Wdl, &men) {
+            Some(n) => n,
+            None => return Err(missing(position, Kind::Wdl, MissingReason::Table)),
         };
-        match self.class_at(n, &placement) {
+        match self.class_at(n, &men) {
             Ok(class) => Ok(class),
-            Err(reason) => Err(Missing {
-                material: placement.material(),
-                kind: Kind::Wdl,
-                reason,
-            }),
+            Err(reason) => Err(missing(position, Kind::Wdl, reason)),
         }
     }
 }
@@ -250,20 +253,16 @@ impl<T: OpenTable> DistanceTables for OpenedSet<T> {
         ensures none { IfErr result (λ missing. opened_numbers T.opened self.old position.now.placed_men position.now.mover class ≡ None) }
         ensures reason { IfErr result (λ missing. IsReason T.opened T.explains missing.kind (board_of position.now.placed_men position.now.mover) self.old missing.reason) }
     {
-        let Some(placement) = position.placement() else {
+        let Some(men) = position.placed_men() else {
             unreachable!()
         };
-        let n = match self.find(Kind::Dtz, &placement) {
-            Ok(n) => n,
-            Err(missing) => return Err(missing),
+        let n = match self.find(Kind::Dtz, &men) {
+            Some(n) => n,
+            None => return Err(missing(position, Kind::Dtz, MissingReason::Table)),
         };
-        match self.number_at(n, &placement, class) {
+        match self.number_at(n, &men, class) {
             Ok(number) => Ok(number),
-            Err(reason) => Err(Missing {
-                material: placement.material(),
-                kind: Kind::Dtz,
-                reason,
-            }),
+            Err(reason) => Err(missing(position, Kind::Dtz, reason)),
         }
     }
 }

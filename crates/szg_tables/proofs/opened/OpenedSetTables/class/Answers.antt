@@ -1,51 +1,52 @@
-use Rattle.std.proofs.Common.{◌∙◌, ap, refl}
+use Rattle.std.proofs.Common.{refl}
 use Rattle.std.specs.Prelude.{None}
-use Rattle.szg_values.specs.Placement.{Board, material_of}
+use Rattle.szg_values.specs.Placement.{material_of}
 use Rattle.szg_values.specs.declared.Kind.TheVariants.{Wdl}
 use Rattle.szg_tables.specs.Opened.{opened_classes, opened_numbers}
+use Rattle.szg_tables.specs.Stored.{board_of}
 use Rattle.szg_tables.specs.declared.MissingReason.TheVariants.{Table}
 use Rattle.szg_tables.proofs.OpenedSets.{class_by, reason_at, reason_nowhere}
 use Rattle.szg_tables.proofs.Stored.{is_missing, placed_is}
 use Rattle.szg_tables.proofs.opened.OpenedSetTables.class.Goals as goal
 
+pub returns-in-None-clause-fault : goal.returns-in-None-clause-fault
+returns-in-None-clause-fault g c =
+    let men = c.args.position.now.placed_men in
+    let mover = c.args.position.now.mover in
+    let board = c.in-Some.men in
+    let is = placed_is men mover c.placed_men.result board c.placed_men.ensures.placed c.requires c.in-Some.is in
+    is_missing Wdl c.missing.result Table (opened_classes g.T.OpenTable.opened c.args.self.now) (opened_numbers g.T.OpenTable.opened c.args.self.now) men mover (board_of men mover) refl c.missing.ensures
+    (class_by g.T.OpenTable.opened c.args.self.now men mover board is None None c.in-None.ensures.none refl)
+
 pub returns-in-Err-clause-fault : goal.returns-in-Err-clause-fault
 returns-in-Err-clause-fault g c =
     let men = c.args.position.now.placed_men in
     let mover = c.args.position.now.mover in
-    let tables = c.args.self.now in
-    let board = c.in-Some.placement in
-    let is = placed_is men mover c.placement.result board c.placement.ensures.placed c.requires c.in-Some.is in
-    is_missing Wdl c.in-Err.missing Table (opened_classes g.T.OpenTable.opened tables) (opened_numbers g.T.OpenTable.opened tables) men mover board is c.in-Err.ensures.missing
-    (class_by g.T.OpenTable.opened tables men mover board is None None c.in-Err.ensures.none refl)
+    let board = c.in-Some.men in
+    let is = placed_is men mover c.placed_men.result board c.placed_men.ensures.placed c.requires c.in-Some.is in
+    is_missing Wdl c.missing-in-Err.result c.in-Err.reason (opened_classes g.T.OpenTable.opened c.args.self.now) (opened_numbers g.T.OpenTable.opened c.args.self.now) men mover (board_of men mover) refl c.missing-in-Err.ensures
+    (class_by g.T.OpenTable.opened c.args.self.now men mover board is _ _ c.in-Some-find.ensures.found c.in-Err.ensures.none)
 
-pub returns-in-Ok-class_at-clause-class : goal.returns-in-Ok-class_at-clause-class
-returns-in-Ok-class_at-clause-class g c =
+pub returns-in-Ok-clause-class : goal.returns-in-Ok-clause-class
+returns-in-Ok-clause-class g c =
     let men = c.args.position.now.placed_men in
     let mover = c.args.position.now.mover in
-    let board = c.in-Some.placement in
-    let is = placed_is men mover c.placement.result board c.placement.ensures.placed c.requires c.in-Some.is in
-    class_by g.T.OpenTable.opened c.args.self.now men mover board is _ _ c.in-Ok.ensures.found c.in-Ok-class_at.ensures.class
+    let board = c.in-Some.men in
+    let is = placed_is men mover c.placed_men.result board c.placed_men.ensures.placed c.requires c.in-Some.is in
+    class_by g.T.OpenTable.opened c.args.self.now men mover board is _ _ c.in-Some-find.ensures.found c.in-Ok.ensures.class
 
-pub returns-in-Err-class_at-clause-fault : goal.returns-in-Err-class_at-clause-fault
-returns-in-Err-class_at-clause-fault g c =
+pub returns-in-None-clause-reason : goal.returns-in-None-clause-reason
+returns-in-None-clause-reason g c =
     let men = c.args.position.now.placed_men in
     let mover = c.args.position.now.mover in
-    let board = c.in-Some.placement in
-    let is = placed_is men mover c.placement.result board c.placement.ensures.placed c.requires c.in-Some.is in
-    (c.material.ensures ∙ ap (λ (b : Board). material_of b.placed_men) is, class_by g.T.OpenTable.opened c.args.self.now men mover board is _ _ c.in-Ok.ensures.found c.in-Err-class_at.ensures.none)
+    let board = c.in-Some.men in
+    let is = placed_is men mover c.placed_men.result board c.placed_men.ensures.placed c.requires c.in-Some.is in
+    reason_nowhere g.T.OpenTable.opened g.T.OpenTable.explains Wdl c.args.self.now men mover board is c.missing.result (material_of men) c.missing.ensures c.in-None.ensures.none
 
 pub returns-in-Err-clause-reason : goal.returns-in-Err-clause-reason
 returns-in-Err-clause-reason g c =
     let men = c.args.position.now.placed_men in
     let mover = c.args.position.now.mover in
-    let board = c.in-Some.placement in
-    let is = placed_is men mover c.placement.result board c.placement.ensures.placed c.requires c.in-Some.is in
-    reason_nowhere g.T.OpenTable.opened g.T.OpenTable.explains Wdl c.args.self.now men mover board is c.in-Err.missing c.in-Err.ensures.missing c.in-Err.ensures.none
-
-pub returns-in-Err-class_at-clause-reason : goal.returns-in-Err-class_at-clause-reason
-returns-in-Err-class_at-clause-reason g c =
-    let men = c.args.position.now.placed_men in
-    let mover = c.args.position.now.mover in
-    let board = c.in-Some.placement in
-    let is = placed_is men mover c.placement.result board c.placement.ensures.placed c.requires c.in-Some.is in
-    reason_at g.T.OpenTable.opened g.T.OpenTable.explains Wdl c.args.self.now men mover board is _ _ c.in-Ok.ensures.found c.in-Ok.ensures.kind c.in-Err-class_at.ensures.reason
+    let board = c.in-Some.men in
+    let is = placed_is men mover c.placed_men.result board c.placed_men.ensures.placed c.requires c.in-Some.is in
+    reason_at g.T.OpenTable.opened g.T.OpenTable.explains Wdl c.args.self.now men mover board is c.missing-in-Err.result (material_of men) c.in-Some-find.n c.in-Err.reason c.missing-in-Err.ensures c.in-Some-find.ensures.found c.in-Some-find.ensures.kind c.in-Err.ensures.reason
