@@ -1,17 +1,22 @@
 //! Results of positions over folders of tables in memory.
 
+ghost use Rattle.std.specs.Prelude.{None};
+
 use crate::helpers::{made, position};
 use std::alloc::{AllocError, Global};
+use std::io::{Error, ErrorKind};
+use std::mem::replace;
 use std::process::Abort;
 use szg_chess::Position;
 use szg_file::{Table, read_bytes};
-use szg_files::{MemoryFile, MemoryFiles};
+use szg_files::{FileFault, FileSystem, MemoryFile, MemoryFiles};
 use szg_fixtures::{
     Fixture, kbvk_wdl_constant, knvkp_wdl_constant, kqvk_dtz_packed, kqvk_wdl_true_but_for_ends,
     kqvk_wdl_unpaired,
 };
+use szg_io::Bytes;
 use szg_place::index_of;
-use szg_results::{Folders, board_of, probe_position, stop_text};
+use szg_results::{Folders, ResultStop, board_of, probe_position, stop_text};
 use szg_tables::TableSet;
 use szg_values::Material;
 
@@ -370,4 +375,78 @@ fn answers_of_whole_tables(rt: HostRuntime) {
     made(&rt, tables.push(table_in(&rt, &dtz)));
     let files = [at("t/KQvK.rtbw", &wdl), at("t/KQvK.rtbz", &dtz)];
     check_answers(&rt, &files, &tables);
+}
+
+/// Files of which nothing is specified: a WDL table's file, whose bytes may be others when it is opened again, and no
+/// readable DTZ table's.
+#[derive(Drop)]
+struct Unsteady<'a> {
+    /// The bytes when the file is opened next.
+    next: &'a [u8],
+    /// The bytes afterwards.
+    later: &'a [u8],
+    /// Why a DTZ table's file isn't opened.
+    kind: ErrorKind,
+    failures: u64,
+}
+
+impl<'a> FileSystem for Unsteady<'a> {
+    type File = Bytes<'a>;
+
+    ghost content = { λ system path. None };
+
+    ghost failures = { λ system. system.failures };
+
+    fn open(&mut self, path: &str) -> Result<Bytes<'a>, FileFault> {
+        if path.ends_with(".rtbw") {
+            return Ok(Bytes::new(replace(&mut self.next, self.later)));
+        }
+        self.failures = self.failures.saturating_add(1);
+        Err(FileFault::System(Error::from(self.kind)))
+    }
+
+    fn len(&self, file: &Bytes<'a>) -> Result<u64, FileFault> {
+        Ok(file.left().len() as u64)
+    }
+
+    fn skip(&self, file: Bytes<'a>, count: u64) -> Result<Bytes<'a>, FileFault> {
+        let left = file.left();
+        let first = count.min(left.len() as u64) as usize;
+        Ok(Bytes::new(&left[first..]))
+    }
+}
+
+/// The system's error that a probe meets. None if it meets none.
+fn error_met(
+    rt: &(impl Abort + Alloc<A = Global>),
+    bytes: &[u8],
+    later: &[u8],
+    kind: ErrorKind,
+) -> Option<ErrorKind> {
+    let mut system = Unsteady {
+        next: bytes,
+        later,
+        kind,
+        failures: 0,
+    };
+    let mut folders = Folders::new(rt.alloc(), &["t"]);
+    match folders.line(rt.alloc(), &mut system, MATE_IN_ONE) {
+        Err(ResultStop::Failed(FileFault::System(error))) => Some(error.kind()),
+        _ => None,
+    }
+}
+
+/// A file with another length than before is not read, and one that can't be read isn't absent.
+#[test]
+fn files_that_change_or_fail(rt: HostRuntime) {
+    let file = made(&rt, lone_word(rt.alloc()));
+    let mut longer = made(&rt, lone_word(rt.alloc()));
+    made(&rt, longer.bytes.push(0));
+    let absent = ErrorKind::NotFound;
+    assert!(rt; error_met(&rt, &file.bytes, &file.bytes, absent).is_none());
+    assert!(rt;
+        error_met(&rt, &file.bytes, &longer.bytes, absent) == Some(ErrorKind::UnexpectedEof)
+    );
+    let denied = ErrorKind::PermissionDenied;
+    assert!(rt; error_met(&rt, &file.bytes, &file.bytes, denied) == Some(denied));
 }

@@ -34,18 +34,42 @@ fn verified(rt: &impl Abort, tables: &[Table], name: &str) -> Result<Walked, Ver
     verify_tables(tables, &materials, &mut cells, &mut Blind)
 }
 
+/// Keeps the number of positions that it sees at the end of each of two materials.
+#[derive(Drop)]
+struct Ends {
+    positions: [u64; 2],
+    seen: usize,
+}
+
+impl Watcher for Ends {
+    fn see_progress(&mut self, _material: &Material, done: u64, to: u64, positions: u64) {
+        if done == to && self.seen < 2 {
+            self.positions[self.seen] = positions;
+            self.seen += 1;
+        }
+    }
+}
+
 // Neither a knight nor a bishop can win. Another program counted the positions: White's king on a1 to d4, each side to
 // move, and the other side not in check.
 #[test]
 fn drawn_materials_pass(rt: HostRuntime) {
-    for (name, file, positions) in [
-        ("KNvK", knvk_wdl_constant(rt.alloc()), 107_360),
-        ("KBvK", kbvk_wdl_constant(rt.alloc()), 104_307),
-    ] {
-        let walked = made(&rt, verified(&rt, &[table(&rt, file)], name));
-        assert!(rt; walked.refused.is_none(), "{name}");
-        assert_eq!(rt; walked.positions, positions, "{name}");
-    }
+    let knight = made(&rt, Material::parse("KNvK"));
+    let bishop = made(&rt, Material::parse("KBvK"));
+    let tables = [
+        table(&rt, knvk_wdl_constant(rt.alloc())),
+        table(&rt, kbvk_wdl_constant(rt.alloc())),
+    ];
+    let mut ends = Ends {
+        positions: [0, 0],
+        seen: 0,
+    };
+    let mut cells = [Cell::default(); 1024];
+    let found = verify_tables(&tables, &[knight, bishop], &mut cells, &mut ends);
+    let walked = made(&rt, found);
+    assert!(rt; walked.refused.is_none());
+    assert_eq!(rt; walked.positions, 107_360 + 104_307);
+    assert!(rt; ends.positions == [107_360, 104_307]);
 }
 
 /// White doesn't win. All men are on one diagonal, so no other position that is checked is an image of this one.

@@ -1,12 +1,14 @@
 -- Lists of materials that are not verified.
-use Rattle.std.proofs.Common.{ℕ, ◌≡◌, ◌<◌, List, [], ◌∷◌, ◌++◌, length, refl, sym, ap, subst, Bool, true, false, get_or, All, Contains, Option, Some, None}
-use Rattle.std.specs.Prelude.{◌&&◌, not, IsNone, IsSome}
-use Rattle.std.proofs.lemmas.List.{map-append}
+use Rattle.std.proofs.Common.{ℕ, suc, ◌≡◌, ◌∙◌, ◌+◌, ◌<◌, ◌≤◌, List, [], ◌∷◌, ◌++◌, length, refl, sym, ap, subst, Bool, true, false, arith, inl, inr, get_or, drop, All, Contains, Option, Some, None}
+use Rattle.std.specs.Prelude.{◌&&◌, not, find, IsNone, IsSome, if◌then◌else◌}
+use Rattle.std.proofs.lemmas.Bool.{cases_Bool}
+use Rattle.std.proofs.lemmas.List.{drop_all, drop_more, map-append}
 use Rattle.std.proofs.lemmas.List.Elements.{All-push, Contains-append_left}
 use Rattle.szg_values.specs.Material.{Sides}
 use Rattle.szg_file.specs.Held.{Shown}
 use Rattle.szg_game.specs.Game.{is_empty}
 use Rattle.szg_chess.proofs.Images.Men.{contains_map}
+use Rattle.szg_verify.specs.Materials.{leads_to}
 use Rattle.szg_verify.specs.Walk.{colored_men, number_count}
 use Rattle.szg_verified.specs.declared.verifying.Cause.{Cause}
 use Rattle.szg_verified.specs.declared.verifying.Cause.TheVariants.{Refused, NoTable, Missing, Unchecked}
@@ -55,6 +57,33 @@ pushed tables materials us next u e before here =
 -- the material of one that is not verified
 pub material_in : (us : List Unverified) (i : ℕ) (u : Unverified) (s : Sides) → i < length us → u ≡ get_or us i u → s ≡ u.material → Contains (materials_in us) s
 material_in us i u s less is same = subst (Contains (materials_in us)) (sym same) (contains_map (λ (v : Unverified). v.material) us u (i, less, sym is))
+
+-- the first to which a material leads
+leads_of : (p : Sides → Bool) (xs : List Sides) (x : Sides) → find p xs ≡ Some x → (p x ≡ true) × Contains xs x
+leads_of p [] x e = let no : None ≡ Some x = e in absurd (cc no)
+leads_of p (y ∷ ys) x e = elim (cases_Bool (p y)) [
+  | inl t ↦ (let same : Some y ≡ Some x = rw t at e in let is : y ≡ x = cc same in (ap p (sym is) ∙ t, (0, omega arith, is)))
+  | inr f ↦ (let rest = leads_of p ys x (rw f at e) in (rest.0, (suc rest.1.0, (let less = rest.1.1 in omega (arith, less)), rest.1.2)))
+]
+
+pub leads_in : (material : Sides) (us : List Unverified) (other : Sides) → Some other ≡ find (leads_to material) (materials_in us) → (leads_to material other ≡ true) × Contains (materials_in us) other
+leads_in material us other e = leads_of (leads_to material) (materials_in us) other (sym e)
+
+module _ (material : Sides) (us : List Unverified) (i : ℕ) where
+  abbrev from : ℕ → Option Sides
+  from n = find (leads_to material) (materials_in (drop n us))
+
+  from_next : (u : Unverified) → i < length us → u ≡ get_or us i u → from i ≡ (if leads_to material u.material then Some u.material else from (i + 1))
+  from_next u less is = ap (λ (vs : List Unverified). find (leads_to material) (materials_in vs)) (drop_more us i u less ∙ ap (λ (v : Unverified). v ∷ drop (i + 1) us) (sym is))
+
+  pub leads_not : (u : Unverified) → i < length us → u ≡ get_or us i u → leads_to material u.material ≡ false → find (leads_to material) (materials_in us) ≡ from i → find (leads_to material) (materials_in us) ≡ from (i + 1)
+  leads_not u less is fails so-far = so-far ∙ from_next u less is ∙ rw fails refl
+
+  pub leads_here : (u : Unverified) → i < length us → u ≡ get_or us i u → leads_to material u.material ≡ true → find (leads_to material) (materials_in us) ≡ from i → Some u.material ≡ find (leads_to material) (materials_in us)
+  leads_here u less is passes so-far = sym (so-far ∙ from_next u less is ∙ rw passes refl)
+
+  pub leads_nowhere : length us ≤ i → find (leads_to material) (materials_in us) ≡ from i → None ≡ find (leads_to material) (materials_in us)
+  leads_nowhere past so-far = sym (so-far ∙ ap (λ (vs : List Unverified). find (leads_to material) (materials_in vs)) (drop_all i us past))
 
 one_is_not_empty : (us : List Unverified) (u : Unverified) → is_empty (us ++ u ∷ []) ≡ false
 one_is_not_empty [] u = refl

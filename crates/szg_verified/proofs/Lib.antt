@@ -1,3 +1,6 @@
 mod Answers
 mod Causes
+mod Covered
 mod Materials
+mod Reading
+mod SameFolder

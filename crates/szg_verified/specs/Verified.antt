@@ -1,7 +1,8 @@
 -- What a verification that finds no fault says of tables.
-use Rattle.std.specs.Prelude.{ℕ, ◌≡◌, ◌+◌, ◌&&◌, not, map, All, Bool, Contains, List, [], Option, Some, IsSome, IsFalse, IsTrue, is_some, find, if◌then◌else◌}
-use Rattle.szg_values.specs.Material.{Sides}
+use Rattle.std.specs.Prelude.{ℕ, ◌≡◌, ◌+◌, ◌⊎◌, ◌&&◌, not, map, All, Bool, Contains, List, [], ◌∷◌, ◌++◌, Option, Some, IsSome, IsSomeAnd, IsFalse, IsTrue, is_some, find, string_bytes, if◌then◌else◌}
+use Rattle.szg_values.specs.Material.{IsMaterial, Sides}
 use Rattle.szg_values.specs.declared.Kind.{Kind}
+use Rattle.szg_file.specs.Accepted.{AreNumbers}
 use Rattle.szg_file.specs.Held.{Shown}
 use Rattle.szg_game.specs.Game.{is_empty}
 use Rattle.szg_game.specs.declared.Class.{Class}
@@ -21,6 +22,7 @@ use Rattle.szg_verified.specs.declared.verifying.Cause.TheVariants.{Refused, NoT
 use Rattle.szg_verified.specs.declared.verifying.Finding.{Finding}
 use Rattle.szg_verified.specs.declared.verifying.Finding.TheVariants.{Verified, Logged, Failed}
 use Rattle.szg_verified.specs.declared.verifying.Unverified.{Unverified}
+use Rattle.szg_results.specs.Folders.{AreFetched, IsAbsent, IsReadFrom}
 use Rattle.szg_results.specs.Results.{IsAnswerOf, counted}
 use Rattle.szg_results.specs.declared.results.Answer.{Answer}
 
@@ -43,6 +45,17 @@ materials_in unverified = map (λ u. u.material) unverified
 
 abbrev pub has_table : List Shown → Kind → Sides → Bool
 has_table tables kind material = is_some (find (is_for kind material) tables)
+
+-- Among these files: each of the tables is of one of the materials, and is in the file that the folder has for it; a table of
+-- the materials that is not among them is in no file.
+pub record AreReadFrom (files : List ℕ → Option (List ℕ)) (folder : List ℕ) (materials : List Sides) (tables : List Shown) : Type 0 where
+  pub each : All (λ t. Contains materials t.contents.material × IsReadFrom files (folder ∷ []) t.contents.material t.contents.kind t) tables
+  pub absent : (kind : Kind) (material : Sides) → Contains materials material → IsFalse (has_table tables kind material) → IsAbsent files (folder ∷ []) material kind
+
+-- the table of this material and kind was added, unless the folder has no file of it
+abbrev pub IsAdded : (List ℕ → Option (List ℕ)) → List ℕ → Sides → Kind → List Shown → List Shown → Type 0
+IsAdded files folder material kind old new =
+    ((t : Shown) × IsReadFrom files (folder ∷ []) material kind t × (new ≡ old ++ t ∷ [])) ⊎ (IsAbsent files (folder ∷ []) material kind × (new ≡ old))
 
 -- Why the walk over these numbers of the material did not pass. A refusal names a legal position of the material, the first
 -- that is not accepted, and a condition that it breaks over these tables. A table that is not there is not among them; if one
@@ -91,4 +104,16 @@ AnswersAreTrue = (tables : List Shown) (materials : List Sides) (fen : FenRecord
 abbrev pub ProbesAreTrue : Type 0
 ProbesAreTrue = (tables : List Shown) (materials : List Sides) (parts : List FetchedTable) (fen : FenRecord) (a : Answer) → AreTrue tables materials →
     All (IsOfTable tables) parts → IsPosition fen.position → IsTrue (covers materials fen.position.placed_men) →
+    IsAnswerOf (fetched_classes parts) (fetched_numbers parts) fen a → IsTrueAnswer fen a
+
+-- a fetched table of a material, whose file is among these files
+abbrev pub IsKnownIn : (List ℕ → Option (List ℕ)) → FetchedTable → Type 0
+IsKnownIn files t = IsMaterial t.front.index.material × IsSomeAnd (files (string_bytes t.path)) (AreNumbers 1)
+
+-- Over one folder: if the tables that were read of it are true for closed materials, the answer for a position of these, over
+-- what was fetched of the folder's files, is true.
+abbrev pub FolderIsTrue : Type 0
+FolderIsTrue = (files : List ℕ → Option (List ℕ)) (folder : List ℕ) (tables : List Shown) (materials : List Sides) (parts : List FetchedTable) (fen : FenRecord) (a : Answer) →
+    AreReadFrom files folder materials tables → All (λ sides. IsMaterial sides) materials → IsTrue (are_closed materials) → AreTrue tables materials →
+    AreFetched files (folder ∷ []) parts → All (IsKnownIn files) parts → IsPosition fen.position → IsTrue (covers materials fen.position.placed_men) →
     IsAnswerOf (fetched_classes parts) (fetched_numbers parts) fen a → IsTrueAnswer fen a

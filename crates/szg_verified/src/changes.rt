@@ -1,6 +1,6 @@
 //! What captures and promotions make of a material.
 
-ghost use Rattle.std.specs.Prelude.{OnOk, Contains};
+ghost use Rattle.std.specs.Prelude.{Contains, IfOk, OnOk};
 ghost use Rattle.szg_values.specs.Material.{Sides};
 
 use std::alloc::{AllocError, Global};
@@ -117,7 +117,9 @@ pub fn add_needed(alloc: Global, materials: &mut Vec<Material>) -> Result<(), Al
 }
 
 /// Returns a material and all that captures and promotions lead to from it, each after what it leads to.
-pub fn needed_by(alloc: Global, material: &Material) -> Result<Vec<Material>, AllocError> {
+pub fn needed_by(alloc: Global, material: &Material) -> Result<Vec<Material>, AllocError>
+    ensures { IfOk result (λ materials. Contains materials.items material.now) }
+{
     let mut materials = Vec::new(alloc);
     materials.push(material.copy())?;
     add_needed(alloc, &mut materials)?;

@@ -1,12 +1,12 @@
 //! The verification of a folder.
 
-ghost use Rattle.std.specs.Prelude.{◌≡◌, ◌<◌, [], All, Contains, IfErr, IfOk, IsNone, IsOk, IsTrue};
+ghost use Rattle.std.specs.Prelude.{◌≡◌, ◌<◌, [], All, Contains, IfErr, IfOk, IsNone, IsOk, IsTrue, List, OnOk};
 ghost use Rattle.szg_values.specs.Material.{Sides};
 ghost use Rattle.szg_verify.specs.Entries.{tables_of};
 ghost use Rattle.szg_verify.specs.Walk.{IsShardChecked};
 ghost use Rattle.szg_tables.specs.Distances.{stored_distances};
 ghost use Rattle.szg_tables.specs.Stored.{stored_classes};
-ghost use Rattle.szg_verified.specs.Verified.{AreCheckedIn, AreTrue, IsCauseInShard, IsCaused, is_whole};
+ghost use Rattle.szg_verified.specs.Verified.{AreCheckedIn, AreReadFrom, AreTrue, IsAdded, IsCauseInShard, IsCaused, is_whole};
 
 use crate::changes::{add_needed, needed_by};
 use crate::verifying::{Cause, Progress, Unverified, verify_materials, verify_shard};
@@ -134,6 +134,9 @@ pub fn verify_folder<S: FileSystem, W: Write, P: Progress>(
     ensures caused { IfOk result (λ v. All (IsCaused v.tables.items v.materials.items v.unverified.items) v.unverified.items) }
     ensures all { IfOk result (λ v. v.is_all ≡ is_whole v.materials.items v.unverified.items) }
     ensures asked { IfOk result (λ v. (m : Sides) → Contains asked.items m → Contains v.materials.items m) }
+    // The tables are those that the folder has of the materials.
+    ensures content { S.content system.new ≡ S.content system.old }
+    ensures read { IfOk result (λ v. AreReadFrom (S.content system.old) folder.now v.materials.items v.tables.items) }
 {
     let mut materials = asked;
     add_needed(alloc, &mut materials)?;
@@ -167,6 +170,8 @@ pub fn verify_folder_shard<S: FileSystem, W: Write, P: Progress>(
     ensures checked { IfOk result (λ v. IsOk v.positions → IsShardChecked (tables_of (stored_classes v.tables.items) (stored_distances v.tables.items)) material.now shard.shards shard.before) }
     // It says no with a cause: a refusal names the first of the shard's positions that breaks a condition over these tables.
     ensures caused { IfOk result (λ v. IfErr v.positions (IsCauseInShard v.tables.items material.now shard.shards shard.before)) }
+    ensures content { S.content system.new ≡ S.content system.old }
+    ensures read { IfOk result (λ v. (materials : List Sides) × Contains materials material.now × AreReadFrom (S.content system.old) folder.now materials v.tables.items) }
 {
     let materials = needed_by(alloc, material)?;
     let tables = tables_in(alloc, system, folder, &materials)?;
@@ -184,21 +189,43 @@ fn tables_in<S: FileSystem>(
     system: &mut S,
     folder: &str,
     materials: &[Material],
-) -> Result<Vec<Table>, ResultStop> {
+) -> Result<Vec<Table>, ResultStop>
+    ensures content { S.content system.new ≡ S.content system.old }
+    ensures read { IfOk result (λ tables. AreReadFrom (S.content system.old) folder.now materials.now tables.items) }
+{
     let mut tables = Vec::new(alloc);
-    for material in materials {
-        for kind in [Kind::Wdl, Kind::Dtz] {
-            let missing = Missing {
-                material: material.copy(),
-                kind,
-                reason: MissingReason::Table,
-            };
-            if let Some(table) = read_missing(alloc, system, &[folder], &missing)? {
-                if tables.push(table).is_err() {
-                    return Err(ResultStop::Memory);
-                }
-            }
-        }
+    'materials: for material in materials {
+        add_table(alloc, system, folder, material, Kind::Wdl, &mut tables)?;
+        add_table(alloc, system, folder, material, Kind::Dtz, &mut tables)?;
     }
     Ok(tables)
+}
+
+/// Reads the table of a material and kind that a folder has, if it has one, and adds it.
+///
+/// Errors: those of `tables_in`.
+#[tactic(auto, using(crate::proofs::Reading::added, crate::proofs::Reading::not_added))]
+fn add_table<S: FileSystem>(
+    alloc: Global,
+    system: &mut S,
+    folder: &str,
+    material: &Material,
+    kind: Kind,
+    tables: &mut Vec<Table>,
+) -> Result<(), ResultStop>
+    ensures content { S.content system.new ≡ S.content system.old }
+    ensures added { OnOk result (IsAdded (S.content system.old) folder.now material.now kind tables.old.items tables.new.items) }
+{
+    let missing = Missing {
+        material: material.copy(),
+        kind,
+        reason: MissingReason::Table,
+    };
+    match read_missing(alloc, system, &[folder], &missing)? {
+        Some(table) => match tables.push(table) {
+            Ok(()) => Ok(()),
+            Err(_) => Err(ResultStop::Memory),
+        },
+        None => Ok(()),
+    }
 }

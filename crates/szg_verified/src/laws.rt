@@ -1,6 +1,6 @@
 //! Laws of tables that are true.
 
-ghost use Rattle.szg_verified.specs.Verified.{AnswersAreTrue, ProbesAreTrue};
+ghost use Rattle.szg_verified.specs.Verified.{AnswersAreTrue, FolderIsTrue, ProbesAreTrue};
 
 use szg_results::laws::answers_of_tables;
 
@@ -18,3 +18,9 @@ pub fn probes_are_true()
     answers_of_tables();
     answers_are_true();
 }
+
+/// If the tables that `verify_folder` read of a folder are all verified, then for each position of their materials the answer
+/// over what was fetched of the same files, which `szg probe` writes, is its class in chess.
+pub fn folder_is_true()
+    ensures { FolderIsTrue }
+{}

@@ -1,6 +1,6 @@
 //! The verification of materials over tables in memory.
 
-ghost use Rattle.std.specs.Prelude.{◌≡◌, ◌<◌, [], All, Contains, IfErr, IfOk, IfSome, IsNone, IsOk, IsTrue, List, ℕ};
+ghost use Rattle.std.specs.Prelude.{◌≡◌, ◌<◌, [], All, IfErr, IfOk, IfSome, IsNone, IsOk, IsTrue, List, find, ℕ};
 ghost use Rattle.szg_values.specs.Material.{Sides};
 ghost use Rattle.szg_game.specs.Game.{is_empty};
 ghost use Rattle.szg_verify.specs.Entries.{tables_of};
@@ -226,7 +226,9 @@ fn verify_material<P: Progress>(
     digest: &str,
     progress: &mut P,
 ) -> Result<Finding, AllocError>
-    ensures { IfOk result (λ found. IsFinding tables.now unverified.now log.entry material.now found) }
+    ensures found { IfOk result (λ found. IsFinding tables.now unverified.now log.entry material.now found) }
+    // A material that leads to one that is not verified is not looked at.
+    ensures unchecked { IfOk result (λ found. IfSome (find (leads_to material.now) (materials_in unverified.now)) (λ other. found ≡ Finding.Failed (Cause.Unchecked other))) }
 {
     walk_is_whole();
     if let Some(other) = first_unverified(material, unverified) {
@@ -305,10 +307,9 @@ fn lack_of(tables: &[Table], missing: Missing) -> Cause
 
 /// Returns the first material that is not verified and to which a capture or a promotion leads.
 fn first_unverified(material: &Material, unverified: &[Unverified]) -> Option<Material>
-    ensures leads { IfSome result (λ other. IsTrue (leads_to material.now other)) }
-    ensures unverified { IfSome result (λ other. Contains (materials_in unverified.now) other) }
+    ensures { result ≡ find (leads_to material.now) (materials_in unverified.now) }
 {
-    for other in unverified {
+    'unverified: for other in unverified {
         if leads_to(material, &other.material) {
             return Some(other.material.copy());
         }

@@ -1,11 +1,15 @@
-use Rattle.std.proofs.Common.{ℕ, subst}
+use Rattle.std.proofs.Common.{ℕ, sym, subst, ◌∙◌}
 use Rattle.std.specs.Prelude.{IfErr, Result}
 use Rattle.szg_verified.specs.Verified.{IsCause}
 use Rattle.szg_verified.specs.declared.verifying.Cause.{Cause}
+use Rattle.szg_verified.proofs.Causes.{leads_in}
 use Rattle.szg_verified.proofs.verifying.verify_material.Goals as goal
 
-pub returns-in-Err : goal.returns-in-Err
-returns-in-Err g c =
+pub returns-in-Err-clause-found : goal.returns-in-Err-clause-found
+returns-in-Err-clause-found g c =
     let tables = c.args.tables.now in let unverified = c.args.unverified.now in let sides = c.args.material.now in
     subst (λ (to : ℕ). IsCause tables unverified sides 0 to c.in-Err.cause) c.number_count-count.ensures.count
     (subst (λ (walked : Result ℕ Cause). IfErr walked (λ cause. IsCause tables unverified sides 0 c.number_count-count.result cause)) c.in-Err.is (c.in_ok-walked.ensures.cause unverified))
+
+pub returns-in-Some-clause-found : goal.returns-in-Some-clause-found
+returns-in-Some-clause-found g c = leads_in c.args.material.now c.args.unverified.now c.in-Some.other (sym c.in-Some.is ∙ c.first_unverified.ensures)

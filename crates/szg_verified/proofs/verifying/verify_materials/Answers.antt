@@ -21,7 +21,7 @@ materials-preserved g c =
     let before = c.materials.invariant in
     let found = c.in_ok-found.found in
     let item = c.material-item.result in
-    let is = subst (λ (us : List Unverified). IsFinding tables us c.args.log item found) c.deref.ensures.value c.in_ok-found.ensures in
+    let is = subst (λ (us : List Unverified). IsFinding tables us c.args.log item found) c.deref.ensures.value c.in_ok-found.ensures.found in
     elim c.match-found.branch [
       | in-Verified w ↦ (
           let none_more = ap (λ z. z.items) w.unverified-is in
