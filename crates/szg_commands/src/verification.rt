@@ -122,6 +122,6 @@ pub(crate) fn run_verify(
         log: asked.log,
         shard: asked.shard,
     };
-    let verified = run_verification(rt.alloc(), machine, asked, &mut output, progress);
-    status_of(rt, &outcome_of(verified))
+    let run = run_verification(rt.alloc(), machine, asked, &mut output, progress);
+    status_of(rt, &outcome_of(run.map(|run| run.is_passed())))
 }

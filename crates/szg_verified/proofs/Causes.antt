@@ -1,10 +1,11 @@
 -- Lists of materials that are not verified.
 use Rattle.std.proofs.Common.{ℕ, suc, ◌≡◌, ◌∙◌, ◌+◌, ◌<◌, ◌≤◌, List, [], ◌∷◌, ◌++◌, length, refl, sym, ap, subst, Bool, true, false, arith, inl, inr, get_or, drop, All, Contains, Option, Some, None}
-use Rattle.std.specs.Prelude.{◌&&◌, not, find, IsNone, IsSome, if◌then◌else◌}
+use denote.Ref.{Bor}
+use Rattle.std.specs.Prelude.{◌&&◌, not, find, IsNone, if◌then◌else◌}
 use Rattle.std.proofs.lemmas.Bool.{cases_Bool}
 use Rattle.std.proofs.lemmas.List.{drop_all, drop_more, map-append}
 use Rattle.std.proofs.lemmas.List.Elements.{All-push, Contains-append_left}
-use Rattle.szg_values.specs.Material.{Sides}
+use Rattle.szg_values.specs.Material.{Sides, name_of}
 use Rattle.szg_file.specs.Held.{Shown}
 use Rattle.szg_game.specs.Game.{is_empty}
 use Rattle.szg_chess.proofs.Images.Men.{contains_map}
@@ -15,22 +16,34 @@ use Rattle.szg_verified.specs.declared.verifying.Cause.TheVariants.{Refused, NoT
 use Rattle.szg_verified.specs.declared.verifying.Finding.{Finding}
 use Rattle.szg_verified.specs.declared.verifying.Finding.TheVariants.{Verified, Logged, Failed}
 use Rattle.szg_verified.specs.declared.verifying.Unverified.{Unverified}
-use Rattle.szg_verified.specs.Verified.{AreCheckedIn, AreTrue, IsCause, IsCauseOf, IsCaused, IsCheckedIn, IsFinding, materials_in}
+use Rattle.szg_verified.specs.Verified.{AreCheckedIn, AreTrue, IsCause, IsCauseOf, IsCaused, IsCheckedIn, IsFinding, IsLoggedIn, materials_in}
+use Rattle.szg_verified.specs.Digests.{IsDigestOf}
+use Rattle.szg_verified.specs.Logs.{AreRecorded}
 
 -- what is found of a material that is found to be verified, or not
-pub verified_as : (tables : List Shown) (us : List Unverified) {L : Type 0} (log : Option L) (sides : Sides) (found : Finding) (positions : ℕ) → found ≡ Verified positions → IsFinding tables us log sides found → IsCheckedIn tables sides
+pub verified_as : (tables : List Shown) (us : List Unverified) (log : Option (Bor (List ℕ))) (sides : Sides) (found : Finding) (positions : ℕ) → found ≡ Verified positions → IsFinding tables us log sides found → IsCheckedIn tables sides
 verified_as tables us log sides found positions e h = subst (IsFinding tables us log sides) e h
 
-pub failed_as : (tables : List Shown) (us : List Unverified) {L : Type 0} (log : Option L) (sides : Sides) (found : Finding) (cause : Cause) → found ≡ Failed cause → IsFinding tables us log sides found → IsCauseOf tables us sides cause
+pub failed_as : (tables : List Shown) (us : List Unverified) (log : Option (Bor (List ℕ))) (sides : Sides) (found : Finding) (cause : Cause) → found ≡ Failed cause → IsFinding tables us log sides found → IsCauseOf tables us sides cause
 failed_as tables us log sides found cause e h = subst (IsFinding tables us log sides) e h
 
--- without a log nothing is logged
-not_some : {P L : Type 0} (o : Option L) → IsNone o → IsSome o → P
-not_some None none some = absurd cc
-not_some (Some x) none some = absurd cc
+pub logged_as : (tables : List Shown) (us : List Unverified) (log : Option (Bor (List ℕ))) (sides : Sides) (found : Finding) (positions : ℕ) → found ≡ Logged positions → IsFinding tables us log sides found → IsLoggedIn log tables sides
+logged_as tables us log sides found positions e h = subst (IsFinding tables us log sides) e h
 
-pub logged_by : {P : Type 0} (tables : List Shown) (us : List Unverified) {L : Type 0} (log : Option L) (sides : Sides) (found : Finding) (positions : ℕ) → found ≡ Logged positions → IsFinding tables us log sides found → IsNone log → P
-logged_by tables us log sides found positions e h none = not_some log none (subst (IsFinding tables us log sides) e h)
+-- a material that a log has
+pub logged_in : (log : Option (Bor (List ℕ))) (text : Bor (List ℕ)) (tables : List Shown) (sides : Sides) (name digest : List ℕ) → log ≡ Some text → name ≡ name_of sides → IsDigestOf tables sides digest → AreRecorded text.now name digest → IsLoggedIn log tables sides
+logged_in log text tables sides name digest e d of recorded =
+    subst (λ (o : Option (Bor (List ℕ))). IsLoggedIn o tables sides) (sym e) (digest, of, subst (λ (n : List ℕ). AreRecorded text.now n digest) d recorded)
+
+pub one_more_logged : (log : Option (Bor (List ℕ))) (tables : List Shown) (materials next : List Sides) (one s : Sides) → next ≡ materials ++ s ∷ [] → s ≡ one → All (IsLoggedIn log tables) materials → IsLoggedIn log tables one → All (IsLoggedIn log tables) next
+one_more_logged log tables materials next one s e d all here =
+    subst (All (IsLoggedIn log tables)) (sym e) (All-push (IsLoggedIn log tables) materials s all (subst (IsLoggedIn log tables) (sym d) here))
+
+-- without a log nothing is logged
+pub none_logged : (log : Option (Bor (List ℕ))) (tables : List Shown) (materials : List Sides) → All (IsLoggedIn log tables) materials → IsNone log → materials ≡ []
+none_logged log tables [] all none = refl
+none_logged None tables (m ∷ ms) all none = absurd (all 0 m (omega arith))
+none_logged (Some text) tables (m ∷ ms) all none = absurd cc
 
 -- a cause stays one when more is not verified
 later : (tables : List Shown) (us more : List Unverified) (sides : Sides) (from to : ℕ) (cause : Cause) → IsCause tables us sides from to cause → IsCause tables (us ++ more) sides from to cause

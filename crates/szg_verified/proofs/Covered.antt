@@ -1,13 +1,11 @@
 -- What is probed of positions of some materials rests on the classes that are stored for these materials.
-use Rattle.std.proofs.Common.{◌≡◌, ◌∙◌, ℕ, zero, suc, ◌<◌, ◌≤◌, ◌+◌, List, length, map, refl, ap, sym, Bool, true, arith, inl, inr, Contains, Option, Some}
+use Rattle.std.proofs.Common.{◌≡◌, ◌∙◌, ℕ, zero, suc, ◌≤◌, List, length, map, refl, ap, Bool, true, arith, inl, inr, Contains, Option}
 use Rattle.std.specs.Prelude.{◌==◌}
 use Rattle.std.proofs.lemmas.Bool.{cases_Bool, eqb-false}
 use Rattle.std.proofs.lemmas.List.Elements.{All-contains}
 use Rattle.szg_values.specs.Placement.{PlacedMan}
-use Rattle.szg_values.specs.declared.Color.{Color}
 use Rattle.szg_game.specs.declared.Class.{Class}
-use Rattle.szg_game.specs.declared.Class.TheVariants.{Draw}
-use Rattle.szg_game.proofs.Lists.{IsIn, contains_in}
+use Rattle.szg_game.proofs.Lists.{contains_in}
 use Rattle.szg_chess.specs.declared.Move.{Move}
 use Rattle.szg_chess.specs.Position.{Position, IsPosition}
 use Rattle.szg_chess.specs.Moves.{after, legal_captures, legal_moves}

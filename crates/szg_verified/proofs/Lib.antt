@@ -1,6 +1,9 @@
 mod Answers
 mod Causes
 mod Covered
+mod Hashed
+mod Logs
 mod Materials
+mod Naming
 mod Reading
 mod SameFolder

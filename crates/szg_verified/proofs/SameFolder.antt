@@ -1,8 +1,8 @@
 -- What is probed over a part of a folder's tables, of positions whose materials are verified.
-use Rattle.std.proofs.Common.{◌≡◌, ◌∙◌, ℕ, zero, suc, ◌<◌, ◌≤◌, ◌+◌, List, [], ◌∷◌, ◌++◌, length, map, refl, ap, sym, subst, cond, Bool, true, false, arith, inl, inr, All, Contains, Option, Some, None}
-use Rattle.std.specs.Prelude.{◌==◌, ◌&&◌, ◌||◌, IfSome, IsFalse, IsSomeAnd, count_by, find, is_some, option_and_then, option_map, string_bytes, if◌then◌else◌}
+use Rattle.std.proofs.Common.{◌≡◌, ◌∙◌, ℕ, ◌≤◌, List, [], ◌∷◌, ◌++◌, length, refl, ap, sym, subst, Bool, true, false, arith, inl, inr, All, Contains, Option, Some, None}
+use Rattle.std.specs.Prelude.{◌==◌, ◌&&◌, IfSome, IsSomeAnd, count_by, find, is_some, option_and_then, string_bytes, if◌then◌else◌}
 use Rattle.std.specs.List.{list_all}
-use Rattle.std.proofs.lemmas.Bool.{and_from, and_parts, cases_Bool, eq-eqb, eqb-false, or_cases}
+use Rattle.std.proofs.lemmas.Bool.{and_from, and_parts, cases_Bool, eq-eqb, or_cases}
 use Rattle.std.proofs.lemmas.List.Elements.{All-contains}
 use Rattle.szg_values.specs.Men.{is_man, name_order}
 use Rattle.szg_values.specs.Material.{IsMaterial, Sides, is_in_order, is_material, is_same_men, may_be_first}
@@ -10,19 +10,19 @@ use Rattle.szg_values.specs.Placement.{Board, PlacedMan, material_of, number_of,
 use Rattle.szg_values.specs.declared.Color.{Color}
 use Rattle.szg_values.specs.declared.Color.TheVariants.{White, Black}
 use Rattle.szg_values.specs.declared.Kind.{Kind}
-use Rattle.szg_values.specs.declared.Kind.TheVariants.{Wdl, Dtz}
+use Rattle.szg_values.specs.declared.Kind.TheVariants.{Wdl}
 use Rattle.szg_values.specs.declared.Man.{Man}
 use Rattle.szg_values.specs.declared.Man.TheVariants.{Pawn, Knight, Bishop, Rook, Queen, King}
 use Rattle.szg_values.proofs.MaterialOf.{material_of_placement}
-use Rattle.szg_values.proofs.SameMen.{same_men, same_men-refl, same_sides-Decides}
+use Rattle.szg_values.proofs.SameMen.{same_men, same_sides-Decides}
 use Rattle.szg_values.proofs.SideOf.{black_first, white_first}
 use Rattle.szg_file.specs.Accepted.{AreNumbers}
 use Rattle.szg_file.specs.Held.{Shown}
 use Rattle.szg_file.specs.Opened.{table_in}
 use Rattle.szg_game.specs.declared.Class.{Class}
-use Rattle.szg_game.proofs.Lists.{IsIn, contains_in, in_contains, some_in}
+use Rattle.szg_game.proofs.Lists.{contains_in, some_in}
 use Rattle.szg_place.proofs.MenOnSlots.Keys.{of_named}
-use Rattle.szg_place.proofs.MenOnSlots.Standing.{IsNamed, kind_count, sorted}
+use Rattle.szg_place.proofs.MenOnSlots.Standing.{kind_count, sorted}
 use Rattle.szg_chess.specs.Position.{Position, IsPosition}
 use Rattle.szg_chess.proofs.Facts.{faultless, placed}
 use Rattle.szg_probe.specs.Chess.{ChessClass}

@@ -1,1 +1,4 @@
+pub mod Digests
+pub mod Logs
+pub mod Runs
 pub mod Verified

@@ -1,6 +1,7 @@
 -- What a verification that finds no fault says of tables.
-use Rattle.std.specs.Prelude.{ℕ, ◌≡◌, ◌+◌, ◌⊎◌, ◌&&◌, not, map, All, Bool, Contains, List, [], ◌∷◌, ◌++◌, Option, Some, IsSome, IsSomeAnd, IsFalse, IsTrue, is_some, find, string_bytes, if◌then◌else◌}
-use Rattle.szg_values.specs.Material.{IsMaterial, Sides}
+use Rattle.std.specs.Prelude.{ℕ, ◌≡◌, ◌+◌, ◌⊎◌, ◌&&◌, not, map, All, Bool, Contains, List, [], ◌∷◌, ◌++◌, Option, Some, IsSomeAnd, IsFalse, IsTrue, is_some, find, string_bytes, if◌then◌else◌}
+use denote.Ref.{Bor}
+use Rattle.szg_values.specs.Material.{IsMaterial, Sides, name_of}
 use Rattle.szg_values.specs.declared.Kind.{Kind}
 use Rattle.szg_file.specs.Accepted.{AreNumbers}
 use Rattle.szg_file.specs.Held.{Shown}
@@ -17,6 +18,8 @@ use Rattle.szg_tables.specs.Distances.{stored_distances}
 use Rattle.szg_tables.specs.Fetched.{IsOfTable, fetched_classes, fetched_numbers}
 use Rattle.szg_tables.specs.Stored.{is_for, stored_classes, stored_numbers}
 use Rattle.szg_tables.specs.declared.fetched.FetchedTable.{FetchedTable}
+use Rattle.szg_verified.specs.Digests.{IsDigestOf}
+use Rattle.szg_verified.specs.Logs.{AreRecorded}
 use Rattle.szg_verified.specs.declared.verifying.Cause.{Cause}
 use Rattle.szg_verified.specs.declared.verifying.Cause.TheVariants.{Refused, NoTable, Missing, Unchecked}
 use Rattle.szg_verified.specs.declared.verifying.Finding.{Finding}
@@ -75,10 +78,14 @@ IsCauseInShard tables sides shards before cause =
     let count = number_count (colored_men sides) in
     IsCause tables [] sides (shard_start count shards before) (shard_start count shards (before + 1)) cause
 
--- what was found of a material, after those that are not verified; a log was given if it has the material
-abbrev pub IsFinding : {L : Type 0} → List Shown → List Unverified → Option L → Sides → Finding → Type 0
+-- by the lines of a log the material was verified, with tables of the same digest
+abbrev pub IsLoggedIn : Option (Bor (List ℕ)) → List Shown → Sides → Type 0
+IsLoggedIn log tables sides = IsSomeAnd log (λ text. (digest : List ℕ) × IsDigestOf tables sides digest × AreRecorded text.now (name_of sides) digest)
+
+-- what was found of a material, after those that are not verified, and by a log
+abbrev pub IsFinding : List Shown → List Unverified → Option (Bor (List ℕ)) → Sides → Finding → Type 0
 IsFinding tables unverified log sides (Verified positions) = IsCheckedIn tables sides
-IsFinding tables unverified log sides (Logged positions) = IsSome log
+IsFinding tables unverified log sides (Logged positions) = IsLoggedIn log tables sides
 IsFinding tables unverified log sides (Failed cause) = IsCauseOf tables unverified sides cause
 
 -- it is one of the materials, and has its cause, given all that are not verified

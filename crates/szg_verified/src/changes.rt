@@ -1,6 +1,6 @@
 //! What captures and promotions make of a material.
 
-ghost use Rattle.std.specs.Prelude.{Contains, IfOk, OnOk};
+ghost use Rattle.std.specs.Prelude.{Contains, IfOk, IsTrue, OnOk};
 ghost use Rattle.szg_values.specs.Material.{Sides};
 
 use std::alloc::{AllocError, Global};
@@ -131,11 +131,32 @@ fn add_new(found: Vec<Material>, materials: &mut Vec<Material>) -> Result<(), Al
     ensures { OnOk result ((m : Sides) → Contains materials.old.items m → Contains materials.new.items m) }
 {
     'found: for material in found {
-        if !materials.contains(&material) {
-            materials.push(material)?;
-        }
+        add_once(materials, material)?;
     }
     Ok(())
+}
+
+/// Adds a material unless it is there.
+pub fn add_once(materials: &mut Vec<Material>, material: Material) -> Result<(), AllocError>
+    ensures kept { OnOk result ((m : Sides) → Contains materials.old.items m → Contains materials.new.items m) }
+    ensures added { OnOk result (Contains materials.new.items material) }
+{
+    if !is_among(materials, &material) {
+        materials.push(material)?;
+    }
+    Ok(())
+}
+
+/// Returns whether a material is among some.
+fn is_among(materials: &[Material], material: &Material) -> bool
+    ensures { IsTrue result → Contains materials.now material.now }
+{
+    for other in materials {
+        if other.is_same(material) {
+            return true;
+        }
+    }
+    false
 }
 
 /// Compares materials: by the number of men, of pawns, and by their men in the order of names.

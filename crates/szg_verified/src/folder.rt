@@ -6,7 +6,7 @@ ghost use Rattle.szg_verify.specs.Entries.{tables_of};
 ghost use Rattle.szg_verify.specs.Walk.{IsShardChecked};
 ghost use Rattle.szg_tables.specs.Distances.{stored_distances};
 ghost use Rattle.szg_tables.specs.Stored.{stored_classes};
-ghost use Rattle.szg_verified.specs.Verified.{AreCheckedIn, AreReadFrom, AreTrue, IsAdded, IsCauseInShard, IsCaused, is_whole};
+ghost use Rattle.szg_verified.specs.Verified.{AreCheckedIn, AreReadFrom, AreTrue, IsAdded, IsCauseInShard, IsCaused, IsLoggedIn, is_whole};
 
 use crate::changes::{add_needed, needed_by};
 use crate::verifying::{Cause, Progress, Unverified, verify_materials, verify_shard};
@@ -129,6 +129,8 @@ pub fn verify_folder<S: FileSystem, W: Write, P: Progress>(
     ensures true_tables { IfOk result (λ v. IsTrue v.is_all → AreCheckedIn v.tables.items v.logged.items → AreTrue v.tables.items v.materials.items) }
     // Without a log nothing is taken from one.
     ensures logged { IfOk result (λ v. IsNone log.entry → v.logged.items ≡ []) }
+    // With one, only what its lines say of tables with the digest of those that were read.
+    ensures by_log { IfOk result (λ v. All (IsLoggedIn log.entry v.tables.items) v.logged.items) }
     // It says no with a cause: a refusal names the first position of a material that breaks a condition over these tables, and
     // a material is left unchecked only if it leads to one that is not verified.
     ensures caused { IfOk result (λ v. All (IsCaused v.tables.items v.materials.items v.unverified.items) v.unverified.items) }

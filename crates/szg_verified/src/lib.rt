@@ -11,5 +11,5 @@ mod run;
 mod verifying;
 
 pub use folder::{ShardVerification, Verification, VerifyStop, verify_folder, verify_folder_shard};
-pub use run::{VerificationAsked, run_verification};
+pub use run::{Run, VerificationAsked, run_verification};
 pub use verifying::{Cause, Progress, Unverified};

@@ -1,6 +1,12 @@
 //! A run of a verification: its words, its lines.
 
-use crate::folder::{VerifyStop, materials_in, verify_folder, verify_folder_shard};
+ghost use Rattle.std.specs.Prelude.{◌≡◌, IfOk, IsNone, IsSomeAnd, is_some};
+ghost use Rattle.szg_verified.specs.Runs.{AreNamed, IsFolderRun, IsRun, IsShardRun, is_passed};
+
+use crate::changes::add_once;
+use crate::folder::{
+    ShardVerification, Verification, VerifyStop, materials_in, verify_folder, verify_folder_shard,
+};
 use crate::log::shard_of;
 use crate::verifying::Progress;
 use std::alloc::{AllocError, Global};
@@ -25,10 +31,33 @@ pub struct VerificationAsked<'a> {
     pub shard: Option<&'a str>,
 }
 
+/// What a run came to.
+#[derive(Drop)]
+pub enum Run {
+    /// What was found of the materials.
+    Folder(Verification),
+    /// What was found of a shard.
+    Shard(ShardVerification),
+    /// It was not done.
+    Refused,
+}
+
+impl Run {
+    /// Returns whether all materials are verified or logged, or each position of the shard passes.
+    pub fn is_passed(&self) -> bool
+        ensures { result ≡ is_passed self.now }
+    {
+        match self {
+            Run::Folder(found) => found.is_all,
+            Run::Shard(found) => found.positions.is_ok(),
+            Run::Refused => false,
+        }
+    }
+}
+
 /// Verifies the tables of the materials with these names in a folder, or of all that the folder has if there is none, and
 /// of those that captures and promotions lead to, but for those that the log has; or one shard of a material. Writes a line
-/// for each material and a summary, or the line of the shard, or why it was not done. Returns whether all are verified or
-/// logged, or each position of the shard passes.
+/// for each material and a summary, or the line of the shard, or why it was not done.
 ///
 /// Errors: the output's; an allocation was refused.
 pub fn run_verification<R: Files, W: Write, P: Progress>(
@@ -37,13 +66,15 @@ pub fn run_verification<R: Files, W: Write, P: Progress>(
     asked: VerificationAsked<'_>,
     output: &mut W,
     progress: &mut P,
-) -> io::Result<bool> {
+) -> io::Result<Run>
+    ensures { IfOk result (λ run. IsRun asked.entry run) }
+{
     let found = match asked.shard {
         Some(shard) => shard_verified(alloc, files, asked, shard, output, progress),
         None => verified(alloc, files, asked, output, progress),
     };
     let stop = match found {
-        Ok(is_all) => return Ok(is_all),
+        Ok(run) => return Ok(run),
         Err(VerifyStop::Output(error)) => return Err(error),
         Err(VerifyStop::Read(ResultStop::Memory)) => return Err(AllocError.into()),
         Err(stop) => stop,
@@ -51,37 +82,30 @@ pub fn run_verification<R: Files, W: Write, P: Progress>(
     let text = text_of(alloc, asked, &stop)?;
     output.write_all(text.as_bytes())?;
     output.flush()?;
-    Ok(false)
+    Ok(Run::Refused)
 }
 
-/// Verifies the tables; returns whether all are verified or logged.
+/// Verifies the tables of materials.
 fn verified<R: Files, W: Write, P: Progress>(
     alloc: Global,
     files: &R,
     asked: VerificationAsked<'_>,
     output: &mut W,
     progress: &mut P,
-) -> Result<bool, VerifyStop> {
-    let folder = asked.folder;
-    let materials = if asked.names.is_empty() {
-        materials_in(alloc, files, folder)?
-    } else {
-        materials_of(alloc, asked.names)?
-    };
-    let text = match asked.log {
-        Some(path) => Some(log_at(alloc, files, path)?),
-        None => None,
-    };
-    let log = match &text {
-        Some(bytes) => Some(str::from_utf8(bytes).unwrap_or("")),
-        None => None,
-    };
+) -> Result<Run, VerifyStop>
+    requires { IsNone asked.shard }
+    ensures { IfOk result (λ run. IsRun asked.entry run) }
+{
+    let materials = materials_asked(alloc, files, asked)?;
+    let log = log_asked(alloc, files, asked)?;
+    let log = text_in(&log);
     let mut disk = Disk::new(alloc, files);
+    let folder = asked.folder;
     let found = verify_folder(alloc, &mut disk, folder, materials, log, output, progress)?;
-    Ok(found.is_all)
+    Ok(Run::Folder(found))
 }
 
-/// Checks a shard; returns whether each of its positions passes.
+/// Checks a shard.
 fn shard_verified<R: Files, W: Write, P: Progress>(
     alloc: Global,
     files: &R,
@@ -89,7 +113,10 @@ fn shard_verified<R: Files, W: Write, P: Progress>(
     shard: &str,
     output: &mut W,
     progress: &mut P,
-) -> Result<bool, VerifyStop> {
+) -> Result<Run, VerifyStop>
+    requires { IsSomeAnd asked.shard (λ text. text.now ≡ shard.now) }
+    ensures { IfOk result (λ run. IsRun asked.entry run) }
+{
     let (Some(shard), [name], None) = (shard_of(shard), asked.names, asked.log) else {
         return Err(VerifyStop::Shard);
     };
@@ -100,7 +127,47 @@ fn shard_verified<R: Files, W: Write, P: Progress>(
     let mut disk = Disk::new(alloc, files);
     let folder = asked.folder;
     let found = verify_folder_shard(alloc, &mut disk, folder, &material, shard, output, progress)?;
-    Ok(found.positions.is_ok())
+    Ok(Run::Shard(found))
+}
+
+/// Returns the materials that are named, or those that the folder has if none is.
+///
+/// Errors: a name is no material's; the folder can't be read; an allocation was refused.
+fn materials_asked<R: Files>(
+    alloc: Global,
+    files: &R,
+    asked: VerificationAsked<'_>,
+) -> Result<Vec<Material>, VerifyStop>
+    ensures { IfOk result (λ materials. AreNamed asked.entry.names.now materials.items) }
+{
+    if asked.names.is_empty() {
+        return Ok(materials_in(alloc, files, asked.folder)?);
+    }
+    materials_of(alloc, asked.names)
+}
+
+/// Returns the bytes of the log, if there is to be one.
+fn log_asked<R: Files>(
+    alloc: Global,
+    files: &R,
+    asked: VerificationAsked<'_>,
+) -> Result<Option<Vec<u8>>, VerifyStop>
+    ensures { IfOk result (λ log. is_some log ≡ is_some asked.entry.log) }
+{
+    match asked.log {
+        Some(path) => Ok(Some(log_at(alloc, files, path)?)),
+        None => Ok(None),
+    }
+}
+
+/// Returns the text of a log; an empty one if its bytes are no text.
+fn text_in(log: &Option<Vec<u8>>) -> Option<&str>
+    ensures { is_some result ≡ is_some log.now }
+{
+    match log {
+        Some(bytes) => Some(str::from_utf8(bytes).unwrap_or("")),
+        None => None,
+    }
 }
 
 /// Returns the bytes of a log.
@@ -122,17 +189,17 @@ fn bytes_at<R: Files>(alloc: Global, files: &R, path: &str) -> Result<Vec<u8>, F
 /// Returns the materials with these names, each once.
 ///
 /// Errors: the first name that is no material's; an allocation was refused.
-fn materials_of(alloc: Global, names: &[&str]) -> Result<Vec<Material>, VerifyStop> {
+fn materials_of(alloc: Global, names: &[&str]) -> Result<Vec<Material>, VerifyStop>
+    ensures { IfOk result (λ materials. AreNamed names.now materials.items) }
+{
     let mut materials = Vec::new(alloc);
-    for name in names {
-        match Material::parse(name) {
-            Ok(material) if materials.contains(&material) => {}
-            Ok(material) => {
-                if materials.push(material).is_err() {
-                    return Err(VerifyStop::Read(ResultStop::Memory));
-                }
-            }
+    'names: for name in names {
+        let material = match Material::parse(name) {
+            Ok(material) => material,
             Err(fault) => return Err(VerifyStop::Name(fault)),
+        };
+        if add_once(&mut materials, material).is_err() {
+            return Err(VerifyStop::Read(ResultStop::Memory));
         }
     }
     Ok(materials)

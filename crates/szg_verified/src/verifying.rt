@@ -8,7 +8,8 @@ ghost use Rattle.szg_verify.specs.Materials.{leads_to};
 ghost use Rattle.szg_verify.specs.Walk.{IsRangeChecked, IsShardChecked};
 ghost use Rattle.szg_tables.specs.Distances.{stored_distances};
 ghost use Rattle.szg_tables.specs.Stored.{stored_classes};
-ghost use Rattle.szg_verified.specs.Verified.{AreCheckedIn, AreTrue, IsCause, IsCauseInShard, IsCaused, IsFinding, is_whole, materials_in};
+ghost use Rattle.szg_verified.specs.Verified.{AreCheckedIn, AreTrue, IsCause, IsCauseInShard, IsCaused, IsFinding, IsLoggedIn, is_whole, materials_in};
+ghost use Rattle.szg_verified.specs.Digests.{IsDigestOf};
 
 use crate::digests::digest_of;
 use crate::lines::{material_line, shard_line, summary_line};
@@ -111,6 +112,7 @@ pub fn verify_materials<W: Write, P: Progress>(
     ensures caused { IfOk result (λ found. All (IsCaused tables.now materials.now found.unverified.items) found.unverified.items) }
     ensures all { IfOk result (λ found. found.is_all ≡ is_whole materials.now found.unverified.items) }
     ensures logged { IfOk result (λ found. IsNone log.entry → found.logged.items ≡ []) }
+    ensures by_log { IfOk result (λ found. All (IsLoggedIn log.entry tables.now) found.logged.items) }
 {
     stored_at_images(tables);
     verified_is_true();
@@ -217,6 +219,7 @@ fn is_empty<T>(items: &[T]) -> bool
 /// Verifies the tables of a material, unless it leads to one that is not verified, or a log has it with tables of this digest.
 ///
 /// Errors: an allocation was refused.
+#[tactic(auto, using(crate::proofs::Causes::logged_in))]
 fn verify_material<P: Progress>(
     alloc: Global,
     tables: &[Table],
@@ -226,6 +229,7 @@ fn verify_material<P: Progress>(
     digest: &str,
     progress: &mut P,
 ) -> Result<Finding, AllocError>
+    requires { IsDigestOf tables.now material.now digest.now }
     ensures found { IfOk result (λ found. IsFinding tables.now unverified.now log.entry material.now found) }
     // A material that leads to one that is not verified is not looked at.
     ensures unchecked { IfOk result (λ found. IfSome (find (leads_to material.now) (materials_in unverified.now)) (λ other. found ≡ Finding.Failed (Cause.Unchecked other))) }

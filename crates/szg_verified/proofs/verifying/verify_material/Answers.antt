@@ -1,8 +1,8 @@
-use Rattle.std.proofs.Common.{ℕ, sym, subst, ◌∙◌}
+use Rattle.std.proofs.Common.{ℕ, sym, subst, rules, ◌∙◌}
 use Rattle.std.specs.Prelude.{IfErr, Result}
 use Rattle.szg_verified.specs.Verified.{IsCause}
 use Rattle.szg_verified.specs.declared.verifying.Cause.{Cause}
-use Rattle.szg_verified.proofs.Causes.{leads_in}
+use Rattle.szg_verified.proofs.Causes.{leads_in, logged_in}
 use Rattle.szg_verified.proofs.verifying.verify_material.Goals as goal
 
 pub returns-in-Err-clause-found : goal.returns-in-Err-clause-found
@@ -13,3 +13,7 @@ returns-in-Err-clause-found g c =
 
 pub returns-in-Some-clause-found : goal.returns-in-Some-clause-found
 returns-in-Some-clause-found g c = leads_in c.args.material.now c.args.unverified.now c.in-Some.other (sym c.in-Some.is ∙ c.first_unverified.ensures)
+
+pub returns-in-Some-logged_positions-clause-found : goal.returns-in-Some-logged_positions-clause-found
+returns-in-Some-logged_positions-clause-found g c =
+    logged_in c.args.log c.in-Some-log.text c.args.tables.now c.args.material.now c.as_str.result.now c.args.digest.now c.in-Some-log.is (search rules) c.requires c.in-Some-logged_positions.ensures

@@ -1,4 +1,4 @@
-use Rattle.std.proofs.Common.{List, sym, ap, ◌∙◌, subst, arith, inl, inr, Contains}
+use Rattle.std.proofs.Common.{List, sym, ap, ◌∙◌, subst, arith, inl, inr, All, Contains}
 use Rattle.std.proofs.lemmas.List.{take_all}
 use Rattle.std.proofs.lemmas.List.Elements.{Contains-append_left, Contains-append_right}
 use Rattle.szg_values.specs.Material.{Sides}
@@ -7,10 +7,10 @@ use Rattle.szg_verify.specs.Entries.{tables_of}
 use Rattle.szg_verify.specs.Materials.{are_closed}
 use Rattle.szg_tables.specs.Distances.{stored_distances}
 use Rattle.szg_tables.specs.Stored.{stored_classes}
-use Rattle.szg_verified.specs.Verified.{IsCheckedIn, IsFinding, is_whole}
+use Rattle.szg_verified.specs.Verified.{IsCheckedIn, IsFinding, IsLoggedIn, is_whole}
 use Rattle.szg_verified.specs.declared.verifying.Unverified.{Unverified}
 use Rattle.szg_verified.proofs.Materials.{one_more, single}
-use Rattle.szg_verified.proofs.Causes.{caused_by, failed_as, logged_by, pushed, not_empty, same_caused, verified_as, whole_parts}
+use Rattle.szg_verified.proofs.Causes.{caused_by, failed_as, logged_as, none_logged, one_more_logged, pushed, not_empty, same_caused, verified_as, whole_parts}
 use Rattle.szg_verified.proofs.verifying.verify_materials.Goals as goal
 use Rattle.szg_verified.proofs.verifying.verify_materials.Goals.{in-Verified, in-Logged+in_ok-push-in-Logged, in-Failed+in_ok-push-in-Failed}
 
@@ -32,7 +32,7 @@ materials-preserved g c =
               | inr earlier ↦ elim (before.checked (sym (ap is_empty none_more) ∙ none) sides earlier) [ inl done ↦ inl done | inr held ↦ inr (subst (λ (xs : List Sides). Contains xs sides) (sym none_logged) held) ]
             ];
             caused = same_caused tables materials _ _ none_more before.caused;
-            unlogged = λ none. none_logged ∙ before.unlogged none;
+            logged = subst (All (IsLoggedIn c.args.log tables)) (sym none_logged) before.logged;
           })
       | in-Logged+in_ok-push-in-Logged w ↦ (
           let none_more = ap (λ z. z.items) w.unverified-is in
@@ -43,7 +43,7 @@ materials-preserved g c =
               | inr earlier ↦ elim (before.checked (sym (ap is_empty none_more) ∙ none) sides earlier) [ inl done ↦ inl done | inr held ↦ inr (subst (λ (xs : List Sides). Contains xs sides) (sym more) (Contains-append_left c.materials.logged.items _ sides held)) ]
             ];
             caused = same_caused tables materials _ _ none_more before.caused;
-            unlogged = λ none. logged_by tables _ c.args.log item found _ w.in-Logged.is is none;
+            logged = one_more_logged c.args.log tables c.materials.logged.items _ item _ more w.copy.ensures before.logged (logged_as tables _ c.args.log item found _ w.in-Logged.is is);
           })
       | in-Failed+in_ok-push-in-Failed w ↦ (
           let more = ap (λ z. z.items) w.unverified-is ∙ w.in_ok-push-in-Failed.ensures.items in
@@ -53,7 +53,7 @@ materials-preserved g c =
             caused = pushed tables materials c.materials.unverified.items _ _ more before.caused
                 (caused_by tables materials _ c.materials.material-index item w.copy-in-Failed.result w.in-Failed.cause c.materials-test.true c.material-item.is w.copy-in-Failed.ensures
                 (failed_as tables _ c.args.log item found w.in-Failed.cause w.in-Failed.is is));
-            unlogged = λ none. none_logged ∙ before.unlogged none;
+            logged = subst (All (IsLoggedIn c.args.log tables)) (sym none_logged) before.logged;
           })
     ]
 
@@ -63,3 +63,6 @@ returns-clause-true_tables g c = λ t logged p position covered.
     c.verified_is_true.ensures (tables_of (stored_classes c.args.tables.now) (stored_distances c.args.tables.now)) c.args.materials.now p
     whole.0 c.stored_at_images.ensures.tables
     (λ sides held. elim (c.materials.invariant.checked whole.1 sides (subst (λ (xs : List Sides). Contains xs sides) (sym (take_all c.materials.material-index c.args.materials.now (omega arith))) held)) [ inl done ↦ done | inr taken ↦ logged sides taken ]) position covered
+
+pub returns-clause-logged : goal.returns-clause-logged
+returns-clause-logged g c = none_logged c.args.log c.args.tables.now c.materials.logged.items c.materials.invariant.logged

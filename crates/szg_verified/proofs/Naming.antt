@@ -1,0 +1,51 @@
+-- The materials of names.
+use denote.Ref.{Bor}
+use Rattle.std.proofs.Common.{ℕ, ◌≡◌, ◌+◌, ◌<◌, ◌≤◌, List, [], ◌∷◌, length, get_or, take, refl, sym, subst, arith, false, Contains, Option, Some, None}
+use Rattle.std.specs.Prelude.{Ok, Err, IsOk, IsSomeAnd, OnOk, Result, is_err}
+use Rattle.std.proofs.lemmas.List.{take_more}
+use Rattle.std.proofs.lemmas.List.Elements.{All-push}
+use Rattle.szg_values.specs.Material.{Sides, parsed}
+use Rattle.szg_verify.specs.Entries.{tables_of}
+use Rattle.szg_verify.specs.Walk.{IsShardChecked}
+use Rattle.szg_tables.specs.Distances.{stored_distances}
+use Rattle.szg_tables.specs.Stored.{stored_classes}
+use Rattle.szg_verified.specs.Logs.{IsShardText}
+use Rattle.szg_verified.specs.Runs.{AreNamed, IsNamedIn, IsShardRun}
+use Rattle.szg_verified.specs.declared.folder.ShardVerification.{ShardVerification}
+use Rattle.szg_verified.specs.declared.run.VerificationAsked.{VerificationAsked}
+
+pub done : {T E : Type 0} {P : Type 0} (r : Result T E) → is_err r ≡ false → OnOk r P → P
+done (Ok x) e p = p
+done (Err x) e p = absurd (cc e)
+
+pub more_named : (names : List (Bor (List ℕ))) (old new : List Sides) → ((s : Sides) → Contains old s → Contains new s) → AreNamed names old → AreNamed names new
+more_named names old new kept named k name within = let n = named k name within in (n.0, n.1, kept n.0 n.2)
+
+pub one_more_named : (names : List (Bor (List ℕ))) (old new : List Sides) (i : ℕ) (m : Sides) (d : Bor (List ℕ)) → i < length names → parsed (get_or names i d).now ≡ Ok m → Contains new m → ((s : Sides) → Contains old s → Contains new s) →
+    AreNamed (take i names) old → AreNamed (take (i + 1) names) new
+one_more_named names old new i m d less is held kept named =
+    subst (λ (ns : List (Bor (List ℕ))). AreNamed ns new) (sym (take_more names i d less)) (All-push (IsNamedIn new) (take i names) (get_or names i d) (more_named (take i names) old new kept named) (m, is, held))
+
+-- a shard's text
+pub shard_named : (given : Option (Bor (List ℕ))) (text : List ℕ) (before shards : ℕ) → IsSomeAnd given (λ t. t.now ≡ text) → IsShardText text before shards → IsSomeAnd given (λ t. IsShardText t.now before shards)
+shard_named None text before shards is named = absurd is
+shard_named (Some t) text before shards is named = subst (λ (bytes : List ℕ). IsShardText bytes before shards) (sym is) named
+
+alone : (names : List (Bor (List ℕ))) (d : Bor (List ℕ)) → 1 ≤ length names → length names < 2 → names ≡ get_or names 0 d ∷ []
+alone [] d least most = absurd (omega (arith, least))
+alone (name ∷ []) d least most = refl
+alone (name ∷ other ∷ names) d least most = absurd (omega (arith, most))
+
+-- the shard of the one material that is named
+pub shard_run : (asked : VerificationAsked) (v : ShardVerification) (d : Bor (List ℕ)) (material : Sides) (before shards : ℕ) → 1 ≤ length asked.names.now → length asked.names.now < 2 → parsed (get_or asked.names.now 0 d).now ≡ Ok material →
+    IsSomeAnd asked.shard (λ text. IsShardText text.now before shards) → (IsOk v.positions → IsShardChecked (tables_of (stored_classes v.tables.items) (stored_distances v.tables.items)) material shards before) → IsShardRun asked v
+shard_run asked v d material before shards least most named shard checked = record {
+  name = get_or asked.names.now 0 d;
+  material = material;
+  before = before;
+  shards = shards;
+  alone = alone asked.names.now d least most;
+  named = named;
+  shard = shard;
+  checked = checked;
+}
