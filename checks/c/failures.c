@@ -101,6 +101,8 @@ static void use_folders(void) {
     size_t count = 99;
     while (!is_done(szg_open_folders(paths, &folders))) want("folders", folders == none, 1);
     while (!is_done(szg_share_folders(folders, &second))) want("second", second == none, 1);
+    /* so that a table is first opened by its front */
+    szg_limit_folders(second, 15);
     while (!is_done(szg_folders_wdl(folders, men, 3, SZG_WHITE, SZG_NO_SQUARE, &class, &missing))) want("class", class, 9);
     while (!is_done(szg_folders_dtz(second, men, 3, SZG_WHITE, SZG_NO_SQUARE, 0, &distance, &missing))) want("distance", distance.class_of_position, 9);
     while (!is_done(szg_folders_moves(folders, men, 3, SZG_WHITE, SZG_NO_SQUARE, 0, moves, SZG_MAX_MOVES, &count, &missing))) want("count", (long)count, 99);

@@ -47,7 +47,10 @@ static void *run(void *number) {
     unsigned seed = 7;
     szg_folders *mine;
     const char *why = szg_share_folders(folders, &mine) == SZG_DONE ? NULL : "share";
-    for (int i = 0; i < positions && why == NULL; i++) why = probe(mine, &seed, (uint64_t *)number);
+    for (int i = 0; i < positions && why == NULL; i++) {
+        szg_limit_folders(mine, 15);
+        why = probe(mine, &seed, (uint64_t *)number);
+    }
     szg_close_folders(mine);
     return (void *)(uintptr_t)why;
 }
