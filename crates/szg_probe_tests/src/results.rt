@@ -9,7 +9,7 @@ use std::mem::replace;
 use std::process::Abort;
 use szg_chess::Position;
 use szg_file::{Table, read_bytes};
-use szg_files::{FileFault, FileSystem, MemoryFile, MemoryFiles};
+use szg_files::{FileFault, FileSystem, MemoryFile, MemoryFiles, RangeFault};
 use szg_fixtures::{
     Fixture, kbvk_wdl_constant, knvkp_wdl_constant, kqvk_dtz_packed, kqvk_wdl_true_but_for_ends,
     kqvk_wdl_unpaired,
@@ -413,6 +413,28 @@ impl<'a> FileSystem for Unsteady<'a> {
         let left = file.left();
         let first = count.min(left.len() as u64) as usize;
         Ok(Bytes::new(&left[first..]))
+    }
+
+    fn read_at(
+        &mut self,
+        path: &str,
+        size: u64,
+        offset: u64,
+        bytes: &mut [u8],
+    ) -> Result<(), RangeFault> {
+        if !path.ends_with(".rtbw") {
+            return Err(RangeFault::Failed(FileFault::System(Error::from(self.kind))));
+        }
+        let known = replace(&mut self.next, self.later);
+        if known.len() as u64 != size || size < offset {
+            return Err(RangeFault::Ended);
+        }
+        let rest = &known[offset as usize..];
+        if rest.len() < bytes.len() {
+            return Err(RangeFault::Ended);
+        }
+        bytes.copy_from_slice(&rest[..bytes.len()]);
+        Ok(())
     }
 }
 
