@@ -1,6 +1,6 @@
 -- What a probe of a table in memory reports: the class or the distance by the table's value.
 use Rattle.std.proofs.Common.{◌≡◌, ◌∙◌, ℕ, List, Option, None, Some, option_map, refl, sym, ap}
-use Rattle.std.specs.Prelude.{IfSome, IsNone, Result, Ok, Err, ℤ, pos, option_and_then}
+use Rattle.std.specs.Prelude.{IfSome, IsNone, Result, Ok, Err, ℤ, option_and_then}
 use Rattle.std.specs.declared.convert.Infallible.{Infallible}
 use Rattle.szg_file.specs.Accepted.{IsAccepted}
 use Rattle.szg_file.specs.Contents.{Contents}

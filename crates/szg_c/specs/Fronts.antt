@@ -1,5 +1,5 @@
 -- What calls on an opened front return. Status 18 is a block that doesn't decode, 17 bytes that can't be the file's.
-use Rattle.std.specs.Prelude.{◌≡◌, ◌&&◌, ℕ, ℤ, pos, zero, suc, fold, max, nat_lt, Bool, true, false, List, is_some, Option, Some, None, IfSome, IsNone, Result, Ok, Err, if◌then◌else◌}
+use Rattle.std.specs.Prelude.{◌≡◌, ℕ, ℤ, pos, zero, suc, fold, max, Bool, true, false, List, Option, Some, None, IfSome, IsNone, Result, Ok, Err}
 use Rattle.std.specs.Option.{option_map_or}
 use Rattle.szg_block.specs.Subtable.{layout_of}
 use Rattle.szg_block.specs.declared.Sub.{Sub}

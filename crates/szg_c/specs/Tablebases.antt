@@ -25,7 +25,7 @@ use Rattle.szg_c.specs.Places.{place_status}
 use Rattle.szg_c.specs.Reported.{kind_of_flag}
 use Rattle.szg_c.specs.Texts.{printed}
 use Rattle.szg_c.specs.declared.men.RawMan.{RawMan}
-use Rattle.szg_c.specs.declared.status.TheConstants.{BAD_BLOCK, CHANGED, CONTRADICTION, DONE, EN_PASSANT, IN_CHECK, MAN, MEN, MISSING, NO_CLASS, PAWN_RANK, RANGE, SAME_SQUARE}
+use Rattle.szg_c.specs.declared.status.TheConstants.{BAD_BLOCK, CHANGED, CONTRADICTION, EN_PASSANT, IN_CHECK, MAN, MEN, MISSING, NO_CLASS, PAWN_RANK, RANGE, SAME_SQUARE}
 use Rattle.szg_c.specs.declared.tablebase_calls.RawDistance.{RawDistance}
 use Rattle.szg_c.specs.declared.tablebase_calls.RawMissing.{RawMissing}
 use Rattle.szg_c.specs.declared.tablebase_calls.RawMove.{RawMove}
