@@ -15,7 +15,7 @@ ghost use Rattle.szg_file.specs.Held.{sparse_of, subtable_of};
 ghost use Rattle.szg_build.specs.Building.{IsExtended, IsMadeSub, IsPairing};
 ghost use Rattle.szg_build.specs.Rule.{HasSpanIndex, HasTruncatedBinary};
 
-use crate::building::blocks::{FilledBlocks, fill_blocks};
+use crate::building::blocks::{Filling, fill_blocks};
 use crate::building::coding::choose_code;
 use crate::building::sparse::sparse_index;
 use crate::pairing::leaves::Paired;
@@ -95,9 +95,10 @@ pub(crate) fn build_paired(
         Err(DictFault::LongSymbol(_)) => unreachable!(),
     };
     let code = choose_code(alloc, &dict, &symbols, is_huffman)?;
-    let FilledBlocks {
+    let Filling {
         mut lengths,
         packed,
+        ..
     } = fill_blocks(alloc, &code, &dict, &symbols, packing.block_bits)?;
     let blocks = lengths.len() as u32;
     let sparse = sparse_index(alloc, &lengths, values.len() as u64, packing.span_bits)?;

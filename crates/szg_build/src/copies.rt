@@ -1,6 +1,5 @@
 //! Copies the fields that a dump shares with its table.
-ghost use Rattle.std.specs.Prelude.{◌≡◌, ◌%◌, map, Some, option_map, IfOk};
-ghost use Rattle.szg_file.specs.File.{flags_of};
+ghost use Rattle.std.specs.Prelude.{◌≡◌, map, Some, option_map, IfOk};
 ghost use Rattle.szg_file.specs.Held.{part_of, map_of};
 ghost use Rattle.szg_file.specs.Values.{subtable_at};
 ghost use Rattle.szg_build.specs.Built.{plan_flags, subtables_in, value_lists};
@@ -56,10 +55,17 @@ pub(crate) fn copy_maps(alloc: Global, maps: &[Option<Map>]) -> Result<Vec<Optio
 pub(crate) fn copy_flags(alloc: Global, table: &Table) -> Result<Vec<u8>, AllocError>
     ensures { IfOk result (λ flags. flags.items ≡ plan_flags table.now.contents) }
 {
+    let mut flags = Vec::new(alloc);
     match table.kind() {
-        Kind::Wdl => Ok(Vec::new(alloc)),
-        Kind::Dtz => copy_dtz_flags(alloc, table),
+        Kind::Wdl => {}
+        Kind::Dtz => {
+            let bytes = table.index().flags();
+            for byte in bytes {
+                flags.push(*byte % 32)?;
+            }
+        }
     }
+    Ok(flags)
 }
 
 /// Returns part and side of each subtable of a table.
@@ -68,18 +74,6 @@ pub(crate) fn table_subtable_ids(table: &Table) -> &'static [(u8, u8)]
 {
     table_fits(table);
     places(table.material(), table.kind())
-}
-
-/// Copies the flags 1, 2, 4, 8 and 16 of all subtables.
-fn copy_dtz_flags(alloc: Global, table: &Table) -> Result<Vec<u8>, AllocError>
-    ensures { IfOk result (λ flags. flags.items ≡ map (λ subtable. flags_of subtable % 32) table.now.contents.subtables) }
-{
-    let bytes = table.index().flags();
-    let mut flags = Vec::new(alloc);
-    for byte in bytes {
-        flags.push(*byte % 32)?;
-    }
-    Ok(flags)
 }
 
 /// Lists the values of all subtables, in file order.

@@ -5,25 +5,6 @@ ghost use Rattle.szg_build.specs.Dump.{subtable_ids_of};
 use szg_file::has_two_sides;
 use szg_values::{Kind, Material};
 
-/// Part and side of each subtable of a table with one part and one side. The next constants are for tables with more
-/// sides, more parts, and both.
-const ONE: &[(u8, u8)] = &[(0, 0)];
-
-const TWO_SIDES: &[(u8, u8)] = &[(0, 0), (0, 1)];
-
-const FOUR_PARTS: &[(u8, u8)] = &[(0, 0), (1, 0), (2, 0), (3, 0)];
-
-const EIGHT: &[(u8, u8)] = &[
-    (0, 0),
-    (0, 1),
-    (1, 0),
-    (1, 1),
-    (2, 0),
-    (2, 1),
-    (3, 0),
-    (3, 1),
-];
-
 /// Returns part and side of each subtable.
 pub(crate) fn places(material: &Material, kind: Kind) -> &'static [(u8, u8)]
     ensures places { result.now ≡ subtable_ids_of material.now kind }
@@ -32,9 +13,18 @@ pub(crate) fn places(material: &Material, kind: Kind) -> &'static [(u8, u8)]
     ensures few { length result.now ≤ 8 }
 {
     match (material.has_pawns(), has_two_sides(material, kind)) {
-        (false, false) => ONE,
-        (false, true) => TWO_SIDES,
-        (true, false) => FOUR_PARTS,
-        (true, true) => EIGHT,
+        (false, false) => &[(0, 0)],
+        (false, true) => &[(0, 0), (0, 1)],
+        (true, false) => &[(0, 0), (1, 0), (2, 0), (3, 0)],
+        (true, true) => &[
+            (0, 0),
+            (0, 1),
+            (1, 0),
+            (1, 1),
+            (2, 0),
+            (2, 1),
+            (3, 0),
+            (3, 1),
+        ],
     }
 }

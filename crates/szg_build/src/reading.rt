@@ -26,8 +26,8 @@ ghost use Rattle.szg_build.specs.Shown.{form_of};
 use crate::dump::DumpReadFault;
 use crate::item::Item;
 use crate::reading::incoming::Incoming;
-use crate::reading::line_parsing::GREATEST_COUNT;
-use crate::reading::lines::{read_number, read_part, read_run};
+use crate::reading::line_parsing::{GREATEST_COUNT, parse_part};
+use crate::reading::lines::{read_number, read_parsed, read_run};
 use crate::reading::values::Values;
 use std::alloc::{AllocError, Global};
 use szg_file::{Map, PartBytes, has_bit, part_count};
@@ -72,7 +72,7 @@ fn read_runs<R: Input>(
     ensures following { OnOk result (length (held_of incoming.new) ≤ following) }
     ensures memory { IsErrOf result DumpReadFault.Memory → LacksLines (run_values count count) following incoming.old R.Input input.old input.new }
 {
-    let mut values = Values::new();
+    let mut values = Values::Run { value: 0, count: 0 };
     let mut left = count;
     'runs: while left > 0 {
         let (size, value) = read_run(left, following, input, incoming)?;
@@ -187,7 +187,7 @@ fn read_part_bytes<R: Input>(
     ensures following { OnOk result (length (held_of incoming.new) ≤ following) }
     ensures memory { IsErrOf result DumpReadFault.Memory → LacksLines (part_line number) following incoming.old R.Input input.old input.new }
 {
-    let (order, men) = read_part(number, following, input, incoming)?;
+    let (order, men) = read_parsed(|text| parse_part(number, text), following, input, incoming)?;
     let order = Vec::from_slice(alloc, order.as_slice())?;
     let men = Vec::from_slice(alloc, men.as_slice())?;
     Ok(PartBytes { order, men })

@@ -1,12 +1,13 @@
 //! Chooses the pairs of a subtable of a small table and spells its values with them: tries several choices and counts
 //! their bytes.
 //!
-//! The first tries are the text without pairs, with 256 pairs and with all pairs. Then, beginning with all pairs, the
-//! pairs that save the fewest bits are dropped and the values are spelled again, with a bound that rises at each try.
-//! If neither the list nor the dictionary is too long (`FEW_VALUES`, `FEW_SYMBOLS`), pairs are then added to the best
-//! text and dropped again, several times, and after that single pairs are dropped. At the end the values are spelled
-//! again with the code of the best text. A spelling of a long list that visits too many tree nodes (`LIMIT`) is given
-//! up, and the best text so far stays.
+//! A list of more than `MOST_VALUES` values gets all pairs, and nothing is tried. For a shorter one the first tries are
+//! the text without pairs, with 256 pairs and with all pairs. Then, beginning with all pairs, the pairs that save the
+//! fewest bits are dropped and the values are spelled again, with a bound that rises at each try. If neither the list
+//! nor the dictionary is too long (`FEW_VALUES`, `FEW_SYMBOLS`), pairs are then added to the best text and dropped
+//! again, several times, and after that single pairs are dropped. At the end the values are spelled again with the code
+//! of the best text. A spelling of a long list that visits too many tree nodes (`LIMIT`) is given up, and the best text
+//! so far stays.
 //!
 //! Only the safety of this code is proved: its result is a proposal, and proposals are tested.
 
@@ -14,15 +15,13 @@ mod costs;
 mod dropping;
 mod spelling;
 mod tries;
-mod trimming;
 
 use crate::building::sizing::choose_sizes;
 use crate::pairing::leaves::{MAX_SYMBOLS, Paired};
 use crate::pairing::proposing::with_pairs;
 use crate::shrinking::costs::BIT;
-use crate::shrinking::dropping::without_poor;
-use crate::shrinking::tries::{Best, Blend, copy_of};
-use crate::shrinking::trimming::{polish, trim};
+use crate::shrinking::dropping::{without_one, without_poor};
+use crate::shrinking::tries::Best;
 use crate::watching::{Unwatched, Watcher};
 use std::alloc::{AllocError, Global};
 
@@ -46,9 +45,15 @@ const FEW_VALUES: usize = 1 << 17;
 /// The greatest number of symbols of a dictionary to which more pairs are added, and of one that is trimmed.
 const FEW_SYMBOLS: usize = 1024;
 
+/// The greatest number of values of a list that is spelled at all. Of a longer one only the pairs are made.
+const MOST_VALUES: usize = 1 << 27;
+
 /// One more than the number of times that pairs are added to the best text of a list of at most `FEW_VALUES` values. No
 /// pairs are added to a longer one.
 const ROUNDS: u64 = 61;
+
+/// The greatest number of passes over all pairs.
+const PASSES: u64 = 4;
 
 /// The number of pairs of the second try. It is also the default of `szg build --rounds`.
 const FEW_PAIRS: u32 = 256;
@@ -82,7 +87,7 @@ fn drop_pairs<V: Watcher>(
     alloc: Global,
     start: Paired,
     bounds: Bounds,
-    blend: Blend,
+    quarters: u64,
     best: &mut Best,
     watcher: &mut V,
 ) -> Result<(), AllocError> {
@@ -94,7 +99,7 @@ fn drop_pairs<V: Watcher>(
         }
         watcher.attempt(best.tries, Some(best.bytes()));
         let rest = without_poor(alloc, &paired, least)?;
-        let Some(next) = best.spelled(alloc, rest, blend)? else {
+        let Some(next) = best.spelled(alloc, rest, quarters)? else {
             break;
         };
         best.offer(alloc, &next)?;
@@ -113,7 +118,7 @@ fn begin_tries<V: Watcher>(
     watcher: &mut V,
 ) -> Result<(Best, Paired), AllocError> {
     let values = begun.symbols.len() as u64;
-    let few = with_pairs(alloc, copy_of(alloc, &begun)?, FEW_PAIRS, &mut Unwatched)?;
+    let few = with_pairs(alloc, begun.clone()?, FEW_PAIRS, &mut Unwatched)?;
     let mut best = Best {
         leaves: begun.symbols.to_vec(alloc)?,
         cost: choose_sizes(alloc, values, &few, other_bytes)?.cost,
@@ -126,7 +131,7 @@ fn begin_tries<V: Watcher>(
     if values / 8 <= best.bytes() {
         let cost = best.cost_of(alloc, &begun)?;
         if cost <= best.cost {
-            best.paired = copy_of(alloc, &begun)?;
+            best.paired = begun.clone()?;
             best.cost = cost;
         }
     }
@@ -150,21 +155,49 @@ fn add_pairs<V: Watcher>(
         if best.budget == 0 || best.paired.entries.len() > FEW_SYMBOLS {
             break;
         }
-        let more = with_pairs(
-            alloc,
-            copy_of(alloc, &best.paired)?,
-            MAX_SYMBOLS as u32,
-            &mut Unwatched,
-        )?;
+        let start = best.paired.clone()?;
+        let more = with_pairs(alloc, start, MAX_SYMBOLS as u32, &mut Unwatched)?;
         let bounds = Bounds {
             first: 12 * BIT,
             step: (8 - round % 7) * (BIT / 2),
             last: 64 * BIT,
         };
-        let blend = Blend {
-            quarters: round * 2 % 5,
-        };
-        drop_pairs(alloc, more, bounds, blend, best, watcher)?;
+        drop_pairs(alloc, more, bounds, round * 2 % 5, best, watcher)?;
+    }
+    Ok(())
+}
+
+/// Drops each pair alone, from the last to the first, spells the leaves again, and keeps the result in `best` if it
+/// costs less: in at most `PASSES` passes, until a pass keeps nothing. Sets the budget of visited nodes to `budget`,
+/// which the last spelling may exceed.
+fn trim<V: Watcher>(
+    alloc: Global,
+    budget: u64,
+    best: &mut Best,
+    watcher: &mut V,
+) -> Result<(), AllocError> {
+    best.budget = budget;
+    for pass in 0..PASSES {
+        let quarters = pass % 2 * 2;
+        let count = best.paired.entries.len();
+        let mut is_less = false;
+        for later in 0..count {
+            if best.budget == 0 {
+                break;
+            }
+            watcher.attempt(best.tries, Some(best.bytes()));
+            let symbol = (count - 1 - later).min(MAX_SYMBOLS) as u16;
+            if let Some(rest) = without_one(alloc, &best.paired, symbol)? {
+                let Some(tried) = best.spelled(alloc, rest, quarters)? else {
+                    return Ok(());
+                };
+                let is_kept = best.offer(alloc, &tried)?;
+                is_less = is_less || is_kept;
+            }
+        }
+        if !is_less {
+            break;
+        }
     }
     Ok(())
 }
@@ -183,17 +216,31 @@ pub(crate) fn shrink<V: Watcher>(
     } else {
         (FEW_BOUNDS, 1)
     };
+    if begun.symbols.len() > MOST_VALUES {
+        return with_pairs(alloc, begun, MAX_SYMBOLS as u32, watcher);
+    }
     watcher.attempt(0, None);
     let (mut best, all) = begin_tries(alloc, begun, other_bytes, watcher)?;
-    let blend = Blend { quarters: 2 };
-    drop_pairs(alloc, all, first, blend, &mut best, watcher)?;
+    drop_pairs(alloc, all, first, 2, &mut best, watcher)?;
     if is_short {
         add_pairs(alloc, &mut best, watcher)?;
         if best.paired.entries.len() <= FEW_SYMBOLS {
             trim(alloc, TRIM_BUDGET, &mut best, watcher)?;
         }
     }
-    polish(alloc, tries, &mut best)?;
+    // spell the leaves again with the code of the best text, until that costs more or is given up
+    for _ in 0..tries {
+        let dictionary = without_poor(alloc, &best.paired, 0)?;
+        let Some(tried) = best.spelled(alloc, dictionary, 0)? else {
+            break;
+        };
+        let cost = best.cost_of(alloc, &tried)?;
+        if cost > best.cost {
+            break;
+        }
+        best.paired = tried;
+        best.cost = cost;
+    }
     let Best { paired, .. } = best;
     Ok(paired)
 }

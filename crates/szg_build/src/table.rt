@@ -2,10 +2,8 @@
 ghost use Rattle.std.specs.Prelude.{◌≡◌, ℕ, List, not, map, option_map, Err, IfOk, IfErr, MatchOption};
 ghost use Rattle.std.specs.List.{AllByRecursion};
 ghost use Rattle.szg_values.specs.Material.{has_pawns, is_symmetric};
-ghost use Rattle.szg_file.specs.Accepted.{AreBytes, IsAccepted};
-ghost use Rattle.szg_file.specs.Assembled.{fields_shown};
+ghost use Rattle.szg_file.specs.Accepted.{IsAccepted};
 ghost use Rattle.szg_file.specs.Contents.{has_bit};
-ghost use Rattle.szg_file.specs.FileOf.{fill_asked};
 ghost use Rattle.szg_file.specs.Held.{map_of, part_of, subtable_of};
 ghost use Rattle.szg_build.specs.Built.{IsBuilt, subtables_in};
 ghost use Rattle.szg_build.specs.Chosen.{IsBuiltAs, IsCodedTable};
@@ -113,18 +111,6 @@ fn build_subs<V: Watcher>(
     Ok(subs)
 }
 
-/// Fills in the padding of `fields`, which have none yet, with zeros, and creates the table.
-fn padded(alloc: Global, mut fields: Fields) -> Result<Table, AllocError>
-    requires { (fill : List ℕ) → AreBytes (fill_asked (fields_shown fields).contents) fill → IsAccepted (fields_shown fields).contents fill }
-    ensures contents { IfOk result (λ t. t.contents ≡ (fields_shown fields).contents) }
-    ensures accepted { IfOk result (λ t. IsAccepted t.contents t.filled) }
-    ensures padding { IfOk result (λ t. AllByRecursion (λ byte. byte ≡ 0) t.filled) }
-{
-    let fill = vec![in alloc; 0u8; fields.fill_asked() as usize]?;
-    fields.fill = fill;
-    Ok(Table::assemble(fields))
-}
-
 /// Returns the table of a plan and of the subtables that were built for it, padded with zeros.
 pub(crate) fn table_from(alloc: Global, plan: &Plan, subs: Vec<Sub>) -> Result<Table, AllocError>
     requires { (choice : Choice) × (lists : List (List ℕ)) × AreMade choice (plan_seen plan.now) lists (map subtable_of subs.items) }
@@ -137,7 +123,7 @@ pub(crate) fn table_from(alloc: Global, plan: &Plan, subs: Vec<Sub>) -> Result<T
     let maps = copy_maps(alloc, &plan.maps)?;
     let byte4 = byte4_of(&plan.material);
     let last = end_bytes(byte4, &plan.last);
-    let fields = Fields {
+    let mut fields = Fields {
         material: plan.material.copy(),
         kind: plan.kind,
         byte4,
@@ -147,7 +133,9 @@ pub(crate) fn table_from(alloc: Global, plan: &Plan, subs: Vec<Sub>) -> Result<T
         fill: Vec::new(alloc),
         last,
     };
-    padded(alloc, fields)
+    let fill = vec![in alloc; 0u8; fields.fill_asked() as usize]?;
+    fields.fill = fill;
+    Ok(Table::assemble(fields))
 }
 
 /// Builds the table of a plan and lists that are not refused.
@@ -199,17 +187,7 @@ pub(crate) fn build_by<V: Watcher>(
 
 /// Builds a table from a plan and the values of its subtables, which are listed in file order.
 ///
-/// Errors, the first that applies:
-///
-/// - `Order`: the number of parts, order bytes or men is not the material's, or the reader would refuse this order.
-/// - `Bits`: the block bits are not 5 to 10, or the span bits are not 1 to 16.
-/// - `Rounds`: there are more than 4,000.
-/// - `Count`: the number of lists is not the number of subtables.
-/// - `Length`: the first list whose length is not its subtable's size.
-/// - `Value`: the first list with a value above 4, in DTZ above 4,095.
-/// - `TooManyValues`: the first list with more than 4,095 different values.
-/// - `Map`: the flags or maps are not those of the kind and the parts; `BuildFault::Map` has the cases.
-/// - `Memory`: memory was refused.
+/// Errors: the first `BuildFault` that applies, in the order of its variants.
 ///
 /// The time for a list is about proportional to its number of values, plus the time to fill a table of up to 4,095^2
 /// counts. A list of 2^32 values or more takes this time for each pair: its offsets do not fit four bytes, so all its

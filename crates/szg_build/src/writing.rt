@@ -112,17 +112,6 @@ fn put_word<W: Output>(
     put(line.as_slice(), output, outgoing)
 }
 
-/// Returns the two lower-case digits of a byte.
-fn digits(byte: u8) -> [u8; 2]
-    ensures { result ≡ encode_lower (byte ∷ []) }
-{
-    let mut digits = [0; 2];
-    let Ok(()) = hex::encode_to_slice([byte], &mut digits) else {
-        unreachable!()
-    };
-    digits
-}
-
 /// Writes bytes as lower-case hexadecimal text.
 fn put_hex<W: Output>(
     bytes: &[u8],
@@ -132,26 +121,16 @@ fn put_hex<W: Output>(
     ensures { Writing (encode_lower bytes.now) outgoing.old outgoing.new W.Output output.old output.new result }
 {
     'bytes: for byte in bytes {
-        put(&digits(*byte), output, outgoing)?;
+        let mut digits = [0; 2];
+        let Ok(()) = hex::encode_to_slice([*byte], &mut digits) else {
+            unreachable!()
+        };
+        put(&digits, output, outgoing)?;
     }
     Ok(())
 }
 
 // ---- values
-
-/// Writes a line for each item.
-fn put_items<T: Item, W: Output>(
-    items: &[T],
-    output: &mut W,
-    outgoing: &mut OutgoingText,
-) -> Result<(), WriteFault>
-    ensures { Writing (lines_text (map (λ v. decimal v ∷ []) (map T.number items.now))) outgoing.old outgoing.new W.Output output.old output.new result }
-{
-    'items: for item in items {
-        put_number(b"", item.number(), output, outgoing)?;
-    }
-    Ok(())
-}
 
 /// Returns the length of the run of equal values that the list begins with.
 pub(crate) fn run_length(values: &[u16]) -> usize
@@ -222,7 +201,10 @@ fn put_map_list<T: Item, W: Output>(
     ensures { Writing (lines_text (map_list_lines j (map T.number list.now))) outgoing.old outgoing.new W.Output output.old output.new result }
 {
     put_pair(b"map ", j as u64, list.len() as u64, output, outgoing)?;
-    put_items(list, output, outgoing)
+    'items: for item in list {
+        put_number(b"", item.number(), output, outgoing)?;
+    }
+    Ok(())
 }
 
 /// Writes the four lists of a map.

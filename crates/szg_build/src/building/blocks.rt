@@ -13,19 +13,12 @@ use szg_pairs::Dict;
 /// The greatest number of values of a block.
 const MAX_VALUES: u32 = 65_536;
 
-/// Blocks, and their lengths.
-#[derive(Drop)]
-pub(crate) struct FilledBlocks {
-    /// For each block, its number of values less one.
-    pub lengths: Vec<u16>,
-    pub packed: Vec<u8>,
-}
-
 /// The blocks that are full, and the block that is being filled.
 #[derive(Drop)]
-struct Filling {
-    lengths: Vec<u16>,
-    packed: Vec<u8>,
+pub(crate) struct Filling {
+    /// For each full block, its number of values less one.
+    pub lengths: Vec<u16>,
+    pub packed: Vec<u8>,
     /// The words of the block that is being filled.
     buffer: WordBits,
     /// The number of values of the symbols of these words.
@@ -91,7 +84,7 @@ pub(crate) fn fill_blocks(
     dict: &Dict,
     symbols: &[u16],
     block_bits: u8,
-) -> Result<FilledBlocks, AllocError>
+) -> Result<Filling, AllocError>
     requires chosen { IsChosen (length dict.now) code.now }
     requires below { AllByRecursion (λ s. s < length dict.now) symbols.now }
     requires some { 0 < length symbols.now }
@@ -110,12 +103,7 @@ pub(crate) fn fill_blocks(
         add(&mut filling, code, dict, *symbol, block_bits)?;
     }
     close(&mut filling, block_bits)?;
-    let Filling {
-        lengths,
-        packed,
-        ..
-    } = filling;
-    words_fit(&lengths);
-    bytes_fit(&packed);
-    Ok(FilledBlocks { lengths, packed })
+    words_fit(&filling.lengths);
+    bytes_fit(&filling.packed);
+    Ok(filling)
 }

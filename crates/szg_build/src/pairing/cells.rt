@@ -72,7 +72,59 @@ pub(crate) fn is_even_from(cells: &[u16], start: usize, symbol: u16, length: usi
     is_even
 }
 
+/// The number of symbols that are compared at once, to find long runs of equal symbols. It is even.
+pub(crate) const STEP: usize = 256;
+
+/// Returns whether all symbols of a list are `symbol`.
+pub(crate) fn are_all(symbols: &[u16], symbol: u16) -> bool {
+    let Some(first) = symbols.first() else {
+        return true;
+    };
+    // each symbol is compared with the next: two lists are compared in larger steps than a list and a symbol
+    let count = symbols.len() - 1;
+    *first == symbol && symbols[1..] == symbols[..count]
+}
+
 impl Cells {
+    /// Replaces each occurrence of a pair by a new symbol, from left to right. Each symbol has one cell before and after.
+    pub(crate) fn join(&mut self, pair: Pair, new: u16) {
+        let cells = self.cells.as_mut_slice();
+        let count = cells.len();
+        let (mut read, mut write) = (0usize, 0usize);
+        for _ in 0..count {
+            if read >= count || cells.len() < count || write > read {
+                break;
+            }
+            let left = count - read;
+            let symbol = cells[read];
+            if read % STEP < 2 && left > STEP {
+                let end = read + STEP;
+                if are_all(&cells[read + 1..end + 1], symbol) {
+                    let is_pair = symbol == pair.left && symbol == pair.right;
+                    let (due, more) = if is_pair {
+                        (new, STEP / 2)
+                    } else {
+                        (symbol, STEP)
+                    };
+                    cells[write..write + more].fill(due);
+                    write += more;
+                    read = end;
+                    continue;
+                }
+            }
+            if symbol == pair.left && left > 1 && cells[read + 1] == pair.right {
+                cells[write] = new;
+                read += 2;
+            } else {
+                cells[write] = symbol;
+                read += 1;
+            }
+            write += 1;
+        }
+        self.cells.truncate(write);
+        self.lens.fill(1);
+    }
+
     /// Returns whether a pair has at most `MAX_VALUES` values, so that it may be made.
     pub(crate) fn is_short(&self, pair: Pair) -> bool {
         length_in(&self.values, pair.left) + length_in(&self.values, pair.right)

@@ -10,7 +10,7 @@ use crate::pairing::cells::{Cells, length_in};
 use crate::pairing::leaves::{MAX_SYMBOLS, Paired, entry};
 use crate::pairing::occurrences::Occurrences;
 use crate::pairing::tally::{Enough, PairTally};
-use crate::pairing::{LEAST_COUNT, MAX_VALUES, Pair, replace};
+use crate::pairing::{LEAST_COUNT, MAX_VALUES, Pair};
 use crate::watching::Watcher;
 use std::alloc::{AllocError, Global};
 
@@ -103,8 +103,7 @@ impl Making {
         let Some(new) = self.add(best.pair)? else {
             return Ok(false);
         };
-        replace(&mut self.text.cells, best.pair, new);
-        self.text.lens.fill(1);
+        self.text.join(best.pair, new);
         Ok(true)
     }
 
@@ -132,7 +131,7 @@ impl Making {
                 self.more = self.more.saturating_mul(2);
                 break;
             };
-            let Some(new) = self.add(picked.pair)? else {
+            let Some(new) = self.add(picked.pair())? else {
                 is_more = false;
                 break;
             };

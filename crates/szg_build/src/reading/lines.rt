@@ -2,15 +2,14 @@
 ghost use Rattle.std.specs.Prelude.{◌≡◌, ◌+◌, ◌<◌, ◌≤◌, List, length, IfOk, IsErrOf, OnOk};
 ghost use Rattle.std.specs.Fn.{FnOnceReturnsAt};
 ghost use Rattle.szg_build.specs.Fronts.{IsFront, ParsesLine, in_line};
-ghost use Rattle.szg_build.specs.Grammar.{Word, number_line, part_line, run_line};
+ghost use Rattle.szg_build.specs.Grammar.{Word, number_line, run_line};
 ghost use Rattle.szg_build.specs.Held.{held_of};
 ghost use Rattle.szg_build.specs.Reading.{ReadsLines};
 
 use crate::dump::{DumpFault, DumpReadFault};
 use crate::reading::incoming::Incoming;
 use crate::reading::line::next_line;
-use crate::reading::line_parsing::{parse_number_line, parse_part, parse_run};
-use arrayvec::ArrayVec;
+use crate::reading::line_parsing::{parse_number_line, parse_run};
 use szg_io::Input;
 
 /// The least number of bytes of a line with its 0A.
@@ -44,22 +43,6 @@ pub(crate) fn read_parsed<T: Drop, R: Input, F: FnOnce(&[u8]) -> Result<T, DumpF
 {
     let text = next_line(LEAST_LINE, following, input, incoming)?;
     with_line(parse(text.as_slice()), incoming.line)
-}
-
-/// Reads the line of a part.
-pub(crate) fn read_part<R: Input>(
-    number: u8,
-    following: u64,
-    input: &mut R,
-    incoming: &mut Incoming,
-) -> Result<(ArrayVec<u8, 40>, ArrayVec<u8, 40>), DumpReadFault>
-    requires number { number < 4 }
-    requires held { length (held_of incoming.old) ≤ following + 1 }
-    ensures lines { ReadsLines (part_line number) (λ part. record { order = part.0.items; men = part.1.items }) incoming.old incoming.new R.Input input.old input.new result }
-    ensures following { OnOk result (length (held_of incoming.new) ≤ following) }
-    ensures memory { IsErrOf result DumpReadFault.Memory → ⊥ }
-{
-    read_parsed(|text| parse_part(number, text), following, input, incoming)
 }
 
 /// Reads the line of a run, which has at most `left` values.

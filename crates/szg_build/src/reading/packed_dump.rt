@@ -13,14 +13,14 @@ ghost use Rattle.szg_build.specs.declared.building.Choice.{Choice};
 use crate::building::headers::count_other_bytes;
 use crate::building::{Choice, Packing};
 use crate::reading::gathering::{Gathered, Subs, list_all};
-use crate::reading::packing::{PackedSub, pack_again};
+use crate::reading::packing::{PackedSub, pack, unpack};
 use crate::refusing::{MAX_ROUNDS, are_bits_valid, are_maps_valid};
 use crate::table::{build_by, parts_fit, table_from};
 use crate::watching::Watcher;
 use crate::{BuildFault, Plan};
 use std::alloc::{AllocError, Global};
 use std::marker::Model;
-use szg_block::{Sub, block_count};
+use szg_block::block_count;
 use szg_file::{Table, subtable_sizes};
 
 /// The content of a dump, whose subtables were packed while it was read.
@@ -109,13 +109,6 @@ fn are_complete(plan: &Plan, packed: &[PackedSub]) -> bool
     are_maps_valid(plan)
 }
 
-/// Returns the subtables.
-fn subs_of(alloc: Global, packed: Vec<PackedSub>) -> Result<Vec<Sub>, AllocError>
-    ensures { IfOk result (λ subs. subs.items ≡ map (λ p. p.sub) packed.items) }
-{
-    packed.into_iter().map(|p| p.sub).collect(alloc)
-}
-
 /// If a small table has exactly one subtable with blocks, packs this subtable again, since its best packing depends on
 /// the table's other bytes. Otherwise returns `packed` unchanged.
 fn settle<V: Watcher>(
@@ -144,7 +137,16 @@ fn settle<V: Watcher>(
     'subs: for sub in packed {
         if block_count(&sub.sub) > 0 {
             watcher.subtable(settled.len() + 1, count, sub.size as usize);
-            let again = pack_again(alloc, plan.kind, &sub, other_bytes, watcher)?;
+            let values = unpack(alloc, plan.kind, &sub)?;
+            let again = pack(
+                alloc,
+                plan.kind,
+                sub.flags,
+                Choice::Small,
+                &values,
+                other_bytes,
+                watcher,
+            )?;
             settled.push(again)?;
         } else {
             settled.push(sub)?;
@@ -170,7 +172,7 @@ fn assemble<V: Watcher>(
     ensures padding { IfOk result (λ t. AllByRecursion (λ byte. byte ≡ 0) t.filled) }
 {
     let settled = settle(alloc, plan, choice, packed, watcher)?;
-    let subs = subs_of(alloc, settled)?;
+    let subs = settled.into_iter().map(|p| p.sub).collect(alloc)?;
     table_from(alloc, plan, subs)
 }
 

@@ -55,8 +55,10 @@ fn is_buildable(kind: Kind, values: &[u16]) -> bool
     count_different(values) <= MAX_DIFFERENT
 }
 
-/// Returns whether the numbers of a choice are in their ranges.
-fn is_in_bounds(choice: Choice) -> bool
+/// Returns whether a list of values is packed while the dump is read: if the numbers of the choice are in their ranges,
+/// and in a small table if its number of subtables, `count`, is not 1. The best packing of a single subtable depends on
+/// the table's other bytes, which are all known only when the dump has been read.
+fn is_packed_early(choice: Choice, count: usize) -> bool
     ensures { result ≡ true → IsInBounds choice }
 {
     match choice {
@@ -67,16 +69,7 @@ fn is_in_bounds(choice: Choice) -> bool
                 rounds,
             },
         ) => { are_bits_valid(block_bits, span_bits) && rounds <= MAX_ROUNDS }
-        Choice::Small => true,
-    }
-}
-
-/// Returns whether a list of values is packed only when the dump has been read. That is so in a small table of one
-/// subtable: its best packing depends on the table's other bytes, which are all known then.
-fn waits(choice: Choice, count: usize) -> bool {
-    match choice {
-        Choice::Fixed(_) => false,
-        Choice::Small => count == 1,
+        Choice::Small => count != 1,
     }
 }
 
@@ -132,7 +125,7 @@ pub(crate) fn pack_equal(kind: Kind, flags: u8, values: &Values) -> Option<Packe
 }
 
 /// Packs a list of values. `other_bytes` is as in `choose_sizes`.
-fn pack<V: Watcher>(
+pub(crate) fn pack<V: Watcher>(
     alloc: Global,
     kind: Kind,
     flags: u8,
@@ -169,32 +162,9 @@ pub(crate) fn pack_list<V: Watcher>(
     requires { flags < 32 }
     ensures { IfOk result (λ packed. IfSome packed (IsPackedAs kind choice flags values.now)) }
 {
-    if !is_in_bounds(choice) || !is_buildable(kind, values) || waits(choice, count) {
+    if !is_packed_early(choice, count) || !is_buildable(kind, values) {
         return Ok(None);
     }
     let packed = pack(alloc, kind, flags, choice, values, None, watcher)?;
     Ok(Some(packed))
-}
-
-/// Packs a subtable of a small table again, as the only one with blocks. `other_bytes` is as in `choose_sizes`.
-pub(crate) fn pack_again<V: Watcher>(
-    alloc: Global,
-    kind: Kind,
-    packed: &PackedSub,
-    other_bytes: Option<u64>,
-    watcher: &mut V,
-) -> Result<PackedSub, AllocError>
-    requires { IsPackedSub kind Choice.Small packed.now }
-    ensures { IfOk result (IsPackedAs kind Choice.Small packed.now.flags (packed_values kind packed.now)) }
-{
-    let values = unpack(alloc, kind, packed)?;
-    pack(
-        alloc,
-        kind,
-        packed.flags,
-        Choice::Small,
-        &values,
-        other_bytes,
-        watcher,
-    )
 }

@@ -1,5 +1,5 @@
 //! The values of a subtable as they are read from a dump. In form 2, values that are all equal are not listed.
-ghost use Rattle.std.specs.Prelude.{◌≡◌, ◌+◌, ◌++◌, ◌<◌, ◌^◌, [], length, replicate, IfOk, OnOk};
+ghost use Rattle.std.specs.Prelude.{◌≡◌, ◌+◌, ◌++◌, ◌<◌, ◌^◌, length, replicate, IfOk, OnOk};
 ghost use Rattle.szg_build.specs.Packed.{values_held};
 
 use std::alloc::{AllocError, AllocFailed, Global};
@@ -24,13 +24,6 @@ fn push_run(list: &mut Vec<u16>, size: u64, value: u16) -> Result<(), AllocFaile
 }
 
 impl Values {
-    /// Creates an empty list of values, as a run of length 0.
-    pub(crate) fn new() -> Values
-        ensures { values_held result ≡ [] }
-    {
-        Values::Run { value: 0, count: 0 }
-    }
-
     /// Appends a run of equal values. The values become a list only when a second, different value is appended.
     pub(crate) fn with_run(self, alloc: Global, size: u64, value: u16) -> Result<Values, AllocError>
         requires { length (values_held self) + size < 2 ^ 64 }

@@ -10,19 +10,12 @@ use szg_file::typed::bytes_fit;
 
 // ---- cutting
 
-/// Returns what follows `front`. None if the text does not begin with it.
-pub(crate) fn strip_front<'a>(front: &[u8], text: &'a [u8]) -> Option<&'a [u8]>
-    ensures { MatchOption result ((rest : List ℕ) → text.now ≡ front.now ++ rest → ⊥) (λ rest. text.now ≡ front.now ++ rest.now) }
-{
-    text.strip_prefix(front)
-}
-
 /// Returns the single word after `front`. None if the text is not `front` and one word.
 pub(crate) fn one_word<'a>(front: &[u8], text: &'a [u8]) -> Option<&'a [u8]>
     ensures { MatchOption result ((word : List ℕ) → IsWord word → text.now ≡ front.now ++ word → ⊥)
         (λ word. IsWord word.now × (text.now ≡ front.now ++ word.now)) }
 {
-    let word = strip_front(front, text)?;
+    let word = text.strip_prefix(front)?;
     if word.contains(&b' ') {
         None
     } else {
@@ -52,15 +45,9 @@ pub(crate) fn two_words<'a>(
     ensures { MatchOption result ((first : List ℕ) → (second : List ℕ) → IsWord first → IsWord second → text.now ≡ front.now ++ (first ++ 32 ∷ (middle.now ++ second)) → ⊥)
         (λ words. IsWord words.0.now × IsWord words.1.now × (text.now ≡ front.now ++ (words.0.now ++ 32 ∷ (middle.now ++ words.1.now)))) }
 {
-    let Some(following) = strip_front(front, text) else {
-        return None;
-    };
-    let Some((first, last)) = split_word(following) else {
-        return None;
-    };
-    let Some(second) = one_word(middle, last) else {
-        return None;
-    };
+    let following = text.strip_prefix(front)?;
+    let (first, last) = split_word(following)?;
+    let second = one_word(middle, last)?;
     Some((first, second))
 }
 

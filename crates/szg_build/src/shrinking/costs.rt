@@ -2,6 +2,7 @@
 //!
 //! Only the safety of this code is proved, not its estimates: they only decide which pairs are kept and how values are
 //! spelled.
+use crate::pairing::numbering::at;
 use szg_pairs::entry::{left, right};
 
 /// The number of fractional bits of a logarithm and of an estimate.
@@ -25,11 +26,6 @@ pub(crate) fn log2(number: u64) -> u64 {
         log = log.wrapping_mul(2).wrapping_add(u64::from(is_two));
     }
     log
-}
-
-/// Returns the count of a symbol; 0 if `symbol` is after the end of `counts`.
-pub(crate) fn count_at(counts: &[u64], symbol: u16) -> u64 {
-    counts.get(usize::from(symbol)).copied().unwrap_or(0)
 }
 
 /// How many symbols a text has, and how often the most frequent one occurs.
@@ -66,11 +62,11 @@ pub(crate) fn saved(counts: &[u64], entry: [u8; 3], count: u64, totals: Totals) 
     let is_double = left(entry) == right(entry);
     // how often the halves occur outside of the pair, and in the text in which the pair is written as its halves; two
     // equal halves are one symbol, the left one
-    let left = count_at(counts, left(entry));
+    let left = at(counts, left(entry));
     let (right, more_left, more_right) = if is_double {
         (0, count.saturating_mul(2), 0)
     } else {
-        (count_at(counts, right(entry)), count, count)
+        (at(counts, right(entry)), count, count)
     };
     let all_left = left.saturating_add(more_left);
     let all_right = right.saturating_add(more_right);

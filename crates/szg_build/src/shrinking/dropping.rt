@@ -3,7 +3,7 @@
 //! Only the safety of this code is proved: its result is a proposal, and proposals are tested.
 use crate::pairing::leaves::{MAX_SYMBOLS, Paired};
 use crate::pairing::numbering::{at, counts_of, renamed};
-use crate::shrinking::costs::{Totals, count_at, saved};
+use crate::shrinking::costs::{Totals, saved};
 use std::alloc::{AllocError, Global};
 use szg_pairs::entry::{is_leaf, left, right};
 
@@ -49,7 +49,7 @@ fn kept_of(
         if *is_kept {
             kept.entries.push(renamed(*entry, &kept.numbers))?;
             kept.lens.push(at(&dictionary.lens, symbol))?;
-            kept.counts.push(count_at(counts, symbol))?;
+            kept.counts.push(at(counts, symbol))?;
         }
     }
     Ok(kept)
@@ -74,8 +74,8 @@ pub(crate) fn without_poor(alloc: Global, paired: &Paired, least: u64) -> Result
             continue;
         }
         let symbol = place.min(MAX_SYMBOLS) as u16;
-        let count = count_at(&counts, symbol);
-        if count_at(&uses, symbol) > 0 || saved(&counts, entry, count, totals) > least {
+        let count = at(&counts, symbol);
+        if at(&uses, symbol) > 0 || saved(&counts, entry, count, totals) > least {
             raise_halves(&mut uses, entry, 1);
             continue;
         }
@@ -83,8 +83,8 @@ pub(crate) fn without_poor(alloc: Global, paired: &Paired, least: u64) -> Result
         totals.symbols = totals.symbols.saturating_add(count);
         totals.most = totals
             .most
-            .max(count_at(&counts, left(entry)))
-            .max(count_at(&counts, right(entry)));
+            .max(at(&counts, left(entry)))
+            .max(at(&counts, right(entry)));
         if place < are_kept.len() {
             are_kept[place] = false;
         }
@@ -108,27 +108,9 @@ pub(crate) fn without_one(
         return Ok(None);
     }
     let mut counts = counts_of(alloc, entries.len(), &paired.symbols)?;
-    let count = count_at(&counts, symbol);
+    let count = at(&counts, symbol);
     raise_halves(&mut counts, entries[place], count);
     let mut are_kept = vec![in alloc; true; entries.len()]?;
     are_kept[place] = false;
     Ok(Some(kept_of(alloc, paired, &counts, &are_kept)?))
-}
-
-/// Drops the pairs that occur neither in the text nor in a kept pair.
-pub(crate) fn without_unused(alloc: Global, mut paired: Paired) -> Result<Paired, AllocError> {
-    let Kept {
-        entries,
-        lens,
-        numbers,
-        ..
-    } = without_poor(alloc, &paired, 0)?;
-    for symbol in paired.symbols.iter_mut() {
-        *symbol = at(&numbers, *symbol);
-    }
-    Ok(Paired {
-        entries,
-        lens,
-        symbols: paired.symbols,
-    })
 }

@@ -2,8 +2,9 @@
 //! of the list to its end.
 //!
 //! Only the safety of this code is proved: a spelling is only a proposal, and proposals are tested.
-ghost use Rattle.std.specs.Prelude.{◌≡◌, ◌<◌, length};
+ghost use Rattle.std.specs.Prelude.{◌≡◌, ◌<◌, ◌≤◌, length, true};
 
+use crate::pairing::cells::are_all;
 use crate::pairing::leaves::MAX_SYMBOLS;
 use crate::pairing::numbering::at;
 use std::alloc::{AllocError, Global};
@@ -196,7 +197,8 @@ fn cheapest_from(tree: &Tree, leaves: &[u16], place: usize, kept: &[u64]) -> Che
     best
 }
 
-/// A text that spells a list of leaves, and how many nodes are on the paths that are searched for it.
+/// A text that spells a list of leaves, or the best first symbol from each index on; and how many nodes are on the paths
+/// that are searched for it.
 #[derive(Drop)]
 pub(crate) struct Spelling {
     pub symbols: Vec<u16>,
@@ -205,77 +207,71 @@ pub(crate) struct Spelling {
     pub visited: u64,
 }
 
-/// The best first symbol from each index on, and how many nodes are on the paths searched, and were visited.
-#[derive(Drop)]
-struct Choices {
-    symbols: Vec<u16>,
-    steps: u64,
-    visited: u64,
-}
-
-/// How costs repeat in a stretch of equal leaves, seen from an index on.
-#[derive(Clone, Copy)]
-struct Stretch {
-    /// How many leaves from the index on are equal.
-    equal: usize,
-    /// By how much the cost from the index on exceeds the cost from `PERIOD` indexes later on, modulo 2^64.
-    rise: u64,
-    /// For how many indexes in succession the rise is the same.
-    same: usize,
-}
-
-/// What is known before the last leaf.
-const NO_STRETCH: Stretch = Stretch {
-    equal: 0,
-    rise: 0,
-    same: 0,
-};
-
-impl Stretch {
-    /// Returns whether the best symbol from the index on is the one from `PERIOD` indexes later on, and the cost is
-    /// greater by `rise`. So it is if the leaves that both depend on are equal, and if the costs from the next `PERIOD`
-    /// indexes on all exceed the costs from `PERIOD` indexes later on by `rise`.
-    fn repeats(self) -> bool {
-        self.equal >= KEPT && self.same >= PERIOD
+/// If the `KEPT` leaves before an index are equal to the leaf at this index, repeats there the symbols of the `PERIOD`
+/// indexes from it on, and returns true.
+fn repeat(leaves: &[u16], symbols: &mut [u16], place: usize) -> bool
+    ensures { result ≡ true → 512 ≤ place }
+{
+    let count = leaves.len();
+    if place < KEPT || count < PERIOD || place > count - PERIOD || symbols.len() != count {
+        return false;
     }
-
-    /// Adds the rise from the index on.
-    fn with_rise(self, rise: u64) -> Stretch {
-        let same = if rise == self.rise { self.same } else { 0 };
-        Stretch {
-            equal: self.equal,
-            rise,
-            same: same.saturating_add(1),
-        }
+    if !are_all(&leaves[place - KEPT..place], leaves[place]) {
+        return false;
     }
+    symbols.copy_within(place..place + PERIOD, place - PERIOD);
+    symbols.copy_within(place - PERIOD..place, place - KEPT);
+    true
 }
 
-/// Chooses the best symbol at each index of the leaves, from the last to the first. In the middle of a long stretch of
-/// equal leaves, the symbols are those of `PERIOD` indexes later. None if more than `limit` nodes are visited.
+/// Chooses the best symbol at each index of the leaves, from the last to the first. None if more than `limit` nodes are
+/// visited.
+///
+/// The best symbol is the one from `PERIOD` indexes later on, and the cost is greater by `rise`, if the leaves that both
+/// depend on are equal, and if the costs from the next `PERIOD` indexes on all exceed the costs from `PERIOD` indexes
+/// later on by `rise`.
 fn choose(
     alloc: Global,
     tree: &Tree,
     leaves: &[u16],
     limit: u64,
-) -> Result<Option<Choices>, AllocError> {
+) -> Result<Option<Spelling>, AllocError> {
     let mut kept_costs = vec![in alloc; 0u64; KEPT]?;
     let kept = kept_costs.as_mut_slice();
     let mut symbols = vec![in alloc; 0u16; leaves.len()]?;
     let (mut steps, mut visited) = (0u64, 0u64);
-    let mut stretch = NO_STRETCH;
+    // how many leaves from the index on are equal; by how much the cost exceeds that of `PERIOD` indexes later on, modulo
+    // 2^64; and for how many indexes in succession it does so
+    let (mut equal, mut rise, mut same) = (0usize, 0u64, 0usize);
     let mut found = NOTHING_FOUND;
     let mut next = None;
-    for later in 0..leaves.len() {
-        let place = leaves.len() - 1 - later;
+    let mut place = leaves.len();
+    for _ in 0..leaves.len() {
+        if place == 0 {
+            break;
+        }
+        let is_repeated = equal >= KEPT && same >= PERIOD;
+        if is_repeated && repeat(leaves, &mut symbols, place) {
+            for cost in kept.iter_mut() {
+                *cost = cost.saturating_add(rise.saturating_mul(2));
+            }
+            steps = steps.saturating_add(found.steps.saturating_mul(KEPT as u64));
+            place -= KEPT;
+            continue;
+        }
+        place -= 1;
+        if place >= leaves.len() {
+            break;
+        }
         let leaf = leaves[place];
-        let equal = if next == Some(leaf) { stretch.equal } else { 0 };
-        stretch.equal = equal.saturating_add(1);
+        let before = if next == Some(leaf) { equal } else { 0 };
+        equal = before.saturating_add(1);
         next = Some(leaf);
         let after = place.saturating_add(PERIOD);
         let cost_after = kept[after % KEPT];
-        if stretch.repeats() && after < symbols.len() {
+        if equal >= KEPT && same >= PERIOD && after < symbols.len() {
             found.symbol = symbols[after];
-            found.cost = cost_after.saturating_add(stretch.rise);
+            found.cost = cost_after.saturating_add(rise);
         } else {
             found = cheapest_from(tree, leaves, place, kept);
             visited = visited.saturating_add(found.steps);
@@ -284,13 +280,15 @@ fn choose(
             return Ok(None);
         }
         steps = steps.saturating_add(found.steps);
-        stretch = stretch.with_rise(found.cost.wrapping_sub(cost_after));
+        let risen = found.cost.wrapping_sub(cost_after);
+        let before = if risen == rise { same } else { 0 };
+        (rise, same) = (risen, before.saturating_add(1));
         kept[place % KEPT] = found.cost;
         if place < symbols.len() {
             symbols[place] = found.symbol;
         }
     }
-    Ok(Some(Choices {
+    Ok(Some(Spelling {
         symbols,
         steps,
         visited,
@@ -309,29 +307,19 @@ pub(crate) fn spell(
     limit: u64,
 ) -> Result<Option<Spelling>, AllocError> {
     let tree = Tree::new(alloc, entries, costs)?;
-    let Some(
-        Choices {
-            symbols: choices,
-            steps,
-            visited,
-        },
-    ) = choose(alloc, &tree, leaves, limit)?
-    else {
+    let Some(mut spelling) = choose(alloc, &tree, leaves, limit)? else {
         return Ok(None);
     };
     let mut symbols = Vec::new(alloc);
     let mut place = 0usize;
-    for _ in 0..choices.len() {
-        if place >= choices.len() {
+    for _ in 0..spelling.symbols.len() {
+        if place >= spelling.symbols.len() {
             break;
         }
-        let symbol = choices[place];
+        let symbol = spelling.symbols[place];
         symbols.push(symbol)?;
         place = place.saturating_add(usize::from(at(lens, symbol).max(1)));
     }
-    Ok(Some(Spelling {
-        symbols,
-        steps,
-        visited,
-    }))
+    spelling.symbols = symbols;
+    Ok(Some(spelling))
 }

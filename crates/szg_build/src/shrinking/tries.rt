@@ -3,17 +3,11 @@
 //! Only the safety of this code is proved: its result is a proposal, and proposals are tested.
 use crate::building::sizing::{choose_sizes, words_for};
 use crate::pairing::leaves::Paired;
+use crate::pairing::numbering::at;
 use crate::shrinking::costs::{BIT, log2};
-use crate::shrinking::dropping::{Kept, without_unused};
+use crate::shrinking::dropping::{Kept, without_poor};
 use crate::shrinking::spelling::{Spelling, spell};
 use std::alloc::{AllocError, Global};
-
-/// How the cost of a symbol is computed: `quarters` quarters of its estimated bits, and the other quarters from the
-/// length of its word.
-#[derive(Clone, Copy)]
-pub(crate) struct Blend {
-    pub quarters: u64,
-}
 
 /// The best dictionary and text so far, and what they cost.
 #[derive(Drop)]
@@ -30,15 +24,6 @@ pub(crate) struct Best {
     pub limit: u64,
     /// The number of tries so far.
     pub tries: u64,
-}
-
-/// Returns a copy.
-pub(crate) fn copy_of(alloc: Global, paired: &Paired) -> Result<Paired, AllocError> {
-    Ok(Paired {
-        entries: paired.entries.to_vec(alloc)?,
-        lens: paired.lens.to_vec(alloc)?,
-        symbols: paired.symbols.to_vec(alloc)?,
-    })
 }
 
 impl Best {
@@ -64,7 +49,7 @@ impl Best {
         if cost >= self.cost {
             return Ok(false);
         }
-        self.paired = copy_of(alloc, tried)?;
+        self.paired = tried.clone()?;
         self.cost = cost;
         Ok(true)
     }
@@ -77,7 +62,7 @@ impl Best {
         &mut self,
         alloc: Global,
         dictionary: Kept,
-        blend: Blend,
+        quarters: u64,
     ) -> Result<Option<Paired>, AllocError> {
         let Kept {
             entries,
@@ -89,15 +74,15 @@ impl Best {
         let total = counts
             .iter()
             .fold(0u64, |sum, count| sum.saturating_add(*count));
-        let rest = 4u64.saturating_sub(blend.quarters);
+        let rest = 4u64.saturating_sub(quarters);
         let mut costs = Vec::new(alloc);
-        for (count, length) in counts.iter().zip(&words.lengths) {
+        for (count, length) in counts.iter().zip(&words) {
             let word = u64::from(*length).saturating_mul(BIT);
             // a word has at least one bit
             let estimated = log2(total).saturating_sub(log2(*count)).max(BIT);
             let blended = word
                 .saturating_mul(rest)
-                .saturating_add(estimated.saturating_mul(blend.quarters));
+                .saturating_add(estimated.saturating_mul(quarters));
             costs.push(blended)?;
         }
         let Some(
@@ -113,11 +98,17 @@ impl Best {
         };
         self.budget = self.budget.saturating_sub(steps);
         self.limit = self.limit.saturating_sub(visited);
-        let spelled = Paired {
+        let mut spelled = Paired {
             entries,
             lens,
             symbols,
         };
-        Ok(Some(without_unused(alloc, spelled)?))
+        let needed = without_poor(alloc, &spelled, 0)?;
+        for symbol in spelled.symbols.iter_mut() {
+            *symbol = at(&needed.numbers, *symbol);
+        }
+        spelled.entries = needed.entries;
+        spelled.lens = needed.lens;
+        Ok(Some(spelled))
     }
 }

@@ -1,5 +1,5 @@
 //! Reads a file, and writes the dump of its table while it is read.
-ghost use Rattle.std.specs.Prelude.{◌≡◌, ◌⊎◌, [], IsErrOf, IsTrue, OnOk, true};
+ghost use Rattle.std.specs.Prelude.{◌≡◌, ◌⊎◌, [], IsErrOf, IsTrue, OnOk};
 ghost use Rattle.szg_io.specs.Device.{HasFailed};
 ghost use Rattle.szg_io.specs.Moved.{Gives, Takes};
 ghost use Rattle.szg_file.specs.Held.{Shown, file_bytes};
@@ -13,7 +13,7 @@ ghost use Rattle.szg_build.specs.declared.writing.dumping.StreamFault.TheVariant
 
 use crate::writing::streaming::{begin_dump, end_dump};
 use std::alloc::Global;
-use szg_file::{Ahead, ReadFault, Scanned, TableIndex, WriteFault, scan};
+use szg_file::{Ahead, ReadFault, TableIndex, WriteFault, scan};
 use szg_io::{Input, Output};
 
 /// Why a dump was not written whole while its file was read. A beginning of its text may have been written.
@@ -65,35 +65,16 @@ pub fn stream_dump<R: Input + Ahead, W: Output>(
     let material = index.material().copy();
     match scan(alloc, material, index.kind(), input, &mut sink, output) {
         Ok(scanned) => {
-            if !has_same_front(&scanned, index, last) {
+            if !scanned.index.has_same(index) || scanned.last != *last {
                 return Err(StreamFault::Changed);
             }
         }
-        Err(fault) => return Err(stopped(fault, sink.failed)),
+        Err(ReadFault::Refused { .. }) => return Err(StreamFault::Changed),
+        Err(ReadFault::Device) => return Err(StreamFault::Input),
+        // the sink refuses values after a failed write, and `scan` then returns `Memory`
+        Err(ReadFault::Memory) if sink.failed => return Err(StreamFault::Output),
+        Err(ReadFault::Memory) => return Err(StreamFault::Memory),
     }
     end_dump(&mut sink, output)?;
     Ok(())
-}
-
-/// Returns whether a table that was scanned has this index and these last bytes. Material and kind are the same.
-fn has_same_front(scanned: &Scanned, index: &TableIndex, last: &[u8; 16]) -> bool
-    ensures parts { (result ≡ true) → scanned.now.index.parts ≡ index.now.parts }
-    ensures flags { (result ≡ true) → scanned.now.index.flags ≡ index.now.flags }
-    ensures maps { (result ≡ true) → scanned.now.index.maps ≡ index.now.maps }
-    ensures last { (result ≡ true) → scanned.now.last ≡ last.now }
-{
-    scanned.index.has_same(index) && scanned.last == *last
-}
-
-/// Converts a fault of `scan` into a `StreamFault`. If the writer failed (`failed`), the sink refused values, so `scan`
-/// returned `Memory`; the result is then `Output`.
-fn stopped(fault: ReadFault, failed: bool) -> StreamFault
-    ensures { (result ≡ StreamFault.Input) → fault ≡ ReadFault.Device }
-{
-    match fault {
-        ReadFault::Refused { .. } => StreamFault::Changed,
-        ReadFault::Device => StreamFault::Input,
-        ReadFault::Memory if failed => StreamFault::Output,
-        ReadFault::Memory => StreamFault::Memory,
-    }
 }

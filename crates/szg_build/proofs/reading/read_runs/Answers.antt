@@ -1,4 +1,4 @@
-use Rattle.std.proofs.Common.{◌-◌, ◌++◌, ℕ, length, replicate, refl, ap, arith}
+use Rattle.std.proofs.Common.{◌-◌, [], ◌++◌, ℕ, length, replicate, refl, ap, arith}
 use Rattle.std.proofs.lemmas.List.{length-append, length-replicate}
 use Rattle.std.proofs.lemmas.Result.{err_from_is_err_and}
 use Rattle.szg_build.proofs.Readers.GoingLaws.{runs_begun, run_more, run_stopped, runs_ended}
@@ -10,7 +10,7 @@ use Rattle.szg_build.proofs.Readers.ReadingLaws.{passed_on}
 use Rattle.szg_build.proofs.reading.read_runs.Goals as goal
 
 pub runs-init : goal.runs-init
-runs-init g c = (c.args.count, omega arith, runs_begun (values_held c.new-values.result) c.args.count c.new-values.ensures, omega (arith, c.requires), omega (arith, ap length c.new-values.ensures))
+runs-init g c = (c.args.count, omega arith, runs_begun [] c.args.count refl, omega (arith, c.requires), omega arith)
 
 pub returns-in_err-size-clause-lines : goal.returns-in_err-size-clause-lines
 returns-in_err-size-clause-lines g c =

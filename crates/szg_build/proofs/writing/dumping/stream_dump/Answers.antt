@@ -1,4 +1,6 @@
-use Rattle.std.proofs.Common.{◌≡◌, true, sym, ap, ◌∙◌}
+use Rattle.std.proofs.Common.{◌≡◌, true, false, refl, sym, ap, ◌∙◌}
+use Rattle.std.specs.Prelude.{Bool, not, bytes_eq}
+use Rattle.std.proofs.lemmas.Slice.Eq.{bytes_eq-Decides}
 use Rattle.szg_file.specs.Index.{Index, index_of}
 use Rattle.szg_file.specs.Streaming.{wanted_of}
 use Rattle.szg_file.proofs.Readers.StreamedRead.{file_taken}
@@ -10,6 +12,10 @@ use Rattle.szg_build.proofs.Writers.StreamSteps.{accepted_goes}
 use Rattle.szg_build.proofs.Writers.StreamedDumps.{own_dump_is, same_index, streamed_text}
 use Rattle.szg_build.proofs.writing.dumping.stream_dump.Goals as goal
 
+same_bytes : (is_same : Bool) → false ≡ not is_same → is_same ≡ true
+same_bytes true e = refl
+same_bytes false e = absurd cc
+
 pub returns-clause-dumped : goal.returns-clause-dumped
 returns-clause-dumped g c =
     let x : Index = c.args.index.now in
@@ -19,13 +25,15 @@ returns-clause-dumped g c =
     let read = c.in-Ok.ensures.scanned in
     let t = read.table in
     let is_valid = read.read.table in
-    let yes : c.has_same_front.result ≡ true = c.if-not-has_same_front.false in
+    let same = c.if-not-has_same.ensures.0 refl in
+    let last : c.in-Ok.scanned.last ≡ c.args.last.now =
+    (bytes_eq-Decides c.in-Ok.scanned.last c.args.last.now).0 (same_bytes (bytes_eq c.in-Ok.scanned.last c.args.last.now) c.if-ne.ensures) in
     let is : x ≡ index_of t.contents =
     same_index x (index_of t.contents) (sym (is_valid.material_is ∙ material)) (sym (is_valid.kind_is ∙ kind))
-    (sym (c.has_same_front.ensures.parts yes) ∙ ap (λ (y : Index). y.parts) read.index_is)
-    (sym (c.has_same_front.ensures.flags yes) ∙ ap (λ (y : Index). y.flags) read.index_is)
-    (sym (c.has_same_front.ensures.maps yes) ∙ ap (λ (y : Index). y.maps) read.index_is) in
-    let ends : c.args.last.now ≡ t.contents.last = sym (c.has_same_front.ensures.last yes) ∙ read.last_is in
+    (sym same.0 ∙ ap (λ (y : Index). y.parts) read.index_is)
+    (sym same.1 ∙ ap (λ (y : Index). y.flags) read.index_is)
+    (sym same.2 ∙ ap (λ (y : Index). y.maps) read.index_is) in
+    let ends : c.args.last.now ≡ t.contents.last = sym last ∙ read.last_is in
     let goes = accepted_goes g.W.Output (wanted_of all_wanted t.contents) sink c.begin_dump.new.output c.scan.new.sink c.scan.new.out read.accepted in (
       t,
       record { material_is = is_valid.material_is ∙ material; kind_is = is_valid.kind_is ∙ kind; accepted = is_valid.accepted },

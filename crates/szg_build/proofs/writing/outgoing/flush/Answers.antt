@@ -1,9 +1,7 @@
-use Rattle.std.proofs.lemmas.Result.{err_from_is_err_and}
+use Rattle.std.proofs.Common.{arith}
 use Rattle.szg_build.proofs.Writers.WritingLaws.{writes_held_stopped}
 use Rattle.szg_build.proofs.writing.outgoing.flush.Goals as goal
 
-pub returns-in_err-outgoing-clause-none : goal.returns-in_err-outgoing-clause-none
-returns-in_err-outgoing-clause-none g c =
-    let f = c.in_err-outgoing.ensures.fault in
-    let p = err_from_is_err_and c.from_residual.result c.from_residual.ensures.1 in
-    rw (p.1, p.2) (writes_held_stopped c.args.outgoing.now _ c.as_slice.result.now f.0 c.in_err-outgoing.field-0.0 c.as_slice.ensures.value f.1 f.2 f.3 c.in_err-outgoing.ensures.failed)
+pub returns-in-Err-clause-none : goal.returns-in-Err-clause-none
+returns-in-Err-clause-none g c =
+    writes_held_stopped c.args.outgoing.now _ c.as_slice-chunk.result.now c.in-Err.n _ c.as_slice-chunk.ensures.value c.in-Err.ensures.short (omega (arith, c.saturating_add.ensures)) c.in-Err.ensures.err c.in-Err.ensures.failed

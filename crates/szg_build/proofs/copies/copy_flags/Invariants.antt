@@ -1,5 +1,5 @@
 use Rattle.std.proofs.Common.{◌≡◌, ◌%◌, map, take}
-use Rattle.szg_build.proofs.copies.copy_dtz_flags.Given as goal
+use Rattle.szg_build.proofs.copies.copy_flags.Given as goal
 
 -- the flags of the subtables so far
 abbrev pub invariant-loop-byte : goal.invariant-loop-byte

@@ -1,8 +1,0 @@
-use Rattle.std.proofs.Common.{rules}
-use Rattle.szg_build.specs.Fronts.{lines_after}
-use Rattle.szg_build.specs.Grammar.{part_line}
-use Rattle.szg_build.proofs.Readers.LineParses.{known_reads}
-use Rattle.szg_build.proofs.reading.lines.read_part.Goals as goal
-
-pub returns-clause-lines : goal.returns-clause-lines
-returns-clause-lines g c = known_reads (lines_after (part_line c.args.number)) (λ part. record { order = part.0.items; men = part.1.items }) (λ text stated gave. search rules) c.read_parsed.ensures.lines
