@@ -8,9 +8,9 @@ use Rattle.std.proofs.lemmas.List.Sorted.{IsPermutation-append_left, IsPermutati
 use Rattle.szg_commands.specs.Laws.{ShardsShareFiles, shards_from}
 use Rattle.szg_named.specs.Shards.{has, shard_after, shard_of, taken_of}
 use Rattle.szg_named.specs.Verdicts.{Listed}
-use Rattle.szg_named.specs.declared.shard.Shard.{Shard}
+use Rattle.szg_named.specs.declared.shard.FileShard.{FileShard}
 
-abbrev shard : ℕ → ℕ → Shard
+abbrev shard : ℕ → ℕ → FileShard
 shard count number = record { number = number; count = count }
 
 not_true : (b : Bool) → (b ≡ true → ⊥) → b ≡ false
@@ -27,8 +27,8 @@ to_middle x here others =
     IsPermutation-trans (x ∷ (here ++ others)) ((here ++ others) ++ x ∷ []) (here ++ (x ∷ others)) (IsPermutation-append_comm (x ∷ []) (here ++ others)) (ends x here others)
 
 -- one more file, after `before` others
-module _ {X : Type 0} (count before : ℕ) (some : 0 < count) (x : X) (rest : Shard → List X) where
-  abbrev step : Shard → List X
+module _ {X : Type 0} (count before : ℕ) (some : 0 < count) (x : X) (rest : FileShard → List X) where
+  abbrev step : FileShard → List X
   step s = taken_of s before x ++ rest s
 
   has_it : (number : ℕ) → before % count + 1 ≡ number → has (shard count number) before ≡ true
@@ -69,14 +69,14 @@ module _ {X : Type 0} (count before : ℕ) (some : 0 < count) (x : X) (rest : Sh
             (subst (λ (z : List X). IsPermutation (x ∷ (here ++ others)) (x ∷ (here ++ z))) (sym (left (first + 1) many (omega (arith, is)))) (IsPermutation-refl (x ∷ (here ++ others))))
       ]
 
-none_of : {X : Type 0} (shards : List Shard) (before : ℕ) → flat_map (λ s. shard_after {X = X} s before []) shards ≡ []
+none_of : {X : Type 0} (shards : List FileShard) (before : ℕ) → flat_map (λ s. shard_after {X = X} s before []) shards ≡ []
 none_of [] before = refl
 none_of (s ∷ more) before = none_of more before
 
 shared : {X : Type 0} (count before : ℕ) → 0 < count → (files : List X) → IsPermutation files (flat_map (λ s. shard_after s before files) (shards_from count 1 count))
 shared {X = X} count before some [] = subst (λ (z : List X). IsPermutation [] z) (sym (none_of (shards_from count 1 count) before)) (IsPermutation-refl [])
 shared {X = X} count before some (x ∷ files) =
-    let rest : Shard → List X = λ s. shard_after s (before + 1) files in
+    let rest : FileShard → List X = λ s. shard_after s (before + 1) files in
     let below : before % count < count = mod_below before count some in
     IsPermutation-trans (x ∷ files) (x ∷ flat_map rest (shards_from count 1 count)) (flat_map (λ s. taken_of s before x ++ rest s) (shards_from count 1 count))
     (IsPermutation-cons x files (flat_map rest (shards_from count 1 count)) (shared count (before + 1) some files))

@@ -11,7 +11,7 @@ use Rattle.szg_commands.specs.Fronts.{IsLookUp}
 use Rattle.szg_commands.specs.Words.{is_word, parsed_kind, word_of}
 use Rattle.szg_commands.specs.declared.file_words.FileJob.{FileJob}
 use Rattle.szg_commands.specs.declared.file_words.FileJob.TheVariants.{Check, LookUp, Run}
-use Rattle.szg_named.specs.declared.shard.Shard.{Shard}
+use Rattle.szg_named.specs.declared.shard.FileShard.{FileShard}
 use Rattle.szg_commands.specs.declared.request.Request.{Request}
 use Rattle.szg_commands.specs.declared.request.Task.{Task}
 use Rattle.szg_commands.specs.declared.request.Task.TheVariants.{OnTable, Build}
@@ -21,12 +21,12 @@ abbrev pub kind_given : Found → Option Kind
 kind_given found = option_map (λ word. parsed_kind (Some word)) (first_value found (codes "kind"))
 
 -- The word is the shard's number, from 1 on, a slash, and how many there are.
-abbrev pub IsShardWord : List ℕ → Shard → Type 0
+abbrev pub IsShardWord : List ℕ → FileShard → Type 0
 IsShardWord word shard = (word ≡ decimal shard.number ++ (codes "/" ++ decimal shard.count)) × (1 ≤ shard.number) × (shard.number ≤ shard.count)
 
-abbrev pub IsShardIn : Option (List ℕ) → Option Shard → Type 0
+abbrev pub IsShardIn : Option (List ℕ) → Option FileShard → Type 0
 IsShardIn None shard = shard ≡ None
-IsShardIn (Some word) shard = (one : Shard) × (shard ≡ Some one) × IsShardWord word one
+IsShardIn (Some word) shard = (one : FileShard) × (shard ≡ Some one) × IsShardWord word one
 
 -- The options are those of the values that were found.
 pub record AreOptionsIn (found : Found) (options : CheckOptions) : Type 0 where

@@ -2,10 +2,10 @@
 use Rattle.std.specs.Prelude.{ℕ, zero, suc, ◌+◌, ◌<◌, List, [], ◌∷◌, flat_map, IsPermutation, Some}
 use Rattle.szg_named.specs.Shards.{shard_of}
 use Rattle.szg_named.specs.Verdicts.{Listed}
-use Rattle.szg_named.specs.declared.shard.Shard.{Shard}
+use Rattle.szg_named.specs.declared.shard.FileShard.{FileShard}
 
 -- the shards of `count` from number `first` on, so many
-abbrev pub shards_from : ℕ → ℕ → ℕ → List Shard
+abbrev pub shards_from : ℕ → ℕ → ℕ → List FileShard
 shards_from count first zero = []
 shards_from count first (suc many) = record { number = first; count = count } ∷ shards_from count (first + 1) many
 

@@ -20,7 +20,7 @@ use crate::request::{
 use clap::error::ErrorKind;
 use clap::{ArgMatches, Error};
 use std::alloc::{AllocError, Global};
-use szg_named::{CheckOptions, Naming, ReportFormat, Shard, named_as, named_by};
+use szg_named::{CheckOptions, FileShard, Naming, ReportFormat, named_as, named_by};
 use szg_values::Material;
 
 /// The check of files and of what is below folders.
@@ -257,7 +257,7 @@ fn job_in<'a>(
 }
 
 /// Parses a shard: its number, from 1 on, a slash, and how many there are. None if the word isn't one.
-fn parsed_shard(alloc: Global, word: &str) -> Result<Option<Shard>, AllocError>
+fn parsed_shard(alloc: Global, word: &str) -> Result<Option<FileShard>, AllocError>
     ensures { IfOk result (λ shard. IfSome shard (λ one. IsShardWord word.now one)) }
 {
     let Some((first, last)) = word.split_once('/') else {
@@ -268,14 +268,14 @@ fn parsed_shard(alloc: Global, word: &str) -> Result<Option<Shard>, AllocError>
     };
     let text = format!(in alloc; "{number}/{count}")?;
     if text.as_str() == word && 1 <= number && number <= count {
-        Ok(Some(Shard { number, count }))
+        Ok(Some(FileShard { number, count }))
     } else {
         Ok(None)
     }
 }
 
 /// The shard that is given. None if there is none.
-fn shard_in<'a>(alloc: Global, chosen: &ArgMatches<'a>) -> Result<Option<Shard>, WordsFault<'a>>
+fn shard_in<'a>(alloc: Global, chosen: &ArgMatches<'a>) -> Result<Option<FileShard>, WordsFault<'a>>
     ensures shard { IfOk result (IsShardIn (first_value (found_of chosen.now) (codes "shard"))) }
     ensures none { IfErr result (IsWordsFault (codes "check") (found_of chosen.now)) }
 {
@@ -290,7 +290,7 @@ fn shard_in<'a>(alloc: Global, chosen: &ArgMatches<'a>) -> Result<Option<Shard>,
 }
 
 /// How files are to be checked.
-fn options_in<'a>(chosen: &ArgMatches<'a>, shard: Option<Shard>) -> CheckOptions<'a>
+fn options_in<'a>(chosen: &ArgMatches<'a>, shard: Option<FileShard>) -> CheckOptions<'a>
     requires { IsShardIn (first_value (found_of chosen.now) (codes "shard")) shard }
     ensures { AreOptionsIn (found_of chosen.now) result }
 {

@@ -4,7 +4,7 @@ use Rattle.std.specs.Prelude.{Some, None}
 use Rattle.std.specs.Result.{is_err}
 use Rattle.sha2.specs.Sha256.{sha256}
 use Rattle.szg_named.specs.declared.one.Checked.{Checked}
-use Rattle.szg_named.specs.declared.one.Found.{Found}
+use Rattle.szg_named.specs.declared.one.CheckedFile.{CheckedFile}
 use Rattle.std.proofs.Math.Logic.{∥∥₁_prop}
 use Rattle.szg_io.specs.Moved.{Takes}
 use Rattle.szg_io.specs.declared.device.Input as input
@@ -106,7 +106,7 @@ module _ {F H : Type 0} {hashing : hasher.Ghosts H} (device : input.Ghosts F) wh
       (checked.input, (checked.input, verdict, due_on due material kind old checked verdict h, rw none refl))
 
   -- a table gets the digest of its bytes
-  pub digested : (due : Due) (material : Sides) (kind : Kind) (file : F) (old checked read : Hashed F H device hashing) (verdict : FileVerdict) (found : Found) → old.input ≡ file → IsDueVerdictOn over due material kind old checked verdict → is_table verdict ≡ true →
+  pub digested : (due : Due) (material : Sides) (kind : Kind) (file : F) (old checked read : Hashed F H device hashing) (verdict : FileVerdict) (found : CheckedFile) → old.input ≡ file → IsDueVerdictOn over due material kind old checked verdict → is_table verdict ≡ true →
       IsReadOn device checked.input read.input (λ m. found_as verdict (Some (sha256 m))) (λ error. found_as (Unread error) None) found → (input : F) × IsDigestedOn device due material kind file input found
   digested due material kind file old checked read verdict found is h table c =
       subst (λ (f : F). (input : F) × IsDigestedOn device due material kind f input found) is
@@ -121,7 +121,7 @@ summed device sum form material kind file result is h =
 
 -- what was found where a digest is asked for, and where none is
 module _ {F : Type 0} (device : input.Ghosts F) (has : Bool) (due : Due) (material : Sides) (kind : Kind) (file : F) where
-  pub found_digested : (result : Result Found CheckStop) → has ≡ true → IfOk result (λ found. (read : F) × IsDigestedOn device due material kind file read found) →
+  pub found_digested : (result : Result CheckedFile CheckStop) → has ≡ true → IfOk result (λ found. (read : F) × IsDigestedOn device due material kind file read found) →
       IfOk result (λ found. (read : F) × IsFoundOn has device due material kind file read found)
   found_digested (Ok found) is h = (h.0, rw is h.1)
   found_digested (Err stop) is h = tt

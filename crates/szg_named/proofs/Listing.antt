@@ -2,7 +2,7 @@
 use Rattle.std.proofs.Common.{◌≡◌, ℕ, ◌+◌, ◌<◌, Bool, true, false, length, get_or, map, take, Bor, Option, Some, None, List, [], ◌∷◌, ◌++◌, refl, sym, ap, subst, ◌∙◌, append_assoc, append-nil, arith, if◌then◌else◌}
 use Rattle.std.proofs.lemmas.List.{length-map, length-take-le, map-append, take_more}
 use Rattle.szg_named.specs.Shards.{has, shard_after, taken_of}
-use Rattle.szg_named.specs.declared.shard.Shard.{Shard}
+use Rattle.szg_named.specs.declared.shard.FileShard.{FileShard}
 use Rattle.szg_named.specs.Verdicts.{AllMissing, AreListed, AreMissing, IsListedAt, Listed, file_at, listed_of}
 use Rattle.szg_sums.specs.declared.lists.Sums.{Sums}
 use Rattle.szg_named.specs.declared.file_verdict.FileVerdict.TheVariants.{Sum}
@@ -59,14 +59,14 @@ files_are_listed [] = refl
 files_are_listed (path ∷ paths) = (file_at path ∷ [], map file_at paths, λ named. refl, refl, files_are_listed paths)
 
 -- a shard's of some, and of one more
-shard_more : {X : Type 0} (shard : Shard) (before : ℕ) (xs : List X) (x : X) (i : ℕ) → i ≡ before + length xs → shard_after shard before (xs ++ x ∷ []) ≡ shard_after shard before xs ++ taken_of shard i x
+shard_more : {X : Type 0} (shard : FileShard) (before : ℕ) (xs : List X) (x : X) (i : ℕ) → i ≡ before + length xs → shard_after shard before (xs ++ x ∷ []) ≡ shard_after shard before xs ++ taken_of shard i x
 shard_more shard before [] x i is = let same : before ≡ i = omega (arith, is) in append-nil (taken_of shard before x) ∙ ap (λ (k : ℕ). taken_of shard k x) same
 shard_more shard before (y ∷ ys) x i is =
     ap (λ (z : List _). taken_of shard before y ++ z) (shard_more shard (before + 1) ys x i (omega (arith, is)))
     ∙ sym (append_assoc (taken_of shard before y) (shard_after shard (before + 1) ys) (taken_of shard i x))
 
 -- a shard's of the first entries, and of the next
-pub shard_next : (shard : Shard) (entries : List PathToCheck) (i : ℕ) (item : PathToCheck) (old new : List PathToCheck) → i < length entries → item ≡ get_or entries i item →
+pub shard_next : (shard : FileShard) (entries : List PathToCheck) (i : ℕ) (item : PathToCheck) (old new : List PathToCheck) → i < length entries → item ≡ get_or entries i item →
     map listed_of old ≡ shard_after shard 0 (map listed_of (take i entries)) → map listed_of new ≡ map listed_of old ++ taken_of shard i (listed_of item) →
     map listed_of new ≡ shard_after shard 0 (map listed_of (take (i + 1) entries))
 shard_next shard entries i item old new below is h grown =
@@ -77,11 +77,11 @@ shard_next shard entries i item old new below is h grown =
     ∙ shard_more shard 0 (map listed_of (take i entries)) (listed_of item) i count in
     grown ∙ ap (λ (z : List Listed). z ++ taken_of shard i (listed_of item)) h ∙ sym next
 
-pub entry_taken : (shard : Shard) (i : ℕ) (old : List PathToCheck) (entry one : PathToCheck) → has shard i ≡ true → listed_of one ≡ listed_of entry → map listed_of (old ++ one ∷ []) ≡ map listed_of old ++ taken_of shard i (listed_of entry)
+pub entry_taken : (shard : FileShard) (i : ℕ) (old : List PathToCheck) (entry one : PathToCheck) → has shard i ≡ true → listed_of one ≡ listed_of entry → map listed_of (old ++ one ∷ []) ≡ map listed_of old ++ taken_of shard i (listed_of entry)
 entry_taken shard i old entry one taken same =
     map-append listed_of old (one ∷ []) ∙ ap (λ (z : Listed). map listed_of old ++ z ∷ []) same
     ∙ sym (ap (λ (b : Bool). map listed_of old ++ (if b then listed_of entry ∷ [] else [])) taken)
 
-pub entry_passed : (shard : Shard) (i : ℕ) (old : List PathToCheck) (entry : PathToCheck) → has shard i ≡ false → map listed_of old ≡ map listed_of old ++ taken_of shard i (listed_of entry)
+pub entry_passed : (shard : FileShard) (i : ℕ) (old : List PathToCheck) (entry : PathToCheck) → has shard i ≡ false → map listed_of old ≡ map listed_of old ++ taken_of shard i (listed_of entry)
 entry_passed shard i old entry passed =
     sym (ap (λ (b : Bool). map listed_of old ++ (if b then listed_of entry ∷ [] else [])) passed ∙ append-nil (map listed_of old))

@@ -8,7 +8,7 @@ use Rattle.szg_io.specs.declared.device.Output as output
 use Rattle.szg_named.specs.Verdicts.{AreListed, AreMissing, Counts, IsFileVerdict, IsFoundReport, IsPathVerdict, IsReportOn, IsVerdictAt, Listed, Reports, due_in, file_at, good_of, kept_of, listed_of, manifest_of, plain_options, refused_of, skipped_of, unread_of}
 use Rattle.szg_named.specs.Records.{IsShownLine, manifest_line}
 use Rattle.szg_named.specs.Shards.{shard_of}
-use Rattle.szg_named.specs.declared.one.Found.{Found}
+use Rattle.szg_named.specs.declared.one.CheckedFile.{CheckedFile}
 use Rattle.szg_named.specs.declared.many.CheckReport.{CheckReport}
 use Rattle.szg_named.specs.declared.file_verdict.FileVerdict.{FileVerdict}
 use Rattle.szg_named.specs.declared.file_verdict.FileVerdict.TheVariants.{Whole, Ending, Name, At, Trailing, Unopened, Unread, NoText, Empty, Skipped, Kept, Sum}
@@ -20,7 +20,7 @@ use Rattle.szg_named.specs.declared.stop.CheckCounts.{CheckCounts}
 use Rattle.szg_named.proofs.Listing.{files_are_listed, none_missing}
 
 pub reports_more : {S F : Type 0} (content : S → List ℕ → Option (List ℕ)) (failures : S → ℕ) (device : input.Ghosts F) (options : CheckOptions)
-    (listed : List Listed) (found : List Found) (one : Listed) (at : Found) (first mid last : S) (text line : List ℕ) →
+    (listed : List Listed) (found : List CheckedFile) (one : Listed) (at : CheckedFile) (first mid last : S) (text line : List ℕ) →
     Reports content failures device options listed found first mid text → IsVerdictAt content failures device options one.0 one.1 mid last at → IsShownLine options.quiet options.format options.allow_trailing one.0 at.verdict line →
     Reports content failures device options (listed ++ one ∷ []) (found ++ at ∷ []) first last (text ++ line)
 reports_more content failures device options [] [] one at first mid last text line h says shows =
@@ -39,7 +39,7 @@ reports_more content failures device options (p ∷ ps) (f ∷ fs) one at first 
 
 -- the manifest of files that have a report, extended by one
 manifest_more : {S F : Type 0} (content : S → List ℕ → Option (List ℕ)) (failures : S → ℕ) (device : input.Ghosts F) (options : CheckOptions) (allow : Bool)
-    (listed : List Listed) (found : List Found) (one : Listed) (at : Found) (first mid : S) (text : List ℕ) → Reports content failures device options listed found first mid text →
+    (listed : List Listed) (found : List CheckedFile) (one : Listed) (at : CheckedFile) (first mid : S) (text : List ℕ) → Reports content failures device options listed found first mid text →
     manifest_of allow (listed ++ one ∷ []) (found ++ at ∷ []) ≡ manifest_of allow listed found ++ manifest_line allow one.0 at.verdict at.digest
 manifest_more content failures device options allow [] [] one at first mid text h = append-nil (manifest_line allow one.0 at.verdict at.digest)
 manifest_more content failures device options allow [] (f ∷ fs) one at first mid text h = absurd h
@@ -67,14 +67,14 @@ counts_once allow (Sum fault) = refl
 pub sum_more : {X : Type 0} (f : X → ℕ) (xs : List X) (x : X) → sum_by f (xs ++ x ∷ []) ≡ sum_by f xs + f x
 sum_more f xs x = omega (arith, sum_by-append f xs (x ∷ []))
 
-pub counts_more : (allow : Bool) (found : List Found) (at : Found) (old new : CheckCounts) → Counts allow found old → new.good ≡ old.good + good_of allow at.verdict → new.refused ≡ old.refused + refused_of allow at.verdict → new.unread ≡ old.unread + unread_of at.verdict → new.kept ≡ old.kept + kept_of at.verdict →
+pub counts_more : (allow : Bool) (found : List CheckedFile) (at : CheckedFile) (old new : CheckCounts) → Counts allow found old → new.good ≡ old.good + good_of allow at.verdict → new.refused ≡ old.refused + refused_of allow at.verdict → new.unread ≡ old.unread + unread_of at.verdict → new.kept ≡ old.kept + kept_of at.verdict →
     new.skipped ≡ old.skipped + skipped_of at.verdict → Counts allow (found ++ at ∷ []) new
 counts_more allow found at old new h good refused unread kept skipped = record {
-  good = let m = sum_more (λ (one : Found). good_of allow one.verdict) found at in omega (arith, h.good, m, good);
-  refused = let m = sum_more (λ (one : Found). refused_of allow one.verdict) found at in omega (arith, h.refused, m, refused);
-  unread = let m = sum_more (λ (one : Found). unread_of one.verdict) found at in omega (arith, h.unread, m, unread);
-  kept = let m = sum_more (λ (one : Found). kept_of one.verdict) found at in omega (arith, h.kept, m, kept);
-  skipped = let m = sum_more (λ (one : Found). skipped_of one.verdict) found at in omega (arith, h.skipped, m, skipped);
+  good = let m = sum_more (λ (one : CheckedFile). good_of allow one.verdict) found at in omega (arith, h.good, m, good);
+  refused = let m = sum_more (λ (one : CheckedFile). refused_of allow one.verdict) found at in omega (arith, h.refused, m, refused);
+  unread = let m = sum_more (λ (one : CheckedFile). unread_of one.verdict) found at in omega (arith, h.unread, m, unread);
+  kept = let m = sum_more (λ (one : CheckedFile). kept_of one.verdict) found at in omega (arith, h.kept, m, kept);
+  skipped = let m = sum_more (λ (one : CheckedFile). skipped_of one.verdict) found at in omega (arith, h.skipped, m, skipped);
 }
 
 -- the first entries, extended by the next
@@ -85,7 +85,7 @@ entries_next entries i item below is =
 
 -- the report of the first entries, extended by the next
 module _ {S F : Type 0} (content : S → List ℕ → Option (List ℕ)) (failures : S → ℕ) (device : input.Ghosts F) (options : CheckOptions)
-    (entries : List PathToCheck) (i : ℕ) (item : PathToCheck) (found : List Found) (at : Found) (first mid : S) (text : List ℕ) where
+    (entries : List PathToCheck) (i : ℕ) (item : PathToCheck) (found : List CheckedFile) (at : CheckedFile) (first mid : S) (text : List ℕ) where
   pub reports_next : (last : S) (line : List ℕ) → i < length entries → item ≡ get_or entries i item →
       Reports content failures device options (map listed_of (take i entries)) found first mid text → IsVerdictAt content failures device options (listed_of item).0 (listed_of item).1 mid last at →
       IsShownLine options.quiet options.format options.allow_trailing (listed_of item).0 at.verdict line →
@@ -133,7 +133,7 @@ module _ {S F W : Type 0} (content : S → List ℕ → Option (List ℕ)) (fail
 
 -- what was found by what the lists have for a path
 pub due_is : {S F : Type 0} (content : S → List ℕ → Option (List ℕ)) (failures : S → ℕ) (device : input.Ghosts F) (options : CheckOptions) (path : List ℕ) (due : Due)
-    (system system' : S) (result : Result Found CheckStop) → due ≡ due_in options.sums path → IfOk result (λ found. IsFileVerdict content failures device options.naming due options.has_manifest path system system' found) →
+    (system system' : S) (result : Result CheckedFile CheckStop) → due ≡ due_in options.sums path → IfOk result (λ found. IsFileVerdict content failures device options.naming due options.has_manifest path system system' found) →
     IfOk result (λ found. IsPathVerdict content failures device options path system system' found)
 due_is content failures device options path due system system' (Ok found) is h = inr (subst (λ (z : Due). IsFileVerdict content failures device options.naming z options.has_manifest path system system' found) is h)
 due_is content failures device options path due system system' (Err stop) is h = tt

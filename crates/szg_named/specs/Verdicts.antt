@@ -33,7 +33,7 @@ use Rattle.szg_sums.specs.declared.sum.Sum.{Sum as Digest}
 use Rattle.szg_named.specs.declared.log.Log.{Log}
 use Rattle.szg_named.specs.declared.many.CheckOptions.{CheckOptions}
 use Rattle.szg_named.specs.declared.many.CheckReport.{CheckReport}
-use Rattle.szg_named.specs.declared.one.Found.{Found}
+use Rattle.szg_named.specs.declared.one.CheckedFile.{CheckedFile}
 use Rattle.szg_named.specs.declared.named.Naming.{Naming}
 use Rattle.szg_named.specs.declared.report_format.ReportFormat.TheVariants as report_formats
 use Rattle.szg_named.specs.declared.stop.CheckCounts.{CheckCounts}
@@ -79,45 +79,45 @@ IsDueVerdictOn device dues.Unlisted material kind file read verdict =
     (found : FileVerdict) × IsVerdictOn device material kind file read found × (verdict ≡ (if is_table found then Sum Unlisted else found))
 IsDueVerdictOn device (dues.Sum sum) material kind file read verdict = IsHashedVerdictOn device (λ m. has_sum sum m) material kind file read verdict
 
-abbrev pub found_as : FileVerdict → Option (List ℕ) → Found
+abbrev pub found_as : FileVerdict → Option (List ℕ) → CheckedFile
 found_as verdict digest = record { verdict = verdict; digest = digest }
 
 -- With its verdict a table gets the digest of all its bytes; what is no table gets none.
-abbrev pub IsDigestedTable : {F : Type 0} → Bool → input.Ghosts F → F → F → FileVerdict → Found → Type 0
+abbrev pub IsDigestedTable : {F : Type 0} → Bool → input.Ghosts F → F → F → FileVerdict → CheckedFile → Type 0
 IsDigestedTable true device checked read verdict found = IsReadOn device checked read (λ m. found_as verdict (Some (sha256 m))) (λ error. found_as (Unread error) None) found
 IsDigestedTable false device checked read verdict found = found ≡ found_as verdict None
 
 -- The verdict on an opened file, of which no byte was read, and its digest.
-abbrev pub IsDigestedOn : {F : Type 0} → input.Ghosts F → Due → Sides → Kind → F → F → Found → Type 0
+abbrev pub IsDigestedOn : {F : Type 0} → input.Ghosts F → Due → Sides → Kind → F → F → CheckedFile → Type 0
 IsDigestedOn {F = F} device due material kind file read found =
     (checked : F) × (verdict : FileVerdict) × IsDueVerdictOn device due material kind file checked verdict
     × IsDigestedTable (is_table verdict) device checked read verdict found
 
 -- The same, with a digest only if it is asked for.
-abbrev pub IsFoundOn : {F : Type 0} → Bool → input.Ghosts F → Due → Sides → Kind → F → F → Found → Type 0
+abbrev pub IsFoundOn : {F : Type 0} → Bool → input.Ghosts F → Due → Sides → Kind → F → F → CheckedFile → Type 0
 IsFoundOn true device due material kind file read found = IsDigestedOn device due material kind file read found
 IsFoundOn false device due material kind file read found = IsDueVerdictOn device due material kind file read found.verdict × (found.digest ≡ None)
 
 -- The system opened the path, and this was found on that file.
-abbrev pub IsRead : {S F : Type 0} → (S → List ℕ → Option (List ℕ)) → (S → ℕ) → input.Ghosts F → Due → Bool → List ℕ → Sides → Kind → S → S → Found → Type 0
+abbrev pub IsRead : {S F : Type 0} → (S → List ℕ → Option (List ℕ)) → (S → ℕ) → input.Ghosts F → Due → Bool → List ℕ → Sides → Kind → S → S → CheckedFile → Type 0
 IsRead {F = F} content failures device due has_digest path material kind system system' found =
     (file : F) × (file' : F) × IsOpened content failures device system system' path file × IsFoundOn has_digest device due material kind file file' found
 
 -- What was found, of this verdict, by a kind and a parsed name. If the name is not a material's, the system is unchanged;
 -- otherwise the file was opened, or could not be.
-abbrev pub IsNamedVerdict : {S F : Type 0} → (S → List ℕ → Option (List ℕ)) → (S → ℕ) → input.Ghosts F → Due → Bool → List ℕ → Kind → Result Sides NameFault → S → S → Found → FileVerdict → Type 0
+abbrev pub IsNamedVerdict : {S F : Type 0} → (S → List ℕ → Option (List ℕ)) → (S → ℕ) → input.Ghosts F → Due → Bool → List ℕ → Kind → Result Sides NameFault → S → S → CheckedFile → FileVerdict → Type 0
 IsNamedVerdict content failures device due has_digest path kind (Err fault) system system' found (Name stated) = (stated ≡ fault) × (system' ≡ system)
 IsNamedVerdict content failures device due has_digest path kind (Err fault) system system' found verdict = ⊥
 IsNamedVerdict content failures device due has_digest path kind (Ok material) system system' found (Unopened fault) = failures system' ≡ raised (failures system)
 IsNamedVerdict content failures device due has_digest path kind (Ok material) system system' found verdict = IsRead content failures device due has_digest path material kind system system' found
 
-abbrev pub IsVerdictBy : {S F : Type 0} → (S → List ℕ → Option (List ℕ)) → (S → ℕ) → input.Ghosts F → Due → Bool → List ℕ → Option (List ℕ × Kind) → S → S → Found → FileVerdict → Type 0
+abbrev pub IsVerdictBy : {S F : Type 0} → (S → List ℕ → Option (List ℕ)) → (S → ℕ) → input.Ghosts F → Due → Bool → List ℕ → Option (List ℕ × Kind) → S → S → CheckedFile → FileVerdict → Type 0
 IsVerdictBy content failures device due has_digest path None system system' found Ending = system' ≡ system
 IsVerdictBy content failures device due has_digest path None system system' found verdict = ⊥
 IsVerdictBy content failures device due has_digest path (Some named) system system' found verdict = IsNamedVerdict content failures device due has_digest path named.1 (parsed named.0) system system' found verdict
 
 -- What was found on the file at a path, with this name and kind given: the verdict, and the digest if it is asked for.
-abbrev pub IsFileVerdict : {S F : Type 0} → (S → List ℕ → Option (List ℕ)) → (S → ℕ) → input.Ghosts F → Naming → Due → Bool → List ℕ → S → S → Found → Type 0
+abbrev pub IsFileVerdict : {S F : Type 0} → (S → List ℕ → Option (List ℕ)) → (S → ℕ) → input.Ghosts F → Naming → Due → Bool → List ℕ → S → S → CheckedFile → Type 0
 IsFileVerdict content failures device naming due has_digest path system system' found =
     IsVerdictBy content failures device due has_digest path (named_as (name_given naming) naming.kind path) system system' found found.verdict
 
@@ -193,18 +193,18 @@ abbrev pub IsLeftOut : CheckOptions → List ℕ → ℕ → Type 0
 IsLeftOut options path length = (reads_all options ≡ false) × IsGoodIn options.log path length
 
 -- What was found on the file at a path: it was left out; or it was checked.
-abbrev pub IsPathVerdict : {S F : Type 0} → (S → List ℕ → Option (List ℕ)) → (S → ℕ) → input.Ghosts F → CheckOptions → List ℕ → S → S → Found → Type 0
+abbrev pub IsPathVerdict : {S F : Type 0} → (S → List ℕ → Option (List ℕ)) → (S → ℕ) → input.Ghosts F → CheckOptions → List ℕ → S → S → CheckedFile → Type 0
 IsPathVerdict content failures device options path system system' found =
     ((length : ℕ) × IsLeftOut options path length × (found ≡ found_as (Kept length) None) × (system' ≡ system))
     ⊎ IsFileVerdict content failures device options.naming (due_in options.sums path) options.has_manifest path system system' found
 
 -- What was found at a listed path: the known verdict, or what was found on the file.
-abbrev pub IsVerdictAt : {S F : Type 0} → (S → List ℕ → Option (List ℕ)) → (S → ℕ) → input.Ghosts F → CheckOptions → List ℕ → Option FileVerdict → S → S → Found → Type 0
+abbrev pub IsVerdictAt : {S F : Type 0} → (S → List ℕ → Option (List ℕ)) → (S → ℕ) → input.Ghosts F → CheckOptions → List ℕ → Option FileVerdict → S → S → CheckedFile → Type 0
 IsVerdictAt content failures device options path (Some known) system system' found = (found ≡ found_as known None) × (system' ≡ system)
 IsVerdictAt content failures device options path None system system' found = IsPathVerdict content failures device options path system system' found
 
 -- Of each listed path this was found, and it has its line or record, in its order.
-abbrev pub Reports : {S F : Type 0} → (S → List ℕ → Option (List ℕ)) → (S → ℕ) → input.Ghosts F → CheckOptions → List Listed → List Found → S → S → List ℕ → Type 0
+abbrev pub Reports : {S F : Type 0} → (S → List ℕ → Option (List ℕ)) → (S → ℕ) → input.Ghosts F → CheckOptions → List Listed → List CheckedFile → S → S → List ℕ → Type 0
 Reports content failures device options [] [] system system' text = (system' ≡ system) × (text ≡ [])
 Reports content failures device options [] (found ∷ others) system system' text = ⊥
 Reports content failures device options (listed ∷ more) [] system system' text = ⊥
@@ -214,7 +214,7 @@ Reports {S = S} content failures device options (listed ∷ more) (found ∷ oth
     × (rest : List ℕ) × (text ≡ line ++ rest) × Reports content failures device options more others next system' rest
 
 -- the lines of the listed paths that passed, with their digests
-abbrev pub manifest_of : Bool → List Listed → List Found → List ℕ
+abbrev pub manifest_of : Bool → List Listed → List CheckedFile → List ℕ
 manifest_of allow_trailing [] found = []
 manifest_of allow_trailing (listed ∷ more) [] = []
 manifest_of allow_trailing (listed ∷ more) (found ∷ others) = manifest_line allow_trailing listed.0 found.verdict found.digest ++ manifest_of allow_trailing more others
@@ -250,7 +250,7 @@ refused_of allow_trailing (Sum fault) = 1
 refused_of allow_trailing verdict = 0
 
 -- the numbers of good, refused, unread, left-out and skipped verdicts
-pub record Counts (allow_trailing : Bool) (found : List Found) (tally : CheckCounts) : Type 0 where
+pub record Counts (allow_trailing : Bool) (found : List CheckedFile) (tally : CheckCounts) : Type 0 where
   pub good : tally.good ≡ sum_by (λ one. good_of allow_trailing one.verdict) found
   pub refused : tally.refused ≡ sum_by (λ one. refused_of allow_trailing one.verdict) found
   pub unread : tally.unread ≡ sum_by (λ one. unread_of one.verdict) found
@@ -261,7 +261,7 @@ pub record Counts (allow_trailing : Bool) (found : List Found) (tally : CheckCou
 -- the manifest has those that passed.
 pub record IsReportOn {S F W : Type 0} (content : S → List ℕ → Option (List ℕ)) (failures : S → ℕ) (device : input.Ghosts F) (writing : output.Ghosts W)
     (options : CheckOptions) (listed : List Listed) (system system' : S) (writer writer' : W) (tally : CheckCounts) (manifest : List ℕ) : Type 0 where
-  pub found : List Found
+  pub found : List CheckedFile
   pub text : List ℕ
   pub reports : Reports content failures device options listed found system system' text
   pub counts : Counts options.allow_trailing found tally

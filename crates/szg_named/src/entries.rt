@@ -1,11 +1,11 @@
 //! What a check reports on: files at paths, and what is below folders.
-ghost use Rattle.std.specs.Prelude.{◌≡◌, ◌++◌, ◌∷◌, [], IfOk, OnOk, map};
+ghost use Rattle.std.specs.Prelude.{◌≡◌, ◌++◌, IfOk, OnOk, map};
 ghost use Rattle.szg_named.specs.Shards.{shard_after, shard_of, taken_of};
 ghost use Rattle.szg_named.specs.Verdicts.{AllMissing, AreListed, AreMissing, IsListedAt, file_at, listed_of};
 
 use crate::file_verdict::{FileVerdict, Skip, SumFault};
 use crate::named::named_by;
-use crate::shard::Shard;
+use crate::shard::FileShard;
 use std::alloc::{AllocError, Global};
 use std::path::Path;
 use std::rt::Files;
@@ -24,34 +24,23 @@ impl PathToCheck {
     ghost use Rattle.std.specs.Prelude.{◌≡◌, IfOk};
     ghost use Rattle.szg_named.specs.Verdicts.{listed_of};
 
-    /// Returns the same path and verdict.
-    fn copied(&self) -> Result<PathToCheck, AllocError>
-        ensures { IfOk result (λ entry. listed_of entry ≡ listed_of self.now) }
+    /// Creates the entry of a path, and of its verdict if that is known.
+    fn new(alloc: Global, path: &str, note: Option<FileVerdict>) -> Result<PathToCheck, AllocError>
+        ensures { IfOk result (λ entry. listed_of entry ≡ (path.now, note)) }
     {
-        Ok(PathToCheck {
-            path: self.path.clone()?,
-            note: self.note,
-        })
+        let path = String::from_str(alloc, path)?;
+        Ok(PathToCheck { path, note })
     }
 }
 
-/// Appends the file at a path.
-#[tactic(auto, using(crate::proofs::Listing::entries_more))]
-fn add_file(alloc: Global, path: &str, entries: &mut Vec<PathToCheck>) -> Result<(), AllocError>
-    ensures { OnOk result (map listed_of entries.new.items ≡ map listed_of entries.old.items ++ map file_at (path.now ∷ [])) }
-{
-    let path = String::from_str(alloc, path)?;
-    Ok(entries.push(PathToCheck { path, note: None })?)
-}
-
 /// Returns the files at these paths.
-#[tactic(auto, using(crate::proofs::Listing::files_more))]
+#[tactic(auto, using(crate::proofs::Listing::entries_more, crate::proofs::Listing::files_more))]
 pub(crate) fn files_at(alloc: Global, paths: &[&str]) -> Result<Vec<PathToCheck>, AllocError>
     ensures { IfOk result (λ entries. map listed_of entries.items ≡ map file_at (map (λ path. path.now) paths.now)) }
 {
     let mut entries = Vec::new(alloc);
     'paths: for path in paths {
-        add_file(alloc, path, &mut entries)?;
+        entries.push(PathToCheck::new(alloc, path, None)?)?;
     }
     Ok(entries)
 }
@@ -118,18 +107,8 @@ fn entries_below<R: Files>(
         }
     }
     if is_empty {
-        let mut note = noted(alloc, folder, FileVerdict::Empty)?;
-        entries.append(&mut note)?;
+        entries.push(PathToCheck::new(alloc, folder, Some(FileVerdict::Empty))?)?;
     }
-    Ok(entries)
-}
-
-/// Returns a path alone, with its verdict.
-fn noted(alloc: Global, path: &str, verdict: FileVerdict) -> Result<Vec<PathToCheck>, AllocError> {
-    let mut entries = Vec::new(alloc);
-    let path = String::from_str(alloc, path)?;
-    let note = Some(verdict);
-    entries.push(PathToCheck { path, note })?;
     Ok(entries)
 }
 
@@ -148,7 +127,12 @@ fn entries_at_path<R: Files>(
     match is_folder(files, path) {
         Ok(true) => entries_below(alloc, files, path),
         Ok(false) => files_at(alloc, &[path]),
-        Err(fault) => noted(alloc, path, FileVerdict::Unopened(fault)),
+        Err(fault) => {
+            let mut entries = Vec::new(alloc);
+            let note = Some(FileVerdict::Unopened(fault));
+            entries.push(PathToCheck::new(alloc, path, note)?)?;
+            Ok(entries)
+        }
     }
 }
 
@@ -193,9 +177,8 @@ fn missing_tables(alloc: Global, names: &[&[u8]]) -> Result<Vec<PathToCheck>, Al
     let mut found = Vec::new(alloc);
     'names: for name in names {
         if let Some(name) = table_name(name) {
-            let path = String::from_str(alloc, name)?;
             let note = Some(FileVerdict::Sum(SumFault::Missing));
-            found.push(PathToCheck { path, note })?;
+            found.push(PathToCheck::new(alloc, name, note)?)?;
         }
     }
     Ok(found)
@@ -220,7 +203,8 @@ pub(crate) fn missing(
 /// Appends an entry, which has so many before it, if it is a shard's.
 #[tactic(auto, using(crate::proofs::Listing::entry_taken, crate::proofs::Listing::entry_passed))]
 fn add_in(
-    shard: &Shard,
+    alloc: Global,
+    shard: &FileShard,
     before: u64,
     entry: &PathToCheck,
     chosen: &mut Vec<PathToCheck>,
@@ -230,21 +214,21 @@ fn add_in(
     if !shard.has(before) {
         return Ok(());
     }
-    let entry = entry.copied()?;
+    let entry = PathToCheck::new(alloc, entry.path.as_str(), entry.note)?;
     Ok(chosen.push(entry)?)
 }
 
 /// Returns those entries that are a shard's.
 fn entries_in(
     alloc: Global,
-    shard: &Shard,
+    shard: &FileShard,
     entries: &[PathToCheck],
 ) -> Result<Vec<PathToCheck>, AllocError>
     ensures { IfOk result (λ chosen. map listed_of chosen.items ≡ shard_after shard.now 0 (map listed_of entries.now)) }
 {
     let mut chosen = Vec::new(alloc);
     'entries: for (number, entry) in entries.iter().enumerate() {
-        add_in(shard, number as u64, entry, &mut chosen)?;
+        add_in(alloc, shard, number as u64, entry, &mut chosen)?;
     }
     Ok(chosen)
 }
@@ -252,7 +236,7 @@ fn entries_in(
 /// Returns the entries of a shard, or all if none is given.
 pub(crate) fn in_shard(
     alloc: Global,
-    shard: Option<Shard>,
+    shard: Option<FileShard>,
     entries: Vec<PathToCheck>,
 ) -> Result<Vec<PathToCheck>, AllocError>
     ensures { IfOk result (λ chosen. map listed_of chosen.items ≡ shard_of shard (map listed_of entries.items)) }

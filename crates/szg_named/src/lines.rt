@@ -1,7 +1,7 @@
 //! The lines of a report.
 ghost use Rattle.std.specs.Prelude.{◌≡◌, ◌++◌, ◌∷◌, [], ◌+◌, ◌/◌, ◌%◌, ◌^◌, ◌<◌, IfOk, OnOk, string_bytes};
 ghost use Rattle.szg_named.specs.Records.{escaped_byte_in, escaped_in, json_byte};
-ghost use Rattle.szg_named.specs.Lines.{IsLine, IsVerdictText, empty, escaped, escaped_byte, hex_digit, is_escaped, name_text, name_word, no_text, path_text, reason_text, reason_word, refused_text, skip_reason, more_text, sum_word, summary_text};
+ghost use Rattle.szg_named.specs.Lines.{IsLine, IsVerdictText, escaped, escaped_byte, hex_digit, name_word, path_text, reason_word, skip_reason, more_text, sum_word, summary_text};
 
 use crate::file_verdict::{FileVerdict, Skip, SumFault};
 use crate::report_format::ReportFormat;
@@ -12,13 +12,6 @@ use szg_file::Reason;
 use szg_files::FileFault;
 use szg_values::NameFault;
 
-/// Whether a byte of a path is escaped: control characters and backslashes are.
-fn is_escaped(byte: u8) -> bool
-    ensures { result ≡ is_escaped byte }
-{
-    byte < 32 || byte == 127 || byte == b'\\'
-}
-
 /// Returns the hexadecimal digit of a number below 16.
 fn hex_digit(value: u8) -> u8
     requires { value < 16 }
@@ -27,15 +20,15 @@ fn hex_digit(value: u8) -> u8
     if value < 10 { value + 48 } else { value + 87 }
 }
 
-/// Appends a byte of a path, as `\x` and two digits if it is escaped.
+/// Appends a byte of a path: control characters and backslashes as `\x` and two digits.
 fn push_escaped(text: &mut Vec<u8>, byte: u8) -> Result<(), AllocError>
     ensures { OnOk result (text.new.items ≡ text.old.items ++ escaped_byte byte) }
 {
-    if !is_escaped(byte) {
-        return Ok(text.push(byte)?);
+    if byte < 32 || byte == 127 || byte == b'\\' {
+        text.extend_from_slice(b"\\x")?;
+        return push_hex(text, byte);
     }
-    text.extend_from_slice(b"\\x")?;
-    push_hex(text, byte)
+    Ok(text.push(byte)?)
 }
 
 /// Appends a byte's two hexadecimal digits.
@@ -143,10 +136,16 @@ fn verdict_text(
             format!(in alloc; ": ok {size}, more bytes follow\n")
         }
         FileVerdict::Kept(size) => format!(in alloc; ": kept {size}\n"),
-        FileVerdict::Ending => name_text(alloc, "Ending"),
-        FileVerdict::Name(fault) => name_text(alloc, name_word(*fault)),
-        FileVerdict::At(offset, reason) => refused_text(alloc, *offset, reason_word(*reason)),
-        FileVerdict::Trailing(size) => refused_text(alloc, *size, "Trailing"),
+        FileVerdict::Ending => format!(in alloc; ": refused name: Ending\n"),
+        FileVerdict::Name(fault) => {
+            let word = name_word(*fault);
+            format!(in alloc; ": refused name: {word}\n")
+        }
+        FileVerdict::At(offset, reason) => {
+            let word = reason_word(*reason);
+            format!(in alloc; ": refused at {offset}: {word}\n")
+        }
+        FileVerdict::Trailing(size) => format!(in alloc; ": refused at {size}: Trailing\n"),
         FileVerdict::Unopened(fault) => {
             let reason = fault_text(alloc, fault)?;
             format!(in alloc; ": {reason}\n")
@@ -155,8 +154,8 @@ fn verdict_text(
             let reason = error_text(alloc, error)?;
             format!(in alloc; ": {reason}\n")
         }
-        FileVerdict::NoText => reason_text(alloc, no_text()),
-        FileVerdict::Empty => reason_text(alloc, empty()),
+        FileVerdict::NoText => format!(in alloc; ": {NO_TEXT}\n"),
+        FileVerdict::Empty => format!(in alloc; ": {EMPTY}\n"),
         FileVerdict::Skipped(skip) => {
             let reason = skip_reason(*skip);
             format!(in alloc; ": skipped: {reason}\n")
@@ -169,18 +168,10 @@ fn verdict_text(
 }
 
 /// Why a file whose name is not UTF-8 is unread.
-pub(crate) fn no_text() -> &'static str
-    ensures { result.now ≡ no_text }
-{
-    "its name is not UTF-8"
-}
+pub(crate) const NO_TEXT: &str = "its name is not UTF-8";
 
 /// Why a folder without table files is unread.
-pub fn empty() -> &'static str
-    ensures { result.now ≡ empty }
-{
-    "no table file is below it"
-}
+pub(crate) const EMPTY: &str = "no table file is below it";
 
 /// Returns why a path is not checked.
 pub(crate) fn skip_reason(skip: Skip) -> &'static str
@@ -202,27 +193,6 @@ pub fn sum_word(fault: SumFault) -> &'static str
         SumFault::Unlisted => "Unlisted",
         SumFault::Missing => "Missing",
     }
-}
-
-/// Returns the text of a reason.
-fn reason_text(alloc: Global, reason: &str) -> Result<String, AllocError>
-    ensures { IfOk result (λ text. string_bytes text ≡ reason_text reason.now) }
-{
-    format!(in alloc; ": {reason}\n")
-}
-
-/// Returns the text of a refused name.
-fn name_text(alloc: Global, word: &str) -> Result<String, AllocError>
-    ensures { IfOk result (λ text. string_bytes text ≡ name_text word.now) }
-{
-    format!(in alloc; ": refused name: {word}\n")
-}
-
-/// Returns the text of a refusal at an offset.
-fn refused_text(alloc: Global, offset: u64, word: &str) -> Result<String, AllocError>
-    ensures { IfOk result (λ text. string_bytes text ≡ refused_text offset word.now) }
-{
-    format!(in alloc; ": refused at {offset}: {word}\n")
 }
 
 /// Returns the summary: the number of files, and how many of them are good, refused, unread and, if there are any, left out;

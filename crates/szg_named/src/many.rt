@@ -1,19 +1,19 @@
 //! The check of many files.
 ghost use Rattle.std.specs.Prelude.{◌≡◌, ◌+◌, ◌<◌, ◌^◌, IfOk, IfSome, IsErrOf, map, string_bytes};
 ghost use Rattle.szg_io.specs.Device.{HasFailed};
-ghost use Rattle.szg_named.specs.Records.{IsReportLine, IsShownLine, is_bad, manifest_line, report_end};
-ghost use Rattle.szg_named.specs.Verdicts.{IsFoundReport, IsLeftOut, IsPathVerdict, IsReport, IsReportOn, IsVerdictAt, listed_of, plain_options, reads_all};
+ghost use Rattle.szg_named.specs.Records.{IsShownLine, is_bad, manifest_line, report_end};
+ghost use Rattle.szg_named.specs.Verdicts.{IsFoundReport, IsLeftOut, IsReport, IsReportOn, IsVerdictAt, listed_of, plain_options};
 
 use crate::due::due_of;
 use crate::entries::{PathToCheck, entries_at, files_at, in_shard, missing};
 use crate::file_verdict::FileVerdict;
-use crate::lines::{summary_line, verdict_line};
+use crate::lines::summary_line;
 use crate::log::{FileState, Log};
 use crate::named::Naming;
-use crate::one::{Found, check_path};
-use crate::records::{json_record, json_summary, sum_line, tsv_record};
+use crate::one::{CheckedFile, check_path};
+use crate::records::{Timing, json_summary, report_line, sum_line};
 use crate::report_format::ReportFormat;
-use crate::shard::Shard;
+use crate::shard::FileShard;
 use crate::stop::{CheckCounts, CheckStop};
 use std::alloc::{AllocError, Global};
 use std::os::unix::fs::MetadataExt;
@@ -38,7 +38,7 @@ pub struct CheckOptions<'a> {
     /// The lists of sums that the files are compared with, if there are any.
     pub sums: Option<&'a Sums>,
     /// Which files are checked, if not all.
-    pub shard: Option<Shard>,
+    pub shard: Option<FileShard>,
     /// The records of earlier runs, if there are any: files that were good and didn't change are left out.
     pub log: Option<&'a Log>,
     /// Whether the digests of files that pass are listed.
@@ -110,33 +110,6 @@ fn state_at<R: Files>(files: &R, path: &str) -> Option<FileState> {
     })
 }
 
-/// When and how long a file was checked.
-#[derive(Clone, Copy)]
-struct Timing {
-    elapsed: Option<Duration>,
-    /// The nanoseconds from 1970 to the file's last change.
-    modified: Option<u64>,
-}
-
-/// What the report has of a file: its line, or its record.
-fn report_line(
-    alloc: Global,
-    options: CheckOptions<'_>,
-    path: &str,
-    verdict: &FileVerdict,
-    timing: Timing,
-) -> Result<Vec<u8>, AllocError>
-    ensures { IfOk result (λ line. IsReportLine options.entry.format options.entry.allow_trailing path.now verdict.now line.items) }
-{
-    let allow_trailing = options.allow_trailing;
-    let Timing { elapsed, modified } = timing;
-    match options.format {
-        ReportFormat::Text => verdict_line(alloc, path, verdict, allow_trailing),
-        ReportFormat::Tsv => tsv_record(alloc, path, verdict, allow_trailing, elapsed, modified),
-        ReportFormat::Json => json_record(alloc, path, verdict, allow_trailing, elapsed, modified),
-    }
-}
-
 /// Whether a file is refused or unread.
 fn is_bad(verdict: &FileVerdict, allow_trailing: bool) -> bool
     ensures { result ≡ is_bad allow_trailing verdict.now }
@@ -166,13 +139,17 @@ fn shown_line(
 ) -> Result<Vec<u8>, AllocError>
     ensures { IfOk result (λ line. IsShownLine options.entry.quiet options.entry.format options.entry.allow_trailing path.now verdict.now line.items) }
 {
-    if !options.quiet {
-        return report_line(alloc, options, path, verdict, timing);
+    let CheckOptions {
+        format,
+        allow_trailing,
+        quiet,
+        ..
+    } = options;
+    if !quiet || is_bad(verdict, allow_trailing) {
+        report_line(alloc, format, allow_trailing, path, verdict, timing)
+    } else {
+        Ok(Vec::new(alloc))
     }
-    if is_bad(verdict, options.allow_trailing) {
-        return report_line(alloc, options, path, verdict, timing);
-    }
-    Ok(Vec::new(alloc))
 }
 
 /// What a list of digests has of a file: its line if it passed, and a digest was asked for.
@@ -180,7 +157,7 @@ fn manifest_line(
     alloc: Global,
     allow_trailing: bool,
     path: &str,
-    found: Found,
+    found: CheckedFile,
 ) -> Result<Vec<u8>, AllocError>
     ensures { IfOk result (λ line. line.items ≡ manifest_line allow_trailing path.now found.verdict found.digest) }
 {
@@ -196,16 +173,9 @@ fn manifest_line(
 /// The verdict on an entry, what the report has of it, and what the list of digests has.
 #[derive(Drop)]
 struct Reported {
-    found: Found,
+    found: CheckedFile,
     line: Vec<u8>,
     listed: Vec<u8>,
-}
-
-/// Whether each file has to be read, since its digest is compared or listed.
-fn reads_all(options: CheckOptions<'_>) -> bool
-    ensures { result ≡ reads_all options.entry }
-{
-    options.sums.is_some() || options.has_manifest
 }
 
 /// Returns the length of the file at a path, if it is in the state in which its last record says that it was good, and no digest
@@ -219,7 +189,7 @@ fn kept_length<R: Files>(
 ) -> Result<Option<u64>, AllocError>
     ensures { IfOk result (λ kept. IfSome kept (λ length. IsLeftOut options.entry path.now length)) }
 {
-    if reads_all(options) {
+    if options.sums.is_some() || options.has_manifest {
         return Ok(None);
     }
     let Some(log) = options.log else {
@@ -238,25 +208,27 @@ fn kept_length<R: Files>(
     }
 }
 
-/// Returns the verdict on the file at a path, and on its digest if there are lists of sums. Errors: `Memory`.
+/// Returns the verdict of an entry: the one that is known, else that on its file, and on its digest if there are lists of sums.
+/// Errors: `Memory`.
 #[tactic(auto, using(crate::proofs::Reporting::due_is))]
-fn verdict_on_file<S: FileSystem, R: Files>(
+fn verdict_of<S: FileSystem, R: Files>(
     alloc: Global,
     system: &mut S,
     files: &R,
     options: CheckOptions<'_>,
-    path: &str,
-) -> Result<Found, CheckStop>
+    entry: &PathToCheck,
+) -> Result<CheckedFile, CheckStop>
 where
     S::File: Ahead,
-    ensures verdict { IfOk result (λ found. IsPathVerdict S.content S.failures S.File.Input options.entry path.now system.old system.new found) }
+    ensures verdict { IfOk result (λ found. IsVerdictAt S.content S.failures S.File.Input options.entry (string_bytes entry.now.path) entry.now.note system.old system.new found) }
     ensures only { IsErrOf result CheckStop.Device → ⊥ }
 {
+    if let Some(verdict) = entry.note {
+        return Ok(CheckedFile::undigested(verdict));
+    }
+    let path = entry.path.as_str();
     if let Some(length) = kept_length(alloc, files, options, path)? {
-        return Ok(Found {
-            verdict: FileVerdict::Kept(length),
-            digest: None,
-        });
+        return Ok(CheckedFile::undigested(FileVerdict::Kept(length)));
     }
     let due = due_of(alloc, options.sums, path)?;
     check_path(
@@ -267,28 +239,6 @@ where
         due,
         options.has_manifest,
     )
-}
-
-/// Returns the verdict of an entry: the one that is known, else that on its file. Errors: `Memory`.
-fn verdict_of<S: FileSystem, R: Files>(
-    alloc: Global,
-    system: &mut S,
-    files: &R,
-    options: CheckOptions<'_>,
-    entry: &PathToCheck,
-) -> Result<Found, CheckStop>
-where
-    S::File: Ahead,
-    ensures verdict { IfOk result (λ found. IsVerdictAt S.content S.failures S.File.Input options.entry (string_bytes entry.now.path) entry.now.note system.old system.new found) }
-    ensures only { IsErrOf result CheckStop.Device → ⊥ }
-{
-    match entry.note {
-        Some(verdict) => Ok(Found {
-            verdict,
-            digest: None,
-        }),
-        None => verdict_on_file(alloc, system, files, options, entry.path.as_str()),
-    }
 }
 
 /// When the file of an entry changed, where a record has that. It is asked before the file is read: what changes while it is

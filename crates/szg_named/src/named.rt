@@ -28,12 +28,8 @@ fn kind_of(ending: &str) -> Option<Kind>
 pub fn named_by(path: &str) -> Option<(&str, Kind)>
     ensures { option_map (λ named. (named.0.now, named.1)) result ≡ named_by path.now }
 {
-    let path = Path::new(path);
-    match (path.file_stem(), path.extension()) {
-        (Some(name), Some(ending)) => match kind_of(ending) {
-            Some(kind) => Some((name, kind)),
-            None => None,
-        },
+    match (Path::new(path).file_stem(), kind_by(path)) {
+        (Some(name), Some(kind)) => Some((name, kind)),
         _ => None,
     }
 }

@@ -76,9 +76,24 @@ struct Checked<F> {
 
 /// The verdict on a file, and, where they are asked for and it is a table, the SHA-256 digest of its bytes.
 #[derive(Clone, Copy)]
-pub struct Found {
+pub struct CheckedFile {
     pub verdict: FileVerdict,
     pub digest: Option<[u8; 32]>,
+}
+
+impl CheckedFile {
+    ghost use Rattle.std.specs.Prelude.{◌≡◌, None};
+    ghost use Rattle.szg_named.specs.Verdicts.{found_as};
+
+    /// Returns a verdict without a digest.
+    pub(crate) fn undigested(verdict: FileVerdict) -> CheckedFile
+        ensures { result ≡ found_as verdict None }
+    {
+        CheckedFile {
+            verdict,
+            digest: None,
+        }
+    }
 }
 
 /// The verdict on a file whose digest was compared.
@@ -196,7 +211,7 @@ fn check_digested<F: Input + Ahead + Reasons + Drop>(
     kind: Kind,
     file: F,
     due: Due,
-) -> Result<Found, CheckStop>
+) -> Result<CheckedFile, CheckStop>
     requires { F.moved file ≡ [] }
     ensures says { IfOk result (λ found. (read : F) × IsDigestedOn F.Input due material.now kind file read found) }
     ensures only { IsErrOf result CheckStop.Device → ⊥ }
@@ -207,18 +222,12 @@ fn check_digested<F: Input + Ahead + Reasons + Drop>(
         verdict,
     } = check_due(alloc, material, kind, fresh, due)?;
     if !is_table(&verdict) {
-        return Ok(Found {
-            verdict,
-            digest: None,
-        });
+        return Ok(CheckedFile::undigested(verdict));
     }
     if read_on(&mut hashed).is_err() {
-        return Ok(Found {
-            verdict: FileVerdict::Unread(hashed.reason()),
-            digest: None,
-        });
+        return Ok(CheckedFile::undigested(FileVerdict::Unread(hashed.reason())));
     }
-    Ok(Found {
+    Ok(CheckedFile {
         verdict,
         digest: Some(hashed.digest()),
     })
@@ -233,7 +242,7 @@ fn check_file<F: Input + Ahead + Reasons + Drop>(
     file: F,
     due: Due,
     has_digest: bool,
-) -> Result<Found, CheckStop>
+) -> Result<CheckedFile, CheckStop>
     requires { F.moved file ≡ [] }
     ensures says { IfOk result (λ found. (read : F) × IsFoundOn has_digest F.Input due material.now kind file read found) }
     ensures only { IsErrOf result CheckStop.Device → ⊥ }
@@ -242,20 +251,7 @@ fn check_file<F: Input + Ahead + Reasons + Drop>(
         return check_digested(alloc, material, kind, file, due);
     }
     let Checked { verdict, .. } = check_due(alloc, material, kind, file, due)?;
-    Ok(Found {
-        verdict,
-        digest: None,
-    })
-}
-
-/// Returns a verdict without a digest.
-fn undigested(verdict: FileVerdict) -> Found
-    ensures { result.verdict ≡ verdict }
-{
-    Found {
-        verdict,
-        digest: None,
-    }
+    Ok(CheckedFile::undigested(verdict))
 }
 
 /// Checks the file at a path, as a table of the name and kind that are given or in the path, and its digest; computes that by
@@ -267,22 +263,22 @@ pub fn check_path<S: FileSystem>(
     path: &str,
     due: Due,
     has_digest: bool,
-) -> Result<Found, CheckStop>
+) -> Result<CheckedFile, CheckStop>
 where
     S::File: Ahead,
     ensures verdict { IfOk result (λ found. IsFileVerdict S.content S.failures S.File.Input naming.entry due has_digest path.now system.old system.new found) }
     ensures only { IsErrOf result CheckStop.Device → ⊥ }
 {
     let Some((name, kind)) = named_as(naming, path) else {
-        return Ok(undigested(FileVerdict::Ending));
+        return Ok(CheckedFile::undigested(FileVerdict::Ending));
     };
     let material = match Material::parse(name) {
         Ok(material) => material,
-        Err(fault) => return Ok(undigested(FileVerdict::Name(fault))),
+        Err(fault) => return Ok(CheckedFile::undigested(FileVerdict::Name(fault))),
     };
     match system.open(path) {
         Ok(file) => check_file(alloc, &material, kind, file, due, has_digest),
         Err(FileFault::Memory) => Err(CheckStop::Memory),
-        Err(fault) => Ok(undigested(FileVerdict::Unopened(fault))),
+        Err(fault) => Ok(CheckedFile::undigested(FileVerdict::Unopened(fault))),
     }
 }

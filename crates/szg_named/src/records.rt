@@ -1,12 +1,12 @@
 //! The records of a report for programs.
 ghost use Rattle.std.specs.Prelude.{◌≡◌, ◌+◌, ◌++◌, ◌^◌, ◌<◌, IfOk, OnOk, flat_map, option_map, string_bytes};
 ghost use Rattle.std.specs.Duration.{as_nanos};
-ghost use Rattle.szg_named.specs.Records.{IsJsonRecord, IsReasonField, IsTsvRecord, bytes_field, json_others, json_reason, json_summary, json_text, json_times, listed_byte, listed_name, number_or, offset_field, quoted, seconds_or, sum_line, sum_mark, tsv_reason, tsv_text, verdict_word};
+ghost use Rattle.szg_named.specs.Records.{IsReasonField, IsReportLine, bytes_field, json_others, json_reason, json_summary, json_text, json_times, listed_byte, listed_name, number_or, offset_field, quoted, seconds_or, sum_line, sum_mark, tsv_reason, tsv_text, verdict_word};
 
 use crate::file_verdict::FileVerdict;
 use crate::lines::{
-    empty, error_text, escaped_in, fault_text, name_word, no_text, path_text, reason_word,
-    skip_reason, sum_word,
+    EMPTY, NO_TEXT, error_text, escaped_in, fault_text, name_word, path_text, reason_word,
+    skip_reason, sum_word, verdict_line,
 };
 use crate::report_format::ReportFormat;
 use crate::stop::CheckCounts;
@@ -69,8 +69,8 @@ fn reason_field(alloc: Global, verdict: &FileVerdict) -> Result<Option<String>, 
         FileVerdict::Name(fault) => name_word(*fault),
         FileVerdict::At(_, reason) => reason_word(*reason),
         FileVerdict::Trailing(_) => "Trailing",
-        FileVerdict::NoText => no_text(),
-        FileVerdict::Empty => empty(),
+        FileVerdict::NoText => NO_TEXT,
+        FileVerdict::Empty => EMPTY,
         FileVerdict::Skipped(skip) => skip_reason(*skip),
         FileVerdict::Sum(fault) => sum_word(*fault),
     };
@@ -231,13 +231,20 @@ fn json_text(alloc: Global, path: &str, fields: &RecordTexts) -> Result<Vec<u8>,
     )
 }
 
+/// When and how long a file was checked.
+#[derive(Clone, Copy)]
+pub(crate) struct Timing {
+    pub elapsed: Option<Duration>,
+    /// The nanoseconds from 1970 to the file's last change.
+    pub modified: Option<u64>,
+}
+
 /// The fields of a file: what its check says, the time that the check took, and when the file changed.
 fn fields_of(
     alloc: Global,
     verdict: &FileVerdict,
     allow_trailing: bool,
-    elapsed: Option<Duration>,
-    modified: Option<u64>,
+    timing: Timing,
 ) -> Result<RecordTexts, AllocError>
     ensures word { IfOk result (λ fields. fields.word.now ≡ verdict_word allow_trailing verdict.now) }
     ensures bytes { IfOk result (λ fields. fields.bytes ≡ bytes_field verdict.now) }
@@ -249,41 +256,34 @@ fn fields_of(
         bytes: bytes_field(verdict),
         reason: reason_field(alloc, verdict)?,
         offset: offset_field(verdict),
-        elapsed,
-        modified,
+        elapsed: timing.elapsed,
+        modified: timing.modified,
     })
 }
 
-/// The TSV record of a file: its path, what its check says, the seconds that the check took, and the nanoseconds from 1970 to
-/// the file's last change.
-pub fn tsv_record(
+/// What a report has of a file: its line; or its record, which has its path, what its check says, the seconds that the check
+/// took, and the nanoseconds from 1970 to the file's last change.
+pub(crate) fn report_line(
     alloc: Global,
+    format: ReportFormat,
+    allow_trailing: bool,
     path: &str,
     verdict: &FileVerdict,
-    allow_trailing: bool,
-    elapsed: Option<Duration>,
-    modified: Option<u64>,
+    timing: Timing,
 ) -> Result<Vec<u8>, AllocError>
-    ensures { IfOk result (λ line. IsTsvRecord allow_trailing path.now verdict.now line.items) }
+    ensures { IfOk result (λ line. IsReportLine format allow_trailing path.now verdict.now line.items) }
 {
-    let fields = fields_of(alloc, verdict, allow_trailing, elapsed, modified)?;
-    let path = path_text(alloc, verdict, path)?;
-    tsv_text(alloc, path, &fields)
-}
-
-/// The JSON record of a file: the same as an object.
-pub fn json_record(
-    alloc: Global,
-    path: &str,
-    verdict: &FileVerdict,
-    allow_trailing: bool,
-    elapsed: Option<Duration>,
-    modified: Option<u64>,
-) -> Result<Vec<u8>, AllocError>
-    ensures { IfOk result (λ line. IsJsonRecord allow_trailing path.now verdict.now line.items) }
-{
-    let fields = fields_of(alloc, verdict, allow_trailing, elapsed, modified)?;
-    json_text(alloc, path, &fields)
+    match format {
+        ReportFormat::Text => verdict_line(alloc, path, verdict, allow_trailing),
+        ReportFormat::Tsv => {
+            let fields = fields_of(alloc, verdict, allow_trailing, timing)?;
+            tsv_text(alloc, path_text(alloc, verdict, path)?, &fields)
+        }
+        ReportFormat::Json => {
+            let fields = fields_of(alloc, verdict, allow_trailing, timing)?;
+            json_text(alloc, path, &fields)
+        }
+    }
 }
 
 /// The end of the summary: the numbers of files that weren't read or were left out, and that of skipped paths.

@@ -3,12 +3,12 @@
 /// One of `count` runs that share the files out: every `count`-th in their order, beginning with that of this number, from 1
 /// on.
 #[derive(Clone, Copy)]
-pub struct Shard {
+pub struct FileShard {
     pub number: u64,
     pub count: u64,
 }
 
-impl Shard {
+impl FileShard {
     ghost use Rattle.std.specs.Prelude.{◌≡◌};
     ghost use Rattle.szg_named.specs.Shards.{has};
 

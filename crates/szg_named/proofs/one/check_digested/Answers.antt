@@ -6,14 +6,17 @@ use Rattle.szg_named.proofs.one.check_digested.Goals as goal
 pub returns-then-not-is_table-clause-says : goal.returns-then-not-is_table-clause-says
 returns-then-not-is_table-clause-says g c =
     let none : is_table c.in_ok-hashed.field-0.verdict ≡ false = search rules in
-    undigested g.F.Input c.args.due c.args.material.now c.args.kind c.args.file c.new-fresh.result c.in_ok-hashed.field-0.input c.in_ok-hashed.field-0.verdict c.new-fresh.ensures c.in_ok-hashed.ensures.says none
+    rw c.undigested.ensures (undigested g.F.Input c.args.due c.args.material.now c.args.kind c.args.file c.new-fresh.result c.in_ok-hashed.field-0.input c.in_ok-hashed.field-0.verdict c.new-fresh.ensures c.in_ok-hashed.ensures.says none)
 
 pub returns-then-is_err-clause-says : goal.returns-then-is_err-clause-says
 returns-then-is_err-clause-says g c =
     let table : is_table c.in_ok-hashed.field-0.verdict ≡ true = search rules in
     let failed = on_err c.read_on.result (sym c.is_err.ensures.value ∙ c.if-is_err.true) c.read_on.ensures.failed in
+    rw c.undigested-then-is_err.ensures
+    (
     digested g.F.Input c.args.due c.args.material.now c.args.kind c.args.file c.new-fresh.result c.in_ok-hashed.field-0.input c.read_on.new.input c.in_ok-hashed.field-0.verdict _ c.new-fresh.ensures c.in_ok-hashed.ensures.says table
     (inr (c.reason.result, refl, failed))
+    )
 
 pub returns-clause-says : goal.returns-clause-says
 returns-clause-says g c =

@@ -3,4 +3,4 @@ use Rattle.szg_named.proofs.one.check_file.Goals as goal
 
 pub returns-clause-says : goal.returns-clause-says
 returns-clause-says g c =
-    found_alone g.F.Input c.args.has_digest c.args.due c.args.material.now c.args.kind c.args.file c.in_ok-verdict.field-0.input c.in_ok-verdict.field-0.verdict c.if-has_digest.false c.in_ok-verdict.ensures.says
+    rw c.undigested.ensures (found_alone g.F.Input c.args.has_digest c.args.due c.args.material.now c.args.kind c.args.file c.in_ok-verdict.field-0.input c.in_ok-verdict.field-0.verdict c.if-has_digest.false c.in_ok-verdict.ensures.says)
