@@ -1,5 +1,6 @@
 /* Calls the library COUNT times on an opened table, for counts of instructions: costs FOLDER CALL COUNT
- * CALL is check, open, get (short words), get_long (long pairs), index or share. With keep it prints instead how many bytes of
+ * CALL is check, open, get (short words), get_long (long pairs), index or share; again probes one position by a tablebase, whose
+ * block is verified once. With keep it prints instead how many bytes of
  * heap a tablebase keeps for FOLDER's large.rtbw. */
 #include "trying.h"
 #include <malloc.h>
@@ -21,6 +22,17 @@ static int keep(const char *folder) {
     return failed;
 }
 
+static int again(uint64_t times) {
+    static const szg_man men[3] = {{SZG_KING, SZG_WHITE, 1}, {SZG_QUEEN, SZG_WHITE, 17}, {SZG_KING, SZG_BLACK, 34}};
+    szg_tablebase tablebase = SZG_NO_TABLEBASE;
+    szg_missing missing;
+    int8_t class;
+    want("add", szg_tablebase_add(&tablebase, OF_FILE, &answer), SZG_DONE);
+    for (uint64_t i = 0; i < times; i++) want("class", szg_tablebase_wdl(&tablebase, men, 3, SZG_WHITE, SZG_NO_SQUARE, &class, &missing), SZG_DONE);
+    szg_close_tablebase(&tablebase);
+    return failed;
+}
+
 int main(int count, char **words) {
     if (count != 4) return 2;
     const char *call = words[2];
@@ -28,6 +40,7 @@ int main(int count, char **words) {
     uint64_t times = strtoull(words[3], NULL, 10), sum = 0;
     szg_table other = SZG_NO_TABLE;
     load_sample(words[1], strcmp(call, "get_long") == 0 ? PAIRED : UNPAIRED);
+    if (strcmp(call, "again") == 0) return again(times);
     want("open", szg_open(OF_FILE, &table, &answer), SZG_DONE);
     for (uint64_t i = 0; i < times; i++) {
         uint16_t value = 0;
